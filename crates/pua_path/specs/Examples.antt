@@ -1,0 +1,48 @@
+-- Worked rows on resolution over the example tree, and paths that meet many links.
+use Rattle.std.specs.Prelude.{◌≡◌, Some, None, Ok, Err, codes, refl}
+use Rattle.pua_tree.specs.Examples.{example_tree}
+use Rattle.pua_path.specs.Resolution.{resolution, step, last}
+use Rattle.pua_path.specs.declared.errno.Errno.TheVariants.{ENOENT, ENOTDIR, ELOOP}
+use Rattle.pua_path.specs.declared.text.Ending.TheVariants as ending
+use Rattle.pua_path.specs.declared.found.Part.TheVariants as part
+use Rattle.pua_path.specs.declared.found.Last.TheVariants.{Followed, Kept}
+use Rattle.pua_path.specs.declared.found.Way.TheVariants.{Named, Dot, DotDot, Top}
+use Rattle.pua_path.specs.declared.found.Found.TheVariants.{Whole, Slot}
+
+-- what texts name in the example tree, from the root
+pub record ResolutionRows : Type 0 where
+  pub root : resolution example_tree 0 ending.Dot (codes "/") Followed ≡ Ok (Whole 0 Top)
+  pub followed_link : resolution example_tree 0 ending.Dot (codes "/t") Followed ≡ Ok (Whole 3 (Named 0 (codes "tmp")))
+  pub kept_link : resolution example_tree 0 ending.Dot (codes "/t") Kept ≡ Ok (Slot 0 (codes "t") (Some 4))
+  pub slash_follows : resolution example_tree 0 ending.Dot (codes "/t/") Kept ≡ Ok (Whole 3 Dot)
+  pub dropped_slash : resolution example_tree 0 ending.Dropped (codes "/t/") Kept ≡ Ok (Slot 0 (codes "t") (Some 4))
+  pub parent_of_target : resolution example_tree 0 ending.Dot (codes "/tmp/up/..") Followed ≡ Ok (Whole 0 DotDot)
+  pub missing : resolution example_tree 0 ending.Dot (codes "/tmp/up/x") Followed ≡ Ok (Slot 1 (codes "x") None)
+  pub through_file : resolution example_tree 0 ending.Dot (codes "/etc/passwd/x") Followed ≡ Err ENOTDIR
+  pub through_missing : resolution example_tree 0 ending.Dot (codes "/no/x") Followed ≡ Err ENOENT
+  pub endless : resolution example_tree 0 ending.Dot (codes "/tmp/self") Followed ≡ Err ELOOP
+  pub endless_kept : resolution example_tree 0 ending.Dot (codes "/tmp/self") Kept ≡ Ok (Slot 3 (codes "self") (Some 6))
+
+-- one part after another
+pub record StepRows : Type 0 where
+  pub first : step example_tree 0 0 (part.Name (codes "t")) ≡ Ok (3, 1)
+  pub second : step example_tree 3 1 (part.Name (codes "up")) ≡ Ok (1, 2)
+  pub third : last example_tree 1 2 (part.Name (codes "passwd")) Followed ≡ Ok (Slot 1 (codes "passwd") (Some 2))
+
+pub resolution_rows : ResolutionRows
+resolution_rows = record {
+  root = refl;
+  followed_link = refl;
+  kept_link = refl;
+  slash_follows = refl;
+  dropped_slash = refl;
+  parent_of_target = refl;
+  missing = refl;
+  through_file = refl;
+  through_missing = refl;
+  endless = refl;
+  endless_kept = refl;
+}
+
+pub step_rows : StepRows
+step_rows = record { first = refl; second = refl; third = refl }

@@ -1,0 +1,14 @@
+//! Path texts, and what they name in a tree.
+#![tactic(auto)]
+
+mod errno;
+mod laws;
+mod found;
+mod probe;
+mod text;
+
+pub use errno::Errno;
+pub use found::{Found, Last, Part, Way};
+pub use laws::{resolution_examples, resolution_law};
+pub use probe::{Counted, Probe};
+pub use text::{Ending, PathText};

@@ -1,0 +1,136 @@
+//! Counted looks at a tree.
+
+use pua_tree::{FileTree, Kind, Name, NodeId, TreeFault};
+use std::alloc::Global;
+
+/// A tree that is asked one thing at a time, and counts what it was asked. Targets live as long as
+/// the tree.
+pub trait Probe<'t> {
+    ghost use Rattle.std.specs.Prelude.{◌≡◌, ℕ, ◌+◌, ◌-◌, ◌^◌, min, IfOk, IfErr, option_copied};
+    ghost use Rattle.pua_tree.specs.Tree.{Tree, WellFormed, kind_at, look, parent, target_at, is_empty, names};
+    ghost use Rattle.pua_path.specs.Counts.{one_more};
+
+    /// The tree that answers.
+    ghost tree: { Self → Tree };
+
+    /// How often it was asked; at 2^64 - 1 it stays there.
+    ghost count: { Self → ℕ };
+
+    /// Asks nothing. A caller learns from it what is true of every tree.
+    fn known(&self)
+        ensures { WellFormed (tree self.now) };
+
+    /// How often the tree was asked; once at its greatest value it stays there.
+    fn probes(&self) -> u64
+        ensures { result ≡ count self.now };
+
+    /// The kind of a living node, and None for any other number.
+    fn kind(&mut self, id: NodeId) -> Option<Kind>
+        ensures kind { result ≡ kind_at (tree self.old) id }
+        ensures tree { tree self.new ≡ tree self.old }
+        ensures count { count self.new ≡ one_more (count self.old) };
+
+    /// The node that has this name in this directory, if there is one.
+    fn look(&mut self, dir: NodeId, name: &Name) -> Option<NodeId>
+        ensures node { result ≡ look (tree self.old) dir name.now }
+        ensures tree { tree self.new ≡ tree self.old }
+        ensures count { count self.new ≡ one_more (count self.old) };
+
+    /// The directory above a directory; None for what is no living directory.
+    fn parent(&mut self, dir: NodeId) -> Option<NodeId>
+        ensures parent { result ≡ parent (tree self.old) dir }
+        ensures tree { tree self.new ≡ tree self.old }
+        ensures count { count self.new ≡ one_more (count self.old) };
+
+    /// The target of a living link, and None for any other number.
+    fn target(&mut self, id: NodeId) -> Option<&'t [u8]>
+        ensures target { option_copied result ≡ target_at (tree self.old) id }
+        ensures tree { tree self.new ≡ tree self.old }
+        ensures count { count self.new ≡ one_more (count self.old) };
+
+    /// Whether this is a living directory without rows.
+    fn is_empty(&mut self, dir: NodeId) -> bool
+        ensures empty { result ≡ is_empty (tree self.old) dir }
+        ensures tree { tree self.new ≡ tree self.old }
+        ensures count { count self.new ≡ one_more (count self.old) };
+
+    /// All names in rows: each once, in the order of their bytes. The only fault is
+    /// `TreeFault::OutOfMemory`.
+    fn names(&mut self, alloc: Global) -> Result<Vec<Name>, TreeFault>
+        ensures names { IfOk result (λ all. all.items ≡ names (tree self.old)) }
+        ensures memory { IfErr result (λ fault. fault ≡ TreeFault.OutOfMemory) }
+        ensures tree { tree self.new ≡ tree self.old }
+        ensures count { count self.new ≡ one_more (count self.old) };
+}
+
+/// A tree, and how often it was asked.
+#[derive(Drop)]
+pub struct Counted<'t, T: FileTree> {
+    tree: &'t T,
+    count: u64,
+}
+
+impl<'t, T: FileTree> Counted<'t, T> {
+    ghost use Rattle.std.specs.Prelude.{◌≡◌};
+    ghost use Rattle.pua_path.specs.Counts.{one_more};
+
+    /// The tree, not asked yet.
+    pub fn new(tree: &'t T) -> Counted<'t, T>
+        ensures tree { T.content result.tree.now ≡ T.content tree.now }
+        ensures count { result.count ≡ 0 }
+    {
+        Counted { tree, count: 0 }
+    }
+
+    fn ask(&mut self)
+        ensures tree { self.new.tree ≡ self.old.tree }
+        ensures count { self.new.count ≡ one_more self.old.count }
+    {
+        self.count = self.count.saturating_add(1);
+    }
+}
+
+impl<'t, T: FileTree> Probe<'t> for Counted<'t, T> {
+    ghost tree = { λ c. T.content c.tree.now };
+
+    ghost count = { λ c. c.count };
+
+    fn known(&self) {
+        self.tree.known();
+    }
+
+    fn probes(&self) -> u64 {
+        self.count
+    }
+
+    fn kind(&mut self, id: NodeId) -> Option<Kind> {
+        self.ask();
+        self.tree.kind(id)
+    }
+
+    fn look(&mut self, dir: NodeId, name: &Name) -> Option<NodeId> {
+        self.ask();
+        self.tree.look(dir, name)
+    }
+
+    fn parent(&mut self, dir: NodeId) -> Option<NodeId> {
+        self.ask();
+        self.tree.parent(dir)
+    }
+
+    fn target(&mut self, id: NodeId) -> Option<&'t [u8]> {
+        self.ask();
+        let tree: &'t T = self.tree;
+        tree.target(id)
+    }
+
+    fn is_empty(&mut self, dir: NodeId) -> bool {
+        self.ask();
+        self.tree.is_empty(dir)
+    }
+
+    fn names(&mut self, alloc: Global) -> Result<Vec<Name>, TreeFault> {
+        self.ask();
+        self.tree.names(alloc)
+    }
+}

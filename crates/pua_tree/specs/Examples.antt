@@ -1,0 +1,59 @@
+-- Worked rows on trees and listings.
+use Rattle.std.specs.Prelude.{◌≡◌, ℕ, List, [], ◌∷◌, ◌++◌, Some, None, Ok, Err, codes, flat_map, refl, take, length}
+use Rattle.pua_tree.specs.Tree.{Node, Tree, WellFormed}
+use Rattle.pua_tree.specs.Listing.{listing}
+use Rattle.pua_tree.specs.declared.node.Kind.TheVariants.{Dir, File, Prog, Link}
+use Rattle.pua_tree.specs.declared.fault.ListingFault.TheVariants.{BadHeader, BadLine, BadNumber, BadParent, BadName, BadTarget, Taken}
+
+-- lines that end in LF
+abbrev pub text_of_lines : List (List ℕ) → List ℕ
+text_of_lines lines = flat_map (λ line. line ++ 10 ∷ []) lines
+
+-- a small tree with a directory link, a link to a sibling, a link to itself and a program
+abbrev pub example_listing : List ℕ
+example_listing = text_of_lines (codes "tree 1" ∷ codes "0 dir" ∷ codes "1 dir 0 etc" ∷ codes "2 file 1 passwd" ∷ codes "3 dir 0 tmp" ∷ codes "4 link 0 t tmp" ∷ codes "5 link 3 up ../etc" ∷ codes "6 link 3 self self" ∷ codes "7 prog 3 sh" ∷ [])
+
+abbrev plain : Node
+plain = record { kind = File; target = None }
+
+abbrev pub example_tree : Tree
+example_tree = record {
+  rows = ((0, codes "etc"), 1) ∷ ((0, codes "t"), 4) ∷ ((0, codes "tmp"), 3) ∷ ((1, codes "passwd"), 2) ∷ ((3, codes "self"), 6) ∷ ((3, codes "sh"), 7) ∷ ((3, codes "up"), 5) ∷ [];
+  nodes = (0, record { kind = Dir; target = None }) ∷ (1, record { kind = Dir; target = None }) ∷ (2, record { kind = File; target = None }) ∷ (3, record { kind = Dir; target = None }) ∷ (4, record { kind = Link; target = Some (codes "tmp") }) ∷ (5, record { kind = Link; target = Some (codes "../etc") }) ∷ (6, record { kind = Link; target = Some (codes "self") }) ∷ (7, record { kind = Prog; target = None }) ∷ [];
+  next = 8;
+}
+
+-- what is no listing, by its first fault
+pub record ListingRows : Type 0 where
+  pub example : listing example_listing ≡ Ok example_tree
+  pub returns_and_feeds : listing (codes "tree 1" ++ 13 ∷ 10 ∷ codes "0 dir" ++ 13 ∷ 10 ∷ codes "1 dir 0 a" ++ 13 ∷ 10 ∷ []) ≡ listing (text_of_lines (codes "tree 1" ∷ codes "0 dir" ∷ codes "1 dir 0 a" ∷ []))
+  pub no_bytes : listing (text_of_lines ([])) ≡ Err BadHeader
+  pub header_alone : listing (text_of_lines (codes "tree 1" ∷ [])) ≡ Err (BadLine 2)
+  pub same_number : listing (text_of_lines (codes "tree 1" ∷ codes "0 dir" ∷ codes "2 dir 0 a" ∷ codes "2 file 0 b" ∷ [])) ≡ Err (BadNumber 4)
+  pub parent_is_file : listing (text_of_lines (codes "tree 1" ∷ codes "0 dir" ∷ codes "1 file 0 a" ∷ codes "2 file 1 b" ∷ [])) ≡ Err (BadParent 4)
+  pub dots : listing (text_of_lines (codes "tree 1" ∷ codes "0 dir" ∷ codes "1 dir 0 .." ∷ [])) ≡ Err (BadName 3)
+  pub plain_escaped : listing (text_of_lines (codes "tree 1" ∷ codes "0 dir" ∷ codes "1 dir 0 \\141" ∷ [])) ≡ Err (BadName 3)
+  pub nul_target : listing (text_of_lines (codes "tree 1" ∷ codes "0 dir" ∷ codes "1 link 0 a \\000" ∷ [])) ≡ Err (BadTarget 3)
+  pub taken : listing (text_of_lines (codes "tree 1" ∷ codes "0 dir" ∷ codes "1 dir 0 a" ∷ codes "2 file 0 a" ∷ [])) ≡ Err (Taken 4)
+  pub leading_zero : listing (text_of_lines (codes "tree 1" ∷ codes "0 dir" ∷ codes "01 dir 0 a" ∷ [])) ≡ Err (BadNumber 3)
+  pub two_spaces : listing (text_of_lines (codes "tree 1" ∷ codes "0 dir" ∷ codes "1 dir  0 a" ∷ [])) ≡ Err (BadLine 3)
+  pub short_line : listing (text_of_lines (codes "tree 1" ∷ codes "0 dir" ∷ codes "1 dir 0" ∷ [])) ≡ Err (BadLine 3)
+  pub other_header : listing (text_of_lines (codes "tree 2" ∷ codes "0 dir" ∷ [])) ≡ Err BadHeader
+  pub unknown_kind : listing (text_of_lines (codes "tree 1" ∷ codes "0 dir" ∷ codes "1 file 0 a" ∷ codes "2 hard 0 b 1" ∷ [])) ≡ Err (BadLine 4)
+  pub first_0 : listing (take 0 example_listing) ≡ Err BadHeader
+  pub first_5 : listing (take 5 example_listing) ≡ Err BadHeader
+  pub first_6 : listing (take 6 example_listing) ≡ Err (BadLine 2)
+  pub first_48 : listing (take 48 example_listing) ≡ Err (BadLine 5)
+  pub first_49 : listing (take 49 example_listing) ≡ Err (BadLine 5)
+  pub first_63 : listing (take 63 example_listing) ≡ Err (BadLine 6)
+  pub bytes : length example_listing ≡ 118
+
+pub listing_rows : ListingRows
+listing_rows = record { example = refl; returns_and_feeds = refl; no_bytes = refl; header_alone = refl; same_number = refl; parent_is_file = refl; dots = refl; plain_escaped = refl; nul_target = refl; taken = refl; leading_zero = refl; two_spaces = refl; short_line = refl; other_header = refl; unknown_kind = refl; first_0 = refl; first_5 = refl; first_6 = refl; first_48 = refl; first_49 = refl; first_63 = refl; bytes = refl }
+
+-- the example tree is a tree
+abbrev pub ExampleIsTree : Type 0
+ExampleIsTree = WellFormed example_tree
+
+pub example_is_tree : ExampleIsTree
+example_is_tree = record { rows_in_order = refl; nodes_in_order = refl; root = refl; rows_fit = refl; nodes_fit = refl }

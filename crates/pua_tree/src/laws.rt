@@ -1,0 +1,17 @@
+//! Laws and worked examples of the definitions of this crate, each the contract of a function
+//! that does nothing.
+
+ghost use Rattle.pua_tree.specs.Laws.{TreesAreTheirRows};
+ghost use Rattle.pua_tree.specs.Examples.{ListingRows, ExampleIsTree};
+
+/// Trees with the same rows, kinds, targets and next number are equal.
+pub fn tree_law()
+    ensures { TreesAreTheirRows }
+{}
+
+/// Examples of listings.
+#[tactic(auto, using(crate::specs::Examples::listing_rows, crate::specs::Examples::example_is_tree))]
+pub fn listing_examples()
+    ensures listings { ListingRows }
+    ensures tree { ExampleIsTree }
+{}
