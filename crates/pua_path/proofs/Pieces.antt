@@ -1,19 +1,20 @@
 -- Pieces of texts: components, a slash at the end, and whether a text can be read, along a cut.
-use Rattle.std.proofs.Common.{◌≡◌, ℕ, zero, suc, Bool, true, false, not, ◌&&◌, ◌||◌, cond, List, [], ◌∷◌, ◌++◌, length, map, refl, sym, ap, ◌∙◌, append-nil, append_assoc, arith, IsTrue, lt-ltb, get_or, take, drop, ◌<◌, ◌≤◌, Some, None, position, drop-cons, ltb-false, take_all, ne_eqb, eqb-true}
+use Rattle.std.proofs.Common.{◌≡◌, ℕ, zero, suc, Bool, true, false, not, ◌&&◌, ◌||◌, cond, List, [], ◌∷◌, ◌++◌, length, map, refl, sym, ap, ◌∙◌, append-nil, append_assoc, arith, IsTrue, lt-ltb, get_or, take, drop, ◌<◌, ◌≤◌, Some, None, position, drop-cons, ltb-false, take_all, ne_eqb, eqb-true, Fits, w8, IsSome, Option}
 use Rattle.std.specs.Prelude.{◌==◌, if◌then◌else◌, nat_lt, nat_le}
 use Rattle.std.specs.List.{All, filter, slice_split, onto_first, list_any, list_all}
 use Rattle.std.proofs.lemmas.List.Splits.{slice_split_none, slice_split_at}
-use Rattle.std.proofs.lemmas.List.Folds.{list_any-append}
+use Rattle.std.proofs.lemmas.List.Folds.{list_any-append, list_all-append}
 use Rattle.std.proofs.lemmas.List.Elements.{filter-append, All-cons}
 use Rattle.std.proofs.lemmas.List.{take-append-drop}
 use Rattle.std.specs.List.{position_or_len}
 use Rattle.std.proofs.lemmas.List.Sums.{fails_before_first}
 use Rattle.std.proofs.lemmas.List.Quantifiers.{position-Some}
 use Rattle.std.proofs.lemmas.Bool.Decides.{nat_tests}
-use Rattle.pua_tree.specs.Names.{has_byte, components, has_short_components}
-use Rattle.pua_path.specs.Paths.{part_of, ends_in_slash, ending_parts, parts_of}
+use Rattle.pua_tree.specs.Names.{is_name, is_name_byte, same_bytes, has_byte, components, has_short_components}
+use Rattle.pua_path.specs.Paths.{part_of, ends_in_slash, ending_parts, parts_of, path_fault}
 use Rattle.pua_path.specs.Pieces.{begins_slash, IsCutAtSlash}
-use Rattle.pua_path.specs.Remaining.{slash_part, rest_parts, is_readable, is_piece, after_slashes}
+use Rattle.pua_path.specs.Remaining.{slash_part, rest_parts, is_readable, is_piece, is_done, after_slashes}
+use Rattle.pua_path.specs.declared.errno.Errno.TheVariants.{ENAMETOOLONG, EINVAL}
 use Rattle.pua_path.specs.declared.text.Ending.TheVariants as ending
 use Rattle.pua_path.specs.declared.found.Part.{Part}
 use Rattle.pua_path.specs.declared.found.Part.TheVariants.{Dot}
@@ -116,6 +117,10 @@ ends_in_slash-cut (b ∷ d ∷ piece) rest h k = ends_in_slash-cut (d ∷ piece)
 ending_parts-some : (y : ℕ) (ys : List ℕ) (at_end : Bool) → (y == 47) ≡ false → ending_parts ending.Dot (components (y ∷ ys)) at_end ≡ slash_part at_end
 ending_parts-some y ys at_end e = rw e (elim (slice_split slash ys) as (λ s. ending_parts ending.Dot (filter (λ piece. nat_lt 0 (length piece)) (onto_first y s)) at_end ≡ slash_part at_end) [ [] ↦ refl | piece ∷ pieces ↦ rw (some y piece) refl ])
 
+-- it has a part
+some_component : (y : ℕ) (ys : List ℕ) (more : List Part) → (y == 47) ≡ false → is_done (map part_of (components (y ∷ ys)) ++ more) ≡ false
+some_component y ys more e = rw e (elim (slice_split slash ys) as (λ s. is_done (map part_of (filter (λ piece. nat_lt 0 (length piece)) (onto_first y s)) ++ more) ≡ false) [ [] ↦ refl | piece ∷ pieces ↦ rw (some y piece) refl ])
+
 -- a text's parts are those behind its first slashes
 pub parts_of-begin : (text : List ℕ) → parts_of ending.Dot text ≡ rest_parts (after_slashes text)
 parts_of-begin text = by (after_slashes text) refl
@@ -169,19 +174,57 @@ all_four false false false s h = cc
 all_four false false true false h = cc
 all_four false false true true h = (refl, refl, refl, refl)
 
+neither : (a c : Bool) → (a || c) ≡ false → (a ≡ false) × (c ≡ false)
+neither true c h = cc
+neither false c h = (refl, h)
+
+pub both : (x y : Bool) → (x && y) ≡ true → (x ≡ true) × (y ≡ true)
+both true y h = (refl, h)
+both false y h = cc
+
+above_zero : (n : ℕ) → (n == 0) ≡ false → 0 < n
+above_zero zero h = cc
+above_zero (suc n) h = omega arith
+
+abbrev small : ℕ → Bool
+small b = nat_lt b 256
+
+all_small : (bs : List ℕ) → ((i : ℕ) → Fits w8 (get_or bs i 0)) → list_all small bs ≡ true
+all_small [] f = refl
+all_small (b ∷ bs) f = let low : small b ≡ true = lt-ltb b 256 (omega (arith, f 0)) in rw (low, all_small bs (λ i. f (suc i))) refl
+
+small-after_slashes : (xs : List ℕ) → list_all small xs ≡ true → list_all small (after_slashes xs) ≡ true
+small-after_slashes [] h = refl
+small-after_slashes (b ∷ bs) h = by (small-after_slashes bs (both (small b) (list_all small bs) h).1) (b == 47)
+  where
+    by : list_all small (after_slashes bs) ≡ true → (v : Bool) → list_all small (if v then after_slashes bs else (b ∷ bs)) ≡ true
+    by more true = more
+    by more false = h
+
+name_bytes : (bs : List ℕ) → has_byte 0 bs ≡ false → has_byte 47 bs ≡ false → list_all small bs ≡ true → list_all is_name_byte bs ≡ true
+name_bytes [] z s f = refl
+name_bytes (b ∷ bs) z s f =
+    let zs = neither (b == 0) (has_byte 0 bs) z in
+    let ss = neither (b == 47) (has_byte 47 bs) s in
+    let fs = both (small b) (list_all small bs) f in
+    let low : nat_lt 0 b ≡ true = lt-ltb 0 b (above_zero b zs.0) in
+    rw (low, fs.0, ss.0, name_bytes bs zs.1 ss.1 fs.1) refl
+
 -- a piece of a text that can be read is a part, and what is left can be read
-pub readable-cut : (text s piece rest : List ℕ) → is_readable text ≡ true → after_slashes text ≡ s → nat_lt 0 (length s) ≡ true → IsCutAtSlash s piece rest → (is_piece piece ≡ true) × (is_readable rest ≡ true)
-readable-cut text [] piece rest r e n h = cc
-readable-cut text (y ∷ ys) piece rest r e n h =
+pub readable-cut : (text s piece rest : List ℕ) → list_all small text ≡ true → is_readable text ≡ true → after_slashes text ≡ s → nat_lt 0 (length s) ≡ true → IsCutAtSlash s piece rest → (is_piece piece ≡ true) × (is_readable rest ≡ true)
+readable-cut text [] piece rest f r e n h = cc
+readable-cut text (y ∷ ys) piece rest f r e n h =
     let full : nat_lt 0 (length piece) ≡ true = some_piece text piece rest y ys e h in
     let whole : is_readable (piece ++ rest) ≡ true = sym (ap is_readable (e ∙ h.whole)) ∙ is_readable-after_slashes text ∙ r in
     let apart : (not (has_byte 0 piece || has_byte 0 rest) && (nat_le (length piece) 255 && has_short_components rest)) ≡ true =
-        sym (ap (λ nul. not nul && has_short_components (piece ++ rest)) (list_any-append (λ b. b == 0) piece rest)
-          ∙ ap (λ pieces. not (has_byte 0 piece || has_byte 0 rest) && list_all (λ piece. nat_le (length piece) 255) pieces) (components-cut piece rest full h.no_slash h.at_slash)) ∙ whole in
+    sym (ap (λ nul. not nul && has_short_components (piece ++ rest)) (list_any-append (λ b. b == 0) piece rest)
+    ∙ ap (λ pieces. not (has_byte 0 piece || has_byte 0 rest) && list_all (λ piece. nat_le (length piece) 255) pieces) (components-cut piece rest full h.no_slash h.at_slash)) ∙ whole in
     let four = all_four (has_byte 0 piece) (has_byte 0 rest) (nat_le (length piece) 255) (has_short_components rest) apart in
-    (rw (full, four.2, four.0, h.no_slash) refl, rw (four.1, four.3) refl)
+    let smalls : list_all small (piece ++ rest) ≡ true = sym (ap (list_all small) (e ∙ h.whole)) ∙ small-after_slashes text f in
+    let piece_small = both (list_all small piece) (list_all small rest) (sym (list_all-append small piece rest) ∙ smalls) in
+    let names : list_all is_name_byte piece ≡ true = name_bytes piece four.0 h.no_slash piece_small.0 in
+    (rw (full, four.2, names) refl, rw (four.1, four.3) refl)
 
--- a slash more at the end is no component
 split_some : (xs : List ℕ) → nat_lt 0 (length (slice_split slash xs)) ≡ true
 split_some [] = refl
 split_some (b ∷ bs) = by (b == 47) (slice_split slash bs)
@@ -261,7 +304,7 @@ has_nul-shorter text more b e h = sym (has_nul-last more) ∙ ap (has_byte 0) (a
 pub no_slash_last : (text more : List ℕ) (b : ℕ) → text ≡ more ++ b ∷ [] → (b ≡ 47 → ⊥) → ends_in_slash text ≡ false
 no_slash_last text more b e h = ap ends_in_slash e ∙ ends_in_slash-last more b ∙ ne_eqb b 47 h
 
-not_empty : (s : List ℕ) → (length s == 0) ≡ false → nat_lt 0 (length s) ≡ true
+pub not_empty : (s : List ℕ) → (length s == 0) ≡ false → nat_lt 0 (length s) ≡ true
 not_empty [] n = cc
 not_empty (y ∷ ys) n = some y ys
 
@@ -269,11 +312,60 @@ not_empty (y ∷ ys) n = some y ys
 pub first_part : (text s piece rest : List ℕ) → s ≡ after_slashes text → (length s == 0) ≡ false → IsCutAtSlash s piece rest → rest_parts text ≡ part_of piece ∷ rest_parts rest
 first_part text s piece rest e n h = rest_parts-cut text s piece rest (sym e) (not_empty s n) h
 
-pub first_readable : (text s piece rest : List ℕ) → is_readable text ≡ true → s ≡ after_slashes text → (length s == 0) ≡ false → IsCutAtSlash s piece rest → (is_piece piece ≡ true) × (is_readable rest ≡ true)
-first_readable text s piece rest r e n h = readable-cut text s piece rest r (sym e) (not_empty s n) h
+pub first_readable : (text s piece rest : List ℕ) → ((i : ℕ) → Fits w8 (get_or text i 0)) → is_readable text ≡ true → s ≡ after_slashes text → (length s == 0) ≡ false → IsCutAtSlash s piece rest → (is_piece piece ≡ true) × (is_readable rest ≡ true)
+first_readable text s piece rest f r e n h = readable-cut text s piece rest (all_small text f) r (sym e) (not_empty s n) h
 
 -- slashes alone
 pub only_dot : (text s : List ℕ) → 0 < length text → s ≡ after_slashes text → (length s == 0) ≡ true → rest_parts text ≡ Dot ∷ rest_parts s
 only_dot [] s l e n = absurd (omega (arith, l))
 only_dot (x ∷ xs) [] l e n = rest_parts-slashes x xs (sym e)
 only_dot (x ∷ xs) (y ∷ ys) l e n = absurd (omega (arith, eqb-true (length (y ∷ ys)) 0 n))
+
+-- what is left of a text has a part, unless it is empty
+pub rest_parts-some : (x : ℕ) (xs : List ℕ) → is_done (rest_parts (x ∷ xs)) ≡ false
+rest_parts-some x xs = by (after_slashes (x ∷ xs)) refl
+  where
+    by : (s : List ℕ) → after_slashes (x ∷ xs) ≡ s → is_done (rest_parts (x ∷ xs)) ≡ false
+    by [] e = ap is_done (rest_parts-slashes x xs e)
+    by (y ∷ ys) e =
+        let pieces : components (x ∷ xs) ≡ components (y ∷ ys) = sym (components-after_slashes (x ∷ xs)) ∙ ap components e in
+        ap (λ p. is_done (map part_of p ++ slash_part (ends_in_slash (x ∷ xs)))) pieces
+        ∙ some_component y ys (slash_part (ends_in_slash (x ∷ xs))) (head-after_slashes (x ∷ xs) y ys e)
+
+-- a target of slashes alone has no parts
+pub no_parts : (target text : List ℕ) → text ≡ after_slashes target → (length text == 0) ≡ true → parts_of ending.Dot target ≡ []
+no_parts target [] e n = parts_of-begin target ∙ ap rest_parts (sym e)
+no_parts target (x ∷ xs) e n = absurd (omega (arith, eqb-true (length (x ∷ xs)) 0 n))
+
+-- the parts of a path without fault can be read
+fault_free : (long short nul : Bool) → (if long then Some ENAMETOOLONG else (if not short then Some ENAMETOOLONG else (if nul then Some EINVAL else None))) ≡ None → (not nul && short) ≡ true
+fault_free true short nul h = cc
+fault_free false false nul h = cc
+fault_free false true true h = cc
+fault_free false true false h = refl
+
+pub path_readable : (text : List ℕ) → path_fault text ≡ None → is_readable text ≡ true
+path_readable [] h = cc
+path_readable (b ∷ more) h = fault_free (nat_lt 1023 (length (b ∷ more))) (has_short_components (b ∷ more)) (has_byte 0 (b ∷ more)) h
+
+pub begin_readable : (path text : List ℕ) → path_fault path ≡ None → text ≡ after_slashes path → is_readable text ≡ true
+begin_readable path text h e = ap is_readable e ∙ is_readable-after_slashes path ∙ path_readable path h
+
+pub trimmed_readable : (path trimmed text : List ℕ) → path_fault path ≡ None → components trimmed ≡ components path → has_byte 0 trimmed ≡ has_byte 0 path → text ≡ after_slashes trimmed → is_readable text ≡ true
+trimmed_readable path trimmed text h same nul e =
+    ap is_readable e ∙ is_readable-after_slashes trimmed
+    ∙ ap (λ v. not v && has_short_components trimmed) nul
+    ∙ ap (λ pieces. not (has_byte 0 path) && list_all (λ piece. nat_le (length piece) 255) pieces) same
+    ∙ path_readable path h
+
+-- a piece that is neither one dot nor two is a name
+pub piece_is_name : (piece : List ℕ) (name : Option (List ℕ)) → name ≡ (if is_name piece then Some piece else None) → is_piece piece ≡ true → same_bytes piece (46 ∷ []) ≡ false → same_bytes piece (46 ∷ 46 ∷ []) ≡ false → IsSome name
+piece_is_name piece name e h one two =
+    let a = both (nat_lt 0 (length piece)) (nat_le (length piece) 255 && list_all is_name_byte piece) h in
+    let b = both (nat_le (length piece) 255) (list_all is_name_byte piece) a.1 in
+    let named : is_name piece ≡ true = rw (a.0, b.0, b.1, one, two) refl in
+    let is : name ≡ Some piece = e ∙ ap (λ v. if v then Some piece else None) named in
+    rw is refl
+
+pub text_readable : (target text : List ℕ) → is_readable target ≡ true → text ≡ after_slashes target → is_readable text ≡ true
+text_readable target text r e = ap is_readable e ∙ is_readable-after_slashes target ∙ r

@@ -7,7 +7,7 @@ ghost use Rattle.pua_path.specs.Remaining.{after_slashes, is_piece, is_readable,
 ghost use Rattle.pua_path.specs.Pieces.{IsCutAtSlash};
 
 use crate::found::Part;
-// TEMP
+use pua_tree::Name;
 
 /// The text from its first byte other than a slash on.
 pub fn after_slashes(text: &[u8]) -> &[u8]
@@ -63,7 +63,7 @@ pub fn read_part(piece: &[u8]) -> Part
     } else if piece == b"..".as_slice() {
         Part::DotDot
     } else {
-        unreachable!()
+        Part::Name(Name::from_bytes(piece).unwrap())
     }
 }
 

@@ -2,7 +2,7 @@
 
 ghost use Rattle.std.specs.Prelude.{◌≡◌, ◌≤◌, ◌<◌, ◌+◌, ◌-◌, ◌*◌, ◌∷◌, ◌++◌, IsTrue, IfOk, OnOk, ◌==◌, Ok, Err, Some, None, [], zero, suc, if◌then◌else◌};
 ghost use Rattle.pua_tree.specs.Tree.{is_dir};
-ghost use Rattle.pua_path.specs.Resolution.{resolution, resolve_parts, standing_at, start_of, step, last};
+ghost use Rattle.pua_path.specs.Resolution.{resolution, resolve_parts, standing_at, is_followed, start_of, step, last};
 ghost use Rattle.pua_path.specs.Paths.{is_absolute, parts_of};
 ghost use Rattle.pua_path.specs.Walks.{standing_seen, StandsIn, CanGoOn, goes_on, potential};
 ghost use Rattle.pua_path.specs.Remaining.{is_done, is_readable};
@@ -63,10 +63,14 @@ pub fn step<'t, P: Probe<'t>>(
     ensures exact { result ≡ step (P.tree probe.old) dir used part.now }
     ensures tree { P.tree probe.new ≡ P.tree probe.old }
 {
-    match resolve_part(probe, dir, LINK_LIMIT - used, part, Last::Followed)? {
-        (Found::Whole { dir, .. }, left) => Ok((dir, LINK_LIMIT - left)),
-        (Found::Slot { node: Some(_), .. }, _) => Err(Errno::ENOTDIR),
-        (Found::Slot { node: None, .. }, _) => Err(Errno::ENOENT),
+    let (found, left) = resolve_part(probe, dir, LINK_LIMIT - used, part, Last::Followed)?;
+    match found {
+        Found::Whole { dir, .. } => Ok((dir, LINK_LIMIT - left)),
+        Found::Slot { node, .. } => Err(if node.is_some() {
+            Errno::ENOTDIR
+        } else {
+            Errno::ENOENT
+        }),
     }
 }
 
@@ -210,6 +214,7 @@ impl<'a> Walk<'a> {
                 Ok(None)
             }
             Part::DotDot => {
+                probe.known();
                 self.here = probe.parent(self.here).unwrap_or(NodeId::ROOT);
                 self.way = Way::DotDot;
                 Ok(None)
@@ -245,14 +250,27 @@ impl<'a> Walk<'a> {
                 Ok(None)
             }
             Standing::Linked(node, target) => {
-                if mode == Last::Kept && self.rest.is_done() {
-                    return self.end_at(name, Some(node), Errno::ENOTDIR);
+                if !self.is_followed(mode) {
+                    return Ok(Some(Found::Slot {
+                        dir,
+                        name: *name,
+                        node: Some(node),
+                    }));
                 }
                 self.follow(target)?;
                 Ok(None)
             }
             Standing::Plain(node) => self.end_at(name, Some(node), Errno::ENOTDIR),
             Standing::Nothing => self.end_at(name, None, Errno::ENOENT),
+        }
+    }
+
+    fn is_followed(&self, mode: Last) -> bool
+        ensures { result ≡ is_followed mode self.now.rest.parts }
+    {
+        match mode {
+            Last::Followed => true,
+            Last::Kept => !self.rest.is_done(),
         }
     }
 

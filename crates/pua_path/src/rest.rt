@@ -46,10 +46,10 @@ impl<'a> Rest<'a> {
         ensures depth { result.depth ≡ 0 }
     {
         let bytes = text.bytes();
-        Rest::of_top(after_slashes(match text.ending() {
-            Ending::Dot => bytes,
-            Ending::Dropped => before_slashes(bytes),
-        }))
+        match text.ending() {
+            Ending::Dot => Rest::of_top(after_slashes(bytes)),
+            Ending::Dropped => Rest::of_top(after_slashes(before_slashes(bytes))),
+        }
     }
 
     fn of_top(top: &'a [u8]) -> Rest<'a>
