@@ -1,6 +1,6 @@
 -- A resolution on its way: what stands at a name, and how one part leads on to the next.
 use Rattle.std.specs.Prelude.{ℕ, ◌+◌, ◌*◌, ◌≤◌, length, List, Option, Some, None, Result, Ok, Err, IsTrue}
-use Rattle.pua_tree.specs.Tree.{Tree, is_dir}
+use Rattle.pua_tree.specs.Tree.{Tree, WellFormed, is_dir}
 use Rattle.pua_path.specs.Paths.{parts_of}
 use Rattle.pua_path.specs.Remaining.{Remaining, is_readable}
 use Rattle.pua_path.specs.Resolution.{Resolved, Standing, Directory, Linked, Plain, Nothing}
@@ -37,5 +37,6 @@ potential t left rest = length rest.parts + most_parts t * left
 
 -- a resolution that can go on: from a living directory, with room for the targets that may come
 pub record CanGoOn (t : Tree) (here left : ℕ) (rest : Remaining) : Type 0 where
+  pub tree : WellFormed t
   pub dir : IsTrue (is_dir t here)
   pub room : rest.depth + left ≤ 32

@@ -1,6 +1,6 @@
 //! Resolution: what parts name in a tree.
 
-ghost use Rattle.std.specs.Prelude.{◌≡◌, ◌≤◌, ◌<◌, ◌+◌, ◌-◌, ◌*◌, ◌∷◌, ◌++◌, IsTrue, IfOk, OnOk, ◌==◌, Ok, Err, Some, None, [], zero, suc, if◌then◌else◌};
+ghost use Rattle.std.specs.Prelude.{◌≡◌, ◌≤◌, ◌<◌, ◌+◌, ◌-◌, ◌*◌, ◌∷◌, ◌++◌, IsTrue, IfOk, IfErr, OnOk, ◌==◌, Ok, Err, Some, None, [], zero, suc, if◌then◌else◌};
 ghost use Rattle.pua_tree.specs.Tree.{is_dir};
 ghost use Rattle.pua_path.specs.Resolution.{resolution, resolve_parts, standing_at, is_followed, start_of, step, last};
 ghost use Rattle.pua_path.specs.Paths.{is_absolute, parts_of};
@@ -106,6 +106,7 @@ fn resolve_part<'t, P: Probe<'t>>(
     ensures left { IfOk result (λ found. found.1 ≤ left) }
     ensures tree { P.tree probe.new ≡ P.tree probe.old }
 {
+    probe.known();
     let mut walk = Walk::new(dir, left, Rest::none());
     match walk.enter(probe, part, mode)? {
         Some(found) => Ok((found, walk.left)),
@@ -214,7 +215,6 @@ impl<'a> Walk<'a> {
                 Ok(None)
             }
             Part::DotDot => {
-                probe.known();
                 self.here = probe.parent(self.here).unwrap_or(NodeId::ROOT);
                 self.way = Way::DotDot;
                 Ok(None)
@@ -297,7 +297,8 @@ impl<'a> Walk<'a> {
     fn follow(&mut self, target: &'a [u8]) -> Result<(), Errno>
         requires readable { IsTrue (is_readable target.now) }
         requires room { self.old.rest.depth + self.old.left ≤ 32 }
-        ensures errno { result ≡ (if self.old.left == 0 then Err ELOOP else Ok tt) }
+        ensures ok { OnOk result (0 < self.old.left) }
+        ensures err { IfErr result (λ errno. (errno ≡ ELOOP) × (self.old.left ≡ 0)) }
         ensures left { self.new.left ≡ self.old.left - 1 }
         ensures unchanged { self.old.left ≡ 0 → self.new ≡ self.old }
         ensures here { 0 < self.old.left → self.new.here ≡ start_of target.now self.old.here }
