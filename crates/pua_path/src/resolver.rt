@@ -1,12 +1,12 @@
 //! Resolution: what parts name in a tree.
 
-ghost use Rattle.std.specs.Prelude.{◌≡◌, ◌≤◌, ◌<◌, ◌+◌, ◌-◌, ◌*◌, ◌∷◌, ◌++◌, IsTrue, IfOk, IfErr, OnOk, ◌==◌, Ok, Err, Some, None, [], zero, suc, if◌then◌else◌};
+ghost use Rattle.std.specs.Prelude.{◌≡◌, ◌≤◌, ◌<◌, ◌+◌, ◌-◌, ◌*◌, ◌∷◌, ◌++◌, IsTrue, IfOk, IfErr, IfSome, OnOk, is_some, not, ◌&&◌, ◌==◌, Ok, Err, Some, None, [], zero, suc, if◌then◌else◌};
 ghost use Rattle.pua_tree.specs.Tree.{is_dir};
 ghost use Rattle.pua_path.specs.Resolution.{resolution, resolve_parts, standing_at, is_followed, start_of, step, last};
 ghost use Rattle.pua_path.specs.Paths.{is_absolute, parts_of};
 ghost use Rattle.pua_path.specs.Walks.{standing_seen, StandsIn, CanGoOn, goes_on, potential};
-ghost use Rattle.pua_path.specs.Remaining.{is_done, is_readable};
-ghost use Rattle.pua_path.specs.declared.errno.Errno.TheVariants.{ELOOP};
+ghost use Rattle.pua_path.specs.Remaining.{Remaining, is_done, is_readable};
+ghost use Rattle.pua_path.specs.declared.errno.Errno.TheVariants.{ELOOP, ENOENT, ENOTDIR};
 ghost use Rattle.pua_path.specs.declared.found.Way.TheVariants as ways;
 ghost use Rattle.pua_path.specs.declared.found.Part.TheVariants as parts;
 ghost use Rattle.pua_path.specs.declared.found.Found.TheVariants.{Slot};
@@ -35,12 +35,7 @@ pub fn resolve<'t, P: Probe<'t>>(
     ensures exact { result ≡ resolution (P.tree probe.old) from text.now.ending text.now.bytes mode }
     ensures tree { P.tree probe.new ≡ P.tree probe.old }
 {
-    probe.known();
-    let start = if is_absolute(text.bytes()) {
-        NodeId::ROOT
-    } else if let Some(Kind::Dir) = probe.kind(from) {
-        from
-    } else {
+    let Some(start) = start_of(probe, from, text.bytes()) else {
         return Err(Errno::ENOENT);
     };
     let walk = Walk::new(start, LINK_LIMIT, Rest::of_text(text));
@@ -66,11 +61,18 @@ pub fn step<'t, P: Probe<'t>>(
     let (found, left) = resolve_part(probe, dir, LINK_LIMIT - used, part, Last::Followed)?;
     match found {
         Found::Whole { dir, .. } => Ok((dir, LINK_LIMIT - left)),
-        Found::Slot { node, .. } => Err(if node.is_some() {
-            Errno::ENOTDIR
-        } else {
-            Errno::ENOENT
-        }),
+        Found::Slot { node, .. } => Err(not_entered(node)),
+    }
+}
+
+/// Why what was found can't be entered: it is no directory, or nothing.
+fn not_entered(node: Option<NodeId>) -> Errno
+    ensures { result ≡ (if is_some node then ENOTDIR else ENOENT) }
+{
+    if node.is_some() {
+        Errno::ENOTDIR
+    } else {
+        Errno::ENOENT
     }
 }
 
@@ -111,6 +113,22 @@ fn resolve_part<'t, P: Probe<'t>>(
     match walk.enter(probe, part, mode)? {
         Some(found) => Ok((found, walk.left)),
         None => walk.finish(probe, mode),
+    }
+}
+
+/// Where a path starts; None where that is no living directory.
+fn start_of<'t, P: Probe<'t>>(probe: &mut P, from: NodeId, text: &[u8]) -> Option<NodeId>
+    ensures start { result ≡ (if not (is_absolute text.now) && not (is_dir (P.tree probe.old) from) then None else Some (start_of text.now from)) }
+    ensures ready { IfSome result (λ start. (rest : Remaining) → rest.depth ≡ 0 → CanGoOn (P.tree probe.old) start 32 rest) }
+    ensures tree { P.tree probe.new ≡ P.tree probe.old }
+{
+    probe.known();
+    if is_absolute(text) {
+        return Some(NodeId::ROOT);
+    }
+    match probe.kind(from) {
+        Some(Kind::Dir) => Some(from),
+        _ => None,
     }
 }
 

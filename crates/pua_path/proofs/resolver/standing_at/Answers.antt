@@ -7,4 +7,4 @@ pub returns-in-Some-Link-clause-stands : goal.returns-in-Some-Link-clause-stands
 returns-in-Some-Link-clause-stands g c =
     rw c.unwrap_or.ensures
     (seen_target (g.P.Probe.tree c.args.probe.now) c.in-Some.node c.target.result _ c.known.ensures
-      (c.target.ensures.target ∙ ap (λ t. target_at t c.in-Some.node) (c.kind.ensures.tree ∙ c.look.ensures.tree)) refl)
+    (c.target.ensures.target ∙ ap (λ t. target_at t c.in-Some.node) (c.kind.ensures.tree ∙ c.look.ensures.tree)) refl)

@@ -20,7 +20,7 @@ pub returns-in_ok-follow-in-Linked-clause-potential : goal.returns-in_ok-follow-
 returns-in_ok-follow-in-Linked-clause-potential g c =
     rw c.in_ok-follow-in-Linked.ensures.left
     (potential_linked (g.P.Probe.tree c.args.probe.now) c.args.self.now.left c.args.self.now.rest c.follow.new.self.rest c.in-Linked.target.now
-      (c.in_ok-follow-in-Linked.ensures.parts c.in_ok-follow-in-Linked.ensures.ok) c.in-Linked.ensures.stands.1 c.in_ok-follow-in-Linked.ensures.ok)
+    (c.in_ok-follow-in-Linked.ensures.parts c.in_ok-follow-in-Linked.ensures.ok) c.in-Linked.ensures.stands.1 c.in_ok-follow-in-Linked.ensures.ok)
 
 pub returns-in-Plain-clause-exact : goal.returns-in-Plain-clause-exact
 returns-in-Plain-clause-exact g c =
