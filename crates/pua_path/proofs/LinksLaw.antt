@@ -96,13 +96,13 @@ links_decide t mode dir way ps (suc most) =
 -- the directory that a step leads to
 place : Found → Result ℕ Errno
 place (Whole dir way) = Ok dir
-place (Slot dir name node) = Err ENOTDIR
+place (Slot dir name _) = Err ENOTDIR
 
 reached_after : (outcome : Result Found Errno) (left total : ℕ) → link_limit - left ≡ total → ((outcome >>= λ found. Ok (found, left)) >>= reached) ≡ ((outcome >>= place) >>= λ dir. Ok (dir, total))
 unfolding place
 reached_after (Err errno) left total e = refl
 reached_after (Ok (Whole dir way)) left total e = ap (λ n. Ok (dir, n)) e
-reached_after (Ok (Slot dir name node)) left total e = refl
+reached_after (Ok (Slot dir name _)) left total e = refl
 
 pub steps_follow : StepsFollow
 steps_follow t dir part = by (links_decide t Followed dir ways.Top (part ∷ parts.Dot ∷ []) link_limit)

@@ -63,7 +63,7 @@ then_on : (t : Tree) (mode : Last) (links : ℕ) (r : Resolved) (next : Part) (r
     ((dir used : ℕ) → used ≤ link_limit → (resolve_parts (link_limit - used) t mode dir ways.Top (next ∷ rest) >>= λ found. Ok found.0) ≡ further (dir, used)) →
     ((r >>= onwards t mode (next ∷ rest)) >>= λ found. Ok found.0) ≡ ((r >>= reached) >>= further)
 then_on t mode links (Err errno) next rest further l h k = refl
-then_on t mode links (Ok (Slot dir name node, left)) next rest further l h k = refl
+then_on t mode links (Ok (Slot dir name _, left)) next rest further l h k = refl
 then_on t mode links (Ok (Whole dir way, left)) next rest further l h k =
     let same : link_limit - (link_limit - left) ≡ left = omega (arith, h, l) in
     let fits : link_limit - left ≤ link_limit = omega arith in
