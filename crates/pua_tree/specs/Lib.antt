@@ -1,6 +1,7 @@
 pub mod Names
 pub mod Spelling
 pub mod Tree
+pub mod ListTree
 pub mod Steps
 pub mod Listing
 pub mod Laws

@@ -3,12 +3,14 @@
 
 mod fault;
 mod laws;
+mod list;
 mod name;
 mod node;
 mod tree;
 
 pub use fault::{ListingFault, NameFault, OutOfMemory, TreeFault};
 pub use laws::{listing_examples, tree_law};
+pub use list::ListTree;
 pub use name::Name;
 pub use node::{Kind, NodeId};
 pub use tree::FileTree;
