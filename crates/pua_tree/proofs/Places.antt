@@ -99,11 +99,13 @@ module _ {X K V : Type 0} {R : K → K → Ordering} (o : IsTotalOrder R) (entry
       → IfErr r (λ i. (i ≤ length xs) × (find R q (map entry xs) ≡ None))
   missing_place xs q (Ok i) h bound p = tt
   missing_place xs q (Err i) h bound p =
-      let parts = p (searchable xs q (passed _ h)) in
-      (bound, missed xs q (λ k d lt e. elim (cases_lt k i) [
-        | inl less ↦ let other : key_cmp q (get_or xs k d) ≡ Less = parts.0 k d (omega arith) less in cc
-        | inr more ↦ let other : key_cmp q (get_or xs k d) ≡ Greater = parts.1 k d more lt in cc
-      ]))
+      let parts = p (searchable xs q (passed _ h)) in (
+        bound,
+        missed xs q (λ k d lt e. elim (cases_lt k i) [
+          | inl less ↦ let other : key_cmp q (get_or xs k d) ≡ Less = parts.0 k d (omega arith) less in cc
+          | inr more ↦ let other : key_cmp q (get_or xs k d) ≡ Greater = parts.1 k d more lt in cc
+        ]),
+      )
 
   pub put_place : (xs : List X) (q : K) (r : Result ℕ ℕ) → IsTrue (is_sorted R (map entry xs)) → IsSearchInRange r (length xs) → IsBinarySearchResult (key_cmp q) xs r
       → IfErr r (λ i. (v : V) → put R q v (map entry xs) ≡ insert (map entry xs) i (q, v))

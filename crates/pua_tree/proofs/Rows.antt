@@ -1,5 +1,5 @@
 -- What rows in order say of a directory and of a node.
-use Rattle.std.proofs.Common.{◌≡◌, ◌<◌, ◌≤◌, ℕ, zero, suc, List, [], ◌∷◌, length, get_or, map, Option, Some, None, Result, Ok, Err, Bool, true, false, not, cond, ◌&&◌, ◌||◌, ◌==◌, ◌≢◌, T, IsTrue, unwrap_or, option_map, find, refl, sym, ap, ◌∙◌, inl, inr, arith, is_ok}
+use Rattle.std.proofs.Common.{◌≡◌, ◌<◌, ◌≤◌, ℕ, zero, suc, List, [], ◌∷◌, ◌++◌, length, get_or, map, Option, Some, None, Result, Ok, Err, Bool, true, false, not, cond, ◌&&◌, ◌||◌, ◌==◌, ◌≢◌, T, IsTrue, unwrap_or, option_map, find, refl, sym, ap, ◌∙◌, inl, inr, arith, is_ok, reverse, Bor}
 use Rattle.std.specs.List.{list_all, list_any}
 use Rattle.std.specs.List.Sorted.{IsNonDecreasingBy, IsBinarySearchResult, IsSearchInRange}
 use Rattle.std.specs.declared.cmp.Ordering.{Ordering}
@@ -7,9 +7,13 @@ use Rattle.std.specs.declared.cmp.Ordering.TheVariants.{Less, Equal, Greater}
 use Rattle.std.specs.Ordering.{nat_cmp, ordering_index, ordering_then}
 use Rattle.std.specs.FinMap.{is_sorted, nat_cmp-IsAntisymmetric}
 use Rattle.std.proofs.lemmas.Bool.{cases_lt}
+use Rattle.std.proofs.lemmas.List.{map-append, reverse-append}
+use Rattle.std.specs.BTreeSet.{insert_key}
+use Rattle.std.specs.Ordering.{match_ordering}
+use Rattle.std.specs.FinMap.Entries.{by_order}
 use Rattle.std.proofs.lemmas.Bool.Decides.{nat_tests}
 use Rattle.pua_tree.specs.Tree as tree
-use Rattle.pua_tree.specs.Tree.{Spot, Tree, spot_cmp, name_cmp, above, is_dir, is_living, row_fits}
+use Rattle.pua_tree.specs.Tree.{Spot, Tree, with_name, distinct_names, spot_cmp, name_cmp, above, is_dir, is_living, row_fits}
 use Rattle.pua_tree.specs.Names.{is_name}
 use Rattle.pua_tree.specs.ListTree.{row_entry, held_tree}
 use Rattle.pua_tree.specs.declared.list.Row.{Row}
@@ -89,3 +93,24 @@ root_missing t (r ∷ rows) h =
 pub above_row : (t : Tree) (rows : List Row) (d : ℕ) → t.rows ≡ map row_entry rows → IsTrue (list_all (row_fits t) t.rows) → unwrap_or (option_map (λ row. row.dir) (find (λ row. row.node == d) rows)) 0 ≡ above t d
 above_row t rows zero e h = ap (λ o. unwrap_or (option_map (λ row. row.dir) o) 0) (root_missing t rows (passed _ (rw e at h)))
 above_row t rows (suc d) e h = rw e (ap (λ o. unwrap_or o 0) (sym (found_row rows (suc d))))
+
+with_name_is : (n : List ℕ) (ns : List (List ℕ)) → insert_key name_cmp ns n ≡ with_name n ns
+with_name_is n [] = refl
+with_name_is n (m ∷ ms) =
+    elim (name_cmp n m) as (λ o. match_ordering o (n ∷ m ∷ ms) (m ∷ ms) (m ∷ insert_key name_cmp ms n) ≡ by_order o (n ∷ m ∷ ms) (m ∷ ms) (m ∷ with_name n ms)) [
+      | Less ↦ refl
+      | Equal ↦ refl
+      | Greater ↦ ap (λ names. m ∷ names) (with_name_is n ms)
+    ]
+
+-- the names of rows from the last one on, with the name of one row more
+pub one_name_more : (rows : List (Bor Row)) (row : Bor Row) (names more : List (List ℕ)) → names ≡ distinct_names (map (λ r. r.name) (reverse (map (λ r. r.now) rows))) → more ≡ insert_key name_cmp names row.now.name
+    → more ≡ distinct_names (map (λ r. r.name) (reverse (map (λ r. r.now) (rows ++ row ∷ []))))
+one_name_more rows row names more so_far new =
+    new ∙ with_name_is row.now.name names ∙ ap (with_name row.now.name) so_far
+    ∙ sym (ap (λ (rs : List Row). distinct_names (map (λ r. r.name) (reverse rs))) (map-append (λ r. r.now) rows (row ∷ [])) ∙ ap (λ (rs : List Row). distinct_names (map (λ r. r.name) rs)) (reverse-append (map (λ r. r.now) rows) (row.now ∷ [])))
+
+-- the names of rows by their entries
+pub entry_names : (rows : List Row) → map (λ entry. entry.0.1) (map row_entry rows) ≡ map (λ row. row.name) rows
+entry_names [] = refl
+entry_names (r ∷ rows) = ap (λ names. r.name ∷ names) (entry_names rows)

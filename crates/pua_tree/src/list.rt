@@ -1,14 +1,13 @@
 //! A tree kept as a list of rows and a list of nodes, each in the order of its keys.
 
-use std::alloc::{AllocError, Global};
-use std::cmp::Ordering;
-use std::collections::BTreeSet;
-use std::marker::Model;
-
 use crate::fault::TreeFault;
 use crate::name::Name;
 use crate::node::{Kind, NodeId};
 use crate::tree::FileTree;
+use std::alloc::{AllocError, Global};
+use std::cmp::Ordering;
+use std::collections::BTreeSet;
+use std::marker::Model;
 
 /// A node that has a name in a directory.
 #[derive(Clone, Copy)]
@@ -97,6 +96,7 @@ impl FileTree for ListTree {
         self.is_dir(dir) && !has_row(&self.rows, dir)
     }
 
+    #[tactic(auto, using(crate::proofs::Rows::entry_names))]
     fn names(&self, alloc: Global) -> Result<Vec<Name>, TreeFault> {
         row_names(alloc, &self.rows).map_err(|_| TreeFault::OutOfMemory)
     }
@@ -150,16 +150,26 @@ fn has_row(rows: &[Row], dir: NodeId) -> bool
 fn dir_above(rows: &[Row], node: NodeId) -> NodeId
     ensures { result ≡ unwrap_or (option_map (λ row. row.dir) (find (λ row. row.node == node) rows.now)) 0 }
 {
-    rows.iter().find(|row| row.node == node).map_or(NodeId::ROOT, |row| row.dir)
+    rows.iter()
+        .find(|row| row.node == node)
+        .map_or(NodeId::ROOT, |row| row.dir)
 }
 
 /// The names in the rows: each once, in the order of their bytes.
 fn row_names(alloc: Global, rows: &[Row]) -> Result<Vec<Name>, AllocError>
     ensures { IfOk result (λ all. all.items ≡ distinct_names (map (λ row. row.name) rows.now)) }
 {
+    let names = name_set(alloc, rows)?;
+    names.into_iter().collect(alloc)
+}
+
+/// The names in the rows, as a set.
+fn name_set(alloc: Global, rows: &[Row]) -> Result<BTreeSet<Name>, AllocError>
+    ensures { IfOk result (λ names. names.keys ≡ distinct_names (map (λ row. row.name) rows.now)) }
+{
     let mut names = BTreeSet::new(alloc);
     for row in rows.iter().rev() {
         names.insert(row.name)?;
     }
-    names.into_iter().collect(alloc)
+    Ok(names)
 }
