@@ -1,5 +1,6 @@
 pub mod Names
 pub mod Spelling
+pub mod Writes
 pub mod Tree
 pub mod ListTree
 pub mod Steps

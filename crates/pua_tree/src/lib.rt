@@ -6,6 +6,7 @@ mod laws;
 mod list;
 mod name;
 mod node;
+mod spelling;
 mod tree;
 
 pub use fault::{ListingFault, NameFault, OutOfMemory, TreeFault};
@@ -13,4 +14,5 @@ pub use laws::{listing_examples, tree_law};
 pub use list::ListTree;
 pub use name::Name;
 pub use node::{Kind, NodeId};
+pub use spelling::{SpelledByte, byte_spelling, unspelled};
 pub use tree::FileTree;
