@@ -7,4 +7,5 @@ pub mod Steps
 pub mod Listing
 pub mod Laws
 pub mod Grammar
+pub mod Reading
 pub mod Examples

@@ -4,6 +4,7 @@
 mod fault;
 mod laws;
 mod list;
+mod listing;
 mod name;
 mod node;
 mod spelling;
