@@ -1,6 +1,7 @@
 pub mod Names
 pub mod Spelling
 pub mod Writes
+pub mod Fields
 pub mod Tree
 pub mod ListTree
 pub mod Steps
