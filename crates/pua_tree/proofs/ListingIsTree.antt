@@ -95,7 +95,7 @@ any_dir_below p n (e ∷ es) h a = go (or_cases (eqb e.number p && is_dir_kind (
     go (inr q) more = more q (and_parts (ltb e.number n) _ a).1
 
 -- a directory's number is below those of what stands in it
-parent_below : (es : List Entry) (e : Entry) → Rising 0 es → Fits es e → e.parent < e.number
+pub parent_below : (es : List Entry) (e : Entry) → Rising 0 es → Fits es e → e.parent < e.number
 parent_below es e r f = go (or_cases (eqb e.parent 0) _ f.in_dir)
   where
     go : IsTrue (eqb e.parent 0) ⊎ IsTrue (list_any (λ x. eqb x.number e.parent && is_dir_kind (Some x.made.kind)) es) → e.parent < e.number

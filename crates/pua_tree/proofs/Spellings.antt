@@ -156,7 +156,7 @@ name_of-spelling n h =
     ∙ cond-false (ltb 255 (length n)) (Err TooLong) _ (le-ltb 255 (length n) parts.1)
     ∙ cond-true (is_name n) (Ok n) (Err NotAName) h
 
-Err≢Ok : {A E : Type 0} (f : E) (x : A) → ◌≡◌ {A = Result A E} (Err f) (Ok x) → ⊥
+pub Err≢Ok : {A E : Type 0} (f : E) (x : A) → ◌≡◌ {A = Result A E} (Err f) (Ok x) → ⊥
 Err≢Ok f x e = true≢false (ap is_ok (sym e))
 
 pub same_Ok : {A E : Type 0} (x y : A) → ◌≡◌ {A = Result A E} (Ok x) (Ok y) → x ≡ y
@@ -167,11 +167,11 @@ same_Ok {A} {E} x y e = ap (ok_part x) e
     ok_part d (Err f) = d
 
 -- the later answer, where a test that gives a fault failed
-passed : {A E : Type 0} (t : Bool) (f : E) (r : Result A E) (x : A) → cond t (Err f) r ≡ Ok x → r ≡ Ok x
+pub passed : {A E : Type 0} (t : Bool) (f : E) (r : Result A E) (x : A) → cond t (Err f) r ≡ Ok x → r ≡ Ok x
 passed true f r x e = absurd (Err≢Ok f x e)
 passed false f r x e = e
 
-tested : {A E : Type 0} (t : Bool) (f : E) (y x : A) → cond t (Ok y) (Err f) ≡ Ok x → IsTrue t × (y ≡ x)
+pub tested : {A E : Type 0} (t : Bool) (f : E) (y x : A) → cond t (Ok y) (Err f) ≡ Ok x → IsTrue t × (y ≡ x)
 tested true f y x e = (refl, same_Ok y x e)
 tested false f y x e = absurd (Err≢Ok f x e)
 
