@@ -15,6 +15,7 @@ use Rattle.pua_tree.specs.Listing.{Entry, Line, plain_kind, line_of_fields, line
 use Rattle.pua_tree.specs.Grammar.{kind_word, target_field, entry_text, target_stands, entry_fits, entries_fit, ListingsAreRead, ListingsListTrees, SpellingsAreRead}
 use Rattle.pua_tree.specs.declared.node.Kind.{Kind}
 use Rattle.pua_tree.specs.declared.node.Kind.TheVariants.{Dir, File, Prog, Link}
+use Rattle.pua_tree.specs.declared.fault.ListingFault.{ListingFault}
 use Rattle.pua_tree.specs.declared.fault.ListingFault.TheVariants.{BadHeader, BadLine, BadNumber, BadParent, BadName, BadTarget, Taken, TooMany}
 use Rattle.pua_tree.proofs.Entries.{Fits, fits_parts, fits_from, entries_rise, entries_push}
 use Rattle.pua_tree.proofs.ListingIsTree.{well_formed, parent_below}
@@ -236,6 +237,13 @@ entry_written earlier n e place h f =
     (step_from (node_of n l e.made.kind) _ e.made e (node_written n l e.made.kind e.made.target refl f.target)
     (cond-false (is_taken earlier e.parent e.name) (Err (Taken n)) (cond (ltb 4097 n) (Err (TooMany n)) (Ok e)) f.free
     ∙ cond-false (ltb 4097 n) (Err (TooMany n)) (Ok e) (le-ltb 4097 n (omega (arith, place, f.room))))))))
+
+-- the first line alone decides how the lines from it on are read
+pub entries_more : (earlier : List Entry) (n : ℕ) (text : List ℕ) (texts : List (List ℕ)) (e : Entry) → entry_of earlier n text ≡ Ok e → entries_of earlier n (text ∷ texts) ≡ entries_of (earlier ++ e ∷ []) (suc n) texts
+entries_more earlier n text texts e h = ap (λ r. r >>= λ e. entries_of (earlier ++ e ∷ []) (suc n) texts) h
+
+pub entries_stop : (earlier : List Entry) (n : ℕ) (text : List ℕ) (texts : List (List ℕ)) (fault : ListingFault) → entry_of earlier n text ≡ Err fault → entries_of earlier n (text ∷ texts) ≡ Err fault
+entries_stop earlier n text texts fault h = ap (λ r. r >>= λ e. entries_of (earlier ++ e ∷ []) (suc n) texts) h
 
 -- further lines say entries that fit, each spelled by its line
 pub entries_read : (earlier : List Entry) (n : ℕ) (texts : List (List ℕ)) (es : List Entry) → n ≡ length earlier + 3 → entries_of earlier n texts ≡ Ok es
