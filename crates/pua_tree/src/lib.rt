@@ -13,13 +13,9 @@ mod target;
 mod tree;
 
 pub use fault::{ListingFault, NameFault, OutOfMemory, TreeFault};
-<<<<<<< HEAD
 pub use field::{Fields, is_field, number_within, split_field};
-pub use laws::{listing_examples, tree_law};
-pub use list::ListTree;
-=======
 pub use laws::{listing_examples, listing_law, spelling_law, tree_law};
->>>>>>> grammar
+pub use list::ListTree;
 pub use name::Name;
 pub use node::{Kind, NodeId};
 pub use spelling::{SpelledByte, byte_spelling, unspelled};

@@ -3,12 +3,19 @@
 use std::alloc::Global;
 
 use crate::fault::{ListingFault, OutOfMemory};
+use crate::field::number_within;
+use crate::line::{Line, read_line};
 use crate::list::{ListTree, Node, Row, node_place, row_place};
 use crate::name::Name;
 use crate::node::{Kind, NodeId};
+use crate::spelling::unspelled;
+use crate::target::is_target;
 
 /// The most lines that a listing has: its header and 4,096 nodes.
 const MOST_LINES: u32 = 4097;
+
+/// The greatest number of a listing.
+const MOST_NUMBER: u32 = 999_999;
 
 /// What one line says: a node with its number, and the row in which it stands.
 #[derive(Drop)]
@@ -29,11 +36,18 @@ struct Reading {
 }
 
 ghost use Rattle.std.specs.Prelude.{ℕ, List, ◌≡◌, ◌≢◌, ◌≤◌, ◌+◌, ◌++◌, ◌∷◌, [], Ok, Err, MatchResult, OnOk, OnErr, IfOk, length};
+ghost use Rattle.std.specs.Prelude.{IfErr, IsTrue, nat_lt, map, option_map};
 ghost use Rattle.std.specs.List.{insert};
+ghost use Rattle.std.specs.Ordering.{nat_cmp};
+ghost use Rattle.std.specs.FinMap.{is_sorted, find};
+ghost use Rattle.pua_tree.specs.Spelling.{number_within};
+ghost use Rattle.pua_tree.specs.Tree.{is_dir_kind};
+ghost use Rattle.pua_tree.specs.ListTree.{node_entry};
+ghost use Rattle.pua_tree.specs.Lines.{line_read};
 ghost use Rattle.pua_tree.specs.Listing as listing;
 
 impl Reading {
-    ghost use Rattle.pua_tree.specs.Reading.{Gathers, IsGathered, CanFollow, said};
+    ghost use Rattle.pua_tree.specs.Reading.{Gathers, IsGathered, gathered_tree, said};
 
     /// The root alone.
     fn new(alloc: Global) -> Result<Reading, ListingFault>
@@ -56,12 +70,41 @@ impl Reading {
         })
     }
 
+    /// What line `n` says, whether or not its name is free and there is room for it.
+    fn entry(&self, alloc: Global, n: u32, text: &[u8]) -> Result<Entry, ListingFault>
+        requires { IsGathered self.now }
+        ensures { (es : List listing.Entry) → Gathers self.now es → MatchResult result
+            (λ e. listing.entry_of es n text.now ≡ listing.admitted es n (said e))
+            (λ fault. fault ≢ ListingFault.OutOfMemory → listing.entry_of es n text.now ≡ Err fault) }
+    {
+        let Some(line) = read_line(text) else {
+            return Err(ListingFault::BadLine(n));
+        };
+        let Some(number) = number_after(self.last, line.number) else {
+            return Err(ListingFault::BadNumber(n));
+        };
+        let Some(parent) = dir_in(&self.nodes, line.parent) else {
+            return Err(ListingFault::BadParent(n));
+        };
+        let Ok(name) = Name::read(line.name) else {
+            return Err(ListingFault::BadName(n));
+        };
+        let target = target_of(alloc, n, &line)?;
+        Ok(Entry {
+            number,
+            parent,
+            name,
+            kind: line.kind,
+            target,
+        })
+    }
+
     /// Adds the entry of line `n`.
     fn add(&mut self, n: u32, entry: Entry) -> Result<(), ListingFault>
         requires { IsGathered self.old }
         ensures room { OnOk result (n ≤ MOST_LINES) }
-        ensures exact { (es : List listing.Entry) → Gathers self.old es → CanFollow es (said entry) → n ≡ length es + 3 → MatchResult result
-            (λ _. (listing.admitted es n (said entry) ≡ Ok (said entry)) × Gathers self.new (es ++ said entry ∷ []))
+        ensures exact { (es : List listing.Entry) → Gathers self.old es → MatchResult result
+            (λ _. (listing.admitted es n (said entry) ≡ Ok (said entry)) × (gathered_tree self.new ≡ listing.tree_of (es ++ said entry ∷ [])))
             (λ fault. fault ≢ ListingFault.OutOfMemory → listing.admitted es n (said entry) ≡ Err fault) }
     {
         match row_place(&self.rows, entry.parent, &entry.name) {
@@ -95,5 +138,39 @@ impl Reading {
         }
         self.last = entry.number;
         Ok(())
+    }
+}
+
+/// The number that a text writes, if it is one of a listing and above the last.
+fn number_after(last: u32, text: &[u8]) -> Option<u32>
+    ensures { result ≡ listing.only_if (λ n. nat_lt last n) (number_within 1 999999 text.now) }
+{
+    number_within(1, MOST_NUMBER, text).filter(|number| *number > last)
+}
+
+/// The directory among these nodes whose number a text writes.
+fn dir_in(nodes: &[Node], text: &[u8]) -> Option<NodeId>
+    requires { IsTrue (is_sorted nat_cmp (map node_entry nodes.now)) }
+    ensures { result ≡ listing.only_if (λ n. is_dir_kind (option_map (λ node. node.kind) (find nat_cmp n (map node_entry nodes.now)))) (number_within 0 999999 text.now) }
+{
+    let id = NodeId::new(number_within(0, MOST_NUMBER, text)?);
+    match node_place(nodes, id) {
+        Ok(place) if nodes[place].kind == Kind::Dir => Some(id),
+        _ => None,
+    }
+}
+
+/// The target of line `n`, which a link has and nothing else.
+fn target_of(alloc: Global, n: u32, line: &Line<'_>) -> Result<Option<Vec<u8>>, ListingFault>
+    ensures ok { IfOk result (λ target. listing.node_of n (line_read line.now) line.now.kind ≡ Ok (record { kind = line.now.kind; target = option_map (λ t. t.items) target })) }
+    ensures err { IfErr result (λ fault. fault ≢ ListingFault.OutOfMemory → listing.node_of n (line_read line.now) line.now.kind ≡ Err fault) }
+{
+    if line.kind != Kind::Link {
+        return Ok(None);
+    }
+    match unspelled(alloc, line.last) {
+        Ok(Some(target)) if is_target(target.as_slice()) => Ok(Some(target)),
+        Ok(_) => Err(ListingFault::BadTarget(n)),
+        Err(_) => Err(ListingFault::OutOfMemory),
     }
 }
