@@ -1,6 +1,6 @@
 -- Climbing in a tree, one directory after another.
 use Rattle.std.proofs.Common.{◌≡◌, ℕ, zero, suc, ◌+◌, ◌-◌, ◌≤◌, ◌<◌, List, [], ◌∷◌, length, Bool, true, false, cond, map, refl, sym, ap, ◌∙◌, arith, subst}
-use Rattle.std.proofs.lemmas.Bool.{false≢true}
+use Rattle.std.proofs.lemmas.Bool.{false≢true, eqb-true}
 use Rattle.std.specs.List.{list_all, list_any, find}
 use Rattle.std.specs.Prelude.{Option, Some, None, option_map, ◌&&◌, ◌||◌, ◌==◌, unwrap_or, nat_lt}
 use Rattle.pua_tree.specs.Tree.{Tree, Node, WellFormed, is_dir, is_dir_kind, above, climb, climb_within, node_at, kind_at, node_fits, row_fits, rows_fit_kind, rows_of, target_fits, is_living, Spot}
@@ -13,21 +13,29 @@ use Rattle.pua_policy.proofs.Finding.{both_true, list_all-find, list_all-find_ke
 abbrev pub has_root : List ℕ → Bool
 has_root = list_any (λ d. d == 0)
 
+-- the root is not among directories that are not it
+rest_has_root : (d : ℕ) (ds : List ℕ) → has_root (suc d ∷ ds) ≡ true → has_root ds ≡ true
+rest_has_root d ds e =
+    elim (suc d == 0) as (λ b. (suc d == 0) ≡ b → (b || has_root ds) ≡ true → has_root ds ≡ true) [
+      | true ↦ λ is _. let never : suc d ≡ 0 = eqb-true (suc d) 0 is in absurd (omega arith)
+      | false ↦ λ _ rest. rest
+    ] refl e
+
 module _ (t : Tree) where
   -- one more step adds nothing to a climb that got to the root
   further : (n d : ℕ) → has_root (climb_within n t d) ≡ true → climb_within (suc n) t d ≡ climb_within n t d
   further zero zero e = refl
-  further zero (suc d) e = absurd (false≢true e)
+  further zero (suc d) e = absurd (false≢true (rest_has_root d [] e))
   further (suc n) zero e = refl
-  further (suc n) (suc d) e = ap (λ ds. suc d ∷ ds) (further n (above t (suc d)) e)
+  further (suc n) (suc d) e = ap (λ ds. suc d ∷ ds) (further n (above t (suc d)) (rest_has_root d (climb_within n t (above t (suc d))) e))
 
   -- a climb that gets to the root goes on as the climb from the directory above
   step_within : (n d : ℕ) → has_root (climb_within n t (suc d)) ≡ true →
       (climb_within n t (suc d) ≡ suc d ∷ climb_within n t (above t (suc d))) × (has_root (climb_within n t (above t (suc d))) ≡ true)
-  step_within zero d e = absurd (false≢true e)
+  step_within zero d e = absurd (false≢true (rest_has_root d [] e))
   step_within (suc n) d e =
-      let same = further n (above t (suc d)) e in
-      (ap (λ ds. suc d ∷ ds) (sym same), ap has_root same ∙ e)
+      let same = further n (above t (suc d)) (rest_has_root d (climb_within n t (above t (suc d))) e) in
+      (ap (λ ds. suc d ∷ ds) (sym same), ap has_root same ∙ rest_has_root d (climb_within n t (above t (suc d))) e)
 
   pub climb_step : (d : ℕ) → has_root (climb t (suc d)) ≡ true →
       (climb t (suc d) ≡ suc d ∷ climb t (above t (suc d))) × (has_root (climb t (above t (suc d))) ≡ true)

@@ -1,5 +1,5 @@
 -- Sets of bits, and what words and letters give one after another.
-use Rattle.std.proofs.Common.{◌≡◌, ℕ, ◌+◌, ◌<◌, ◌^◌, List, [], ◌∷◌, length, get_or, drop, max, refl, sym, ap, ◌∙◌, arith, map}
+use Rattle.std.proofs.Common.{◌≡◌, ℕ, ◌+◌, ◌<◌, ◌≤◌, ◌^◌, List, [], ◌∷◌, length, get_or, drop, max, refl, sym, ap, ◌∙◌, arith, map}
 use Rattle.std.proofs.lemmas.Nat.Bits.{bit_at_or, same_from_bits}
 use Rattle.std.proofs.lemmas.List.{at_drop_more, at_drop_all}
 use Rattle.std.specs.Int.Bits.{or_zero_r}
@@ -27,22 +27,22 @@ module _ {A : Type 0} (member : A → Option ℕ) where
   with_rest items set n = joined set (union_of (map member (drop n items)))
 
   -- an item that is known is taken in
-  pub with_rest-known : (items : List A) (set bits n : ℕ) (item : A) → (n < length items) × (item ≡ get_or items n item) → member item ≡ Some bits →
+  pub with_rest-known : (items : List A) (set bits n : ℕ) (item default : A) → (n < length items) × (item ≡ get_or items n default) → member item ≡ Some bits →
       with_rest items set n ≡ with_rest items (bit_or set bits) (n + 1)
-  with_rest-known items set bits n item at e =
-      at_drop_more (λ rest. joined set (union_of (map member rest))) items n item at.0
+  with_rest-known items set bits n item default at e =
+      at_drop_more (λ rest. joined set (union_of (map member rest))) items n default at.0
       ∙ ap (λ x. joined set (union_of (map member (x ∷ drop (n + 1) items)))) (sym at.1)
       ∙ ap (λ m. joined set (union_of (m ∷ map member (drop (n + 1) items)))) e
       ∙ joined_assoc set bits (union_of (map member (drop (n + 1) items)))
 
   -- one that is unknown refuses all
-  pub with_rest-unknown : (items : List A) (set n : ℕ) (item : A) → (n < length items) × (item ≡ get_or items n item) → member item ≡ None →
+  pub with_rest-unknown : (items : List A) (set n : ℕ) (item default : A) → (n < length items) × (item ≡ get_or items n default) → member item ≡ None →
       with_rest items set n ≡ Err EINVAL
-  with_rest-unknown items set n item at e =
-      at_drop_more (λ rest. joined set (union_of (map member rest))) items n item at.0
+  with_rest-unknown items set n item default at e =
+      at_drop_more (λ rest. joined set (union_of (map member rest))) items n default at.0
       ∙ ap (λ x. joined set (union_of (map member (x ∷ drop (n + 1) items)))) (sym at.1)
       ∙ ap (λ m. joined set (union_of (m ∷ map member (drop (n + 1) items)))) e
 
   -- behind the last there is nothing more
-  pub with_rest-end : (items : List A) (set n : ℕ) → length items ≡ n → with_rest items set n ≡ Ok set
-  with_rest-end items set n e = at_drop_all (λ rest. joined set (union_of (map member rest))) items n (omega arith) ∙ ap Ok (or_zero_r set)
+  pub with_rest-end : (items : List A) (set n : ℕ) → length items ≤ n → with_rest items set n ≡ Ok set
+  with_rest-end items set n e = at_drop_all (λ rest. joined set (union_of (map member rest))) items n e ∙ ap Ok (or_zero_r set)

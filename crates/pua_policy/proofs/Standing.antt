@@ -6,7 +6,7 @@ use Rattle.pua_tree.specs.Tree.{Tree}
 use Rattle.pua_path.specs.declared.found.Found.{Found}
 use Rattle.pua_policy.specs.declared.place.Place.{Place}
 use Rattle.pua_policy.specs.declared.place.Place.TheVariants.{Dir}
-use Rattle.pua_policy.specs.History.{History, Pledged, Unveiled, Locked, Moved, Ended, kept, veils, with_veil, veil_at, same_place, pledged, held_for_exec, is_locked, is_ended, working_dir}
+use Rattle.pua_policy.specs.History.{History, Pledged, Unveiled, Locked, Moved, Ended, kept, veils, with_veil, veil_at, has_veil, same_place, pledged, held_for_exec, is_locked, is_ended, working_dir}
 use Rattle.pua_policy.specs.History.{is_within, place_fault, may_any, unveil_fault, ProcessState, StandsFor}
 use Rattle.pua_policy.specs.Verdict.{is_unveil, cover, nearest, place_of, directories_over, cover_fault, or_fault, object_fault, object_of, allowed_unless, if_promised, verdict_of}
 use Rattle.pua_policy.specs.Promises.{holds, all_promises, error}
@@ -25,16 +25,11 @@ use Rattle.pua_policy.specs.declared.answer.UnveilFault.TheVariants.{NotPermitte
 use Rattle.pua_policy.specs.Laws.{ProcessesDecide}
 use Rattle.pua_policy.proofs.Veils.{veils_are_kept}
 
--- there is a veil
-abbrev pub is_some_veil : List (Place × ℕ) → Bool
-is_some_veil [] = false
-is_some_veil (veil ∷ more) = true
-
-put_veil : (place : Place) (perms : ℕ) (vs : List (Place × ℕ)) → is_some_veil (with_veil place perms vs) ≡ true
+put_veil : (place : Place) (perms : ℕ) (vs : List (Place × ℕ)) → has_veil (with_veil place perms vs) ≡ true
 put_veil place perms [] = refl
-put_veil place perms (v ∷ vs) = elim (same_place place v.0) as (λ b. is_some_veil (cond b ((v.0, perms) ∷ vs) (v ∷ with_veil place perms vs)) ≡ true) [ true ↦ refl | false ↦ refl ]
+put_veil place perms (v ∷ vs) = elim (same_place place v.0) as (λ b. has_veil (cond b ((v.0, perms) ∷ vs) (v ∷ with_veil place perms vs)) ≡ true) [ true ↦ refl | false ↦ refl ]
 
-any_veil : (h : History) → list_any is_unveil h ≡ is_some_veil (veils h)
+any_veil : (h : History) → list_any is_unveil h ≡ has_veil (veils h)
 any_veil [] = refl
 any_veil (Unveiled place perms ∷ h) = sym (put_veil place perms (veils h))
 any_veil (Pledged p e ∷ h) = any_veil h
@@ -69,8 +64,8 @@ module _ (p : ProcessState) (h : History) (s : StandsFor p h) where
   unveil_fault_by place perms = λ i. unveil_by (sym s.locked i) (kept_by place i) (sym s.veils i) perms
 
   -- and what its veils leave of an object
-  pub cover_by_veils : (t : Tree) (found : Found) → cover t h found ≡ cover_of (is_some_veil p.veils) (veil_at p.veils) t found
-  cover_by_veils t found = λ i. cover_of ((any_veil h ∙ ap is_some_veil (sym s.veils)) i) (λ place. kept_by place i) t found
+  pub cover_by_veils : (t : Tree) (found : Found) → cover t h found ≡ cover_of (has_veil p.veils) (veil_at p.veils) t found
+  cover_by_veils t found = λ i. cover_of ((any_veil h ∙ ap has_veil (sym s.veils)) i) (λ place. kept_by place i) t found
 
 verdict_alike : (h k : History) → ((sets : List ℕ) → may_any h sets ≡ may_any k sets) → ((t : Tree) (object : Found) → cover t h object ≡ cover t k object)
     → (t : Tree) (table : CallTable) (call : Call) (object : Result Found Errno) → verdict_of t table h call object ≡ verdict_of t table k call object
@@ -87,7 +82,7 @@ processes_decide p h k sh sk =
     let dir : working_dir h ≡ working_dir k = sym sh.dir ∙ sk.dir in
     let ended : is_ended h ≡ is_ended k = sym sh.ended ∙ sk.ended in
     let kept_alike : (place : Place) → kept h place ≡ kept k place = λ place. sym (veils_are_kept h place) ∙ ap (λ vs. veil_at vs place) placed ∙ veils_are_kept k place in
-    let any : list_any is_unveil h ≡ list_any is_unveil k = any_veil h ∙ ap is_some_veil placed ∙ sym (any_veil k) in
+    let any : list_any is_unveil h ≡ list_any is_unveil k = any_veil h ∙ ap has_veil placed ∙ sym (any_veil k) in
     let may : (sets : List ℕ) → may_any h sets ≡ may_any k sets = λ sets i. may_by (ended i) (given i) sets in
     let covered : (t : Tree) (object : Found) → cover t h object ≡ cover t k object = λ t object i. cover_of (any i) (λ place. kept_alike place i) t object in
     record {

@@ -107,6 +107,11 @@ abbrev pub veil_at : List (Place × ℕ) → Place → Option ℕ
 veil_at [] place = None
 veil_at (veil ∷ more) place = if same_place place veil.0 then Some veil.1 else veil_at more place
 
+-- there is a veil
+abbrev pub has_veil : List (Place × ℕ) → Bool
+has_veil [] = false
+has_veil (veil ∷ more) = true
+
 abbrev pub is_lock : Event → Bool
 is_lock Locked = true
 is_lock _ = false

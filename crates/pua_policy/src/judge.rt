@@ -4,7 +4,7 @@ ghost use Rattle.std.specs.Prelude.{◌≡◌, ◌+◌, ◌≤◌, length};
 ghost use Rattle.pua_tree.specs.Tree.{Tree};
 ghost use Rattle.pua_policy.specs.Calls.{standard_table};
 ghost use Rattle.pua_policy.specs.History.{History, StandsFor};
-ghost use Rattle.pua_policy.specs.Verdict.{FoundFits, FoundsFit, verdict, verdict_of, cover_fault, object_fault, rmdir_fault, object_of, object_of_kind, IsDir};
+ghost use Rattle.pua_policy.specs.Verdict.{FoundFits, FoundsFit, verdict, verdict_of, cover, or_fault, cover_fault, object_fault, rmdir_fault, object_of, object_of_kind, IsDir};
 
 use pua_path::{Errno, Found, Probe, Way};
 use pua_tree::{Kind, NodeId};
@@ -32,11 +32,10 @@ pub fn verdict<'t, P: Probe<'t>>(
 {
     let need = needs::need(call);
     match process.may(need.promises) {
-        May::Yes => {
-            let cover = process.cover(probe, found);
-            let fault = cover_fault(cover, need.perms).or_else(|| object_fault(probe, call, found));
-            fault.map_or(Verdict::Allowed, Verdict::Failed)
-        }
+        May::Yes => match found_fault(probe, process, call, need.perms, found) {
+            None => Verdict::Allowed,
+            Some(errno) => Verdict::Failed(errno),
+        },
         May::Enosys => Verdict::Failed(Errno::ENOSYS),
         May::Death => Verdict::Death,
     }
@@ -63,6 +62,27 @@ pub fn verdict_of<'t, P: Probe<'t>>(
         May::Yes => Verdict::Failed(errno),
         May::Enosys => Verdict::Failed(Errno::ENOSYS),
         May::Death => Verdict::Death,
+    }
+}
+
+/// What is wrong with what was found: its cover, its permissions, its kind.
+fn found_fault<'t, P: Probe<'t>>(
+    probe: &mut P,
+    process: &Process,
+    call: Call,
+    perms: Perms,
+    found: &Found,
+) -> Option<Errno>
+    requires { FoundFits (P.tree probe.old) found.now }
+    ensures exact { (h : History) → StandsFor process.now h →
+        result ≡ or_fault (cover_fault (cover (P.tree probe.old) h found.now) perms) (object_fault (P.tree probe.old) call (object_of (P.tree probe.old) found.now)) }
+    ensures tree { P.tree probe.new ≡ P.tree probe.old }
+    ensures cost { P.count probe.new ≤ P.count probe.old + length (P.tree probe.old).nodes + 4 }
+{
+    let cover = process.cover(probe, found);
+    match cover_fault(cover, perms) {
+        Some(errno) => Some(errno),
+        None => object_fault(probe, call, found),
     }
 }
 

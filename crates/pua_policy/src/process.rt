@@ -37,9 +37,9 @@ impl Model for Process {
     ghost view = { λ a. record { promises = a.promises; execpromises = a.execpromises; veils = a.veils.entries; locked = a.locked; dir = a.dir; ended = a.ended } };
 }
 
-ghost use Rattle.std.specs.Prelude.{◌≡◌, ◌≢◌, ◌-◌, ◌<◌, [], ◌∷◌, length, Option, Some, None, IfOk, OnOk, OnErr, IfErr, IfSome, if◌then◌else◌, MatchResult, unwrap_or, IsTrue, ◌↔◌};
+ghost use Rattle.std.specs.Prelude.{◌≡◌, ◌≢◌, ◌-◌, [], ◌∷◌, length, Option, Some, None, IfOk, OnOk, OnErr, IfErr, IfSome, if◌then◌else◌, MatchResult, unwrap_or};
 ghost use Rattle.pua_policy.specs.Promises.{all_promises, error};
-ghost use Rattle.pua_policy.specs.History.{History, StandsFor, Pledged, Unveiled, Locked, Moved, Ended, new_history, pledge_fault, unveil_fault, place_fault, is_within, narrowed, may_any, is_locked, is_ended, working_dir, veil_at};
+ghost use Rattle.pua_policy.specs.History.{History, StandsFor, Pledged, Unveiled, Locked, Moved, Ended, new_history, pledge_fault, unveil_fault, place_fault, is_within, narrowed, may_any, is_locked, is_ended, working_dir, veil_at, has_veil};
 
 impl Process {
     /// A new process, in the root: it holds every promise but `error`, and has no veil.
@@ -192,7 +192,7 @@ impl Process {
 
     /// Whether a veil is kept.
     pub(crate) fn is_veiled(&self) -> bool
-        ensures { IsTrue result ↔ (0 < length self.now.veils) }
+        ensures { result ≡ has_veil self.now.veils }
     {
         !self.veils.is_empty()
     }

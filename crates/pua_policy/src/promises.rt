@@ -304,8 +304,8 @@ fn promise(word: &[u8]) -> Option<Promises>
 fn keyword(word: &[u8]) -> Option<Keywords>
     ensures { option_map (λ a. a.0) result ≡ promise_of word.now }
 {
-    Keywords::flags()
+    let flag = Keywords::flags()
         .iter()
-        .find(|flag| flag.name.as_bytes() == word)
-        .map(|flag| flag.value)
+        .find(|flag| flag.name.as_bytes() == word)?;
+    Some(flag.value)
 }
