@@ -5,6 +5,7 @@ pub mod Fields
 pub mod Tree
 pub mod Steps
 pub mod Listing
+pub mod Lines
 pub mod Laws
 pub mod Grammar
 pub mod Examples

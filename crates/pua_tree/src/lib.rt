@@ -4,6 +4,7 @@
 mod fault;
 mod field;
 mod laws;
+mod line;
 mod name;
 mod node;
 mod spelling;
