@@ -6,6 +6,7 @@ pub mod Tree
 pub mod ListTree
 pub mod Steps
 pub mod Listing
+pub mod Lines
 pub mod Laws
 pub mod Grammar
 pub mod Reading
