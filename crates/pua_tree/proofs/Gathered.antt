@@ -76,4 +76,6 @@ inserted (Err fault) r new es e n i row node g few none place row_is node_is row
 -- entries to which one more has been read
 pub gathered_read : (r new : Reading) (es : List listing.Entry) (n : ℕ) (text : List ℕ) (e : listing.Entry) → Gathers r es → n ≡ length es + 3 → entry_of es n text ≡ Ok e → gathered_tree new ≡ tree_of (es ++ e ∷ []) → Gathers new (es ++ e ∷ [])
 gathered_read r new es n text e g count read tree =
-    record { fit = entries_push [] es e g.fit (fits_from es e (entry_read es n text e count read).1); tree = tree }
+    let fits = (entry_read es n text e count read).1 in
+    let next : suc new.last ≡ suc (last_number (es ++ e ∷ [])) = ap (λ t. t.next) tree in
+    record { fit = entries_push [] es e g.fit (fits_from es e fits); tree = tree; small = omega (arith, fits.small, last_number_push es e) }

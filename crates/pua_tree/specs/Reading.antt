@@ -1,5 +1,5 @@
 -- What reading the lines of a listing has gathered so far.
-use Rattle.std.specs.Prelude.{◌≡◌, ℕ, suc, List, [], IsTrue, option_map}
+use Rattle.std.specs.Prelude.{◌≡◌, ◌≤◌, ℕ, suc, List, [], IsTrue, option_map}
 use Rattle.pua_tree.specs.Tree.{Tree}
 use Rattle.pua_tree.specs.Listing as listing
 use Rattle.pua_tree.specs.Listing.{tree_of}
@@ -19,6 +19,7 @@ gathered_tree reading = held_tree reading.rows.items reading.nodes.items (suc re
 pub record Gathers (reading : Reading) (es : List listing.Entry) : Type 0 where
   pub fit : IsTrue (entries_fit [] es)
   pub tree : gathered_tree reading ≡ tree_of es
+  pub small : reading.last ≤ 999999
 
 -- such entries are there
 abbrev pub IsGathered : Reading → Type 0

@@ -1,5 +1,6 @@
 //! The reader of listings: one pass over the lines, each judged against those before it.
 
+use bstr::{ByteSlice, Lines};
 use std::alloc::Global;
 
 use crate::fault::{ListingFault, OutOfMemory};
@@ -37,6 +38,7 @@ struct Reading {
 
 ghost use Rattle.std.specs.Prelude.{ℕ, List, ◌≡◌, ◌≢◌, ◌≤◌, ◌+◌, ◌++◌, ◌∷◌, [], Ok, Err, MatchResult, OnOk, OnErr, IfOk, length};
 ghost use Rattle.std.specs.Prelude.{IfErr, IsTrue, nat_lt, map, option_map};
+ghost use Rattle.std.specs.Bool.{OnTrue, OnFalse};
 ghost use Rattle.std.specs.List.{insert};
 ghost use Rattle.std.specs.Ordering.{nat_cmp};
 ghost use Rattle.std.specs.FinMap.{is_sorted, find};
@@ -45,6 +47,50 @@ ghost use Rattle.pua_tree.specs.Tree.{is_dir_kind};
 ghost use Rattle.pua_tree.specs.ListTree.{node_entry};
 ghost use Rattle.pua_tree.specs.Lines.{line_read};
 ghost use Rattle.pua_tree.specs.Listing as listing;
+ghost use Rattle.pua_tree.specs.Reading.{Gathers};
+
+/// The tree of which the bytes are a listing, under the numbers of the listing. The fault told is
+/// that of the first line that has one; `ListingFault::OutOfMemory` comes only where a growth was
+/// refused.
+pub fn read_listing(alloc: Global, bytes: &[u8]) -> Result<ListTree, ListingFault>
+    ensures ok { IfOk result (λ tree. listing.listing bytes.now ≡ Ok tree) }
+    ensures err { IfErr result (λ fault. fault ≢ ListingFault.OutOfMemory → listing.listing bytes.now ≡ Err fault) }
+{
+    let mut lines = bytes.lines();
+    if !take_line(&mut lines, b"tree 1") {
+        return Err(ListingFault::BadHeader);
+    }
+    if !take_line(&mut lines, b"0 dir") {
+        return Err(ListingFault::BadLine(2));
+    }
+    let Reading { rows, nodes, last } = read_entries(alloc, lines)?;
+    Ok(ListTree::new(rows, nodes, last + 1))
+}
+
+/// Takes the next line. Answers whether there is one, and it is this.
+fn take_line(lines: &mut Lines<'_>, text: &[u8]) -> bool
+    ensures this { OnTrue result (lines.old ≡ text.now ∷ lines.new) }
+    ensures other { OnFalse result ((rest : List (List ℕ)) → lines.old ≢ text.now ∷ rest) }
+{
+    match lines.next() {
+        Some(line) => line == text,
+        None => false,
+    }
+}
+
+/// Reads the lines behind the first two.
+fn read_entries(alloc: Global, lines: Lines<'_>) -> Result<Reading, ListingFault>
+    ensures ok { IfOk result (λ reading. (es : List listing.Entry) × Gathers reading es × (listing.entries_of [] 3 lines.entry ≡ Ok es)) }
+    ensures err { IfErr result (λ fault. fault ≢ ListingFault.OutOfMemory → listing.entries_of [] 3 lines.entry ≡ Err fault) }
+{
+    let mut reading = Reading::new(alloc)?;
+    let mut n = 2;
+    for text in lines {
+        n += 1;
+        reading.read(alloc, n, text)?;
+    }
+    Ok(reading)
+}
 
 impl Reading {
     ghost use Rattle.pua_tree.specs.Reading.{Gathers, IsGathered, gathered_tree, said};
@@ -68,6 +114,18 @@ impl Reading {
             nodes,
             last: 0,
         })
+    }
+
+    /// Reads line `n`, which comes behind those read so far.
+    fn read(&mut self, alloc: Global, n: u32, text: &[u8]) -> Result<(), ListingFault>
+        requires { IsGathered self.old }
+        ensures room { OnOk result (n ≤ MOST_LINES) }
+        ensures exact { (es : List listing.Entry) → Gathers self.old es → n ≡ length es + 3 → MatchResult result
+            (λ _. (e : listing.Entry) × (listing.entry_of es n text.now ≡ Ok e) × Gathers self.new (es ++ e ∷ []))
+            (λ fault. fault ≢ ListingFault.OutOfMemory → listing.entry_of es n text.now ≡ Err fault) }
+    {
+        let entry = self.entry(alloc, n, text)?;
+        self.add(n, entry)
     }
 
     /// What line `n` says, whether or not its name is free and there is room for it.
