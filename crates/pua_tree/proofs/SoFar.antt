@@ -76,4 +76,3 @@ read_tree r es g = rw add-one g.tree
 
 pub read_fits : (r : Reading) (es : List listing.Entry) → Gathers r es → WellFormed (held_tree r.rows.items r.nodes.items (r.last + 1))
 read_fits r es g = rw (read_tree r es g) (well_formed es g.fit)
-

@@ -23,7 +23,7 @@ returns-in_err-rows-clause-err c =
     let read : listing bytes ≡ listing_of_lines c.lines-lines.result = ap listing_of_lines (sym (c.lines-lines.ensures.value ∙ lines_agree bytes)) in
     let failed = err_from_is_err_and c.from_residual.result c.from_residual.ensures.1 in
     rw (failed.1, failed.2) (λ other.
-        read ∙ entries_fault c.lines-lines.result c.take_line.new.lines c.take_line-2.new.lines c.in_err-rows.field-0.0 c.if-not-take_line.ensures.this c.if-not-take_line-2.ensures.this (c.in_err-rows.ensures.err other))
+    read ∙ entries_fault c.lines-lines.result c.take_line.new.lines c.take_line-2.new.lines c.in_err-rows.field-0.0 c.if-not-take_line.ensures.this c.if-not-take_line-2.ensures.this (c.in_err-rows.ensures.err other))
 
 pub new-requires : goal.new-requires
 new-requires c = read_fits c.in_ok-rows.field-0 c.in_ok-rows.ensures.ok.0 c.in_ok-rows.ensures.ok.1
@@ -34,5 +34,5 @@ returns-clause-ok c =
     let entries = c.in_ok-rows.ensures.ok in
     let read : listing bytes ≡ listing_of_lines c.lines-lines.result = ap listing_of_lines (sym (c.lines-lines.ensures.value ∙ lines_agree bytes)) in
     let told : listing bytes ≡ Ok (tree_of entries.0) =
-        read ∙ entries_tree c.lines-lines.result c.take_line.new.lines c.take_line-2.new.lines entries.0 c.if-not-take_line.ensures.this c.if-not-take_line-2.ensures.this entries.2 in
+    read ∙ entries_tree c.lines-lines.result c.take_line.new.lines c.take_line-2.new.lines entries.0 c.if-not-take_line.ensures.this c.if-not-take_line-2.ensures.this entries.2 in
     told ∙ ap Ok (sym (c.new.ensures ∙ read_tree c.in_ok-rows.field-0 entries.0 entries.1))
