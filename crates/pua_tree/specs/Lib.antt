@@ -3,8 +3,11 @@ pub mod Spelling
 pub mod Writes
 pub mod Fields
 pub mod Tree
+pub mod ListTree
 pub mod Steps
 pub mod Listing
+pub mod Lines
 pub mod Laws
 pub mod Grammar
+pub mod Reading
 pub mod Examples
