@@ -4,8 +4,8 @@ use Rattle.std.specs.Prelude.{if◌then◌else◌}
 use Rattle.pua_tree.specs.Tree.{Tree}
 use Rattle.pua_tree.specs.Steps.{◌>>=◌}
 use Rattle.pua_path.specs.Paths.{parts_of}
-use Rattle.pua_path.specs.Resolution.{Resolved, Standing, Directory, Linked, Plain, Nothing, standing_at, is_followed, slot_or, start_of, resolve_parts, reached, step, link_limit}
-use Rattle.pua_path.specs.Laws.{FollowsLinks, IsDecidedByLinks, LinksDecide, StepFollows, StepsFollow}
+use Rattle.pua_path.specs.Resolution.{Resolved, Standing, Directory, Linked, Plain, Nothing, standing_at, is_followed, slot_or, start_of, resolve_parts, reached, step, last, link_limit}
+use Rattle.pua_path.specs.Laws.{FollowsLinks, IsDecidedByLinks, LinksDecide, StepFollows, StepsFollow, LastFollows, LastsFollow}
 use Rattle.pua_path.specs.declared.errno.Errno.{Errno}
 use Rattle.pua_path.specs.declared.errno.Errno.TheVariants.{ENOENT, ENOTDIR, ELOOP}
 use Rattle.pua_path.specs.declared.text.Ending.TheVariants as ending
@@ -119,6 +119,29 @@ steps_follow t dir part = by (links_decide t Followed dir ways.Top (part ∷ par
               ap (λ r. r >>= reached) (h.enough (link_limit - used) (omega (arith, k)))
               ∙ reached_after outcome (link_limit - used - count) (used + count) (omega (arith, k));
           too_few = λ used m k. ap (λ r. r >>= reached) (h.too_few (link_limit - used) (omega (arith, m, k)));
+        },
+      ),
+    )
+
+found_after : (outcome : Result Found Errno) (left : ℕ) → ((outcome >>= λ found. Ok (found, left)) >>= λ found. Ok found.0) ≡ outcome
+found_after (Err errno) left = refl
+found_after (Ok found) left = refl
+
+pub lasts_follow : LastsFollow
+lasts_follow t dir part mode = by (links_decide t mode dir ways.Top (part ∷ []) link_limit)
+  where
+    by : IsDecidedByLinks (λ links. resolve_parts links t mode dir ways.Top (part ∷ [])) link_limit →
+        ((used : ℕ) → used ≤ link_limit → last t dir used part mode ≡ Err ELOOP) ⊎ ((count : ℕ) × ((outcome : Result Found Errno) × LastFollows t dir part mode count outcome))
+    by (inl loops) = inl (λ used l. ap (λ r. r >>= λ found. Ok found.0) (loops (link_limit - used) (omega arith)))
+    by (inr (count, (outcome, (l, h)))) = inr (
+      count,
+      (
+        outcome,
+        record {
+          enough = λ used k.
+              ap (λ r. r >>= λ found. Ok found.0) (h.enough (link_limit - used) (omega (arith, k)))
+              ∙ found_after outcome (link_limit - used - count);
+          too_few = λ used m k. ap (λ r. r >>= λ found. Ok found.0) (h.too_few (link_limit - used) (omega (arith, m, k)));
         },
       ),
     )

@@ -59,3 +59,13 @@ pub record StepFollows (t : Tree) (dir : ℕ) (part : Part) (count : ℕ) (outco
 abbrev pub StepsFollow : Type 0
 StepsFollow = (t : Tree) (dir : ℕ) (part : Part) →
     ((used : ℕ) → used ≤ link_limit → step t dir used part ≡ Err ELOOP) ⊎ ((count : ℕ) × ((outcome : Result ℕ Errno) × StepFollows t dir part count outcome))
+
+-- a last part that follows exactly so many links, and names this or fails with this errno
+pub record LastFollows (t : Tree) (dir : ℕ) (part : Part) (mode : Last) (count : ℕ) (outcome : Result Found Errno) : Type 0 where
+  pub enough : (used : ℕ) → used + count ≤ link_limit → last t dir used part mode ≡ outcome
+  pub too_few : (used : ℕ) → used ≤ link_limit → link_limit < used + count → last t dir used part mode ≡ Err ELOOP
+
+-- what a last part names, and how many links it follows, depends on the directory and the part alone
+abbrev pub LastsFollow : Type 0
+LastsFollow = (t : Tree) (dir : ℕ) (part : Part) (mode : Last) →
+    ((used : ℕ) → used ≤ link_limit → last t dir used part mode ≡ Err ELOOP) ⊎ ((count : ℕ) × ((outcome : Result Found Errno) × LastFollows t dir part mode count outcome))

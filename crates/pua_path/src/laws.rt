@@ -1,7 +1,7 @@
 //! Laws and worked examples of resolution, each the contract of a function that does nothing.
 
 ghost use Rattle.pua_path.specs.Examples.{ResolutionRows, StepRows};
-ghost use Rattle.pua_path.specs.Laws.{LinksDecide, ResolutionComposes, StepsCompose, StepsFollow};
+ghost use Rattle.pua_path.specs.Laws.{LastsFollow, LinksDecide, ResolutionComposes, StepsCompose, StepsFollow};
 
 /// Examples of what texts and parts name.
 pub fn resolution_examples()
@@ -23,4 +23,5 @@ pub fn steps_law()
 pub fn links_law()
     ensures parts { LinksDecide }
     ensures steps { StepsFollow }
+    ensures lasts { LastsFollow }
 {}

@@ -16,3 +16,6 @@ pub use laws::{links_law, resolution_examples, resolution_law, steps_law};
 pub use probe::{Counted, Probe};
 pub use resolver::{last, resolve, step};
 pub use text::{Ending, PathText};
+
+#[cfg(test)]
+mod tests;
