@@ -1,8 +1,13 @@
 pub mod Names
 pub mod Spelling
+pub mod Writes
+pub mod Fields
 pub mod Tree
+pub mod ListTree
 pub mod Steps
 pub mod Listing
+pub mod Lines
 pub mod Laws
 pub mod Grammar
+pub mod Reading
 pub mod Examples
