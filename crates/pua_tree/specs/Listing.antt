@@ -1,5 +1,5 @@
 -- Which bytes are a listing of which tree, and else which fault comes first.
-use Rattle.std.specs.Prelude.{ℕ, suc, Bool, true, false, not, ◌&&◌, ◌||◌, if◌then◌else◌, List, [], ◌∷◌, ◌++◌, map, nat_lt, ◌==◌, Option, Some, None, Result, Ok, Err, codes, ok_or, option_map}
+use Rattle.std.specs.Prelude.{ℕ, suc, Bool, ◌&&◌, ◌||◌, if◌then◌else◌, List, [], ◌∷◌, ◌++◌, map, nat_lt, ◌==◌, Option, Some, None, Result, Ok, Err, codes, ok_or, option_map}
 use Rattle.std.specs.List.{list_all, list_any}
 use Rattle.std.specs.Str.Lines.{lines}
 use Rattle.std.specs.FinMap.{put}
