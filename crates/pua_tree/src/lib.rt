@@ -12,8 +12,8 @@ mod target;
 mod tree;
 
 pub use fault::{ListingFault, NameFault, OutOfMemory, TreeFault};
-pub use laws::{listing_examples, listing_law, spelling_law, tree_law};
 pub use field::{Fields, is_field, number_within, split_field};
+pub use laws::{listing_examples, listing_law, spelling_law, tree_law};
 pub use name::Name;
 pub use node::{Kind, NodeId};
 pub use spelling::{SpelledByte, byte_spelling, unspelled};

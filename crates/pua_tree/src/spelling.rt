@@ -23,7 +23,7 @@ impl Model for SpelledByte {
     ghost invariant = { λ a. a.len ≤ 4 };
 }
 
-ghost use Rattle.std.specs.Prelude.{◌≡◌, ◌<◌, ◌≤◌, ℕ, List, Some, None, length, option_map, IfSome, OnSome, IfOk, MatchOption};
+ghost use Rattle.std.specs.Prelude.{◌≡◌, ◌<◌, ◌≤◌, ◌&&◌, nat_le, ℕ, List, Some, None, length, option_map, IfSome, OnSome, IfOk, MatchOption};
 ghost use Rattle.pua_tree.specs.Spelling.{byte_spelling, escaped_byte, is_octal, is_plain, unspelled, with_front};
 ghost use Rattle.pua_tree.specs.Writes.{overwritten};
 
@@ -139,5 +139,12 @@ fn is_octal(byte: u8) -> bool
 fn is_plain(byte: u8) -> bool
     ensures { result ≡ is_plain byte }
 {
-    matches!(byte, b'!'..=b'~') && byte != b'\\'
+    is_visible(byte) && byte != b'\\'
+}
+
+/// Whether a byte is a visible character of ASCII, as each byte of a field is.
+pub(crate) fn is_visible(byte: u8) -> bool
+    ensures { result ≡ (nat_le 33 byte && nat_le byte 126) }
+{
+    matches!(byte, b'!'..=b'~')
 }
