@@ -114,10 +114,9 @@ fn escaped_byte(text: &[u8]) -> Option<u8>
     ensures byte { result ≡ escaped_byte text.now }
     ensures digits { OnSome result (3 ≤ length text.now) }
 {
-    if text.len() < 3 {
+    let &[a, b, c, ..] = text else {
         return None;
-    }
-    let (a, b, c) = (text[0], text[1], text[2]);
+    };
     if !(is_octal(a) && is_octal(b) && is_octal(c)) {
         return None;
     }
