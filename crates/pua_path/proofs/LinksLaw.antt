@@ -123,9 +123,9 @@ steps_follow t dir part = by (links_decide t Followed dir ways.Top (part ∷ par
       ),
     )
 
-found_after : (outcome : Result Found Errno) (left : ℕ) → ((outcome >>= λ found. Ok (found, left)) >>= λ found. Ok found.0) ≡ outcome
-found_after (Err errno) left = refl
-found_after (Ok found) left = refl
+found_after : (outcome : Result Found Errno) (left : ℕ) (answer : Resolved) → answer ≡ (outcome >>= λ found. Ok (found, left)) → (answer >>= λ found. Ok found.0) ≡ outcome
+found_after (Err errno) left answer e = ap (λ (r : Resolved). r >>= λ found. Ok found.0) e
+found_after (Ok found) left answer e = ap (λ (r : Resolved). r >>= λ found. Ok found.0) e
 
 pub lasts_follow : LastsFollow
 lasts_follow t dir part mode = by (links_decide t mode dir ways.Top (part ∷ []) link_limit)
@@ -138,9 +138,7 @@ lasts_follow t dir part mode = by (links_decide t mode dir ways.Top (part ∷ []
       (
         outcome,
         record {
-          enough = λ used k.
-              ap (λ r. r >>= λ found. Ok found.0) (h.enough (link_limit - used) (omega (arith, k)))
-              ∙ found_after outcome (link_limit - used - count);
+          enough = λ used k. found_after outcome (link_limit - used - count) _ (h.enough (link_limit - used) (omega (arith, k)));
           too_few = λ used m k. ap (λ r. r >>= λ found. Ok found.0) (h.too_few (link_limit - used) (omega (arith, m, k)));
         },
       ),
