@@ -1,0 +1,151 @@
+-- What an edit leaves is a tree.
+use Rattle.std.proofs.Common.{◌≡◌, ◌≢◌, ◌⊎◌, ℕ, zero, suc, ◌+◌, ◌≤◌, ◌<◌, Bool, true, false, not, ◌&&◌, cond, T, List, length, Option, Some, None, option_map, Result, Ok, Err, is_some, ◌==◌, refl, sym, ap, subst, ◌∙◌, arith, inl, inr, eqb-true, eq-eqb, ne_eqb}
+use Rattle.std.specs.List.{list_any}
+use Rattle.std.specs.Ordering.{nat_cmp}
+use Rattle.std.specs.Cmp.{nat_cmp_total}
+use Rattle.std.specs.FinMap.{find as find_key, put, is_sorted, nat_cmp-IsAntisymmetric}
+use Rattle.std.specs.FinMap.Entries.{is_sorted-put, is_sorted-where_key}
+use Rattle.std.proofs.lemmas.Bool.{and_from, or_parts, false≢true}
+use Rattle.pua_tree.specs.Names.{is_name}
+use Rattle.pua_tree.specs.Tree.{Node, Spot, Tree, WellFormed, spot_cmp, node_at, is_dir, is_dir_kind, is_living, look, above, climb, climb_within, has_no_row, rows_of, row_fits, target_fits}
+use Rattle.pua_tree.specs.Edits.{with_row, without_row, without_node, without_unnamed, with_new, add, cut, cut_found, shift, shift_found, moved, is_full_dir, is_inside, is_same_node, is_full_dir_there, has_room}
+use Rattle.pua_tree.specs.Laws.{EditsKeepTrees}
+use Rattle.pua_tree.specs.declared.fault.TreeFault.{TreeFault}
+use Rattle.pua_tree.proofs.Content.{spots_total, exact_spots}
+use Rattle.pua_tree.proofs.Rows.{one, one_at, tally, tally_counts, tally-put, tally-without, is_Some, not_None, same_or_other, put_here, put_elsewhere, without_here, without_elsewhere, found_from_tally, none_found}
+use Rattle.pua_tree.proofs.Sound.{Sound, Reaches, InRow, rows_with, above_is, row_says, row_of, above_dir, climb_ends, sound_from, well_formed_from}
+
+same_spot_or_other : (s r : Spot) → (s ≡ r) ⊎ (s ≢ r)
+same_spot_or_other s r = elim (same_or_other spot_cmp spots_total exact_spots s r) [ inl e ↦ inl e.0 | inr e ↦ inr e.0 ]
+
+same_number_or_other : (x y : ℕ) → (x ≡ y) ⊎ (x ≢ y)
+same_number_or_other x y = elim (same_or_other nat_cmp nat_cmp_total nat_cmp-IsAntisymmetric x y) [ inl e ↦ inl e.0 | inr e ↦ inr e.0 ]
+
+is_living_dir : (t : Tree) (d : ℕ) → is_dir t d ≡ true → is_living t d ≡ true
+is_living_dir t d h =
+    elim (node_at t d) as (λ o. is_dir_kind (option_map (λ n. n.kind) o) ≡ true → is_some o ≡ true) [ None ↦ λ e. absurd (false≢true e) | Some n ↦ λ e. refl ] h
+
+row_made : (t : Tree) (s : Spot) (x : ℕ) → is_dir t s.0 ≡ true → is_name s.1 ≡ true → is_living t x ≡ true → x ≢ 0 → row_fits t (s, x) ≡ true
+row_made t s x dir name living n = and_from _ _ dir (and_from _ _ name (and_from _ _ living (ap not (ne_eqb x 0 n))))
+
+-- the same number, counted as one row
+one_same : (x : ℕ) → one (λ y. y == x) x ≡ 1
+one_same x = ap (λ b. cond b 1 0) (eq-eqb x x refl)
+
+one_other : (x y : ℕ) → y ≢ x → one (λ z. z == x) y ≡ 0
+one_other x y n = ap (λ b. cond b 1 0) (ne_eqb y x n)
+
+-- where climbing steps are the same in two trees, so are the ways
+same_way : (t u : Tree) (P : ℕ → Type 0) → ((d : ℕ) → P d → d ≢ 0 → (above u d ≡ above t d) × P (above t d)) → (k d : ℕ) → P d → Reaches t k d → Reaches u k d
+same_way t u P step zero d p r = r
+same_way t u P step (suc k) d p r =
+    let up = step d p r.0 in
+    (r.0, subst (Reaches u k) (sym up.0) (same_way t u P step k (above t d) up.1 r.1))
+
+-- the root is reached from each directory
+way_up : (t : Tree) → Sound t → (d : ℕ) → is_dir t d ≡ true → (k : ℕ) × Reaches t k d
+way_up t f d h = elim (same_number_or_other d 0) [ inl e ↦ (0, e) | inr n ↦ f.rooted d h n ]
+
+-- a number that is not living is no row's node
+no_rows : (t : Tree) → Sound t → (x : ℕ) → is_living t x ≡ false → rows_with t x ≡ 0
+no_rows t f x h =
+    elim (rows_with t x) as (λ n. rows_with t x ≡ n → n ≡ 0) [
+      | zero ↦ λ e. refl
+      | suc n ↦ λ e. (let g = found_from_tally spot_cmp spots_total exact_spots (λ y. y == x) t.rows f.rows_sorted (omega arith) in
+          absurd (false≢true (sym h ∙ (row_says t f g.0 x (g.2 ∙ ap Some (eqb-true g.1 x g.3))).2)))
+    ] refl
+
+-- the next number is not living
+next_is_new : (t : Tree) → Sound t → is_living t t.next ≡ false
+next_is_new t f =
+    elim (node_at t t.next) as (λ o. node_at t t.next ≡ o → is_some o ≡ false) [
+      | None ↦ λ e. refl
+      | Some n ↦ λ e. (let below = (f.node t.next n e).0 in absurd (omega arith))
+    ] refl
+
+-- adding a node
+module _ (t : Tree) (f : Sound t) (dir : ℕ) (name : List ℕ) (node : Node) (free : look t dir name ≡ None) (in_dir : is_dir t dir ≡ true) where
+  abbrev grown : Tree
+  grown = with_new t dir name node
+
+  new_is_new : (x : ℕ) → is_living t x ≡ true → x ≢ t.next
+  new_is_new x h e = false≢true (sym (next_is_new t f) ∙ ap (is_living t) (sym e) ∙ h)
+
+  new_at : node_at grown t.next ≡ Some node
+  new_at = put_here nat_cmp nat_cmp_total nat_cmp-IsAntisymmetric t.next node t.nodes
+
+  old_at : (x : ℕ) → x ≢ t.next → node_at grown x ≡ node_at t x
+  old_at x n = put_elsewhere nat_cmp nat_cmp_total nat_cmp-IsAntisymmetric x t.next node t.nodes n
+
+  old_dir : (d : ℕ) → is_dir t d ≡ true → is_dir grown d ≡ true
+  old_dir d h = ap (λ o. is_dir_kind (option_map (λ n. n.kind) o)) (old_at d (new_is_new d (is_living_dir t d h))) ∙ h
+
+  old_living : (x : ℕ) → is_living t x ≡ true → is_living grown x ≡ true
+  old_living x h = ap is_some (old_at x (new_is_new x h)) ∙ h
+
+  was_living : (x : ℕ) → x ≢ t.next → is_living grown x ≡ true → is_living t x ≡ true
+  was_living x n h = ap is_some (sym (old_at x n)) ∙ h
+
+  was_dir : (x : ℕ) → x ≢ t.next → is_dir grown x ≡ true → is_dir t x ≡ true
+  was_dir x n h = ap (λ o. is_dir_kind (option_map (λ m. m.kind) o)) (sym (old_at x n)) ∙ h
+
+  new_row : InRow grown (dir, name) t.next
+  new_row = put_here spot_cmp spots_total exact_spots (dir, name) t.next t.rows
+
+  old_row : (s : Spot) → s ≢ (dir, name) → find_key spot_cmp s grown.rows ≡ find_key spot_cmp s t.rows
+  old_row s n = put_elsewhere spot_cmp spots_total exact_spots s (dir, name) t.next t.rows n
+
+  kept_row : (s : Spot) (x : ℕ) → InRow t s x → InRow grown s x
+  kept_row s x e = old_row s (λ here. not_None x (sym e ∙ ap (λ r. find_key spot_cmp r t.rows) here ∙ free)) ∙ e
+
+  grown_rows : (x : ℕ) → rows_with grown x ≡ rows_with t x + one (λ y. y == x) t.next
+  grown_rows x =
+      let gone : one_at (λ y. y == x) (look t dir name) ≡ 0 = ap (one_at (λ y. y == x)) free in
+      omega (arith, tally-put spot_cmp spots_total exact_spots (λ y. y == x) (dir, name) t.next t.rows f.rows_sorted)
+
+  old_rows : (x : ℕ) → x ≢ t.next → rows_with grown x ≡ rows_with t x
+  old_rows x n = omega (arith, grown_rows x, one_other x t.next (λ e. n (sym e)))
+
+  new_rows : rows_with grown t.next ≡ 1
+  new_rows = omega (arith, grown_rows t.next, one_same t.next, no_rows t f t.next (next_is_new t f))
+
+  not_root : t.next ≢ 0
+  not_root e = new_is_new 0 (is_living_dir t 0 f.root) (sym e)
+
+  kept_way : (k d : ℕ) → is_dir t d ≡ true → Reaches t k d → Reaches grown k d
+  kept_way = same_way t grown (λ d. is_dir t d ≡ true) (λ d h n.
+      let r = row_of t f d h n in
+      (above_is grown d r.0 n (old_rows d (new_is_new d (is_living_dir t d h)) ∙ f.once d h n) (kept_row r.0 d r.1) ∙ sym r.2, above_dir t f d h n))
+
+  pub add_keeps : is_name name ≡ true → target_fits node.kind node.target ≡ true → Sound grown
+  add_keeps is_one fits = record {
+    rows_sorted = is_sorted-put spot_cmp spots_total (dir, name) t.next t.rows f.rows_sorted;
+    nodes_sorted = is_sorted-put nat_cmp nat_cmp_total t.next node t.nodes f.nodes_sorted;
+    root = old_dir 0 f.root;
+    row = λ s x e. elim (same_spot_or_other s (dir, name)) [
+      | inl here ↦ (let number : t.next ≡ x = is_Some t.next x (sym new_row ∙ ap (λ r. find_key spot_cmp r grown.rows) (sym here) ∙ e) in
+          subst (λ r. row_fits grown (r, x) ≡ true) (sym here) (subst (λ y. row_fits grown ((dir, name), y) ≡ true) number
+          (row_made grown (dir, name) t.next (old_dir dir in_dir) is_one (ap is_some new_at) not_root)))
+      | inr there ↦ (let says = row_says t f s x (sym (old_row s there) ∙ e) in
+          row_made grown s x (old_dir s.0 says.0) says.1 (old_living x says.2) says.3)
+    ];
+    node = λ x n e. elim (same_number_or_other x t.next) [
+      | inl new ↦ (let made : node ≡ n = is_Some node n (sym new_at ∙ ap (node_at grown) (sym new) ∙ e) in
+          (omega arith, subst (λ m. target_fits m.kind m.target ≡ true) made fits))
+      | inr old ↦ (let says = f.node x n (sym (old_at x old) ∙ e) in (omega arith, says.1))
+    ];
+    unnamed_root = old_rows 0 (λ e. not_root (sym e)) ∙ f.unnamed_root;
+    named = λ x living n. elim (same_number_or_other x t.next) [
+      | inl new ↦ (let rows = ap (rows_with grown) new ∙ new_rows in omega arith)
+      | inr old ↦ (let rows = old_rows x old in let some = f.named x (was_living x old living) n in omega arith)
+    ];
+    once = λ d h n. elim (same_number_or_other d t.next) [
+      | inl new ↦ ap (rows_with grown) new ∙ new_rows
+      | inr old ↦ old_rows d old ∙ f.once d (was_dir d old h) n
+    ];
+    rooted = λ d h n. elim (same_number_or_other d t.next) [
+      | inl new ↦ (let up = way_up t f dir in_dir in
+          (suc up.0, (n, subst (Reaches grown up.0) (sym (ap (above grown) new ∙ above_is grown t.next (dir, name) not_root new_rows new_row)) (kept_way up.0 dir in_dir up.1))))
+      | inr old ↦ (let way = f.rooted d (was_dir d old h) n in (way.0, kept_way way.0 d (was_dir d old h) way.1))
+    ];
+  }
