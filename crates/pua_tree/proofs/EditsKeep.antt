@@ -5,15 +5,15 @@ use Rattle.std.specs.Ordering.{nat_cmp}
 use Rattle.std.specs.Cmp.{nat_cmp_total}
 use Rattle.std.specs.FinMap.{find as find_key, put, is_sorted, nat_cmp-IsAntisymmetric}
 use Rattle.std.specs.FinMap.Entries.{is_sorted-put, is_sorted-where_key}
-use Rattle.std.proofs.lemmas.Bool.{and_from, or_parts, false≢true}
+use Rattle.std.proofs.lemmas.Bool.{and_from, or_parts, false≢true, eqb-false}
 use Rattle.pua_tree.specs.Names.{is_name}
 use Rattle.pua_tree.specs.Tree.{Node, Spot, Tree, WellFormed, spot_cmp, node_at, is_dir, is_dir_kind, is_living, look, above, climb, climb_within, has_no_row, rows_of, row_fits, target_fits}
 use Rattle.pua_tree.specs.Edits.{with_row, without_row, without_node, without_unnamed, with_new, add, cut, cut_found, shift, shift_found, moved, is_full_dir, is_inside, is_same_node, is_full_dir_there, has_room}
 use Rattle.pua_tree.specs.Laws.{EditsKeepTrees}
 use Rattle.pua_tree.specs.declared.fault.TreeFault.{TreeFault}
 use Rattle.pua_tree.proofs.Content.{spots_total, exact_spots}
-use Rattle.pua_tree.proofs.Rows.{one, one_at, tally, tally_counts, tally-put, tally-without, is_Some, not_None, same_or_other, put_here, put_elsewhere, without_here, without_elsewhere, found_from_tally, none_found}
-use Rattle.pua_tree.proofs.Sound.{Sound, Reaches, InRow, rows_with, above_is, row_says, row_of, above_dir, climb_ends, sound_from, well_formed_from}
+use Rattle.pua_tree.proofs.Rows.{one, one_at, tally, tally_counts, tally-put, tally-without, is_Some, not_None, same_or_other, put_here, put_elsewhere, without_here, without_elsewhere, found_from_tally, tally_found, none_found}
+use Rattle.pua_tree.proofs.Sound.{Sound, Reaches, InRow, rows_with, above_is, row_parts, row_says, row_of, above_dir, climb_ends, sound_from, well_formed_from}
 
 same_spot_or_other : (s r : Spot) → (s ≡ r) ⊎ (s ≢ r)
 same_spot_or_other s r = elim (same_or_other spot_cmp spots_total exact_spots s r) [ inl e ↦ inl e.0 | inr e ↦ inr e.0 ]
@@ -149,3 +149,160 @@ module _ (t : Tree) (f : Sound t) (dir : ℕ) (name : List ℕ) (node : Node) (f
       | inr old ↦ (let way = f.rooted d (was_dir d old h) n in (way.0, kept_way way.0 d (was_dir d old h) way.1))
     ];
   }
+
+-- a tree but for one node, which may stand in no row if nothing stands in it
+record Loose (t : Tree) (y : ℕ) : Type 0 where
+  rows_sorted : T (is_sorted spot_cmp t.rows)
+  nodes_sorted : T (is_sorted nat_cmp t.nodes)
+  root : is_dir t 0 ≡ true
+  row : (s : Spot) (x : ℕ) → InRow t s x → row_fits t (s, x) ≡ true
+  node : (x : ℕ) (n : Node) → node_at t x ≡ Some n → (x < t.next) × (target_fits n.kind n.target ≡ true)
+  unnamed_root : rows_with t 0 ≡ 0
+  named : (x : ℕ) → is_living t x ≡ true → x ≢ 0 → x ≢ y → 1 ≤ rows_with t x
+  once : (d : ℕ) → is_dir t d ≡ true → d ≢ 0 → d ≢ y → rows_with t d ≡ 1
+  rooted : (d : ℕ) → is_dir t d ≡ true → d ≢ 0 → d ≢ y → (k : ℕ) × Reaches t k d
+  not_root : y ≢ 0
+  alone : (s : Spot) (x : ℕ) → InRow t s x → s.0 ≢ y
+  gone : is_dir t y ≡ true → rows_with t y ≡ 0
+
+sound_where_named : (t : Tree) (y : ℕ) → Loose t y → (is_living t y ≡ true → 1 ≤ rows_with t y) → Sound t
+sound_where_named t y l some = record {
+  rows_sorted = l.rows_sorted;
+  nodes_sorted = l.nodes_sorted;
+  root = l.root;
+  row = l.row;
+  node = l.node;
+  unnamed_root = l.unnamed_root;
+  named = λ x living n. elim (same_number_or_other x y) [
+    | inl e ↦ subst (λ z. 1 ≤ rows_with t z) (sym e) (some (ap (is_living t) (sym e) ∙ living))
+    | inr other ↦ l.named x living n other
+  ];
+  once = λ d h n. elim (same_number_or_other d y) [ inl e ↦ absurd (not_dir d h e) | inr other ↦ l.once d h n other ];
+  rooted = λ d h n. elim (same_number_or_other d y) [ inl e ↦ absurd (not_dir d h e) | inr other ↦ l.rooted d h n other ];
+}
+  where
+    not_dir : (d : ℕ) → is_dir t d ≡ true → d ≡ y → ⊥
+    not_dir d h e =
+        let dir : is_dir t y ≡ true = ap (is_dir t) (sym e) ∙ h in
+        let none = l.gone dir in
+        let one_row = some (is_living_dir t y dir) in
+        omega arith
+
+-- taking the one node away
+module _ (t : Tree) (y : ℕ) (l : Loose t y) (none : rows_with t y ≡ 0) where
+  abbrev thinned : Tree
+  thinned = without_node t y
+
+  gone_at : node_at thinned y ≡ None
+  gone_at = without_here nat_cmp nat_cmp_total nat_cmp-IsAntisymmetric y t.nodes
+
+  left_at : (x : ℕ) → x ≢ y → node_at thinned x ≡ node_at t x
+  left_at x n = without_elsewhere nat_cmp nat_cmp_total nat_cmp-IsAntisymmetric x y t.nodes n
+
+  left_node : (x : ℕ) (n : Node) → node_at thinned x ≡ Some n → (x ≢ y) × (node_at t x ≡ Some n)
+  left_node x n e =
+      elim (same_number_or_other x y) [
+        | inl here ↦ absurd (not_None n (sym e ∙ ap (node_at thinned) here ∙ gone_at))
+        | inr other ↦ (other, sym (left_at x other) ∙ e)
+      ]
+
+  left_living : (x : ℕ) → is_living thinned x ≡ true → (x ≢ y) × (is_living t x ≡ true)
+  left_living x h =
+      elim (same_number_or_other x y) [
+        | inl here ↦ absurd (false≢true (ap is_some (sym (ap (node_at thinned) here ∙ gone_at)) ∙ h))
+        | inr other ↦ (other, ap is_some (sym (left_at x other)) ∙ h)
+      ]
+
+  left_dir : (x : ℕ) → is_dir thinned x ≡ true → (x ≢ y) × (is_dir t x ≡ true)
+  left_dir x h =
+      let other = (left_living x (is_living_dir thinned x h)).0 in
+      (other, ap (λ o. is_dir_kind (option_map (λ m. m.kind) o)) (sym (left_at x other)) ∙ h)
+
+  still_dir : (x : ℕ) → x ≢ y → is_dir t x ≡ true → is_dir thinned x ≡ true
+  still_dir x n h = ap (λ o. is_dir_kind (option_map (λ m. m.kind) o)) (left_at x n) ∙ h
+
+  thinned_keeps : Sound thinned
+  thinned_keeps = record {
+    rows_sorted = l.rows_sorted;
+    nodes_sorted = is_sorted-where_key nat_cmp _ t.nodes l.nodes_sorted;
+    root = still_dir 0 (λ e. l.not_root (sym e)) l.root;
+    row = λ s x e.
+        (let says = row_parts t s x (l.row s x e) in
+        let other : x ≢ y = λ here. (let some = tally_found spot_cmp spots_total exact_spots (λ z. z == y) s x t.rows e (eq-eqb x y here) in omega arith) in
+        row_made thinned s x (still_dir s.0 (l.alone s x e) says.0) says.1 (ap is_some (left_at x other) ∙ says.2) says.3);
+    node = λ x n e. l.node x n (left_node x n e).1;
+    unnamed_root = l.unnamed_root;
+    named = λ x living n. (let old = left_living x living in l.named x old.1 n old.0);
+    once = λ d h n. (let old = left_dir d h in l.once d old.1 n old.0);
+    rooted = λ d h n. (let old = left_dir d h in l.rooted d old.1 n old.0);
+  }
+
+unnamed_goes : (t : Tree) (y : ℕ) → Loose t y → Sound (without_unnamed t y)
+unnamed_goes t y l =
+    elim (rows_of t y == 0) as (λ b. (rows_of t y == 0) ≡ b → Sound (cond b (without_node t y) t)) [
+      | true ↦ λ e. thinned_keeps t y l (tally_counts (λ z. z == y) t.rows ∙ eqb-true (rows_of t y) 0 e)
+      | false ↦ λ e. sound_where_named t y l (λ _. some (rows_with t y) (λ z. eqb-false (rows_of t y) 0 e (sym (tally_counts (λ v. v == y) t.rows) ∙ z)))
+    ] refl
+  where
+    some : (n : ℕ) → n ≢ 0 → 1 ≤ n
+    some n z = omega arith
+
+-- where nothing stands in a node, no row's directory is that node
+stands_in_none : (t : Tree) → Sound t → (y : ℕ) → is_full_dir t y ≡ false → (s : Spot) (x : ℕ) → InRow t s x → s.0 ≢ y
+stands_in_none t f y h s x e here =
+    let dir : is_dir t y ≡ true = ap (is_dir t) (sym here) ∙ (row_says t f s x e).0 in
+    let empty : list_any (λ row. row.0.0 == y) t.rows ≡ false = none_in (list_any (λ row. row.0.0 == y) t.rows) (ap (λ b. b && not (has_no_row t y)) (sym dir) ∙ h) in
+    false≢true (sym (none_found spot_cmp spots_total exact_spots (λ row. row.0.0 == y) t.rows empty s x e) ∙ eq-eqb s.0 y here)
+  where
+    none_in : (b : Bool) → not (not b) ≡ false → b ≡ false
+    none_in true h = h
+    none_in false h = h
+
+-- taking a row away
+module _ (t : Tree) (f : Sound t) (dir : ℕ) (name : List ℕ) (x : ℕ) (found : look t dir name ≡ Some x) (empty : is_full_dir t x ≡ false) where
+  abbrev cleared : Tree
+  cleared = without_row t dir name
+
+  cleared_row : (s : Spot) (z : ℕ) → InRow cleared s z → InRow t s z
+  cleared_row s z e =
+      elim (same_spot_or_other s (dir, name)) [
+        | inl here ↦ absurd (not_None z (sym e ∙ ap (λ r. find_key spot_cmp r cleared.rows) here ∙ without_here spot_cmp spots_total exact_spots (dir, name) t.rows))
+        | inr other ↦ sym (without_elsewhere spot_cmp spots_total exact_spots s (dir, name) t.rows other) ∙ e
+      ]
+
+  other_row : (s : Spot) (z : ℕ) → z ≢ x → InRow t s z → InRow cleared s z
+  other_row s z n e =
+      without_elsewhere spot_cmp spots_total exact_spots s (dir, name) t.rows (λ here. n (is_Some z x (sym e ∙ ap (λ r. find_key spot_cmp r t.rows) here ∙ found))) ∙ e
+
+  cleared_rows : (z : ℕ) → rows_with cleared z + one (λ y. y == z) x ≡ rows_with t z
+  cleared_rows z = subst (λ o. rows_with cleared z + one_at (λ y. y == z) o ≡ rows_with t z) found (tally-without spot_cmp spots_total exact_spots (λ y. y == z) (dir, name) t.rows f.rows_sorted)
+
+  other_rows : (z : ℕ) → z ≢ x → rows_with cleared z ≡ rows_with t z
+  other_rows z n = omega (arith, cleared_rows z, one_other z x (λ e. n (sym e)))
+
+  cleared_way : (k d : ℕ) → (is_dir t d ≡ true) × (d ≢ x) → Reaches t k d → Reaches cleared k d
+  cleared_way = same_way t cleared (λ d. (is_dir t d ≡ true) × (d ≢ x)) (λ d h n.
+      let r = row_of t f d h.0 n in
+      (above_is cleared d r.0 n (other_rows d h.1 ∙ f.once d h.0 n) (other_row r.0 d h.1 r.1) ∙ sym r.2,
+      (above_dir t f d h.0 n, λ e. stands_in_none t f x empty r.0 d r.1 (sym r.2 ∙ e))))
+
+  cut_loosens : Loose cleared x
+  cut_loosens =
+      let says = row_says t f (dir, name) x found in
+      record {
+        rows_sorted = is_sorted-where_key spot_cmp _ t.rows f.rows_sorted;
+        nodes_sorted = f.nodes_sorted;
+        root = f.root;
+        row = λ s z e. f.row s z (cleared_row s z e);
+        node = f.node;
+        unnamed_root = other_rows 0 (λ e. says.3 (sym e)) ∙ f.unnamed_root;
+        named = λ z living n other. subst (λ r. 1 ≤ r) (sym (other_rows z other)) (f.named z living n);
+        once = λ d h n other. other_rows d other ∙ f.once d h n;
+        rooted = λ d h n other. (let way = f.rooted d h n in (way.0, cleared_way way.0 d (h, other) way.1));
+        not_root = says.3;
+        alone = λ s z e. stands_in_none t f x empty s z (cleared_row s z e);
+        gone = λ h. (let all = cleared_rows x in let here = one_same x in let once = f.once x h says.3 in omega arith);
+      }
+
+  pub cut_keeps : Sound (without_unnamed cleared x)
+  cut_keeps = unnamed_goes cleared x cut_loosens

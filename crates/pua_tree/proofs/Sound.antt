@@ -75,7 +75,7 @@ climbs t (suc n) (suc d) h =
 abbrev pub InRow : Tree → Spot → ℕ → Type 0
 InRow t s x = find_key spot_cmp s t.rows ≡ Some x
 
-row_parts : (t : Tree) (s : Spot) (x : ℕ) → row_fits t (s, x) ≡ true → (is_dir t s.0 ≡ true) × (is_name s.1 ≡ true) × (is_living t x ≡ true) × (x ≢ 0)
+pub row_parts : (t : Tree) (s : Spot) (x : ℕ) → row_fits t (s, x) ≡ true → (is_dir t s.0 ≡ true) × (is_name s.1 ≡ true) × (is_living t x ≡ true) × (x ≢ 0)
 row_parts t s x h =
     let a = and_parts _ _ h in
     let b = and_parts _ _ a.1 in
