@@ -259,7 +259,7 @@ stands_in_none t f y h s x e here =
     none_in false h = h
 
 -- taking a row away
-module _ (t : Tree) (f : Sound t) (dir : ℕ) (name : List ℕ) (x : ℕ) (found : look t dir name ≡ Some x) (empty : is_full_dir t x ≡ false) where
+module _ (t : Tree) (f : Sound t) (dir : ℕ) (name : List ℕ) (x : ℕ) (found : look t dir name ≡ Some x) where
   abbrev cleared : Tree
   cleared = without_row t dir name
 
@@ -280,29 +280,154 @@ module _ (t : Tree) (f : Sound t) (dir : ℕ) (name : List ℕ) (x : ℕ) (found
   other_rows : (z : ℕ) → z ≢ x → rows_with cleared z ≡ rows_with t z
   other_rows z n = omega (arith, cleared_rows z, one_other z x (λ e. n (sym e)))
 
-  cleared_way : (k d : ℕ) → (is_dir t d ≡ true) × (d ≢ x) → Reaches t k d → Reaches cleared k d
-  cleared_way = same_way t cleared (λ d. (is_dir t d ≡ true) × (d ≢ x)) (λ d h n.
-      let r = row_of t f d h.0 n in
-      (above_is cleared d r.0 n (other_rows d h.1 ∙ f.once d h.0 n) (other_row r.0 d h.1 r.1) ∙ sym r.2,
-      (above_dir t f d h.0 n, λ e. stands_in_none t f x empty r.0 d r.1 (sym r.2 ∙ e))))
+  module _ (empty : is_full_dir t x ≡ false) where
+    cleared_way : (k d : ℕ) → (is_dir t d ≡ true) × (d ≢ x) → Reaches t k d → Reaches cleared k d
+    cleared_way = same_way t cleared (λ d. (is_dir t d ≡ true) × (d ≢ x)) (λ d h n.
+        let r = row_of t f d h.0 n in
+        (above_is cleared d r.0 n (other_rows d h.1 ∙ f.once d h.0 n) (other_row r.0 d h.1 r.1) ∙ sym r.2,
+        (above_dir t f d h.0 n, λ e. stands_in_none t f x empty r.0 d r.1 (sym r.2 ∙ e))))
 
-  cut_loosens : Loose cleared x
-  cut_loosens =
-      let says = row_says t f (dir, name) x found in
-      record {
-        rows_sorted = is_sorted-where_key spot_cmp _ t.rows f.rows_sorted;
-        nodes_sorted = f.nodes_sorted;
-        root = f.root;
-        row = λ s z e. f.row s z (cleared_row s z e);
-        node = f.node;
-        unnamed_root = other_rows 0 (λ e. says.3 (sym e)) ∙ f.unnamed_root;
-        named = λ z living n other. subst (λ r. 1 ≤ r) (sym (other_rows z other)) (f.named z living n);
-        once = λ d h n other. other_rows d other ∙ f.once d h n;
-        rooted = λ d h n other. (let way = f.rooted d h n in (way.0, cleared_way way.0 d (h, other) way.1));
-        not_root = says.3;
-        alone = λ s z e. stands_in_none t f x empty s z (cleared_row s z e);
-        gone = λ h. (let all = cleared_rows x in let here = one_same x in let once = f.once x h says.3 in omega arith);
-      }
+    cut_loosens : Loose cleared x
+    cut_loosens =
+        let says = row_says t f (dir, name) x found in
+        record {
+          rows_sorted = is_sorted-where_key spot_cmp _ t.rows f.rows_sorted;
+          nodes_sorted = f.nodes_sorted;
+          root = f.root;
+          row = λ s z e. f.row s z (cleared_row s z e);
+          node = f.node;
+          unnamed_root = other_rows 0 (λ e. says.3 (sym e)) ∙ f.unnamed_root;
+          named = λ z living n other. subst (λ r. 1 ≤ r) (sym (other_rows z other)) (f.named z living n);
+          once = λ d h n other. other_rows d other ∙ f.once d h n;
+          rooted = λ d h n other. (let way = f.rooted d h n in (way.0, cleared_way way.0 d (h, other) way.1));
+          not_root = says.3;
+          alone = λ s z e. stands_in_none t f x empty s z (cleared_row s z e);
+          gone = λ h. (let all = cleared_rows x in let here = one_same x in let once = f.once x h says.3 in omega arith);
+        }
 
-  pub cut_keeps : Sound (without_unnamed cleared x)
-  cut_keeps = unnamed_goes cleared x cut_loosens
+    pub cut_keeps : Sound (without_unnamed cleared x)
+    cut_keeps = unnamed_goes cleared x cut_loosens
+
+-- moving a row to a spot at which nothing stands but y
+module _ (t : Tree) (f : Sound t) (from : ℕ) (name : List ℕ) (to : ℕ) (new_name : List ℕ) (x y : ℕ)
+  (found : look t from name ≡ Some x) (apart : x ≢ y) (there : (z : ℕ) → look t to new_name ≡ Some z → z ≡ y)
+  (in_dir : is_dir t to ≡ true) (to_other : to ≢ y) (is_one : is_name new_name ≡ true) (outside : is_inside t x to ≡ false)
+  (not_root : y ≢ 0) (alone : (s : Spot) (z : ℕ) → InRow t s z → s.0 ≢ y) (held : is_dir t y ≡ true → look t to new_name ≡ Some y) where
+  abbrev shifted : Tree
+  shifted = with_row (without_row t from name) to new_name x
+
+  abbrev between : Tree
+  between = without_row t from name
+
+  spots_apart : (s : Spot) → s ≡ (to, new_name) → s ≢ (from, name)
+  spots_apart s e h = apart (there x (ap (λ r. find_key spot_cmp r t.rows) (sym e ∙ h) ∙ found))
+
+  spot_apart : ◌≢◌ {A = Spot} (to, new_name) (from, name)
+  spot_apart = spots_apart (to, new_name) refl
+
+  new_place : InRow shifted (to, new_name) x
+  new_place = put_here spot_cmp spots_total exact_spots (to, new_name) x between.rows
+
+  shifted_row : (s : Spot) (z : ℕ) → s ≢ (to, new_name) → InRow shifted s z → InRow t s z
+  shifted_row s z n e =
+      cleared_row t f from name x found s z (sym (put_elsewhere spot_cmp spots_total exact_spots s (to, new_name) x between.rows n) ∙ e)
+
+  moved_row : (s : Spot) (z : ℕ) → z ≢ x → z ≢ y → InRow t s z → InRow shifted s z
+  moved_row s z n m e =
+      put_elsewhere spot_cmp spots_total exact_spots s (to, new_name) x between.rows (λ here. m (there z (ap (λ r. find_key spot_cmp r t.rows) (sym here) ∙ e)))
+      ∙ other_row t f from name x found s z n e
+
+  new_spot : find_key spot_cmp (to, new_name) between.rows ≡ look t to new_name
+  new_spot = without_elsewhere spot_cmp spots_total exact_spots (to, new_name) (from, name) t.rows spot_apart
+
+  shifted_rows : (z : ℕ) → rows_with shifted z + one_at (λ v. v == z) (look t to new_name) ≡ rows_with t z
+  shifted_rows z =
+      let put_one = tally-put spot_cmp spots_total exact_spots (λ v. v == z) (to, new_name) x between.rows (is_sorted-where_key spot_cmp _ t.rows f.rows_sorted) in
+      let took = cleared_rows t f from name x found z in
+      let spot : one_at (λ v. v == z) (find_key spot_cmp (to, new_name) between.rows) ≡ one_at (λ v. v == z) (look t to new_name) = ap (one_at (λ v. v == z)) new_spot in
+      omega arith
+
+  none_there : (z : ℕ) → z ≢ y → one_at (λ v. v == z) (look t to new_name) ≡ 0
+  none_there z n =
+      elim (look t to new_name) as (λ o. look t to new_name ≡ o → one_at (λ v. v == z) o ≡ 0) [
+        | None ↦ λ e. refl
+        | Some w ↦ λ e. one_other z w (λ same. n (sym same ∙ there w e))
+      ] refl
+
+  same_rows : (z : ℕ) → z ≢ y → rows_with shifted z ≡ rows_with t z
+  same_rows z n = omega (arith, shifted_rows z, none_there z n)
+
+  -- a directory that the climb to the root passes by the node that moves
+  abbrev Avoids : ℕ → Type 0
+  Avoids d = (n : ℕ) × (k : ℕ) × (k ≤ n) × Reaches t k d × (list_any (λ e. e == x) (climb_within n t d) ≡ false) × (is_dir t d ≡ true) × (d ≢ y)
+
+  avoids_up : (d n k : ℕ) → d ≢ 0 → k ≤ n → Reaches t k d → list_any (λ e. e == x) (climb_within n t d) ≡ false
+      → (d ≢ x) × (m : ℕ) × (j : ℕ) × (j ≤ m) × Reaches t j (above t d) × (list_any (λ e. e == x) (climb_within m t (above t d)) ≡ false)
+  avoids_up zero n k z l r h = absurd (z refl)
+  avoids_up (suc d) n zero z l r h = absurd (z r)
+  avoids_up (suc d) zero (suc k) z l r h = absurd (omega arith)
+  avoids_up (suc d) (suc n) (suc k) z l r h =
+      let parts = or_parts (suc d == x) _ h in
+      (λ e. false≢true (sym parts.0 ∙ eq-eqb (suc d) x e), n, k, omega arith, r.1, parts.1)
+
+  same_above : (d : ℕ) → is_dir t d ≡ true → d ≢ 0 → d ≢ x → d ≢ y → (above shifted d ≡ above t d) × (above t d ≢ y)
+  same_above d h z n m =
+      let r = row_of t f d h z in
+      (above_is shifted d r.0 z (same_rows d m ∙ f.once d h z) (moved_row r.0 d n m r.1) ∙ sym r.2, λ e. alone r.0 d r.1 (sym r.2 ∙ e))
+
+  avoids_more : (d : ℕ) → Avoids d → d ≢ 0 → (above shifted d ≡ above t d) × Avoids (above t d)
+  avoids_more d p z =
+      let up = avoids_up d p.0 p.1 z p.2 p.3 p.4 in
+      let one = same_above d p.5 z up.0 p.6 in
+      (one.0, (up.1, up.2, up.3, up.4, up.5, above_dir t f d p.5 z, one.1))
+
+  moving : (is_dir t from ≡ true) × (is_name name ≡ true) × (is_living t x ≡ true) × (x ≢ 0)
+  moving = row_says t f (from, name) x found
+
+  -- from a directory's new place the root is reached without it
+  way_from_place : is_dir t x ≡ true → (k : ℕ) × Reaches shifted k to
+  way_from_place h =
+      let up = way_up t f to in_dir in
+      let enough = climb_ends t f to in_dir up.0 up.1 in
+      let free : list_any (λ e. e == x) (climb t to) ≡ false = ap (λ b. b && list_any (λ e. e == x) (climb t to)) (sym h) ∙ outside in
+      (up.0, same_way t shifted Avoids avoids_more up.0 to (length t.nodes, up.0, omega arith, up.1, free, in_dir, to_other) up.1)
+
+  shifted_way : (k d : ℕ) → is_dir t d ≡ true → d ≢ y → Reaches t k d → (j : ℕ) × Reaches shifted j d
+  shifted_way zero d h m r = (0, r)
+  shifted_way (suc k) d h m r =
+      elim (same_number_or_other d x) [
+        | inl here ↦ (let dir : is_dir t x ≡ true = ap (is_dir t) (sym here) ∙ h in
+            let up = way_from_place dir in
+            let place : above shifted d ≡ to = ap (above shifted) here ∙ above_is shifted x (to, new_name) moving.3 (same_rows x apart ∙ f.once x dir moving.3) new_place in
+            (suc up.0, (r.0, subst (Reaches shifted up.0) (sym place) up.1)))
+        | inr other ↦ (let one = same_above d h r.0 other m in
+            let up = shifted_way k (above t d) (above_dir t f d h r.0) one.1 r.1 in
+            (suc up.0, (r.0, subst (Reaches shifted up.0) (sym one.0) up.1)))
+      ]
+
+  shift_loosens : Loose shifted y
+  shift_loosens = record {
+    rows_sorted = is_sorted-put spot_cmp spots_total (to, new_name) x between.rows (is_sorted-where_key spot_cmp _ t.rows f.rows_sorted);
+    nodes_sorted = f.nodes_sorted;
+    root = f.root;
+    row = λ s z e. elim (same_spot_or_other s (to, new_name)) [
+      | inl here ↦ (let number : x ≡ z = is_Some x z (sym new_place ∙ ap (λ r. find_key spot_cmp r shifted.rows) (sym here) ∙ e) in
+          subst (λ r. row_fits shifted (r, z) ≡ true) (sym here) (subst (λ v. row_fits shifted ((to, new_name), v) ≡ true) number
+          (row_made shifted (to, new_name) x in_dir is_one moving.2 moving.3)))
+      | inr other ↦ f.row s z (shifted_row s z other e)
+    ];
+    node = f.node;
+    unnamed_root = same_rows 0 (λ e. not_root (sym e)) ∙ f.unnamed_root;
+    named = λ z living n other. subst (λ r. 1 ≤ r) (sym (same_rows z other)) (f.named z living n);
+    once = λ d h n other. same_rows d other ∙ f.once d h n;
+    rooted = λ d h n other. (let way = f.rooted d h n in shifted_way way.0 d h other way.1);
+    not_root = not_root;
+    alone = λ s z e. elim (same_spot_or_other s (to, new_name)) [
+      | inl here ↦ λ same. to_other (ap (λ (r : Spot). r.0) (sym here) ∙ same)
+      | inr other ↦ alone s z (shifted_row s z other e)
+    ];
+    gone = λ h.
+        (let all = shifted_rows y in
+        let here : one_at (λ v. v == y) (look t to new_name) ≡ 1 = ap (one_at (λ v. v == y)) (held h) ∙ one_same y in
+        let once = f.once y h not_root in omega arith);
+  }
