@@ -3,16 +3,17 @@ use Rattle.std.proofs.Common.{◌≡◌, ◌≢◌, ◌⊎◌, ℕ, zero, suc, �
 use Rattle.std.specs.List.{list_any}
 use Rattle.std.specs.Ordering.{nat_cmp}
 use Rattle.std.specs.Cmp.{nat_cmp_total}
-use Rattle.std.specs.FinMap.{find as find_key, put, is_sorted, nat_cmp-IsAntisymmetric}
+use Rattle.std.specs.FinMap.{find as find_key, is_sorted, nat_cmp-IsAntisymmetric}
 use Rattle.std.specs.FinMap.Entries.{is_sorted-put, is_sorted-where_key}
-use Rattle.std.proofs.lemmas.Bool.{and_from, or_parts, false≢true, eqb-false}
+use Rattle.std.proofs.lemmas.Bool.{and_from, and_parts, or_parts, not-false, false≢true, eqb-false}
 use Rattle.pua_tree.specs.Names.{is_name}
 use Rattle.pua_tree.specs.Tree.{Node, Spot, Tree, WellFormed, spot_cmp, node_at, is_dir, is_dir_kind, is_living, look, above, climb, climb_within, has_no_row, rows_of, row_fits, target_fits}
 use Rattle.pua_tree.specs.Edits.{with_row, without_row, without_node, without_unnamed, with_new, add, cut, cut_found, shift, shift_found, moved, is_full_dir, is_inside, is_same_node, is_full_dir_there, has_room}
 use Rattle.pua_tree.specs.Laws.{EditsKeepTrees}
 use Rattle.pua_tree.specs.declared.fault.TreeFault.{TreeFault}
+use Rattle.pua_tree.specs.declared.fault.TreeFault.TheVariants.{Taken, NotDir, NotEmpty, Inside, Full}
 use Rattle.pua_tree.proofs.Content.{spots_total, exact_spots}
-use Rattle.pua_tree.proofs.Rows.{one, one_at, tally, tally_counts, tally-put, tally-without, is_Some, not_None, same_or_other, put_here, put_elsewhere, without_here, without_elsewhere, found_from_tally, tally_found, none_found}
+use Rattle.pua_tree.proofs.Rows.{one, one_at, tally_counts, tally-put, tally-without, is_Some, not_None, same_or_other, put_here, put_elsewhere, without_here, without_elsewhere, found_from_tally, tally_found, none_found}
 use Rattle.pua_tree.proofs.Sound.{Sound, Reaches, InRow, rows_with, above_is, row_parts, row_says, row_of, above_dir, climb_ends, sound_from, well_formed_from}
 
 same_spot_or_other : (s r : Spot) → (s ≡ r) ⊎ (s ≢ r)
@@ -63,13 +64,16 @@ next_is_new t f =
       | Some n ↦ λ e. (let below = (f.node t.next n e).0 in absurd (omega arith))
     ] refl
 
+not_next : (t : Tree) → Sound t → (x : ℕ) → is_living t x ≡ true → x ≢ t.next
+not_next t f x h e = false≢true (sym (next_is_new t f) ∙ ap (is_living t) (sym e) ∙ h)
+
+next_not_root : (t : Tree) → Sound t → t.next ≢ 0
+next_not_root t f e = not_next t f 0 (is_living_dir t 0 f.root) (sym e)
+
 -- adding a node
 module _ (t : Tree) (f : Sound t) (dir : ℕ) (name : List ℕ) (node : Node) (free : look t dir name ≡ None) (in_dir : is_dir t dir ≡ true) where
   abbrev grown : Tree
   grown = with_new t dir name node
-
-  new_is_new : (x : ℕ) → is_living t x ≡ true → x ≢ t.next
-  new_is_new x h e = false≢true (sym (next_is_new t f) ∙ ap (is_living t) (sym e) ∙ h)
 
   new_at : node_at grown t.next ≡ Some node
   new_at = put_here nat_cmp nat_cmp_total nat_cmp-IsAntisymmetric t.next node t.nodes
@@ -78,10 +82,10 @@ module _ (t : Tree) (f : Sound t) (dir : ℕ) (name : List ℕ) (node : Node) (f
   old_at x n = put_elsewhere nat_cmp nat_cmp_total nat_cmp-IsAntisymmetric x t.next node t.nodes n
 
   old_dir : (d : ℕ) → is_dir t d ≡ true → is_dir grown d ≡ true
-  old_dir d h = ap (λ o. is_dir_kind (option_map (λ n. n.kind) o)) (old_at d (new_is_new d (is_living_dir t d h))) ∙ h
+  old_dir d h = ap (λ o. is_dir_kind (option_map (λ n. n.kind) o)) (old_at d (not_next t f d (is_living_dir t d h))) ∙ h
 
   old_living : (x : ℕ) → is_living t x ≡ true → is_living grown x ≡ true
-  old_living x h = ap is_some (old_at x (new_is_new x h)) ∙ h
+  old_living x h = ap is_some (old_at x (not_next t f x h)) ∙ h
 
   was_living : (x : ℕ) → x ≢ t.next → is_living grown x ≡ true → is_living t x ≡ true
   was_living x n h = ap is_some (sym (old_at x n)) ∙ h
@@ -109,13 +113,10 @@ module _ (t : Tree) (f : Sound t) (dir : ℕ) (name : List ℕ) (node : Node) (f
   new_rows : rows_with grown t.next ≡ 1
   new_rows = omega (arith, grown_rows t.next, one_same t.next, no_rows t f t.next (next_is_new t f))
 
-  not_root : t.next ≢ 0
-  not_root e = new_is_new 0 (is_living_dir t 0 f.root) (sym e)
-
   kept_way : (k d : ℕ) → is_dir t d ≡ true → Reaches t k d → Reaches grown k d
   kept_way = same_way t grown (λ d. is_dir t d ≡ true) (λ d h n.
       let r = row_of t f d h n in
-      (above_is grown d r.0 n (old_rows d (new_is_new d (is_living_dir t d h)) ∙ f.once d h n) (kept_row r.0 d r.1) ∙ sym r.2, above_dir t f d h n))
+      (above_is grown d r.0 n (old_rows d (not_next t f d (is_living_dir t d h)) ∙ f.once d h n) (kept_row r.0 d r.1) ∙ sym r.2, above_dir t f d h n))
 
   pub add_keeps : is_name name ≡ true → target_fits node.kind node.target ≡ true → Sound grown
   add_keeps is_one fits = record {
@@ -125,7 +126,7 @@ module _ (t : Tree) (f : Sound t) (dir : ℕ) (name : List ℕ) (node : Node) (f
     row = λ s x e. elim (same_spot_or_other s (dir, name)) [
       | inl here ↦ (let number : t.next ≡ x = is_Some t.next x (sym new_row ∙ ap (λ r. find_key spot_cmp r grown.rows) (sym here) ∙ e) in
           subst (λ r. row_fits grown (r, x) ≡ true) (sym here) (subst (λ y. row_fits grown ((dir, name), y) ≡ true) number
-          (row_made grown (dir, name) t.next (old_dir dir in_dir) is_one (ap is_some new_at) not_root)))
+          (row_made grown (dir, name) t.next (old_dir dir in_dir) is_one (ap is_some new_at) (next_not_root t f))))
       | inr there ↦ (let says = row_says t f s x (sym (old_row s there) ∙ e) in
           row_made grown s x (old_dir s.0 says.0) says.1 (old_living x says.2) says.3)
     ];
@@ -134,7 +135,7 @@ module _ (t : Tree) (f : Sound t) (dir : ℕ) (name : List ℕ) (node : Node) (f
           (omega arith, subst (λ m. target_fits m.kind m.target ≡ true) made fits))
       | inr old ↦ (let says = f.node x n (sym (old_at x old) ∙ e) in (omega arith, says.1))
     ];
-    unnamed_root = old_rows 0 (λ e. not_root (sym e)) ∙ f.unnamed_root;
+    unnamed_root = old_rows 0 (λ e. next_not_root t f (sym e)) ∙ f.unnamed_root;
     named = λ x living n. elim (same_number_or_other x t.next) [
       | inl new ↦ (let rows = ap (rows_with grown) new ∙ new_rows in omega arith)
       | inr old ↦ (let rows = old_rows x old in let some = f.named x (was_living x old living) n in omega arith)
@@ -145,7 +146,7 @@ module _ (t : Tree) (f : Sound t) (dir : ℕ) (name : List ℕ) (node : Node) (f
     ];
     rooted = λ d h n. elim (same_number_or_other d t.next) [
       | inl new ↦ (let up = way_up t f dir in_dir in
-          (suc up.0, (n, subst (Reaches grown up.0) (sym (ap (above grown) new ∙ above_is grown t.next (dir, name) not_root new_rows new_row)) (kept_way up.0 dir in_dir up.1))))
+          (suc up.0, (n, subst (Reaches grown up.0) (sym (ap (above grown) new ∙ above_is grown t.next (dir, name) (next_not_root t f) new_rows new_row)) (kept_way up.0 dir in_dir up.1))))
       | inr old ↦ (let way = f.rooted d (was_dir d old h) n in (way.0, kept_way way.0 d (was_dir d old h) way.1))
     ];
   }
@@ -283,9 +284,10 @@ module _ (t : Tree) (f : Sound t) (dir : ℕ) (name : List ℕ) (x : ℕ) (found
   module _ (empty : is_full_dir t x ≡ false) where
     cleared_way : (k d : ℕ) → (is_dir t d ≡ true) × (d ≢ x) → Reaches t k d → Reaches cleared k d
     cleared_way = same_way t cleared (λ d. (is_dir t d ≡ true) × (d ≢ x)) (λ d h n.
-        let r = row_of t f d h.0 n in
-        (above_is cleared d r.0 n (other_rows d h.1 ∙ f.once d h.0 n) (other_row r.0 d h.1 r.1) ∙ sym r.2,
-        (above_dir t f d h.0 n, λ e. stands_in_none t f x empty r.0 d r.1 (sym r.2 ∙ e))))
+        let r = row_of t f d h.0 n in (
+          above_is cleared d r.0 n (other_rows d h.1 ∙ f.once d h.0 n) (other_row r.0 d h.1 r.1) ∙ sym r.2,
+          (above_dir t f d h.0 n, λ e. stands_in_none t f x empty r.0 d r.1 (sym r.2 ∙ e)),
+        ))
 
     cut_loosens : Loose cleared x
     cut_loosens =
@@ -310,9 +312,9 @@ module _ (t : Tree) (f : Sound t) (dir : ℕ) (name : List ℕ) (x : ℕ) (found
 
 -- moving a row to a spot at which nothing stands but y
 module _ (t : Tree) (f : Sound t) (from : ℕ) (name : List ℕ) (to : ℕ) (new_name : List ℕ) (x y : ℕ)
-  (found : look t from name ≡ Some x) (apart : x ≢ y) (there : (z : ℕ) → look t to new_name ≡ Some z → z ≡ y)
-  (in_dir : is_dir t to ≡ true) (to_other : to ≢ y) (is_one : is_name new_name ≡ true) (outside : is_inside t x to ≡ false)
-  (not_root : y ≢ 0) (alone : (s : Spot) (z : ℕ) → InRow t s z → s.0 ≢ y) (held : is_dir t y ≡ true → look t to new_name ≡ Some y) where
+    (found : look t from name ≡ Some x) (apart : x ≢ y) (there : (z : ℕ) → look t to new_name ≡ Some z → z ≡ y)
+    (in_dir : is_dir t to ≡ true) (to_other : to ≢ y) (is_one : is_name new_name ≡ true) (outside : is_inside t x to ≡ false)
+    (not_root : y ≢ 0) (alone : (s : Spot) (z : ℕ) → InRow t s z → s.0 ≢ y) (held : is_dir t y ≡ true → look t to new_name ≡ Some y) where
   abbrev shifted : Tree
   shifted = with_row (without_row t from name) to new_name x
 
@@ -431,3 +433,95 @@ module _ (t : Tree) (f : Sound t) (from : ℕ) (name : List ℕ) (to : ℕ) (new
         let here : one_at (λ v. v == y) (look t to new_name) ≡ 1 = ap (one_at (λ v. v == y)) (held h) ∙ one_same y in
         let once = f.once y h not_root in omega arith);
   }
+
+is_Ok : {A : Type 0} (a b : A) → ◌≡◌ {A = Result A TreeFault} (Ok a) (Ok b) → a ≡ b
+is_Ok a b e = cc
+
+module _ (t : Tree) (f : Sound t) (from : ℕ) (name : List ℕ) (to : ℕ) (new_name : List ℕ) (x : ℕ)
+    (found : look t from name ≡ Some x) (in_dir : is_dir t to ≡ true) (is_one : is_name new_name ≡ true) (outside : is_inside t x to ≡ false) where
+  says : (is_dir t from ≡ true) × (is_name name ≡ true) × (is_living t x ≡ true) × (x ≢ 0)
+  says = row_says t f (from, name) x found
+
+  moved_keeps : (there : Option ℕ) → look t to new_name ≡ there → is_same_node x there ≡ false → is_full_dir_there t there ≡ false → Sound (moved t from name to new_name x there)
+  moved_keeps None e apart empty =
+      let loose = shift_loosens t f from name to new_name x t.next found (not_next t f x says.2) (λ z h. absurd (not_None z (sym h ∙ e)))
+      in_dir (not_next t f to (is_living_dir t to in_dir)) is_one outside (next_not_root t f)
+      (λ s z h. not_next t f s.0 (is_living_dir t s.0 (row_says t f s z h).0))
+      (λ h. absurd (false≢true (sym (next_is_new t f) ∙ is_living_dir t t.next h))) in
+      sound_where_named _ t.next loose (λ h. absurd (false≢true (sym (next_is_new t f) ∙ h)))
+  moved_keeps (Some y) e apart empty =
+      unnamed_goes _ y (shift_loosens t f from name to new_name x y found (eqb-false x y apart) (λ z h. is_Some z y (sym h ∙ e))
+      in_dir (stands_in_none t f y empty (to, new_name) y e) is_one outside (row_says t f (to, new_name) y e).3
+      (stands_in_none t f y empty) (λ _. e))
+
+next_stays : (t : Tree) (y : ℕ) → (without_unnamed t y).next ≡ t.next
+next_stays t y = elim (rows_of t y == 0) as (λ b. (cond b (without_node t y) t).next ≡ t.next) [ true ↦ refl | false ↦ refl ]
+
+past : {A : Type 0} (b : Bool) (fault : TreeFault) (rest : Result A TreeFault) (a : A) → cond b (Err fault) rest ≡ Ok a → (b ≡ false) × (rest ≡ Ok a)
+past true fault rest a e = absurd (cc)
+past false fault rest a e = (refl, e)
+
+in_room : {A : Type 0} (b : Bool) (fault : TreeFault) (v a : A) → cond b (Ok v) (Err fault) ≡ Ok a → v ≡ a
+in_room true fault v a e = is_Ok v a e
+in_room false fault v a e = absurd (cc)
+
+abbrev Kept : Tree → Tree → Type 0
+Kept t after = WellFormed after × (t.next ≤ after.next)
+
+adding : (t after : Tree) (dir x : ℕ) (name : List ℕ) (node : Node) → WellFormed t → is_name name ≡ true → target_fits node.kind node.target ≡ true
+    → add t dir name node ≡ Ok (x, after) → Kept t after
+adding t after dir x name node w is_one fits e =
+    let f = sound_from t w in
+    let a = past (not (is_dir t dir)) NotDir _ (x, after) e in
+    let b = past (is_some (look t dir name)) Taken _ (x, after) a.1 in
+    let grown = with_new t dir name node in
+    let is : grown ≡ after = ap (λ (p : ℕ × Tree). p.1) (in_room (has_room t) Full (t.next, grown) (x, after) b.1) in
+    subst (Kept t) is (well_formed_from grown (add_keeps t f dir name node (none (look t dir name) b.0) (not-false (is_dir t dir) a.0) is_one fits), omega arith)
+  where
+    none : (o : Option ℕ) → is_some o ≡ false → o ≡ None
+    none None h = refl
+    none (Some y) h = absurd (false≢true (sym h))
+
+cutting : (t after : Tree) (dir x : ℕ) (name : List ℕ) → WellFormed t → cut t dir name ≡ Ok (x, after) → Kept t after
+cutting t after dir x name w e = found (look t dir name) refl (past (not (is_dir t dir)) NotDir _ (x, after) e).1
+  where
+    found : (o : Option ℕ) → look t dir name ≡ o → cut_found t dir name o ≡ Ok (x, after) → Kept t after
+    found None is h = absurd (cc)
+    found (Some y) is h =
+        let a = past (is_full_dir t y) NotEmpty _ (x, after) h in
+        let left = without_unnamed (without_row t dir name) y in
+        let same : left ≡ after = ap (λ (p : ℕ × Tree). p.1) (is_Ok (y, left) (x, after) a.1) in
+        let next = next_stays (without_row t dir name) y in
+        subst (Kept t) same (well_formed_from left (cut_keeps t (sound_from t w) dir name y is a.0), omega arith)
+
+next_moved : (t : Tree) (from : ℕ) (name : List ℕ) (to : ℕ) (new_name : List ℕ) (x : ℕ) (there : Option ℕ) → (moved t from name to new_name x there).next ≡ t.next
+next_moved t from name to new_name x None = refl
+next_moved t from name to new_name x (Some y) = next_stays (with_row (without_row t from name) to new_name x) y
+
+shifting : (t after : Tree) (from to : ℕ) (name new_name : List ℕ) → WellFormed t → is_name new_name ≡ true → shift t from name to new_name ≡ Ok after → Kept t after
+shifting t after from to name new_name w is_one e = found (look t from name) refl start.1
+  where
+    start : (not (is_dir t from && is_dir t to) ≡ false) × (shift_found t from name to new_name (look t from name) (look t to new_name) ≡ Ok after)
+    start = past (not (is_dir t from && is_dir t to)) NotDir _ after e
+
+    both : (is_dir t from ≡ true) × (is_dir t to ≡ true)
+    both = and_parts (is_dir t from) (is_dir t to) (not-false _ start.0)
+
+    found : (o : Option ℕ) → look t from name ≡ o → shift_found t from name to new_name o (look t to new_name) ≡ Ok after → Kept t after
+    found None is h = absurd (cc)
+    found (Some x) is h = moves (is_same_node x (look t to new_name)) refl h
+      where
+        left : Tree
+        left = moved t from name to new_name x (look t to new_name)
+
+        moves : (b : Bool) → is_same_node x (look t to new_name) ≡ b → cond b (Ok t) (cond (is_inside t x to) (Err Inside) (cond (is_full_dir_there t (look t to new_name)) (Err NotEmpty) (Ok left))) ≡ Ok after → Kept t after
+        moves true same g = subst (Kept t) (is_Ok t after g) (w, omega arith)
+        moves false other g =
+            let a = past (is_inside t x to) Inside _ after g in
+            let b = past (is_full_dir_there t (look t to new_name)) NotEmpty _ after a.1 in
+            let next = next_moved t from name to new_name x (look t to new_name) in
+            subst (Kept t) (is_Ok left after b.1)
+            (well_formed_from left (moved_keeps t (sound_from t w) from name to new_name x is both.1 is_one a.0 (look t to new_name) refl other b.0), omega arith)
+
+pub edits_keep_trees : EditsKeepTrees
+edits_keep_trees = record { adding = adding; cutting = cutting; shifting = shifting }

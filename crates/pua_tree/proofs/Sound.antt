@@ -1,17 +1,17 @@
 -- A well-formed tree by its look-ups, and climbing by the number of steps to the root.
-use Rattle.std.proofs.Common.{◌≡◌, ◌≢◌, ◌⊎◌, ℕ, zero, suc, ◌+◌, ◌≤◌, ◌<◌, Bool, true, false, not, ◌&&◌, ◌||◌, cond, T, IsTrue, List, [], ◌∷◌, length, Option, Some, None, option_map, unwrap_or, is_some, count_by, nat_lt, nat_le, ◌==◌, refl, sym, ap, subst, ◌∙◌, arith, inl, inr, eqb-true, eq-eqb, ne_eqb, leb-true, le-leb, ltb-true, lt-ltb}
-use Rattle.std.specs.List.{list_all, list_any}
+use Rattle.std.proofs.Common.{◌≡◌, ◌≢◌, ℕ, zero, suc, ◌+◌, ◌≤◌, ◌<◌, Bool, true, false, cond, T, List, length, Option, Some, None, option_map, unwrap_or, is_some, ◌==◌, refl, sym, ap, subst, ◌∙◌, arith, inl, inr, eqb-true, eq-eqb, leb-true, le-leb, ltb-true, lt-ltb}
+use Rattle.std.specs.List.{list_any}
 use Rattle.std.specs.Ordering.{nat_cmp}
-use Rattle.std.specs.Cmp.{IsTotalOrder, nat_cmp_total}
+use Rattle.std.specs.Cmp.{nat_cmp_total}
 use Rattle.std.specs.FinMap.{find as find_key, is_sorted, nat_cmp-IsAntisymmetric}
 use Rattle.std.specs.FinMap.Entries.{length_without, is_sorted-where_key}
-use Rattle.std.proofs.lemmas.Bool.{and_parts, and_from, or_parts, or_cases, or_left, or_right, false≢true, not-true}
+use Rattle.std.proofs.lemmas.Bool.{and_parts, and_from, or_cases, or_left, or_right, false≢true, not-true}
 use Rattle.pua_tree.specs.Names.{is_name}
-use Rattle.pua_tree.specs.Tree.{Node, Spot, Tree, WellFormed, spot_cmp, node_at, is_dir, is_dir_kind, is_living, look, spot_of, above, climb, climb_within, rows_of, row_fits, node_fits, target_fits, rows_fit_kind}
+use Rattle.pua_tree.specs.Tree.{Node, Spot, Tree, WellFormed, spot_cmp, node_at, is_dir, is_dir_kind, is_living, above, climb_within, rows_of, row_fits, node_fits, target_fits, rows_fit_kind}
 use Rattle.pua_tree.specs.declared.node.Kind.{Kind}
 use Rattle.pua_tree.specs.declared.node.Kind.TheVariants.{Dir, File, Prog, Link}
 use Rattle.pua_tree.proofs.Content.{spots_total, exact_spots}
-use Rattle.pua_tree.proofs.Rows.{tally, tally_counts, is_Some, not_None, same_or_other, without, without_elsewhere, ties, all_found, all_from_found, found_from_tally, only_key, tally_found}
+use Rattle.pua_tree.proofs.Rows.{tally, tally_counts, without, without_elsewhere, all_found, all_from_found, found_from_tally, only_key}
 
 -- how many rows have the node
 abbrev pub rows_with : Tree → ℕ → ℕ
@@ -120,8 +120,8 @@ module _ (t : Tree) (f : Sound t) where
   steps_bound (suc k) d es h held dir r =
       let fewer = one_fewer d es h (held (suc k) d (omega arith) r dir) in
       let rest = steps_bound k (above t d) (others d es) (is_sorted-where_key nat_cmp _ es h)
-          (λ j e l way de. ap is_some (without_elsewhere nat_cmp nat_cmp_total nat_cmp-IsAntisymmetric e d es (λ s. let steps = same_steps t j (suc k) d (subst (Reaches t j) s way) r in omega arith)) ∙ held j e (omega arith) way de)
-          (above_dir d dir r.0) r.1 in
+      (λ j e l way de. ap is_some (without_elsewhere nat_cmp nat_cmp_total nat_cmp-IsAntisymmetric e d es (λ s. let steps = same_steps t j (suc k) d (subst (Reaches t j) s way) r in omega arith)) ∙ held j e (omega arith) way de)
+      (above_dir d dir r.0) r.1 in
       omega arith
 
   -- the climb as long as there are nodes has the root

@@ -8,7 +8,7 @@ mod node;
 mod tree;
 
 pub use fault::{ListingFault, NameFault, OutOfMemory, TreeFault};
-pub use laws::{listing_examples, tree_law};
+pub use laws::{edit_examples, edits_keep_trees, listing_examples, tree_law};
 pub use name::Name;
 pub use node::{Kind, NodeId};
 pub use tree::FileTree;
