@@ -13,7 +13,7 @@ use Rattle.pua_tree.specs.Laws.{EditsKeepTrees}
 use Rattle.pua_tree.specs.declared.fault.TreeFault.{TreeFault}
 use Rattle.pua_tree.specs.declared.fault.TreeFault.TheVariants.{Taken, NotDir, NotEmpty, Inside, Full}
 use Rattle.pua_tree.proofs.Content.{spots_total, exact_spots}
-use Rattle.pua_tree.proofs.Rows.{one, one_at, tally_counts, tally-put, tally-without, is_Some, not_None, same_or_other, put_here, put_elsewhere, without_here, without_elsewhere, found_from_tally, tally_found, none_found}
+use Rattle.pua_tree.proofs.Tallies.{one, one_at, tally_counts, tally-put, tally-without, is_Some, not_None, same_or_other, put_here, put_elsewhere, without_here, without_elsewhere, found_from_tally, tally_found, none_found}
 use Rattle.pua_tree.proofs.Sound.{Sound, Reaches, InRow, rows_with, above_is, row_parts, row_says, row_of, above_dir, climb_ends, sound_from, well_formed_from}
 
 same_spot_or_other : (s r : Spot) → (s ≡ r) ⊎ (s ≢ r)

@@ -11,7 +11,7 @@ use Rattle.pua_tree.specs.Tree.{Node, Spot, Tree, WellFormed, spot_cmp, node_at,
 use Rattle.pua_tree.specs.declared.node.Kind.{Kind}
 use Rattle.pua_tree.specs.declared.node.Kind.TheVariants.{Dir, File, Prog, Link}
 use Rattle.pua_tree.proofs.Content.{spots_total, exact_spots}
-use Rattle.pua_tree.proofs.Rows.{tally, tally_counts, without, without_elsewhere, all_found, all_from_found, found_from_tally, only_key}
+use Rattle.pua_tree.proofs.Tallies.{tally, tally_counts, without, without_elsewhere, all_found, all_from_found, found_from_tally, only_key}
 
 -- how many rows have the node
 abbrev pub rows_with : Tree → ℕ → ℕ

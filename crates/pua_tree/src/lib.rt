@@ -3,12 +3,16 @@
 
 mod fault;
 mod laws;
+mod list;
 mod name;
 mod node;
+mod spelling;
 mod tree;
 
 pub use fault::{ListingFault, NameFault, OutOfMemory, TreeFault};
 pub use laws::{edit_examples, edits_keep_trees, listing_examples, tree_law};
+pub use list::ListTree;
 pub use name::Name;
 pub use node::{Kind, NodeId};
+pub use spelling::{SpelledByte, byte_spelling, unspelled};
 pub use tree::FileTree;
