@@ -4,6 +4,7 @@
 mod fault;
 mod laws;
 mod list;
+mod list_edits;
 mod name;
 mod node;
 mod spelling;
