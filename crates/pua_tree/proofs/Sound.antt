@@ -1,11 +1,11 @@
 -- A well-formed tree by its look-ups, and climbing by the number of steps to the root.
-use Rattle.std.proofs.Common.{◌≡◌, ◌≢◌, ℕ, zero, suc, ◌+◌, ◌≤◌, ◌<◌, Bool, true, false, cond, T, List, length, Option, Some, None, option_map, unwrap_or, is_some, ◌==◌, refl, sym, ap, subst, ◌∙◌, arith, inl, inr, eqb-true, eq-eqb, leb-true, le-leb, ltb-true, lt-ltb}
+use Rattle.std.proofs.Common.{◌≡◌, ◌≢◌, ℕ, zero, suc, ◌+◌, ◌≤◌, ◌<◌, Bool, true, false, ◌||◌, cond, T, List, length, Option, Some, None, option_map, unwrap_or, is_some, ◌==◌, refl, sym, ap, subst, ◌∙◌, arith, inl, inr, eqb-true, eq-eqb, leb-true, le-leb, ltb-true, lt-ltb}
 use Rattle.std.specs.List.{list_any}
 use Rattle.std.specs.Ordering.{nat_cmp}
 use Rattle.std.specs.Cmp.{nat_cmp_total}
 use Rattle.std.specs.FinMap.{find as find_key, is_sorted, nat_cmp-IsAntisymmetric}
 use Rattle.std.specs.FinMap.Entries.{length_without, is_sorted-where_key}
-use Rattle.std.proofs.lemmas.Bool.{and_parts, and_from, or_cases, or_left, or_right, false≢true, not-true}
+use Rattle.std.proofs.lemmas.Bool.{and_parts, and_from, or_cases, or_from, or_left, or_right, false≢true, not-true}
 use Rattle.pua_tree.specs.Names.{is_name}
 use Rattle.pua_tree.specs.Tree.{Node, Spot, Tree, WellFormed, spot_cmp, node_at, is_dir, is_dir_kind, is_living, above, climb_within, rows_of, row_fits, node_fits, target_fits, rows_fit_kind}
 use Rattle.pua_tree.specs.declared.node.Kind.{Kind}
@@ -70,6 +70,24 @@ climbs t (suc n) (suc d) h =
       | inl e ↦ (let same = eqb-true (suc d) 0 e in absurd (omega arith))
       | inr e ↦ (let up = climbs t n (above t (suc d)) e in (suc up.0, (λ z. omega arith, up.1)))
     ]
+
+-- whether a climb passes by a node, step by step
+pub climb_here : (t : Tree) (n d x : ℕ) → (d == x) ≡ true → list_any (λ e. e == x) (climb_within n t d) ≡ true
+climb_here t zero d x h = or_left (d == x) false h
+climb_here t (suc n) zero x h = or_left (0 == x) false h
+climb_here t (suc n) (suc d) x h = or_left (suc d == x) _ h
+
+pub climb_root : (t : Tree) (n d x : ℕ) → (d == x) ≡ false → d ≡ 0 → list_any (λ e. e == x) (climb_within n t d) ≡ false
+climb_root t zero d x h e = or_from (d == x) false h refl
+climb_root t (suc n) zero x h e = or_from (0 == x) false h refl
+climb_root t (suc n) (suc d) x h e = absurd (omega arith)
+
+pub climb_more : (t : Tree) (n d x : ℕ) → (d == x) ≡ false → d ≢ 0 → list_any (λ e. e == x) (climb_within (suc n) t d) ≡ list_any (λ e. e == x) (climb_within n t (above t d))
+climb_more t n zero x h z = absurd (z refl)
+climb_more t n (suc d) x h z = ap (λ b. b || list_any (λ e. e == x) (climb_within n t (above t (suc d)))) h
+
+pub climb_last : (t : Tree) (d x : ℕ) → list_any (λ e. e == x) (climb_within 0 t d) ≡ (d == x)
+climb_last t d x = elim (d == x) as (λ b. (b || false) ≡ b) [ true ↦ refl | false ↦ refl ]
 
 -- a row of a sound tree
 abbrev pub InRow : Tree → Spot → ℕ → Type 0

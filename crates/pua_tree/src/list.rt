@@ -180,8 +180,11 @@ impl ListTree {
     {
         let mut at = dir;
         for _ in 0..self.nodes.len() {
-            if at == node || at == NodeId::ROOT {
-                return at == node;
+            if at == node {
+                return true;
+            }
+            if at == NodeId::ROOT {
+                return false;
             }
             at = dir_above(&self.rows, at);
         }
