@@ -37,7 +37,7 @@ pub record Sound (t : Tree) : Type 0 where
 passed : (b : Bool) → b ≡ true → T b
 passed b e = subst T (sym e) tt
 
-holds : (b : Bool) → T b → b ≡ true
+pub holds : (b : Bool) → T b → b ≡ true
 holds true h = refl
 holds false h = absurd h
 

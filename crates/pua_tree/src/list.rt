@@ -49,10 +49,11 @@ impl Model for ListTree {
     ghost invariant = { λ a. WellFormed (held_tree a.rows.items a.nodes.items a.next) };
 }
 
-ghost use Rattle.std.specs.Prelude.{ℕ, ◌≡◌, ◌≢◌, ◌<◌, ◌≤◌, Some, None, Ok, Err, IsTrue, IfOk, IfErr, IfSome, MatchResult, MatchOption, ◌==◌, unwrap_or, find, length, map, option_map, option_copied};
+ghost use Rattle.std.specs.Prelude.{ℕ, ◌≡◌, ◌≢◌, ◌<◌, ◌≤◌, Some, None, Ok, Err, IsTrue, IfOk, IfErr, IfSome, OnOk, MatchResult, MatchOption, ◌==◌, unwrap_or, find, length, map, option_map, option_copied};
 ghost use Rattle.std.specs.List.{HoldsAt, insert, list_any};
 ghost use Rattle.std.specs.Ordering.{nat_cmp};
 ghost use Rattle.std.specs.FinMap.{is_sorted, find as find_key, put};
+ghost use Rattle.pua_tree.specs.Names.{is_name};
 ghost use Rattle.pua_tree.specs.Tree as tree;
 ghost use Rattle.pua_tree.specs.Tree.{spot_cmp, is_dir, look, climb, distinct_names};
 ghost use Rattle.pua_tree.specs.Edits.{add, cut, shift, is_full_dir, has_room, with_new, without_row, without_unnamed, moved};
@@ -196,7 +197,10 @@ impl ListTree {
         ensures exact { MatchResult result
             (λ _. (node : tree.Node) → add self.now dir name.now node ≡ Ok (self.now.next, with_new self.now dir name.now node))
             (λ fault. (fault ≢ TreeFault.OutOfMemory) × ((node : tree.Node) → add self.now dir name.now node ≡ Err fault)) }
+        ensures number { OnOk result (self.now.next < 4294967295) }
+        ensures name { IsTrue (is_name name.now) }
     {
+        name.known();
         if !self.is_dir(dir) {
             return Err(TreeFault::NotDir);
         }
@@ -232,7 +236,9 @@ impl ListTree {
                 (λ node. shift self.now from name.now to new_name.now ≡ Ok (moved self.now from name.now to new_name.now node (look self.now to new_name.now))))
             (λ fault. (fault ≢ TreeFault.OutOfMemory) × (shift self.now from name.now to new_name.now ≡ Err fault)) }
         ensures found { IfOk result (λ moves. IfSome moves (λ node. look self.now from name.now ≡ Some node)) }
+        ensures name { IsTrue (is_name new_name.now) }
     {
+        new_name.known();
         if !(self.is_dir(from) && self.is_dir(to)) {
             return Err(TreeFault::NotDir);
         }
