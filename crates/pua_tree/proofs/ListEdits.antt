@@ -43,18 +43,22 @@ named_kept rows nodes x next some =
     let t = held_tree rows nodes next in
     sym (ap (λ b. cond b (without_node t x) t) (rows_none rows x ∙ ap not some))
 
-pub sorted_without : (p : tree.Spot → Bool) (es : List (tree.Spot × ℕ)) → IsTrue (is_sorted tree.spot_cmp es) → IsTrue (is_sorted tree.spot_cmp (where_key tree.spot_cmp p es))
-sorted_without p es h = holds _ (is_sorted-where_key tree.spot_cmp p es (passed _ h))
+pub sorted_without : (dir : ℕ) (name : List ℕ) (es : List (tree.Spot × ℕ)) → IsTrue (is_sorted tree.spot_cmp es)
+    → IsTrue (is_sorted tree.spot_cmp (where_key tree.spot_cmp (λ spot. not (is_eq (tree.spot_cmp (dir, name) spot))) es))
+sorted_without dir name es h = holds _ (is_sorted-where_key tree.spot_cmp (λ spot. not (is_eq (tree.spot_cmp (dir, name) spot))) es (passed _ h))
 
 pub row_gone : (rows left : List Row) (nodes : List Node) (next dir : ℕ) (name : List ℕ)
     → map row_entry left ≡ where_key tree.spot_cmp (λ spot. not (is_eq (tree.spot_cmp (dir, name) spot))) (map row_entry rows)
     → held_tree left nodes next ≡ without_row (held_tree rows nodes next) dir name
 row_gone rows left nodes next dir name e = λ i. record { rows = e i; nodes = map node_entry nodes; next = next }
 
-pub row_came : (rows more : List Row) (nodes : List Node) (next dir : ℕ) (name : List ℕ) (x : ℕ)
-    → map row_entry more ≡ put tree.spot_cmp (dir, name) x (map row_entry rows)
-    → held_tree more nodes next ≡ with_row (held_tree rows nodes next) dir name x
-row_came rows more nodes next dir name x e = λ i. record { rows = e i; nodes = map node_entry nodes; next = next }
+pub row_moved : (rows left more : List Row) (nodes : List Node) (next from : ℕ) (name : List ℕ) (to : ℕ) (new_name : List ℕ) (x : ℕ)
+    → map row_entry left ≡ where_key tree.spot_cmp (λ spot. not (is_eq (tree.spot_cmp (from, name) spot))) (map row_entry rows)
+    → map row_entry more ≡ put tree.spot_cmp (to, new_name) x (map row_entry left)
+    → held_tree more nodes next ≡ with_row (without_row (held_tree rows nodes next) from name) to new_name x
+row_moved rows left more nodes next from name to new_name x took came =
+    let moved = came ∙ ap (put tree.spot_cmp (to, new_name) x) took in
+    λ i. record { rows = moved i; nodes = map node_entry nodes; next = next }
 
 numbers_below : (t : tree.Tree) (es : List (ℕ × tree.Node)) → list_all (node_fits t) es ≡ true → list_all (λ e. ltb e.0 t.next) es ≡ true
 numbers_below t [] h = refl
