@@ -55,9 +55,9 @@ ghost use Rattle.std.specs.Ordering.{nat_cmp};
 ghost use Rattle.std.specs.FinMap.{is_sorted, find as find_key, put};
 ghost use Rattle.pua_tree.specs.Names.{is_name};
 ghost use Rattle.pua_tree.specs.Tree as tree;
-ghost use Rattle.pua_tree.specs.Tree.{spot_cmp, is_dir, look, climb, distinct_names};
+ghost use Rattle.pua_tree.specs.Tree.{WellFormed, spot_cmp, is_dir, look, climb, distinct_names};
 ghost use Rattle.pua_tree.specs.Edits.{add, cut, shift, is_full_dir, has_room, with_new, without_row, without_unnamed, moved};
-ghost use Rattle.pua_tree.specs.ListTree.{row_entry, node_entry, made_of};
+ghost use Rattle.pua_tree.specs.ListTree.{row_entry, node_entry, made_of, held_tree};
 
 impl FileTree for ListTree {
     ghost content = { λ t. t };
@@ -155,6 +155,14 @@ impl FileTree for ListTree {
 }
 
 impl ListTree {
+    /// The tree of these rows, nodes and next number.
+    pub(crate) fn new(rows: Vec<Row>, nodes: Vec<Node>, next: u32) -> ListTree
+        requires { WellFormed (held_tree rows.items nodes.items next) }
+        ensures { result ≡ held_tree rows.items nodes.items next }
+    {
+        ListTree { rows, nodes, next }
+    }
+
     fn is_dir(&self, id: NodeId) -> bool
         ensures { result ≡ is_dir self.now id }
     {
