@@ -1,13 +1,13 @@
 -- How far the lines of a listing have been read.
-use Rattle.std.proofs.Common.{◌≡◌, ◌≢◌, ◌≤◌, ◌+◌, ℕ, suc, List, [], ◌∷◌, ◌++◌, length, Ok, Err, sym, ap, subst, ◌∙◌, refl, true, false, cond, Bool, map, arith, length-append, add-one}
-use Rattle.std.specs.Prelude.{codes, IsTrue}
+use Rattle.std.proofs.Common.{◌≡◌, ◌≢◌, ◌≤◌, ◌+◌, ℕ, suc, List, [], ◌∷◌, ◌++◌, length, Ok, Err, sym, ap, ◌∙◌, refl, true, false, map, arith, length-append, add-one}
+use Rattle.std.specs.Prelude.{codes}
 use lib.Pointwise.{bytes_decides}
 use Rattle.pua_tree.specs.Names.{same_bytes}
 use Rattle.pua_tree.specs.Tree.{WellFormed}
 use Rattle.pua_tree.specs.Listing as listing
 use Rattle.pua_tree.specs.Listing.{entry_of, entries_of, tree_of, after_header, listing_of_lines}
 use Rattle.pua_tree.specs.ListTree.{held_tree}
-use Rattle.pua_tree.specs.Reading.{Gathers, gathered_tree}
+use Rattle.pua_tree.specs.Reading.{Gathers}
 use Rattle.pua_tree.specs.declared.listing.Reading.{Reading}
 use Rattle.pua_tree.specs.declared.fault.ListingFault.{ListingFault}
 use Rattle.pua_tree.specs.declared.fault.ListingFault.TheVariants.{BadHeader, BadLine}
