@@ -1,5 +1,5 @@
 -- Edits of the lists that hold a tree, as edits of the tree.
-use Rattle.std.proofs.Common.{◌≡◌, ℕ, ◌+◌, ◌++◌, ltb, IsTrue, Bool, true, false, not, ◌&&◌, ◌||◌, cond, List, [], ◌∷◌, map, ◌==◌, count_by, eqb, refl, sym, ap, ◌∙◌}
+use Rattle.std.proofs.Common.{◌≡◌, ℕ, ◌+◌, ◌++◌, ltb, IsTrue, true, false, not, ◌&&◌, ◌||◌, cond, List, [], ◌∷◌, map, ◌==◌, count_by, eqb, refl, sym, ap, ◌∙◌}
 use Rattle.std.specs.List.{list_all, list_any}
 use Rattle.std.specs.Ordering.{nat_cmp, is_eq}
 use Rattle.std.specs.FinMap.{is_sorted, put}

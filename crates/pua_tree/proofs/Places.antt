@@ -1,12 +1,12 @@
 -- Where a key stands among entries in order, as a binary search finds it.
-use Rattle.std.proofs.Common.{◌≡◌, ◌≢◌, ◌<◌, ◌≤◌, ◌+◌, ℕ, zero, suc, List, [], ◌∷◌, ◌++◌, length, get_or, set, not, map, take, drop, Option, Some, None, Result, Ok, Err, MatchResult, IfOk, IfErr, Bool, true, false, cond, T, IsTrue, ◌&&◌, refl, sym, ap, subst, ◌∙◌, inl, inr, arith}
+use Rattle.std.proofs.Common.{◌≡◌, ◌≢◌, ◌<◌, ◌≤◌, ℕ, zero, suc, List, [], ◌∷◌, length, get_or, set, not, map, Some, None, Result, Ok, Err, IfOk, IfErr, Bool, true, false, cond, T, IsTrue, ◌&&◌, refl, sym, ap, subst, ◌∙◌, inl, inr, arith}
 use Rattle.std.proofs.lemmas.Bool.{cases_lt}
-use Rattle.std.specs.List.{insert, remove, HoldsAt, AllWithin}
+use Rattle.std.specs.List.{insert, remove, HoldsAt}
 use Rattle.std.specs.List.Sorted.{IsNonDecreasingBy, IsBinarySearchResult, IsSearchInRange}
 use Rattle.std.specs.declared.cmp.Ordering.{Ordering}
 use Rattle.std.specs.declared.cmp.Ordering.TheVariants.{Less, Equal, Greater}
-use Rattle.std.specs.Ordering.{eq_by_cmp, is_eq, is_lt, ordering_reverse, ordering_index}
-use Rattle.std.specs.Cmp.{IsTotalOrder, tied_back, tied_itself, alike_right}
+use Rattle.std.specs.Ordering.{is_eq, is_lt, ordering_reverse, ordering_index}
+use Rattle.std.specs.Cmp.{IsTotalOrder, tied_itself, alike_right}
 use Rattle.std.specs.FinMap.{find, put, is_sorted}
 use Rattle.std.specs.FinMap.Entries.{where_key, below_all, by_order}
 

@@ -1,4 +1,4 @@
-use Rattle.std.proofs.Common.{◌≡◌, ◌∙◌, List, map, refl}
+use Rattle.std.proofs.Common.{refl}
 use Rattle.pua_tree.specs.Tree.{Spot}
 use Rattle.pua_tree.specs.ListTree.{row_entry}
 use Rattle.pua_tree.proofs.Content.{spots_total}

@@ -1,4 +1,4 @@
-use Rattle.std.proofs.Common.{◌≡◌, ◌∙◌, sym}
+use Rattle.std.proofs.Common.{sym}
 use Rattle.std.specs.Cmp.{nat_cmp_total}
 use Rattle.pua_tree.specs.ListTree.{node_entry}
 use Rattle.pua_tree.proofs.Places.{passed, removed_at, absent_removed}

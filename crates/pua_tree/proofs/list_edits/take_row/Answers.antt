@@ -1,4 +1,3 @@
-use Rattle.std.proofs.Common.{◌≡◌, ◌∙◌}
 use Rattle.pua_tree.specs.Tree.{Spot}
 use Rattle.pua_tree.specs.ListTree.{row_entry}
 use Rattle.pua_tree.proofs.Content.{spots_total}

@@ -1,4 +1,4 @@
-use Rattle.std.proofs.Common.{ℕ, ◌≡◌, ◌+◌, ◌-◌, ◌==◌, ◌∙◌, sym, ap, arith, suc, true, false, refl, map, eqb-true}
+use Rattle.std.proofs.Common.{◌≡◌, ◌-◌, ◌==◌, ◌∙◌, sym, ap, arith, suc, true, false, refl, map, eqb-true}
 use Rattle.std.specs.List.{list_any}
 use Rattle.std.proofs.lemmas.Bool.{eqb-false}
 use Rattle.pua_tree.specs.Tree.{climb_within, above}

@@ -1,8 +1,8 @@
-use Rattle.std.proofs.Common.{◌≡◌, ◌∙◌, ℕ, ◌+◌, List, [], ◌∷◌, ◌++◌, Ok, sym, ap, subst, rules, map, option_map, option_copied}
+use Rattle.std.proofs.Common.{◌≡◌, ◌∙◌, ◌+◌, List, [], ◌∷◌, ◌++◌, Ok, sym, ap, subst, rules, map, option_map, option_copied}
 use Rattle.std.specs.FinMap.{put}
 use Rattle.pua_tree.specs.Tree as tree
 use Rattle.pua_tree.specs.Tree.{WellFormed, spot_cmp}
-use Rattle.pua_tree.specs.Edits.{add, with_new}
+use Rattle.pua_tree.specs.Edits.{with_new}
 use Rattle.pua_tree.specs.ListTree.{held_tree, row_entry, node_entry}
 use Rattle.pua_tree.specs.declared.list.Node.{Node}
 use Rattle.pua_tree.proofs.EditsKeep.{edits_keep_trees}

@@ -1,7 +1,7 @@
-use Rattle.std.proofs.Common.{◌≡◌, ◌∙◌, ℕ, Ok, sym, ap, subst}
+use Rattle.std.proofs.Common.{◌≡◌, ◌∙◌, Ok, sym, ap, subst}
 use Rattle.pua_tree.specs.Tree as tree
 use Rattle.pua_tree.specs.Tree.{WellFormed}
-use Rattle.pua_tree.specs.Edits.{cut, without_row, without_unnamed}
+use Rattle.pua_tree.specs.Edits.{without_row, without_unnamed}
 use Rattle.pua_tree.specs.ListTree.{held_tree}
 use Rattle.pua_tree.proofs.EditsKeep.{edits_keep_trees}
 use Rattle.pua_tree.proofs.ListEdits.{row_gone}
