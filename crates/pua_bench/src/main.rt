@@ -1,0 +1,72 @@
+//! Measures what docs/BENCHMARKS.md tells: how long one reading of a listing, or one resolution of a
+//! path, takes. Without words it says how it is called.
+#![tactic(auto)]
+
+use anyhow::{Result, anyhow, bail};
+use pua_path::{Counted, Ending, Last, PathText, Probe, resolve};
+use pua_tree::{ListTree, NodeId, read_listing};
+use std::env;
+use std::fs;
+use std::rt::{Clock, Files};
+use std::time::Instant;
+
+const USAGE: &str = "pua_bench read LISTING TURNS; pua_bench resolve LISTING PATH TURNS";
+
+fn main(rt: HostRuntime) -> Result<()> {
+    let mut words = Vec::new(rt.alloc());
+    for word in env::args(&rt)?.skip(1) {
+        words.push(word)?;
+    }
+    let word = |at: usize| words.get(at).map_or("", |word| word.as_str());
+    match word(0) {
+        "read" => read(&rt, word(1), word(2)),
+        "resolve" => resolution(&rt, word(1), word(2), word(3)),
+        _ => Ok(println!(rt; "{USAGE}")?),
+    }
+}
+
+fn tree_of<R: AllocGlobal>(rt: &R, bytes: &[u8]) -> Result<ListTree> {
+    read_listing(rt.alloc(), bytes).map_err(|fault| anyhow!("{fault}"))
+}
+
+/// Reads a listing so many times.
+fn read<R: AllocGlobal + Clock + Files + Print>(rt: &R, listing: &str, turns: &str) -> Result<()> {
+    let bytes = fs::read(rt, listing)?;
+    let turns: u32 = turns.parse()?;
+    let start = Instant::now(rt)?;
+    for _ in 0..turns {
+        tree_of(rt, bytes.as_slice())?;
+    }
+    let micros = start.elapsed(rt)?.as_micros();
+    let each = micros / u128::from(turns.max(1));
+    Ok(println!(rt; "{each} us a reading")?)
+}
+
+/// Resolves a path so many times.
+fn resolution<R: AllocGlobal + Clock + Files + Print>(
+    rt: &R,
+    listing: &str,
+    path: &str,
+    turns: &str,
+) -> Result<()> {
+    let bytes = fs::read(rt, listing)?;
+    let tree = tree_of(rt, bytes.as_slice())?;
+    let turns: u32 = turns.parse()?;
+    let Ok(text) = PathText::read(path.as_bytes(), Ending::Dot) else {
+        bail!("no path: {path}");
+    };
+    let start = Instant::now(rt)?;
+    let probes = probes_of(&tree, &text, turns);
+    let nanos = start.elapsed(rt)?.as_nanos();
+    let each = nanos / u128::from(turns.max(1));
+    Ok(println!(rt; "{each} ns a resolution, {probes} looks in all")?)
+}
+
+/// How often so many resolutions look at a tree.
+fn probes_of(tree: &ListTree, text: &PathText<'_>, turns: u32) -> u64 {
+    let mut probe = Counted::new(tree);
+    for _ in 0..turns {
+        let _ = resolve(&mut probe, NodeId::ROOT, text, Last::Followed);
+    }
+    probe.probes()
+}
