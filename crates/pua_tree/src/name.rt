@@ -1,11 +1,10 @@
 //! Names in directories.
 
+use crate::fault::NameFault;
 use std::cmp::Ordering;
 use std::fmt;
 use std::hash::{Hash, Hasher};
 use std::marker::Model;
-
-use crate::fault::NameFault;
 
 /// The name of a row: 1 to 255 bytes without NUL or slash, and neither `.` nor `..`. It is kept
 /// inline, so that a copy takes no memory. Contracts see the list of its bytes.
