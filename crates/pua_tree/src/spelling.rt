@@ -62,7 +62,9 @@ pub fn unspelled(alloc: Global, text: &[u8]) -> Result<Option<Vec<u8>>, OutOfMem
     let Some(len) = unspell_into(text, &mut []) else {
         return Ok(None);
     };
-    let mut bytes = vec![in alloc; 0; len].map_err(|_refused| OutOfMemory)?;
+    let Ok(mut bytes) = vec![in alloc; 0; len] else {
+        return Err(OutOfMemory);
+    };
     unspell_into(text, bytes.as_mut_slice());
     Ok(Some(bytes))
 }
