@@ -1,6 +1,7 @@
 //! The whole program, as a function over its inputs and outputs.
 
-ghost use Rattle.std.specs.Prelude.{◌≡◌, ◌≤◌, ◌⊎◌};
+ghost use Rattle.std.specs.Prelude.{◌≡◌, ◌≢◌, ◌≤◌};
+ghost use Rattle.pua_tool.specs.Statuses.{status_of};
 
 use std::alloc::Global;
 use std::fmt;
@@ -36,7 +37,7 @@ pub fn command<I: Inputs, O: Sink, E: Sink>(
     err: &mut E,
 ) -> u8
     ensures status { result ≤ MEMORY }
-    ensures unwritten { (result ≡ REFUSED) ⊎ ((result ≡ USAGE) ⊎ (result ≡ MEMORY)) → O.written out.new ≡ O.written out.old }
+    ensures unwritten { result ≢ DONE → result ≢ DEVICE → O.written out.new ≡ O.written out.old }
 {
     match read_words(alloc, words) {
         Ok(asked) => audit(alloc, &asked, inputs, out, err),
@@ -58,7 +59,10 @@ fn audit<I: Inputs, O: Sink, E: Sink>(
     inputs: &mut I,
     out: &mut O,
     err: &mut E,
-) -> u8 {
+) -> u8
+    ensures status { result ≤ MEMORY }
+    ensures unwritten { result ≢ DONE → result ≢ DEVICE → O.written out.new ≡ O.written out.old }
+{
     let tree = match inputs.take(alloc, asked.tree) {
         Ok(bytes) => bytes,
         Err(fault) => return tell_input(fault, asked.tree, err),
@@ -81,7 +85,9 @@ fn audit<I: Inputs, O: Sink, E: Sink>(
 }
 
 /// Tells that an input is not there, and answers the status.
-fn tell_input<E: Sink>(fault: InputFault, name: &str, err: &mut E) -> u8 {
+fn tell_input<E: Sink>(fault: InputFault, name: &str, err: &mut E) -> u8
+    ensures { result ≤ MEMORY }
+{
     match fault {
         InputFault::Unreadable => {
             tell(err, format_args!("pua: cannot read {name}"));
@@ -92,7 +98,9 @@ fn tell_input<E: Sink>(fault: InputFault, name: &str, err: &mut E) -> u8 {
 }
 
 /// Tells a fault, and answers its status.
-fn tell_fault<E: Sink>(fault: ToolFault, err: &mut E) -> u8 {
+fn tell_fault<E: Sink>(fault: ToolFault, err: &mut E) -> u8
+    ensures { result ≡ status_of fault }
+{
     tell(err, fault);
     match fault {
         ToolFault::Write => DEVICE,

@@ -119,27 +119,34 @@ impl Sink for MemorySink {
 }
 
 /// A sink over a writer, which tells its bytes where the writer does. A write of no bytes, of a text
-/// that has some, is a put that failed.
+/// that has some, is a put that failed. Contracts see the writer, and how many puts failed.
 #[derive(Drop)]
 pub struct StreamSink<W: Write + Drop> {
     writer: W,
     failed: u64,
 }
 
+impl<W: Write + Drop> Model for StreamSink<W> {
+    ghost use Rattle.std.specs.Prelude.{ℕ};
+
+    ghost Value = { W × ℕ };
+
+    ghost view = { λ s. (s.writer, s.failed) };
+}
+
 impl<W: Write + Drop> StreamSink<W> {
     /// A sink over this writer, no put of which failed yet.
     pub fn new(writer: W) -> StreamSink<W>
-        ensures writer { result.writer ≡ writer }
-        ensures failed { result.failed ≡ 0 }
+        ensures { result ≡ (writer, 0) }
     {
         StreamSink { writer, failed: 0 }
     }
 
     /// Hands on what the writer still holds back. A flush that fails counts as a put that failed.
     pub fn flush(&mut self) -> Result<(), PutFault>
-        ensures bytes { Keeps (W.contents self.old.writer) (W.contents self.new.writer) }
-        ensures unfailed { OnOk result (self.new.failed ≡ self.old.failed) }
-        ensures rises { OnErr result (self.new.failed ≡ counted self.old.failed) }
+        ensures bytes { Keeps (W.contents self.old.0) (W.contents self.new.0) }
+        ensures unfailed { OnOk result (self.new.1 ≡ self.old.1) }
+        ensures rises { OnErr result (self.new.1 ≡ counted self.old.1) }
     {
         match self.writer.flush() {
             Ok(()) => Ok(()),
@@ -148,8 +155,7 @@ impl<W: Write + Drop> StreamSink<W> {
     }
 
     fn fault(&mut self) -> PutFault
-        ensures writer { self.new.writer ≡ self.old.writer }
-        ensures rises { self.new.failed ≡ counted self.old.failed }
+        ensures { self.new ≡ (self.old.0, counted self.old.1) }
     {
         self.failed = self.failed.saturating_add(1);
         PutFault
@@ -157,9 +163,9 @@ impl<W: Write + Drop> StreamSink<W> {
 }
 
 impl<W: Write + Drop> Sink for StreamSink<W> {
-    ghost written = { λ sink. W.contents sink.writer };
+    ghost written = { λ sink. W.contents sink.0 };
 
-    ghost failed = { λ sink. sink.failed };
+    ghost failed = { λ sink. sink.1 };
 
     fn put(&mut self, bytes: &[u8]) -> Result<usize, PutFault> {
         match self.writer.write(bytes) {

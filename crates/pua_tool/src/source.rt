@@ -7,6 +7,7 @@ ghost use Rattle.pua_tool.specs.Sources.{CantBeRead, most_bytes};
 
 use std::alloc::Global;
 use std::io::Read;
+use std::marker::Model;
 
 use crate::inputs::InputFault;
 
@@ -37,7 +38,7 @@ pub trait Source {
 }
 
 /// A reader with the counts of its reads and of their failures. Every error of the reader is a read
-/// that failed.
+/// that failed. Contracts see the reader, how many reads were asked for, and how many failed.
 #[derive(Drop)]
 pub struct ReadSource<R: Read + Drop> {
     reader: R,
@@ -45,12 +46,18 @@ pub struct ReadSource<R: Read + Drop> {
     failures: u64,
 }
 
+impl<R: Read + Drop> Model for ReadSource<R> {
+    ghost use Rattle.std.specs.Prelude.{ℕ};
+
+    ghost Value = { R × ℕ × ℕ };
+
+    ghost view = { λ s. (s.reader, s.reads, s.failures) };
+}
+
 impl<R: Read + Drop> ReadSource<R> {
     /// This reader, not read yet.
     pub fn new(reader: R) -> ReadSource<R>
-        ensures reader { result.reader ≡ reader }
-        ensures reads { result.reads ≡ 0 }
-        ensures failures { result.failures ≡ 0 }
+        ensures { result ≡ (reader, 0, 0) }
     {
         ReadSource {
             reader,
@@ -61,11 +68,11 @@ impl<R: Read + Drop> ReadSource<R> {
 }
 
 impl<R: Read + Drop> Source for ReadSource<R> {
-    ghost remaining = { λ source. R.remaining source.reader };
+    ghost remaining = { λ source. R.remaining source.0 };
 
-    ghost reads = { λ source. source.reads };
+    ghost reads = { λ source. source.1 };
 
-    ghost failures = { λ source. source.failures };
+    ghost failures = { λ source. source.2 };
 
     fn read(&mut self, buffer: &mut [u8]) -> Result<usize, ReadFault> {
         self.reads = self.reads.saturating_add(1);
