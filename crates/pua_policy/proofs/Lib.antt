@@ -1,3 +1,4 @@
+pub mod Sets
 pub mod Veils
 pub mod Narrowing
 pub mod Standing

@@ -6,7 +6,7 @@ use Rattle.pua_tree.specs.Tree.{Tree}
 use Rattle.pua_path.specs.declared.found.Found.{Found}
 use Rattle.pua_policy.specs.declared.place.Place.{Place}
 use Rattle.pua_policy.specs.declared.place.Place.TheVariants.{Dir}
-use Rattle.pua_policy.specs.History.{History, Pledged, Unveiled, Locked, Moved, Ended, kept, veils, with_veil, same_place, pledged, held_for_exec, is_locked, is_ended, working_dir}
+use Rattle.pua_policy.specs.History.{History, Pledged, Unveiled, Locked, Moved, Ended, kept, veils, with_veil, veil_at, same_place, pledged, held_for_exec, is_locked, is_ended, working_dir}
 use Rattle.pua_policy.specs.History.{is_within, place_limit, may_any}
 use Rattle.pua_policy.specs.Verdict.{is_unveil, cover, nearest, place_of, directories_over, cover_fault, or_fault, object_fault, object_of, allowed_unless, if_promised, verdict_of}
 use Rattle.pua_policy.specs.Promises.{holds, all_promises, error}
@@ -22,7 +22,7 @@ use Rattle.pua_policy.specs.declared.answer.May.{May}
 use Rattle.pua_policy.specs.declared.answer.May.TheVariants.{Yes, Enosys, Death}
 use Rattle.pua_policy.specs.declared.answer.UnveilFault.{UnveilFault}
 use Rattle.pua_policy.specs.declared.answer.UnveilFault.TheVariants.{NotPermitted, TooManyPlaces}
-use Rattle.pua_policy.specs.Laws.{ProcessesDecide, veil_at}
+use Rattle.pua_policy.specs.Laws.{ProcessesDecide}
 use Rattle.pua_policy.proofs.Veils.{veils_are_kept}
 
 is_some_veil : List (Place × ℕ) → Bool

@@ -65,6 +65,11 @@ is_within None given = true
 is_within (Some request) None = true
 is_within (Some request) (Some given) = holds given request
 
+-- what is given after a request: what both name, and before the first what it names
+abbrev pub narrowed : Option ℕ → Option ℕ → Option ℕ
+narrowed given None = given
+narrowed given (Some request) = Some (meet request given)
+
 -- a pledge is refused if it asks for more in either argument, unless `error` is held
 abbrev pub pledge_fault : History → Option ℕ → Option ℕ → Option Errno
 pledge_fault h promises execpromises =
@@ -96,6 +101,11 @@ abbrev pub veils : History → List (Place × ℕ)
 veils [] = []
 veils (Unveiled place perms ∷ h) = with_veil place perms (veils h)
 veils (_ ∷ h) = veils h
+
+-- the permissions that a list of veils has at a place
+abbrev pub veil_at : List (Place × ℕ) → Place → Option ℕ
+veil_at [] place = None
+veil_at (veil ∷ more) place = if same_place place veil.0 then Some veil.1 else veil_at more place
 
 abbrev pub is_lock : Event → Bool
 is_lock Locked = true

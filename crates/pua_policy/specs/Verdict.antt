@@ -51,6 +51,11 @@ found_fits t (found.Slot dir name (Some x)) = is_dir t dir && (option_eq ◌==�
 abbrev pub FoundFits : Tree → Found → Type 0
 FoundFits t object = IsTrue (found_fits t object)
 
+-- the same, where something was found
+abbrev pub FoundsFit : Tree → Result Found Errno → Type 0
+FoundsFit t (Ok object) = FoundFits t object
+FoundsFit t (Err errno) = Unit {0}
+
 abbrev pub is_unveil : Event → Bool
 is_unveil (Unveiled place perms) = true
 is_unveil _ = false
@@ -59,6 +64,11 @@ is_unveil _ = false
 abbrev pub cover : Tree → History → Found → Cover
 cover t h object =
     if list_any is_unveil h then nearest (kept h (place_of object) ∷ map (λ dir. kept h (Dir dir)) (directories_over t object)) else All
+
+-- the cover that an optional permission leaves where a veil is kept
+abbrev pub cover_by : Option ℕ → Cover
+cover_by None = Nothing
+cover_by (Some perms) = Only perms
 
 -- what was found, as the last check sees it
 pub data Object : Type 0 where
