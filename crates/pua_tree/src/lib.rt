@@ -3,6 +3,7 @@
 
 mod fault;
 mod laws;
+mod list;
 mod name;
 mod node;
 mod spelling;
@@ -10,6 +11,7 @@ mod tree;
 
 pub use fault::{ListingFault, NameFault, OutOfMemory, TreeFault};
 pub use laws::{listing_examples, tree_law};
+pub use list::ListTree;
 pub use name::Name;
 pub use node::{Kind, NodeId};
 pub use spelling::{SpelledByte, byte_spelling, unspelled};
