@@ -1,0 +1,55 @@
+-- The lines of a reach, path by path: a path is followed by those that begin with it.
+use Rattle.std.specs.Prelude.{ℕ, zero, suc, Bool, true, false, not, ◌&&◌, if◌then◌else◌, List, [], ◌∷◌, ◌++◌, length, nat_lt, flat_map, codes}
+use Rattle.std.specs.List.{list_all}
+use Rattle.pua_tree.specs.Spelling.{spelling}
+use Rattle.pua_path.specs.Paths.{ends_in_slash}
+use Rattle.pua_policy.specs.Calls.{calls, call_name}
+use Rattle.pua_policy.specs.Verdict.{verdict_on, is_allowed}
+use Rattle.pua_policy.specs.declared.call.Call.{Call}
+use Rattle.pua_tool.specs.Reach.{Word, Scope, from_root}
+use Rattle.pua_tool.specs.Texts.{ended}
+use Rattle.pua_tool.specs.declared.job.Base.{Base}
+use Rattle.pua_tool.specs.declared.job.Base.TheVariants.{Root, Cwd}
+
+-- a letter has a byte, and no slash at its end
+abbrev pub is_letter : List ℕ → Bool
+is_letter letter = nat_lt 0 (length letter) && not (ends_in_slash letter)
+
+abbrev pub are_letters : List (List ℕ) → Bool
+are_letters letters = list_all is_letter letters
+
+-- the path of a word, but for the word of no letter, whose trail is empty
+abbrev pub trail_of : Base → Word → List ℕ
+trail_of Root word = from_root word
+trail_of Cwd [] = []
+trail_of Cwd (letter ∷ word) = letter ++ from_root word
+
+-- the path of a trail
+abbrev pub path_by : Base → List ℕ → List ℕ
+path_by Root [] = codes "/"
+path_by Cwd [] = codes "."
+path_by base (b ∷ more) = b ∷ more
+
+-- a trail with one letter more
+abbrev pub extended : Base → List ℕ → List ℕ → List ℕ
+extended Root trail letter = trail ++ 47 ∷ letter
+extended Cwd [] letter = letter
+extended Cwd (b ∷ more) letter = (b ∷ more) ++ 47 ∷ letter
+
+-- a call on a path is allowed
+unfoldable pub is_open : Scope → List ℕ → Call → Bool
+is_open s path call = is_allowed (verdict_on s.tree s.table s.history call path)
+
+-- the line of a call on a path, if it is allowed
+abbrev pub line_if : Bool → List ℕ → Call → List ℕ
+line_if true path call = ended (spelling path ++ 32 ∷ call_name call)
+line_if false path call = []
+
+-- the lines of a path
+abbrev pub path_lines : Scope → List ℕ → List ℕ
+path_lines s path = flat_map (λ call. line_if (is_open s path call) path call) calls
+
+-- the lines of a trail's path, and of all its extensions by at most so many letters
+unfoldable pub lines_below : Scope → ℕ → List ℕ → List ℕ
+lines_below s zero trail = path_lines s (path_by s.base trail)
+lines_below s (suc l) trail = path_lines s (path_by s.base trail) ++ flat_map (λ letter. lines_below s l (extended s.base trail letter)) s.alphabet
