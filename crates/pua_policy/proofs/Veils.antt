@@ -1,17 +1,16 @@
 -- The veils are the places kept, and only an unveil changes a cover.
 use Rattle.std.proofs.Common.{◌≡◌, ℕ, List, [], ◌∷◌, Bool, true, false, cond, refl, sym, ap, ◌∙◌}
 use Rattle.std.proofs.lemmas.Bool.{eqb-true, eq-eqb}
-use Rattle.std.specs.Prelude.{◌==◌, ◌&&◌, Some}
+use Rattle.std.specs.Prelude.{◌==◌, ◌&&◌, Option, Some, None}
 use lib.Pointwise.{bytes_decides}
+use Rattle.std.specs.Map.{lookup}
+use Rattle.indexmap.specs.IndexMap.{insert_entry}
 use Rattle.pua_tree.specs.Names.{same_bytes}
 use Rattle.pua_policy.specs.declared.place.Place.{Place}
 use Rattle.pua_policy.specs.declared.place.Place.TheVariants.{Dir, Slot}
 use Rattle.pua_policy.specs.History.{Pledged, Unveiled, Locked, Moved, Ended, veils, with_veil, veil_at, same_place}
+use Rattle.pua_policy.proofs.Finding.{both_true}
 use Rattle.pua_policy.specs.Laws.{VeilsAreKept, CoverNeedsUnveil}
-
-both_true : (a b : Bool) → (a && b) ≡ true → (a ≡ true) × (b ≡ true)
-both_true true b e = (refl, e)
-both_true false b e = cc
 
 -- places that test alike are one
 pub same_place_is : (a b : Place) → same_place a b ≡ true → a ≡ b
@@ -76,3 +75,13 @@ cover_needs_unveil (Unveiled place perms) other t h found = cc other
 cover_needs_unveil Locked other t h found = refl
 cover_needs_unveil (Moved d) other t h found = refl
 cover_needs_unveil Ended other t h found = refl
+
+-- looking up by any test that is the definition's gives the permissions at a place
+pub veil_at-lookup : (eq : Place → Place → Bool) → ((a b : Place) → eq a b ≡ same_place a b) → (place : Place) (vs : List (Place × ℕ)) → lookup (eq place) vs ≡ veil_at vs place
+veil_at-lookup eq same place [] = refl
+veil_at-lookup eq same place (v ∷ vs) = λ i. cond (same place v.0 i) (Some v.1) (veil_at-lookup eq same place vs i)
+
+-- and inserting by it puts a veil
+pub with_veil-insert_entry : (eq : Place → Place → Bool) → ((a b : Place) → eq a b ≡ same_place a b) → (place : Place) (perms : ℕ) (vs : List (Place × ℕ)) → insert_entry eq vs place perms ≡ with_veil place perms vs
+with_veil-insert_entry eq same place perms [] = refl
+with_veil-insert_entry eq same place perms (v ∷ vs) = λ i. cond (same place v.0 i) ((v.0, perms) ∷ vs) (v ∷ with_veil-insert_entry eq same place perms vs i)

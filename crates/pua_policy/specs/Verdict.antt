@@ -65,11 +65,6 @@ abbrev pub cover : Tree → History → Found → Cover
 cover t h object =
     if list_any is_unveil h then nearest (kept h (place_of object) ∷ map (λ dir. kept h (Dir dir)) (directories_over t object)) else All
 
--- the cover that an optional permission leaves where a veil is kept
-abbrev pub cover_by : Option ℕ → Cover
-cover_by None = Nothing
-cover_by (Some perms) = Only perms
-
 -- what was found, as the last check sees it
 pub data Object : Type 0 where
   IsDir : ℕ → Way → Object

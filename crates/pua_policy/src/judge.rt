@@ -4,16 +4,15 @@ ghost use Rattle.std.specs.Prelude.{◌≡◌, ◌+◌, ◌≤◌, length};
 ghost use Rattle.pua_tree.specs.Tree.{Tree};
 ghost use Rattle.pua_policy.specs.Calls.{standard_table};
 ghost use Rattle.pua_policy.specs.History.{History, StandsFor};
-ghost use Rattle.pua_policy.specs.Verdict.{FoundFits, FoundsFit, verdict, verdict_of, cover_fault, object_fault, rmdir_fault, object_of, object_of_kind, IsDir};
-
-use pua_path::{Errno, Found, Probe, Way};
-use pua_tree::{Kind, NodeId};
+ghost use Rattle.pua_policy.specs.Verdict.{FoundFits, FoundsFit, verdict, verdict_of, cover, or_fault, cover_fault, object_fault, rmdir_fault, object_of, object_of_kind, IsDir};
 
 use crate::answer::{Cover, May, Verdict};
 use crate::call::Call;
 use crate::needs;
 use crate::perms::Perms;
 use crate::process::Process;
+use pua_path::{Errno, Found, Probe, Way};
+use pua_tree::{Kind, NodeId};
 
 /// The verdict on a call, on what its path names: first the promises, then the cover, the
 /// permissions that it lacks, and what was found. Whether there is room for a new node is not
@@ -32,11 +31,10 @@ pub fn verdict<'t, P: Probe<'t>>(
 {
     let need = needs::need(call);
     match process.may(need.promises) {
-        May::Yes => {
-            let cover = process.cover(probe, found);
-            let fault = cover_fault(cover, need.perms).or_else(|| object_fault(probe, call, found));
-            fault.map_or(Verdict::Allowed, Verdict::Failed)
-        }
+        May::Yes => match found_fault(probe, process, call, need.perms, found) {
+            None => Verdict::Allowed,
+            Some(errno) => Verdict::Failed(errno),
+        },
         May::Enosys => Verdict::Failed(Errno::ENOSYS),
         May::Death => Verdict::Death,
     }
@@ -66,6 +64,27 @@ pub fn verdict_of<'t, P: Probe<'t>>(
     }
 }
 
+/// What is wrong with what was found: its cover, its permissions, its kind.
+fn found_fault<'t, P: Probe<'t>>(
+    probe: &mut P,
+    process: &Process,
+    call: Call,
+    perms: Perms,
+    found: &Found,
+) -> Option<Errno>
+    requires { FoundFits (P.tree probe.old) found.now }
+    ensures exact { (h : History) → StandsFor process.now h →
+        result ≡ or_fault (cover_fault (cover (P.tree probe.old) h found.now) perms) (object_fault (P.tree probe.old) call (object_of (P.tree probe.old) found.now)) }
+    ensures tree { P.tree probe.new ≡ P.tree probe.old }
+    ensures cost { P.count probe.new ≤ P.count probe.old + length (P.tree probe.old).nodes + 4 }
+{
+    let cover = process.cover(probe, found);
+    match cover_fault(cover, perms) {
+        Some(errno) => Some(errno),
+        None => object_fault(probe, call, found),
+    }
+}
+
 /// What is wrong with a cover for a call that needs these permissions.
 fn cover_fault(cover: Cover, perms: Perms) -> Option<Errno>
     ensures { result ≡ cover_fault cover perms }
@@ -86,9 +105,7 @@ fn object_fault<'t, P: Probe<'t>>(probe: &mut P, call: Call, found: &Found) -> O
 {
     match *found {
         Found::Whole { dir, way } => directory_fault(probe, call, dir, way),
-        Found::Slot {
-            node: Some(id), ..
-        } => slot_fault(call, probe.kind(id)),
+        Found::Slot { node: Some(id), .. } => slot_fault(call, probe.kind(id)),
         Found::Slot { node: None, .. } => slot_fault(call, None),
     }
 }

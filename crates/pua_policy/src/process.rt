@@ -1,15 +1,14 @@
 //! A process: what it keeps of what happened to it.
 
+use crate::answer::{May, UnveilFault};
+use crate::perms::Perms;
+use crate::place::Place;
+use crate::promises::Promises;
 use indexmap::IndexMap;
 use pua_path::Errno;
 use pua_tree::{NodeId, OutOfMemory};
 use std::alloc::Global;
 use std::marker::Model;
-
-use crate::answer::{May, UnveilFault};
-use crate::perms::Perms;
-use crate::place::Place;
-use crate::promises::Promises;
 
 /// How many places one process may keep veils at.
 const PLACE_LIMIT: usize = 128;
@@ -37,9 +36,9 @@ impl Model for Process {
     ghost view = { λ a. record { promises = a.promises; execpromises = a.execpromises; veils = a.veils.entries; locked = a.locked; dir = a.dir; ended = a.ended } };
 }
 
-ghost use Rattle.std.specs.Prelude.{◌≡◌, ◌≢◌, ◌-◌, ◌<◌, [], ◌∷◌, length, Option, Some, None, IfOk, OnOk, OnErr, IfErr, MatchResult, unwrap_or, IsTrue, ◌↔◌};
+ghost use Rattle.std.specs.Prelude.{◌≡◌, ◌≢◌, ◌-◌, [], ◌∷◌, length, Option, Some, None, IfOk, OnOk, OnErr, IfErr, IfSome, if◌then◌else◌, MatchResult, unwrap_or};
 ghost use Rattle.pua_policy.specs.Promises.{all_promises, error};
-ghost use Rattle.pua_policy.specs.History.{History, StandsFor, Pledged, Unveiled, Locked, Moved, Ended, new_history, pledge_fault, unveil_fault, is_within, narrowed, may_any, is_locked, is_ended, working_dir, veil_at};
+ghost use Rattle.pua_policy.specs.History.{History, StandsFor, Pledged, Unveiled, Locked, Moved, Ended, new_history, pledge_fault, unveil_fault, place_fault, is_within, narrowed, may_any, is_locked, is_ended, working_dir, veil_at, has_veil};
 
 impl Process {
     /// A new process, in the root: it holds every promise but `error`, and has no veil.
@@ -73,9 +72,9 @@ impl Process {
             (λ errno. pledge_fault h promises execpromises ≡ Some errno) }
         ensures unchanged { OnErr result (self.new ≡ self.old) }
     {
-        let is_decrease =
-            is_within(promises, self.promises) && is_within(execpromises, self.execpromises);
-        if !is_decrease && !self.held().contains(Promises::ERROR) {
+        let is_decrease = is_within(promises, self.promises);
+        let is_exec_decrease = is_within(execpromises, self.execpromises);
+        if !(is_decrease && is_exec_decrease) && !self.held().contains(Promises::ERROR) {
             return Err(Errno::EPERM);
         }
         self.promises = narrowed(self.promises, promises);
@@ -96,13 +95,8 @@ impl Process {
             × (fault ≡ UnveilFault.OutOfMemory → unveil_fault h place perms ≡ None)) }
         ensures unchanged { OnErr result (self.new ≡ self.old) }
     {
-        if self.locked {
-            return Err(UnveilFault::NotPermitted);
-        }
-        match self.kept(&place) {
-            Some(kept) if !kept.contains(perms) => return Err(UnveilFault::NotPermitted),
-            None if self.veils.len() >= PLACE_LIMIT => return Err(UnveilFault::TooManyPlaces),
-            _ => {}
+        if let Some(fault) = self.unveil_fault(&place, perms) {
+            return Err(fault);
         }
         if self.veils.insert(place, perms).is_err() {
             return Err(UnveilFault::OutOfMemory);
@@ -171,6 +165,23 @@ impl Process {
         }
     }
 
+    /// Why permissions may not be kept at a place.
+    fn unveil_fault(&self, place: &Place, perms: Perms) -> Option<UnveilFault>
+        ensures fault { result ≡ (if self.now.locked then Some UnveilFault.NotPermitted else
+            place_fault (veil_at self.now.veils place.now) (length self.now.veils) perms) }
+        ensures other { IfSome result (λ fault. fault ≢ UnveilFault.OutOfMemory) }
+    {
+        if self.locked {
+            return Some(UnveilFault::NotPermitted);
+        }
+        match self.kept(place) {
+            Some(kept) if kept.contains(perms) => None,
+            Some(_) => Some(UnveilFault::NotPermitted),
+            None if self.veils.len() < PLACE_LIMIT => None,
+            None => Some(UnveilFault::TooManyPlaces),
+        }
+    }
+
     /// The promises that it holds.
     fn held(&self) -> Promises
         ensures { result ≡ unwrap_or self.now.promises (all_promises - error) }
@@ -180,7 +191,7 @@ impl Process {
 
     /// Whether a veil is kept.
     pub(crate) fn is_veiled(&self) -> bool
-        ensures { IsTrue result ↔ (0 < length self.now.veils) }
+        ensures { result ≡ has_veil self.now.veils }
     {
         !self.veils.is_empty()
     }
@@ -209,7 +220,7 @@ fn narrowed(given: Option<Promises>, request: Option<Promises>) -> Option<Promis
     ensures { result ≡ narrowed given request }
 {
     match (given, request) {
-        (Some(given), Some(request)) => Some(given.intersection(request)),
+        (Some(given), Some(request)) => Some(request.intersection(given)),
         (None, request) => request,
         (given, None) => given,
     }
