@@ -2,11 +2,24 @@
 //! that does nothing.
 
 ghost use Rattle.pua_tree.specs.Laws.{TreesAreTheirRows};
+ghost use Rattle.pua_tree.specs.Grammar.{ListingsAreRead, ListingsListTrees, SpellingsAreRead};
 ghost use Rattle.pua_tree.specs.Examples.{ListingRows, ExampleIsTree};
 
 /// Trees with the same rows, kinds, targets and next number are equal.
 pub fn tree_law()
     ensures { TreesAreTheirRows }
+{}
+
+/// Bytes are read as a tree exactly where they are a listing of it, and what a listing lists is a
+/// tree.
+pub fn listing_law()
+    ensures read { ListingsAreRead }
+    ensures trees { ListingsListTrees }
+{}
+
+/// Bytes have one spelling, and it is read as them.
+pub fn spelling_law()
+    ensures { SpellingsAreRead }
 {}
 
 /// Examples of listings.

@@ -49,8 +49,8 @@ ghost use Rattle.std.specs.Prelude.{ℕ, ◌≡◌, ◌<◌, ◌≤◌, Some, No
 ghost use Rattle.std.specs.List.{HoldsAt, insert, list_any};
 ghost use Rattle.std.specs.Ordering.{nat_cmp};
 ghost use Rattle.std.specs.FinMap.{is_sorted, find as find_key, put};
-ghost use Rattle.pua_tree.specs.Tree.{spot_cmp, is_dir, distinct_names};
-ghost use Rattle.pua_tree.specs.ListTree.{row_entry, node_entry, made_of};
+ghost use Rattle.pua_tree.specs.Tree.{WellFormed, spot_cmp, is_dir, distinct_names};
+ghost use Rattle.pua_tree.specs.ListTree.{row_entry, node_entry, made_of, held_tree};
 
 impl FileTree for ListTree {
     ghost content = { λ t. t };
@@ -103,6 +103,14 @@ impl FileTree for ListTree {
 }
 
 impl ListTree {
+    /// The tree of these rows, nodes and next number.
+    pub(crate) fn new(rows: Vec<Row>, nodes: Vec<Node>, next: u32) -> ListTree
+        requires { WellFormed (held_tree rows.items nodes.items next) }
+        ensures { result ≡ held_tree rows.items nodes.items next }
+    {
+        ListTree { rows, nodes, next }
+    }
+
     fn is_dir(&self, id: NodeId) -> bool
         ensures { result ≡ is_dir self.now id }
     {
