@@ -1,1 +1,4 @@
 pub mod Putting
+pub mod Rising
+pub mod Words
+pub mod Alphabets

@@ -11,7 +11,8 @@ use Rattle.pua_policy.specs.Verdict.{verdict_on, is_allowed}
 use Rattle.pua_policy.specs.declared.call.Call.{Call}
 use Rattle.pua_tool.specs.Reach.{Word, Pair, Scope, words, pairs, reach, is_reached, path_of, from_root}
 use Rattle.pua_tool.specs.Texts.{pair_line, pair_lines}
-use Rattle.pua_tool.specs.Filter.{is_letter, are_letters, trail_of, path_by, extended, is_open, line_if, path_lines, lines_below}
+use Rattle.pua_tool.specs.Letters.{is_letter, are_letters}
+use Rattle.pua_tool.specs.Filter.{trail_of, path_by, extended, is_open, line_if, path_lines, lines_below}
 use Rattle.pua_tool.specs.declared.job.Base.{Base}
 use Rattle.pua_tool.specs.declared.job.Base.TheVariants.{Root, Cwd}
 

@@ -1,8 +1,6 @@
 -- The lines of a reach, path by path: a path is followed by those that begin with it.
-use Rattle.std.specs.Prelude.{ℕ, zero, suc, Bool, true, false, not, ◌&&◌, if◌then◌else◌, List, [], ◌∷◌, ◌++◌, length, nat_lt, flat_map, codes}
-use Rattle.std.specs.List.{list_all}
+use Rattle.std.specs.Prelude.{ℕ, zero, suc, Bool, true, false, List, [], ◌∷◌, ◌++◌, flat_map, codes}
 use Rattle.pua_tree.specs.Spelling.{spelling}
-use Rattle.pua_path.specs.Paths.{ends_in_slash}
 use Rattle.pua_policy.specs.Calls.{calls, call_name}
 use Rattle.pua_policy.specs.Verdict.{verdict_on, is_allowed}
 use Rattle.pua_policy.specs.declared.call.Call.{Call}
@@ -10,13 +8,6 @@ use Rattle.pua_tool.specs.Reach.{Word, Scope, from_root}
 use Rattle.pua_tool.specs.Texts.{ended}
 use Rattle.pua_tool.specs.declared.job.Base.{Base}
 use Rattle.pua_tool.specs.declared.job.Base.TheVariants.{Root, Cwd}
-
--- a letter has a byte, and no slash at its end
-abbrev pub is_letter : List ℕ → Bool
-is_letter letter = nat_lt 0 (length letter) && not (ends_in_slash letter)
-
-abbrev pub are_letters : List (List ℕ) → Bool
-are_letters letters = list_all is_letter letters
 
 -- the path of a word, but for the word of no letter, whose trail is empty
 abbrev pub trail_of : Base → Word → List ℕ

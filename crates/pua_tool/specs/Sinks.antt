@@ -1,6 +1,7 @@
 -- What was written to a sink, and what a whole writing leaves.
-use Rattle.std.specs.Prelude.{◌≡◌, ℕ, ◌+◌, ◌-◌, ◌^◌, ◌<◌, ◌≤◌, ◌⊎◌, List, length, take, min, Option}
+use Rattle.std.specs.Prelude.{◌≡◌, ℕ, ◌+◌, ◌-◌, ◌^◌, ◌<◌, ◌≤◌, ◌⊎◌, List, length, take, min, Option, Result, Ok, Err}
 use Rattle.std.specs.Io.KnownBytes.{Appends}
+use Rattle.pua_tool.specs.declared.sink.PutFault.{PutFault}
 
 -- a count of failures after one more; it stays at its greatest value
 abbrev pub counted : ℕ → ℕ
@@ -29,3 +30,8 @@ pub record Memory : Type 0 where
   pub bytes : List ℕ
   pub room : ℕ
   pub failed : ℕ
+
+-- what the writing of a text leaves: all of it, or a front of it behind a put that failed
+abbrev pub Writes : List ℕ → Result (Unit {0}) PutFault → Option (List ℕ) → Option (List ℕ) → ℕ → ℕ → Type 0
+Writes text (Ok done) old new before after = Adds text old new × (after ≡ before)
+Writes text (Err fault) old new before after = AddsFront text old new × HasFailed before after

@@ -1,0 +1,76 @@
+-- What alphabets and candidates are, as they are read one after another.
+use Rattle.std.proofs.Common.{◌≡◌, ℕ, suc, ◌+◌, ◌*◌, ◌/◌, ◌%◌, ◌≤◌, ◌<◌, List, [], ◌∷◌, ◌++◌, Bool, true, false, cond, length, take, drop, get_or, map, refl, sym, ap, ◌∙◌, append_assoc, append-nil, length-append, arith}
+use Rattle.std.specs.Prelude.{Result, Ok, Err, not, ◌&&◌, ◌==◌, nat_lt, ok_or}
+use Rattle.std.specs.List.{list_all}
+use Rattle.std.specs.Result.{result_ok}
+use Rattle.std.specs.declared.cmp.Ordering.{Ordering}
+use Rattle.std.specs.declared.cmp.Ordering.TheVariants.{Less, Equal, Greater}
+use Rattle.pua_tree.specs.Names.{is_name, is_name_byte}
+use Rattle.pua_tree.specs.Spelling.{name_of, byte_spelling, is_plain}
+use Rattle.pua_tree.specs.Steps.{◌>>=◌}
+use Rattle.pua_tree.specs.Tree.{name_cmp, with_name, distinct_names}
+use Rattle.pua_tree.specs.declared.fault.NameFault.{NameFault}
+use Rattle.pua_path.specs.Paths.{ends_in_slash}
+use Rattle.pua_policy.proofs.Finding.{both_true}
+use Rattle.pua_tool.specs.Letters.{is_letter, with_names}
+use Rattle.pua_tool.specs.Begin.{candidates_from}
+use Rattle.pua_tool.specs.declared.fault.AuditFault.{AuditFault}
+use Rattle.pua_tool.specs.declared.fault.AuditFault.TheVariants.{BadCandidate}
+
+no_slash : (b : ℕ) → is_name_byte b ≡ true → (b == 47) ≡ false
+no_slash b e = by (b == 47) (both_true (nat_lt b 256) _ (both_true (nat_lt 0 b) _ e).1).1
+  where
+    by : (slash : Bool) → not slash ≡ true → slash ≡ false
+    by true e = cc
+    by false e = refl
+
+name_bytes_end : (bs : List ℕ) → list_all is_name_byte bs ≡ true → ends_in_slash bs ≡ false
+name_bytes_end [] e = refl
+name_bytes_end (b ∷ []) e = no_slash b (both_true (is_name_byte b) _ e).0
+name_bytes_end (b ∷ c ∷ more) e = name_bytes_end (c ∷ more) (both_true (is_name_byte b) _ e).1
+
+-- a name has a byte, and no slash at its end
+pub is_letter-name : (name : List ℕ) → is_name name ≡ true → is_letter name ≡ true
+is_letter-name name e =
+    let parts = both_true (nat_lt 0 (length name)) _ e in
+    let bytes = both_true (list_all is_name_byte name) _ (both_true _ _ parts.1).1 in
+    (λ i. parts.0 i && not (name_bytes_end name bytes.0 i))
+
+-- candidates that were read, in front of the further ones
+abbrev pub with_read : List (List ℕ) → Result (List (List ℕ)) AuditFault → Result (List (List ℕ)) AuditFault
+with_read done (Ok more) = Ok (done ++ more)
+with_read done (Err fault) = Err fault
+
+with_read-none : (r : Result (List (List ℕ)) AuditFault) → with_read [] r ≡ r
+with_read-none (Ok more) = refl
+with_read-none (Err fault) = refl
+
+with_read-more : (done : List (List ℕ)) (name : List ℕ) (r : Result (List (List ℕ)) AuditFault) → with_read done (r >>= λ names. Ok (name ∷ names)) ≡ with_read (done ++ name ∷ []) r
+with_read-more done name (Ok more) = ap Ok (sym (append_assoc done (name ∷ []) more))
+with_read-more done name (Err fault) = refl
+
+-- one more candidate spells a name
+pub candidate_read : (n : ℕ) (text : List ℕ) (texts done : List (List ℕ)) (name : List ℕ) → name_of text ≡ Ok name
+    → with_read done (candidates_from n (text ∷ texts)) ≡ with_read (done ++ name ∷ []) (candidates_from (suc n) texts)
+candidate_read n text texts done name e =
+    ap (λ r. with_read done (ok_or (result_ok r) (BadCandidate n) >>= λ m. candidates_from (suc n) texts >>= λ names. Ok (m ∷ names))) e
+    ∙ with_read-more done name (candidates_from (suc n) texts)
+
+-- the next candidate spells none
+pub candidate_refused : (n : ℕ) (text : List ℕ) (texts done : List (List ℕ)) (fault : NameFault) → name_of text ≡ Err fault
+    → with_read done (candidates_from n (text ∷ texts)) ≡ Err (BadCandidate n)
+candidate_refused n text texts done fault e =
+    ap (λ r. with_read done (ok_or (result_ok r) (BadCandidate n) >>= λ m. candidates_from (suc n) texts >>= λ names. Ok (m ∷ names))) e
+
+-- names in front of a list are put into the distinct names of that list
+pub distinct_names-append : (xs ys : List (List ℕ)) → distinct_names (xs ++ ys) ≡ with_names xs (distinct_names ys)
+distinct_names-append [] ys = refl
+distinct_names-append (x ∷ xs) ys = ap (with_name x) (distinct_names-append xs ys)
+
+pub with_names-append : (xs ys others : List (List ℕ)) → with_names (xs ++ ys) others ≡ with_names xs (with_names ys others)
+with_names-append [] ys others = refl
+with_names-append (x ∷ xs) ys others = ap (with_name x) (with_names-append xs ys others)
+
+-- a byte is spelled by four bytes at most
+pub byte_spelling-short : (b : ℕ) → length (byte_spelling b) ≤ 4
+byte_spelling-short b = elim (is_plain b) as (λ p. length (cond p (b ∷ []) (92 ∷ (48 + b / 64) ∷ (48 + b / 8 % 8) ∷ (48 + b % 8) ∷ [])) ≤ 4) [ true ↦ omega arith | false ↦ omega arith ]
