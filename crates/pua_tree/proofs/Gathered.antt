@@ -55,11 +55,11 @@ pub more_gathered : (r new : Reading) (es : List listing.Entry) (e : listing.Ent
     → new.nodes.items ≡ r.nodes.items ++ node ∷ [] → node_entry node ≡ (e.number, e.made) → new.last ≡ e.number → gathered_tree new ≡ tree_of (es ++ e ∷ [])
 more_gathered r new es e i row node tree free place rows row_is nodes node_is last =
     let new_rows : map row_entry new.rows.items ≡ rows_of_entries (es ++ e ∷ []) =
-        ap (map row_entry) rows ∙ map_insert row_entry r.rows.items i row ∙ ap (insert (map row_entry r.rows.items) i) row_is
-        ∙ sym place ∙ ap (put spot_cmp (e.parent, e.name) e.number) (ap (λ t. t.rows) tree) ∙ sym (rows_push es e free) in
+    ap (map row_entry) rows ∙ map_insert row_entry r.rows.items i row ∙ ap (insert (map row_entry r.rows.items) i) row_is
+    ∙ sym place ∙ ap (put spot_cmp (e.parent, e.name) e.number) (ap (λ t. t.rows) tree) ∙ sym (rows_push es e free) in
     let new_nodes : map node_entry new.nodes.items ≡ (0, root_node) ∷ map node_row (es ++ e ∷ []) =
-        ap (map node_entry) nodes ∙ map_push node_entry r.nodes.items node ∙ ap (λ entry. map node_entry r.nodes.items ++ entry ∷ []) node_is
-        ∙ ap (λ ns. ns ++ (e.number, e.made) ∷ []) (ap (λ t. t.nodes) tree) ∙ ap (λ ns. (0, root_node) ∷ ns) (sym (map_push node_row es e)) in
+    ap (map node_entry) nodes ∙ map_push node_entry r.nodes.items node ∙ ap (λ entry. map node_entry r.nodes.items ++ entry ∷ []) node_is
+    ∙ ap (λ ns. ns ++ (e.number, e.made) ∷ []) (ap (λ t. t.nodes) tree) ∙ ap (λ ns. (0, root_node) ∷ ns) (sym (map_push node_row es e)) in
     λ j. record { rows = new_rows j; nodes = new_nodes j; next = suc ((last ∙ sym (last_number_push es e)) j) }
 
 -- what an insert of an entry that is admitted leaves

@@ -50,3 +50,29 @@ one_stops all rest more n next r text fault s e f read =
 
 pub all_read : (all rest : List (List ℕ)) (n : ℕ) (r : Reading) → IsSoFar all rest n r → rest ≡ [] → (es : List listing.Entry) × Gathers r es × (entries_of [] 3 all ≡ Ok es)
 all_read all rest n r s e = (s.es, s.gathers, s.so_far ∙ ap (entries_of s.es (suc n)) e)
+
+lines_differ : (bs cs : List ℕ) → bs ≢ cs → same_bytes bs cs ≡ false
+lines_differ bs cs ne = elim (same_bytes bs cs) as (λ b. same_bytes bs cs ≡ b → b ≡ false) [
+  | true ↦ λ t. absurd (ne ((bytes_decides bs cs).0 t))
+  | false ↦ λ f. refl
+] refl
+
+pub no_header : (all : List (List ℕ)) → ((rest : List (List ℕ)) → all ≢ codes "tree 1" ∷ rest) → listing_of_lines all ≡ Err BadHeader
+no_header [] h = refl
+no_header (text ∷ texts) h = rw (lines_differ text (codes "tree 1") (λ e. h texts (ap (λ t. t ∷ texts) e))) refl
+
+pub no_root : (all more : List (List ℕ)) → all ≡ codes "tree 1" ∷ more → ((rest : List (List ℕ)) → more ≢ codes "0 dir" ∷ rest) → listing_of_lines all ≡ Err (BadLine 2)
+no_root all [] e h = rw e refl
+no_root all (text ∷ texts) e h = rw (e, lines_differ text (codes "0 dir") (λ e. h texts (ap (λ t. t ∷ texts) e))) refl
+
+pub entries_fault : (all more rest : List (List ℕ)) (fault : ListingFault) → all ≡ codes "tree 1" ∷ more → more ≡ codes "0 dir" ∷ rest → entries_of [] 3 rest ≡ Err fault → listing_of_lines all ≡ Err fault
+entries_fault all more rest fault e f g = rw (e, f, g) refl
+
+pub entries_tree : (all more rest : List (List ℕ)) (es : List listing.Entry) → all ≡ codes "tree 1" ∷ more → more ≡ codes "0 dir" ∷ rest → entries_of [] 3 rest ≡ Ok es → listing_of_lines all ≡ Ok (tree_of es)
+entries_tree all more rest es e f g = rw (e, f, g) refl
+
+pub read_tree : (r : Reading) (es : List listing.Entry) → Gathers r es → held_tree r.rows.items r.nodes.items (r.last + 1) ≡ tree_of es
+read_tree r es g = rw add-one g.tree
+
+pub read_fits : (r : Reading) (es : List listing.Entry) → Gathers r es → WellFormed (held_tree r.rows.items r.nodes.items (r.last + 1))
+read_fits r es g = rw (read_tree r es g) (well_formed es g.fit)

@@ -1,8 +1,5 @@
 //! The reader of listings: one pass over the lines, each judged against those before it.
 
-use bstr::{ByteSlice, Lines};
-use std::alloc::Global;
-
 use crate::fault::{ListingFault, OutOfMemory};
 use crate::field::number_within;
 use crate::line::{Line, read_line};
@@ -11,6 +8,8 @@ use crate::name::Name;
 use crate::node::{Kind, NodeId};
 use crate::spelling::unspelled;
 use crate::target::is_target;
+use bstr::{ByteSlice, Lines};
+use std::alloc::Global;
 
 /// The most lines that a listing has: its header and 4,096 nodes.
 const MOST_LINES: u32 = 4097;
@@ -46,15 +45,15 @@ ghost use Rattle.pua_tree.specs.Spelling.{number_within};
 ghost use Rattle.pua_tree.specs.Tree.{is_dir_kind};
 ghost use Rattle.pua_tree.specs.ListTree.{node_entry};
 ghost use Rattle.pua_tree.specs.Lines.{line_read};
-ghost use Rattle.pua_tree.specs.Listing as listing;
+ghost use Rattle.pua_tree.specs.Listing.{listing, entry_of, entries_of, admitted, only_if, node_of, tree_of, Entry as Said};
 ghost use Rattle.pua_tree.specs.Reading.{Gathers};
 
 /// The tree of which the bytes are a listing, under the numbers of the listing. The fault told is
 /// that of the first line that has one; `ListingFault::OutOfMemory` comes only where a growth was
 /// refused.
 pub fn read_listing(alloc: Global, bytes: &[u8]) -> Result<ListTree, ListingFault>
-    ensures ok { IfOk result (λ tree. listing.listing bytes.now ≡ Ok tree) }
-    ensures err { IfErr result (λ fault. fault ≢ ListingFault.OutOfMemory → listing.listing bytes.now ≡ Err fault) }
+    ensures ok { IfOk result (λ tree. listing bytes.now ≡ Ok tree) }
+    ensures err { IfErr result (λ fault. fault ≢ ListingFault.OutOfMemory → listing bytes.now ≡ Err fault) }
 {
     let mut lines = bytes.lines();
     if !take_line(&mut lines, b"tree 1") {
@@ -80,8 +79,8 @@ fn take_line(lines: &mut Lines<'_>, text: &[u8]) -> bool
 
 /// Reads the lines behind the first two.
 fn read_entries(alloc: Global, lines: Lines<'_>) -> Result<Reading, ListingFault>
-    ensures ok { IfOk result (λ reading. (es : List listing.Entry) × Gathers reading es × (listing.entries_of [] 3 lines.entry ≡ Ok es)) }
-    ensures err { IfErr result (λ fault. fault ≢ ListingFault.OutOfMemory → listing.entries_of [] 3 lines.entry ≡ Err fault) }
+    ensures ok { IfOk result (λ reading. (es : List Said) × Gathers reading es × (entries_of [] 3 lines.entry ≡ Ok es)) }
+    ensures err { IfErr result (λ fault. fault ≢ ListingFault.OutOfMemory → entries_of [] 3 lines.entry ≡ Err fault) }
 {
     let mut reading = Reading::new(alloc)?;
     let mut n = 2;
@@ -120,9 +119,9 @@ impl Reading {
     fn read(&mut self, alloc: Global, n: u32, text: &[u8]) -> Result<(), ListingFault>
         requires { IsGathered self.old }
         ensures room { OnOk result (n ≤ MOST_LINES) }
-        ensures exact { (es : List listing.Entry) → Gathers self.old es → n ≡ length es + 3 → MatchResult result
-            (λ _. (e : listing.Entry) × (listing.entry_of es n text.now ≡ Ok e) × Gathers self.new (es ++ e ∷ []))
-            (λ fault. fault ≢ ListingFault.OutOfMemory → listing.entry_of es n text.now ≡ Err fault) }
+        ensures exact { (es : List Said) → Gathers self.old es → n ≡ length es + 3 → MatchResult result
+            (λ _. (e : Said) × (entry_of es n text.now ≡ Ok e) × Gathers self.new (es ++ e ∷ []))
+            (λ fault. fault ≢ ListingFault.OutOfMemory → entry_of es n text.now ≡ Err fault) }
     {
         let entry = self.entry(alloc, n, text)?;
         self.add(n, entry)
@@ -131,9 +130,9 @@ impl Reading {
     /// What line `n` says, whether or not its name is free and there is room for it.
     fn entry(&self, alloc: Global, n: u32, text: &[u8]) -> Result<Entry, ListingFault>
         requires { IsGathered self.now }
-        ensures { (es : List listing.Entry) → Gathers self.now es → MatchResult result
-            (λ e. listing.entry_of es n text.now ≡ listing.admitted es n (said e))
-            (λ fault. fault ≢ ListingFault.OutOfMemory → listing.entry_of es n text.now ≡ Err fault) }
+        ensures { (es : List Said) → Gathers self.now es → MatchResult result
+            (λ e. entry_of es n text.now ≡ admitted es n (said e))
+            (λ fault. fault ≢ ListingFault.OutOfMemory → entry_of es n text.now ≡ Err fault) }
     {
         let Some(line) = read_line(text) else {
             return Err(ListingFault::BadLine(n));
@@ -161,9 +160,9 @@ impl Reading {
     fn add(&mut self, n: u32, entry: Entry) -> Result<(), ListingFault>
         requires { IsGathered self.old }
         ensures room { OnOk result (n ≤ MOST_LINES) }
-        ensures exact { (es : List listing.Entry) → Gathers self.old es → MatchResult result
-            (λ _. (listing.admitted es n (said entry) ≡ Ok (said entry)) × (gathered_tree self.new ≡ listing.tree_of (es ++ said entry ∷ [])))
-            (λ fault. fault ≢ ListingFault.OutOfMemory → listing.admitted es n (said entry) ≡ Err fault) }
+        ensures exact { (es : List Said) → Gathers self.old es → MatchResult result
+            (λ _. (admitted es n (said entry) ≡ Ok (said entry)) × (gathered_tree self.new ≡ tree_of (es ++ said entry ∷ [])))
+            (λ fault. fault ≢ ListingFault.OutOfMemory → admitted es n (said entry) ≡ Err fault) }
     {
         match row_place(&self.rows, entry.parent, &entry.name) {
             Ok(_) => Err(ListingFault::Taken(n)),
@@ -201,7 +200,7 @@ impl Reading {
 
 /// The number that a text writes, if it is one of a listing and above the last.
 fn number_after(last: u32, text: &[u8]) -> Option<u32>
-    ensures { result ≡ listing.only_if (λ n. nat_lt last n) (number_within 1 999999 text.now) }
+    ensures { result ≡ only_if (λ n. nat_lt last n) (number_within 1 999999 text.now) }
 {
     number_within(1, MOST_NUMBER, text).filter(|number| *number > last)
 }
@@ -209,7 +208,7 @@ fn number_after(last: u32, text: &[u8]) -> Option<u32>
 /// The directory among these nodes whose number a text writes.
 fn dir_in(nodes: &[Node], text: &[u8]) -> Option<NodeId>
     requires { IsTrue (is_sorted nat_cmp (map node_entry nodes.now)) }
-    ensures { result ≡ listing.only_if (λ n. is_dir_kind (option_map (λ node. node.kind) (find nat_cmp n (map node_entry nodes.now)))) (number_within 0 999999 text.now) }
+    ensures { result ≡ only_if (λ n. is_dir_kind (option_map (λ node. node.kind) (find nat_cmp n (map node_entry nodes.now)))) (number_within 0 999999 text.now) }
 {
     let id = NodeId::new(number_within(0, MOST_NUMBER, text)?);
     match node_place(nodes, id) {
@@ -220,8 +219,8 @@ fn dir_in(nodes: &[Node], text: &[u8]) -> Option<NodeId>
 
 /// The target of line `n`, which a link has and nothing else.
 fn target_of(alloc: Global, n: u32, line: &Line<'_>) -> Result<Option<Vec<u8>>, ListingFault>
-    ensures ok { IfOk result (λ target. listing.node_of n (line_read line.now) line.now.kind ≡ Ok (record { kind = line.now.kind; target = option_map (λ t. t.items) target })) }
-    ensures err { IfErr result (λ fault. fault ≢ ListingFault.OutOfMemory → listing.node_of n (line_read line.now) line.now.kind ≡ Err fault) }
+    ensures ok { IfOk result (λ target. node_of n (line_read line.now) line.now.kind ≡ Ok (record { kind = line.now.kind; target = option_map (λ t. t.items) target })) }
+    ensures err { IfErr result (λ fault. fault ≢ ListingFault.OutOfMemory → node_of n (line_read line.now) line.now.kind ≡ Err fault) }
 {
     if line.kind != Kind::Link {
         return Ok(None);
@@ -232,3 +231,6 @@ fn target_of(alloc: Global, n: u32, line: &Line<'_>) -> Result<Option<Vec<u8>>, 
         Err(_) => Err(ListingFault::OutOfMemory),
     }
 }
+
+#[cfg(test)]
+mod tests;
