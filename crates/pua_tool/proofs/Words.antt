@@ -76,13 +76,13 @@ word_lines-path : (s : Scope) (word : Word) → are_letters word ≡ true → pa
 unfolding word_lines is_open
 word_lines-path s word all = ap (path_lines s) (path_by-trail_of s.base word all) ∙ by_calls calls
   where
-    by_calls : (cs : List Call) → flat_map (λ call. line_if (is_open s (path_of s.base word) call) (path_of s.base word) call) cs
+    by_calls : (cs : List Call) → flat_map (λ call. line_if (is_open s (path_of s.base word) call) (spelling (path_of s.base word)) call) cs
         ≡ pair_lines s.base (filter (is_reached s) (map (λ call. (word, call)) cs))
     by_calls [] = refl
     by_calls (call ∷ cs) =
-        elim (is_allowed (verdict_on s.tree s.table s.history call (path_of s.base word))) as (λ b. line_if b (path_of s.base word) call ++ flat_map (λ c. line_if (is_open s (path_of s.base word) c) (path_of s.base word) c) cs
+        elim (is_allowed (verdict_on s.tree s.table s.history call (path_of s.base word))) as (λ b. line_if b (spelling (path_of s.base word)) call ++ flat_map (λ c. line_if (is_open s (path_of s.base word) c) (spelling (path_of s.base word)) c) cs
             ≡ pair_lines s.base (cond b ((word, call) ∷ filter (is_reached s) (map (λ c. (word, c)) cs)) (filter (is_reached s) (map (λ c. (word, c)) cs)))) [
-          | true ↦ ap (λ r. line_if true (path_of s.base word) call ++ r) (by_calls cs)
+          | true ↦ ap (λ r. line_if true (spelling (path_of s.base word)) call ++ r) (by_calls cs)
           | false ↦ by_calls cs
         ]
 

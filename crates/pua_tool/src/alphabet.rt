@@ -46,8 +46,10 @@ pub(crate) fn alphabet(
     for name in names {
         letters.push(Letter::Name(*name)).map_err(|_| OutOfMemory)?;
     }
-    for name in candidates.iter().rev() {
-        add_letter(&mut letters, Letter::Name(*name))?;
+    let mut left = candidates.len();
+    while left > 0 {
+        left -= 1;
+        add_letter(&mut letters, Letter::Name(candidates[left]))?;
     }
     add_letter(&mut letters, Letter::Above)?;
     Ok(letters)
@@ -58,13 +60,21 @@ fn add_letter(letters: &mut Vec<Letter>, letter: Letter) -> Result<(), OutOfMemo
     ensures { IfOk result (λ _. map letter_text letters.new.items ≡ with_name (letter_text letter) (map letter_text letters.old.items)) }
 {
     for place in 0..letters.len() {
-        match letter.bytes().cmp(letters[place].bytes()) {
-            Ordering::Less => return letters.insert(place, letter).map_err(|_| OutOfMemory),
+        match letter.compare(&letters[place]) {
+            Ordering::Less => {
+                if letters.insert(place, letter).is_err() {
+                    return Err(OutOfMemory);
+                }
+                return Ok(());
+            }
             Ordering::Equal => return Ok(()),
             Ordering::Greater => {}
         }
     }
-    letters.push(letter).map_err(|_| OutOfMemory)
+    if letters.push(letter).is_err() {
+        return Err(OutOfMemory);
+    }
+    Ok(())
 }
 
 /// The bytes of the longest letter.

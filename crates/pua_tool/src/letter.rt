@@ -1,6 +1,7 @@
 //! Letters of words: names, and the two dots.
 
 use pua_tree::Name;
+use std::cmp::Ordering;
 
 /// A letter of a word: a name, or the two dots of the directory above.
 #[derive(Clone, Copy, Debug)]
@@ -11,6 +12,7 @@ pub(crate) enum Letter {
 
 impl Letter {
     ghost use Rattle.std.specs.Prelude.{◌≡◌, true};
+    ghost use Rattle.pua_tree.specs.Tree.{name_cmp};
     ghost use Rattle.pua_tool.specs.Letters.{letter_text, is_letter};
 
     /// Its bytes.
@@ -22,5 +24,12 @@ impl Letter {
             Letter::Above => b"..",
             Letter::Name(name) => name.bytes(),
         }
+    }
+
+    /// The order of two letters, which is that of their bytes.
+    pub(crate) fn compare(&self, other: &Letter) -> Ordering
+        ensures { result ≡ name_cmp (letter_text self.now) (letter_text other.now) }
+    {
+        self.bytes().cmp(other.bytes())
     }
 }
