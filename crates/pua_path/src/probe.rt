@@ -2,6 +2,7 @@
 
 use pua_tree::{FileTree, Kind, Name, NodeId, TreeFault};
 use std::alloc::Global;
+use std::marker::Model;
 
 /// A tree that is asked one thing at a time, and counts what it was asked. Targets live as long as
 /// the tree.
@@ -63,11 +64,19 @@ pub trait Probe<'t> {
         ensures count { count self.new ≡ one_more (count self.old) };
 }
 
-/// A tree, and how often it was asked.
+/// A tree, and how often it was asked. Contracts see what the tree holds, and the count.
 #[derive(Drop)]
 pub struct Counted<'t, T: FileTree> {
     tree: &'t T,
     count: u64,
+}
+
+impl<'t, T: FileTree> Model for Counted<'t, T> {
+    ghost use Rattle.pua_path.specs.Counts.{Asked};
+
+    ghost Value = { Asked };
+
+    ghost view = { λ a. record { tree = T.content a.tree.now; count = a.count } };
 }
 
 impl<'t, T: FileTree> Counted<'t, T> {
@@ -76,7 +85,7 @@ impl<'t, T: FileTree> Counted<'t, T> {
 
     /// The tree, not asked yet.
     pub fn new(tree: &'t T) -> Counted<'t, T>
-        ensures tree { T.content result.tree.now ≡ T.content tree.now }
+        ensures tree { result.tree ≡ T.content tree.now }
         ensures count { result.count ≡ 0 }
     {
         Counted { tree, count: 0 }
@@ -91,7 +100,7 @@ impl<'t, T: FileTree> Counted<'t, T> {
 }
 
 impl<'t, T: FileTree> Probe<'t> for Counted<'t, T> {
-    ghost tree = { λ c. T.content c.tree.now };
+    ghost tree = { λ c. c.tree };
 
     ghost count = { λ c. c.count };
 
