@@ -1,4 +1,6 @@
 pub mod Putting
 pub mod Rising
-pub mod Words
+pub mod WordLines
 pub mod Alphabets
+pub mod BeginLaws
+pub mod Trails

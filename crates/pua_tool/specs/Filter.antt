@@ -1,17 +1,18 @@
 -- The lines of a reach, path by path: a path is followed by those that begin with it.
-use Rattle.std.specs.Prelude.{ℕ, zero, suc, Bool, true, false, List, [], ◌∷◌, ◌++◌, map, flat_map, codes, Result}
+use Rattle.std.specs.Prelude.{◌≡◌, ◌≤◌, ◌*◌, ℕ, zero, suc, Bool, true, false, List, [], ◌∷◌, ◌++◌, map, flat_map, codes, Result}
 use Rattle.pua_tree.specs.Spelling.{spelling}
 use Rattle.pua_path.specs.declared.errno.Errno.{Errno}
 use Rattle.pua_path.specs.declared.found.Found.{Found}
 use Rattle.pua_path.specs.declared.found.Last.{Last}
 use Rattle.pua_path.specs.declared.found.Last.TheVariants.{Followed, Kept}
 use Rattle.pua_policy.specs.Calls.{calls, call_name, standard_table}
-use Rattle.pua_policy.specs.History.{new_history}
+use Rattle.pua_policy.specs.History.{StandsFor, new_history}
 use Rattle.pua_policy.specs.Verdict.{verdict_on, is_allowed}
 use Rattle.pua_policy.specs.declared.call.Call.{Call}
 use Rattle.pua_tool.specs.Reach.{Word, Scope, from_root}
 use Rattle.pua_tool.specs.Texts.{ended}
-use Rattle.pua_tool.specs.Letters.{letter_text}
+use Rattle.pua_tool.specs.Letters.{letter_text, are_letters}
+use Rattle.pua_tool.specs.Begin.{longest}
 use Rattle.pua_tool.specs.declared.filter.Audited.{Audited}
 use Rattle.pua_tool.specs.declared.job.Base.{Base}
 use Rattle.pua_tool.specs.declared.job.Base.TheVariants.{Root, Cwd}
@@ -60,3 +61,9 @@ by_last Kept followed kept = kept
 -- what is audited, as the definitions see it
 abbrev pub scope_of : Audited → Scope
 scope_of a = record { tree = a.tree; table = standard_table; history = new_history; base = a.base; alphabet = map letter_text a.letters.items; limit = a.limit }
+
+-- what is audited can be written: its process is new, its letters are letters, and its paths are short
+pub record IsReady (a : Audited) : Type 0 where
+  pub history : StandsFor a.process new_history
+  pub letters : are_letters (map letter_text a.letters.items) ≡ true
+  pub short : a.limit * suc (longest (map letter_text a.letters.items)) ≤ 1023

@@ -1,5 +1,5 @@
 -- The text of an audit, and what refuses it.
-use Rattle.std.specs.Prelude.{ℕ, List, [], ◌∷◌, ◌++◌, flat_map, ◌==◌, if◌then◌else◌, Option, Some, None, Result, Ok, Err, codes, ok_or, decimal}
+use Rattle.std.specs.Prelude.{ℕ, List, [], ◌∷◌, ◌++◌, flat_map, ◌==◌, if◌then◌else◌, Option, Some, None, Result, Ok, Err, codes, ok_or, decimal, map, option_map}
 use Rattle.pua_tree.specs.Tree.{Tree}
 use Rattle.pua_tree.specs.Listing.{listing}
 use Rattle.pua_tree.specs.Steps.{◌>>=◌}
@@ -9,6 +9,7 @@ use Rattle.pua_tool.specs.Reach.{Scope, Pair, printed_path, reach}
 use Rattle.pua_tool.specs.Begin.{beginning}
 use Rattle.pua_tree.specs.declared.fault.ListingFault.{ListingFault}
 use Rattle.pua_tool.specs.declared.job.Base.{Base}
+use Rattle.pua_tool.specs.declared.job.Job.{Job}
 use Rattle.pua_tool.specs.declared.fault.ScriptFault.{ScriptFault}
 use Rattle.pua_tool.specs.declared.fault.ScriptFault.TheVariants.{BadCall}
 use Rattle.pua_tool.specs.declared.fault.AuditFault.{AuditFault}
@@ -44,6 +45,9 @@ pub record Asked : Type 0 where
   pub base : Base
   pub after : Option (List ℕ)
   pub candidates : List (List ℕ)
+
+abbrev pub asked : Job → Asked
+asked job = record { limit = job.limit; process = job.process; base = job.base; after = option_map (λ text. text.now) job.after; candidates = map (λ text. text.now) job.candidates.now }
 
 abbrev pub as_listing : Result Tree ListingFault → Result Tree ToolFault
 as_listing (Ok t) = Ok t

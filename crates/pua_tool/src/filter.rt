@@ -117,6 +117,7 @@ fn write_path<S: Sink>(
 }
 
 /// What a path names to the process, where a link at its end is followed and where it is kept.
+#[derive(Drop)]
 struct Named {
     followed: Result<Found, Errno>,
     kept: Result<Found, Errno>,
@@ -131,8 +132,8 @@ impl Named {
         ensures kept_fits { FoundsFit audited.now.tree result.kept }
     {
         Named {
-            followed: named(audited, path, Last::Followed),
-            kept: named(audited, path, Last::Kept),
+            followed: find(audited, path, Last::Followed),
+            kept: find(audited, path, Last::Kept),
         }
     }
 
@@ -146,7 +147,7 @@ impl Named {
     }
 }
 
-fn named(audited: &Audited, path: &[u8], mode: Last) -> Result<Found, Errno>
+fn find(audited: &Audited, path: &[u8], mode: Last) -> Result<Found, Errno>
     requires { StandsFor audited.now.process new_history }
     ensures found { result ≡ resolution_of_text audited.now.tree 0 endings.Dot path.now mode }
     ensures fits { FoundsFit audited.now.tree result }
