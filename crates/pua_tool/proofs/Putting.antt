@@ -1,8 +1,9 @@
 -- What puts one after another leave in a sink.
-use Rattle.std.proofs.Common.{◌≡◌, ℕ, suc, zero-add, take-append-le, ◌+◌, ◌-◌, ◌^◌, ◌<◌, ◌≤◌, List, [], ◌∷◌, ◌++◌, length, take, drop, min, Option, refl, sym, ap, ◌∙◌, subst, append_assoc, append-nil, length-append, take-append-drop, take_all, length-drop, inl, inr, ◌⊎◌, arith}
+use Rattle.std.proofs.Common.{◌≡◌, ℕ, suc, zero-add, ◌+◌, ◌-◌, ◌^◌, ◌<◌, ◌≤◌, List, [], ◌∷◌, ◌++◌, length, take, drop, min, Option, refl, sym, ap, ◌∙◌, subst, append_assoc, append-nil, length-append, take-append-drop, take_all, length-drop, inl, inr, ◌⊎◌, arith}
 use Rattle.std.specs.Io.KnownBytes.{Appends, Keeps}
 use Rattle.std.proofs.KnownBytes.{Appends-nil, Appends-trans, Appends-kept}
 use Rattle.std.proofs.lemmas.Bool.{cases_order}
+use Rattle.std.proofs.lemmas.List.{take-append-le}
 use lib.Seq.{take-append_seam}
 use Rattle.pua_tool.specs.Sinks.{Adds, AddsFront, HasFailed, Puts, Writes, counted}
 use Rattle.std.specs.Prelude.{Result, Ok, Err, OnOk, OnErr}

@@ -4,7 +4,8 @@ use Rattle.std.specs.Prelude.{Option, Some, None, Result, Ok, Err, not, ◌&&◌
 use Rattle.std.proofs.Math.Nat.{le-max_left, le-max_right}
 use Rattle.pua_tree.specs.Tree.{Tree, WellFormed, is_dir}
 use Rattle.pua_tree.specs.Steps.{◌>>=◌}
-use Rattle.pua_path.specs.Paths.{parts_of, is_absolute, path_fault, ends_in_slash, components, ending_parts, part_of}
+use Rattle.pua_path.specs.Paths.{parts_of, is_absolute, path_fault, ends_in_slash, ending_parts, part_of}
+use Rattle.pua_tree.specs.Names.{components}
 use Rattle.pua_path.specs.Resolution.{resolution, resolution_of_text, resolve_parts, start_of, link_limit}
 use Rattle.pua_path.specs.declared.errno.Errno.{Errno}
 use Rattle.pua_path.specs.declared.errno.Errno.TheVariants.{ENOENT}
