@@ -1,5 +1,9 @@
 -- What alphabets and candidates are, as they are read one after another.
-use Rattle.std.proofs.Common.{◌≡◌, ℕ, suc, ◌+◌, ◌*◌, ◌/◌, ◌%◌, ◌≤◌, ◌<◌, List, [], ◌∷◌, ◌++◌, Bool, true, false, cond, length, take, drop, get_or, map, refl, sym, ap, ◌∙◌, append_assoc, append-nil, length-append, arith}
+use Rattle.std.proofs.Common.{◌≡◌, ℕ, suc, ◌+◌, ◌*◌, ◌/◌, ◌%◌, ◌≤◌, ◌<◌, List, [], ◌∷◌, ◌++◌, Bool, true, false, cond, length, take, drop, get_or, map, refl, sym, ap, ◌∙◌, append_assoc, append-nil, length-append, take-append-drop, take_all, add-one, arith}
+use Rattle.std.proofs.lemmas.List.{drop_more, take_more, drop_all, map-append}
+use Rattle.std.proofs.lemmas.Bool.{leb-true}
+use Rattle.std.specs.List.{insert}
+use Rattle.std.specs.FinMap.Entries.{by_order}
 use Rattle.std.specs.Prelude.{Result, Ok, Err, not, ◌&&◌, ◌==◌, nat_lt, ok_or}
 use Rattle.std.specs.List.{list_all}
 use Rattle.std.specs.Result.{result_ok}
@@ -12,7 +16,8 @@ use Rattle.pua_tree.specs.Tree.{name_cmp, with_name, distinct_names}
 use Rattle.pua_tree.specs.declared.fault.NameFault.{NameFault}
 use Rattle.pua_path.specs.Paths.{ends_in_slash}
 use Rattle.pua_policy.proofs.Finding.{both_true}
-use Rattle.pua_tool.specs.Letters.{is_letter, with_names}
+use Rattle.pua_tool.specs.Letters.{is_letter, letter_text, with_names}
+use Rattle.pua_tool.specs.declared.letter.Letter.{Letter}
 use Rattle.pua_tool.specs.Begin.{candidates_from}
 use Rattle.pua_tool.specs.declared.fault.AuditFault.{AuditFault}
 use Rattle.pua_tool.specs.declared.fault.AuditFault.TheVariants.{BadCandidate}
@@ -74,3 +79,63 @@ with_names-append (x ∷ xs) ys others = ap (with_name x) (with_names-append xs 
 -- a byte is spelled by four bytes at most
 pub byte_spelling-short : (b : ℕ) → length (byte_spelling b) ≤ 4
 byte_spelling-short b = elim (is_plain b) as (λ p. length (cond p (b ∷ []) (92 ∷ (48 + b / 64) ∷ (48 + b / 8 % 8) ∷ (48 + b % 8) ∷ [])) ≤ 4) [ true ↦ omega arith | false ↦ omega arith ]
+
+-- a letter before the first of others, in its place, and behind it
+with_less : (n m : List ℕ) (ms : List (List ℕ)) → Less ≡ name_cmp n m → with_name n (m ∷ ms) ≡ n ∷ m ∷ ms
+with_less n m ms e = ap (λ o. by_order o (n ∷ m ∷ ms) (m ∷ ms) (m ∷ with_name n ms)) (sym e)
+
+with_equal : (n m : List ℕ) (ms : List (List ℕ)) → Equal ≡ name_cmp n m → with_name n (m ∷ ms) ≡ m ∷ ms
+with_equal n m ms e = ap (λ o. by_order o (n ∷ m ∷ ms) (m ∷ ms) (m ∷ with_name n ms)) (sym e)
+
+with_greater : (n m : List ℕ) (ms : List (List ℕ)) → Greater ≡ name_cmp n m → with_name n (m ∷ ms) ≡ m ∷ with_name n ms
+with_greater n m ms e = ap (λ o. by_order o (n ∷ m ∷ ms) (m ∷ ms) (m ∷ with_name n ms)) (sym e)
+
+module _ (xs : List Letter) (i : ℕ) (n : Letter) where
+  -- the letters from this place on
+  abbrev behind : List (List ℕ)
+  behind = map letter_text (drop i xs)
+
+  abbrev passed : List (List ℕ)
+  passed = map letter_text (take i xs)
+
+  next : (m : Letter) → i < length xs → m ≡ get_or xs i m → behind ≡ letter_text m ∷ map letter_text (drop (i + 1) xs)
+  next m short is = ap (map letter_text) (drop_more xs i m short) ∙ ap (λ l. letter_text l ∷ map letter_text (drop (i + 1) xs)) (sym is)
+
+  pub placed_less : (m : Letter) → i < length xs → m ≡ get_or xs i m → Less ≡ name_cmp (letter_text n) (letter_text m)
+      → passed ++ with_name (letter_text n) behind ≡ map letter_text (insert xs i n)
+  placed_less m short is less =
+      ap (λ l. passed ++ with_name (letter_text n) l) (next m short is)
+      ∙ ap (λ l. passed ++ l) (with_less (letter_text n) (letter_text m) (map letter_text (drop (i + 1) xs)) less)
+      ∙ ap (λ l. passed ++ (letter_text n ∷ l)) (sym (next m short is))
+      ∙ sym (map-append letter_text (take i xs) (n ∷ drop i xs))
+
+  pub placed_equal : (m : Letter) → i < length xs → m ≡ get_or xs i m → Equal ≡ name_cmp (letter_text n) (letter_text m)
+      → passed ++ with_name (letter_text n) behind ≡ map letter_text xs
+  placed_equal m short is equal =
+      ap (λ l. passed ++ with_name (letter_text n) l) (next m short is)
+      ∙ ap (λ l. passed ++ l) (with_equal (letter_text n) (letter_text m) (map letter_text (drop (i + 1) xs)) equal)
+      ∙ ap (λ l. passed ++ l) (sym (next m short is))
+      ∙ sym (map-append letter_text (take i xs) (drop i xs))
+      ∙ ap (map letter_text) (take-append-drop i xs)
+
+  pub placed_greater : (m : Letter) → i < length xs → m ≡ get_or xs i m → Greater ≡ name_cmp (letter_text n) (letter_text m)
+      → passed ++ with_name (letter_text n) behind ≡ map letter_text (take (i + 1) xs) ++ with_name (letter_text n) (map letter_text (drop (i + 1) xs))
+  placed_greater m short is greater =
+      ap (λ l. passed ++ with_name (letter_text n) l) (next m short is)
+      ∙ ap (λ l. passed ++ l) (with_greater (letter_text n) (letter_text m) (map letter_text (drop (i + 1) xs)) greater)
+      ∙ sym (append_assoc passed (letter_text m ∷ []) (with_name (letter_text n) (map letter_text (drop (i + 1) xs))))
+      ∙ ap (λ l. l ++ with_name (letter_text n) (map letter_text (drop (i + 1) xs))) (sym (ap (map letter_text) (take_more xs i m short) ∙ map-append letter_text (take i xs) (get_or xs i m ∷ []) ∙ ap (λ l. passed ++ (letter_text l ∷ [])) (sym is)))
+
+  pub placed_last : length xs ≤ i → passed ++ with_name (letter_text n) behind ≡ map letter_text (xs ++ n ∷ [])
+  placed_last past =
+      ap (λ l. passed ++ with_name (letter_text n) (map letter_text l)) (drop_all i xs past)
+      ∙ ap (λ l. map letter_text l ++ (letter_text n ∷ [])) (take_all i xs past)
+      ∙ sym (map-append letter_text xs (n ∷ []))
+
+-- a name has at most 255 bytes
+pub name-short : (name : List ℕ) → is_name name ≡ true → length name ≤ 255
+name-short name e = leb-true (length name) 255 (both_true _ _ (both_true (nat_lt 0 (length name)) _ e).1).0
+
+-- the same product, of equal factors
+pub same_product : (from limit result most : ℕ) → from ≡ limit → result ≡ most → from * (result + 1) ≡ limit * suc most
+same_product from limit result most f r = (λ i. f i * (r i + 1)) ∙ ap (λ n. limit * n) (add-one most)

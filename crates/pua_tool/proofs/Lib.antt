@@ -4,3 +4,4 @@ pub mod WordLines
 pub mod Alphabets
 pub mod BeginLaws
 pub mod Trails
+pub mod Lines

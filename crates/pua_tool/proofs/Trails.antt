@@ -156,3 +156,8 @@ pub room_for_letter : (now more left most : ℕ) → 0 < left → now + left * m
 room_for_letter now more zero most some room within = absurd (omega arith)
 room_for_letter now more (suc left) most some room within =
     let one : suc left - 1 ≡ left = omega arith in rw one (omega arith)
+
+-- where a letter may follow, there is room for it
+pub letter_has_room : (now left most : ℕ) → 0 < left → now + left * most ≤ 1023 → now + most ≤ 1023
+letter_has_room now zero most some room = absurd (omega arith)
+letter_has_room now (suc left) most some room = omega arith

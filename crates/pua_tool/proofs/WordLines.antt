@@ -10,7 +10,7 @@ use Rattle.pua_policy.specs.Calls.{calls, call_name}
 use Rattle.pua_policy.specs.Verdict.{verdict_on, is_allowed}
 use Rattle.pua_policy.specs.declared.call.Call.{Call}
 use Rattle.pua_tool.specs.Reach.{Word, Pair, Scope, words, pairs, reach, is_reached, path_of, from_root}
-use Rattle.pua_tool.specs.Texts.{pair_line, pair_lines}
+use Rattle.pua_tool.specs.Texts.{pair_line, pair_lines, reach_line, text_of}
 use Rattle.pua_tool.specs.Letters.{is_letter, are_letters}
 use Rattle.pua_tool.specs.Filter.{trail_of, path_by, extended, is_open, line_if, path_lines, lines_below}
 use Rattle.pua_tool.specs.declared.job.Base.{Base}
@@ -73,7 +73,7 @@ word_lines : Scope → Word → List ℕ
 word_lines s word = pair_lines s.base (filter (is_reached s) (map (λ call. (word, call)) calls))
 
 word_lines-path : (s : Scope) (word : Word) → are_letters word ≡ true → path_lines s (path_by s.base (trail_of s.base word)) ≡ word_lines s word
-unfolding word_lines is_open
+unfolding word_lines is_open path_lines
 word_lines-path s word all = ap (path_lines s) (path_by-trail_of s.base word all) ∙ by_calls calls
   where
     by_calls : (cs : List Call) → flat_map (λ call. line_if (is_open s (path_of s.base word) call) (spelling (path_of s.base word)) call) cs
@@ -113,3 +113,7 @@ lines_below_reach s letters =
     ∙ lines_below-words s s.limit [] letters refl
     ∙ sym (ap (flat_map (pair_line s.base)) (filter-flat_map (is_reached s) (λ word. map (λ call. (word, call)) calls) (words s.alphabet s.limit))
     ∙ flat_map-flat_map (pair_line s.base) (λ word. filter (is_reached s) (map (λ call. (word, call)) calls)) (words s.alphabet s.limit))
+
+-- a heading and the lines below the empty trail are the text
+pub whole_text : (s : Scope) (process : ℕ) (heading : List ℕ) → heading ≡ reach_line process → are_letters s.alphabet ≡ true → heading ++ lines_below s s.limit [] ≡ text_of process s
+whole_text s process heading head letters = (λ i. head i ++ lines_below_reach s letters i)

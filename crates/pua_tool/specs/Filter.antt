@@ -45,7 +45,7 @@ line_if true spelled call = ended (spelled ++ 32 ∷ call_name call)
 line_if false spelled call = []
 
 -- the lines of a path
-abbrev pub path_lines : Scope → List ℕ → List ℕ
+unfoldable pub path_lines : Scope → List ℕ → List ℕ
 path_lines s path = flat_map (λ call. line_if (is_open s path call) (spelling path) call) calls
 
 -- the lines of a trail's path, and of all its extensions by at most so many letters

@@ -81,6 +81,7 @@ fn add_letter(letters: &mut Vec<Letter>, letter: Letter) -> Result<(), OutOfMemo
 pub(crate) fn longest(letters: &[Letter]) -> usize
     ensures longest { result ≡ longest (map letter_text letters.now) }
     ensures letters { are_letters (map letter_text letters.now) ≡ true }
+    ensures short { result ≤ 255 }
 {
     let mut most = 0;
     for letter in letters {

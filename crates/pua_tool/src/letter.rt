@@ -11,7 +11,7 @@ pub(crate) enum Letter {
 }
 
 impl Letter {
-    ghost use Rattle.std.specs.Prelude.{◌≡◌, true};
+    ghost use Rattle.std.specs.Prelude.{◌≡◌, ◌≤◌, true, length};
     ghost use Rattle.pua_tree.specs.Tree.{name_cmp};
     ghost use Rattle.pua_tool.specs.Letters.{letter_text, is_letter};
 
@@ -19,6 +19,7 @@ impl Letter {
     pub(crate) fn bytes(&self) -> &[u8]
         ensures bytes { result.now ≡ letter_text self.now }
         ensures letter { is_letter (letter_text self.now) ≡ true }
+        ensures short { length (letter_text self.now) ≤ 255 }
     {
         match self {
             Letter::Above => b"..",
