@@ -1,0 +1,60 @@
+//! The program `pua`: what a process, sandboxed by pledge(2) and unveil(2), may still do to a tree
+//! of files.
+#![tactic(auto)]
+
+use pua_tool::{DiskInputs, StreamSink, ToolFault, USAGE_LINE, command};
+use std::alloc::{AllocError, Global};
+use std::io::BufWriter;
+use std::process::ExitCode;
+use std::{env, io};
+
+fn main(rt: HostRuntime) -> ExitCode {
+    match words_given(&rt) {
+        Ok(Some(args)) => ExitCode::from(run(&rt, args.as_slice())),
+        Ok(None) => {
+            let _ = eprintln!(rt; "{USAGE_LINE}");
+            ExitCode::from(2)
+        }
+        Err(AllocError) => ExitCode::from(tell(&rt, ToolFault::OutOfMemory)),
+    }
+}
+
+/// The words behind the program's name; None where one is no text.
+fn words_given(rt: &HostRuntime) -> Result<Option<Vec<String>>, AllocError> {
+    match env::args(rt) {
+        Ok(args) => Ok(Some(args.skip(1).collect(rt.alloc())?)),
+        Err(error) if error.kind() == io::ErrorKind::OutOfMemory => Err(AllocError),
+        Err(_) => Ok(None),
+    }
+}
+
+/// Runs the command over the machine's files, and answers the status.
+fn run(rt: &HostRuntime, args: &[String]) -> u8 {
+    let (Ok(words), Ok(writer)) = (
+        lent(rt.alloc(), args),
+        BufWriter::new(rt.alloc(), io::writer(rt)),
+    ) else {
+        return tell(rt, ToolFault::OutOfMemory);
+    };
+    let mut inputs = DiskInputs::new(rt);
+    let mut out = StreamSink::new(writer);
+    let mut err = StreamSink::new(rt.stderr());
+    let status = command(rt.alloc(), words.as_slice(), &mut inputs, &mut out, &mut err);
+    if out.flush().is_err() && status == 0 {
+        return tell(rt, ToolFault::Write);
+    }
+    status
+}
+
+fn lent<'a>(alloc: Global, args: &'a [String]) -> Result<Vec<&'a str>, AllocError> {
+    args.iter().map(|arg| arg.as_str()).collect(alloc)
+}
+
+/// Tells a fault outside the command, and answers the status.
+fn tell(rt: &HostRuntime, fault: ToolFault) -> u8 {
+    let _ = eprintln!(rt; "{fault}");
+    match fault {
+        ToolFault::Write => 3,
+        _ => 4,
+    }
+}

@@ -1,0 +1,11 @@
+pub mod Sinks
+pub mod Sources
+pub mod Named
+pub mod Statuses
+pub mod Letters
+pub mod Reach
+pub mod Begin
+pub mod Texts
+pub mod Filter
+pub mod Laws
+pub mod Examples

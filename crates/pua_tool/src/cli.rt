@@ -1,0 +1,127 @@
+//! The whole program, as a function over its inputs and outputs.
+
+ghost use Rattle.std.specs.Prelude.{◌≡◌, ◌≢◌, ◌≤◌};
+ghost use Rattle.pua_tool.specs.Statuses.{status_of};
+
+use std::alloc::Global;
+use std::fmt;
+use std::fmt::{Display, Write};
+
+use crate::audit::audit_to;
+use crate::fault::ToolFault;
+use crate::inputs::{InputFault, Inputs};
+use crate::job::{Base, Job};
+use crate::sink::{Sink, put_all};
+use crate::words::{AuditWords, Stop, read_words};
+
+/// What was done, or the input, the words, the device or the memory that stopped it.
+const DONE: u8 = 0;
+const REFUSED: u8 = 1;
+const USAGE: u8 = 2;
+const DEVICE: u8 = 3;
+const MEMORY: u8 = 4;
+
+/// The line that tells how the program is used.
+pub const USAGE_LINE: &str = "pua: usage: pua run TREE SCRIPT; pua audit --limit N [--process P] [--base root|cwd] [--after CALL:PATH] TREE SCRIPT [NAME...]";
+
+/// Does what the words behind the program's name ask for: the text goes to `out`, and of a fault one
+/// line goes to `err`, which is dropped where it can't be written. It answers the status: 0 where it
+/// is done, 1 where an input was refused, 2 where the words are no command, 3 where a file can't be
+/// read or the text can't be written, and 4 where a growth of memory was refused. Help is asked for
+/// by `--help`, `-h` or `help`, and goes to `out`.
+pub fn command<I: Inputs, O: Sink, E: Sink>(
+    alloc: Global,
+    words: &[&str],
+    inputs: &mut I,
+    out: &mut O,
+    err: &mut E,
+) -> u8
+    ensures status { result ≤ MEMORY }
+    ensures unwritten { result ≢ DONE → result ≢ DEVICE → O.written out.new ≡ O.written out.old }
+{
+    match read_words(alloc, words) {
+        Ok(asked) => audit(alloc, &asked, inputs, out, err),
+        Err(Stop::Help(text)) => match put_all(out, text.as_bytes()) {
+            Ok(()) => DONE,
+            Err(_) => tell_fault(ToolFault::Write, err),
+        },
+        Err(Stop::Usage) => {
+            tell(err, USAGE_LINE);
+            USAGE
+        }
+        Err(Stop::OutOfMemory) => tell_fault(ToolFault::OutOfMemory, err),
+    }
+}
+
+fn audit<I: Inputs, O: Sink, E: Sink>(
+    alloc: Global,
+    asked: &AuditWords<'_>,
+    inputs: &mut I,
+    out: &mut O,
+    err: &mut E,
+) -> u8
+    ensures status { result ≤ MEMORY }
+    ensures unwritten { result ≢ DONE → result ≢ DEVICE → O.written out.new ≡ O.written out.old }
+{
+    let tree = match inputs.take(alloc, asked.tree) {
+        Ok(bytes) => bytes,
+        Err(fault) => return tell_input(fault, asked.tree, err),
+    };
+    let script = match inputs.take(alloc, asked.script) {
+        Ok(bytes) => bytes,
+        Err(fault) => return tell_input(fault, asked.script, err),
+    };
+    let job = Job {
+        limit: asked.limit,
+        process: 1,
+        base: Base::Root,
+        after: None,
+        candidates: asked.names.as_slice(),
+    };
+    match audit_to(alloc, tree.as_slice(), script.as_slice(), &job, out) {
+        Ok(()) => DONE,
+        Err(fault) => tell_fault(fault, err),
+    }
+}
+
+/// Tells that an input is not there, and answers the status.
+fn tell_input<E: Sink>(fault: InputFault, name: &str, err: &mut E) -> u8
+    ensures { result ≤ MEMORY }
+{
+    match fault {
+        InputFault::Unreadable => {
+            tell(err, format_args!("pua: cannot read {name}"));
+            DEVICE
+        }
+        InputFault::OutOfMemory => tell_fault(ToolFault::OutOfMemory, err),
+    }
+}
+
+/// Tells a fault, and answers its status.
+fn tell_fault<E: Sink>(fault: ToolFault, err: &mut E) -> u8
+    ensures { result ≡ status_of fault }
+{
+    tell(err, fault);
+    match fault {
+        ToolFault::Write => DEVICE,
+        ToolFault::OutOfMemory => MEMORY,
+        _ => REFUSED,
+    }
+}
+
+/// Writes a line. Where a put fails, what is left of it is dropped.
+fn tell<E: Sink, D: Display + Drop>(err: &mut E, line: D) {
+    let _ = writeln!(Told { sink: err }, "{line}");
+}
+
+/// A sink to which text is written.
+#[derive(Drop)]
+struct Told<'e, E: Sink> {
+    sink: &'e mut E,
+}
+
+impl<E: Sink> fmt::Write for Told<'_, E> {
+    fn write_str(&mut self, text: &str) -> fmt::Result {
+        put_all(self.sink, text.as_bytes()).map_err(|_| fmt::Error)
+    }
+}

@@ -1,0 +1,101 @@
+//! Inputs by name.
+
+ghost use Rattle.std.specs.Prelude.{◌≡◌, ◌↔◌, None, Some, IfOk, Err, map, option_map};
+ghost use Rattle.pua_tool.specs.Named.{kept_under};
+
+use std::alloc::Global;
+use std::fs;
+use std::marker::Model;
+use std::rt::Files;
+use thiserror::Error;
+
+use crate::source::{ReadSource, read_bytes};
+
+/// Why an input is not there.
+#[derive(Clone, Copy, Debug, PartialEq, Eq, Error)]
+pub enum InputFault {
+    /// There is no such input, a read of it failed, or it has more than 67,108,864 bytes.
+    #[error("unreadable")]
+    Unreadable,
+    /// A growth of memory was refused.
+    #[error("out of memory")]
+    OutOfMemory,
+}
+
+/// Where inputs are taken from by their names.
+pub trait Inputs {
+    /// All bytes of the input of this name. How far it was read is not said after a fault.
+    fn take(&mut self, alloc: Global, name: &str) -> Result<Vec<u8>, InputFault>;
+}
+
+/// Inputs in memory. Contracts see the names with the bytes kept under them.
+#[derive(Drop)]
+pub struct MemoryInputs<'a> {
+    entries: &'a [(&'a str, &'a [u8])],
+}
+
+impl<'a> Model for MemoryInputs<'a> {
+    ghost use Rattle.std.specs.Prelude.{map};
+    ghost use Rattle.pua_tool.specs.Named.{Named};
+
+    ghost Value = { Named };
+
+    ghost view = { λ inputs. map (λ entry. (entry.0.now, entry.1.now)) inputs.entries.now };
+}
+
+impl<'a> MemoryInputs<'a> {
+    /// These names with their bytes; of equal names the first counts.
+    pub fn new(entries: &'a [(&'a str, &'a [u8])]) -> MemoryInputs<'a>
+        ensures { result ≡ map (λ entry. (entry.0.now, entry.1.now)) entries.entry.now }
+    {
+        MemoryInputs { entries }
+    }
+}
+
+impl Inputs for MemoryInputs<'_> {
+    /// A copy of the bytes kept under the name. `Unreadable` is answered exactly where there is no
+    /// such name.
+    fn take(&mut self, alloc: Global, name: &str) -> Result<Vec<u8>, InputFault>
+        ensures kept { IfOk result (λ bytes. kept_under name.now self.old ≡ Some bytes.items) }
+        ensures unreadable { (result ≡ Err InputFault.Unreadable) ↔ (kept_under name.now self.old ≡ None) }
+        ensures unchanged { self.new ≡ self.old }
+    {
+        match first_named(self.entries, name) {
+            Some(bytes) => Vec::from_slice(alloc, bytes).map_err(|_| InputFault::OutOfMemory),
+            None => Err(InputFault::Unreadable),
+        }
+    }
+}
+
+fn first_named<'a>(entries: &'a [(&'a str, &'a [u8])], name: &str) -> Option<&'a [u8]>
+    ensures { option_map (λ bytes. bytes.now) result ≡ kept_under name.now (map (λ entry. (entry.0.now, entry.1.now)) entries.entry.now) }
+{
+    for (known, bytes) in entries {
+        if *known == name {
+            return Some(bytes);
+        }
+    }
+    None
+}
+
+/// The machine's files, by their paths.
+#[derive(Drop)]
+pub struct DiskInputs<'r, R: Files> {
+    rt: &'r R,
+}
+
+impl<'r, R: Files> DiskInputs<'r, R> {
+    /// The files that this runtime reaches.
+    pub fn new(rt: &'r R) -> DiskInputs<'r, R> {
+        DiskInputs { rt }
+    }
+}
+
+impl<R: Files> Inputs for DiskInputs<'_, R> {
+    fn take(&mut self, alloc: Global, name: &str) -> Result<Vec<u8>, InputFault> {
+        let Ok(file) = fs::open(self.rt, name) else {
+            return Err(InputFault::Unreadable);
+        };
+        read_bytes(alloc, &mut ReadSource::new(file))
+    }
+}
