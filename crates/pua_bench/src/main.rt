@@ -17,11 +17,19 @@ fn main(rt: HostRuntime) -> Result<()> {
     for word in env::args(&rt)?.skip(1) {
         words.push(word)?;
     }
-    let word = |at: usize| words.get(at).map_or("", |word| word.as_str());
-    match word(0) {
-        "read" => read(&rt, word(1), word(2)),
-        "resolve" => resolution(&rt, word(1), word(2), word(3)),
+    let words = words.as_slice();
+    match word(words, 0) {
+        "read" => read(&rt, word(words, 1), word(words, 2)),
+        "resolve" => resolution(&rt, word(words, 1), word(words, 2), word(words, 3)),
         _ => Ok(println!(rt; "{USAGE}")?),
+    }
+}
+
+/// The word at a place, or none at all.
+fn word(words: &[String], at: usize) -> &str {
+    match words.get(at) {
+        Some(word) => word.as_str(),
+        None => "",
     }
 }
 
