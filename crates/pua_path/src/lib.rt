@@ -16,6 +16,3 @@ pub use laws::{links_law, resolution_examples, resolution_law, steps_law};
 pub use probe::{Counted, Probe};
 pub use resolver::{last, resolve, step};
 pub use text::{Ending, PathText};
-
-#[cfg(test)]
-mod tests;

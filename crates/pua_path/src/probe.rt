@@ -163,20 +163,4 @@ mod tests {
         }
         Ok(())
     }
-
-    #[test]
-    fn answers_as_its_tree(rt: HostRuntime) -> Result<(), Fail> {
-        let tree = read_listing(rt.alloc(), b"tree 1\n0 dir\n1 link 0 l to\n")?;
-        let mut probe = Counted::new(&tree);
-        let link = NodeId::new(1);
-        let name = Name::read(b"l")?;
-        assert_eq!(rt; probe.kind(link), Some(Kind::Link));
-        assert_eq!(rt; probe.look(NodeId::ROOT, &name), Some(link));
-        assert_eq!(rt; probe.parent(NodeId::ROOT), Some(NodeId::ROOT));
-        assert!(rt; probe.target(link) == Some(b"to".as_slice()));
-        assert!(rt; !probe.is_empty(NodeId::ROOT));
-        assert_eq!(rt; probe.names(rt.alloc())?.as_slice(), [name].as_slice());
-        assert_eq!(rt; probe.probes(), 6);
-        Ok(())
-    }
 }

@@ -11,8 +11,6 @@ mod perms;
 mod place;
 mod process;
 mod promises;
-#[cfg(test)]
-mod tests;
 
 pub use answer::{Cover, May, UnveilFault, Verdict};
 pub use call::{Call, Need};

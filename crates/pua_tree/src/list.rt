@@ -350,6 +350,3 @@ fn name_set(alloc: Global, rows: &[Row]) -> Result<BTreeSet<Name>, AllocError>
     }
     Ok(names)
 }
-
-#[cfg(test)]
-mod tests;

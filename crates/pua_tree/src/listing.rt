@@ -231,6 +231,3 @@ fn target_of(alloc: Global, n: u32, line: &Line<'_>) -> Result<Option<Vec<u8>>, 
         Err(_) => Err(ListingFault::OutOfMemory),
     }
 }
-
-#[cfg(test)]
-mod tests;

@@ -1,12 +1,11 @@
-use super::*;
-use crate::tree::FileTree;
+//! The reader of listings.
+
+use crate::example::EXAMPLE;
+use pua_tree::{FileTree, Kind, ListingFault, Name, NodeId, read_listing};
 use std::test::Fail;
 
-const EXAMPLE: &[u8] =
-    b"tree 1\n0 dir\n1 dir 0 etc\n2 file 1 passwd\n3 dir 0 tmp\n4 link 0 t tmp\n5 link 3 up ../etc\n6 link 3 self self\n7 prog 3 sh\n";
-
 #[test]
-fn refuses_what_is_no_listing(rt: HostRuntime) -> Result<(), Fail> {
+fn refuses_what_is_no_listing(rt: HostRuntime) {
     for (text, want) in [
         (b"".as_slice(), ListingFault::BadHeader),
         (b"tree 1\n", ListingFault::BadLine(2)),
@@ -31,6 +30,7 @@ fn refuses_what_is_no_listing(rt: HostRuntime) -> Result<(), Fail> {
         (b"tree 1\n0 dir\n01 dir 0 a\n", ListingFault::BadNumber(3)),
         (b"tree 1\n0 dir\n1 dir  0 a\n", ListingFault::BadLine(3)),
         (b"tree 1\n0 dir\n1 dir 0\n", ListingFault::BadLine(3)),
+        (b"tree 1\n0 dir\n1 dir 0 a b\n", ListingFault::BadLine(3)),
     ] {
         assert_eq!(rt;
             read_listing(rt.alloc(), text).err(),
@@ -38,27 +38,61 @@ fn refuses_what_is_no_listing(rt: HostRuntime) -> Result<(), Fail> {
             "{text:?}"
         );
     }
-    Ok(())
 }
 
 #[test]
 fn reads_each_kind(rt: HostRuntime) -> Result<(), Fail> {
     let tree = read_listing(rt.alloc(), EXAMPLE)?;
-    let [root, etc, passwd, tmp, t, up, absent] = [0, 1, 2, 3, 4, 5, 8].map(NodeId::new);
-    assert_eq!(rt; tree.kind(root), Some(Kind::Dir));
-    assert_eq!(rt; tree.kind(passwd), Some(Kind::File));
-    assert_eq!(rt; tree.kind(t), Some(Kind::Link));
-    assert_eq!(rt; tree.kind(NodeId::new(7)), Some(Kind::Prog));
-    assert_eq!(rt; tree.kind(absent), None);
-    assert_eq!(rt; tree.look(root, &Name::read(b"tmp")?), Some(tmp));
-    assert_eq!(rt; tree.look(tmp, &Name::read(b"tmp")?), None);
-    assert_eq!(rt; tree.parent(tmp), Some(root));
-    assert_eq!(rt; tree.parent(root), Some(root));
-    assert_eq!(rt; tree.parent(passwd), None);
-    assert_eq!(rt; tree.target(up), Some(b"../etc".as_slice()));
-    assert_eq!(rt; tree.target(tmp), None);
-    assert_eq!(rt; tree.is_empty(etc), false);
-    assert_eq!(rt; tree.is_empty(passwd), false);
+    for (number, kind) in [
+        (0, Some(Kind::Dir)),
+        (2, Some(Kind::File)),
+        (4, Some(Kind::Link)),
+        (7, Some(Kind::Prog)),
+        (8, None),
+    ] {
+        assert_eq!(rt; tree.kind(NodeId::new(number)), kind, "{number}");
+    }
+    Ok(())
+}
+
+#[test]
+fn reads_directories(rt: HostRuntime) -> Result<(), Fail> {
+    let tree = read_listing(rt.alloc(), EXAMPLE)?;
+    for (number, parent, empty) in [
+        (0, Some(0), false),
+        (1, Some(0), false),
+        (2, None, false),
+        (3, Some(0), false),
+        (8, None, false),
+    ] {
+        let node = NodeId::new(number);
+        assert_eq!(rt; tree.parent(node), parent.map(NodeId::new), "{number}");
+        assert_eq!(rt; tree.is_empty(node), empty, "{number}");
+    }
+    Ok(())
+}
+
+#[test]
+fn reads_rows(rt: HostRuntime) -> Result<(), Fail> {
+    let tree = read_listing(rt.alloc(), EXAMPLE)?;
+    let name = Name::read(b"tmp")?;
+    assert_eq!(rt; tree.look(NodeId::ROOT, &name), Some(NodeId::new(3)));
+    assert_eq!(rt; tree.look(NodeId::new(3), &name), None);
+    assert_eq!(rt; tree.look(NodeId::new(4), &name), None);
+    Ok(())
+}
+
+#[test]
+fn reads_targets(rt: HostRuntime) -> Result<(), Fail> {
+    let tree = read_listing(rt.alloc(), EXAMPLE)?;
+    assert_eq!(rt; tree.target(NodeId::new(5)), Some(b"../etc".as_slice()));
+    assert_eq!(rt; tree.target(NodeId::new(3)), None);
+    Ok(())
+}
+
+#[test]
+fn tells_names_in_order(rt: HostRuntime) -> Result<(), Fail> {
+    let tree = read_listing(rt.alloc(), EXAMPLE)?;
     let names = tree.names(rt.alloc())?;
     assert_eq!(rt; names.len(), 7);
     for (name, want) in names.iter().zip([
@@ -72,7 +106,6 @@ fn reads_each_kind(rt: HostRuntime) -> Result<(), Fail> {
     ]) {
         assert_eq!(rt; name.bytes(), want);
     }
-    tree.known();
     Ok(())
 }
 
@@ -86,16 +119,18 @@ fn an_empty_directory_is_empty(rt: HostRuntime) -> Result<(), Fail> {
 #[test]
 fn drops_returns_before_line_feeds(rt: HostRuntime) -> Result<(), Fail> {
     let tree = read_listing(rt.alloc(), b"tree 1\r\n0 dir\r\n1 dir 0 a\r\n")?;
-    assert_eq!(rt;
-        tree.look(NodeId::ROOT, &Name::read(b"a")?),
-        Some(NodeId::new(1))
-    );
-    assert_eq!(rt; tree.names(rt.alloc())?.len(), 1);
+    let name = Name::read(b"a")?;
+    assert_eq!(rt; tree.look(NodeId::ROOT, &name), Some(NodeId::new(1)));
     Ok(())
 }
 
+/// The first bytes of the example.
+fn cut(len: usize) -> &'static [u8] {
+    EXAMPLE.get(..len).unwrap_or(EXAMPLE)
+}
+
 #[test]
-fn judges_a_listing_that_is_cut(rt: HostRuntime) -> Result<(), Fail> {
+fn refuses_a_listing_that_is_cut_within_a_line(rt: HostRuntime) {
     assert_eq!(rt; EXAMPLE.len(), 118);
     for (len, want) in [
         (0, ListingFault::BadHeader),
@@ -111,24 +146,23 @@ fn judges_a_listing_that_is_cut(rt: HostRuntime) -> Result<(), Fail> {
             "{len}"
         );
     }
-    let one_letter = read_listing(rt.alloc(), cut(50))?;
-    assert_eq!(rt;
-        one_letter.look(NodeId::ROOT, &Name::read(b"t")?),
-        Some(NodeId::new(3))
-    );
-    let whole_name = read_listing(rt.alloc(), cut(52))?;
-    assert_eq!(rt;
-        whole_name.look(NodeId::ROOT, &Name::read(b"tmp")?),
-        Some(NodeId::new(3))
-    );
-    let short_target = read_listing(rt.alloc(), cut(65))?;
-    assert_eq!(rt; short_target.target(NodeId::new(4)), Some(b"t".as_slice()));
+}
+
+#[test]
+fn reads_a_cut_name_as_it_stands(rt: HostRuntime) -> Result<(), Fail> {
+    for (len, text) in [(50, b"t".as_slice()), (52, b"tmp")] {
+        let tree = read_listing(rt.alloc(), cut(len))?;
+        let name = Name::read(text)?;
+        assert_eq!(rt; tree.look(NodeId::ROOT, &name), Some(NodeId::new(3)));
+    }
     Ok(())
 }
 
-/// The first bytes of the example.
-fn cut(len: usize) -> &'static [u8] {
-    EXAMPLE.get(..len).unwrap_or(EXAMPLE)
+#[test]
+fn reads_a_cut_target_as_it_stands(rt: HostRuntime) -> Result<(), Fail> {
+    let tree = read_listing(rt.alloc(), cut(65))?;
+    assert_eq!(rt; tree.target(NodeId::new(4)), Some(b"t".as_slice()));
+    Ok(())
 }
 
 #[test]
@@ -142,10 +176,8 @@ fn takes_4096_nodes_and_no_more(rt: HostRuntime) -> Result<(), Fail> {
         )?;
     }
     let full = read_listing(rt.alloc(), text.as_bytes())?;
-    assert_eq!(rt;
-        full.look(NodeId::ROOT, &Name::read(b"0001")?),
-        Some(NodeId::new(4095))
-    );
+    let name = Name::read(b"0001")?;
+    assert_eq!(rt; full.look(NodeId::ROOT, &name), Some(NodeId::new(4095)));
     text.push_str("4096 file 0 more\n")?;
     assert_eq!(rt;
         read_listing(rt.alloc(), text.as_bytes()).err(),

@@ -1,0 +1,9 @@
+pub mod Rising
+pub mod Landing
+pub mod Paths
+pub mod Along
+pub mod Steps
+pub mod Turns
+pub mod Lines
+pub mod Resume
+pub mod Audited

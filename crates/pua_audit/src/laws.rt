@@ -1,0 +1,25 @@
+//! Laws and worked examples of reaches, each the contract of a function that does nothing.
+
+ghost use Rattle.pua_audit.specs.Laws.{AlphabetRises, ClosedReaches, ReachIsAlong, ReachRises, TrailsReach};
+ghost use Rattle.pua_audit.specs.Examples.{ReachRows};
+
+/// Examples of small reaches.
+pub fn reach_examples()
+    ensures { ReachRows }
+{}
+
+/// The reach has each pair once, in order.
+#[tactic(auto, using(crate::proofs::Rising::alphabet_rises, crate::proofs::Rising::reach_rises))]
+pub fn reach_laws()
+    ensures alphabet { AlphabetRises }
+    ensures reach { ReachRises }
+{}
+
+/// The reach is what is allowed letter by letter, and nothing where the process has ended or its
+/// base was removed; a walk through the words gives the pairs that are allowed letter by letter.
+#[tactic(auto, using(crate::proofs::Audited::reaches_along, crate::proofs::Audited::closed_reaches, crate::proofs::Audited::trails_reach))]
+pub fn walk_laws()
+    ensures along { ReachIsAlong }
+    ensures closed { ClosedReaches }
+    ensures trails { TrailsReach }
+{}

@@ -1,0 +1,25 @@
+//! Tests of the libraries, by what they offer to others. They stand together, above all of them,
+//! since a crate with tests is proved twice.
+#![tactic(auto)]
+
+#[cfg(test)]
+mod edits;
+mod example;
+#[cfg(test)]
+mod fields;
+#[cfg(test)]
+mod listings;
+#[cfg(test)]
+mod names;
+#[cfg(test)]
+mod paths;
+#[cfg(test)]
+mod probes;
+#[cfg(test)]
+mod processes;
+#[cfg(test)]
+mod steps;
+#[cfg(test)]
+mod verdicts;
+#[cfg(test)]
+mod words;

@@ -1,0 +1,232 @@
+//! What veils leave of a tree, and the verdicts on calls.
+
+use crate::example::{EXAMPLE, found};
+use pua_path::{Counted, Ending, Errno, Last};
+use pua_policy::judge::{verdict, verdict_of};
+use pua_policy::{Call, Cover, Perms, Place, Process, Promises, Verdict, needs};
+use pua_tree::{ListTree, Name, NodeId, read_listing};
+use std::test::Fail;
+
+/// An empty directory, and one in which a file, a link to it and a program stand.
+const KINDS: &[u8] = b"tree 1\n0 dir\n1 dir 0 d\n2 dir 0 e\n3 file 2 f\n4 link 2 l f\n5 prog 2 p\n";
+
+const OK: Option<Errno> = None;
+
+const EPERM: Option<Errno> = Some(Errno::EPERM);
+
+const ENOENT: Option<Errno> = Some(Errno::ENOENT);
+
+const EACCES: Option<Errno> = Some(Errno::EACCES);
+
+const EBUSY: Option<Errno> = Some(Errno::EBUSY);
+
+const EEXIST: Option<Errno> = Some(Errno::EEXIST);
+
+const ENOTDIR: Option<Errno> = Some(Errno::ENOTDIR);
+
+const EISDIR: Option<Errno> = Some(Errno::EISDIR);
+
+const EINVAL: Option<Errno> = Some(Errno::EINVAL);
+
+const ENOTEMPTY: Option<Errno> = Some(Errno::ENOTEMPTY);
+
+/// The verdict on a call of a path from the root.
+fn judged(tree: &ListTree, process: &Process, call: Call, text: &[u8]) -> Verdict {
+    let found = found(tree, text, needs::ending(call), needs::need(call).last);
+    verdict_of(&mut Counted::new(tree), process, call, found)
+}
+
+/// The first of all calls, in their order, that isn't allowed or refused as it is told here.
+fn unlike(
+    tree: &ListTree,
+    process: &Process,
+    text: &[u8],
+    answers: &[Option<Errno>],
+) -> Option<Call> {
+    for (call, answer) in Call::ALL.iter().zip(answers.iter()) {
+        let want = match *answer {
+            None => Verdict::Allowed,
+            Some(errno) => Verdict::Failed(errno),
+        };
+        if judged(tree, process, *call, text) != want {
+            return Some(*call);
+        }
+    }
+    None
+}
+
+#[test]
+fn judges_by_kind(rt: HostRuntime) -> Result<(), Fail> {
+    let tree = read_listing(rt.alloc(), KINDS)?;
+    let process = Process::new(rt.alloc())?;
+    for (text, answers) in [
+        // stat, lstat, readlink, open-r, open-w, open-rw, create, mkdir, rmdir, unlink, symlink, chmod, chdir, exec
+        (
+            b"/e".as_slice(),
+            [
+                OK, OK, EINVAL, OK, EISDIR, EISDIR, EISDIR, EEXIST, ENOTEMPTY, EPERM, EEXIST, OK,
+                OK, EACCES,
+            ],
+        ),
+        (
+            b"/d",
+            [
+                OK, OK, EINVAL, OK, EISDIR, EISDIR, EISDIR, EEXIST, OK, EPERM, EEXIST, OK, OK,
+                EACCES,
+            ],
+        ),
+        (
+            b"/e/f",
+            [
+                OK, OK, EINVAL, OK, OK, OK, OK, EEXIST, ENOTDIR, OK, EEXIST, OK, ENOTDIR, EACCES,
+            ],
+        ),
+        (
+            b"/e/p",
+            [
+                OK, OK, EINVAL, OK, OK, OK, OK, EEXIST, ENOTDIR, OK, EEXIST, OK, ENOTDIR, OK,
+            ],
+        ),
+        (
+            b"/e/l",
+            [
+                OK, OK, OK, OK, OK, OK, OK, EEXIST, ENOTDIR, OK, EEXIST, OK, ENOTDIR, EACCES,
+            ],
+        ),
+        (
+            b"/e/x",
+            [
+                ENOENT, ENOENT, ENOENT, ENOENT, ENOENT, ENOENT, OK, OK, ENOENT, ENOENT, OK, ENOENT,
+                ENOENT, ENOENT,
+            ],
+        ),
+    ] {
+        assert_eq!(rt; unlike(&tree, &process, text, &answers), None, "{text:?}");
+    }
+    Ok(())
+}
+
+#[test]
+fn judges_removed_directories_by_their_way(rt: HostRuntime) -> Result<(), Fail> {
+    let tree = read_listing(rt.alloc(), KINDS)?;
+    let process = Process::new(rt.alloc())?;
+    for (text, errno) in [
+        (b"/d/.".as_slice(), Errno::EINVAL),
+        (b"/d/..", Errno::EINVAL),
+        (b"/", Errno::EBUSY),
+        (b"/e/l/", Errno::ENOTDIR),
+    ] {
+        let verdict = judged(&tree, &process, Call::Rmdir, text);
+        assert_eq!(rt; verdict, Verdict::Failed(errno), "{text:?}");
+    }
+    Ok(())
+}
+
+#[test]
+fn judges_promises_before_paths(rt: HostRuntime) -> Result<(), Fail> {
+    let tree = read_listing(rt.alloc(), KINDS)?;
+    let mut process = Process::new(rt.alloc())?;
+    process.pledge(Some(Promises::RPATH.union(Promises::ERROR)), None)?;
+    assert_eq!(rt;
+        judged(&tree, &process, Call::Mkdir, b"/no/x"),
+        Verdict::Failed(Errno::ENOSYS)
+    );
+    process.pledge(Some(Promises::RPATH), None)?;
+    assert_eq!(rt;
+        judged(&tree, &process, Call::Mkdir, b"/no/x"),
+        Verdict::Death
+    );
+    assert_eq!(rt;
+        judged(&tree, &process, Call::Stat, b"/no/x"),
+        Verdict::Failed(Errno::ENOENT)
+    );
+    Ok(())
+}
+
+/// What veils leave of a path, a last link kept; None where nothing is found.
+fn covered(tree: &ListTree, process: &Process, text: &[u8]) -> Option<Cover> {
+    let found = found(tree, text, Ending::Dot, Last::Kept).ok()?;
+    Some(process.cover(&mut Counted::new(tree), &found))
+}
+
+/// A process with veils on the root, on a directory and on a file in it.
+fn veiled(rt: &HostRuntime) -> Result<Process, Fail> {
+    let mut process = Process::new(rt.alloc())?;
+    let file = Name::read(b"f")?;
+    process.unveil_at(Place::Dir(NodeId::ROOT), Perms::READ)?;
+    process.unveil_at(Place::Dir(NodeId::new(2)), Perms::NONE)?;
+    process.unveil_at(Place::Slot(NodeId::new(2), file), Perms::WRITE)?;
+    Ok(process)
+}
+
+#[test]
+fn covers_by_the_nearest_veil(rt: HostRuntime) -> Result<(), Fail> {
+    let tree = read_listing(rt.alloc(), KINDS)?;
+    let process = veiled(&rt)?;
+    for (text, perms) in [
+        (b"/d/x".as_slice(), Perms::READ),
+        (b"/e/p", Perms::NONE),
+        (b"/e/f", Perms::WRITE),
+        (b"/e", Perms::NONE),
+        (b"/", Perms::READ),
+    ] {
+        assert_eq!(rt;
+            covered(&tree, &process, text),
+            Some(Cover::Only(perms)),
+            "{text:?}"
+        );
+    }
+    Ok(())
+}
+
+#[test]
+fn covers_beneath_a_veil_alone(rt: HostRuntime) -> Result<(), Fail> {
+    let tree = read_listing(rt.alloc(), EXAMPLE)?;
+    let mut process = Process::new(rt.alloc())?;
+    assert_eq!(rt; covered(&tree, &process, b"/tmp"), Some(Cover::All));
+    process.unveil_at(Place::Dir(NodeId::new(3)), Perms::READ)?;
+    for (text, cover) in [
+        (b"/tmp/sh".as_slice(), Cover::Only(Perms::READ)),
+        (b"/t/.", Cover::Only(Perms::READ)),
+        (b"/t", Cover::Nothing),
+        (b"/etc/passwd", Cover::Nothing),
+        (b"/", Cover::Nothing),
+    ] {
+        assert_eq!(rt; covered(&tree, &process, text), Some(cover), "{text:?}");
+    }
+    Ok(())
+}
+
+#[test]
+fn a_file_veil_is_at_its_name(rt: HostRuntime) -> Result<(), Fail> {
+    let tree = read_listing(rt.alloc(), EXAMPLE)?;
+    let mut process = Process::new(rt.alloc())?;
+    let passwd = Name::read(b"passwd")?;
+    process.unveil_at(Place::Slot(NodeId::new(1), passwd), Perms::READ)?;
+    for (call, text, want) in [
+        (Call::Stat, b"/tmp/up/passwd".as_slice(), Verdict::Allowed),
+        (
+            Call::OpenWrite,
+            b"/etc/passwd",
+            Verdict::Failed(Errno::EACCES),
+        ),
+        (Call::Stat, b"/etc", Verdict::Failed(Errno::ENOENT)),
+        (Call::Stat, b"/tmp/sh", Verdict::Failed(Errno::ENOENT)),
+    ] {
+        assert_eq!(rt; judged(&tree, &process, call, text), want, "{text:?}");
+    }
+    Ok(())
+}
+
+#[test]
+fn judges_what_was_found(rt: HostRuntime) -> Result<(), Fail> {
+    let tree = read_listing(rt.alloc(), EXAMPLE)?;
+    let process = Process::new(rt.alloc())?;
+    let found = found(&tree, b"/tmp/sh", Ending::Dot, Last::Followed);
+    assert!(rt; found.is_ok());
+    if let Ok(found) = found {
+        let verdict = verdict(&mut Counted::new(&tree), &process, Call::Exec, &found);
+        assert_eq!(rt; verdict, Verdict::Allowed);
+    }
+    Ok(())
+}
