@@ -39,7 +39,13 @@ fn run(rt: &HostRuntime, args: &[String]) -> u8 {
     let mut inputs = DiskInputs::new(rt);
     let mut out = StreamSink::new(writer);
     let mut err = StreamSink::new(rt.stderr());
-    let status = command(rt.alloc(), words.as_slice(), &mut inputs, &mut out, &mut err);
+    let status = command(
+        rt.alloc(),
+        words.as_slice(),
+        &mut inputs,
+        &mut out,
+        &mut err,
+    );
     if out.flush().is_err() && status == 0 {
         return tell(rt, ToolFault::Write);
     }

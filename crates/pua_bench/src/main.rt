@@ -5,10 +5,9 @@
 use anyhow::{Result, anyhow, bail};
 use pua_path::{Counted, Ending, Last, PathText, Probe, resolve};
 use pua_tree::{ListTree, NodeId, read_listing};
-use std::env;
-use std::fs;
 use std::rt::{Clock, Files};
 use std::time::Instant;
+use std::{env, fs};
 
 const USAGE: &str = "pua_bench read LISTING TURNS; pua_bench resolve LISTING PATH TURNS";
 

@@ -54,14 +54,14 @@ module _ (s : Scope) (path line : List ℕ) (i : ℕ) (d : Call) (followed kept 
       let first = subst (λ (text : List ℕ). Writes text (Err fault) b c between after) line_now-line_at failed in
       subst (λ (text : List ℕ). Writes text (Err fault) a c before after) (sym (path_lines-split s path i d short))
       (writes_then (flat_map (line_at s path) (take i calls)) (line_at s path (get_or calls i d) ++ flat_map (line_at s path) (drop (i + 1) calls)) (Err fault) a b c before between after adds unfailed
-          (writes_front (line_at s path (get_or calls i d)) (flat_map (line_at s path) (drop (i + 1) calls)) fault b c between after first))
+      (writes_front (line_at s path (get_or calls i d)) (flat_map (line_at s path) (drop (i + 1) calls)) fault b c between after first))
 
   pub call_goes : Adds line_now b c → Adds (flat_map (line_at s path) (take (i + 1) calls)) a c
   call_goes more =
       let first = subst (λ (text : List ℕ). Adds text b c) line_now-line_at more in
       let whole : flat_map (line_at s path) (take (i + 1) calls) ≡ flat_map (line_at s path) (take i calls) ++ line_at s path (get_or calls i d) =
-          ap (flat_map (line_at s path)) (take_more calls i d short) ∙ flat_map-append (line_at s path) (take i calls) (get_or calls i d ∷ [])
-          ∙ ap (λ l. flat_map (line_at s path) (take i calls) ++ l) (append-nil (line_at s path (get_or calls i d))) in
+      ap (flat_map (line_at s path)) (take_more calls i d short) ∙ flat_map-append (line_at s path) (take i calls) (get_or calls i d ∷ [])
+      ∙ ap (λ l. flat_map (line_at s path) (take i calls) ++ l) (append-nil (line_at s path (get_or calls i d))) in
       subst (λ (text : List ℕ). Adds text a c) (sym whole) (Appends-trans a b c (flat_map (line_at s path) (take i calls)) (line_at s path (get_or calls i d)) adds first)
 
 -- all calls were passed
@@ -106,22 +106,22 @@ module _ (s : Scope) (left : ℕ) (trail : List ℕ) (letters : List Letter) (al
   letter_fails i letter fault a b c before between after short is adds unfailed failed =
       subst (λ (text : List ℕ). Writes text (Err fault) a c before after) (sym (below-split i letter short is))
       (writes_then (so_far i) (below (letter_text letter) ++ flat_map below (map letter_text (drop (i + 1) letters))) (Err fault) a b c before between after adds unfailed
-          (writes_front (below (letter_text letter)) (flat_map below (map letter_text (drop (i + 1) letters))) fault b c between after failed))
+      (writes_front (below (letter_text letter)) (flat_map below (map letter_text (drop (i + 1) letters))) fault b c between after failed))
 
   pub letter_goes : (i : ℕ) (letter : Letter) (a b c : Option (List ℕ)) → i < length letters → letter ≡ get_or letters i letter
       → Adds (so_far i) a b → Adds (below (letter_text letter)) b c → Adds (so_far (i + 1)) a c
   letter_goes i letter a b c short is adds more =
       let whole : so_far (i + 1) ≡ so_far i ++ below (letter_text letter) =
-          ap (λ l. first_lines ++ flat_map below (map letter_text l)) (take_more letters i letter short)
-          ∙ ap (λ l. first_lines ++ flat_map below l) (map-append letter_text (take i letters) (get_or letters i letter ∷ []))
-          ∙ ap (λ l. first_lines ++ l) (flat_map-append below (map letter_text (take i letters)) (letter_text (get_or letters i letter) ∷ []))
-          ∙ ap (λ l. first_lines ++ (flat_map below (map letter_text (take i letters)) ++ l)) (append-nil (below (letter_text (get_or letters i letter))))
-          ∙ ap (λ l. first_lines ++ (flat_map below (map letter_text (take i letters)) ++ below (letter_text l))) (sym is)
-          ∙ sym (append_assoc first_lines (flat_map below (map letter_text (take i letters))) (below (letter_text letter))) in
+      ap (λ l. first_lines ++ flat_map below (map letter_text l)) (take_more letters i letter short)
+      ∙ ap (λ l. first_lines ++ flat_map below l) (map-append letter_text (take i letters) (get_or letters i letter ∷ []))
+      ∙ ap (λ l. first_lines ++ l) (flat_map-append below (map letter_text (take i letters)) (letter_text (get_or letters i letter) ∷ []))
+      ∙ ap (λ l. first_lines ++ (flat_map below (map letter_text (take i letters)) ++ l)) (append-nil (below (letter_text (get_or letters i letter))))
+      ∙ ap (λ l. first_lines ++ (flat_map below (map letter_text (take i letters)) ++ below (letter_text l))) (sym is)
+      ∙ sym (append_assoc first_lines (flat_map below (map letter_text (take i letters))) (below (letter_text letter))) in
       subst (λ (text : List ℕ). Adds text a c) (sym whole) (Appends-trans a b c (so_far i) (below (letter_text letter)) adds more)
 
   pub all_letters : (i : ℕ) (a b : Option (List ℕ)) → length letters ≤ i → Adds (so_far i) a b → Adds (lines_below s left trail) a b
   all_letters i a b past adds =
       let whole : so_far i ≡ lines_below s left trail =
-          ap (λ l. first_lines ++ flat_map below (map letter_text l)) (take_all i letters past) ∙ ap (λ l. first_lines ++ flat_map below l) (sym alphabet) ∙ sym (lines_below-some s left trail some) in
+      ap (λ l. first_lines ++ flat_map below (map letter_text l)) (take_all i letters past) ∙ ap (λ l. first_lines ++ flat_map below l) (sym alphabet) ∙ sym (lines_below-some s left trail some) in
       subst (λ (text : List ℕ). Adds text a b) whole adds

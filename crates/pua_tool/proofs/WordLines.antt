@@ -81,7 +81,7 @@ word_lines-path s word all = ap (path_lines s) (path_by-trail_of s.base word all
     by_calls [] = refl
     by_calls (call ∷ cs) =
         elim (is_allowed (verdict_on s.tree s.table s.history call (path_of s.base word))) as (λ b. line_if b (spelling (path_of s.base word)) call ++ flat_map (λ c. line_if (is_open s (path_of s.base word) c) (spelling (path_of s.base word)) c) cs
-            ≡ pair_lines s.base (cond b ((word, call) ∷ filter (is_reached s) (map (λ c. (word, c)) cs)) (filter (is_reached s) (map (λ c. (word, c)) cs)))) [
+        ≡ pair_lines s.base (cond b ((word, call) ∷ filter (is_reached s) (map (λ c. (word, c)) cs)) (filter (is_reached s) (map (λ c. (word, c)) cs)))) [
           | true ↦ ap (λ r. line_if true (spelling (path_of s.base word)) call ++ r) (by_calls cs)
           | false ↦ by_calls cs
         ]
@@ -93,13 +93,13 @@ lines_below-words s zero word letters all = word_lines-path s word all ∙ ap (w
 lines_below-words s (suc l) word letters all =
     ap (λ r. r ++ flat_map (λ letter. lines_below s l (extended s.base (trail_of s.base word) letter)) s.alphabet) (word_lines-path s word all ∙ ap (word_lines s) (sym (append-nil word)))
     ∙ ap (λ r. word_lines s (word ++ []) ++ r)
-        (flat_map-letters (λ letter. lines_below s l (extended s.base (trail_of s.base word) letter)) (λ letter. flat_map (λ more. word_lines s (word ++ more)) (map (λ w. letter ∷ w) (words s.alphabet l)))
-            (λ letter one. ap (lines_below s l) (sym (trail_of-more s.base word letter all))
-                ∙ lines_below-words s l (word ++ letter ∷ []) letters (are_letters-more word letter all one)
-                ∙ (λ i. flat_map (λ more. word_lines s (append_assoc word (letter ∷ []) more i)) (words s.alphabet l))
-                ∙ sym (flat_map-map (λ more. word_lines s (word ++ more)) (λ w. letter ∷ w) (words s.alphabet l)))
-            s.alphabet letters
-        ∙ sym (flat_map-flat_map (λ more. word_lines s (word ++ more)) (λ letter. map (λ w. letter ∷ w) (words s.alphabet l)) s.alphabet))
+    (flat_map-letters (λ letter. lines_below s l (extended s.base (trail_of s.base word) letter)) (λ letter. flat_map (λ more. word_lines s (word ++ more)) (map (λ w. letter ∷ w) (words s.alphabet l)))
+    (λ letter one. ap (lines_below s l) (sym (trail_of-more s.base word letter all))
+    ∙ lines_below-words s l (word ++ letter ∷ []) letters (are_letters-more word letter all one)
+    ∙ (λ i. flat_map (λ more. word_lines s (append_assoc word (letter ∷ []) more i)) (words s.alphabet l))
+    ∙ sym (flat_map-map (λ more. word_lines s (word ++ more)) (λ w. letter ∷ w) (words s.alphabet l)))
+    s.alphabet letters
+    ∙ sym (flat_map-flat_map (λ more. word_lines s (word ++ more)) (λ letter. map (λ w. letter ∷ w) (words s.alphabet l)) s.alphabet))
 
 trail_of-none : (base : Base) → trail_of base [] ≡ []
 trail_of-none Root = refl

@@ -5,18 +5,14 @@ ghost use Rattle.pua_tree.specs.Tree.{with_name};
 ghost use Rattle.pua_tool.specs.Begin.{candidates_from, longest};
 ghost use Rattle.pua_tool.specs.Letters.{letter_text, are_letters, with_names};
 
+use crate::fault::AuditFault;
+use crate::letter::Letter;
 use pua_tree::{Name, OutOfMemory};
 use std::alloc::Global;
 use std::cmp::Ordering;
 
-use crate::fault::AuditFault;
-use crate::letter::Letter;
-
 /// The names that candidates spell, or the place of the first that spells none.
-pub(crate) fn read_candidates(
-    alloc: Global,
-    spellings: &[&[u8]],
-) -> Result<Vec<Name>, AuditFault>
+pub(crate) fn read_candidates(alloc: Global, spellings: &[&[u8]]) -> Result<Vec<Name>, AuditFault>
     requires { length spellings.now ≤ 1024 }
     ensures { MatchResult result (λ names. candidates_from 1 (map (λ s. s.now) spellings.now) ≡ Ok names.items)
         (λ fault. fault ≢ AuditFault.OutOfMemory → candidates_from 1 (map (λ s. s.now) spellings.now) ≡ Err fault) }

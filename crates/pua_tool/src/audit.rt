@@ -9,16 +9,15 @@ ghost use Rattle.pua_tool.specs.Sinks.{Adds, AddsFront, HasFailed, Writes};
 ghost use Rattle.pua_tool.specs.Filter.{lines_below, scope_of, IsReady};
 ghost use Rattle.pua_tool.specs.Texts.{asked, audited, audit_text};
 
-use pua_policy::Process;
-use pua_tree::{FileTree, ListTree, ListingFault, read_listing};
-use std::alloc::Global;
-
 use crate::alphabet::{alphabet, longest, read_candidates};
 use crate::fault::{AuditFault, ScriptFault, ToolFault};
 use crate::filter::{Audited, MOST_LINE, MOST_PATH, write_below};
 use crate::job::Job;
 use crate::letter::Letter;
 use crate::sink::{PutFault, Sink, put_all};
+use pua_policy::Process;
+use pua_tree::{FileTree, ListTree, ListingFault, read_listing};
+use std::alloc::Global;
 
 /// Writes the text of an audit: `reach P` and then a line for each pair of a path and a call that
 /// the process is allowed, over all paths of at most so many letters, each once, in the order of
@@ -115,11 +114,7 @@ fn begin(
 }
 
 /// The letters of an audit, or the first fault with which it can't begin.
-fn letters_of(
-    alloc: Global,
-    tree: &ListTree,
-    job: &Job<'_>,
-) -> Result<Vec<Letter>, AuditFault>
+fn letters_of(alloc: Global, tree: &ListTree, job: &Job<'_>) -> Result<Vec<Letter>, AuditFault>
     ensures begun { IfOk result (λ letters. beginning tree.now standard_table new_history job.now.base (map (λ s. s.now) job.now.candidates.now) job.now.limit (option_map (λ s. s.now) job.now.after)
         ≡ Ok (record { tree = tree.now; table = standard_table; history = new_history; base = job.now.base; alphabet = map letter_text letters.items; limit = job.now.limit })) }
     ensures letters { IfOk result (λ letters. are_letters (map letter_text letters.items) ≡ true) }

@@ -3,26 +3,30 @@
 ghost use Rattle.std.specs.Prelude.{◌≡◌, ◌≢◌, ◌≤◌};
 ghost use Rattle.pua_tool.specs.Statuses.{status_of};
 
-use std::alloc::Global;
-use std::fmt;
-use std::fmt::{Display, Write};
-
 use crate::audit::audit_to;
 use crate::fault::ToolFault;
 use crate::inputs::{InputFault, Inputs};
 use crate::job::{Base, Job};
 use crate::sink::{Sink, put_all};
 use crate::words::{AuditWords, Stop, read_words};
+use std::alloc::Global;
+use std::fmt;
+use std::fmt::{Display, Write};
 
 /// What was done, or the input, the words, the device or the memory that stopped it.
 const DONE: u8 = 0;
+
 const REFUSED: u8 = 1;
+
 const USAGE: u8 = 2;
+
 const DEVICE: u8 = 3;
+
 const MEMORY: u8 = 4;
 
 /// The line that tells how the program is used.
-pub const USAGE_LINE: &str = "pua: usage: pua run TREE SCRIPT; pua audit --limit N [--process P] [--base root|cwd] [--after CALL:PATH] TREE SCRIPT [NAME...]";
+pub const USAGE_LINE: &str =
+    "pua: usage: pua run TREE SCRIPT; pua audit --limit N [--process P] [--base root|cwd] [--after CALL:PATH] TREE SCRIPT [NAME...]";
 
 /// Does what the words behind the program's name ask for: the text goes to `out`, and of a fault one
 /// line goes to `err`, which is dropped where it can't be written. It answers the status: 0 where it

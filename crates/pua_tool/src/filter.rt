@@ -12,16 +12,15 @@ ghost use Rattle.pua_tool.specs.Letters.{letter_text};
 ghost use Rattle.pua_tool.specs.Sinks.{Writes};
 ghost use Rattle.pua_tool.specs.Filter.{path_by, extended, line_if, path_lines, lines_below, by_last, scope_of};
 
+use crate::job::Base;
+use crate::letter::Letter;
+use crate::line::{MOST_BEHIND, spell, write_line};
+use crate::sink::{PutFault, Sink};
 use pua_path::{Counted, Ending, Errno, Found, Last, PathText, resolve};
 use pua_policy::judge::verdict_of;
 use pua_policy::needs::need;
 use pua_policy::{Call, Process, Verdict};
 use pua_tree::{FileTree, ListTree};
-
-use crate::job::Base;
-use crate::letter::Letter;
-use crate::line::{MOST_BEHIND, spell, write_line};
-use crate::sink::{PutFault, Sink};
 
 /// How many bytes a path has at most.
 pub(crate) const MOST_PATH: usize = 1023;

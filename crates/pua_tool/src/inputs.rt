@@ -3,13 +3,12 @@
 ghost use Rattle.std.specs.Prelude.{◌≡◌, ◌↔◌, None, Some, IfOk, Err, map, option_map};
 ghost use Rattle.pua_tool.specs.Named.{kept_under};
 
+use crate::source::{ReadSource, read_bytes};
 use std::alloc::Global;
 use std::fs;
 use std::marker::Model;
 use std::rt::Files;
 use thiserror::Error;
-
-use crate::source::{ReadSource, read_bytes};
 
 /// Why an input is not there.
 #[derive(Clone, Copy, Debug, PartialEq, Eq, Error)]

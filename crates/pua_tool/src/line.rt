@@ -6,10 +6,9 @@ ghost use Rattle.pua_policy.specs.Calls.{call_name};
 ghost use Rattle.pua_tool.specs.Texts.{ended};
 ghost use Rattle.pua_tool.specs.Sinks.{Writes};
 
+use crate::sink::{PutFault, Sink, put_all};
 use pua_policy::Call;
 use pua_tree::byte_spelling;
-
-use crate::sink::{PutFault, Sink, put_all};
 
 /// How many bytes a line has behind its path at most.
 pub(crate) const MOST_BEHIND: usize = 10;
@@ -23,7 +22,8 @@ pub(crate) fn spell(path: &[u8], line: &mut Vec<u8>)
 {
     line.clear();
     for byte in path {
-        line.extend_from_slice(byte_spelling(*byte).as_bytes()).unwrap();
+        line.extend_from_slice(byte_spelling(*byte).as_bytes())
+            .unwrap();
     }
 }
 

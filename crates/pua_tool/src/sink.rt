@@ -4,11 +4,10 @@ ghost use Rattle.std.specs.Prelude.{◌≡◌, ◌≤◌, ◌-◌, ℕ, List, []
 ghost use Rattle.std.specs.Io.KnownBytes.{Keeps};
 ghost use Rattle.pua_tool.specs.Sinks.{Adds, AddsFront, HasFailed, Puts, Memory, counted};
 
+use pua_tree::OutOfMemory;
 use std::alloc::Global;
 use std::io::Write;
 use std::marker::Model;
-
-use pua_tree::OutOfMemory;
 
 /// A put failed, and added nothing.
 #[derive(Clone, Copy, Debug, PartialEq, Eq)]

@@ -5,11 +5,10 @@ ghost use Rattle.std.specs.Io.KnownBytes.{Keeps, ReadConsumes};
 ghost use Rattle.pua_tool.specs.Sinks.{counted};
 ghost use Rattle.pua_tool.specs.Sources.{CantBeRead, most_bytes};
 
+use crate::inputs::InputFault;
 use std::alloc::Global;
 use std::io::Read;
 use std::marker::Model;
-
-use crate::inputs::InputFault;
 
 /// A read failed, and took nothing.
 #[derive(Clone, Copy, Debug, PartialEq, Eq)]

@@ -1,13 +1,10 @@
 //! Whole commands, over inputs and sinks in memory, and readings that fail.
 
+use crate::{InputFault, MemoryInputs, MemorySink, ReadSource, USAGE_LINE, command, read_bytes};
 use std::alloc::Global;
 use std::io::{self, Read};
 use std::process::Abort;
 use std::test::Fail;
-
-use crate::{
-    InputFault, MemoryInputs, MemorySink, ReadSource, USAGE_LINE, command, read_bytes,
-};
 
 const ROOT_ALONE: &[u8] = b"tree 1\n0 dir\n";
 
@@ -27,7 +24,10 @@ fn expect(
     let mut inputs = MemoryInputs::new(&entries);
     let mut out = MemorySink::new(alloc, 65_536)?;
     let mut err = MemorySink::new(alloc, 1024)?;
-    assert_eq!(rt; command(alloc, words, &mut inputs, &mut out, &mut err), status);
+    assert_eq!(rt;
+        command(alloc, words, &mut inputs, &mut out, &mut err),
+        status
+    );
     assert_eq!(rt; out.bytes(), text);
     assert_eq!(rt; err.bytes(), line);
     Ok(())
@@ -38,7 +38,8 @@ fn lists_the_root(rt: HostRuntime) -> Result<(), Fail> {
     let alloc = rt.alloc();
     let words = ["audit", "--limit", "0", "T", "S"];
     expect(&rt, alloc, &words, ROOT_ALONE, 0, ROOT_LINES, b"")?;
-    let text = b"reach 1\n/ stat\n/ lstat\n/ open-r\n/ chmod\n/ chdir\n/.. stat\n/.. lstat\n/.. open-r\n/.. chmod\n/.. chdir\n";
+    let text =
+        b"reach 1\n/ stat\n/ lstat\n/ open-r\n/ chmod\n/ chdir\n/.. stat\n/.. lstat\n/.. open-r\n/.. chmod\n/.. chdir\n";
     let words = ["audit", "--limit", "1", "T", "S"];
     expect(&rt, alloc, &words, ROOT_ALONE, 0, text, b"")
 }
@@ -47,12 +48,30 @@ fn lists_the_root(rt: HostRuntime) -> Result<(), Fail> {
 fn tells_why_a_listing_is_refused(rt: HostRuntime) -> Result<(), Fail> {
     let refused: [(&[u8], &[u8]); 7] = [
         (b"", b"pua: listing: bad header\n"),
-        (b"tree 1\n0 dir\n1 dir 0\n", b"pua: listing: line 3: bad line\n"),
-        (b"tree 1\n0 dir\n01 dir 0 a\n", b"pua: listing: line 3: bad number\n"),
-        (b"tree 1\n0 dir\n1 file 0 a\n2 file 1 b\n", b"pua: listing: line 4: bad parent\n"),
-        (b"tree 1\n0 dir\n1 dir 0 \\141\n", b"pua: listing: line 3: bad name\n"),
-        (b"tree 1\n0 dir\n1 link 0 a \\000\n", b"pua: listing: line 3: bad target\n"),
-        (b"tree 1\n0 dir\n1 dir 0 a\n2 file 0 a\n", b"pua: listing: line 4: name taken\n"),
+        (
+            b"tree 1\n0 dir\n1 dir 0\n",
+            b"pua: listing: line 3: bad line\n",
+        ),
+        (
+            b"tree 1\n0 dir\n01 dir 0 a\n",
+            b"pua: listing: line 3: bad number\n",
+        ),
+        (
+            b"tree 1\n0 dir\n1 file 0 a\n2 file 1 b\n",
+            b"pua: listing: line 4: bad parent\n",
+        ),
+        (
+            b"tree 1\n0 dir\n1 dir 0 \\141\n",
+            b"pua: listing: line 3: bad name\n",
+        ),
+        (
+            b"tree 1\n0 dir\n1 link 0 a \\000\n",
+            b"pua: listing: line 3: bad target\n",
+        ),
+        (
+            b"tree 1\n0 dir\n1 dir 0 a\n2 file 0 a\n",
+            b"pua: listing: line 4: name taken\n",
+        ),
     ];
     let words = ["audit", "--limit", "1", "T", "S"];
     for (tree, line) in &refused {
@@ -65,13 +84,45 @@ fn tells_why_a_listing_is_refused(rt: HostRuntime) -> Result<(), Fail> {
 fn tells_why_an_audit_is_refused(rt: HostRuntime) -> Result<(), Fail> {
     let alloc = rt.alloc();
     let words = ["audit", "--limit", "17", "T", "S"];
-    expect(&rt, alloc, &words, ROOT_ALONE, 1, b"", b"pua: audit: limit too large\n")?;
+    expect(
+        &rt,
+        alloc,
+        &words,
+        ROOT_ALONE,
+        1,
+        b"",
+        b"pua: audit: limit too large\n",
+    )?;
     let words = ["audit", "--limit", "1", "T", "S", "a", "\\141"];
-    expect(&rt, alloc, &words, ROOT_ALONE, 1, b"", b"pua: audit: bad candidate 2\n")?;
+    expect(
+        &rt,
+        alloc,
+        &words,
+        ROOT_ALONE,
+        1,
+        b"",
+        b"pua: audit: bad candidate 2\n",
+    )?;
     let words = ["audit", "--limit", "1", "T", "U"];
-    expect(&rt, alloc, &words, ROOT_ALONE, 3, b"", b"pua: cannot read U\n")?;
+    expect(
+        &rt,
+        alloc,
+        &words,
+        ROOT_ALONE,
+        3,
+        b"",
+        b"pua: cannot read U\n",
+    )?;
     let words = ["audit", "--limit", "1", "T", "T"];
-    expect(&rt, alloc, &words, ROOT_ALONE, 1, b"", b"pua: script: line 1: bad call\n")
+    expect(
+        &rt,
+        alloc,
+        &words,
+        ROOT_ALONE,
+        1,
+        b"",
+        b"pua: script: line 1: bad call\n",
+    )
 }
 
 #[test]
@@ -81,7 +132,15 @@ fn tells_how_it_is_used(rt: HostRuntime) -> Result<(), Fail> {
     let line = line.as_bytes();
     expect(&rt, alloc, &[], ROOT_ALONE, 2, b"", line)?;
     expect(&rt, alloc, &["audit", "T", "S"], ROOT_ALONE, 2, b"", line)?;
-    expect(&rt, alloc, &["audit", "--limit", "300", "T", "S"], ROOT_ALONE, 2, b"", line)
+    expect(
+        &rt,
+        alloc,
+        &["audit", "--limit", "300", "T", "S"],
+        ROOT_ALONE,
+        2,
+        b"",
+        line,
+    )
 }
 
 #[test]
@@ -92,7 +151,15 @@ fn paths_have_at_most_1023_bytes(rt: HostRuntime) -> Result<(), Fail> {
         name.push('a')?;
     }
     let words = ["audit", "--limit", "4", "T", "S", name.as_str()];
-    expect(&rt, alloc, &words, ROOT_ALONE, 1, b"", b"pua: audit: paths too long\n")?;
+    expect(
+        &rt,
+        alloc,
+        &words,
+        ROOT_ALONE,
+        1,
+        b"",
+        b"pua: audit: paths too long\n",
+    )?;
     let words = ["audit", "--limit", "3", "T", "S", name.as_str()];
     let entries = [("T", ROOT_ALONE), ("S", b"".as_slice())];
     let mut inputs = MemoryInputs::new(&entries);

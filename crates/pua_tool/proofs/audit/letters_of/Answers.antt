@@ -31,9 +31,9 @@ returns-then-from-longest-gt-MOST_PATH-clause-refused c =
     let cands = c.args.job.now.candidates.now in
     let few : length (map (λ s. s.now) cands) ≤ 1024 = omega (arith, length-map cands (λ s. s.now)) in
     let same : alphabet_of t c.in-Ok.candidates.items ≡ map letter_text c.in-Ok-alphabet.letters.items =
-        ap (with_name (codes "..")) (distinct_names-append c.in-Ok.candidates.items (map (λ row. row.0.1) t.rows))
-        ∙ (λ i. with_name (codes "..") (with_names (sym c.as_slice-2.ensures.value i) (sym (c.as_slice.ensures.value ∙ c.in-Ok-names.ensures.names) i)))
-        ∙ sym c.in-Ok-alphabet.ensures in
+    ap (with_name (codes "..")) (distinct_names-append c.in-Ok.candidates.items (map (λ row. row.0.1) t.rows))
+    ∙ (λ i. with_name (codes "..") (with_names (sym c.as_slice-2.ensures.value i) (sym (c.as_slice.ensures.value ∙ c.in-Ok-names.ensures.names) i)))
+    ∙ sym c.in-Ok-alphabet.ensures in
     let most : c.longest.result ≡ longest (alphabet_of t c.in-Ok.candidates.items) = c.longest.ensures.longest ∙ ap (λ l. longest (map letter_text l)) c.as_slice-3.ensures.value ∙ ap longest (sym same) in
     let product = same_product c.from.result c.args.job.now.limit c.longest.result (longest (alphabet_of t c.in-Ok.candidates.items)) c.from.ensures most in
     λ _. too_long t standard_table new_history c.args.job.now.base (map (λ s. s.now) cands) c.args.job.now.limit (option_map (λ s. s.now) c.args.job.now.after) c.in-Ok.candidates.items c.if-job-gt16.false few c.in-Ok.ensures (subst (λ n. 1023 < n) product c.if-from-longest-gt-MOST_PATH.true)
@@ -44,9 +44,9 @@ returns-then-is_some-clause-refused c =
     let cands = c.args.job.now.candidates.now in
     let few : length (map (λ s. s.now) cands) ≤ 1024 = omega (arith, length-map cands (λ s. s.now)) in
     let same : alphabet_of t c.in-Ok.candidates.items ≡ map letter_text c.in-Ok-alphabet.letters.items =
-        ap (with_name (codes "..")) (distinct_names-append c.in-Ok.candidates.items (map (λ row. row.0.1) t.rows))
-        ∙ (λ i. with_name (codes "..") (with_names (sym c.as_slice-2.ensures.value i) (sym (c.as_slice.ensures.value ∙ c.in-Ok-names.ensures.names) i)))
-        ∙ sym c.in-Ok-alphabet.ensures in
+    ap (with_name (codes "..")) (distinct_names-append c.in-Ok.candidates.items (map (λ row. row.0.1) t.rows))
+    ∙ (λ i. with_name (codes "..") (with_names (sym c.as_slice-2.ensures.value i) (sym (c.as_slice.ensures.value ∙ c.in-Ok-names.ensures.names) i)))
+    ∙ sym c.in-Ok-alphabet.ensures in
     let most : c.longest.result ≡ longest (alphabet_of t c.in-Ok.candidates.items) = c.longest.ensures.longest ∙ ap (λ l. longest (map letter_text l)) c.as_slice-3.ensures.value ∙ ap longest (sym same) in
     let product = same_product c.from.result c.args.job.now.limit c.longest.result (longest (alphabet_of t c.in-Ok.candidates.items)) c.from.ensures most in
     let old : is_none (option_map (λ s. s.now) c.args.job.now.after) ≡ false = none-mapped (λ s. s.now) c.args.job.now.after (sym c.if-is_some.ensures) in
@@ -58,9 +58,9 @@ returns-clause-begun c =
     let cands = c.args.job.now.candidates.now in
     let few : length (map (λ s. s.now) cands) ≤ 1024 = omega (arith, length-map cands (λ s. s.now)) in
     let same : alphabet_of t c.in-Ok.candidates.items ≡ map letter_text c.in-Ok-alphabet.letters.items =
-        ap (with_name (codes "..")) (distinct_names-append c.in-Ok.candidates.items (map (λ row. row.0.1) t.rows))
-        ∙ (λ i. with_name (codes "..") (with_names (sym c.as_slice-2.ensures.value i) (sym (c.as_slice.ensures.value ∙ c.in-Ok-names.ensures.names) i)))
-        ∙ sym c.in-Ok-alphabet.ensures in
+    ap (with_name (codes "..")) (distinct_names-append c.in-Ok.candidates.items (map (λ row. row.0.1) t.rows))
+    ∙ (λ i. with_name (codes "..") (with_names (sym c.as_slice-2.ensures.value i) (sym (c.as_slice.ensures.value ∙ c.in-Ok-names.ensures.names) i)))
+    ∙ sym c.in-Ok-alphabet.ensures in
     let most : c.longest.result ≡ longest (alphabet_of t c.in-Ok.candidates.items) = c.longest.ensures.longest ∙ ap (λ l. longest (map letter_text l)) c.as_slice-3.ensures.value ∙ ap longest (sym same) in
     let product = same_product c.from.result c.args.job.now.limit c.longest.result (longest (alphabet_of t c.in-Ok.candidates.items)) c.from.ensures most in
     let fresh : is_none (option_map (λ s. s.now) c.args.job.now.after) ≡ true = none-mapped_not (λ s. s.now) c.args.job.now.after (sym c.if-is_some.ensures) in

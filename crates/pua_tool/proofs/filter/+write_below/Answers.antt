@@ -20,10 +20,11 @@ returns-in_err-write_path-clause-writes g t c =
 pub returns-then-left-eq0-clause-writes : goal.returns-then-left-eq0-clause-writes
 returns-then-left-eq0-clause-writes g t c =
     let s = scope_of c.args.audited.now in
-    let path : c.path_by.result.now ≡ path_by c.args.audited.now.base c.args.trail.now.items = c.path_by.ensures ∙ ap (path_by c.args.audited.now.base) c.as_slice.ensures.value in
-    (none_follows s c.args.left c.args.trail.now.items (g.S.Sink.written c.args.sink.now) (g.S.Sink.written c.write_path.new.sink) c.if-left-eq0.true
-        (subst (λ (text : List ℕ). Adds (path_lines s text) (g.S.Sink.written c.args.sink.now) (g.S.Sink.written c.write_path.new.sink)) path c.in_ok-write_path.ensures.writes.0),
-     c.in_ok-write_path.ensures.writes.1)
+    let path : c.path_by.result.now ≡ path_by c.args.audited.now.base c.args.trail.now.items = c.path_by.ensures ∙ ap (path_by c.args.audited.now.base) c.as_slice.ensures.value in (
+      none_follows s c.args.left c.args.trail.now.items (g.S.Sink.written c.args.sink.now) (g.S.Sink.written c.write_path.new.sink) c.if-left-eq0.true
+          (subst (λ (text : List ℕ). Adds (path_lines s text) (g.S.Sink.written c.args.sink.now) (g.S.Sink.written c.write_path.new.sink)) path c.in_ok-write_path.ensures.writes.0),
+      c.in_ok-write_path.ensures.writes.1,
+    )
 
 pub extend-requires : goal.extend-requires
 extend-requires g t c =
@@ -45,10 +46,23 @@ write_below-requires g t c =
     let fits = letter-le-longest 0 letters c.loop-letter.letter-index c.letter-item.result short is in
     let trail : c.extend.new.trail.items ≡ extended base c.args.trail.now.items letter = c.extend.ensures.trail ∙ (λ i. extended base (c.loop-letter.invariant.trail i) (c.bytes.ensures.bytes i)) in
     let more : vec_len c.extend.new.trail ≤ vec_len c.args.trail.now + suc (longest (map letter_text letters)) =
-        omega (arith, c.extend.new.trail.ok.0, c.args.trail.now.ok.0, ap length trail, length-extended base c.args.trail.now.items letter, fits) in
-    λ κs h. (omega (arith, c.decreases), (search rules, (c.requires.history, (ap ends_in_slash trail ∙ extended_end base c.args.trail.now.items letter c.bytes.ensures.letter,
-    (room_for_letter (vec_len c.args.trail.now) (vec_len c.extend.new.trail) c.args.left (suc (longest (map letter_text letters))) (omega arith) c.requires.short more,
-    (omega (arith, c.extend.ensures.room, c.loop-letter.invariant.trail_room), c.loop-letter.invariant.line_room))))))
+    omega (arith, c.extend.new.trail.ok.0, c.args.trail.now.ok.0, ap length trail, length-extended base c.args.trail.now.items letter, fits) in
+    λ κs h. (
+      omega (arith, c.decreases),
+      (
+        search rules,
+        (
+          c.requires.history,
+          (
+            ap ends_in_slash trail ∙ extended_end base c.args.trail.now.items letter c.bytes.ensures.letter,
+            (
+              room_for_letter (vec_len c.args.trail.now) (vec_len c.extend.new.trail) c.args.left (suc (longest (map letter_text letters))) (omega arith) c.requires.short more,
+              (omega (arith, c.extend.ensures.room, c.loop-letter.invariant.trail_room), c.loop-letter.invariant.line_room),
+            ),
+          ),
+        ),
+      ),
+    )
 
 pub returns-in_err-write_below-clause-writes : goal.returns-in_err-write_below-clause-writes
 returns-in_err-write_below-clause-writes g t c =
@@ -69,9 +83,10 @@ pub returns-clause-writes : goal.returns-clause-writes
 returns-clause-writes g t c =
     let letters = c.args.audited.now.letters.items in
     let same = c.deref-letter-items.ensures.value in
-    let past : length letters ≤ c.loop-letter.letter-index = omega (arith, c.loop-letter-test.false, ap length same) in
-    (all_letters (scope_of c.args.audited.now) c.args.left c.args.trail.now.items letters refl (omega arith) c.loop-letter.letter-index (g.S.Sink.written c.args.sink.now) (g.S.Sink.written c.loop-letter.sink) past c.loop-letter.invariant.adds,
-     c.loop-letter.invariant.unfailed)
+    let past : length letters ≤ c.loop-letter.letter-index = omega (arith, c.loop-letter-test.false, ap length same) in (
+      all_letters (scope_of c.args.audited.now) c.args.left c.args.trail.now.items letters refl (omega arith) c.loop-letter.letter-index (g.S.Sink.written c.args.sink.now) (g.S.Sink.written c.loop-letter.sink) past c.loop-letter.invariant.adds,
+      c.loop-letter.invariant.unfailed,
+    )
 
 pub loop-letter-preserved : goal.loop-letter-preserved
 loop-letter-preserved g t c =
