@@ -23,6 +23,3 @@ pub use job::{Base, Job};
 pub use laws::{audit_examples, reach_laws};
 pub use sink::{MemorySink, PutFault, Sink, StreamSink, put_all};
 pub use source::{MOST_BYTES, ReadFault, ReadSource, Source, read_bytes};
-
-#[cfg(test)]
-mod tests;

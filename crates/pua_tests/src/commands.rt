@@ -1,6 +1,6 @@
 //! Whole commands, over inputs and sinks in memory, and readings that fail.
 
-use crate::{InputFault, MemoryInputs, MemorySink, ReadSource, USAGE_LINE, command, read_bytes};
+use pua_tool::{InputFault, MemoryInputs, MemorySink, ReadSource, USAGE_LINE, command, read_bytes};
 use std::alloc::Global;
 use std::io::{self, Read};
 use std::process::Abort;
