@@ -7,4 +7,4 @@ pub returns : goal.returns
 returns c =
     let text = c.args.text.now in
     founds_fit c.args.tree.now c.known.ensures 0 text.ending text.bytes c.args.mode c.resolve.result
-        (c.resolve.ensures.exact ∙ ap (λ t. resolution t 0 text.ending text.bytes c.args.mode) c.new-probe.ensures.tree)
+    (c.resolve.ensures.exact ∙ ap (λ t. resolution t 0 text.ending text.bytes c.args.mode) c.new-probe.ensures.tree)
