@@ -145,7 +145,9 @@ fn judges_promises_before_paths(rt: HostRuntime) -> Result<(), Fail> {
 
 /// What veils leave of a path, a last link kept; None where nothing is found.
 fn covered(tree: &ListTree, process: &Process, text: &[u8]) -> Option<Cover> {
-    let found = found(tree, text, Ending::Dot, Last::Kept).ok()?;
+    let Ok(found) = found(tree, text, Ending::Dot, Last::Kept) else {
+        return None;
+    };
     Some(process.cover(&mut Counted::new(tree), &found))
 }
 
