@@ -36,12 +36,13 @@ fn judged(tree: &ListTree, process: &Process, call: Call, text: &[u8]) -> Verdic
     verdict_of(&mut Counted::new(tree), process, call, found)
 }
 
-/// The first of all calls, in their order, that isn't allowed or refused as it is told here.
+/// The first call that isn't answered as told here, in the order of the calls: stat, lstat,
+/// readlink, open-r, open-w, open-rw, create, mkdir, rmdir, unlink, symlink, chmod, chdir, exec.
 fn unlike(
     tree: &ListTree,
     process: &Process,
     text: &[u8],
-    answers: &[Option<Errno>],
+    answers: &[Option<Errno>; 14],
 ) -> Option<Call> {
     for (call, answer) in Call::ALL.iter().zip(answers.iter()) {
         let want = match *answer {
@@ -60,7 +61,6 @@ fn judges_by_kind(rt: HostRuntime) -> Result<(), Fail> {
     let tree = read_listing(rt.alloc(), KINDS)?;
     let process = Process::new(rt.alloc())?;
     for (text, answers) in [
-        // stat, lstat, readlink, open-r, open-w, open-rw, create, mkdir, rmdir, unlink, symlink, chmod, chdir, exec
         (
             b"/e".as_slice(),
             [
