@@ -1,0 +1,113 @@
+-- Worked rows on scripts: a listing's lines, a script's lines, and the answers.
+use Rattle.std.specs.Prelude.{◌≡◌, ℕ, List, [], ◌∷◌, ◌++◌, Result, Ok, Err, codes, refl}
+use Rattle.pua_tree.specs.Examples.{text_of_lines}
+use Rattle.pua_tree.specs.Listing.{listing}
+use Rattle.pua_tree.specs.Tree.{Tree}
+use Rattle.pua_policy.specs.Calls.{standard_table}
+use Rattle.pua_script.specs.Requests.{Asked}
+use Rattle.pua_script.specs.Scripts.{script}
+use Rattle.pua_script.specs.Replay.{answers, new_world}
+use Rattle.pua_tree.specs.declared.fault.ListingFault.{ListingFault}
+use Rattle.pua_path.specs.declared.errno.Errno.TheVariants.{EPERM, ENOENT, EACCES, EAGAIN, EBUSY, EEXIST, ENOTDIR, EINVAL, ELOOP, ENAMETOOLONG, ENOTEMPTY, ENOSYS}
+use Rattle.pua_script.specs.declared.answer.Answer.{Answer}
+use Rattle.pua_script.specs.declared.answer.Answer.TheVariants.{Okay, Failed, Killed, Gone}
+use Rattle.pua_script.specs.declared.fault.ScriptFault.{ScriptFault}
+use Rattle.pua_script.specs.declared.fault.ScriptFault.TheVariants.{BadLine, BadCall, BadPath, BadList}
+
+-- the answers of a script over a listing, where both are accepted
+abbrev pub answers_over : Result Tree ListingFault → Result (List Asked) ScriptFault → List Answer
+answers_over (Ok t) (Ok asks) = answers standard_table (new_world t) asks
+answers_over _ _ = []
+
+abbrev pub answers_of : List (List ℕ) → List (List ℕ) → List Answer
+answers_of tree lines = answers_over (listing (text_of_lines tree)) (script (text_of_lines lines))
+
+-- the root alone, and the example tree
+abbrev pub root_alone : List (List ℕ)
+root_alone = codes "tree 1" ∷ codes "0 dir" ∷ []
+
+abbrev pub example : List (List ℕ)
+example = codes "tree 1" ∷ codes "0 dir" ∷ codes "1 dir 0 etc" ∷ codes "2 file 1 passwd" ∷ codes "3 dir 0 tmp" ∷ codes "4 link 0 t tmp" ∷ codes "5 link 3 up ../etc" ∷ codes "6 link 3 self self" ∷ codes "7 prog 3 sh" ∷ []
+
+pub record ReplayRows : Type 0 where
+  -- a link to itself is not followed without end
+  pub link_loops : answers_of example (codes "1 stat /tmp/self" ∷ codes "1 lstat /tmp/self" ∷ []) ≡ Failed ELOOP ∷ Okay ∷ []
+  -- a directory that is made again is another node, so its veil is gone
+  pub directory_made_again : answers_of (root_alone ++ codes "1 dir 0 d" ∷ []) (codes "1 fork 2" ∷ codes "1 unveil /d rwc" ∷ codes "1 unveil - -" ∷ codes "2 rmdir /d" ∷ codes "2 mkdir /d" ∷ codes "1 stat /d" ∷ []) ≡ Okay ∷ Okay ∷ Okay ∷ Okay ∷ Okay ∷ Failed ENOENT ∷ []
+  -- a file's veil stays at its name
+  pub file_made_again : answers_of (root_alone ++ codes "1 file 0 f" ∷ []) (codes "1 fork 2" ∷ codes "1 unveil /f rw" ∷ codes "2 unlink /f" ∷ codes "1 stat /f" ∷ codes "2 create /f" ∷ codes "1 stat /f" ∷ []) ≡ Okay ∷ Okay ∷ Okay ∷ Failed ENOENT ∷ Okay ∷ Okay ∷ []
+  -- under `error` a request is narrowed to what was held
+  pub narrowed_under_error : answers_of root_alone (codes "1 pledge stdio,rpath,error -" ∷ codes "1 mkdir /a" ∷ codes "1 pledge stdio,wpath,error -" ∷ codes "1 stat /" ∷ []) ≡ Okay ∷ Failed ENOSYS ∷ Okay ∷ Failed ENOSYS ∷ []
+  -- without `error` a restricted call ends the process
+  pub killed : answers_of root_alone (codes "1 pledge = -" ∷ codes "1 stat /" ∷ codes "1 exit" ∷ []) ≡ Okay ∷ Killed ∷ Gone ∷ []
+  -- a pledge that asks for more, or names an unknown keyword, changes nothing
+  pub refused_pledges : answers_of root_alone (codes "1 pledge stdio,rpath -" ∷ codes "1 pledge stdio,rpath,wpath -" ∷ codes "1 pledge stdio,zpath -" ∷ codes "1 stat /" ∷ []) ≡ Okay ∷ Failed EPERM ∷ Failed EINVAL ∷ Okay ∷ []
+  -- only the nearest veil counts
+  pub nearest_veil : answers_of example (codes "1 unveil / r" ∷ codes "1 unveil /tmp =" ∷ codes "1 stat /tmp/sh" ∷ codes "1 stat /etc" ∷ []) ≡ Okay ∷ Okay ∷ Failed EACCES ∷ Okay ∷ []
+  -- renames and removals in their order of checks
+  pub renames : answers_of example (codes "1 rename /tmp /tmp/x" ∷ codes "1 rename /etc /tmp" ∷ codes "1 rename /etc/passwd /tmp/sh" ∷ codes "1 stat /etc/passwd" ∷ codes "1 rmdir /etc" ∷ codes "1 rmdir /tmp/." ∷ codes "1 rmdir /" ∷ codes "1 rmdir /t/" ∷ codes "1 unlink /t/" ∷ []) ≡ Failed EINVAL ∷ Failed ENOTEMPTY ∷ Okay ∷ Failed ENOENT ∷ Okay ∷ Failed EINVAL ∷ Failed EBUSY ∷ Failed ENOTDIR ∷ Failed EPERM ∷ []
+  -- with execpromises the veils stay
+  pub exec_with_promises : answers_of example (codes "1 unveil /tmp rx" ∷ codes "1 pledge stdio,rpath,exec stdio,rpath" ∷ codes "1 exec /tmp/sh" ∷ codes "1 stat /etc" ∷ codes "1 stat /tmp" ∷ codes "1 chmod /tmp" ∷ []) ≡ Okay ∷ Okay ∷ Okay ∷ Failed ENOENT ∷ Okay ∷ Killed ∷ []
+  -- without execpromises the veils are dropped
+  pub exec_without_promises : answers_of example (codes "1 unveil /tmp rx" ∷ codes "1 stat /etc" ∷ codes "1 exec /tmp/sh" ∷ codes "1 stat /etc" ∷ []) ≡ Okay ∷ Failed ENOENT ∷ Okay ∷ Okay ∷ []
+  -- a relative path fails where the working directory was removed
+  pub working_directory_removed : answers_of (root_alone ++ codes "1 dir 0 d" ∷ []) (codes "1 chdir /d" ∷ codes "1 rmdir /d" ∷ codes "1 stat ." ∷ codes "1 stat .." ∷ codes "1 stat /" ∷ []) ≡ Okay ∷ Okay ∷ Failed ENOENT ∷ Failed ENOENT ∷ Okay ∷ []
+  -- create goes through a dangling link, and mkdir does not
+  pub dangling_link : answers_of (root_alone ++ codes "1 link 0 l x" ∷ []) (codes "1 mkdir /l" ∷ codes "1 create /l" ∷ codes "1 lstat /x" ∷ codes "1 unlink /l" ∷ codes "1 stat /x" ∷ []) ≡ Failed EEXIST ∷ Okay ∷ Okay ∷ Okay ∷ Okay ∷ []
+  -- unveil's checks in their order
+  pub unveils : answers_of example (codes "1 unveil /etc r" ∷ codes "1 unveil /etc rw" ∷ codes "1 unveil /etc/passwd rw" ∷ codes "1 unveil /etc q" ∷ codes "1 unveil /no/x r" ∷ codes "1 unveil - -" ∷ codes "1 unveil /tmp r" ∷ codes "1 unveil - -" ∷ []) ≡ Okay ∷ Failed EPERM ∷ Okay ∷ Failed EINVAL ∷ Failed ENOENT ∷ Okay ∷ Failed EPERM ∷ Okay ∷ []
+  -- a directory's veil goes with its node
+  pub veil_moves : answers_of (root_alone ++ codes "1 dir 0 d" ∷ codes "2 file 1 f" ∷ []) (codes "1 fork 2" ∷ codes "1 unveil /d r" ∷ codes "2 rename /d /e" ∷ codes "1 stat /e/f" ∷ codes "1 stat /d" ∷ codes "1 unveil /e rw" ∷ []) ≡ Okay ∷ Okay ∷ Okay ∷ Okay ∷ Failed ENOENT ∷ Failed EPERM ∷ []
+  -- a name's veil does not cover a directory
+  pub name_becomes_directory : answers_of root_alone (codes "1 fork 2" ∷ codes "1 unveil /f rwc" ∷ codes "2 mkdir /f" ∷ codes "1 stat /f" ∷ codes "2 rmdir /f" ∷ codes "1 create /f" ∷ []) ≡ Okay ∷ Okay ∷ Okay ∷ Failed ENOENT ∷ Okay ∷ Okay ∷ []
+  -- processes that were never made, and faults of a text
+  pub gone_and_long : answers_of root_alone (codes "2 stat /" ∷ codes "1 fork 1" ∷ codes "1 stat =" ∷ codes "1 stat /aaaaaaaaaaaaaaaaaaaaaaaaaaaaaaaaaaaaaaaaaaaaaaaaaaaaaaaaaaaaaaaaaaaaaaaaaaaaaaaaaaaaaaaaaaaaaaaaaaaaaaaaaaaaaaaaaaaaaaaaaaaaaaaaaaaaaaaaaaaaaaaaaaaaaaaaaaaaaaaaaaaaaaaaaaaaaaaaaaaaaaaaaaaaaaaaaaaaaaaaaaaaaaaaaaaaaaaaaaaaaaaaaaaaaaaaaaaaaaaaaaaaaaaaaaaaaaaa" ∷ []) ≡ Gone ∷ Failed EAGAIN ∷ Failed ENOENT ∷ Failed ENAMETOOLONG ∷ []
+  -- calls that fail under `error` leave the process alive
+  pub error_then_unveil : answers_of example (codes "1 unveil /etc r" ∷ codes "1 pledge stdio,rpath,error -" ∷ codes "1 unveil /tmp r" ∷ codes "1 pledge stdio,rpath,wpath,error -" ∷ codes "1 open-w /etc/passwd" ∷ codes "1 unveil - -" ∷ codes "1 stat /etc" ∷ []) ≡ Okay ∷ Okay ∷ Failed ENOSYS ∷ Okay ∷ Failed ENOSYS ∷ Failed ENOSYS ∷ Okay ∷ []
+  -- another process may move a file under a veil
+  pub moved_by_another : answers_of example (codes "1 fork 2" ∷ codes "1 unveil /etc r" ∷ codes "1 unveil - -" ∷ codes "1 fork 3" ∷ codes "2 rename /tmp/sh /etc/sh" ∷ codes "1 stat /etc/sh" ∷ codes "3 stat /etc/sh" ∷ codes "3 unveil /tmp r" ∷ codes "3 stat /tmp" ∷ []) ≡ Okay ∷ Okay ∷ Okay ∷ Okay ∷ Okay ∷ Okay ∷ Okay ∷ Failed EPERM ∷ Failed ENOENT ∷ []
+  -- what is not covered with c stays
+  pub confined : answers_of example (codes "1 unveil /tmp rwc" ∷ codes "1 unveil /tmp/sh r" ∷ codes "1 unveil - -" ∷ codes "1 rename /tmp /x" ∷ codes "1 rename /tmp/self /tmp/z" ∷ codes "1 unlink /tmp/sh" ∷ codes "1 rename /tmp/z /tmp/sh" ∷ codes "1 rmdir /tmp" ∷ codes "1 unlink /etc/passwd" ∷ codes "1 stat /tmp/sh" ∷ []) ≡ Okay ∷ Okay ∷ Okay ∷ Failed ENOENT ∷ Okay ∷ Failed EACCES ∷ Failed EACCES ∷ Failed ENOTEMPTY ∷ Failed ENOENT ∷ Okay ∷ []
+  -- a number is used once, and an ended process is gone
+  pub forks_and_exits : answers_of root_alone (codes "1 fork 2" ∷ codes "1 fork 2" ∷ codes "2 exit" ∷ codes "2 stat /" ∷ codes "2 fork 3" ∷ codes "1 fork 3" ∷ []) ≡ Okay ∷ Failed EAGAIN ∷ Okay ∷ Gone ∷ Gone ∷ Okay ∷ []
+
+pub replay_rows : ReplayRows
+replay_rows = record {
+  link_loops = refl;
+  directory_made_again = refl;
+  file_made_again = refl;
+  narrowed_under_error = refl;
+  killed = refl;
+  refused_pledges = refl;
+  nearest_veil = refl;
+  renames = refl;
+  exec_with_promises = refl;
+  exec_without_promises = refl;
+  working_directory_removed = refl;
+  dangling_link = refl;
+  unveils = refl;
+  veil_moves = refl;
+  name_becomes_directory = refl;
+  gone_and_long = refl;
+  error_then_unveil = refl;
+  moved_by_another = refl;
+  confined = refl;
+  forks_and_exits = refl;
+}
+
+-- what is no script
+abbrev pub fault_of : List ℕ → Result (List Asked) ScriptFault
+fault_of line = script (text_of_lines (line ∷ []))
+
+pub record ScriptRows : Type 0 where
+  pub process_zero : fault_of (codes "0 stat /") ≡ Err (BadLine 1)
+  pub unknown_call : fault_of (codes "1 touch /") ≡ Err (BadCall 1)
+  pub bad_new_process : fault_of (codes "1 fork x") ≡ Err (BadCall 1)
+  pub no_path : fault_of (codes "1 stat") ≡ Err (BadCall 1)
+  pub nul_in_path : fault_of (codes "1 stat /\\000") ≡ Err (BadPath 1)
+  pub empty_word : fault_of (codes "1 pledge stdio,,rpath -") ≡ Err (BadList 1)
+  pub null_path : fault_of (codes "1 unveil - r") ≡ Err (BadList 1)
+  pub null_perms : fault_of (codes "1 unveil /a -") ≡ Err (BadList 1)
+
+pub script_rows : ScriptRows
+script_rows = record { process_zero = refl; unknown_call = refl; bad_new_process = refl; no_path = refl; nul_in_path = refl; empty_word = refl; null_path = refl; null_perms = refl }

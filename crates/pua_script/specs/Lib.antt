@@ -1,0 +1,6 @@
+pub mod AnswerTexts
+pub mod Requests
+pub mod Scripts
+pub mod Replay
+pub mod Laws
+pub mod Examples

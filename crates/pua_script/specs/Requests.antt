@@ -1,0 +1,36 @@
+-- A line of a script, as a value.
+use Rattle.std.specs.Prelude.{ℕ, Bool, true, false, not, ◌&&◌, List, nat_le}
+use Rattle.pua_tree.specs.Names.{has_byte}
+use Rattle.pua_policy.specs.declared.call.Call.{Call}
+use Rattle.pua_policy.specs.declared.call.Call.TheVariants as call
+use Rattle.pua_script.specs.declared.request.Action.{Action}
+use Rattle.pua_script.specs.declared.request.Action.TheVariants.{OnPath, Symlink, Rename, Unveil, Fork}
+
+-- the number of a process, and what it asks for
+pub record Asked : Type 0 where
+  pub process : ℕ
+  pub action : Action
+
+-- a number that a process may have
+abbrev pub is_process_number : ℕ → Bool
+is_process_number n = nat_le 1 n && nat_le n 999999
+
+-- bytes without NUL
+abbrev pub has_no_nul : List ℕ → Bool
+has_no_nul text = not (has_byte 0 text)
+
+abbrev pub is_symlink : Call → Bool
+is_symlink call.Symlink = true
+is_symlink _ = false
+
+-- an action that a script can ask for: no NUL in a path, and symlink only with its target
+abbrev pub is_askable : Action → Bool
+is_askable (OnPath call path) = not (is_symlink call) && has_no_nul path
+is_askable (Symlink target path) = has_no_nul target && has_no_nul path
+is_askable (Rename old new) = has_no_nul old && has_no_nul new
+is_askable (Unveil path perms) = has_no_nul path
+is_askable (Fork new) = is_process_number new
+is_askable _ = true
+
+abbrev pub is_asked : Asked → Bool
+is_asked ask = is_process_number ask.process && is_askable ask.action

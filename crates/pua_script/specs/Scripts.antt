@@ -1,0 +1,127 @@
+-- Which bytes are a script of which requests, and else which fault comes first.
+use Rattle.std.specs.Prelude.{ℕ, suc, Bool, true, false, not, if◌then◌else◌, List, [], ◌∷◌, length, take, nat_lt, ◌==◌, Option, Some, None, Result, Ok, Err, codes, ok_or, option_map}
+use Rattle.std.specs.List.{list_all, list_any, slice_split}
+use Rattle.std.specs.Result.{result_ok}
+use Rattle.std.specs.Str.Lines.{lines}
+use Rattle.pua_tree.specs.Names.{same_bytes}
+use Rattle.pua_tree.specs.Spelling.{unspelled, fields, is_field, number_within}
+use Rattle.pua_tree.specs.Steps.{◌>>=◌}
+use Rattle.pua_tree.specs.Listing.{only_if}
+use Rattle.pua_policy.specs.Promises.{promises_of, perms_of}
+use Rattle.pua_policy.specs.Calls.{call_named}
+use Rattle.pua_script.specs.Requests.{Asked, is_symlink, has_no_nul}
+use Rattle.pua_path.specs.declared.errno.Errno.{Errno}
+use Rattle.pua_policy.specs.declared.call.Call.{Call}
+use Rattle.pua_script.specs.declared.request.Given.{Given}
+use Rattle.pua_script.specs.declared.request.Given.TheVariants.{Null, Good, Unknown}
+use Rattle.pua_script.specs.declared.request.Action.{Action}
+use Rattle.pua_script.specs.declared.request.Action.TheVariants.{OnPath, Symlink, Rename, Pledge, Unveil, Lock, Fork, Exit}
+use Rattle.pua_script.specs.declared.fault.ScriptFault.{ScriptFault}
+use Rattle.pua_script.specs.declared.fault.ScriptFault.TheVariants.{BadLine, BadCall, BadPath, BadList, TooMany}
+
+-- the fields `-` and `=`
+abbrev pub is_dash : List ℕ → Bool
+is_dash field = same_bytes field (codes "-")
+
+abbrev pub is_equals : List ℕ → Bool
+is_equals field = same_bytes field (codes "=")
+
+-- the bytes of a path or a target; `=` is the empty text
+abbrev pub path_in : List ℕ → Option (List ℕ)
+path_in field = if is_equals field then Some [] else only_if has_no_nul (unspelled field)
+
+-- a list of keywords with an empty word
+abbrev pub has_empty_word : List ℕ → Bool
+has_empty_word field = list_any (λ word. length word == 0) (slice_split (λ b. b == 44) field)
+
+abbrev pub good_or_unknown : Result ℕ Errno → Given
+good_or_unknown (Ok set) = Good set
+good_or_unknown (Err errno) = Unknown
+
+-- an argument of pledge: `-` is NULL and `=` the empty text
+abbrev pub given_in : List ℕ → Option Given
+given_in field =
+    if is_dash field then Some Null
+    else (if is_equals field then Some (Good 0)
+    else (if has_empty_word field then None else Some (good_or_unknown (promises_of field))))
+
+abbrev pub perms_in : List ℕ → Option ℕ
+perms_in field = if is_equals field then Some 0 else result_ok (perms_of field)
+
+-- a call with its fields, still to be read
+pub data Form : Type 0 where
+  PathForm : Call → List ℕ → Form
+  SymlinkForm : List ℕ → List ℕ → Form
+  RenameForm : List ℕ → List ℕ → Form
+  PledgeForm : List ℕ → List ℕ → Form
+  UnveilForm : List ℕ → List ℕ → Form
+  ForkForm : ℕ → Form
+  ExitForm : Form
+
+-- the form of a line, if its call is known, has that many arguments, and a new process's number is one
+abbrev pub form_of : List ℕ → List (List ℕ) → Option Form
+form_of word [] = if same_bytes word (codes "exit") then Some ExitForm else None
+form_of word (a ∷ []) =
+    if same_bytes word (codes "fork") then option_map ForkForm (number_within 1 999999 a)
+    else option_map (λ call. PathForm call a) (only_if (λ call. not (is_symlink call)) (call_named word))
+form_of word (a ∷ b ∷ []) =
+    if same_bytes word (codes "symlink") then Some (SymlinkForm a b)
+    else (if same_bytes word (codes "rename") then Some (RenameForm a b)
+    else (if same_bytes word (codes "pledge") then Some (PledgeForm a b)
+    else (if same_bytes word (codes "unveil") then Some (UnveilForm a b) else None)))
+form_of word (a ∷ b ∷ c ∷ more) = None
+
+-- two paths, both read or the line's fault
+abbrev pub with_paths : ℕ → (List ℕ → List ℕ → Action) → List ℕ → List ℕ → Result Action ScriptFault
+with_paths n make a b = do
+  first ← ok_or (path_in a) (BadPath n)
+  second ← ok_or (path_in b) (BadPath n)
+  Ok (make first second)
+
+-- unveil has two NULLs or none
+abbrev pub unveil_of : ℕ → List ℕ → List ℕ → Result Action ScriptFault
+unveil_of n path perms =
+    if is_dash path then (if is_dash perms then Ok Lock else Err (BadList n))
+    else (ok_or (path_in path) (BadPath n) >>= λ text. if is_dash perms then Err (BadList n) else Ok (Unveil text (perms_in perms)))
+
+-- what the form of line n asks for, or the fault of an argument
+abbrev pub action_of : ℕ → Form → Result Action ScriptFault
+action_of n (PathForm call a) = ok_or (path_in a) (BadPath n) >>= λ path. Ok (OnPath call path)
+action_of n (SymlinkForm a b) = with_paths n Symlink a b
+action_of n (RenameForm a b) = with_paths n Rename a b
+action_of n (PledgeForm a b) = do
+  promises ← ok_or (given_in a) (BadList n)
+  execpromises ← ok_or (given_in b) (BadList n)
+  Ok (Pledge promises execpromises)
+action_of n (UnveilForm a b) = unveil_of n a b
+action_of n (ForkForm new) = Ok (Fork new)
+action_of n ExitForm = Ok Exit
+
+-- the fields behind the process's number: the call and its arguments
+abbrev pub form_in : List (List ℕ) → Option Form
+form_in [] = None
+form_in (word ∷ arguments) = form_of word arguments
+
+abbrev pub request_of_fields : ℕ → List (List ℕ) → Result Asked ScriptFault
+request_of_fields n [] = Err (BadLine n)
+request_of_fields n (process ∷ more) = do
+  number ← ok_or (number_within 1 999999 process) (BadLine n)
+  form ← ok_or (form_in more) (BadCall n)
+  action ← action_of n form
+  Ok (record { process = number; action = action })
+
+-- what line n asks for, or its first fault
+abbrev pub request_of : ℕ → List ℕ → Result Asked ScriptFault
+request_of n text = if list_all is_field (fields text) then request_of_fields n (fields text) else Err (BadLine n)
+
+-- the requests of lines, of which the first is line n, or the fault of the first line that has one
+abbrev pub requests_of : ℕ → List (List ℕ) → Result (List Asked) ScriptFault
+requests_of n [] = Ok []
+requests_of n (text ∷ texts) = request_of n text >>= λ request. requests_of (suc n) texts >>= λ requests. Ok (request ∷ requests)
+
+abbrev pub line_limit : ℕ
+line_limit = 60000
+
+-- the requests of which the bytes are a script, or their first fault
+abbrev pub script : List ℕ → Result (List Asked) ScriptFault
+script bytes = requests_of 1 (take line_limit (lines bytes)) >>= λ requests. if nat_lt line_limit (length (lines bytes)) then Err TooMany else Ok requests

@@ -1,0 +1,25 @@
+//! Laws and worked examples of scripts and of what they are answered, each the contract of a
+//! function that does nothing.
+
+ghost use Rattle.pua_script.specs.Examples.{ReplayRows, ScriptRows};
+ghost use Rattle.pua_script.specs.Laws.{ReplayComposes, RequestsNarrow};
+
+/// Examples of what is no script.
+pub fn script_examples()
+    ensures { ScriptRows }
+{}
+
+/// Examples of scripts and their answers.
+pub fn replay_examples()
+    ensures { ReplayRows }
+{}
+
+/// A list of requests may be cut anywhere.
+pub fn replay_law()
+    ensures { ReplayComposes }
+{}
+
+/// Any request but a successful exec of a process that can put no veil any more narrows it.
+pub fn narrowing_law()
+    ensures { RequestsNarrow }
+{}

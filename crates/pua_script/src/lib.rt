@@ -1,0 +1,12 @@
+//! Scripts of calls, and a world of processes over one tree.
+#![tactic(auto)]
+
+mod answer;
+mod fault;
+mod laws;
+mod request;
+
+pub use answer::Answer;
+pub use fault::{ScriptFault, WorldFault};
+pub use laws::{narrowing_law, replay_examples, replay_law, script_examples};
+pub use request::{Action, Given, PathBytes, Request};

@@ -1,0 +1,112 @@
+//! What lines of scripts ask for.
+
+use pua_policy::{Call, Perms, Promises};
+use std::marker::Model;
+
+/// The bytes of a path or of a link's target, as a script spells them.
+#[derive(Drop)]
+pub struct PathBytes {
+    bytes: Vec<u8>,
+}
+
+impl Model for PathBytes {
+    ghost use Rattle.std.specs.Prelude.{ℕ, List};
+
+    ghost Value = { List ℕ };
+
+    ghost view = { λ a. a.bytes.items };
+}
+
+/// An argument of pledge.
+#[derive(Clone, Copy, Debug, PartialEq, Eq)]
+pub enum Given {
+    /// It leaves what was given before.
+    Null,
+    /// These promises.
+    Good(Promises),
+    /// It has an unknown keyword.
+    Unknown,
+}
+
+/// What a request asks for.
+#[derive(Drop)]
+pub enum Action {
+    /// A call of the table but symlink, with its path.
+    OnPath(Call, PathBytes),
+    /// The target, and then the path.
+    Symlink(PathBytes, PathBytes),
+    /// The old path, and then the new one.
+    Rename(PathBytes, PathBytes),
+    /// The promises, and then the execpromises.
+    Pledge(Given, Given),
+    /// The path and its permissions, which are None where a letter is unknown.
+    Unveil(PathBytes, Option<Perms>),
+    /// An unveil with two NULLs.
+    Lock,
+    /// The number of the new process.
+    Fork(u32),
+    Exit,
+}
+
+/// A process's number, and what it asks for. `read_script` alone makes one, so its paths and its
+/// target hold no NUL, its numbers lie from 1 to 999,999, and a symlink has its own action.
+#[derive(Drop)]
+pub struct Request {
+    process: u32,
+    action: Action,
+}
+
+impl Model for Request {
+    ghost use Rattle.pua_script.specs.Requests.{Asked, is_asked};
+    ghost use Rattle.std.specs.Prelude.{IsTrue};
+
+    ghost Value = { Asked };
+
+    ghost view = { λ a. record { process = a.process; action = a.action } };
+
+    ghost invariant = { λ a. IsTrue (is_asked (record { process = a.process; action = a.action })) };
+}
+
+ghost use Rattle.std.specs.Prelude.{◌≡◌, IsTrue, List, ℕ};
+
+impl PathBytes {
+    /// The bytes as they are, without their spelling.
+    pub fn bytes(&self) -> &[u8]
+        ensures { result.now ≡ self.now }
+    {
+        self.bytes.as_slice()
+    }
+
+    pub(crate) fn new(bytes: Vec<u8>) -> PathBytes
+        ensures { result ≡ bytes.items }
+    {
+        PathBytes { bytes }
+    }
+}
+
+impl Request {
+    ghost use Rattle.pua_script.specs.Requests.{Asked, is_asked};
+
+    /// The number of the process that asks.
+    pub fn process(&self) -> u32
+        ensures process { result ≡ self.now.process }
+        ensures asked { IsTrue (is_asked self.now) }
+    {
+        self.process
+    }
+
+    /// What it asks for.
+    pub fn action(&self) -> &Action
+        ensures action { result.now ≡ self.now.action }
+        ensures asked { IsTrue (is_asked self.now) }
+    {
+        &self.action
+    }
+
+    pub(crate) fn new(process: u32, action: Action) -> Request
+        requires { IsTrue (is_asked (record { process = process; action = action })) }
+        ensures { result ≡ record { process = process; action = action } }
+    {
+        Request { process, action }
+    }
+}
