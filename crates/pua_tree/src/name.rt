@@ -1,11 +1,11 @@
 //! Names in directories.
 
+use crate::fault::NameFault;
+use crate::spelling::unspell_into;
 use std::cmp::Ordering;
 use std::fmt;
 use std::hash::{Hash, Hasher};
 use std::marker::Model;
-
-use crate::fault::NameFault;
 
 /// The name of a row: 1 to 255 bytes without NUL or slash, and neither `.` nor `..`. It is kept
 /// inline, so that a copy takes no memory. Contracts see the list of its bytes.
@@ -31,16 +31,61 @@ impl Model for Name {
     ghost inverse_ok = { λ a h i. record { bytes = h.0 i; len = h.1 i } };
 }
 
-ghost use Rattle.std.specs.Prelude.{◌≡◌, ◌==◌, IsTrue};
+ghost use Rattle.std.specs.Prelude.{◌≡◌, ◌==◌, IsTrue, Some, None, if◌then◌else◌};
 ghost use Rattle.std.proofs.Common.{rules};
 ghost use Rattle.std.specs.Cmp.{partial_order_from_own_ties};
 ghost use Rattle.std.specs.Cmp.Rules.{comparing, hashing};
 ghost use Rattle.std.specs.Ordering.{nat_cmp, as_partial_cmp};
 ghost use Rattle.std.specs.Cmp.Lexicographic.{slice_cmp, pointwise};
 ghost use Rattle.std.specs.Hash as fed;
-ghost use Rattle.pua_tree.specs.Names.{is_name};
+ghost use Rattle.pua_tree.specs.Names.{is_name, is_name_byte};
+ghost use Rattle.pua_tree.specs.Spelling.{name_of};
 
 impl Name {
+    /// The most bytes that a name has.
+    const MOST: usize = 255;
+
+    /// The name that a text spells, or the first of its faults.
+    pub fn read(spelling: &[u8]) -> Result<Name, NameFault>
+        ensures { result ≡ name_of spelling.now }
+    {
+        let mut bytes = [0; Name::MOST];
+        let Some(len) = unspell_into(spelling, &mut bytes) else {
+            return Err(NameFault::BadSpelling);
+        };
+        if spelling.contains(&b'/') {
+            return Err(NameFault::BadSpelling);
+        }
+        if len == 0 {
+            return Err(NameFault::Empty);
+        }
+        if len > Name::MOST {
+            return Err(NameFault::TooLong);
+        }
+        if !is_name(&bytes[..len]) {
+            return Err(NameFault::NotAName);
+        }
+        Ok(Name {
+            bytes,
+            len: len as u8,
+        })
+    }
+
+    /// The name of these bytes, if they are a name's.
+    pub fn from_bytes(bytes: &[u8]) -> Option<Name>
+        ensures { result ≡ (if is_name bytes.now then Some bytes.now else None) }
+    {
+        if !is_name(bytes) {
+            return None;
+        }
+        let mut padded = [0; Name::MOST];
+        padded[..bytes.len()].copy_from_slice(bytes);
+        Some(Name {
+            bytes: padded,
+            len: bytes.len() as u8,
+        })
+    }
+
     /// Its bytes.
     pub fn bytes(&self) -> &[u8]
         ensures bytes { result.now ≡ self.now }
@@ -103,4 +148,22 @@ impl fmt::Debug for Name {
         let bytes = self.bytes();
         write!(f, "{bytes:?}")
     }
+}
+
+/// Whether the bytes are those of a name.
+fn is_name(bytes: &[u8]) -> bool
+    ensures { result ≡ is_name bytes.now }
+{
+    !bytes.is_empty()
+        && bytes.len() <= Name::MOST
+        && bytes.iter().all(|byte| is_name_byte(*byte))
+        && bytes != b".".as_slice()
+        && bytes != b"..".as_slice()
+}
+
+/// Whether a byte may stand in a name: it is neither NUL nor a slash.
+fn is_name_byte(byte: u8) -> bool
+    ensures { result ≡ is_name_byte byte }
+{
+    byte != 0 && byte != b'/'
 }

@@ -1,10 +1,9 @@
 //! What a tree of files answers, however it is kept.
 
-use std::alloc::Global;
-
 use crate::fault::TreeFault;
 use crate::name::Name;
 use crate::node::{Kind, NodeId};
+use std::alloc::Global;
 
 /// A tree of files: rows that give a node a name in a directory, the living nodes with their kinds
 /// and targets, and a number above each of them.
