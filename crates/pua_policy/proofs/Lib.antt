@@ -1,0 +1,3 @@
+pub mod Veils
+pub mod Narrowing
+pub mod Standing

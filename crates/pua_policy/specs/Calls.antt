@@ -1,0 +1,96 @@
+-- The fourteen calls with one path, and what each of them needs.
+use Rattle.std.specs.Prelude.{ℕ, ◌+◌, ◌-◌, List, [], ◌∷◌, map, Option, codes, find, slice_index_or}
+use Rattle.pua_tree.specs.Names.{same_bytes}
+use Rattle.pua_policy.specs.Promises.{rpath, wpath, cpath, fattr, exec, reading, writing, executing, creating}
+use Rattle.pua_path.specs.declared.text.Ending.{Ending}
+use Rattle.pua_path.specs.declared.text.Ending.TheVariants.{Dot, Dropped}
+use Rattle.pua_path.specs.declared.found.Last.{Last}
+use Rattle.pua_path.specs.declared.found.Last.TheVariants.{Followed, Kept}
+use Rattle.pua_policy.specs.declared.call.Call.{Call}
+use Rattle.pua_policy.specs.declared.call.Call.TheVariants.{Stat, Lstat, Readlink, OpenRead, OpenWrite, OpenBoth, Create, Mkdir, Rmdir, Unlink, Symlink, Chmod, Chdir, Exec}
+
+-- in the order of their numbers
+abbrev pub calls : List Call
+calls = Stat ∷ Lstat ∷ Readlink ∷ OpenRead ∷ OpenWrite ∷ OpenBoth ∷ Create ∷ Mkdir ∷ Rmdir ∷ Unlink ∷ Symlink ∷ Chmod ∷ Chdir ∷ Exec ∷ []
+
+abbrev pub call_number : Call → ℕ
+call_number Stat = 1
+call_number Lstat = 2
+call_number Readlink = 3
+call_number OpenRead = 4
+call_number OpenWrite = 5
+call_number OpenBoth = 6
+call_number Create = 7
+call_number Mkdir = 8
+call_number Rmdir = 9
+call_number Unlink = 10
+call_number Symlink = 11
+call_number Chmod = 12
+call_number Chdir = 13
+call_number Exec = 14
+
+abbrev pub call_name : Call → List ℕ
+call_name Stat = codes "stat"
+call_name Lstat = codes "lstat"
+call_name Readlink = codes "readlink"
+call_name OpenRead = codes "open-r"
+call_name OpenWrite = codes "open-w"
+call_name OpenBoth = codes "open-rw"
+call_name Create = codes "create"
+call_name Mkdir = codes "mkdir"
+call_name Rmdir = codes "rmdir"
+call_name Unlink = codes "unlink"
+call_name Symlink = codes "symlink"
+call_name Chmod = codes "chmod"
+call_name Chdir = codes "chdir"
+call_name Exec = codes "exec"
+
+abbrev pub call_named : List ℕ → Option Call
+call_named word = find (λ call. same_bytes (call_name call) word) calls
+
+-- what a call needs: one of the sets of promises, and each of the permissions
+pub record Rule : Type 0 where
+  pub alternatives : List ℕ
+  pub perms : ℕ
+
+abbrev pub standard_rule : Call → Rule
+standard_rule Stat = record { alternatives = rpath ∷ []; perms = reading }
+standard_rule Lstat = record { alternatives = rpath ∷ []; perms = reading }
+standard_rule Readlink = record { alternatives = rpath ∷ []; perms = reading }
+standard_rule OpenRead = record { alternatives = rpath ∷ []; perms = reading }
+standard_rule OpenWrite = record { alternatives = wpath ∷ []; perms = writing }
+standard_rule OpenBoth = record { alternatives = (rpath + wpath) ∷ []; perms = reading + writing }
+standard_rule Create = record { alternatives = (wpath + cpath) ∷ []; perms = writing + creating }
+standard_rule Mkdir = record { alternatives = cpath ∷ []; perms = creating }
+standard_rule Rmdir = record { alternatives = cpath ∷ []; perms = creating }
+standard_rule Unlink = record { alternatives = cpath ∷ []; perms = creating }
+standard_rule Symlink = record { alternatives = cpath ∷ []; perms = creating }
+standard_rule Chmod = record { alternatives = fattr ∷ []; perms = writing }
+standard_rule Chdir = record { alternatives = rpath ∷ []; perms = reading }
+standard_rule Exec = record { alternatives = exec ∷ []; perms = executing }
+
+-- a rule for each call, in the order of their numbers
+abbrev pub CallTable : Type 0
+CallTable = List Rule
+
+abbrev pub standard_table : CallTable
+standard_table = map standard_rule calls
+
+abbrev pub rule_of : CallTable → Call → Rule
+rule_of table call = slice_index_or table (call_number call - 1) (standard_rule call)
+
+-- whether the last part is followed if it is a link
+abbrev pub last_of : Call → Last
+last_of Lstat = Kept
+last_of Readlink = Kept
+last_of Mkdir = Kept
+last_of Rmdir = Kept
+last_of Unlink = Kept
+last_of Symlink = Kept
+last_of _ = Followed
+
+-- what a slash at the end of the call's path means
+abbrev pub ending_of : Call → Ending
+ending_of Mkdir = Dropped
+ending_of Rmdir = Dropped
+ending_of _ = Dot

@@ -1,0 +1,73 @@
+-- Worked rows on covers and verdicts over the example tree.
+use Rattle.std.specs.Prelude.{◌≡◌, ◌+◌, ◌^◌, [], ◌∷◌, Some, None, Ok, Err, codes, refl}
+use Rattle.pua_tree.specs.Examples.{example_tree}
+use Rattle.pua_policy.specs.Promises.{promises_of, perms_of, reading, writing, rpath, wpath, error}
+use Rattle.pua_policy.specs.Calls.{standard_table}
+use Rattle.pua_policy.specs.History.{History, Pledged, Unveiled, Locked, new_history, held, held_for_exec, pledge_fault, unveil_fault, may_any}
+use Rattle.pua_policy.specs.Verdict.{cover, verdict_on}
+use Rattle.pua_path.specs.declared.errno.Errno.TheVariants.{EACCES, EPERM, EINVAL}
+use Rattle.pua_path.specs.declared.found.Way.TheVariants as way
+use Rattle.pua_path.specs.declared.found.Found.TheVariants as found
+use Rattle.pua_policy.specs.declared.call.Call.TheVariants.{Stat}
+use Rattle.pua_policy.specs.declared.place.Place.TheVariants.{Dir, Slot}
+use Rattle.pua_policy.specs.declared.answer.UnveilFault.TheVariants.{NotPermitted}
+use Rattle.pua_policy.specs.declared.answer.Cover.TheVariants.{Only}
+use Rattle.pua_policy.specs.declared.answer.May.TheVariants as may
+use Rattle.pua_policy.specs.declared.answer.Verdict.TheVariants.{Allowed, Failed}
+
+-- veils on the root, on a directory in it and on a file
+abbrev pub three_veils : History
+three_veils = Unveiled (Slot 1 (codes "passwd")) (reading + writing) ∷ Unveiled (Dir 3) 0 ∷ Unveiled (Dir 0) reading ∷ new_history
+
+pub record CoverRows : Type 0 where
+  pub beneath_root : cover example_tree three_veils (found.Whole 1 (way.Named 0 (codes "etc"))) ≡ Only reading
+  pub beneath_nearer : cover example_tree three_veils (found.Slot 3 (codes "sh") (Some 7)) ≡ Only 0
+  pub own : cover example_tree three_veils (found.Slot 1 (codes "passwd") (Some 2)) ≡ Only (reading + writing)
+  pub missing : cover example_tree three_veils (found.Slot 1 (codes "x") None) ≡ Only reading
+  pub increase : unveil_fault three_veils (Dir 3) reading ≡ Some NotPermitted
+  pub locked : unveil_fault (Locked ∷ three_veils) (Dir 0) 0 ≡ Some NotPermitted
+  pub reduction : unveil_fault three_veils (Dir 0) 0 ≡ None
+
+pub cover_rows : CoverRows
+cover_rows = record { beneath_root = refl; beneath_nearer = refl; own = refl; missing = refl; increase = refl; locked = refl; reduction = refl }
+
+-- a veil on the root and none of its permissions on a directory
+abbrev pub root_alone : History
+root_alone = Unveiled (Dir 3) 0 ∷ Unveiled (Dir 0) reading ∷ new_history
+
+-- a pledge that keeps `error`, and one that is narrowed by it
+abbrev pub with_error : History
+with_error = Pledged (Some (rpath + error)) None ∷ Pledged None (Some rpath) ∷ new_history
+
+abbrev pub narrowed : History
+narrowed = Pledged (Some (rpath + wpath)) (Some wpath) ∷ with_error
+
+pub record VerdictRows : Type 0 where
+  pub veiled : verdict_on example_tree standard_table root_alone Stat (codes "/tmp/sh") ≡ Failed EACCES
+  pub unveiled : verdict_on example_tree standard_table root_alone Stat (codes "/etc") ≡ Allowed
+  pub exec_increase : pledge_fault (Pledged None (Some rpath) ∷ new_history) None (Some (rpath + wpath)) ≡ Some EPERM
+  pub first_promises : pledge_fault (Pledged None (Some rpath) ∷ new_history) (Some (rpath + error)) None ≡ None
+  pub under_error : pledge_fault with_error (Some (rpath + wpath)) (Some wpath) ≡ None
+  pub promises : held narrowed ≡ rpath
+  pub execpromises : held_for_exec narrowed ≡ Some 0
+  pub lacking : may_any narrowed (wpath ∷ []) ≡ may.Death
+  pub keywords : promises_of (codes "stdio,rpath,error,rpath") ≡ Ok (2 ^ 25 + rpath + error)
+  pub unknown_keyword : promises_of (codes "stdio,zpath") ≡ Err EINVAL
+  pub letters : perms_of (codes "wrr") ≡ Ok (reading + writing)
+  pub unknown_letter : perms_of (codes "q") ≡ Err EINVAL
+
+pub verdict_rows : VerdictRows
+verdict_rows = record {
+  veiled = refl;
+  unveiled = refl;
+  exec_increase = refl;
+  first_promises = refl;
+  under_error = refl;
+  promises = refl;
+  execpromises = refl;
+  lacking = refl;
+  keywords = refl;
+  unknown_keyword = refl;
+  letters = refl;
+  unknown_letter = refl;
+}

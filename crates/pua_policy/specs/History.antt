@@ -1,0 +1,168 @@
+-- What a process may do, from the list of its accepted events. A history has its newest event first.
+use Rattle.std.specs.Prelude.{◌≡◌, ℕ, ◌-◌, Bool, true, false, not, ◌&&◌, ◌||◌, if◌then◌else◌, List, [], ◌∷◌, length, nat_le, ◌==◌, Option, Some, None, bit_and, unwrap_or, filter, filter_map}
+use Rattle.std.specs.List.{list_any}
+use Rattle.pua_tree.specs.Names.{same_bytes}
+use Rattle.pua_policy.specs.Promises.{holds, all_promises, error}
+use Rattle.pua_path.specs.declared.errno.Errno.{Errno}
+use Rattle.pua_path.specs.declared.errno.Errno.TheVariants.{EPERM}
+use Rattle.pua_policy.specs.declared.place.Place.{Place}
+use Rattle.pua_policy.specs.declared.place.Place.TheVariants.{Dir, Slot}
+use Rattle.pua_policy.specs.declared.answer.UnveilFault.{UnveilFault}
+use Rattle.pua_policy.specs.declared.answer.UnveilFault.TheVariants.{NotPermitted, TooManyPlaces}
+use Rattle.pua_policy.specs.declared.answer.May.{May}
+use Rattle.pua_policy.specs.declared.answer.May.TheVariants.{Yes, Enosys, Death}
+
+-- an accepted call that changes what a process may do; an argument that was NULL is None
+pub data Event : Type 0 where
+  Pledged : Option ℕ → Option ℕ → Event
+  Unveiled : Place → ℕ → Event
+  Locked : Event
+  Moved : ℕ → Event
+  Ended : Event
+
+abbrev pub History : Type 0
+History = List Event
+
+-- a process that was just made works in the root
+abbrev pub new_history : History
+new_history = Moved 0 ∷ []
+
+-- the promises that an event gave, and the execpromises
+abbrev pub promises_in : Event → Option ℕ
+promises_in (Pledged promises execpromises) = promises
+promises_in _ = None
+
+abbrev pub execpromises_in : Event → Option ℕ
+execpromises_in (Pledged promises execpromises) = execpromises
+execpromises_in _ = None
+
+-- the members of all the sets, if there is a set
+abbrev pub meet : ℕ → Option ℕ → ℕ
+meet set None = set
+meet set (Some others) = bit_and set others
+
+abbrev pub common : List ℕ → Option ℕ
+common [] = None
+common (set ∷ sets) = Some (meet set (common sets))
+
+-- the promises that every event which gave some names; before the first, all but `error`
+abbrev pub pledged : History → Option ℕ
+pledged h = common (filter_map promises_in h)
+
+abbrev pub held : History → ℕ
+held h = unwrap_or (pledged h) (all_promises - error)
+
+-- the execpromises that every event which gave some names, if one did
+abbrev pub held_for_exec : History → Option ℕ
+held_for_exec h = common (filter_map execpromises_in h)
+
+abbrev pub has_error : History → Bool
+has_error h = holds (held h) error
+
+-- a request names nothing beyond what was given before; before the first it may name anything
+abbrev pub is_within : Option ℕ → Option ℕ → Bool
+is_within None given = true
+is_within (Some request) None = true
+is_within (Some request) (Some given) = holds given request
+
+-- a pledge is refused if it asks for more in either argument, unless `error` is held
+abbrev pub pledge_fault : History → Option ℕ → Option ℕ → Option Errno
+pledge_fault h promises execpromises =
+    if has_error h || (is_within promises (pledged h) && is_within execpromises (held_for_exec h)) then None else Some EPERM
+
+abbrev pub same_place : Place → Place → Bool
+same_place (Dir a) (Dir b) = a == b
+same_place (Slot a n) (Slot b m) = a == b && same_bytes n m
+same_place (Dir a) (Slot b m) = false
+same_place (Slot a n) (Dir b) = false
+
+-- the permissions kept at a place: those of the last event on it
+abbrev pub kept : History → Place → Option ℕ
+kept [] place = None
+kept (Unveiled other perms ∷ h) place = if same_place other place then Some perms else kept h place
+kept (_ ∷ h) place = kept h place
+
+abbrev pub first : {A : Type 0} → List A → Option A
+first [] = None
+first (x ∷ xs) = Some x
+
+-- a veil put on a place: in the place of the one that is kept there, or behind the others
+abbrev pub with_veil : Place → ℕ → List (Place × ℕ) → List (Place × ℕ)
+with_veil place perms [] = (place, perms) ∷ []
+with_veil place perms (veil ∷ more) = if same_place place veil.0 then (veil.0, perms) ∷ more else veil ∷ with_veil place perms more
+
+-- the places kept with their permissions, in the order in which they came
+abbrev pub veils : History → List (Place × ℕ)
+veils [] = []
+veils (Unveiled place perms ∷ h) = with_veil place perms (veils h)
+veils (_ ∷ h) = veils h
+
+abbrev pub is_lock : Event → Bool
+is_lock Locked = true
+is_lock _ = false
+
+abbrev pub is_locked : History → Bool
+is_locked h = list_any is_lock h
+
+abbrev pub is_end : Event → Bool
+is_end Ended = true
+is_end _ = false
+
+abbrev pub is_ended : History → Bool
+is_ended h = list_any is_end h
+
+abbrev pub dir_in : Event → Option ℕ
+dir_in (Moved dir) = Some dir
+dir_in _ = None
+
+-- the working directory: that of the last event that set it
+abbrev pub working_dir : History → ℕ
+working_dir h = unwrap_or (first (filter_map dir_in h)) 0
+
+-- permissions at a place may only be reduced, and there are at most 128 places
+abbrev pub place_limit : ℕ
+place_limit = 128
+
+abbrev pub unveil_fault : History → Place → ℕ → Option UnveilFault
+unveil_fault h place perms = if is_locked h then Some NotPermitted else by_kept (kept h place)
+  where
+    by_kept : Option ℕ → Option UnveilFault
+    by_kept (Some old) = if holds old perms then None else Some NotPermitted
+    by_kept None = if nat_le place_limit (length (veils h)) then Some TooManyPlaces else None
+
+abbrev pub is_pledge : Event → Bool
+is_pledge (Pledged promises execpromises) = true
+is_pledge _ = false
+
+-- the history of the program that a successful exec starts: with execpromises they are its promises, and without them the working directory alone stays
+abbrev pub after_exec : History → History
+after_exec h = by_given (held_for_exec h)
+  where
+    by_given : Option ℕ → History
+    by_given (Some promises) = Pledged (Some promises) None ∷ filter (λ event. not (is_pledge event)) h
+    by_given None = Moved (working_dir h) ∷ []
+
+-- whether promises allow a call that needs one of these sets
+abbrev pub may_any : History → List ℕ → May
+may_any h alternatives =
+    if is_ended h then Death
+    else (if list_any (holds (held h)) alternatives then Yes
+    else (if has_error h then Enosys else Death))
+
+-- what a process keeps of its history; its promises are None until a pledge gives some, since that pledge alone may name any
+pub record ProcessState : Type 0 where
+  pub promises : Option ℕ
+  pub execpromises : Option ℕ
+  pub veils : List (Place × ℕ)
+  pub locked : Bool
+  pub dir : ℕ
+  pub ended : Bool
+
+-- the process stands for the history
+pub record StandsFor (process : ProcessState) (h : History) : Type 0 where
+  pub promises : process.promises ≡ pledged h
+  pub execpromises : process.execpromises ≡ held_for_exec h
+  pub veils : process.veils ≡ veils h
+  pub locked : process.locked ≡ is_locked h
+  pub dir : process.dir ≡ working_dir h
+  pub ended : process.ended ≡ is_ended h

@@ -1,0 +1,93 @@
+-- Sets of promises and of permissions as numbers, a bit for each member, and how they are read.
+use Rattle.std.specs.Prelude.{ℕ, map, ◌*◌, ◌-◌, ◌^◌, Bool, List, [], ◌∷◌, ◌==◌, Option, Some, None, Result, Ok, Err, codes, bit_and, bit_or, position, option_map}
+use Rattle.std.specs.List.{slice_split}
+use Rattle.pua_tree.specs.Names.{same_bytes}
+use Rattle.pua_path.specs.declared.errno.Errno.{Errno}
+use Rattle.pua_path.specs.declared.errno.Errno.TheVariants.{EINVAL}
+
+-- every member of the second set is one of the first
+abbrev pub holds : ℕ → ℕ → Bool
+holds set wanted = bit_and set wanted == wanted
+
+-- the keywords of pledge, the first at bit 0
+abbrev pub keywords : List (List ℕ)
+keywords = codes "audio" ∷ codes "bpf" ∷ codes "chown" ∷ codes "cpath" ∷ codes "disklabel" ∷ codes "dns" ∷ codes "dpath" ∷ codes "drm" ∷ codes "error" ∷ codes "exec" ∷ codes "fattr" ∷ codes "flock"
+    ∷ codes "getpw" ∷ codes "id" ∷ codes "inet" ∷ codes "mcast" ∷ codes "pf" ∷ codes "proc" ∷ codes "prot_exec" ∷ codes "ps" ∷ codes "recvfd" ∷ codes "route" ∷ codes "rpath" ∷ codes "sendfd"
+    ∷ codes "settime" ∷ codes "stdio" ∷ codes "tape" ∷ codes "tmppath" ∷ codes "tty" ∷ codes "unix" ∷ codes "unveil" ∷ codes "video" ∷ codes "vminfo" ∷ codes "vmm" ∷ codes "wpath" ∷ codes "wroute" ∷ []
+
+abbrev pub no_promises : ℕ
+no_promises = 0
+
+abbrev pub all_promises : ℕ
+all_promises = 2 ^ 36 - 1
+
+abbrev pub cpath : ℕ
+cpath = 2 ^ 3
+
+abbrev pub error : ℕ
+error = 2 ^ 8
+
+abbrev pub exec : ℕ
+exec = 2 ^ 9
+
+abbrev pub fattr : ℕ
+fattr = 2 ^ 10
+
+abbrev pub proc : ℕ
+proc = 2 ^ 17
+
+abbrev pub rpath : ℕ
+rpath = 2 ^ 22
+
+abbrev pub unveil : ℕ
+unveil = 2 ^ 30
+
+abbrev pub wpath : ℕ
+wpath = 2 ^ 34
+
+-- names with bits that double from one to the next
+abbrev pub rows_from : ℕ → List (List ℕ) → List (List ℕ × ℕ)
+rows_from bit [] = []
+rows_from bit (name ∷ names) = (name, bit) ∷ rows_from (bit * 2) names
+
+-- each keyword with its bit
+abbrev pub keyword_rows : List (List ℕ × ℕ)
+keyword_rows = rows_from 1 keywords
+
+-- the bit of a keyword
+abbrev pub promise_of : List ℕ → Option ℕ
+promise_of word = option_map (λ place. 2 ^ place) (position (same_bytes word) keywords)
+
+-- the members that words name, unless one is unknown
+abbrev pub union_of : List (Option ℕ) → Result ℕ Errno
+union_of [] = Ok 0
+union_of (None ∷ words) = Err EINVAL
+union_of (Some bits ∷ words) = with_bits (union_of words)
+  where
+    with_bits : Result ℕ Errno → Result ℕ Errno
+    with_bits (Ok set) = Ok (bit_or bits set)
+    with_bits (Err errno) = Err errno
+
+-- keywords between commas; no text is the empty set
+abbrev pub promises_of : List ℕ → Result ℕ Errno
+promises_of [] = Ok no_promises
+promises_of (b ∷ more) = union_of (map promise_of (slice_split (λ b. b == 44) (b ∷ more)))
+
+-- the letters of permissions
+abbrev pub letter_of : ℕ → Option ℕ
+letter_of b = option_map (λ place. 2 ^ place) (position (λ letter. letter == b) (codes "rwxc"))
+
+abbrev pub perms_of : List ℕ → Result ℕ Errno
+perms_of text = union_of (map letter_of text)
+
+abbrev pub reading : ℕ
+reading = 1
+
+abbrev pub writing : ℕ
+writing = 2
+
+abbrev pub executing : ℕ
+executing = 4
+
+abbrev pub creating : ℕ
+creating = 8

@@ -1,0 +1,155 @@
+-- What the veils leave of an object, and whether a call is allowed.
+use Rattle.std.specs.Prelude.{ℕ, Bool, true, false, not, if◌then◌else◌, List, [], ◌∷◌, map, Option, Some, None, Result, Ok, Err, is_none, ◌&&◌, ◌==◌, IsTrue}
+use Rattle.std.specs.List.{list_any}
+use Rattle.std.specs.Option.{option_eq}
+use Rattle.pua_tree.specs.Tree.{Tree, kind_at, above, climb, is_empty, is_dir, look}
+use Rattle.pua_path.specs.Resolution.{resolution_of_text}
+use Rattle.pua_policy.specs.Promises.{holds}
+use Rattle.pua_policy.specs.Calls.{CallTable, rule_of, last_of, ending_of}
+use Rattle.pua_policy.specs.History.{History, Event, Unveiled, kept, may_any, working_dir}
+use Rattle.pua_tree.specs.declared.node.Kind.{Kind}
+use Rattle.pua_tree.specs.declared.node.Kind.TheVariants as kind
+use Rattle.pua_path.specs.declared.errno.Errno.{Errno}
+use Rattle.pua_path.specs.declared.errno.Errno.TheVariants.{ENOENT, EACCES, EBUSY, EEXIST, ENOTDIR, EISDIR, EINVAL, ENOTEMPTY, EPERM, ENOSYS}
+use Rattle.pua_path.specs.declared.found.Way.{Way}
+use Rattle.pua_path.specs.declared.found.Way.TheVariants as way
+use Rattle.pua_path.specs.declared.found.Found.{Found}
+use Rattle.pua_path.specs.declared.found.Found.TheVariants as found
+use Rattle.pua_policy.specs.declared.call.Call.{Call}
+use Rattle.pua_policy.specs.declared.call.Call.TheVariants.{Readlink, OpenWrite, OpenBoth, Create, Mkdir, Rmdir, Unlink, Symlink, Chdir, Exec}
+use Rattle.pua_policy.specs.declared.place.Place.{Place}
+use Rattle.pua_policy.specs.declared.place.Place.TheVariants.{Dir, Slot}
+use Rattle.pua_policy.specs.declared.answer.Cover.{Cover}
+use Rattle.pua_policy.specs.declared.answer.Cover.TheVariants.{All, Nothing, Only}
+use Rattle.pua_policy.specs.declared.answer.May.{May}
+use Rattle.pua_policy.specs.declared.answer.May.TheVariants as may
+use Rattle.pua_policy.specs.declared.answer.Verdict.{Verdict}
+use Rattle.pua_policy.specs.declared.answer.Verdict.TheVariants.{Allowed, Failed, Death}
+
+-- directories by their node, anything else by its name
+abbrev pub place_of : Found → Place
+place_of (found.Whole dir _) = Dir dir
+place_of (found.Slot dir name _) = Slot dir name
+
+-- the directories that may cover an object, the nearest first
+abbrev pub directories_over : Tree → Found → List ℕ
+directories_over t (found.Whole dir _) = climb t (above t dir)
+directories_over t (found.Slot dir name _) = climb t dir
+
+-- the permissions of the first that has some
+abbrev pub nearest : List (Option ℕ) → Cover
+nearest [] = Nothing
+nearest (None ∷ more) = nearest more
+nearest (Some perms ∷ more) = Only perms
+
+-- what was found is of the tree: its directory lives, and its row is as the tree has it, with no directory in it
+abbrev pub found_fits : Tree → Found → Bool
+found_fits t (found.Whole dir _) = is_dir t dir
+found_fits t (found.Slot dir name None) = is_dir t dir && is_none (look t dir name)
+found_fits t (found.Slot dir name (Some x)) = is_dir t dir && (option_eq ◌==◌ (look t dir name) (Some x) && not (is_dir t x))
+
+abbrev pub FoundFits : Tree → Found → Type 0
+FoundFits t object = IsTrue (found_fits t object)
+
+abbrev pub is_unveil : Event → Bool
+is_unveil (Unveiled place perms) = true
+is_unveil _ = false
+
+-- everything, where no veil is kept; else the permissions at the object's own place, or those of the nearest directory over it
+abbrev pub cover : Tree → History → Found → Cover
+cover t h object =
+    if list_any is_unveil h then nearest (kept h (place_of object) ∷ map (λ dir. kept h (Dir dir)) (directories_over t object)) else All
+
+-- what was found, as the last check sees it
+pub data Object : Type 0 where
+  IsDir : ℕ → Way → Object
+  IsFile : Object
+  IsProg : Object
+  IsLink : Object
+  IsMissing : Object
+
+abbrev pub object_of_kind : Option Kind → Object
+object_of_kind (Some kind.Prog) = IsProg
+object_of_kind (Some kind.Link) = IsLink
+object_of_kind (Some _) = IsFile
+object_of_kind None = IsMissing
+
+abbrev pub object_of : Tree → Found → Object
+object_of t (found.Whole dir way) = IsDir dir way
+object_of t (found.Slot dir name None) = IsMissing
+object_of t (found.Slot dir name (Some x)) = object_of_kind (kind_at t x)
+
+-- a directory is removed by its name alone, and only if it is empty
+abbrev pub rmdir_fault : Tree → ℕ → Way → Option Errno
+rmdir_fault t dir way.Dot = Some EINVAL
+rmdir_fault t dir way.DotDot = Some EINVAL
+rmdir_fault t dir way.Top = Some EBUSY
+rmdir_fault t dir (way.Named parent name) = if is_empty t dir then None else Some ENOTEMPTY
+
+-- the last check of a call, by what was found; a link that is followed is never found
+abbrev pub object_fault : Tree → Call → Object → Option Errno
+object_fault t Create (IsDir dir way) = Some EISDIR
+object_fault t Create _ = None
+object_fault t Mkdir IsMissing = None
+object_fault t Mkdir _ = Some EEXIST
+object_fault t Symlink IsMissing = None
+object_fault t Symlink _ = Some EEXIST
+object_fault t _ IsMissing = Some ENOENT
+object_fault t Readlink IsLink = None
+object_fault t Readlink _ = Some EINVAL
+object_fault t OpenWrite (IsDir dir way) = Some EISDIR
+object_fault t OpenBoth (IsDir dir way) = Some EISDIR
+object_fault t Rmdir (IsDir dir way) = rmdir_fault t dir way
+object_fault t Rmdir _ = Some ENOTDIR
+object_fault t Unlink (IsDir dir way) = Some EPERM
+object_fault t Chdir (IsDir dir way) = None
+object_fault t Chdir _ = Some ENOTDIR
+object_fault t Exec IsProg = None
+object_fault t Exec _ = Some EACCES
+object_fault t _ _ = None
+
+abbrev pub allowed_unless : Option Errno → Verdict
+allowed_unless None = Allowed
+allowed_unless (Some errno) = Failed errno
+
+-- whether the cover has permissions: the fault where it lacks one, or there is none
+abbrev pub cover_fault : Cover → ℕ → Option Errno
+cover_fault All perms = None
+cover_fault Nothing perms = Some ENOENT
+cover_fault (Only given) perms = if holds given perms then None else Some EACCES
+
+-- the first of two faults
+abbrev pub or_fault : Option Errno → Option Errno → Option Errno
+or_fault None next = next
+or_fault (Some errno) next = Some errno
+
+-- promises before everything else: without them the call fails or the process ends
+abbrev pub if_promised : May → Verdict → Verdict
+if_promised may.Yes verdict = verdict
+if_promised may.Enosys verdict = Failed ENOSYS
+if_promised may.Death verdict = Death
+
+-- the fault of a call on what was found: its cover, its permissions, its kind
+abbrev pub found_fault : Tree → CallTable → History → Call → Found → Option Errno
+found_fault t table h call object =
+    or_fault (cover_fault (cover t h object) (rule_of table call).perms) (object_fault t call (object_of t object))
+
+abbrev pub verdict : Tree → CallTable → History → Call → Found → Verdict
+verdict t table h call object = if_promised (may_any h (rule_of table call).alternatives) (allowed_unless (found_fault t table h call object))
+
+-- the same where the path may have failed
+abbrev pub verdict_of : Tree → CallTable → History → Call → Result Found Errno → Verdict
+verdict_of t table h call (Ok object) = verdict t table h call object
+verdict_of t table h call (Err errno) = if_promised (may_any h (rule_of table call).alternatives) (Failed errno)
+
+-- what the text of a call names to a process
+abbrev pub object_named : Tree → History → Call → List ℕ → Result Found Errno
+object_named t h call text = resolution_of_text t (working_dir h) (ending_of call) text (last_of call)
+
+-- the verdict on a call with its path's text
+abbrev pub verdict_on : Tree → CallTable → History → Call → List ℕ → Verdict
+verdict_on t table h call text = verdict_of t table h call (object_named t h call text)
+
+abbrev pub is_allowed : Verdict → Bool
+is_allowed Allowed = true
+is_allowed _ = false

@@ -1,0 +1,53 @@
+//! What a process and the verdict on its calls answer.
+
+use pua_path::Errno;
+use thiserror::Error;
+
+use crate::perms::Perms;
+
+/// Whether promises allow a call.
+#[derive(Clone, Copy, Debug, PartialEq, Eq)]
+pub enum May {
+    /// They are held.
+    Yes,
+    /// The call fails with ENOSYS, and the process lives.
+    Enosys,
+    /// The process is killed, or has ended before.
+    Death,
+}
+
+/// What the veils leave of an object.
+#[derive(Clone, Copy, Debug, PartialEq, Eq)]
+pub enum Cover {
+    /// Everything: no veil is kept.
+    All,
+    /// Nothing: veils are kept, and none of them covers it.
+    Nothing,
+    /// The permissions of the nearest veil.
+    Only(Perms),
+}
+
+/// What becomes of a call.
+#[derive(Clone, Copy, Debug, PartialEq, Eq)]
+pub enum Verdict {
+    /// It is allowed.
+    Allowed,
+    /// It fails with this error, and the process lives.
+    Failed(Errno),
+    /// The process is killed, or has ended before.
+    Death,
+}
+
+/// Why an unveil was refused.
+#[derive(Clone, Copy, Debug, PartialEq, Eq, Error)]
+pub enum UnveilFault {
+    /// The process is locked, or the permissions at the place would increase.
+    #[error("not permitted")]
+    NotPermitted,
+    /// The place is new, and 128 places are kept.
+    #[error("too many places")]
+    TooManyPlaces,
+    /// The place is new, and a growth of memory was refused.
+    #[error("out of memory")]
+    OutOfMemory,
+}

@@ -1,0 +1,305 @@
+//! The promises of a process.
+
+use bitflags::{Flag, Flags};
+use std::marker::Model;
+
+/// A set of keywords, a bit for each.
+#[derive(Clone, Copy, Debug, PartialEq, Eq, Hash)]
+struct Keywords(u64);
+
+/// A set of promises. Contracts see a number with a bit for each of the 36 keywords, the first at
+/// bit 0.
+#[derive(Clone, Copy, Debug, PartialEq, Eq, Hash)]
+pub struct Promises {
+    keywords: Keywords,
+}
+
+impl Model for Promises {
+    ghost use Rattle.std.specs.Prelude.{ℕ, ◌<◌, ◌^◌};
+
+    ghost Value = { ℕ };
+
+    ghost view = { λ a. a.keywords.0 };
+
+    ghost invariant = { λ a. a.keywords.0 < 2 ^ 36 };
+
+    ghost inverse = { λ n. record { keywords = record { 0 = n } } };
+}
+
+ghost use Rattle.std.specs.Prelude.{⊤, ◌≡◌, [], ◌∷◌, bit_and, bit_or};
+ghost use Rattle.pua_policy.specs.Promises.{holds, promises_of, promise_of, keyword_rows};
+
+use pua_path::Errno;
+
+static KEYWORDS: [Flag<Keywords>; 36] = [
+    Flag {
+        name: "audio",
+        value: Keywords(1 << 0),
+    },
+    Flag {
+        name: "bpf",
+        value: Keywords(1 << 1),
+    },
+    Flag {
+        name: "chown",
+        value: Keywords(1 << 2),
+    },
+    Flag {
+        name: "cpath",
+        value: Keywords(1 << 3),
+    },
+    Flag {
+        name: "disklabel",
+        value: Keywords(1 << 4),
+    },
+    Flag {
+        name: "dns",
+        value: Keywords(1 << 5),
+    },
+    Flag {
+        name: "dpath",
+        value: Keywords(1 << 6),
+    },
+    Flag {
+        name: "drm",
+        value: Keywords(1 << 7),
+    },
+    Flag {
+        name: "error",
+        value: Keywords(1 << 8),
+    },
+    Flag {
+        name: "exec",
+        value: Keywords(1 << 9),
+    },
+    Flag {
+        name: "fattr",
+        value: Keywords(1 << 10),
+    },
+    Flag {
+        name: "flock",
+        value: Keywords(1 << 11),
+    },
+    Flag {
+        name: "getpw",
+        value: Keywords(1 << 12),
+    },
+    Flag {
+        name: "id",
+        value: Keywords(1 << 13),
+    },
+    Flag {
+        name: "inet",
+        value: Keywords(1 << 14),
+    },
+    Flag {
+        name: "mcast",
+        value: Keywords(1 << 15),
+    },
+    Flag {
+        name: "pf",
+        value: Keywords(1 << 16),
+    },
+    Flag {
+        name: "proc",
+        value: Keywords(1 << 17),
+    },
+    Flag {
+        name: "prot_exec",
+        value: Keywords(1 << 18),
+    },
+    Flag {
+        name: "ps",
+        value: Keywords(1 << 19),
+    },
+    Flag {
+        name: "recvfd",
+        value: Keywords(1 << 20),
+    },
+    Flag {
+        name: "route",
+        value: Keywords(1 << 21),
+    },
+    Flag {
+        name: "rpath",
+        value: Keywords(1 << 22),
+    },
+    Flag {
+        name: "sendfd",
+        value: Keywords(1 << 23),
+    },
+    Flag {
+        name: "settime",
+        value: Keywords(1 << 24),
+    },
+    Flag {
+        name: "stdio",
+        value: Keywords(1 << 25),
+    },
+    Flag {
+        name: "tape",
+        value: Keywords(1 << 26),
+    },
+    Flag {
+        name: "tmppath",
+        value: Keywords(1 << 27),
+    },
+    Flag {
+        name: "tty",
+        value: Keywords(1 << 28),
+    },
+    Flag {
+        name: "unix",
+        value: Keywords(1 << 29),
+    },
+    Flag {
+        name: "unveil",
+        value: Keywords(1 << 30),
+    },
+    Flag {
+        name: "video",
+        value: Keywords(1 << 31),
+    },
+    Flag {
+        name: "vminfo",
+        value: Keywords(1 << 32),
+    },
+    Flag {
+        name: "vmm",
+        value: Keywords(1 << 33),
+    },
+    Flag {
+        name: "wpath",
+        value: Keywords(1 << 34),
+    },
+    Flag {
+        name: "wroute",
+        value: Keywords(1 << 35),
+    },
+];
+
+impl Flags for Keywords {
+    type Bits = u64;
+
+    ghost exact = { ⊤ };
+
+    ghost table = { keyword_rows };
+
+    ghost set_of = { λ a. a.0 };
+
+    fn flags<'a>() -> &'a [Flag<Keywords>] {
+        KEYWORDS.as_slice()
+    }
+
+    fn bits(&self) -> u64 {
+        self.0
+    }
+
+    fn from_bits_retain(bits: u64) -> Keywords {
+        Keywords(bits)
+    }
+}
+
+impl Promises {
+    /// No promise.
+    pub const NONE: Promises = Promises {
+        keywords: Keywords(0),
+    };
+
+    /// Every promise but `error`: what a process holds before its first pledge of promises.
+    pub const ALL_BUT_ERROR: Promises = Promises {
+        keywords: Keywords((1 << 36) - 1 - (1 << 8)),
+    };
+
+    /// To create and to remove files.
+    pub const CPATH: Promises = Promises {
+        keywords: Keywords(1 << 3),
+    };
+
+    /// Calls that lack a promise fail with ENOSYS, and the process lives.
+    pub const ERROR: Promises = Promises {
+        keywords: Keywords(1 << 8),
+    };
+
+    /// To execute files.
+    pub const EXEC: Promises = Promises {
+        keywords: Keywords(1 << 9),
+    };
+
+    /// To change the modes of files.
+    pub const FATTR: Promises = Promises {
+        keywords: Keywords(1 << 10),
+    };
+
+    /// To make processes.
+    pub const PROC: Promises = Promises {
+        keywords: Keywords(1 << 17),
+    };
+
+    /// To read files, and to look at them.
+    pub const RPATH: Promises = Promises {
+        keywords: Keywords(1 << 22),
+    };
+
+    /// To put veils on places.
+    pub const UNVEIL: Promises = Promises {
+        keywords: Keywords(1 << 30),
+    };
+
+    /// To write files.
+    pub const WPATH: Promises = Promises {
+        keywords: Keywords(1 << 34),
+    };
+
+    /// The promises that keywords name, with a comma between each two, in any order and with repeats;
+    /// no text is the empty set. A word that is no keyword, or is empty, is EINVAL.
+    pub fn read(text: &[u8]) -> Result<Promises, Errno>
+        ensures { result ≡ promises_of text.now }
+    {
+        if text.is_empty() {
+            return Ok(Promises::NONE);
+        }
+        let mut promises = Promises::NONE;
+        for word in text.split(|byte| *byte == b',') {
+            promises = promises.union(keyword(word).ok_or(Errno::EINVAL)?);
+        }
+        Ok(promises)
+    }
+
+    /// Whether each of the others is one of these.
+    pub fn contains(self, others: Promises) -> bool
+        ensures { result ≡ holds self others }
+    {
+        self.keywords.contains(others.keywords)
+    }
+
+    /// These and the others.
+    pub fn union(self, others: Promises) -> Promises
+        ensures { result ≡ bit_or self others }
+    {
+        Promises {
+            keywords: self.keywords.union(others.keywords),
+        }
+    }
+
+    /// Those of these that are among the others.
+    pub fn intersection(self, others: Promises) -> Promises
+        ensures { result ≡ bit_and self others }
+    {
+        Promises {
+            keywords: self.keywords.intersection(others.keywords),
+        }
+    }
+}
+
+/// The promise of one keyword.
+fn keyword(word: &[u8]) -> Option<Promises>
+    ensures { result ≡ promise_of word.now }
+{
+    let flag = Keywords::flags()
+        .iter()
+        .find(|flag| flag.name.as_bytes() == word)?;
+    Some(Promises {
+        keywords: flag.value,
+    })
+}
