@@ -2,5 +2,6 @@ pub mod AnswerTexts
 pub mod Requests
 pub mod Scripts
 pub mod Replay
+pub mod Worlds
 pub mod Laws
 pub mod Examples

@@ -3,6 +3,7 @@
 
 ghost use Rattle.pua_script.specs.Examples.{ReplayRows, ScriptRows};
 ghost use Rattle.pua_script.specs.Laws.{ReplayComposes, RequestsNarrow};
+ghost use Rattle.pua_script.specs.Worlds.{WorldsAnswerAlike};
 
 /// Examples of what is no script.
 pub fn script_examples()
@@ -22,4 +23,9 @@ pub fn replay_law()
 /// Any request but a successful exec of a process that can put no veil any more narrows it.
 pub fn narrowing_law()
     ensures { RequestsNarrow }
+{}
+
+/// Two worlds of the replay for which one world stands answer alike, to the end.
+pub fn standing_law()
+    ensures { WorldsAnswerAlike }
 {}

@@ -1,0 +1,126 @@
+-- Histories that one process stands for go on to be such.
+use Rattle.std.proofs.Common.{◌≡◌, ℕ, List, [], ◌∷◌, Bool, true, false, not, refl, sym, ap, subst, ◌∙◌}
+use Rattle.std.specs.Prelude.{Option, Some, None, filter, filter_map}
+use Rattle.std.specs.List.{list_any}
+use Rattle.pua_policy.specs.History.{History, Event, Pledged, Unveiled, Locked, Moved, Ended, ProcessState, StandsFor, pledged, held_for_exec, veils, with_veil, is_locked, is_ended, is_lock, is_end, working_dir, meet, common, promises_in, execpromises_in, dir_in, first, is_pledge, after_exec}
+
+-- what a process that stands for a history keeps
+abbrev pub state_of : History → ProcessState
+state_of h = record { promises = pledged h; execpromises = held_for_exec h; veils = veils h; locked = is_locked h; dir = working_dir h; ended = is_ended h }
+
+-- one process stands for both
+pub record Same (h k : History) : Type 0 where
+  pub promises : pledged h ≡ pledged k
+  pub execpromises : held_for_exec h ≡ held_for_exec k
+  pub veils : veils h ≡ veils k
+  pub locked : is_locked h ≡ is_locked k
+  pub dir : working_dir h ≡ working_dir k
+  pub ended : is_ended h ≡ is_ended k
+
+pub same_self : (h : History) → Same h h
+same_self h = record { promises = refl; execpromises = refl; veils = refl; locked = refl; dir = refl; ended = refl }
+
+pub same_from_standing : (s : ProcessState) (h k : History) → StandsFor s h → StandsFor s k → Same h k
+same_from_standing s h k a b = record {
+  promises = sym a.promises ∙ b.promises;
+  execpromises = sym a.execpromises ∙ b.execpromises;
+  veils = sym a.veils ∙ b.veils;
+  locked = sym a.locked ∙ b.locked;
+  dir = sym a.dir ∙ b.dir;
+  ended = sym a.ended ∙ b.ended;
+}
+
+pub stands_from_same : (h k : History) → Same h k → StandsFor (state_of h) k
+stands_from_same h k a = record { promises = a.promises; execpromises = a.execpromises; veils = a.veils; locked = a.locked; dir = a.dir; ended = a.ended }
+
+more_pledged : (p e : Option ℕ) (h k : History) → pledged h ≡ pledged k → pledged (Pledged p e ∷ h) ≡ pledged (Pledged p e ∷ k)
+more_pledged None e h k is = is
+more_pledged (Some p) e h k is = ap (λ o. Some (meet p o)) is
+
+more_for_exec : (p e : Option ℕ) (h k : History) → held_for_exec h ≡ held_for_exec k → held_for_exec (Pledged p e ∷ h) ≡ held_for_exec (Pledged p e ∷ k)
+more_for_exec p None h k is = is
+more_for_exec p (Some e) h k is = ap (λ o. Some (meet e o)) is
+
+pub same_more : (event : Event) (h k : History) → Same h k → Same (event ∷ h) (event ∷ k)
+same_more (Pledged p e) h k a = record { promises = more_pledged p e h k a.promises; execpromises = more_for_exec p e h k a.execpromises; veils = a.veils; locked = a.locked; dir = a.dir; ended = a.ended }
+same_more (Unveiled place perms) h k a = record { promises = a.promises; execpromises = a.execpromises; veils = ap (with_veil place perms) a.veils; locked = a.locked; dir = a.dir; ended = a.ended }
+same_more Locked h k a = record { promises = a.promises; execpromises = a.execpromises; veils = a.veils; locked = refl; dir = a.dir; ended = a.ended }
+same_more (Moved dir) h k a = record { promises = a.promises; execpromises = a.execpromises; veils = a.veils; locked = a.locked; dir = refl; ended = a.ended }
+same_more Ended h k a = record { promises = a.promises; execpromises = a.execpromises; veils = a.veils; locked = a.locked; dir = a.dir; ended = refl }
+
+abbrev without_pledges : History → History
+without_pledges h = filter (λ event. not (is_pledge event)) h
+
+no_promises_left : (h : History) → filter_map promises_in (without_pledges h) ≡ []
+no_promises_left [] = refl
+no_promises_left (Pledged p e ∷ h) = no_promises_left h
+no_promises_left (Unveiled place perms ∷ h) = no_promises_left h
+no_promises_left (Locked ∷ h) = no_promises_left h
+no_promises_left (Moved dir ∷ h) = no_promises_left h
+no_promises_left (Ended ∷ h) = no_promises_left h
+
+no_execpromises_left : (h : History) → filter_map execpromises_in (without_pledges h) ≡ []
+no_execpromises_left [] = refl
+no_execpromises_left (Pledged p e ∷ h) = no_execpromises_left h
+no_execpromises_left (Unveiled place perms ∷ h) = no_execpromises_left h
+no_execpromises_left (Locked ∷ h) = no_execpromises_left h
+no_execpromises_left (Moved dir ∷ h) = no_execpromises_left h
+no_execpromises_left (Ended ∷ h) = no_execpromises_left h
+
+veils_left : (h : History) → veils (without_pledges h) ≡ veils h
+veils_left [] = refl
+veils_left (Pledged p e ∷ h) = veils_left h
+veils_left (Unveiled place perms ∷ h) = ap (with_veil place perms) (veils_left h)
+veils_left (Locked ∷ h) = veils_left h
+veils_left (Moved dir ∷ h) = veils_left h
+veils_left (Ended ∷ h) = veils_left h
+
+lock_left : (h : History) → is_locked (without_pledges h) ≡ is_locked h
+lock_left [] = refl
+lock_left (Pledged p e ∷ h) = lock_left h
+lock_left (Unveiled place perms ∷ h) = lock_left h
+lock_left (Locked ∷ h) = refl
+lock_left (Moved dir ∷ h) = lock_left h
+lock_left (Ended ∷ h) = lock_left h
+
+dir_left : (h : History) → working_dir (without_pledges h) ≡ working_dir h
+dir_left [] = refl
+dir_left (Pledged p e ∷ h) = dir_left h
+dir_left (Unveiled place perms ∷ h) = dir_left h
+dir_left (Locked ∷ h) = dir_left h
+dir_left (Moved dir ∷ h) = refl
+dir_left (Ended ∷ h) = dir_left h
+
+end_left : (h : History) → is_ended (without_pledges h) ≡ is_ended h
+end_left [] = refl
+end_left (Pledged p e ∷ h) = end_left h
+end_left (Unveiled place perms ∷ h) = end_left h
+end_left (Locked ∷ h) = end_left h
+end_left (Moved dir ∷ h) = end_left h
+end_left (Ended ∷ h) = refl
+
+-- the history after an exec, by the execpromises
+abbrev exec_left : Option ℕ → History → History
+exec_left (Some promises) h = Pledged (Some promises) None ∷ without_pledges h
+exec_left None h = Moved (working_dir h) ∷ []
+
+exec_by : (o : Option ℕ) (h : History) → held_for_exec h ≡ o → after_exec h ≡ exec_left o h
+exec_by None h is = rw is refl
+exec_by (Some promises) h is = rw is refl
+
+same_exec_left : (o : Option ℕ) (h k : History) → Same h k → Same (exec_left o h) (exec_left o k)
+same_exec_left None h k a = record { promises = refl; execpromises = refl; veils = refl; locked = refl; dir = a.dir; ended = refl }
+same_exec_left (Some p) h k a = record {
+  promises = ap (λ sets. Some (meet p (common sets))) (no_promises_left h ∙ sym (no_promises_left k));
+  execpromises = ap common (no_execpromises_left h ∙ sym (no_execpromises_left k));
+  veils = veils_left h ∙ a.veils ∙ sym (veils_left k);
+  locked = lock_left h ∙ a.locked ∙ sym (lock_left k);
+  dir = dir_left h ∙ a.dir ∙ sym (dir_left k);
+  ended = end_left h ∙ a.ended ∙ sym (end_left k);
+}
+
+pub same_after_exec : (h k : History) → Same h k → Same (after_exec h) (after_exec k)
+same_after_exec h k a =
+    let first_left : after_exec h ≡ exec_left (held_for_exec k) h = exec_by (held_for_exec k) h a.execpromises in
+    let second_left : after_exec k ≡ exec_left (held_for_exec k) k = exec_by (held_for_exec k) k refl in
+    subst (λ x. Same x (after_exec k)) (sym first_left) (subst (Same (exec_left (held_for_exec k) h)) (sym second_left) (same_exec_left (held_for_exec k) h k a))

@@ -1,0 +1,68 @@
+-- What a world keeps, and for which worlds of the replay it stands.
+use Rattle.std.specs.Prelude.{◌≡◌, ℕ, List, [], ◌∷◌, length, nat_eq, Option, Some, None, IsTrue}
+use Rattle.std.specs.Ordering.{nat_cmp}
+use Rattle.std.specs.FinMap.{is_sorted}
+use Rattle.std.specs.Map.{lookup}
+use Rattle.pua_tree.specs.Tree.{Tree}
+use Rattle.pua_policy.specs.Calls.{standard_table}
+use Rattle.pua_policy.specs.History.{History, ProcessState, StandsFor}
+use Rattle.pua_script.specs.Requests.{Asked}
+use Rattle.pua_script.specs.Replay.{World, Effect, Fails, Kills, Leaves, Copies, history_of, apply, answers, world_after, answer_to}
+use Rattle.pua_policy.specs.History.{Ended}
+use Rattle.pua_script.specs.declared.answer.Answer.{Answer}
+
+-- a tree, and all processes ever made with their numbers, in the order in which they were made
+pub record WorldState : Type 0 where
+  pub tree : Tree
+  pub processes : List (ℕ × ProcessState)
+
+abbrev pub process_at : WorldState → ℕ → Option ProcessState
+process_at s process = lookup (nat_eq process) s.processes
+
+-- the number was never made, or its process stands for its history
+abbrev pub StandsAt : Option ProcessState → Option History → Type 0
+StandsAt None None = Unit {0}
+StandsAt None (Some h) = ⊥
+StandsAt (Some process) None = ⊥
+StandsAt (Some process) (Some h) = StandsFor process h
+
+-- the same tree and the same numbers, and each process stands for its history
+pub record StandsForWorld (s : WorldState) (w : World) : Type 0 where
+  pub tree : s.tree ≡ w.tree
+  pub processes : (process : ℕ) → StandsAt (process_at s process) (history_of w process)
+  pub count : length s.processes ≡ length w.histories
+  pub in_order : IsTrue (is_sorted nat_cmp w.histories)
+
+-- the answer is the replay's, and the world afterwards stands for the replay's, whichever world it stood for
+abbrev pub IsServed : WorldState → Asked → Answer → WorldState → Type 0
+IsServed before ask answer after =
+    (w : World) → StandsForWorld before w → (answer ≡ (apply standard_table w ask).0) × StandsForWorld after (apply standard_table w ask).1
+
+-- the same for a list of requests
+abbrev pub AreServed : WorldState → List Asked → List Answer → WorldState → Type 0
+AreServed before asks told after =
+    (w : World) → StandsForWorld before w → (told ≡ answers standard_table w asks) × StandsForWorld after (world_after standard_table w asks)
+
+-- the tree and the history that an effect leaves a process that had these
+abbrev pub tree_left : Tree → Effect → Tree
+tree_left t (Leaves after h) = after
+tree_left t _ = t
+
+abbrev pub history_left : History → Effect → History
+history_left h Kills = Ended ∷ h
+history_left h (Leaves t after) = after
+history_left h _ = h
+
+-- a process was told of an effect and left with it
+pub record Does (t : Tree) (h : History) (effect : Effect) (answer : Answer) (tree : Tree) (process : ProcessState) : Type 0 where
+  pub told : answer ≡ answer_to effect
+  pub left : tree ≡ tree_left t effect
+  pub stands : StandsFor process (history_left h effect)
+
+-- two worlds of the replay for which one world stands answer alike, and one world stands for both afterwards
+pub record AnswerAlike (v w : World) (asks : List Asked) : Type 0 where
+  pub told : answers standard_table v asks ≡ answers standard_table w asks
+  pub left : (after : WorldState) × StandsForWorld after (world_after standard_table v asks) × StandsForWorld after (world_after standard_table w asks)
+
+abbrev pub WorldsAnswerAlike : Type 0
+WorldsAnswerAlike = (s : WorldState) (v w : World) (asks : List Asked) → StandsForWorld s v → StandsForWorld s w → AnswerAlike v w asks
