@@ -31,14 +31,15 @@ impl Model for Name {
     ghost inverse_ok = { λ a h i. record { bytes = h.0 i; len = h.1 i } };
 }
 
-ghost use Rattle.std.specs.Prelude.{◌≡◌, ◌==◌, IsTrue, Some, None, if◌then◌else◌};
+ghost use Rattle.std.specs.Prelude.{◌≡◌, ◌==◌, ◌≤◌, length, IsTrue, Some, None, if◌then◌else◌};
 ghost use Rattle.std.proofs.Common.{rules};
 ghost use Rattle.std.specs.Cmp.{partial_order_from_own_ties};
 ghost use Rattle.std.specs.Cmp.Rules.{comparing, hashing};
 ghost use Rattle.std.specs.Ordering.{nat_cmp, as_partial_cmp};
 ghost use Rattle.std.specs.Cmp.Lexicographic.{slice_cmp, pointwise};
 ghost use Rattle.std.specs.Hash as fed;
-ghost use Rattle.pua_tree.specs.Names.{is_name, is_name_byte};
+ghost use Rattle.std.specs.List.{list_all};
+ghost use Rattle.pua_tree.specs.Names.{is_name, is_name_byte, padded};
 ghost use Rattle.pua_tree.specs.Spelling.{name_of};
 
 impl Name {
@@ -62,13 +63,7 @@ impl Name {
         if len > Name::MOST {
             return Err(NameFault::TooLong);
         }
-        if !is_name(&bytes[..len]) {
-            return Err(NameFault::NotAName);
-        }
-        Ok(Name {
-            bytes,
-            len: len as u8,
-        })
+        Name::from_bytes(&bytes[..len]).ok_or(NameFault::NotAName)
     }
 
     /// The name of these bytes, if they are a name's.
@@ -78,10 +73,8 @@ impl Name {
         if !is_name(bytes) {
             return None;
         }
-        let mut padded = [0; Name::MOST];
-        padded[..bytes.len()].copy_from_slice(bytes);
         Some(Name {
-            bytes: padded,
+            bytes: padded(bytes),
             len: bytes.len() as u8,
         })
     }
@@ -154,11 +147,17 @@ impl fmt::Debug for Name {
 fn is_name(bytes: &[u8]) -> bool
     ensures { result ≡ is_name bytes.now }
 {
-    !bytes.is_empty()
-        && bytes.len() <= Name::MOST
-        && bytes.iter().all(|byte| is_name_byte(*byte))
-        && bytes != b".".as_slice()
-        && bytes != b"..".as_slice()
+    if bytes.is_empty() || bytes.len() > Name::MOST || !are_name_bytes(bytes) {
+        return false;
+    }
+    bytes != b".".as_slice() && bytes != b"..".as_slice()
+}
+
+/// Whether each byte may stand in a name.
+fn are_name_bytes(bytes: &[u8]) -> bool
+    ensures { result ≡ list_all is_name_byte bytes.now }
+{
+    bytes.iter().all(|byte| is_name_byte(*byte))
 }
 
 /// Whether a byte may stand in a name: it is neither NUL nor a slash.
@@ -166,4 +165,14 @@ fn is_name_byte(byte: u8) -> bool
     ensures { result ≡ is_name_byte byte }
 {
     byte != 0 && byte != b'/'
+}
+
+/// The bytes and zeros behind them.
+fn padded(bytes: &[u8]) -> [u8; 255]
+    requires { length bytes.now ≤ 255 }
+    ensures { result ≡ padded bytes.now }
+{
+    let mut padded = [0; 255];
+    padded[..bytes.len()].copy_from_slice(bytes);
+    padded
 }

@@ -1,0 +1,36 @@
+-- Fields are taken off a line one by one, and the first six kept.
+use Rattle.std.proofs.Common.{◌≡◌, ◌≤◌, ◌&&◌, ℕ, Bool, true, false, List, [], ◌∷◌, ◌++◌, length, Option, Some, None, refl, sym, ap, ◌∙◌, arith, cond, take}
+use Rattle.std.specs.List.{list_all}
+use Rattle.std.proofs.lemmas.Bool.{cond-true, cond-false}
+use Rattle.std.proofs.lemmas.List.{append_assoc, append-nil, take_all, take-append-le}
+use Rattle.pua_tree.specs.Spelling.{is_field}
+
+-- what becomes of fields that were kept, and those that are still to be read
+abbrev pub filled : List (List ℕ) → List (List ℕ) → Option (List (List ℕ))
+filled kept rest = cond (list_all is_field rest) (Some (take 6 (kept ++ rest))) None
+
+passed : (test other : Bool) (x : Option (List (List ℕ))) → test ≡ true → cond (test && other) x None ≡ cond other x None
+passed test other x e = ap (λ t. cond (t && other) x None) e
+
+failed : (test other : Bool) (x : Option (List (List ℕ))) → test ≡ false → cond (test && other) x None ≡ None
+failed test other x e = ap (λ t. cond (t && other) x None) e
+
+-- one more field is kept
+pub filled-kept : (kept : List (List ℕ)) (field : List ℕ) (rest : List (List ℕ)) → is_field field ≡ true → filled kept (field ∷ rest) ≡ filled (kept ++ field ∷ []) rest
+filled-kept kept field rest good =
+    passed (is_field field) (list_all is_field rest) (Some (take 6 (kept ++ field ∷ rest))) good
+    ∙ ap (λ fs. cond (list_all is_field rest) (Some (take 6 fs)) None) (sym (append_assoc kept (field ∷ []) rest))
+
+-- one more field, and no room for it
+pub filled-full : (kept : List (List ℕ)) (field : List ℕ) (rest : List (List ℕ)) → is_field field ≡ true → 6 ≤ length kept → filled kept (field ∷ rest) ≡ filled kept rest
+filled-full kept field rest good full =
+    passed (is_field field) (list_all is_field rest) (Some (take 6 (kept ++ field ∷ rest))) good
+    ∙ ap (λ fs. cond (list_all is_field rest) (Some fs) None) (take-append-le 6 kept (field ∷ rest) full ∙ sym (take-append-le 6 kept rest full))
+
+-- one that is no field
+pub filled-bad : (kept : List (List ℕ)) (field : List ℕ) (rest : List (List ℕ)) → is_field field ≡ false → filled kept (field ∷ rest) ≡ None
+filled-bad kept field rest bad = failed (is_field field) (list_all is_field rest) (Some (take 6 (kept ++ field ∷ rest))) bad
+
+-- no field is left
+pub filled-end : (kept : List (List ℕ)) → length kept ≤ 6 → filled kept [] ≡ Some kept
+filled-end kept short = ap Some (ap (take 6) (append-nil kept) ∙ take_all 6 kept short)

@@ -1,0 +1,53 @@
+-- The pieces of a text between separators.
+use Rattle.std.proofs.Common.{◌≡◌, ◌≤◌, ◌&&◌, ◌==◌, ℕ, ◌+◌, Bool, true, false, List, [], ◌∷◌, length, Option, Some, None, refl, sym, ap, ◌∙◌, arith, cond, not, suc, nat_lt, nat_le, take, drop}
+use Rattle.std.specs.List.{list_all, filter, slice_split, position, position_or_len, onto_first}
+use Rattle.std.proofs.lemmas.Bool.{cond-true, lt-ltb, ltb-true, ltb-false}
+use Rattle.std.proofs.lemmas.List.Splits.{slice_split_first}
+use Rattle.pua_tree.specs.Names.{has_short_components}
+
+abbrev pub is_short : List ℕ → Bool
+is_short piece = nat_le (length piece) 255
+
+abbrev pub has_a_byte : List ℕ → Bool
+has_a_byte piece = nat_lt 0 (length piece)
+
+-- empty pieces are short
+short_pieces : (pieces : List (List ℕ)) → list_all is_short (filter has_a_byte pieces) ≡ list_all is_short pieces
+short_pieces [] = refl
+short_pieces ([] ∷ pieces) = short_pieces pieces
+short_pieces ((x ∷ xs) ∷ pieces) =
+    let some : has_a_byte (x ∷ xs) ≡ true = lt-ltb 0 (length (x ∷ xs)) (omega arith) in
+    ap (list_all is_short) (cond-true (has_a_byte (x ∷ xs)) ((x ∷ xs) ∷ filter has_a_byte pieces) (filter has_a_byte pieces) some)
+    ∙ ap (λ b. is_short (x ∷ xs) && b) (short_pieces pieces)
+
+pub has_short_components-pieces : (text : List ℕ) → has_short_components text ≡ list_all is_short (slice_split (λ b. b == 47) text)
+has_short_components-pieces text = short_pieces (slice_split (λ b. b == 47) text)
+
+found : (test : Bool) (at end : ℕ) → cond test (Some at) None ≡ Some end → (test ≡ true) × (at ≡ end)
+found true at end e = let same : at ≡ end = cc in (refl, same)
+found false at end e = cc
+
+not_found : (test : Bool) (at : ℕ) → cond test (Some at) None ≡ None → test ≡ false
+not_found true at e = cc
+not_found false at e = refl
+
+module _ (p : ℕ → Bool) where
+  -- a first separator ends the first piece
+  pub slice_split-Some : (xs : List ℕ) (end : ℕ) → position p xs ≡ Some end → slice_split p xs ≡ take end xs ∷ slice_split p (drop (end + 1) xs)
+  slice_split-Some xs end e =
+      let at = found (nat_lt (position_or_len p xs) (length xs)) (position_or_len p xs) end e in
+      slice_split_first p xs 0 (ltb-true (position_or_len p xs) (length xs) at.0) ∙ ap (λ n. take n xs ∷ slice_split p (drop (n + 1) xs)) at.1
+
+  behind_first : (test : Bool) (x : ℕ) (xs : List ℕ) (far : ℕ) → suc (length xs) ≤ cond (not test) (1 + far) 0 → (length xs ≤ far → slice_split p xs ≡ xs ∷ [])
+      → cond test ([] ∷ slice_split p xs) (onto_first x (slice_split p xs)) ≡ (x ∷ xs) ∷ []
+  behind_first true x xs far le behind = absurd (omega arith)
+  behind_first false x xs far le behind = ap (onto_first x) (behind (omega arith))
+
+  -- with no separator the list is the one piece
+  one_piece : (xs : List ℕ) → length xs ≤ position_or_len p xs → slice_split p xs ≡ xs ∷ []
+  one_piece [] far = refl
+  one_piece (x ∷ xs) far = behind_first (p x) x xs (position_or_len p xs) far (one_piece xs)
+
+  pub slice_split-None : (xs : List ℕ) → position p xs ≡ None → slice_split p xs ≡ xs ∷ []
+  slice_split-None xs e =
+      one_piece xs (ltb-false (position_or_len p xs) (length xs) (not_found (nat_lt (position_or_len p xs) (length xs)) (position_or_len p xs) e))

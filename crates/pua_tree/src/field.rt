@@ -1,0 +1,144 @@
+//! The fields of a line of a listing or script: what stands between single spaces.
+
+ghost use Rattle.std.specs.Prelude.{◌≡◌, ◌<◌, ◌==◌, ◌&&◌, ◌∷◌, [], length, IfSome, Some, None, if◌then◌else◌, map, nat_le, take};
+ghost use Rattle.std.specs.List.{list_all, position};
+ghost use Rattle.std.specs.Option.{option_map_or};
+ghost use Rattle.pua_tree.specs.Fields.{first_fields};
+ghost use Rattle.pua_tree.specs.Spelling.{decimal_value, fields, is_decimal, is_digit, is_field, number_within};
+
+use std::marker::Model;
+
+/// The most fields of a line that are kept: more than any line may have.
+const MOST_FIELDS: usize = 6;
+
+/// The first six fields of a line, all of them where there are fewer. They lie in the line, and
+/// take no memory. Contracts see the list of their bytes.
+#[derive(Drop)]
+pub struct Fields<'a> {
+    fields: [&'a [u8]; 6],
+    count: usize,
+}
+
+impl<'a> Model for Fields<'a> {
+    ghost use Rattle.std.specs.Prelude.{◌≤◌, ℕ, List, map, take};
+
+    ghost Value = { List (List ℕ) };
+
+    ghost view = { λ a. map (λ field. field.now) (take a.count a.fields) };
+
+    ghost invariant = { λ a. a.count ≤ 6 };
+}
+
+impl<'a> Fields<'a> {
+    /// The fields of a line, and None where one of them all is no field.
+    pub fn read(line: &'a [u8]) -> Option<Fields<'a>>
+        ensures { result ≡ first_fields line.now }
+    {
+        let mut fields = [line; MOST_FIELDS];
+        let mut count = 0;
+        let mut rest = Some(line);
+        while let Some(text) = rest {
+            let (field, behind) = split_field(text);
+            if !is_field(field) {
+                return None;
+            }
+            if count < MOST_FIELDS {
+                fields[count] = field;
+                count += 1;
+            }
+            rest = behind;
+        }
+        Some(Fields { fields, count })
+    }
+
+    /// The fields.
+    pub fn as_slice(&self) -> &[&'a [u8]]
+        ensures { map (λ field. field.now) result.now ≡ self.now }
+    {
+        &self.fields[..self.count]
+    }
+}
+
+/// Whether these bytes are a field: at least one, and each visible.
+pub fn is_field(bytes: &[u8]) -> bool
+    ensures { result ≡ is_field bytes.now }
+{
+    !bytes.is_empty() && are_visible(bytes)
+}
+
+fn are_visible(bytes: &[u8]) -> bool
+    ensures { result ≡ list_all (λ b. nat_le 33 b && nat_le b 126) bytes.now }
+{
+    bytes.iter().all(|byte| is_visible(*byte))
+}
+
+fn is_visible(byte: u8) -> bool
+    ensures { result ≡ (nat_le 33 byte && nat_le byte 126) }
+{
+    matches!(byte, b'!'..=b'~')
+}
+
+/// The first field of a line, and what stands behind the space that ends it, if one does.
+pub fn split_field(line: &[u8]) -> (&[u8], Option<&[u8]>)
+    ensures fields { fields line.now ≡ result.0.now ∷ option_map_or (λ rest. fields rest.now) result.1 [] }
+    ensures shorter { IfSome result.1 (λ rest. length rest.now < length line.now) }
+{
+    match first_space(line) {
+        Some(end) => (&line[..end], Some(&line[end + 1..])),
+        None => (line, None),
+    }
+}
+
+fn first_space(line: &[u8]) -> Option<usize>
+    ensures { result ≡ position (λ b. b == 32) line.now }
+{
+    line.iter().position(|byte| *byte == b' ')
+}
+
+/// The number that a decimal writes, if it lies within these bounds. A decimal is digits without a
+/// leading zero.
+pub fn number_within(low: u32, high: u32, text: &[u8]) -> Option<u32>
+    ensures { result ≡ number_within low high text.now }
+{
+    if !is_decimal(text) {
+        return None;
+    }
+    let number = value_up_to(high, text)?;
+    (number >= low).then_some(number)
+}
+
+/// Whether these bytes are digits without a leading zero.
+fn is_decimal(text: &[u8]) -> bool
+    ensures { result ≡ is_decimal text.now }
+{
+    let Some((first, rest)) = text.split_first() else {
+        return false;
+    };
+    are_digits(text) && (*first != b'0' || rest.is_empty())
+}
+
+fn are_digits(text: &[u8]) -> bool
+    ensures { result ≡ list_all is_digit text.now }
+{
+    text.iter().all(|byte| is_digit(*byte))
+}
+
+fn is_digit(byte: u8) -> bool
+    ensures { result ≡ is_digit byte }
+{
+    byte.is_ascii_digit()
+}
+
+/// The number that digits write, if it is not above this bound.
+fn value_up_to(high: u32, digits: &[u8]) -> Option<u32>
+    ensures { result ≡ (if nat_le (decimal_value digits.now) high then Some (decimal_value digits.now) else None) }
+{
+    let mut value = 0u64;
+    for digit in digits {
+        value = 10 * value + u64::from(digit.saturating_sub(b'0'));
+        if value > u64::from(high) {
+            return None;
+        }
+    }
+    Some(value as u32)
+}

@@ -1,0 +1,28 @@
+//! What a link may lead to.
+
+ghost use Rattle.std.specs.Prelude.{◌≡◌};
+ghost use Rattle.pua_tree.specs.Names.{has_short_components, is_target};
+
+/// The most bytes that a target has.
+const MOST_BYTES: usize = 1023;
+
+/// The most bytes that one component of a target or path has.
+const MOST_IN_COMPONENT: usize = 255;
+
+/// Whether these bytes are a link's target: 1 to 1,023 bytes without NUL, with short components.
+pub fn is_target(bytes: &[u8]) -> bool
+    ensures { result ≡ is_target bytes.now }
+{
+    if bytes.is_empty() || bytes.len() > MOST_BYTES || bytes.contains(&0) {
+        return false;
+    }
+    has_short_components(bytes)
+}
+
+/// Whether each component of a path or target, a piece between slashes, has at most 255 bytes.
+pub fn has_short_components(text: &[u8]) -> bool
+    ensures { result ≡ has_short_components text.now }
+{
+    text.split(|byte| *byte == b'/')
+        .all(|component| component.len() <= MOST_IN_COMPONENT)
+}
