@@ -1,18 +1,18 @@
 -- The rows and nodes of a listing's entries, looked up and added to.
-use Rattle.std.proofs.Common.{◌≡◌, ℕ, zero, suc, ◌+◌, ◌<◌, ◌≤◌, Bool, true, false, cond, not, ◌&&◌, ◌||◌, T, eqb, leb, ltb, List, [], ◌∷◌, ◌++◌, map, length, Option, Some, None, option_map, is_some, refl, sym, ap, subst, ◌∙◌, arith, append-nil, append_assoc, Less, Equal, Greater, is_eq, nat_cmp, true≢false}
-use Rattle.std.specs.Prelude.{IsTrue, Decides}
+use Rattle.std.proofs.Common.{◌≡◌, ℕ, suc, ◌+◌, ◌<◌, ◌≤◌, Bool, true, false, cond, not, ◌&&◌, ◌||◌, T, eqb, leb, ltb, List, [], ◌∷◌, ◌++◌, map, length, Option, Some, None, option_map, is_some, refl, sym, ap, subst, ◌∙◌, arith, append-nil, append_assoc, Less, Equal, Greater, is_eq, nat_cmp, true≢false}
+use Rattle.std.specs.Prelude.{IsTrue}
 use Rattle.std.specs.List.{list_all, list_any}
 use Rattle.std.specs.Cmp.{Equal-is, nat_cmp_total, tied_itself}
 use Rattle.std.specs.Ordering.{eq_by_cmp, is_lt}
 use Rattle.std.specs.FinMap.{put, find, is_sorted, nat_cmp-IsAntisymmetric}
 use Rattle.std.specs.FinMap.Entries.{find-put, is_sorted-put, same_entries, find-append, by_order, below_all}
 use Rattle.std.proofs.lemmas.Bool.{lt-ltb, ltb-true, eq-eqb, eqb-true, ne_eqb, le-ltb, and_parts, and_from, not-true, not_from_false, le-leb, leb-true}
-use Rattle.std.proofs.lemmas.Bool.Decides.{same_from_decides, Decides-eqb, Decides-and}
+use Rattle.std.proofs.lemmas.Bool.Decides.{same_from_decides, Decides-eqb}
 use Rattle.std.proofs.lemmas.List.{map_push}
 use Rattle.std.proofs.lemmas.List.Folds.{list_all-map}
 use lib.Pointwise.{bytes_decides}
 use Rattle.pua_tree.specs.Names.{same_bytes, is_name}
-use Rattle.pua_tree.specs.Tree.{Node, Spot, Tree, spot_cmp, is_dir_kind}
+use Rattle.pua_tree.specs.Tree.{Node, Spot, spot_cmp, is_dir_kind}
 use Rattle.pua_tree.specs.Listing.{Entry, is_taken, is_earlier_dir, rows_of_entries, root_node, last_number, tree_of}
 use Rattle.pua_tree.specs.Grammar.{entry_fits, entries_fit, target_stands}
 use Rattle.pua_tree.proofs.Content.{spots_total, exact_spots}
@@ -30,7 +30,7 @@ spots_tie p q n m = same_from_decides {P = ◌≡◌ {A = Spot} (p, n) (q, m)} _
     (λ e. exact_spots (p, n) (q, m) ((Equal-is _).0 e), λ e. subst (λ s. eq_by_cmp spot_cmp (p, n) s ≡ true) e (ap is_eq (tied_itself spots_total (p, n))))
     (λ e. (λ i. (sym (eqb-true q p (and_parts _ _ e).0) i, sym ((bytes_decides m n).0 (and_parts _ _ e).1) i)), λ e. and_from _ _ (eq-eqb q p (ap (λ s. s.0) (sym e))) ((bytes_decides m n).1 (ap (λ s. s.1) (sym e))))
 
-is_some_cond : {X : Type 0} (b : Bool) (x : X) (o : Option X) → is_some (cond b (Some x) o) ≡ (b || is_some o)
+pub is_some_cond : {X : Type 0} (b : Bool) (x : X) (o : Option X) → is_some (cond b (Some x) o) ≡ (b || is_some o)
 is_some_cond true x o = refl
 is_some_cond false x o = refl
 
@@ -95,7 +95,7 @@ entries_rise earlier (e ∷ es) h =
 abbrev pub node_row : Entry → ℕ × Node
 node_row e = (e.number, e.made)
 
-nat_tie : (p n : ℕ) → eq_by_cmp nat_cmp p n ≡ eqb n p
+pub nat_tie : (p n : ℕ) → eq_by_cmp nat_cmp p n ≡ eqb n p
 nat_tie p n = same_from_decides {P = p ≡ n} _ _
     (λ e. nat_cmp-IsAntisymmetric p n ((Equal-is _).0 e), λ e. subst (λ s. eq_by_cmp nat_cmp p s ≡ true) e (ap is_eq (tied_itself nat_cmp_total p)))
     (λ e. sym (eqb-true n p e), λ e. eq-eqb n p (sym e))
@@ -142,7 +142,7 @@ pub rows_found : (es : List Entry) (s : Spot) → find spot_cmp s (rows_of_entri
 rows_found [] s = refl
 rows_found (e ∷ es) s = find-put spot_cmp spots_total s (e.parent, e.name) e.number (rows_of_entries es) ∙ ap (cond (eq_by_cmp spot_cmp s (e.parent, e.name)) (Some e.number)) (rows_found es s)
 
-none : {X : Type 0} (o : Option X) → is_some o ≡ false → o ≡ None
+pub none : {X : Type 0} (o : Option X) → is_some o ≡ false → o ≡ None
 none None e = refl
 none (Some x) e = absurd (true≢false e)
 
