@@ -11,12 +11,8 @@ mod target;
 mod tree;
 
 pub use fault::{ListingFault, NameFault, OutOfMemory, TreeFault};
-<<<<<<< HEAD
 pub use field::{Fields, is_field, number_within, split_field};
-pub use laws::{listing_examples, tree_law};
-=======
 pub use laws::{edit_examples, edits_keep_trees, listing_examples, tree_law};
->>>>>>> edits
 pub use name::Name;
 pub use node::{Kind, NodeId};
 pub use spelling::{SpelledByte, byte_spelling, unspelled};
