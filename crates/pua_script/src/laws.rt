@@ -3,6 +3,7 @@
 
 ghost use Rattle.pua_script.specs.Examples.{ReplayRows, ScriptRows};
 ghost use Rattle.pua_script.specs.Laws.{ReplayComposes, RequestsNarrow};
+ghost use Rattle.pua_script.specs.ScriptGrammar.{ScriptsAreRead};
 ghost use Rattle.pua_script.specs.Worlds.{WorldsAnswerAlike};
 
 /// Examples of what is no script.
@@ -28,4 +29,9 @@ pub fn narrowing_law()
 /// Two worlds of the replay for which one world stands answer alike, to the end.
 pub fn standing_law()
     ensures { WorldsAnswerAlike }
+{}
+
+/// Bytes are read as a list of requests exactly where their lines spell it.
+pub fn script_law()
+    ensures { ScriptsAreRead }
 {}

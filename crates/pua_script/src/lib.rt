@@ -8,5 +8,5 @@ mod request;
 
 pub use answer::Answer;
 pub use fault::{ScriptFault, WorldFault};
-pub use laws::{narrowing_law, replay_examples, replay_law, script_examples, standing_law};
+pub use laws::{narrowing_law, replay_examples, replay_law, script_examples, script_law, standing_law};
 pub use request::{Action, Given, PathBytes, Request};

@@ -1,0 +1,74 @@
+-- What a script is as a text: lines, each of which spells a request by its fields.
+use Rattle.std.specs.Prelude.{◌≡◌, ◌≢◌, ℕ, ◌≤◌, List, [], ◌∷◌, length, Option, Some, None, Result, Ok, Err, codes, decimal, IsTrue, IsFalse, nat_lt, ◌↔◌}
+use Rattle.std.specs.List.{list_all}
+use Rattle.std.specs.Str.Lines.{lines}
+use Rattle.pua_tree.specs.Spelling.{spelling, fields, is_field}
+use Rattle.pua_policy.specs.Promises.{promises_of, perms_of}
+use Rattle.pua_policy.specs.Calls.{call_name}
+use Rattle.pua_path.specs.declared.errno.Errno.{Errno}
+use Rattle.pua_policy.specs.declared.call.Call.{Call}
+use Rattle.pua_script.specs.Requests.{Asked, is_symlink, has_no_nul}
+use Rattle.pua_script.specs.Scripts.{has_empty_word, script}
+use Rattle.pua_script.specs.declared.request.Given.{Given}
+use Rattle.pua_script.specs.declared.request.Given.TheVariants.{Null, Good, Unknown}
+use Rattle.pua_script.specs.declared.request.Action.{Action}
+use Rattle.pua_script.specs.declared.request.Action.TheVariants.{OnPath, Symlink, Rename, Pledge, Unveil, Lock, Fork, Exit}
+
+-- a path or a target: `=` is the empty text, and anything else spells bytes without NUL
+pub data SpellsPath (field : List ℕ) : List ℕ → Type 0 where
+  empty : field ≡ codes "=" → SpellsPath field []
+  spelled : {text : List ℕ} → field ≢ codes "=" → IsTrue (list_all (λ b. nat_lt b 256) text) → IsTrue (has_no_nul text) → field ≡ spelling text → SpellsPath field text
+
+-- keywords between commas, none of them empty, and neither `-` nor `=`
+pub record IsList (field : List ℕ) : Type 0 where
+  pub no_dash : field ≢ codes "-"
+  pub no_equals : field ≢ codes "="
+  pub words : IsFalse (has_empty_word field)
+
+-- an argument of pledge: `-` is NULL, `=` is the empty text, and anything else is a list of keywords
+pub data SpellsGiven (field : List ℕ) : Given → Type 0 where
+  null : field ≡ codes "-" → SpellsGiven field Null
+  nothing : field ≡ codes "=" → SpellsGiven field (Good 0)
+  known : {set : ℕ} → IsList field → promises_of field ≡ Ok set → SpellsGiven field (Good set)
+  unknown : {errno : Errno} → IsList field → promises_of field ≡ Err errno → SpellsGiven field Unknown
+
+-- the letters of an unveil: `=` is no letter, and anything else is letters, of which one may be unknown
+pub data SpellsPerms (field : List ℕ) : Option ℕ → Type 0 where
+  no_letter : field ≡ codes "=" → SpellsPerms field (Some 0)
+  letters : {set : ℕ} → field ≢ codes "=" → perms_of field ≡ Ok set → SpellsPerms field (Some set)
+  unknown_letter : {errno : Errno} → field ≢ codes "=" → perms_of field ≡ Err errno → SpellsPerms field None
+
+-- the fields of a call and its arguments
+pub data SpellsAction : List (List ℕ) → Action → Type 0 where
+  on_path : {word a path : List ℕ} {call : Call} → IsFalse (is_symlink call) → word ≡ call_name call → SpellsPath a path → SpellsAction (word ∷ a ∷ []) (OnPath call path)
+  symlink : {word a b target path : List ℕ} → word ≡ codes "symlink" → SpellsPath a target → SpellsPath b path → SpellsAction (word ∷ a ∷ b ∷ []) (Symlink target path)
+  rename : {word a b old new : List ℕ} → word ≡ codes "rename" → SpellsPath a old → SpellsPath b new → SpellsAction (word ∷ a ∷ b ∷ []) (Rename old new)
+  pledge : {word a b : List ℕ} {promises execpromises : Given} → word ≡ codes "pledge" → SpellsGiven a promises → SpellsGiven b execpromises → SpellsAction (word ∷ a ∷ b ∷ []) (Pledge promises execpromises)
+  unveil : {word a b path : List ℕ} {perms : Option ℕ} → word ≡ codes "unveil" → a ≢ codes "-" → b ≢ codes "-" → SpellsPath a path → SpellsPerms b perms → SpellsAction (word ∷ a ∷ b ∷ []) (Unveil path perms)
+  lock : {word a b : List ℕ} → word ≡ codes "unveil" → a ≡ codes "-" → b ≡ codes "-" → SpellsAction (word ∷ a ∷ b ∷ []) Lock
+  fork : {word a : List ℕ} {new : ℕ} → word ≡ codes "fork" → a ≡ decimal new → 1 ≤ new → new ≤ 999999 → SpellsAction (word ∷ a ∷ []) (Fork new)
+  exit : {word : List ℕ} → word ≡ codes "exit" → SpellsAction (word ∷ []) Exit
+
+-- a line: the decimal of the process, and the fields of what it asks for, with single spaces between fields
+pub record SpellsRequest (line : List ℕ) (ask : Asked) : Type 0 where
+  pub visible : IsTrue (list_all is_field (fields line))
+  pub more : List (List ℕ)
+  pub split : fields line ≡ decimal ask.process ∷ more
+  pub low : 1 ≤ ask.process
+  pub high : ask.process ≤ 999999
+  pub spells : SpellsAction more ask.action
+
+-- each line spells its request
+abbrev pub SpellRequests : List (List ℕ) → List Asked → Type 0
+SpellRequests [] [] = Unit {0}
+SpellRequests [] (ask ∷ asks) = ⊥
+SpellRequests (line ∷ lines) [] = ⊥
+SpellRequests (line ∷ lines) (ask ∷ asks) = SpellsRequest line ask × SpellRequests lines asks
+
+-- the bytes are a script of these requests
+abbrev pub IsScript : List ℕ → List Asked → Type 0
+IsScript bytes asks = (length (lines bytes) ≤ 60000) × SpellRequests (lines bytes) asks
+
+-- the reader accepts exactly the scripts of a list of requests
+abbrev pub ScriptsAreRead : Type 0
+ScriptsAreRead = (bytes : List ℕ) (asks : List Asked) → (script bytes ≡ Ok asks) ↔ IsScript bytes asks
