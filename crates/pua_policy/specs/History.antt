@@ -65,6 +65,11 @@ is_within None given = true
 is_within (Some request) None = true
 is_within (Some request) (Some given) = holds given request
 
+-- what is given after a request: what both name, and before the first what it names
+abbrev pub narrowed : Option ℕ → Option ℕ → Option ℕ
+narrowed given None = given
+narrowed given (Some request) = Some (meet request given)
+
 -- a pledge is refused if it asks for more in either argument, unless `error` is held
 abbrev pub pledge_fault : History → Option ℕ → Option ℕ → Option Errno
 pledge_fault h promises execpromises =
@@ -97,6 +102,16 @@ veils [] = []
 veils (Unveiled place perms ∷ h) = with_veil place perms (veils h)
 veils (_ ∷ h) = veils h
 
+-- the permissions that a list of veils has at a place
+abbrev pub veil_at : List (Place × ℕ) → Place → Option ℕ
+veil_at [] place = None
+veil_at (veil ∷ more) place = if same_place place veil.0 then Some veil.1 else veil_at more place
+
+-- there is a veil
+abbrev pub has_veil : List (Place × ℕ) → Bool
+has_veil [] = false
+has_veil (veil ∷ more) = true
+
 abbrev pub is_lock : Event → Bool
 is_lock Locked = true
 is_lock _ = false
@@ -123,12 +138,13 @@ working_dir h = unwrap_or (first (filter_map dir_in h)) 0
 abbrev pub place_limit : ℕ
 place_limit = 128
 
+-- why permissions may not be kept at a place, by what is kept there and by the number of places
+abbrev pub place_fault : Option ℕ → ℕ → ℕ → Option UnveilFault
+place_fault (Some old) places perms = if holds old perms then None else Some NotPermitted
+place_fault None places perms = if nat_le place_limit places then Some TooManyPlaces else None
+
 abbrev pub unveil_fault : History → Place → ℕ → Option UnveilFault
-unveil_fault h place perms = if is_locked h then Some NotPermitted else by_kept (kept h place)
-  where
-    by_kept : Option ℕ → Option UnveilFault
-    by_kept (Some old) = if holds old perms then None else Some NotPermitted
-    by_kept None = if nat_le place_limit (length (veils h)) then Some TooManyPlaces else None
+unveil_fault h place perms = if is_locked h then Some NotPermitted else place_fault (kept h place) (length (veils h)) perms
 
 abbrev pub is_pledge : Event → Bool
 is_pledge (Pledged promises execpromises) = true

@@ -1,18 +1,13 @@
 -- What is true of histories and of covers.
-use Rattle.std.specs.Prelude.{◌≡◌, ℕ, List, [], ◌∷◌, Option, Some, None, if◌then◌else◌, IsTrue, IsFalse, bit_and, ◌<◌, ◌^◌}
+use Rattle.std.specs.Prelude.{◌≡◌, ℕ, List, [], ◌∷◌, Option, IsTrue, IsFalse, bit_and, ◌<◌, ◌^◌}
 use Rattle.pua_tree.specs.Tree.{Tree}
 use Rattle.pua_path.specs.declared.found.Found.{Found}
 use Rattle.pua_policy.specs.declared.place.Place.{Place}
 use Rattle.pua_policy.specs.Promises.{holds, error}
-use Rattle.pua_policy.specs.History.{History, Event, kept, veils, held, same_place, pledge_fault, unveil_fault, may_any, ProcessState, StandsFor}
+use Rattle.pua_policy.specs.History.{History, Event, kept, veils, held, veil_at, pledge_fault, unveil_fault, may_any, ProcessState, StandsFor}
 use Rattle.pua_policy.specs.Verdict.{cover, is_unveil, verdict_on}
 use Rattle.pua_policy.specs.Calls.{CallTable}
 use Rattle.pua_policy.specs.declared.call.Call.{Call}
-
--- the permissions that a list of veils has at a place
-abbrev pub veil_at : List (Place × ℕ) → Place → Option ℕ
-veil_at [] place = None
-veil_at (veil ∷ more) place = if same_place veil.0 place then Some veil.1 else veil_at more place
 
 -- the veils are exactly the places kept with their permissions
 abbrev pub VeilsAreKept : Type 0

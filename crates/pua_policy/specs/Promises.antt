@@ -1,5 +1,5 @@
 -- Sets of promises and of permissions as numbers, a bit for each member, and how they are read.
-use Rattle.std.specs.Prelude.{ℕ, map, ◌*◌, ◌-◌, ◌^◌, Bool, List, [], ◌∷◌, ◌==◌, Option, Some, None, Result, Ok, Err, codes, bit_and, bit_or, position, option_map}
+use Rattle.std.specs.Prelude.{ℕ, map, ◌*◌, ◌-◌, ◌^◌, Bool, List, [], ◌∷◌, ◌==◌, Option, Some, None, Result, Ok, Err, codes, bit_and, bit_or, find, position, option_map}
 use Rattle.std.specs.List.{slice_split}
 use Rattle.pua_tree.specs.Names.{same_bytes}
 use Rattle.pua_path.specs.declared.errno.Errno.{Errno}
@@ -56,17 +56,18 @@ keyword_rows = rows_from 1 keywords
 
 -- the bit of a keyword
 abbrev pub promise_of : List ℕ → Option ℕ
-promise_of word = option_map (λ place. 2 ^ place) (position (same_bytes word) keywords)
+promise_of word = option_map (λ row. row.1) (find (λ row. same_bytes row.0 word) keyword_rows)
+
+-- a set and further members, unless one of them is unknown
+abbrev pub joined : ℕ → Result ℕ Errno → Result ℕ Errno
+joined set (Ok more) = Ok (bit_or set more)
+joined set (Err errno) = Err errno
 
 -- the members that words name, unless one is unknown
 abbrev pub union_of : List (Option ℕ) → Result ℕ Errno
 union_of [] = Ok 0
 union_of (None ∷ words) = Err EINVAL
-union_of (Some bits ∷ words) = with_bits (union_of words)
-  where
-    with_bits : Result ℕ Errno → Result ℕ Errno
-    with_bits (Ok set) = Ok (bit_or bits set)
-    with_bits (Err errno) = Err errno
+union_of (Some bits ∷ words) = joined bits (union_of words)
 
 -- keywords between commas; no text is the empty set
 abbrev pub promises_of : List ℕ → Result ℕ Errno

@@ -51,6 +51,11 @@ found_fits t (found.Slot dir name (Some x)) = is_dir t dir && (option_eq ◌==�
 abbrev pub FoundFits : Tree → Found → Type 0
 FoundFits t object = IsTrue (found_fits t object)
 
+-- the same, where something was found
+abbrev pub FoundsFit : Tree → Result Found Errno → Type 0
+FoundsFit t (Ok object) = FoundFits t object
+FoundsFit t (Err errno) = Unit {0}
+
 abbrev pub is_unveil : Event → Bool
 is_unveil (Unveiled place perms) = true
 is_unveil _ = false

@@ -3,12 +3,14 @@
 
 mod answer;
 mod call;
+mod cover;
 mod laws;
 mod perms;
 mod place;
 mod process;
 mod promises;
 
+pub mod judge;
 pub mod needs;
 
 pub use answer::{Cover, May, UnveilFault, Verdict};

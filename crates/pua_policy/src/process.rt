@@ -1,12 +1,21 @@
-//! A process: what it keeps of its history.
+//! A process: what it keeps of what happened to it.
 
 use indexmap::IndexMap;
+use pua_path::Errno;
+use pua_tree::{NodeId, OutOfMemory};
+use std::alloc::Global;
 use std::marker::Model;
 
+use crate::answer::{May, UnveilFault};
 use crate::perms::Perms;
 use crate::place::Place;
 use crate::promises::Promises;
-use pua_tree::NodeId;
+
+/// How many places one process may keep veils at.
+const PLACE_LIMIT: usize = 128;
+
+/// How many places a new process has room for.
+const FIRST_PLACES: usize = 8;
 
 /// A process: what it was given and what it gave up. It keeps no history; contracts say for which
 /// histories it stands.
@@ -26,4 +35,194 @@ impl Model for Process {
     ghost Value = { ProcessState };
 
     ghost view = { λ a. record { promises = a.promises; execpromises = a.execpromises; veils = a.veils.entries; locked = a.locked; dir = a.dir; ended = a.ended } };
+}
+
+ghost use Rattle.std.specs.Prelude.{◌≡◌, ◌≢◌, ◌-◌, [], ◌∷◌, length, Option, Some, None, IfOk, OnOk, OnErr, IfErr, IfSome, if◌then◌else◌, MatchResult, unwrap_or};
+ghost use Rattle.pua_policy.specs.Promises.{all_promises, error};
+ghost use Rattle.pua_policy.specs.History.{History, StandsFor, Pledged, Unveiled, Locked, Moved, Ended, new_history, pledge_fault, unveil_fault, place_fault, is_within, narrowed, may_any, is_locked, is_ended, working_dir, veil_at, has_veil};
+
+impl Process {
+    /// A new process, in the root: it holds every promise but `error`, and has no veil.
+    /// `OutOfMemory` where a growth was refused.
+    pub fn new(alloc: Global) -> Result<Process, OutOfMemory>
+        ensures { IfOk result (λ process. StandsFor process new_history) }
+    {
+        let Ok(veils) = IndexMap::with_capacity(alloc, FIRST_PLACES) else {
+            return Err(OutOfMemory);
+        };
+        Ok(Process {
+            promises: None,
+            execpromises: None,
+            veils,
+            locked: false,
+            dir: NodeId::ROOT,
+            ended: false,
+        })
+    }
+
+    /// Gives up every promise that the arguments do not name; None leaves its value as it is. EPERM
+    /// where an argument names a promise that is not held, unless `error` is held: then what both
+    /// name is kept. A refused pledge changes nothing.
+    pub fn pledge(
+        &mut self,
+        promises: Option<Promises>,
+        execpromises: Option<Promises>,
+    ) -> Result<(), Errno>
+        ensures exact { (h : History) → StandsFor self.old h → MatchResult result
+            (λ _. (pledge_fault h promises execpromises ≡ None) × StandsFor self.new (Pledged promises execpromises ∷ h))
+            (λ errno. pledge_fault h promises execpromises ≡ Some errno) }
+        ensures unchanged { OnErr result (self.new ≡ self.old) }
+    {
+        let is_decrease = is_within(promises, self.promises);
+        let is_exec_decrease = is_within(execpromises, self.execpromises);
+        if !(is_decrease && is_exec_decrease) && !self.held().contains(Promises::ERROR) {
+            return Err(Errno::EPERM);
+        }
+        self.promises = narrowed(self.promises, promises);
+        self.execpromises = narrowed(self.execpromises, execpromises);
+        Ok(())
+    }
+
+    /// Puts a veil on a place: from now on these permissions are kept there.
+    ///
+    /// `NotPermitted` where the process is locked, or where the place is kept with permissions that
+    /// lack one of these; `TooManyPlaces` where the place is new and 128 are kept; `OutOfMemory`
+    /// where the place is new and a growth was refused. Each leaves the process as it was.
+    pub fn unveil_at(&mut self, place: Place, perms: Perms) -> Result<(), UnveilFault>
+        ensures ok { OnOk result ((h : History) → StandsFor self.old h →
+            (unveil_fault h place perms ≡ None) × StandsFor self.new (Unveiled place perms ∷ h)) }
+        ensures err { IfErr result (λ fault. (h : History) → StandsFor self.old h →
+            (fault ≢ UnveilFault.OutOfMemory → unveil_fault h place perms ≡ Some fault)
+            × (fault ≡ UnveilFault.OutOfMemory → unveil_fault h place perms ≡ None)) }
+        ensures unchanged { OnErr result (self.new ≡ self.old) }
+    {
+        if let Some(fault) = self.unveil_fault(&place, perms) {
+            return Err(fault);
+        }
+        if self.veils.insert(place, perms).is_err() {
+            return Err(UnveilFault::OutOfMemory);
+        }
+        Ok(())
+    }
+
+    /// Allows no further veil.
+    pub fn lock(&mut self)
+        ensures { (h : History) → StandsFor self.old h → StandsFor self.new (Locked ∷ h) }
+    {
+        self.locked = true;
+    }
+
+    /// Whether it allows no further veil.
+    pub fn locked(&self) -> bool
+        ensures state { result ≡ self.now.locked }
+        ensures history { (h : History) → StandsFor self.now h → result ≡ is_locked h }
+    {
+        self.locked
+    }
+
+    /// Makes this its working directory.
+    pub fn set_dir(&mut self, dir: NodeId)
+        ensures { (h : History) → StandsFor self.old h → StandsFor self.new (Moved dir ∷ h) }
+    {
+        self.dir = dir;
+    }
+
+    /// Its working directory, which may have been removed.
+    pub fn dir(&self) -> NodeId
+        ensures state { result ≡ self.now.dir }
+        ensures history { (h : History) → StandsFor self.now h → result ≡ working_dir h }
+    {
+        self.dir
+    }
+
+    /// Ends it.
+    pub fn end(&mut self)
+        ensures { (h : History) → StandsFor self.old h → StandsFor self.new (Ended ∷ h) }
+    {
+        self.ended = true;
+    }
+
+    /// Whether it has ended.
+    pub fn ended(&self) -> bool
+        ensures state { result ≡ self.now.ended }
+        ensures history { (h : History) → StandsFor self.now h → result ≡ is_ended h }
+    {
+        self.ended
+    }
+
+    /// Whether it may do what needs all of these promises. One that has ended may do nothing.
+    pub fn may(&self, promises: Promises) -> May
+        ensures { (h : History) → StandsFor self.now h → result ≡ may_any h (promises ∷ []) }
+    {
+        let held = self.held();
+        if self.ended {
+            May::Death
+        } else if held.contains(promises) {
+            May::Yes
+        } else if held.contains(Promises::ERROR) {
+            May::Enosys
+        } else {
+            May::Death
+        }
+    }
+
+    /// Why permissions may not be kept at a place.
+    fn unveil_fault(&self, place: &Place, perms: Perms) -> Option<UnveilFault>
+        ensures fault { result ≡ (if self.now.locked then Some UnveilFault.NotPermitted else
+            place_fault (veil_at self.now.veils place.now) (length self.now.veils) perms) }
+        ensures other { IfSome result (λ fault. fault ≢ UnveilFault.OutOfMemory) }
+    {
+        if self.locked {
+            return Some(UnveilFault::NotPermitted);
+        }
+        match self.kept(place) {
+            Some(kept) if kept.contains(perms) => None,
+            Some(_) => Some(UnveilFault::NotPermitted),
+            None if self.veils.len() < PLACE_LIMIT => None,
+            None => Some(UnveilFault::TooManyPlaces),
+        }
+    }
+
+    /// The promises that it holds.
+    fn held(&self) -> Promises
+        ensures { result ≡ unwrap_or self.now.promises (all_promises - error) }
+    {
+        self.promises.unwrap_or(Promises::ALL_BUT_ERROR)
+    }
+
+    /// Whether a veil is kept.
+    pub(crate) fn is_veiled(&self) -> bool
+        ensures { result ≡ has_veil self.now.veils }
+    {
+        !self.veils.is_empty()
+    }
+
+    /// The permissions kept at a place.
+    pub(crate) fn kept(&self, place: &Place) -> Option<Perms>
+        ensures { result ≡ veil_at self.now.veils place.now }
+    {
+        self.veils.get(place).copied()
+    }
+}
+
+/// Whether a request names nothing beyond what was given before; before the first it may name
+/// anything.
+fn is_within(request: Option<Promises>, given: Option<Promises>) -> bool
+    ensures { result ≡ is_within request given }
+{
+    match (request, given) {
+        (Some(request), Some(given)) => given.contains(request),
+        _ => true,
+    }
+}
+
+/// What is given after a request.
+fn narrowed(given: Option<Promises>, request: Option<Promises>) -> Option<Promises>
+    ensures { result ≡ narrowed given request }
+{
+    match (given, request) {
+        (Some(given), Some(request)) => Some(request.intersection(given)),
+        (None, request) => request,
+        (given, None) => given,
+    }
 }

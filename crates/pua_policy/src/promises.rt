@@ -26,7 +26,7 @@ impl Model for Promises {
     ghost inverse = { λ n. record { keywords = record { 0 = n } } };
 }
 
-ghost use Rattle.std.specs.Prelude.{⊤, ◌≡◌, [], ◌∷◌, bit_and, bit_or};
+ghost use Rattle.std.specs.Prelude.{⊤, ◌≡◌, [], ◌∷◌, bit_and, bit_or, option_map};
 ghost use Rattle.pua_policy.specs.Promises.{holds, promises_of, promise_of, keyword_rows};
 
 use pua_path::Errno;
@@ -261,7 +261,7 @@ impl Promises {
         }
         let mut promises = Promises::NONE;
         for word in text.split(|byte| *byte == b',') {
-            promises = promises.union(keyword(word).ok_or(Errno::EINVAL)?);
+            promises = promises.union(promise(word).ok_or(Errno::EINVAL)?);
         }
         Ok(promises)
     }
@@ -293,13 +293,19 @@ impl Promises {
 }
 
 /// The promise of one keyword.
-fn keyword(word: &[u8]) -> Option<Promises>
+fn promise(word: &[u8]) -> Option<Promises>
     ensures { result ≡ promise_of word.now }
+{
+    let keywords = keyword(word)?;
+    Some(Promises { keywords })
+}
+
+/// The bit of one keyword.
+fn keyword(word: &[u8]) -> Option<Keywords>
+    ensures { option_map (λ a. a.0) result ≡ promise_of word.now }
 {
     let flag = Keywords::flags()
         .iter()
         .find(|flag| flag.name.as_bytes() == word)?;
-    Some(Promises {
-        keywords: flag.value,
-    })
+    Some(flag.value)
 }

@@ -1,0 +1,86 @@
+-- Climbing in a tree, one directory after another.
+use Rattle.std.proofs.Common.{◌≡◌, ℕ, zero, suc, ◌+◌, ◌-◌, ◌≤◌, ◌<◌, List, [], ◌∷◌, length, Bool, true, false, cond, map, refl, sym, ap, ◌∙◌, arith, subst}
+use Rattle.std.proofs.lemmas.Bool.{false≢true, eqb-true}
+use Rattle.std.specs.List.{list_all, list_any, find}
+use Rattle.std.specs.Prelude.{Option, Some, None, option_map, ◌&&◌, ◌||◌, ◌==◌, unwrap_or, nat_lt}
+use Rattle.pua_tree.specs.Tree.{Tree, Node, WellFormed, is_dir, is_dir_kind, above, climb, climb_within, node_at, kind_at, node_fits, row_fits, rows_fit_kind, rows_of, target_fits, is_living, Spot}
+use Rattle.pua_tree.specs.Names.{is_name}
+use Rattle.pua_tree.specs.declared.node.Kind.{Kind}
+use Rattle.pua_tree.specs.declared.node.Kind.TheVariants.{Dir}
+use Rattle.pua_policy.proofs.Finding.{both_true, list_all-find, list_all-find_key}
+
+-- a climb gets to the root
+abbrev pub has_root : List ℕ → Bool
+has_root = list_any (λ d. d == 0)
+
+-- the root is not among directories that are not it
+rest_has_root : (d : ℕ) (ds : List ℕ) → has_root (suc d ∷ ds) ≡ true → has_root ds ≡ true
+rest_has_root d ds e =
+    elim (suc d == 0) as (λ b. (suc d == 0) ≡ b → (b || has_root ds) ≡ true → has_root ds ≡ true) [
+      | true ↦ λ is _. let never : suc d ≡ 0 = eqb-true (suc d) 0 is in absurd (omega arith)
+      | false ↦ λ _ rest. rest
+    ] refl e
+
+module _ (t : Tree) where
+  -- one more step adds nothing to a climb that got to the root
+  further : (n d : ℕ) → has_root (climb_within n t d) ≡ true → climb_within (suc n) t d ≡ climb_within n t d
+  further zero zero e = refl
+  further zero (suc d) e = absurd (false≢true (rest_has_root d [] e))
+  further (suc n) zero e = refl
+  further (suc n) (suc d) e = ap (λ ds. suc d ∷ ds) (further n (above t (suc d)) (rest_has_root d (climb_within n t (above t (suc d))) e))
+
+  -- a climb that gets to the root goes on as the climb from the directory above
+  step_within : (n d : ℕ) → has_root (climb_within n t (suc d)) ≡ true →
+      (climb_within n t (suc d) ≡ suc d ∷ climb_within n t (above t (suc d))) × (has_root (climb_within n t (above t (suc d))) ≡ true)
+  step_within zero d e = absurd (false≢true (rest_has_root d [] e))
+  step_within (suc n) d e =
+      let same = further n (above t (suc d)) (rest_has_root d (climb_within n t (above t (suc d))) e) in
+      (ap (λ ds. suc d ∷ ds) (sym same), ap has_root same ∙ rest_has_root d (climb_within n t (above t (suc d))) e)
+
+  pub climb_step : (d : ℕ) → has_root (climb t (suc d)) ≡ true →
+      (climb t (suc d) ≡ suc d ∷ climb t (above t (suc d))) × (has_root (climb t (above t (suc d))) ≡ true)
+  climb_step = step_within (length t.nodes)
+
+  root_within : (n : ℕ) → climb_within n t 0 ≡ 0 ∷ []
+  root_within zero = refl
+  root_within (suc n) = refl
+
+  pub climb_root : climb t 0 ≡ 0 ∷ []
+  climb_root = root_within (length t.nodes)
+
+  length_within : (n d : ℕ) → length (climb_within n t d) ≤ n + 1
+  length_within zero d = omega arith
+  length_within (suc n) zero = omega arith
+  length_within (suc n) (suc d) = omega (arith, length_within n (above t (suc d)))
+
+  -- a climb has at most one directory more than there are nodes
+  pub length-climb : (d : ℕ) → length (climb t d) ≤ length t.nodes + 1
+  length-climb = length_within (length t.nodes)
+
+  module _ (fits : WellFormed t) where
+    -- what is above a directory is one
+    pub is_dir_above : (d : ℕ) → is_dir t (above t d) ≡ true
+    is_dir_above zero = fits.root
+    is_dir_above (suc d) = by (find (λ row. row.1 == suc d) t.rows) refl
+      where
+        by : (o : Option (Spot × ℕ)) → find (λ row. row.1 == suc d) t.rows ≡ o → is_dir t (unwrap_or (option_map (λ spot. spot.0) (option_map (λ row. row.0) o)) 0) ≡ true
+        by None e = fits.root
+        by (Some row) e =
+            (both_true (is_dir t row.0.0) _ (list_all-find (row_fits t) (λ row. row.1 == suc d) t.rows row fits.rows_fit e)).0
+
+    -- from each directory the climb gets to the root
+    pub climb_gets_to_root : (d : ℕ) → is_dir t d ≡ true → has_root (climb t d) ≡ true
+    climb_gets_to_root zero e = ap has_root climb_root
+    climb_gets_to_root (suc d) e = by (node_at t (suc d)) refl e
+      where
+        of_kind : (node : Node) (kind : Kind) → is_dir_kind (Some kind) ≡ true → rows_fit_kind t (suc d) kind ≡ true → has_root (climb t (suc d)) ≡ true
+        of_kind node Dir is fit = (both_true (rows_of t (suc d) == 1) (has_root (climb t (suc d))) fit).1
+        of_kind node _ is fit = cc
+
+        by : (o : Option Node) → node_at t (suc d) ≡ o → is_dir_kind (option_map (λ n. n.kind) o) ≡ true → has_root (climb t (suc d)) ≡ true
+        by None found is = cc
+        by (Some node) found is =
+            let all = list_all-find_key (node_fits t) (suc d) t.nodes node fits.nodes_fit found in
+            let two = both_true (nat_lt (suc d) t.next) _ all in
+            let three = both_true (target_fits node.kind node.target) (rows_fit_kind t (suc d) node.kind) two.1 in
+            of_kind node node.kind is three.1

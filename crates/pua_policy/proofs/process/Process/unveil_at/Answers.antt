@@ -1,0 +1,33 @@
+use Rattle.std.proofs.Common.{◌≡◌, ◌∙◌, sym, ap, refl, false}
+use Rattle.std.specs.Prelude.{Result, Ok, Err, OnOk}
+use Rattle.std.specs.Result.{is_err}
+use Rattle.pua_policy.specs.History.{with_veil}
+use Rattle.pua_policy.proofs.Standing.{unveil_fault_by}
+use Rattle.pua_policy.proofs.Places.{same_place-eq}
+use Rattle.pua_policy.proofs.Veils.{with_veil-insert_entry}
+use Rattle.pua_policy.specs.contracts.place.PlacePartialEq.TheImpl.{ghosts}
+use Rattle.pua_policy.proofs.process.Process.unveil_at.Goals as goal
+
+if_no_err : {T E P : Type 0} (r : Result T E) → is_err r ≡ false → OnOk r P → P
+if_no_err (Ok x) e p = p
+if_no_err (Err x) e p = cc
+
+pub returns-in-Some-clause-err : goal.returns-in-Some-clause-err
+returns-in-Some-clause-err c =
+    λ h s. (λ _. unveil_fault_by c.args.self.now h s c.args.place c.args.perms ∙ sym c.in-Some.ensures.fault, λ is. absurd (c.in-Some.ensures.other is))
+
+pub returns-then-is_err-clause-err : goal.returns-then-is_err-clause-err
+returns-then-is_err-clause-err c =
+    λ h s. (λ no. absurd (no refl), λ _. unveil_fault_by c.args.self.now h s c.args.place c.args.perms ∙ sym c.unveil_fault.ensures.fault ∙ c.in_default.is)
+
+pub returns-clause-ok : goal.returns-clause-ok
+returns-clause-ok c = λ h s. (unveil_fault_by c.args.self.now h s c.args.place c.args.perms ∙ sym c.unveil_fault.ensures.fault ∙ c.in_default.is, record {
+    promises = ap (λ p. p.promises) c.self.view_is ∙ s.promises;
+    execpromises = ap (λ p. p.execpromises) c.self.view_is ∙ s.execpromises;
+    veils = if_no_err c.insert.result (sym c.is_err.ensures.value ∙ c.if-is_err.false) c.insert.ensures.entries
+        ∙ with_veil-insert_entry ghosts.eq same_place-eq c.args.place c.args.perms c.self.inside.veils.entries
+        ∙ ap (with_veil c.args.place c.args.perms) (ap (λ p. p.veils) c.self.view_is ∙ s.veils);
+    locked = ap (λ p. p.locked) c.self.view_is ∙ s.locked;
+    dir = ap (λ p. p.dir) c.self.view_is ∙ s.dir;
+    ended = ap (λ p. p.ended) c.self.view_is ∙ s.ended;
+  })

@@ -1,0 +1,60 @@
+//! What the veils of a process leave of an object.
+
+ghost use Rattle.std.specs.Prelude.{◌≡◌, ℕ, ◌+◌, ◌≤◌, length, map, IsTrue};
+ghost use Rattle.pua_tree.specs.Tree.{is_dir, climb};
+ghost use Rattle.pua_policy.specs.History.{History, StandsFor, veil_at};
+ghost use Rattle.pua_policy.specs.Verdict.{FoundFits, cover, nearest};
+
+use pua_path::{Found, Probe};
+use pua_tree::NodeId;
+
+use crate::answer::Cover;
+use crate::place::Place;
+use crate::process::Process;
+
+impl Process {
+    /// What the veils leave of an object: everything where no veil is kept; else the permissions at
+    /// its own place, or those of the nearest directory over it that has a veil. Farther veils add
+    /// nothing. What was found is of the probe's tree as it stands. At most as many looks at the
+    /// tree as it has nodes.
+    pub fn cover<'t, P: Probe<'t>>(&self, probe: &mut P, found: &Found) -> Cover
+        requires { FoundFits (P.tree probe.old) found.now }
+        ensures exact { (h : History) → StandsFor self.now h → result ≡ cover (P.tree probe.old) h found.now }
+        ensures tree { P.tree probe.new ≡ P.tree probe.old }
+        ensures cost { P.count probe.new ≤ P.count probe.old + length (P.tree probe.old).nodes }
+    {
+        if !self.is_veiled() {
+            return Cover::All;
+        }
+        match *found {
+            Found::Whole { dir, .. } => self.nearest(probe, dir),
+            Found::Slot { dir, name, .. } => match self.kept(&Place::Slot(dir, name)) {
+                Some(perms) => Cover::Only(perms),
+                None => self.nearest(probe, dir),
+            },
+        }
+    }
+
+    /// The permissions of the first directory that has a veil, from this one up to the root.
+    fn nearest<'t, P: Probe<'t>>(&self, probe: &mut P, from: NodeId) -> Cover
+        requires { IsTrue (is_dir (P.tree probe.old) from) }
+        ensures exact { result ≡ nearest (map (λ dir. veil_at self.now.veils (Place.Dir dir)) (climb (P.tree probe.old) from)) }
+        ensures tree { P.tree probe.new ≡ P.tree probe.old }
+        ensures cost { P.count probe.new ≤ P.count probe.old + length (P.tree probe.old).nodes }
+    {
+        probe.known();
+        let mut dir = from;
+        loop {
+            if let Some(perms) = self.kept(&Place::Dir(dir)) {
+                return Cover::Only(perms);
+            }
+            if dir == NodeId::ROOT {
+                return Cover::Nothing;
+            }
+            let Some(above) = probe.parent(dir) else {
+                return Cover::Nothing;
+            };
+            dir = above;
+        }
+    }
+}

@@ -1,0 +1,169 @@
+//! The verdict on a call.
+
+ghost use Rattle.std.specs.Prelude.{◌≡◌, ◌+◌, ◌≤◌, length};
+ghost use Rattle.pua_tree.specs.Tree.{Tree};
+ghost use Rattle.pua_policy.specs.Calls.{standard_table};
+ghost use Rattle.pua_policy.specs.History.{History, StandsFor};
+ghost use Rattle.pua_policy.specs.Verdict.{FoundFits, FoundsFit, verdict, verdict_of, cover, or_fault, cover_fault, object_fault, rmdir_fault, object_of, object_of_kind, IsDir};
+
+use pua_path::{Errno, Found, Probe, Way};
+use pua_tree::{Kind, NodeId};
+
+use crate::answer::{Cover, May, Verdict};
+use crate::call::Call;
+use crate::needs;
+use crate::perms::Perms;
+use crate::process::Process;
+
+/// The verdict on a call, on what its path names: first the promises, then the cover, the
+/// permissions that it lacks, and what was found. Whether there is room for a new node is not
+/// asked. What was found is of the probe's tree as it stands. At most four more looks at the tree
+/// than it has nodes.
+pub fn verdict<'t, P: Probe<'t>>(
+    probe: &mut P,
+    process: &Process,
+    call: Call,
+    found: &Found,
+) -> Verdict
+    requires { FoundFits (P.tree probe.old) found.now }
+    ensures exact { (h : History) → StandsFor process.now h → result ≡ verdict (P.tree probe.old) standard_table h call found.now }
+    ensures tree { P.tree probe.new ≡ P.tree probe.old }
+    ensures cost { P.count probe.new ≤ P.count probe.old + length (P.tree probe.old).nodes + 4 }
+{
+    let need = needs::need(call);
+    match process.may(need.promises) {
+        May::Yes => match found_fault(probe, process, call, need.perms, found) {
+            None => Verdict::Allowed,
+            Some(errno) => Verdict::Failed(errno),
+        },
+        May::Enosys => Verdict::Failed(Errno::ENOSYS),
+        May::Death => Verdict::Death,
+    }
+}
+
+/// The verdict on a call whose path may have failed: without its promises the call fails by them,
+/// and else by its path.
+pub fn verdict_of<'t, P: Probe<'t>>(
+    probe: &mut P,
+    process: &Process,
+    call: Call,
+    found: Result<Found, Errno>,
+) -> Verdict
+    requires { FoundsFit (P.tree probe.old) found }
+    ensures exact { (h : History) → StandsFor process.now h → result ≡ verdict_of (P.tree probe.old) standard_table h call found }
+    ensures tree { P.tree probe.new ≡ P.tree probe.old }
+    ensures cost { P.count probe.new ≤ P.count probe.old + length (P.tree probe.old).nodes + 4 }
+{
+    let errno = match found {
+        Ok(found) => return verdict(probe, process, call, &found),
+        Err(errno) => errno,
+    };
+    match process.may(needs::need(call).promises) {
+        May::Yes => Verdict::Failed(errno),
+        May::Enosys => Verdict::Failed(Errno::ENOSYS),
+        May::Death => Verdict::Death,
+    }
+}
+
+/// What is wrong with what was found: its cover, its permissions, its kind.
+fn found_fault<'t, P: Probe<'t>>(
+    probe: &mut P,
+    process: &Process,
+    call: Call,
+    perms: Perms,
+    found: &Found,
+) -> Option<Errno>
+    requires { FoundFits (P.tree probe.old) found.now }
+    ensures exact { (h : History) → StandsFor process.now h →
+        result ≡ or_fault (cover_fault (cover (P.tree probe.old) h found.now) perms) (object_fault (P.tree probe.old) call (object_of (P.tree probe.old) found.now)) }
+    ensures tree { P.tree probe.new ≡ P.tree probe.old }
+    ensures cost { P.count probe.new ≤ P.count probe.old + length (P.tree probe.old).nodes + 4 }
+{
+    let cover = process.cover(probe, found);
+    match cover_fault(cover, perms) {
+        Some(errno) => Some(errno),
+        None => object_fault(probe, call, found),
+    }
+}
+
+/// What is wrong with a cover for a call that needs these permissions.
+fn cover_fault(cover: Cover, perms: Perms) -> Option<Errno>
+    ensures { result ≡ cover_fault cover perms }
+{
+    match cover {
+        Cover::All => None,
+        Cover::Nothing => Some(Errno::ENOENT),
+        Cover::Only(kept) if kept.contains(perms) => None,
+        Cover::Only(_) => Some(Errno::EACCES),
+    }
+}
+
+/// What is wrong with what was found.
+fn object_fault<'t, P: Probe<'t>>(probe: &mut P, call: Call, found: &Found) -> Option<Errno>
+    ensures exact { result ≡ object_fault (P.tree probe.old) call (object_of (P.tree probe.old) found.now) }
+    ensures tree { P.tree probe.new ≡ P.tree probe.old }
+    ensures cost { P.count probe.new ≤ P.count probe.old + 1 }
+{
+    match *found {
+        Found::Whole { dir, way } => directory_fault(probe, call, dir, way),
+        Found::Slot {
+            node: Some(id), ..
+        } => slot_fault(call, probe.kind(id)),
+        Found::Slot { node: None, .. } => slot_fault(call, None),
+    }
+}
+
+/// What is wrong with a directory, by the way it was named.
+fn directory_fault<'t, P: Probe<'t>>(
+    probe: &mut P,
+    call: Call,
+    dir: NodeId,
+    way: Way,
+) -> Option<Errno>
+    ensures exact { result ≡ object_fault (P.tree probe.old) call (IsDir dir way) }
+    ensures tree { P.tree probe.new ≡ P.tree probe.old }
+    ensures cost { P.count probe.new ≤ P.count probe.old + 1 }
+{
+    match call {
+        Call::Stat | Call::Lstat | Call::OpenRead | Call::Chmod | Call::Chdir => None,
+        Call::Readlink => Some(Errno::EINVAL),
+        Call::OpenWrite | Call::OpenBoth | Call::Create => Some(Errno::EISDIR),
+        Call::Mkdir | Call::Symlink => Some(Errno::EEXIST),
+        Call::Rmdir => rmdir_fault(probe, dir, way),
+        Call::Unlink => Some(Errno::EPERM),
+        Call::Exec => Some(Errno::EACCES),
+    }
+}
+
+/// What is wrong with removing a directory.
+fn rmdir_fault<'t, P: Probe<'t>>(probe: &mut P, dir: NodeId, way: Way) -> Option<Errno>
+    ensures exact { result ≡ rmdir_fault (P.tree probe.old) dir way }
+    ensures tree { P.tree probe.new ≡ P.tree probe.old }
+    ensures cost { P.count probe.new ≤ P.count probe.old + 1 }
+{
+    match way {
+        Way::Dot | Way::DotDot => Some(Errno::EINVAL),
+        Way::Top => Some(Errno::EBUSY),
+        Way::Named { .. } if probe.is_empty(dir) => None,
+        Way::Named { .. } => Some(Errno::ENOTEMPTY),
+    }
+}
+
+/// What is wrong with a name where no directory stands; None where nothing stands there.
+fn slot_fault(call: Call, kind: Option<Kind>) -> Option<Errno>
+    ensures { (t : Tree) → result ≡ object_fault t call (object_of_kind kind) }
+{
+    let Some(kind) = kind else {
+        return match call {
+            Call::Create | Call::Mkdir | Call::Symlink => None,
+            _ => Some(Errno::ENOENT),
+        };
+    };
+    match call {
+        Call::Readlink if kind != Kind::Link => Some(Errno::EINVAL),
+        Call::Mkdir | Call::Symlink => Some(Errno::EEXIST),
+        Call::Rmdir | Call::Chdir => Some(Errno::ENOTDIR),
+        Call::Exec if kind != Kind::Prog => Some(Errno::EACCES),
+        _ => None,
+    }
+}
