@@ -24,7 +24,7 @@ use Rattle.pua_script.specs.declared.request.Action.{Action}
 use Rattle.pua_script.specs.declared.request.Action.TheVariants.{OnPath, Symlink, Rename, Pledge, Unveil, Lock, Fork, Exit}
 use Rattle.pua_script.specs.declared.fault.ScriptFault.{ScriptFault}
 use Rattle.pua_script.specs.declared.fault.ScriptFault.TheVariants.{BadLine, BadCall, BadPath, BadList, TooMany}
-use Rattle.pua_script.specs.Scripts.{is_dash, is_equals, path_in, has_empty_word, good_or_unknown, given_in, perms_in, Form, PathForm, SymlinkForm, RenameForm, PledgeForm, UnveilForm, ForkForm, ExitForm, form_of, with_paths, unveil_of, action_of, form_in, request_of_fields, request_of, requests_of, line_limit, script}
+use Rattle.pua_script.specs.Scripts.{is_dash, is_equals, path_in, has_empty_word, good_or_unknown, given_in, perms_in, Form, PathForm, SymlinkForm, RenameForm, PledgeForm, UnveilForm, ForkForm, ExitForm, form_of, with_paths, unveil_of, action_of, form_in, action_in, request_of_fields, request_of, requests_of, line_limit, script}
 use Rattle.pua_script.specs.ScriptGrammar.{SpellsPath, empty, spelled, IsList, SpellsGiven, null, nothing, known, unknown, SpellsPerms, no_letter, letters, unknown_letter, SpellsAction, on_path, symlink, rename, pledge, unveil, lock, fork, exit, SpellsRequest, SpellRequests, IsScript, ScriptsAreRead}
 
 same_from : (a b : List ℕ) → same_bytes a b ≡ true → a ≡ b
@@ -258,9 +258,9 @@ request_read n line ask = by (list_all is_field (fields line)) refl (fields line
   where
     split : (process : List ℕ) (more : List (List ℕ)) → IsTrue (list_all is_field (fields line)) → fields line ≡ process ∷ more → request_of_fields n (process ∷ more) ≡ Ok ask → SpellsRequest line ask
     split process more visible are e =
-        let number = bound (ok_or (number_within 1 999999 process) (BadLine n)) (λ m. ok_or (form_in more) (BadCall n) >>= λ form. action_of n form >>= λ action. Ok (record { process = m; action = action })) ask e in
-        let form = bound (ok_or (form_in more) (BadCall n)) (λ form. action_of n form >>= λ action. Ok (record { process = number.0; action = action })) ask number.2 in
-        let action = bound (action_of n form.0) (λ action. Ok (record { process = number.0; action = action })) ask form.2 in
+        let number = bound (ok_or (number_within 1 999999 process) (BadLine n)) (λ m. action_in n more >>= λ action. Ok (record { process = m; action = action })) ask e in
+        let action = bound (action_in n more) (λ action. Ok (record { process = number.0; action = action })) ask number.2 in
+        let form = bound (ok_or (form_in more) (BadCall n)) (action_of n) action.0 action.1 in
         let read = number_read 1 999999 process number.0 (lit< tt) (found _ (BadLine n) number.0 number.1) in
         subst (SpellsRequest line) (same_Ok (record { process = number.0; action = action.0 }) ask action.2) (record {
           visible = visible;
@@ -268,7 +268,7 @@ request_read n line ask = by (list_all is_field (fields line)) refl (fields line
           split = are ∙ ap (λ p. p ∷ more) read.0;
           low = read.1;
           high = read.2;
-          spells = action_read n more form.0 action.0 (found _ (BadCall n) form.0 form.1) action.1;
+          spells = action_read n more form.0 action.0 (found _ (BadCall n) form.0 form.1) form.2;
         })
     by : (s : Bool) → list_all is_field (fields line) ≡ s → (fs : List (List ℕ)) → fields line ≡ fs → cond s (request_of_fields n fs) (Err (BadLine n)) ≡ Ok ask → SpellsRequest line ask
     by true visible [] are e = absurd (Err≢Ok (BadLine n) ask e)
@@ -280,8 +280,8 @@ request_told n line ask spells =
     let reads = action_told n spells.more ask.action spells.spells in
     ap (λ s. cond s (request_of_fields n (fields line)) (Err (BadLine n))) spells.visible
     ∙ ap (request_of_fields n) spells.split
-    ∙ ap (λ o. ok_or o (BadLine n) >>= λ m. ok_or (form_in spells.more) (BadCall n) >>= λ form. action_of n form >>= λ action. Ok (record { process = m; action = action })) (decimal_within 1 999999 ask.process spells.low spells.high (omega (arith, spells.high)))
-    ∙ ap (λ o. ok_or o (BadCall n) >>= λ form. action_of n form >>= λ action. Ok (record { process = ask.process; action = action })) reads.1
+    ∙ ap (λ o. ok_or o (BadLine n) >>= λ m. action_in n spells.more >>= λ action. Ok (record { process = m; action = action })) (decimal_within 1 999999 ask.process spells.low spells.high (omega (arith, spells.high)))
+    ∙ ap (λ o. (ok_or o (BadCall n) >>= action_of n) >>= λ action. Ok (record { process = ask.process; action = action })) reads.1
     ∙ ap (λ r. r >>= λ action. Ok (record { process = ask.process; action = action })) reads.2
 
 requests_read : (n : ℕ) (texts : List (List ℕ)) (asks : List Asked) → requests_of n texts ≡ Ok asks → SpellRequests texts asks

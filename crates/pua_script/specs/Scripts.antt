@@ -1,5 +1,5 @@
 -- Which bytes are a script of which requests, and else which fault comes first.
-use Rattle.std.specs.Prelude.{ℕ, suc, Bool, true, false, not, if◌then◌else◌, List, [], ◌∷◌, length, take, nat_lt, ◌==◌, Option, Some, None, Result, Ok, Err, codes, ok_or, option_map}
+use Rattle.std.specs.Prelude.{◌≡◌, ◌≢◌, MatchResult, ℕ, suc, Bool, true, false, not, if◌then◌else◌, List, [], ◌∷◌, length, take, nat_lt, ◌==◌, Option, Some, None, Result, Ok, Err, codes, ok_or, option_map}
 use Rattle.std.specs.List.{list_all, list_any, slice_split}
 use Rattle.std.specs.Result.{result_ok}
 use Rattle.std.specs.Str.Lines.{lines}
@@ -17,7 +17,7 @@ use Rattle.pua_script.specs.declared.request.Given.TheVariants.{Null, Good, Unkn
 use Rattle.pua_script.specs.declared.request.Action.{Action}
 use Rattle.pua_script.specs.declared.request.Action.TheVariants.{OnPath, Symlink, Rename, Pledge, Unveil, Lock, Fork, Exit}
 use Rattle.pua_script.specs.declared.fault.ScriptFault.{ScriptFault}
-use Rattle.pua_script.specs.declared.fault.ScriptFault.TheVariants.{BadLine, BadCall, BadPath, BadList, TooMany}
+use Rattle.pua_script.specs.declared.fault.ScriptFault.TheVariants.{BadLine, BadCall, BadPath, BadList, TooMany, OutOfMemory}
 
 -- the fields `-` and `=`
 abbrev pub is_dash : List ℕ → Bool
@@ -97,17 +97,19 @@ action_of n (UnveilForm a b) = unveil_of n a b
 action_of n (ForkForm new) = Ok (Fork new)
 action_of n ExitForm = Ok Exit
 
--- the fields behind the process's number: the call and its arguments
+-- the fields behind the process's number: the call and its arguments, and what they ask for
 abbrev pub form_in : List (List ℕ) → Option Form
 form_in [] = None
 form_in (word ∷ arguments) = form_of word arguments
+
+abbrev pub action_in : ℕ → List (List ℕ) → Result Action ScriptFault
+action_in n more = ok_or (form_in more) (BadCall n) >>= action_of n
 
 abbrev pub request_of_fields : ℕ → List (List ℕ) → Result Asked ScriptFault
 request_of_fields n [] = Err (BadLine n)
 request_of_fields n (process ∷ more) = do
   number ← ok_or (number_within 1 999999 process) (BadLine n)
-  form ← ok_or (form_in more) (BadCall n)
-  action ← action_of n form
+  action ← action_in n more
   Ok (record { process = number; action = action })
 
 -- what line n asks for, or its first fault
@@ -125,3 +127,7 @@ line_limit = 60000
 -- the requests of which the bytes are a script, or their first fault
 abbrev pub script : List ℕ → Result (List Asked) ScriptFault
 script bytes = requests_of 1 (take line_limit (lines bytes)) >>= λ requests. if nat_lt line_limit (length (lines bytes)) then Err TooMany else Ok requests
+
+-- a reader answers as the definition does, unless a growth was refused
+abbrev pub IsReadAs : {A : Type 0} → Result A ScriptFault → Result A ScriptFault → Type 0
+IsReadAs rule read = MatchResult read (λ x. rule ≡ Ok x) (λ fault. fault ≢ OutOfMemory → rule ≡ Err fault)

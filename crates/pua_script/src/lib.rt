@@ -4,6 +4,7 @@
 mod answer;
 mod fault;
 mod laws;
+mod line;
 mod request;
 
 pub use answer::Answer;
