@@ -1,7 +1,7 @@
 //! Laws and worked examples of what processes may do, each the contract of a function that does
 //! nothing.
 
-ghost use Rattle.pua_policy.specs.Laws.{VeilsAreKept, CoverNeedsUnveil, HeldNeverGrows, ProcessesDecide};
+ghost use Rattle.pua_policy.specs.Laws.{VeilsAreKept, CoverNeedsUnveil, HeldNeverGrows, ProcessesDecide, ResolutionsFit};
 ghost use Rattle.pua_policy.specs.Examples.{CoverRows, VerdictRows};
 
 /// Examples of what veils leave.
@@ -31,4 +31,10 @@ pub fn promise_law()
 /// What a process keeps decides what it may do, whichever history it stands for.
 pub fn standing_law()
     ensures { ProcessesDecide }
+{}
+
+/// What a path names is of the tree: its directory lives, and its row is as the tree has it. It is
+/// no link where the last part is followed.
+pub fn resolution_law()
+    ensures { ResolutionsFit }
 {}
