@@ -44,11 +44,11 @@ apart_to a b ne = not-true (same_bytes a b) (by (same_bytes a b) refl)
     by false e = refl
 
 -- steps, forwards and backwards
-bound : {A B E : Type 0} (r : Result A E) (f : A → Result B E) (y : B) → (r >>= f) ≡ Ok y → (x : A) × (r ≡ Ok x) × (f x ≡ Ok y)
+pub bound : {A B E : Type 0} (r : Result A E) (f : A → Result B E) (y : B) → (r >>= f) ≡ Ok y → (x : A) × (r ≡ Ok x) × (f x ≡ Ok y)
 bound (Ok x) f y e = (x, refl, e)
 bound (Err fault) f y e = absurd (Err≢Ok fault y e)
 
-found : {A E : Type 0} (o : Option A) (fault : E) (x : A) → ok_or o fault ≡ Ok x → o ≡ Some x
+pub found : {A E : Type 0} (o : Option A) (fault : E) (x : A) → ok_or o fault ≡ Ok x → o ≡ Some x
 found (Some w) fault x e = ap Some (same_Ok w x e)
 found None fault x e = absurd (Err≢Ok fault x e)
 
@@ -209,7 +209,7 @@ module _ (n : ℕ) where
       by false _ false _ false _ true w e is = unveil_form word a b action (same_from word (codes "unveil") w) (ap (action_of n) (same_Some (UnveilForm a b) form e) ∙ is)
       by false _ false _ false _ false w e is = absurd (None≢Some form e)
 
-  action_read : (more : List (List ℕ)) (form : Form) (action : Action) → form_in more ≡ Some form → action_of n form ≡ Ok action → SpellsAction more action
+  pub action_read : (more : List (List ℕ)) (form : Form) (action : Action) → form_in more ≡ Some form → action_of n form ≡ Ok action → SpellsAction more action
   action_read [] form action e is = absurd (None≢Some form e)
   action_read (word ∷ []) form action e is =
       let both = guarded (same_bytes word (codes "exit")) ExitForm form e in
@@ -253,7 +253,7 @@ module _ (n : ℕ) where
       below new high = omega (arith, high)
   action_told _ _ (exit named) = (ExitForm, ap (λ w. form_of w []) named, refl)
 
-request_read : (n : ℕ) (line : List ℕ) (ask : Asked) → request_of n line ≡ Ok ask → SpellsRequest line ask
+pub request_read : (n : ℕ) (line : List ℕ) (ask : Asked) → request_of n line ≡ Ok ask → SpellsRequest line ask
 request_read n line ask = by (list_all is_field (fields line)) refl (fields line) refl
   where
     split : (process : List ℕ) (more : List (List ℕ)) → IsTrue (list_all is_field (fields line)) → fields line ≡ process ∷ more → request_of_fields n (process ∷ more) ≡ Ok ask → SpellsRequest line ask

@@ -1,7 +1,7 @@
 //! One line of a script.
 
 ghost use Rattle.std.specs.Prelude.{◌≡◌, ◌∷◌, [], map, ok_or};
-ghost use Rattle.pua_script.specs.Scripts.{IsReadAs, is_dash, is_equals, has_empty_word, path_in, given_in, perms_in, form_of, action_of, unveil_of, action_in, request_of};
+ghost use Rattle.pua_script.specs.Scripts.{IsReadAs, is_dash, is_equals, has_empty_word, path_in, given_in, perms_in, form_of, action_of, unveil_of, action_in, request_of, request_of_fields};
 ghost use Rattle.pua_script.specs.declared.fault.ScriptFault.TheVariants.{BadCall, BadList, BadPath};
 
 use crate::fault::ScriptFault;
@@ -24,7 +24,14 @@ pub(crate) fn read_request(
     let Some(fields) = Fields::read(line) else {
         return Err(ScriptFault::BadLine(number));
     };
-    let Some((process, more)) = fields.as_slice().split_first() else {
+    read_fields(alloc, number, fields.as_slice())
+}
+
+/// The request of a line's fields.
+fn read_fields(alloc: Global, number: u32, fields: &[&[u8]]) -> Result<Request, ScriptFault>
+    ensures { IsReadAs (request_of_fields number (map (λ field. field.now) fields.now)) result }
+{
+    let Some((process, more)) = fields.split_first() else {
         return Err(ScriptFault::BadLine(number));
     };
     let Some(process) = number_within(1, MOST_PROCESS, process) else {
@@ -39,10 +46,22 @@ fn read_action(alloc: Global, number: u32, fields: &[&[u8]]) -> Result<Action, S
     ensures { IsReadAs (action_in number (map (λ field. field.now) fields.now)) result }
 {
     match fields {
-        [word] if *word == b"exit".as_slice() => Ok(Action::Exit),
+        [] => Err(ScriptFault::BadCall(number)),
+        [word] => read_alone(number, word),
         [word, a] => read_one(alloc, number, word, a),
         [word, a, b] => read_two(alloc, number, word, a, b),
         _ => Err(ScriptFault::BadCall(number)),
+    }
+}
+
+/// A call without arguments.
+fn read_alone(number: u32, word: &[u8]) -> Result<Action, ScriptFault>
+    ensures { result ≡ action_in number (word.now ∷ []) }
+{
+    if word == b"exit".as_slice() {
+        Ok(Action::Exit)
+    } else {
+        Err(ScriptFault::BadCall(number))
     }
 }
 

@@ -1,0 +1,61 @@
+-- The parts of a line as its reader finds them.
+use Rattle.std.proofs.Common.{◌≡◌, ℕ, ◌+◌, ◌<◌, ◌≤◌, Bool, true, false, cond, List, [], ◌∷◌, map, length, take, Option, Some, None, Result, Ok, Err, refl, sym, ap, subst, ◌∙◌, arith, lit<}
+use Rattle.std.specs.Borrow.{Bor}
+use Rattle.std.specs.Prelude.{IsTrue, ok_or, nat_lt, ◌++◌}
+use Rattle.std.specs.List.{list_all}
+use Rattle.std.proofs.lemmas.Bool.{and_from, le-leb, not_from_false}
+use Rattle.pua_tree.specs.Spelling.{fields, is_field, number_within}
+use Rattle.pua_tree.specs.Fields.{first_fields}
+use Rattle.pua_tree.specs.Steps.{◌>>=◌}
+use Rattle.pua_tree.proofs.Spellings.{guarded, number_read}
+use Rattle.pua_script.specs.Requests.{Asked, has_no_nul, is_asked, is_askable}
+use Rattle.pua_script.specs.declared.request.Action.{Action}
+use Rattle.pua_script.specs.declared.fault.ScriptFault.{ScriptFault}
+use Rattle.pua_script.specs.declared.fault.ScriptFault.TheVariants.{BadLine, BadCall, TooMany}
+use Rattle.pua_script.specs.Scripts.{action_in, form_in, action_of, request_of_fields, request_of, requests_of, script, line_limit}
+use Rattle.pua_script.specs.ScriptGrammar.{SpellsPath, empty, spelled, SpellsAction, on_path, symlink, rename, pledge, unveil, lock, fork, exit, SpellsRequest}
+use Rattle.pua_script.proofs.Grammar.{bound, found, action_read}
+
+-- no call has more than two arguments
+pub many_arguments : (n : ℕ) (fs : List (Bor (List ℕ))) → 4 ≤ length fs → action_in n (map (λ f. f.now) fs) ≡ Err (BadCall n)
+many_arguments n [] long = absurd (omega arith)
+many_arguments n (a ∷ []) long = absurd (omega arith)
+many_arguments n (a ∷ b ∷ []) long = absurd (omega arith)
+many_arguments n (a ∷ b ∷ c ∷ []) long = absurd (omega arith)
+many_arguments n (a ∷ b ∷ c ∷ d ∷ more) long = refl
+
+-- the first six fields decide
+six_decide : (n : ℕ) (fs : List (List ℕ)) → request_of_fields n fs ≡ request_of_fields n (take 6 fs)
+six_decide n [] = refl
+six_decide n (p ∷ []) = refl
+six_decide n (p ∷ w ∷ []) = refl
+six_decide n (p ∷ w ∷ a ∷ []) = refl
+six_decide n (p ∷ w ∷ a ∷ b ∷ []) = refl
+six_decide n (p ∷ w ∷ a ∷ b ∷ c ∷ more) = refl
+
+pub by_fields : (n : ℕ) (line : List ℕ) (fs : List (List ℕ)) → first_fields line ≡ Some fs → request_of n line ≡ request_of_fields n fs
+by_fields n line fs e =
+    let read = guarded (list_all is_field (fields line)) (take 6 (fields line)) fs e in
+    ap (λ s. cond s (request_of_fields n (fields line)) (Err (BadLine n))) read.0 ∙ six_decide n (fields line) ∙ ap (request_of_fields n) read.1
+
+-- what is read can be asked
+path_clean : (field text : List ℕ) → SpellsPath field text → IsTrue (has_no_nul text)
+path_clean field _ (empty e) = refl
+path_clean field text (spelled ne small clean e) = clean
+
+askable : (more : List (List ℕ)) (action : Action) → SpellsAction more action → IsTrue (is_askable action)
+askable _ _ (on_path {path = path} other named spells) = and_from _ _ (not_from_false _ other) (path_clean _ path spells)
+askable _ _ (symlink {target = x} {path = y} named first second) = and_from _ _ (path_clean _ x first) (path_clean _ y second)
+askable _ _ (rename {old = x} {new = y} named first second) = and_from _ _ (path_clean _ x first) (path_clean _ y second)
+askable _ _ (pledge named first second) = refl
+askable _ _ (unveil {path = path} named no_a no_b first second) = path_clean _ path first
+askable _ _ (lock named first second) = refl
+askable _ _ (fork {new = new} named first low high) = and_from _ _ (le-leb 1 new low) (le-leb new 999999 high)
+askable _ _ (exit named) = refl
+
+pub asked : (n number : ℕ) (process : List ℕ) (more : List (List ℕ)) (action : Action) → number_within 1 999999 process ≡ Some number → action_in n more ≡ Ok action → IsTrue (is_asked (record { process = number; action = action }))
+asked n number process more action numbered acts =
+    let read = number_read 1 999999 process number (lit< tt) numbered in
+    let form = bound (ok_or (form_in more) (BadCall n)) (action_of n) action acts in
+    and_from _ _ (and_from _ _ (le-leb 1 number read.1) (le-leb number 999999 read.2))
+        (askable more action (action_read n more form.0 action (found (form_in more) (BadCall n) form.0 form.1) form.2))
