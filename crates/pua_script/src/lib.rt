@@ -6,8 +6,10 @@ mod fault;
 mod laws;
 mod line;
 mod request;
+mod script;
 
 pub use answer::Answer;
 pub use fault::{ScriptFault, WorldFault};
 pub use laws::{narrowing_law, replay_examples, replay_law, script_examples, script_law, standing_law};
 pub use request::{Action, Given, PathBytes, Request};
+pub use script::{Script, read_script};

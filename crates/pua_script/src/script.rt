@@ -1,0 +1,64 @@
+//! Scripts, and how they are read.
+
+use bstr::ByteSlice;
+use std::alloc::Global;
+use std::marker::Model;
+
+use crate::fault::ScriptFault;
+use crate::line::read_request;
+use crate::request::Request;
+
+/// The most lines that a script may have.
+const MOST_LINES: u32 = 60_000;
+
+/// The requests of a script, in the order of its lines. Contracts see the list of them.
+#[derive(Drop)]
+pub struct Script {
+    requests: Vec<Request>,
+}
+
+impl Model for Script {
+    ghost use Rattle.std.specs.Prelude.{List};
+    ghost use Rattle.pua_script.specs.Requests.{Asked};
+
+    ghost Value = { List Asked };
+
+    ghost view = { λ a. a.requests.items };
+}
+
+ghost use Rattle.std.specs.Prelude.{◌≡◌, ◌≢◌, MatchResult, Ok, Err};
+ghost use Rattle.pua_script.specs.Scripts.{script};
+
+impl Script {
+    /// The requests, the first line's first.
+    pub fn requests(&self) -> &[Request]
+        ensures { result.now ≡ self.now }
+    {
+        self.requests.as_slice()
+    }
+}
+
+/// Reads a script: one request a line, 60,000 lines at most. A line ends in LF or CRLF; the last end
+/// may be missing.
+///
+/// The error is the first fault of the first line that has one, with that line's number;
+/// `TooMany` where none of the first 60,000 has one and there are more; `OutOfMemory` where a
+/// growth was refused. A line after the 60,000th is never read into.
+pub fn read_script(alloc: Global, bytes: &[u8]) -> Result<Script, ScriptFault>
+    ensures { MatchResult result (λ requests. script bytes.now ≡ Ok requests)
+        (λ fault. fault ≢ ScriptFault.OutOfMemory → script bytes.now ≡ Err fault) }
+{
+    let mut requests = Vec::new(alloc);
+    let mut number = 0;
+    for line in bytes.lines() {
+        if number == MOST_LINES {
+            return Err(ScriptFault::TooMany);
+        }
+        number += 1;
+        let request = read_request(alloc, number, line)?;
+        let Ok(()) = requests.push(request) else {
+            return Err(ScriptFault::OutOfMemory);
+        };
+    }
+    Ok(Script { requests })
+}
