@@ -1,8 +1,7 @@
 //! Path texts.
 
-use std::marker::Model;
-
 use crate::errno::Errno;
+use std::marker::Model;
 
 /// What a slash at the end of a path adds.
 #[derive(Clone, Copy, Debug, PartialEq, Eq)]
@@ -30,4 +29,24 @@ impl<'a> Model for PathText<'a> {
     ghost view = { λ a. record { bytes = a.bytes.now; ending = a.ending } };
 
     ghost invariant = { λ a. path_fault a.bytes.now ≡ None };
+}
+
+ghost use Rattle.std.specs.Prelude.{◌≡◌, None};
+ghost use Rattle.pua_path.specs.Paths.{path_fault};
+
+impl<'a> PathText<'a> {
+    /// Its bytes.
+    pub fn bytes(&self) -> &'a [u8]
+        ensures bytes { result.now ≡ self.now.bytes }
+        ensures path { path_fault self.now.bytes ≡ None }
+    {
+        self.bytes
+    }
+
+    /// What a slash at its end adds.
+    pub fn ending(&self) -> Ending
+        ensures { result ≡ self.now.ending }
+    {
+        self.ending
+    }
 }

@@ -149,10 +149,10 @@ none (Some x) e = absurd (true≢false e)
 pub rows_push : (es : List Entry) (e : Entry) → is_taken es e.parent e.name ≡ false → rows_of_entries (es ++ e ∷ []) ≡ put spot_cmp (e.parent, e.name) e.number (rows_of_entries es)
 rows_push es e free = same_entries spot_cmp spots_total exact_spots _ _ (rows_in_order (es ++ e ∷ [])) (is_sorted-put spot_cmp spots_total (e.parent, e.name) e.number (rows_of_entries es) (rows_in_order es))
     (λ s. rows_found (es ++ e ∷ []) s
-        ∙ ap (find spot_cmp s) (map_push entry_row es e)
-        ∙ find-append spot_cmp spots_total (map entry_row es) (e.parent, e.name) e.number s (sym (rows_found es (e.parent, e.name)) ∙ none _ (taken_is_found es e.parent e.name ∙ free))
-        ∙ ap (cond (eq_by_cmp spot_cmp s (e.parent, e.name)) (Some e.number)) (sym (rows_found es s))
-        ∙ sym (find-put spot_cmp spots_total s (e.parent, e.name) e.number (rows_of_entries es)))
+    ∙ ap (find spot_cmp s) (map_push entry_row es e)
+    ∙ find-append spot_cmp spots_total (map entry_row es) (e.parent, e.name) e.number s (sym (rows_found es (e.parent, e.name)) ∙ none _ (taken_is_found es e.parent e.name ∙ free))
+    ∙ ap (cond (eq_by_cmp spot_cmp s (e.parent, e.name)) (Some e.number)) (sym (rows_found es s))
+    ∙ sym (find-put spot_cmp spots_total s (e.parent, e.name) e.number (rows_of_entries es)))
 
 pub entries_push : (earlier es : List Entry) (e : Entry) → IsTrue (entries_fit earlier es) → IsTrue (entry_fits (earlier ++ es) e) → IsTrue (entries_fit earlier (es ++ e ∷ []))
 entries_push earlier [] e h fits = and_from _ _ (subst (λ l. IsTrue (entry_fits l e)) (append-nil earlier) fits) refl
@@ -202,5 +202,5 @@ tree_push es e h fits =
     let rising : Rising 0 es = entries_rise [] es h in
     let f : Fits es e = fits_parts es e fits in
     let nodes : (tree_of (es ++ e ∷ [])).nodes ≡ put nat_cmp e.number e.made (tree_of es).nodes =
-        ap (λ l. (0, root_node) ∷ l) (map_push node_row es e) ∙ sym (put_last e.number e.made (tree_of es).nodes (node_numbers_below e.number es rising f.above)) in
+    ap (λ l. (0, root_node) ∷ l) (map_push node_row es e) ∙ sym (put_last e.number e.made (tree_of es).nodes (node_numbers_below e.number es rising f.above)) in
     λ i. record { rows = rows_push es e f.free i; nodes = nodes i; next = suc (last_number_push es e i) }

@@ -29,14 +29,25 @@ view [] = inl (refl, refl, λ k e. omega arith)
 view (b ∷ rest) = go (eqb b 10) refl (view rest)
   where
     go : (t : Bool) → eqb b 10 ≡ t → Last rest ⊎ Cut rest → Last (b ∷ rest) ⊎ Cut (b ∷ rest)
-    go true e _ = inr ([], rest, ap (λ x. x ∷ rest) (eqb-true b 10 e), ap (λ t. cond t 1 (suc (line_len rest))) e,
-        ap (λ t. cond t ([] ∷ parts rest) (onto_first b (parts rest))) e)
-    go false e (inl last) = inl (ap (λ t. cond t 1 (suc (line_len rest))) e ∙ ap suc last.0,
-        ap (λ t. cond t ([] ∷ parts rest) (onto_first b (parts rest))) e ∙ ap (onto_first b) last.1,
-        no_break b rest (eqb-false b 10 e) last.2)
-    go false e (inr cut) = inr (b ∷ cut.0, cut.1, ap (λ r. b ∷ r) cut.2,
-        ap (λ t. cond t 1 (suc (line_len rest))) e ∙ ap suc cut.3 ∙ omega arith,
-        ap (λ t. cond t ([] ∷ parts rest) (onto_first b (parts rest))) e ∙ ap (onto_first b) cut.4)
+    go true e _ = inr (
+      [],
+      rest,
+      ap (λ x. x ∷ rest) (eqb-true b 10 e),
+      ap (λ t. cond t 1 (suc (line_len rest))) e,
+      ap (λ t. cond t ([] ∷ parts rest) (onto_first b (parts rest))) e,
+    )
+    go false e (inl last) = inl (
+      ap (λ t. cond t 1 (suc (line_len rest))) e ∙ ap suc last.0,
+      ap (λ t. cond t ([] ∷ parts rest) (onto_first b (parts rest))) e ∙ ap (onto_first b) last.1,
+      no_break b rest (eqb-false b 10 e) last.2,
+    )
+    go false e (inr cut) = inr (
+      b ∷ cut.0,
+      cut.1,
+      ap (λ r. b ∷ r) cut.2,
+      ap (λ t. cond t 1 (suc (line_len rest))) e ∙ ap suc cut.3 ∙ omega arith,
+      ap (λ t. cond t ([] ∷ parts rest) (onto_first b (parts rest))) e ∙ ap (onto_first b) cut.4,
+    )
 
 kept : (bs : List ℕ) → ((k : ℕ) → get_or bs k 0 ≢ 10) → without_terminator bs ≡ bs
 kept bs none = go (eqb (get_or bs (length bs - 1) 0) 10) refl (ltb 0 (length bs))

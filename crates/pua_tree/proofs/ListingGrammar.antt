@@ -1,7 +1,7 @@
 -- A listing is read as the entries that its lines spell, and as nothing else.
-use Rattle.std.proofs.Common.{◌≡◌, ℕ, zero, suc, ◌+◌, ◌<◌, ◌≤◌, Bool, true, false, cond, not, ◌&&◌, ◌||◌, eqb, leb, ltb, List, [], ◌∷◌, ◌++◌, map, length, Option, Some, None, Result, Ok, Err, ok_or, option_map, decimal, codes, refl, sym, ap, subst, ◌∙◌, arith, append-nil, append_assoc, true≢false, ◌⊎◌, inl, inr, ◌↔◌}
+use Rattle.std.proofs.Common.{◌≡◌, ℕ, suc, ◌+◌, ◌<◌, Bool, true, false, cond, not, ◌&&◌, leb, ltb, List, [], ◌∷◌, ◌++◌, map, length, Option, Some, None, Result, Ok, Err, ok_or, option_map, decimal, codes, refl, sym, ap, subst, ◌∙◌, arith, append-nil, append_assoc, true≢false}
 use Rattle.std.specs.Prelude.{IsTrue}
-use Rattle.std.specs.List.{list_all, list_any, join_with_byte}
+use Rattle.std.specs.List.{list_all, join_with_byte}
 use Rattle.std.specs.Str.Lines.{lines}
 use Rattle.std.specs.Result.{result_ok}
 use Rattle.std.proofs.lemmas.Bool.{lt-ltb, ltb-true, ltb-false, le-ltb, and_parts, and_from, cond-true, cond-false}
@@ -12,14 +12,14 @@ use Rattle.pua_tree.specs.Spelling.{spelling, unspelled, name_of, fields, is_fie
 use Rattle.pua_tree.specs.Steps.{◌>>=◌}
 use Rattle.pua_tree.specs.Tree.{Node, Tree, WellFormed}
 use Rattle.pua_tree.specs.Listing.{Entry, Line, plain_kind, line_of_fields, line_of, last_number, is_earlier_dir, only_if, number_in, parent_in, target_in, node_of, is_taken, entry_of, entries_of, tree_of, after_header, listing_of_lines, listing}
-use Rattle.pua_tree.specs.Grammar.{kind_word, target_field, entry_text, target_stands, entry_fits, entries_fit, IsListing, ListingsAreRead}
+use Rattle.pua_tree.specs.Grammar.{kind_word, target_field, entry_text, target_stands, entry_fits, entries_fit, ListingsAreRead, ListingsListTrees, SpellingsAreRead}
 use Rattle.pua_tree.specs.declared.node.Kind.{Kind}
 use Rattle.pua_tree.specs.declared.node.Kind.TheVariants.{Dir, File, Prog, Link}
 use Rattle.pua_tree.specs.declared.fault.ListingFault.{ListingFault}
 use Rattle.pua_tree.specs.declared.fault.ListingFault.TheVariants.{BadHeader, BadLine, BadNumber, BadParent, BadName, BadTarget, Taken, TooMany}
-use Rattle.pua_tree.proofs.Entries.{Fits, fits_parts, fits_from, Rising, entries_rise, entries_push}
+use Rattle.pua_tree.proofs.Entries.{Fits, fits_parts, fits_from, entries_rise, entries_push}
 use Rattle.pua_tree.proofs.ListingIsTree.{well_formed, parent_below}
-use Rattle.pua_tree.proofs.Spellings.{is_byte, is_visible, same_Some, None≢Some, guarded, unspelled-spelling, spelling-unspelled, bytes_unspelled, name_is_bytes, name_of-spelling, same_Ok, name_read, decimal_within, number_read, fields_cons, fields_one, fields_joined, is_field-decimal, is_field-spelling, Err≢Ok, passed, tested}
+use Rattle.pua_tree.proofs.Spellings.{is_byte, is_visible, same_Some, None≢Some, guarded, unspelled-spelling, spelling-unspelled, bytes_unspelled, name_is_bytes, name_of-spelling, same_Ok, name_read, decimal_within, number_read, fields_cons, fields_one, fields_joined, is_field-decimal, is_field-spelling, Err≢Ok, passed}
 
 module _ {A B E : Type 0} where
   -- what a step was given, where all went well
@@ -65,6 +65,7 @@ plain_kind_read word kind e = dir (same_bytes word (codes "dir")) (same_bytes wo
   where
     is : (k : Kind) → word ≡ kind_word k → ((last : List ℕ) → last_text k last ≡ []) → Some k ≡ Some kind → (word ≡ kind_word kind) × ((last : List ℕ) → last_text kind last ≡ [])
     is k w l q = subst (λ x. (word ≡ kind_word x) × ((last : List ℕ) → last_text x last ≡ [])) (same_Some k kind q) (w, l)
+
     dir : (a b c : Bool) → same_bytes word (codes "dir") ≡ a → same_bytes word (codes "file") ≡ b → same_bytes word (codes "prog") ≡ c → cond a (Some Dir) (cond b (Some File) (cond c (Some Prog) None)) ≡ Some kind → (word ≡ kind_word kind) × ((last : List ℕ) → last_text kind last ≡ [])
     dir true b c p q r e = is Dir (same_word word _ p) (λ last. refl) e
     dir false true c p q r e = is File (same_word word _ q) (λ last. refl) e
@@ -104,7 +105,7 @@ node_read n l Link made e =
     let read = step_read (ok_or (target_in l) (BadTarget n)) (λ target. Ok (record { kind = Link; target = Some target })) made e in
     let target = only_if_read is_target (unspelled l.last) read.0 (ok_or_read (target_in l) (BadTarget n) read.0 read.1) in
     subst (λ m. (m.kind ≡ Link) × IsTrue (target_stands m.kind m.target) × (32 ∷ l.last ≡ target_field m.target)) (same_Ok _ made read.2)
-        (refl, and_from _ _ target.1 (bytes_unspelled l.last read.0 target.0), ap (λ s. 32 ∷ s) (spelling-unspelled l.last read.0 target.0))
+    (refl, and_from _ _ target.1 (bytes_unspelled l.last read.0 target.0), ap (λ s. 32 ∷ s) (spelling-unspelled l.last read.0 target.0))
 
 failed : {A E : Type 0} (t : Bool) (f : E) (r : Result A E) (x : A) → cond t (Err f) r ≡ Ok x → t ≡ false
 failed true f r x e = absurd (Err≢Ok f x e)
@@ -127,11 +128,12 @@ parts_read earlier n text l number parent name made e place line_is number_is pa
     let rest = passed (is_taken earlier parent name) (Taken n) _ e whole in
     let small = ltb-false 4097 n (failed (ltb 4097 n) (TooMany n) _ e rest) in
     let same : entry ≡ e = same_Ok entry e (passed (ltb 4097 n) (TooMany n) _ e rest) in
-    subst (λ x. (text ≡ entry_text x) × Fits earlier x) same
-        (line_read text l line_is
-            ∙ (λ i. b.0 i ++ 32 ∷ (kind_word (sym g.0 i) ++ 32 ∷ (d.0 i ++ 32 ∷ (f.0 i ++ g.2 i))))
-            ∙ sym (regrouped (decimal number) (kind_word made.kind) (decimal parent) (spelling name) (target_field made.target)),
-         record { above = ltb-true _ _ a.1; small = b.2; in_dir = c.1; named = f.1; free = free; room = omega (arith, place, small); target = g.1 })
+    subst (λ x. (text ≡ entry_text x) × Fits earlier x) same (
+      line_read text l line_is
+          ∙ (λ i. b.0 i ++ 32 ∷ (kind_word (sym g.0 i) ++ 32 ∷ (d.0 i ++ 32 ∷ (f.0 i ++ g.2 i))))
+          ∙ sym (regrouped (decimal number) (kind_word made.kind) (decimal parent) (spelling name) (target_field made.target)),
+      record { above = ltb-true _ _ a.1; small = b.2; in_dir = c.1; named = f.1; free = free; room = omega (arith, place, small); target = g.1 },
+    )
 
 -- what a line says is spelled by that line alone, and fits the earlier lines
 pub entry_read : (earlier : List Entry) (n : ℕ) (text : List ℕ) (e : Entry) → n ≡ length earlier + 3 → entry_of earlier n text ≡ Ok e → (text ≡ entry_text e) × Fits earlier e
@@ -204,8 +206,8 @@ node_written n l Prog (Some t) e h = absurd (true≢false (sym h))
 node_written n l Link (Some t) e h =
     let parts = target_parts t h in
     step_from (ok_or (target_in l) (BadTarget n)) (λ target. Ok (record { kind = Link; target = Some target })) t (record { kind = Link; target = Some t })
-        (ap (λ o. ok_or (only_if is_target o) (BadTarget n)) (ap unspelled e ∙ unspelled-spelling t parts.2) ∙ ap (λ o. ok_or o (BadTarget n)) (cond-true (is_target t) (Some t) None parts.1))
-        refl
+    (ap (λ o. ok_or (only_if is_target o) (BadTarget n)) (ap unspelled e ∙ unspelled-spelling t parts.2) ∙ ap (λ o. ok_or o (BadTarget n)) (cond-true (is_target t) (Some t) None parts.1))
+    refl
 
 name_some : (n : List ℕ) → IsTrue (is_name n) → 0 < length n
 name_some [] h = absurd (true≢false (sym h))
@@ -220,14 +222,14 @@ entry_written earlier n e place h f =
     let number_field : IsTrue (is_field (decimal e.number)) = is_field-decimal e.number (omega (arith, f.small)) in
     let parent_field : IsTrue (is_field (decimal e.parent)) = is_field-decimal e.parent (omega (arith, f.small, below)) in
     let line_is : line_of (entry_text e) ≡ Some l =
-        ap line_of (regrouped (decimal e.number) (kind_word e.made.kind) (decimal e.parent) (spelling e.name) (target_field e.made.target))
-        ∙ line_written (decimal e.number) (decimal e.parent) (spelling e.name) e.made.kind e.made.target number_field parent_field name_field f.target in
+    ap line_of (regrouped (decimal e.number) (kind_word e.made.kind) (decimal e.parent) (spelling e.name) (target_field e.made.target))
+    ∙ line_written (decimal e.number) (decimal e.parent) (spelling e.name) e.made.kind e.made.target number_field parent_field name_field f.target in
     let number_is : number_in earlier l ≡ Some e.number =
-        ap (only_if (λ m. ltb (last_number earlier) m)) (decimal_within 1 999999 e.number (omega (arith, f.above)) f.small (omega (arith, f.small)))
-        ∙ cond-true (ltb (last_number earlier) e.number) (Some e.number) None (lt-ltb (last_number earlier) e.number f.above) in
+    ap (only_if (λ m. ltb (last_number earlier) m)) (decimal_within 1 999999 e.number (omega (arith, f.above)) f.small (omega (arith, f.small)))
+    ∙ cond-true (ltb (last_number earlier) e.number) (Some e.number) None (lt-ltb (last_number earlier) e.number f.above) in
     let parent_is : parent_in earlier l ≡ Some e.parent =
-        ap (only_if (is_earlier_dir earlier)) (decimal_within 0 999999 e.parent (omega arith) (omega (arith, f.small, below)) (omega (arith, f.small, below)))
-        ∙ cond-true (is_earlier_dir earlier e.parent) (Some e.parent) None f.in_dir in
+    ap (only_if (is_earlier_dir earlier)) (decimal_within 0 999999 e.parent (omega arith) (omega (arith, f.small, below)) (omega (arith, f.small, below)))
+    ∙ cond-true (is_earlier_dir earlier e.parent) (Some e.parent) None f.in_dir in
     step_from (ok_or (line_of (entry_text e)) (BadLine n)) _ l e (ap (λ o. ok_or o (BadLine n)) line_is)
     (step_from (ok_or (number_in earlier l) (BadNumber n)) _ e.number e (ap (λ o. ok_or o (BadNumber n)) number_is)
     (step_from (ok_or (parent_in earlier l) (BadParent n)) _ e.parent e (ap (λ o. ok_or o (BadParent n)) parent_is)
@@ -235,6 +237,13 @@ entry_written earlier n e place h f =
     (step_from (node_of n l e.made.kind) _ e.made e (node_written n l e.made.kind e.made.target refl f.target)
     (cond-false (is_taken earlier e.parent e.name) (Err (Taken n)) (cond (ltb 4097 n) (Err (TooMany n)) (Ok e)) f.free
     ∙ cond-false (ltb 4097 n) (Err (TooMany n)) (Ok e) (le-ltb 4097 n (omega (arith, place, f.room))))))))
+
+-- the first line alone decides how the lines from it on are read
+pub entries_more : (earlier : List Entry) (n : ℕ) (text : List ℕ) (texts : List (List ℕ)) (e : Entry) → entry_of earlier n text ≡ Ok e → entries_of earlier n (text ∷ texts) ≡ entries_of (earlier ++ e ∷ []) (suc n) texts
+entries_more earlier n text texts e h = ap (λ r. r >>= λ e. entries_of (earlier ++ e ∷ []) (suc n) texts) h
+
+pub entries_stop : (earlier : List Entry) (n : ℕ) (text : List ℕ) (texts : List (List ℕ)) (fault : ListingFault) → entry_of earlier n text ≡ Err fault → entries_of earlier n (text ∷ texts) ≡ Err fault
+entries_stop earlier n text texts fault h = ap (λ r. r >>= λ e. entries_of (earlier ++ e ∷ []) (suc n) texts) h
 
 -- further lines say entries that fit, each spelled by its line
 pub entries_read : (earlier : List Entry) (n : ℕ) (texts : List (List ℕ)) (es : List Entry) → n ≡ length earlier + 3 → entries_of earlier n texts ≡ Ok es
@@ -251,7 +260,7 @@ entries_written earlier n [] place h k = ap Ok (sym (append-nil earlier))
 entries_written earlier n (e ∷ more) place h k =
     let parts = and_parts (entry_fits earlier e) (entries_fit (earlier ++ e ∷ []) more) k in
     step_from (entry_of earlier n (entry_text e)) (λ e. entries_of (earlier ++ e ∷ []) (suc n) (map entry_text more)) e (earlier ++ e ∷ more) (entry_written earlier n e place h (fits_parts earlier e parts.0))
-        (entries_written (earlier ++ e ∷ []) (suc n) more (omega (arith, place, length-append earlier (e ∷ []))) (entries_push [] earlier e h parts.0) parts.1 ∙ ap Ok (append_assoc earlier (e ∷ []) more))
+    (entries_written (earlier ++ e ∷ []) (suc n) more (omega (arith, place, length-append earlier (e ∷ []))) (entries_push [] earlier e h parts.0) parts.1 ∙ ap Ok (append_assoc earlier (e ∷ []) more))
 
 held : {A E : Type 0} (t : Bool) (f : E) (r : Result A E) (x : A) → cond t r (Err f) ≡ Ok x → IsTrue t × (r ≡ Ok x)
 held true f r x e = (refl, e)
@@ -272,7 +281,14 @@ lines_written : (es : List Entry) → IsTrue (entries_fit [] es) → listing_of_
 lines_written es h = step_from (entries_of [] 3 (map entry_text es)) (λ es. Ok (tree_of es)) es (tree_of es) (entries_written [] 3 es refl refl h) refl
 
 pub listings_are_read : ListingsAreRead
-listings_are_read bytes small t = (λ h. lines_read (lines bytes) t h, λ l. ap listing_of_lines l.2 ∙ lines_written l.0 l.1 ∙ ap Ok (sym l.3))
+listings_are_read bytes t = (λ h. lines_read (lines bytes) t h, λ l. ap listing_of_lines l.2 ∙ lines_written l.0 l.1 ∙ ap Ok (sym l.3))
 
-pub listed_tree_is_well_formed : (bytes : List ℕ) (t : Tree) → listing bytes ≡ Ok t → WellFormed t
-listed_tree_is_well_formed bytes t h = let l = lines_read (lines bytes) t h in subst WellFormed (sym l.3) (well_formed l.0 l.1)
+pub listings_list_trees : ListingsListTrees
+listings_list_trees bytes t l = subst WellFormed (sym l.3) (well_formed l.0 l.1)
+
+-- what was read is a tree
+pub listed_tree : (bytes : List ℕ) (t : Tree) → listing bytes ≡ Ok t → WellFormed t
+listed_tree bytes t h = listings_list_trees bytes t ((listings_are_read bytes t).0 h)
+
+pub spellings_are_read : SpellingsAreRead
+spellings_are_read text bytes = (λ h. (bytes_unspelled text bytes h, spelling-unspelled text bytes h), λ s. ap unspelled s.1 ∙ unspelled-spelling bytes s.0)

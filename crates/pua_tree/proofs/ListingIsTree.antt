@@ -25,7 +25,7 @@ each P pre [] a k h = refl
 each P pre (e ∷ post) a k h =
     let parts = and_parts (entry_fits pre e) (entries_fit (pre ++ e ∷ []) post) h in
     and_from (P e) _ (k pre e post refl a (fits_parts pre e parts.0))
-        (each P (pre ++ e ∷ []) post (entries_push [] pre e a parts.0) (λ front f back q b fit. k front f back (q ∙ append_assoc pre (e ∷ []) post) b fit) parts.1)
+    (each P (pre ++ e ∷ []) post (entries_push [] pre e a parts.0) (λ front f back q b fit. k front f back (q ∙ append_assoc pre (e ∷ []) post) b fit) parts.1)
 
 -- what holds of no entries and is kept by a further one
 from_front : (Q : List Entry → Type 0) → ((pre : List Entry) (e : Entry) → Fits pre e → Q pre → Q (pre ++ e ∷ [])) → (pre post : List Entry) → Q pre → IsTrue (entries_fit pre post) → Q (pre ++ post)
@@ -66,8 +66,8 @@ sum_put f k v (e ∷ es) h =
 rows_counted : (n : ℕ) (es : List Entry) → IsTrue (entries_fit [] es) → count_by (λ row. eqb row.1 n) (rows_of_entries es) ≡ count_by (λ e. eqb e.number n) es
 rows_counted n es h = from_front (λ fs. count_by (λ row. eqb row.1 n) (rows_of_entries fs) ≡ count_by (λ e. eqb e.number n) fs)
     (λ pre e fit q. ap (count_by (λ row. eqb row.1 n)) (rows_push pre e fit.free)
-        ∙ sum_put (λ row. cond (eqb row.1 n) 1 0) (e.parent, e.name) e.number (rows_of_entries pre) (none _ (taken_is_found pre e.parent e.name ∙ fit.free))
-        ∙ omega (arith, q, sum_by_push (λ f. cond (eqb f.number n) 1 0) pre e))
+    ∙ sum_put (λ row. cond (eqb row.1 n) 1 0) (e.parent, e.name) e.number (rows_of_entries pre) (none _ (taken_is_found pre e.parent e.name ∙ fit.free))
+    ∙ omega (arith, q, sum_by_push (λ f. cond (eqb f.number n) 1 0) pre e))
     [] es refl h
 
 count_none : (low n : ℕ) (es : List Entry) → Rising low es → n ≤ low → count_by (λ e. eqb e.number n) es ≡ 0
@@ -126,12 +126,12 @@ row_rises t row = row_fits t row && ltb row.0.0 row.1
 pub rows_rise : (es : List Entry) → IsTrue (entries_fit [] es) → IsTrue (list_all (row_rises (tree_of es)) (rows_of_entries es))
 rows_rise es h = all_rows (row_rises (tree_of es)) es (each (λ e. row_rises (tree_of es) (entry_row e)) [] es refl
     (λ front e back q a f.
-        let in_dir : IsTrue (is_dir (tree_of es) e.parent) = earlier_dir_is_found es e.parent 0 (entries_rise [] es h) ∙ subst (λ l. IsTrue (is_earlier_dir l e.parent)) q (earlier_stays e.parent front (e ∷ back) f.in_dir) in
-        let lives : IsTrue (is_living (tree_of es) e.number) = living e.number es (subst (λ l. IsTrue (list_any (λ x. eqb x.number e.number) l)) q (own_number front e back)) in
-        let below : e.parent < e.number = parent_below front e (entries_rise [] front a) f in
-        and_from (row_fits (tree_of es) (entry_row e)) _
-            (and_from (is_dir (tree_of es) e.parent) _ in_dir (and_from (is_name e.name) _ f.named (and_from (is_living (tree_of es) e.number) _ lives (not_from_false _ (ne_eqb e.number 0 (λ z. omega (arith, z, below)))))))
-            (lt-ltb e.parent e.number below))
+    let in_dir : IsTrue (is_dir (tree_of es) e.parent) = earlier_dir_is_found es e.parent 0 (entries_rise [] es h) ∙ subst (λ l. IsTrue (is_earlier_dir l e.parent)) q (earlier_stays e.parent front (e ∷ back) f.in_dir) in
+    let lives : IsTrue (is_living (tree_of es) e.number) = living e.number es (subst (λ l. IsTrue (list_any (λ x. eqb x.number e.number) l)) q (own_number front e back)) in
+    let below : e.parent < e.number = parent_below front e (entries_rise [] front a) f in
+    and_from (row_fits (tree_of es) (entry_row e)) _
+    (and_from (is_dir (tree_of es) e.parent) _ in_dir (and_from (is_name e.name) _ f.named (and_from (is_living (tree_of es) e.number) _ lives (not_from_false _ (ne_eqb e.number 0 (λ z. omega (arith, z, below)))))))
+    (lt-ltb e.parent e.number below))
     h)
 
 less_counts : (n a d : ℕ) → a ≤ d → cond (leb n a) 1 0 ≤ cond (leb n d) 1 0
@@ -152,8 +152,14 @@ count_less a d (n ∷ ns) h s = go (eqb n.0 d) refl (sym (is_some_cond (eq_by_cm
     go : (b : Bool) → eqb n.0 d ≡ b → IsTrue (eq_by_cmp nat_cmp d n.0 || is_some (find nat_cmp d ns)) → (IsTrue (is_some (find nat_cmp d ns)) → count_by (λ n. leb n.0 a) ns < count_by (λ n. leb n.0 d) ns) → count_by (λ n. leb n.0 a) (n ∷ ns) < count_by (λ n. leb n.0 d) (n ∷ ns)
     go true q _ more =
         let same : n.0 ≡ d = eqb-true n.0 d q in
-        omega (arith, count_le a d ns (omega arith), sum_by-cons (λ m. cond (leb m.0 a) 1 0) n ns, sum_by-cons (λ m. cond (leb m.0 d) 1 0) n ns,
-            ap (λ b. cond {A = ℕ} b 1 0) (lt-leb n.0 a (omega (arith, same, h))), ap (λ b. cond {A = ℕ} b 1 0) (le-leb n.0 d (omega (arith, same))))
+        omega (
+          arith,
+          count_le a d ns (omega arith),
+          sum_by-cons (λ m. cond (leb m.0 a) 1 0) n ns,
+          sum_by-cons (λ m. cond (leb m.0 d) 1 0) n ns,
+          ap (λ b. cond {A = ℕ} b 1 0) (lt-leb n.0 a (omega (arith, same, h))),
+          ap (λ b. cond {A = ℕ} b 1 0) (le-leb n.0 d (omega (arith, same))),
+        )
     go false q p more = omega (arith, more (subst (λ b. IsTrue (b || is_some (find nat_cmp d ns))) (nat_tie d n.0 ∙ q) p), less_counts n.0 a d (omega arith), sum_by-cons (λ m. cond (leb m.0 a) 1 0) n ns, sum_by-cons (λ m. cond (leb m.0 d) 1 0) n ns)
 
 found : {X : Type 0} (P test : X → Bool) (xs : List X) (r : X) → IsTrue (list_all P xs) → find_first test xs ≡ Some r → IsTrue (P r) × IsTrue (test r)
@@ -180,7 +186,7 @@ module _ (t : Tree) (rows : IsTrue (list_all (row_rises t) t.rows)) (root : (d :
       let rises = and_parts (row_fits t r) (ltb r.0.0 r.1) parts.0 in
       let lives : IsTrue (is_living t r.1) = (and_parts _ (not (eqb r.1 0)) (and_parts (is_name r.0.1) _ (and_parts (is_dir t r.0.0) _ rises.0).1).1).0 in
       subst (λ (o : Option (Spot × ℕ)). IsTrue (list_any (λ x. eqb x 0) (climb_within n t (unwrap_or (option_map (λ s. s.0) (option_map (λ row. row.0) o)) 0)))) (sym q)
-          (more r.0.0 (omega (arith, h, count_less r.0.0 (suc d) t.nodes (omega (arith, ltb-true _ _ rises.1, is)) (subst (λ x. IsTrue (is_living t x)) is lives))))
+      (more r.0.0 (omega (arith, h, count_less r.0.0 (suc d) t.nodes (omega (arith, ltb-true _ _ rises.1, is)) (subst (λ x. IsTrue (is_living t x)) is lives))))
 
   climbs : (fuel d : ℕ) → count_by (λ n. leb n.0 d) t.nodes ≤ fuel → IsTrue (list_any (λ x. eqb x 0) (climb_within fuel t d))
   climbs zero d h = absurd (omega (arith, root d, h))
@@ -221,17 +227,17 @@ well_formed es h =
     let rising : Rising 0 es = entries_rise [] es h in
     let rows : IsTrue (list_all (row_rises t) t.rows) = rows_rise es h in
     let root : (d : ℕ) → 1 ≤ count_by (λ n. leb n.0 d) t.nodes =
-        λ d. omega (arith, sum_by-cons (λ n. cond (leb n.0 d) 1 0) (0, root_node) (map node_row es), ap (λ b. cond {A = ℕ} b 1 0) (le-leb 0 d (omega arith))) in
+    λ d. omega (arith, sum_by-cons (λ n. cond (leb n.0 d) 1 0) (0, root_node) (map node_row es), ap (λ b. cond {A = ℕ} b 1 0) (le-leb 0 d (omega arith))) in
     let up_from : (d : ℕ) → IsTrue (list_any (λ x. eqb x 0) (climb t d)) = λ d. climbs t rows root (length t.nodes) d (count_by-le-length (λ n. leb n.0 d) t.nodes) in
     let last : IsTrue (list_all (λ e. ltb e.number t.next) es) = numbers_below 0 t.next es rising (omega arith) in
     let root_fits : IsTrue (node_fits t (0, root_node)) = and_from (ltb 0 t.next) _ (lt-ltb 0 t.next (omega arith)) (eq-eqb (rows_of t 0) 0 (rows_counted 0 es h ∙ count_none 0 0 es rising (omega arith))) in
     let fits : IsTrue (list_all (λ e. node_fits t (node_row e)) es) = each (λ e. node_fits t (node_row e)) [] es refl
-        (λ front e back q a f.
-            let own : IsTrue (list_any (λ x. eqb x.number e.number) es) = subst (λ l. IsTrue (list_any (λ x. eqb x.number e.number) l)) q (own_number front e back) in
-            and_from (ltb e.number t.next) _ (all_middle (λ e. ltb e.number t.next) front e back (subst (λ l. IsTrue (list_all (λ e. ltb e.number t.next) l)) (sym q) last))
-                (and_from (target_fits e.made.kind e.made.target) _ (target_kept e.made.kind e.made.target f.target)
-                    (kind_kept t e.number e.made.kind (omega (arith, f.above)) (rows_counted e.number es h ∙ count_one 0 e.number es rising own) (up_from e.number))))
-        h in
+    (λ front e back q a f.
+    let own : IsTrue (list_any (λ x. eqb x.number e.number) es) = subst (λ l. IsTrue (list_any (λ x. eqb x.number e.number) l)) q (own_number front e back) in
+    and_from (ltb e.number t.next) _ (all_middle (λ e. ltb e.number t.next) front e back (subst (λ l. IsTrue (list_all (λ e. ltb e.number t.next) l)) (sym q) last))
+    (and_from (target_fits e.made.kind e.made.target) _ (target_kept e.made.kind e.made.target f.target)
+    (kind_kept t e.number e.made.kind (omega (arith, f.above)) (rows_counted e.number es h ∙ count_one 0 e.number es rising own) (up_from e.number))))
+    h in
     record {
       rows_in_order = true_from_T _ (rows_in_order es);
       nodes_in_order = nodes_in_order es rising;

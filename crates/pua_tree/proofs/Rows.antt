@@ -1,183 +1,116 @@
--- Lists of entries in the order of their keys: what is found in them, and how many entries have a value of some kind.
-use Rattle.std.proofs.Common.{◌≡◌, ◌≢◌, ◌⊎◌, ℕ, ◌+◌, ◌≤◌, Bool, true, false, not, ◌&&◌, cond, T, List, [], ◌∷◌, Option, Some, None, option_map, count_by, find as find_where, refl, sym, ap, subst, ◌∙◌, arith, inl, inr}
+-- What rows in order say of a directory and of a node.
+use Rattle.std.proofs.Common.{◌≡◌, ◌<◌, ◌≤◌, ℕ, zero, suc, List, [], ◌∷◌, ◌++◌, length, get_or, map, Option, Some, None, Result, Ok, Err, Bool, true, false, not, cond, ◌&&◌, ◌||◌, ◌==◌, ◌≢◌, T, IsTrue, unwrap_or, option_map, find, refl, sym, ap, ◌∙◌, inl, inr, arith, is_ok, reverse, Bor}
 use Rattle.std.specs.List.{list_all, list_any}
+use Rattle.std.specs.List.Sorted.{IsNonDecreasingBy, IsBinarySearchResult, IsSearchInRange}
 use Rattle.std.specs.declared.cmp.Ordering.{Ordering}
 use Rattle.std.specs.declared.cmp.Ordering.TheVariants.{Less, Equal, Greater}
-use Rattle.std.specs.Ordering.{is_eq, is_lt}
-use Rattle.std.specs.Cmp.{IsTotalOrder, tied_itself, Equal-is}
-use Rattle.std.specs.FinMap.{find, put, is_sorted}
-use Rattle.std.specs.FinMap.Entries.{by_order, where_key, below_all, find-put, find-where_key}
-use Rattle.std.proofs.lemmas.Bool.{and_parts, and_from, or_parts, false≢true}
-use Rattle.std.proofs.lemmas.List.Recursion.{is_sum_by}
+use Rattle.std.specs.Ordering.{nat_cmp, ordering_index, ordering_then}
+use Rattle.std.specs.FinMap.{is_sorted, nat_cmp-IsAntisymmetric}
+use Rattle.std.proofs.lemmas.Bool.{cases_lt}
+use Rattle.std.proofs.lemmas.List.{map-append, reverse-append}
+use Rattle.std.specs.BTreeSet.{insert_key}
+use Rattle.std.specs.Ordering.{match_ordering}
+use Rattle.std.specs.FinMap.Entries.{by_order}
+use Rattle.std.proofs.lemmas.Bool.Decides.{nat_tests}
+use Rattle.pua_tree.specs.Tree as tree
+use Rattle.pua_tree.specs.Tree.{Spot, Tree, with_name, distinct_names, spot_cmp, name_cmp, above, is_dir, is_living, row_fits}
+use Rattle.pua_tree.specs.Names.{is_name}
+use Rattle.pua_tree.specs.ListTree.{row_entry, held_tree}
+use Rattle.pua_tree.specs.declared.list.Row.{Row}
+use Rattle.pua_tree.specs.declared.list.Node.{Node}
+use Rattle.pua_tree.proofs.Content.{spots_total}
+use Rattle.pua_tree.proofs.Places.{passed, left, right, rises}
 
--- 1 for a value that passes
-abbrev pub one : {X : Type 0} → (X → Bool) → X → ℕ
-one p v = cond (p v) 1 0
+dirs_rise : (a b : Spot) → spot_cmp a b ≡ Less → a.0 ≤ b.0
+dirs_rise a b e =
+    elim (cases_lt b.0 a.0) [
+      | inl less ↦ let more : nat_cmp a.0 b.0 ≡ Greater = grind (arith, nat_tests) in
+          let other : spot_cmp a b ≡ Greater = ap (λ o. ordering_then o (name_cmp a.1 b.1)) more in cc
+      | inr le ↦ le
+    ]
 
-abbrev pub one_at : {X : Type 0} → (X → Bool) → Option X → ℕ
-one_at p None = 0
-one_at p (Some v) = one p v
+index_rises : (a b d : ℕ) → a ≤ b → ordering_index (nat_cmp a d) ≤ ordering_index (nat_cmp b d)
+index_rises a b d le = grind (arith, nat_tests)
 
--- how many entries have a value that passes
-abbrev pub tally : {K X : Type 0} → (X → Bool) → List (K × X) → ℕ
-tally p [] = 0
-tally p (e ∷ es) = one p e.1 + tally p es
+dirs_searchable : (rows : List Row) (d : ℕ) → IsTrue (is_sorted spot_cmp (map row_entry rows)) → IsNonDecreasingBy (λ row. ordering_index (nat_cmp row.dir d)) rows
+dirs_searchable rows d h i j row le lt =
+    elim (cases_lt i j) [
+      | inl less ↦ index_rises _ _ d (dirs_rise (row_entry (get_or rows i row)).0 (row_entry (get_or rows j row)).0 (rises spots_total row_entry rows i j row (passed _ h) less lt))
+      | inr more ↦ let same : j ≡ i = omega arith in rw same (omega arith)
+    ]
 
-pub tally_counts : {K X : Type 0} (p : X → Bool) (es : List (K × X)) → tally p es ≡ count_by (λ e. p e.1) es
-tally_counts p es = is_sum_by (tally p) (λ e. one p e.1) refl (λ _ _. refl) es
+differs : (a b : ℕ) → a ≢ b → (a == b) ≡ false
+differs a b ne = grind (arith, nat_tests)
 
-pub is_Some : {X : Type 0} (x y : X) → Some x ≡ Some y → x ≡ y
-is_Some x y e = cc
+any_at : (rows : List Row) (d i : ℕ) (row : Row) → i < length rows → nat_cmp (get_or rows i row).dir d ≡ Equal → list_any (λ r. r.0.0 == d) (map row_entry rows) ≡ true
+any_at [] d i row lt e = absurd (omega arith)
+any_at (x ∷ xs) d zero row lt e =
+    let same : x.dir ≡ d = nat_cmp-IsAntisymmetric _ _ e in
+    let here : (x.dir == d) ≡ true = grind (arith, nat_tests) in
+    rw here refl
+any_at (x ∷ xs) d (suc i) row lt e = rw (any_at xs d i row (omega arith) e) (elim (x.dir == d) as (λ b. (b || true) ≡ true) [ true ↦ refl | false ↦ refl ])
 
-pub not_None : {X : Type 0} (x : X) → Some x ≢ None
-not_None x e = cc
+none_at : (rows : List Row) (d : ℕ) → ((i : ℕ) (row : Row) → i < length rows → (get_or rows i row).dir ≢ d) → list_any (λ r. r.0.0 == d) (map row_entry rows) ≡ false
+none_at [] d h = refl
+none_at (x ∷ xs) d h =
+    let here : (x.dir == d) ≡ false = differs x.dir d (h 0 x (omega arith)) in
+    rw here (none_at xs d (λ i row lt. h (suc i) row (omega arith)))
 
-module _ {K : Type 0} (R : K → K → Ordering) (o : IsTotalOrder R) (exact : (x y : K) → R x y ≡ Equal → x ≡ y) where
-  -- two keys are one or tie not
-  pub same_or_other : (q k : K) → ((q ≡ k) × (is_eq (R q k) ≡ true)) ⊎ ((q ≢ k) × (is_eq (R q k) ≡ false))
-  same_or_other q k =
-      elim (is_eq (R q k)) as (λ b. is_eq (R q k) ≡ b → ((q ≡ k) × (b ≡ true)) ⊎ ((q ≢ k) × (b ≡ false))) [
-        | true ↦ λ t. inl (exact q k ((Equal-is (R q k)).0 t), refl)
-        | false ↦ λ t. inr (λ s. false≢true (sym t ∙ ap (λ x. is_eq (R q x)) (sym s) ∙ (Equal-is (R q q)).1 (tied_itself o q)), refl)
-      ] refl
+-- a search by directory finds whether one of them is this
+pub any_row : (rows : List Row) (d : ℕ) (r : Result ℕ ℕ) → IsTrue (is_sorted spot_cmp (map row_entry rows)) → IsSearchInRange r (length rows) → IsBinarySearchResult (λ row. nat_cmp row.dir d) rows r
+    → is_ok r ≡ list_any (λ row. row.0.0 == d) (map row_entry rows)
+any_row [] d (Ok i) h bound p = absurd (omega (arith, bound))
+any_row (x ∷ xs) d (Ok i) h bound p = sym (any_at (x ∷ xs) d i x bound (p x))
+any_row rows d (Err i) h bound p =
+    let parts = p (dirs_searchable rows d h) in
+    sym (none_at rows d (λ k row lt e. elim (cases_lt k i) [
+      | inl less ↦ let other : nat_cmp (get_or rows k row).dir d ≡ Less = parts.0 k row (omega arith) less in grind (arith, nat_tests)
+      | inr more ↦ let other : nat_cmp (get_or rows k row).dir d ≡ Greater = parts.1 k row more lt in grind (arith, nat_tests)
+    ]))
 
-  pub ties : (k : K) → is_eq (R k k) ≡ true
-  ties k = (Equal-is (R k k)).1 (tied_itself o k)
+found_row : (rows : List Row) (x : ℕ) → option_map (λ spot. spot.0) (option_map (λ row. row.0) (find (λ row. row.1 == x) (map row_entry rows))) ≡ option_map (λ row. row.dir) (find (λ row. row.node == x) rows)
+found_row [] x = refl
+found_row (r ∷ rows) x = elim (r.node == x) as (λ b. option_map (λ spot. spot.0) (option_map (λ row. row.0) (cond b (Some (row_entry r)) (find (λ row. row.1 == x) (map row_entry rows)))) ≡ option_map (λ row. row.dir) (cond b (Some r) (find (λ row. row.node == x) rows))) [
+  | true ↦ refl
+  | false ↦ found_row rows x
+]
 
-  pub differ : (q k : K) → q ≢ k → is_eq (R q k) ≡ false
-  differ q k n = elim (same_or_other q k) [ inl s ↦ absurd (n s.0) | inr s ↦ s.1 ]
+fourth : (a b c d : Bool) → T (a && (b && (c && d))) → T d
+fourth a b c d h = right c d (right b (c && d) (right a (b && (c && d)) h))
 
-  module _ {X : Type 0} where
-    -- the entries but that of a key
-    abbrev pub without : K → List (K × X) → List (K × X)
-    without k es = where_key R (λ x. not (is_eq (R k x))) es
+denied : (b : Bool) → T (not b) → b ≡ false
+denied true h = absurd h
+denied false h = refl
 
-    pub absent : (q : K) (es : List (K × X)) → T (below_all R q es) → find R q es ≡ None
-    absent q [] h = refl
-    absent q (e ∷ es) h =
-        elim (R q e.0) as (λ r. T (is_lt r && below_all R q es) → cond (is_eq r) (Some e.1) (find R q es) ≡ None) [
-          | Less ↦ λ b. absent q es b
-          | Equal ↦ λ b. absurd b
-          | Greater ↦ λ b. absurd b
-        ] h
+root_missing : (t : Tree) (rows : List Row) → T (list_all (row_fits t) (map row_entry rows)) → find (λ row. row.node == 0) rows ≡ None
+root_missing t [] h = refl
+root_missing t (r ∷ rows) h =
+    let fits : T (row_fits t (row_entry r)) = left (row_fits t (row_entry r)) (list_all (row_fits t) (map row_entry rows)) h in
+    let here : (r.node == 0) ≡ false = denied _ (fourth (is_dir t r.dir) (is_name r.name) (is_living t r.node) _ fits) in
+    rw here (root_missing t rows (right (row_fits t (row_entry r)) (list_all (row_fits t) (map row_entry rows)) h))
 
-    below_less : (x y : K) (es : List (K × X)) → R x y ≡ Less → T (below_all R y es) → T (below_all R x es)
-    below_less x y [] p h = tt
-    below_less x y (e ∷ es) p h =
-        elim (R y e.0) as (λ r. R y e.0 ≡ r → T (is_lt r && below_all R y es) → T (below_all R x (e ∷ es))) [
-          | Less ↦ λ q b. subst (λ r. T (is_lt r && below_all R x es)) (sym (o.trans x y e.0 p q)) (below_less x y es p b)
-          | Equal ↦ λ q b. absurd b
-          | Greater ↦ λ q b. absurd b
-        ] refl h
+-- the directory above is that of the first row of the number
+pub above_row : (t : Tree) (rows : List Row) (d : ℕ) → t.rows ≡ map row_entry rows → IsTrue (list_all (row_fits t) t.rows) → unwrap_or (option_map (λ row. row.dir) (find (λ row. row.node == d) rows)) 0 ≡ above t d
+above_row t rows zero e h = ap (λ o. unwrap_or (option_map (λ row. row.dir) o) 0) (root_missing t rows (passed _ (rw e at h)))
+above_row t rows (suc d) e h = rw e (ap (λ o. unwrap_or o 0) (sym (found_row rows (suc d))))
 
-    pub sorted_head : (e : K × X) (es : List (K × X)) → T (is_sorted R (e ∷ es)) → T (below_all R e.0 es)
-    sorted_head e es h = elim (below_all R e.0 es) as (λ b. T (b && is_sorted R es) → T b) [ true ↦ λ _. tt | false ↦ λ b. b ] h
+with_name_is : (n : List ℕ) (ns : List (List ℕ)) → insert_key name_cmp ns n ≡ with_name n ns
+with_name_is n [] = refl
+with_name_is n (m ∷ ms) =
+    elim (name_cmp n m) as (λ o. match_ordering o (n ∷ m ∷ ms) (m ∷ ms) (m ∷ insert_key name_cmp ms n) ≡ by_order o (n ∷ m ∷ ms) (m ∷ ms) (m ∷ with_name n ms)) [
+      | Less ↦ refl
+      | Equal ↦ refl
+      | Greater ↦ ap (λ names. m ∷ names) (with_name_is n ms)
+    ]
 
-    pub sorted_tail : (e : K × X) (es : List (K × X)) → T (is_sorted R (e ∷ es)) → T (is_sorted R es)
-    sorted_tail e es h = elim (below_all R e.0 es) as (λ b. T (b && is_sorted R es) → T (is_sorted R es)) [ true ↦ λ b. b | false ↦ λ b. absurd b ] h
+-- the names of rows from the last one on, with the name of one row more
+pub one_name_more : (rows : List (Bor Row)) (row : Bor Row) (names more : List (List ℕ)) → names ≡ distinct_names (map (λ r. r.name) (reverse (map (λ r. r.now) rows))) → more ≡ insert_key name_cmp names row.now.name
+    → more ≡ distinct_names (map (λ r. r.name) (reverse (map (λ r. r.now) (rows ++ row ∷ []))))
+one_name_more rows row names more so_far new =
+    new ∙ with_name_is row.now.name names ∙ ap (with_name row.now.name) so_far
+    ∙ sym (ap (λ (rs : List Row). distinct_names (map (λ r. r.name) (reverse rs))) (map-append (λ r. r.now) rows (row ∷ [])) ∙ ap (λ (rs : List Row). distinct_names (map (λ r. r.name) rs)) (reverse-append (map (λ r. r.now) rows) (row.now ∷ [])))
 
-    pub put_here : (k : K) (v : X) (es : List (K × X)) → find R k (put R k v es) ≡ Some v
-    put_here k v es = find-put R o k k v es ∙ ap (λ b. cond b (Some v) (find R k es)) (ties k)
-
-    pub put_elsewhere : (q k : K) (v : X) (es : List (K × X)) → q ≢ k → find R q (put R k v es) ≡ find R q es
-    put_elsewhere q k v es n = find-put R o q k v es ∙ ap (λ b. cond b (Some v) (find R q es)) (differ q k n)
-
-    without_at : (q k : K) (es : List (K × X)) → find R q (without k es) ≡ cond (not (is_eq (R k q))) (find R q es) None
-    without_at q k es = find-where_key R (λ x. not (is_eq (R k x))) q (λ x t. ap (λ y. not (is_eq (R k y))) (sym (exact q x t))) es
-
-    pub without_here : (k : K) (es : List (K × X)) → find R k (without k es) ≡ None
-    without_here k es = without_at k k es ∙ ap (λ b. cond (not b) (find R k es) None) (ties k)
-
-    pub without_elsewhere : (q k : K) (es : List (K × X)) → q ≢ k → find R q (without k es) ≡ find R q es
-    without_elsewhere q k es n = without_at q k es ∙ ap (λ b. cond (not b) (find R q es) None) (differ k q (λ s. n (sym s)))
-
-    -- what is found past the first entry is not found at it
-    found_later : (k : K) (v : X) (e : K × X) (es : List (K × X)) → T (is_sorted R (e ∷ es)) → find R k es ≡ Some v → is_eq (R k e.0) ≡ false
-    found_later k v e es h f =
-        elim (same_or_other k e.0) [
-          | inl s ↦ absurd (not_None v (sym f ∙ ap (λ x. find R x es) s.0 ∙ absent e.0 es (sorted_head e es h)))
-          | inr s ↦ s.1
-        ]
-
-    -- a test of all entries is one of what is found
-    pub all_found : (q : (K × X) → Bool) (es : List (K × X)) → list_all q es ≡ true → (k : K) (v : X) → find R k es ≡ Some v → q (k, v) ≡ true
-    all_found q [] h k v f = absurd (not_None v (sym f))
-    all_found q (e ∷ es) h k v f =
-        let parts = and_parts (q e) (list_all q es) h in
-        elim (same_or_other k e.0) [
-          | inl s ↦ (let values : e.1 ≡ v = is_Some e.1 v (sym (ap (λ b. cond b (Some e.1) (find R k es)) s.1) ∙ f) in
-              (λ i. q (s.0 i, sym values i)) ∙ parts.0)
-          | inr s ↦ all_found q es parts.1 k v (sym (ap (λ b. cond b (Some e.1) (find R k es)) s.1) ∙ f)
-        ]
-
-    pub all_from_found : (q : (K × X) → Bool) (es : List (K × X)) → T (is_sorted R es) → ((k : K) (v : X) → find R k es ≡ Some v → q (k, v) ≡ true) → list_all q es ≡ true
-    all_from_found q [] h each = refl
-    all_from_found q (e ∷ es) h each =
-        and_from (q e) (list_all q es)
-        (each e.0 e.1 (ap (λ b. cond b (Some e.1) (find R e.0 es)) (ties e.0)))
-        (all_from_found q es (sorted_tail e es h) (λ k v f. each k v (ap (λ b. cond b (Some e.1) (find R k es)) (found_later k v e es h f) ∙ f)))
-
-    pub none_found : (q : (K × X) → Bool) (es : List (K × X)) → list_any q es ≡ false → (k : K) (v : X) → find R k es ≡ Some v → q (k, v) ≡ false
-    none_found q [] h k v f = absurd (not_None v (sym f))
-    none_found q (e ∷ es) h k v f =
-        let parts = or_parts (q e) (list_any q es) h in
-        elim (same_or_other k e.0) [
-          | inl s ↦ (let values : e.1 ≡ v = is_Some e.1 v (sym (ap (λ b. cond b (Some e.1) (find R k es)) s.1) ∙ f) in
-              (λ i. q (s.0 i, sym values i)) ∙ parts.0)
-          | inr s ↦ none_found q es parts.1 k v (sym (ap (λ b. cond b (Some e.1) (find R k es)) s.1) ∙ f)
-        ]
-
-    -- how a tally changes
-    pub tally-put : (p : X → Bool) (k : K) (v : X) (es : List (K × X)) → T (is_sorted R es) → tally p (put R k v es) + one_at p (find R k es) ≡ tally p es + one p v
-    tally-put p k v [] h = omega arith
-    tally-put p k v (e ∷ es) h =
-        let below = sorted_head e es h in
-        let rest = tally-put p k v es (sorted_tail e es h) in
-        elim (R k e.0) as (λ r. R k e.0 ≡ r → tally p (by_order r ((k, v) ∷ e ∷ es) ((e.0, v) ∷ es) (e ∷ put R k v es)) + one_at p (cond (is_eq r) (Some e.1) (find R k es)) ≡ (one p e.1 + tally p es) + one p v) [
-          | Less ↦ λ r. let none : one_at p (find R k es) ≡ 0 = ap (one_at p) (absent k es (below_less k e.0 es r below)) in omega arith
-          | Equal ↦ λ r. omega arith
-          | Greater ↦ λ r. omega arith
-        ] refl
-
-    pub tally-without : (p : X → Bool) (k : K) (es : List (K × X)) → T (is_sorted R es) → tally p (without k es) + one_at p (find R k es) ≡ tally p es
-    tally-without p k [] h = refl
-    tally-without p k (e ∷ es) h =
-        let rest = tally-without p k es (sorted_tail e es h) in
-        elim (same_or_other k e.0) [
-          | inl s ↦ (let none : one_at p (find R k es) ≡ 0 = ap (λ x. one_at p (find R x es)) s.0 ∙ ap (one_at p) (absent e.0 es (sorted_head e es h)) in
-              subst (λ b. tally p (cond (not b) (e ∷ without k es) (without k es)) + one_at p (cond b (Some e.1) (find R k es)) ≡ one p e.1 + tally p es) (sym s.1) (omega arith))
-          | inr s ↦ subst (λ b. tally p (cond (not b) (e ∷ without k es) (without k es)) + one_at p (cond b (Some e.1) (find R k es)) ≡ one p e.1 + tally p es) (sym s.1) (omega arith)
-        ]
-
-    pub tally_found : (p : X → Bool) (k : K) (v : X) (es : List (K × X)) → find R k es ≡ Some v → p v ≡ true → 1 ≤ tally p es
-    tally_found p k v [] f h = absurd (not_None v (sym f))
-    tally_found p k v (e ∷ es) f h =
-        elim (same_or_other k e.0) [
-          | inl s ↦ (let values : e.1 ≡ v = is_Some e.1 v (sym (ap (λ b. cond b (Some e.1) (find R k es)) s.1) ∙ f) in
-              let here : one p e.1 ≡ 1 = ap (one p) values ∙ ap (λ b. cond b 1 0) h in omega arith)
-          | inr s ↦ (let later = tally_found p k v es (sym (ap (λ b. cond b (Some e.1) (find R k es)) s.1) ∙ f) h in omega arith)
-        ]
-
-    pub found_from_tally : (p : X → Bool) (es : List (K × X)) → T (is_sorted R es) → 1 ≤ tally p es → (k : K) × (v : X) × (find R k es ≡ Some v) × (p v ≡ true)
-    found_from_tally p [] h l = absurd (omega arith)
-    found_from_tally p (e ∷ es) h l =
-        elim (p e.1) as (λ b. p e.1 ≡ b → 1 ≤ cond b 1 0 + tally p es → (k : K) × (v : X) × (find R k (e ∷ es) ≡ Some v) × (p v ≡ true)) [
-          | true ↦ λ t _. (e.0, e.1, ap (λ b. cond b (Some e.1) (find R e.0 es)) (ties e.0), t)
-          | false ↦ λ t more. (let f = found_from_tally p es (sorted_tail e es h) (omega arith) in
-              (f.0, f.1, ap (λ b. cond b (Some e.1) (find R f.0 es)) (found_later f.0 f.1 e es h f.2) ∙ f.2, f.3))
-        ] refl l
-
-    -- the one entry that passes is the first that does
-    pub only_key : (p : X → Bool) (k : K) (v : X) (es : List (K × X)) → tally p es ≡ 1 → find R k es ≡ Some v → p v ≡ true → option_map (λ e. e.0) (find_where (λ e. p e.1) es) ≡ Some k
-    only_key p k v [] l f h = absurd (not_None v (sym f))
-    only_key p k v (e ∷ es) l f h =
-        elim (same_or_other k e.0) [
-          | inl s ↦ (let values : e.1 ≡ v = is_Some e.1 v (sym (ap (λ b. cond b (Some e.1) (find R k es)) s.1) ∙ f) in
-              ap (λ b. option_map (λ d. d.0) (cond b (Some e) (find_where (λ d. p d.1) es))) (ap p values ∙ h) ∙ ap Some (sym s.0))
-          | inr s ↦ (let later = sym (ap (λ b. cond b (Some e.1) (find R k es)) s.1) ∙ f in
-              let some = tally_found p k v es later h in
-              elim (p e.1) as (λ b. cond b 1 0 + tally p es ≡ 1 → option_map (λ d. d.0) (cond b (Some e) (find_where (λ d. p d.1) es)) ≡ Some k) [
-                | true ↦ λ m. absurd (omega arith)
-                | false ↦ λ m. (let less : tally p es ≡ 1 = omega arith in only_key p k v es less later h)
-              ] l)
-        ]
+-- the names of rows by their entries
+pub entry_names : (rows : List Row) → map (λ entry. entry.0.1) (map row_entry rows) ≡ map (λ row. row.name) rows
+entry_names [] = refl
+entry_names (r ∷ rows) = ap (λ names. r.name ∷ names) (entry_names rows)

@@ -1,12 +1,12 @@
 -- Each byte string has one spelling, each number one decimal, and fields are what stands between spaces.
-use Rattle.std.proofs.Common.{◌≡◌, ℕ, zero, suc, ◌+◌, ◌-◌, ◌*◌, ◌/◌, ◌%◌, ◌^◌, ◌<◌, ◌≤◌, Bool, true, false, cond, not, ◌&&◌, ◌||◌, eqb, leb, ltb, List, [], ◌∷◌, ◌++◌, length, drop, get_or, Option, Some, None, Result, Ok, Err, unwrap_or, is_some, decimal, fold, refl, sym, ap, subst, ◌∙◌, arith, append-nil, append_assoc, true≢false, ◌≢◌, ◌⊎◌, inl, inr, is_ok, pos_of_ne-zero, flat_map, rules}
+use Rattle.std.proofs.Common.{◌≡◌, ℕ, zero, suc, ◌+◌, ◌-◌, ◌*◌, ◌/◌, ◌%◌, ◌^◌, ◌<◌, ◌≤◌, Bool, true, false, cond, not, ◌&&◌, ◌||◌, eqb, leb, ltb, List, [], ◌∷◌, ◌++◌, length, drop, get_or, Option, Some, None, Result, Ok, Err, unwrap_or, is_some, decimal, fold, refl, sym, ap, subst, ◌∙◌, arith, true≢false, ◌≢◌, ◌⊎◌, inl, inr, is_ok, pos_of_ne-zero, rules}
 use Rattle.std.specs.Prelude.{IsTrue}
-use Rattle.std.specs.List.{list_all, list_any, slice_split, onto_first, join_with_byte}
-use Rattle.std.proofs.lemmas.Bool.{lt-ltb, le-leb, leb-true, ltb-true, ltb-false, le-ltb, eq-eqb, eqb-true, eqb-false, ne_eqb, and_parts, and_from, not-true, not_from_false, or_cases, or_left, or_right, cases_eq, cond-true, cond-false}
+use Rattle.std.specs.List.{list_all, onto_first, join_with_byte}
+use Rattle.std.proofs.lemmas.Bool.{lt-ltb, le-leb, leb-true, ltb-true, le-ltb, eq-eqb, eqb-true, eqb-false, ne_eqb, and_parts, and_from, not-true, not_from_false, or_cases, or_left, or_right, cases_eq, cond-true, cond-false}
 use Rattle.std.proofs.lemmas.List.{length-append}
 use Rattle.std.proofs.lemmas.List.Folds.{list_all-append}
 use Rattle.std.proofs.lemmas.List.Splits.{join_with_byte-slice_split}
-use Rattle.std.proofs.lemmas.Str.Parse.{IsNumeralModel, IsDigitsTest, FoldsDigits, numerals_by_fold}
+use Rattle.std.proofs.lemmas.Str.Parse.{IsNumeralModel, numerals_by_fold}
 use Rattle.std.proofs.lemmas.Fmt.{decimal_digit, digits_decimal, digits_value-decimal, decimal-digits_value, decimal_nonempty, first_decimal}
 use Rattle.pua_tree.specs.Names.{is_name, same_bytes, has_byte, is_name_byte}
 use Rattle.pua_tree.specs.Spelling.{is_plain, byte_spelling, spelling, is_octal, escaped_byte, front_byte, with_front, unspelled_from, unspelled, name_of, name_of_bytes, fields, is_field, is_digit, is_decimal, decimal_value, number_within}
@@ -43,10 +43,11 @@ unspelled_escaped b more h p = ap (λ o. with_front o (unspelled more)) (go _ va
   where
     value : 64 * ((48 + b / 64) - 48) + 8 * ((48 + b / 8 % 8) - 48) + ((48 + b % 8) - 48) ≡ b
     value = omega arith
+
     go : (v : ℕ) → v ≡ b → cond (is_octal (48 + b / 64) && (is_octal (48 + b / 8 % 8) && (is_octal (48 + b % 8) && (leb v 255 && not (is_plain v))))) (Some v) None ≡ Some b
     go v e =
         ap (λ t. cond t (Some v) None) (and_from _ _ (octal (b / 64) (omega (arith, h))) (and_from _ _ (octal (b / 8 % 8) (omega arith)) (and_from _ _ (octal (b % 8) (omega arith))
-            (and_from _ _ (le-leb v 255 (omega (arith, e, h))) (not_from_false _ (ap is_plain e ∙ p))))))
+        (and_from _ _ (le-leb v 255 (omega (arith, e, h))) (not_from_false _ (ap is_plain e ∙ p))))))
         ∙ ap Some e
 
 unspelled_front : (b : ℕ) (more : List ℕ) → b < 256 → unspelled (byte_spelling b ++ more) ≡ with_front (Some b) (unspelled more)
@@ -97,9 +98,10 @@ front_read b v more e = go (eqb b 92) refl
         let read = escape_read more v (ap (λ t. cond t (escaped_byte more) (cond (is_plain b) (Some b) None)) (sym q) ∙ e) in
         (read.0, ap (λ x. x ∷ more) (eqb-true b 92 q) ∙ read.1 ∙ ap (λ t. byte_spelling v ++ drop (cond t 3 0) more) (sym q))
     go false q =
-        let read = guarded (is_plain b) b v (ap (λ t. cond t (escaped_byte more) (cond (is_plain b) (Some b) None)) (sym q) ∙ e) in
-        (omega (arith, read.1, leb-true b 126 (and_parts (leb b 126) _ (and_parts (leb 33 b) _ read.0).1).0),
-            ap (λ x. x ∷ more) read.1 ∙ ap (λ t. cond t (v ∷ []) (92 ∷ (48 + v / 64) ∷ (48 + v / 8 % 8) ∷ (48 + v % 8) ∷ []) ++ more) (sym (ap is_plain (sym read.1) ∙ read.0)) ∙ ap (λ t. byte_spelling v ++ drop (cond t 3 0) more) (sym q))
+        let read = guarded (is_plain b) b v (ap (λ t. cond t (escaped_byte more) (cond (is_plain b) (Some b) None)) (sym q) ∙ e) in (
+          omega (arith, read.1, leb-true b 126 (and_parts (leb b 126) _ (and_parts (leb 33 b) _ read.0).1).0),
+          ap (λ x. x ∷ more) read.1 ∙ ap (λ t. cond t (v ∷ []) (92 ∷ (48 + v / 64) ∷ (48 + v / 8 % 8) ∷ (48 + v % 8) ∷ []) ++ more) (sym (ap is_plain (sym read.1) ∙ read.0)) ∙ ap (λ t. byte_spelling v ++ drop (cond t 3 0) more) (sym q),
+        )
 
 both_read : (front : Option ℕ) (rest : Option (List ℕ)) (bs : List ℕ) → with_front front rest ≡ Some bs → (v : ℕ) × (vs : List ℕ) × (front ≡ Some v) × (rest ≡ Some vs) × (bs ≡ v ∷ vs)
 both_read None rest bs e = absurd (None≢Some bs e)
@@ -115,7 +117,7 @@ text_read zero (b ∷ more) bs e =
     let front = front_read b both.0 more both.2 in
     let rest = text_read (cond (eqb b 92) 3 0) more both.1 both.3 in
     subst (λ l. (b ∷ more ≡ spelling l) × IsTrue (list_all is_byte l)) (sym both.4)
-        (front.1 ∙ ap (λ l. byte_spelling both.0 ++ l) rest.0, and_from _ _ (lt-ltb both.0 256 front.0) rest.1)
+    (front.1 ∙ ap (λ l. byte_spelling both.0 ++ l) rest.0, and_from _ _ (lt-ltb both.0 256 front.0) rest.1)
 
 -- what a text spells is spelled by that text alone, and is made of bytes
 pub spelling-unspelled : (text bs : List ℕ) → unspelled text ≡ Some bs → text ≡ spelling bs
@@ -195,6 +197,7 @@ is_decimal-decimal n small = go (decimal n) (decimal_nonempty n small) (digits_d
     lead : (n ≡ 0) ⊎ (n ≡ 0 → ⊥) → (48 < get_or (decimal n) 0 0) ⊎ (length (decimal n) ≡ 1)
     lead (inl e) = inr (ap (λ m. length (decimal m)) e ∙ ap length (decimal_digit 0 (omega arith)))
     lead (inr e) = inl (first_decimal n (pos_of_ne-zero e) small)
+
     go : (ds : List ℕ) → 0 < length ds → IsTrue (list_all is_digit ds) → (48 < get_or ds 0 0) ⊎ (length ds ≡ 1) → IsTrue (is_decimal ds)
     go [] some d l = absurd (omega arith)
     go (b ∷ more) some d (inl l) = and_from (list_all is_digit (b ∷ more)) _ d (or_left _ _ (not_from_false _ (ne_eqb b 48 (λ e. omega (arith, e, l)))))
@@ -204,7 +207,7 @@ pub decimal_within : (low high n : ℕ) → low ≤ n → n ≤ high → n < 2 ^
 decimal_within low high n a b small =
     let value : decimal_value (decimal n) ≡ n = digits_value-decimal own n small in
     cond-true (is_decimal (decimal n) && (leb low (decimal_value (decimal n)) && leb (decimal_value (decimal n)) high)) (Some (decimal_value (decimal n))) None
-        (and_from _ _ (is_decimal-decimal n small) (and_from _ _ (le-leb low _ (omega (arith, value, a))) (le-leb _ high (omega (arith, value, b)))))
+    (and_from _ _ (is_decimal-decimal n small) (and_from _ _ (le-leb low _ (omega (arith, value, a))) (le-leb _ high (omega (arith, value, b)))))
     ∙ ap Some value
 
 pub number_read : (low high : ℕ) (text : List ℕ) (n : ℕ) → high < 2 ^ 64 → number_within low high text ≡ Some n → (text ≡ decimal n) × (low ≤ n) × (n ≤ high)

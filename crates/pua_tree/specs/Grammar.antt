@@ -1,10 +1,10 @@
 -- What a listing is as a text: the lines that spell its entries, each of which fits those before it.
-use Rattle.std.specs.Prelude.{◌≡◌, ℕ, ◌+◌, Bool, true, false, not, ◌&&◌, if◌then◌else◌, List, [], ◌∷◌, ◌++◌, map, length, Option, Some, None, codes, decimal, IsTrue, nat_lt, nat_le, ◌==◌, Result, Ok, ◌↔◌}
+use Rattle.std.specs.Prelude.{◌≡◌, ℕ, ◌+◌, Bool, true, false, not, ◌&&◌, List, [], ◌∷◌, ◌++◌, map, length, Option, Some, None, codes, decimal, IsTrue, nat_lt, nat_le, Ok, ◌↔◌}
 use Rattle.std.specs.List.{list_all}
 use Rattle.std.specs.Str.Lines.{lines}
 use Rattle.pua_tree.specs.Names.{is_name, is_target}
-use Rattle.pua_tree.specs.Spelling.{spelling}
-use Rattle.pua_tree.specs.Tree.{Node, Tree}
+use Rattle.pua_tree.specs.Spelling.{spelling, unspelled}
+use Rattle.pua_tree.specs.Tree.{Tree, WellFormed}
 use Rattle.pua_tree.specs.Listing.{Entry, last_number, is_earlier_dir, is_taken, tree_of, listing}
 use Rattle.pua_tree.specs.declared.node.Kind.{Kind}
 use Rattle.pua_tree.specs.declared.node.Kind.TheVariants.{Dir, File, Prog, Link}
@@ -49,4 +49,12 @@ IsListing bytes t = (es : List Entry) × IsTrue (entries_fit [] es)
 
 -- the reader accepts exactly the listings of a tree
 abbrev pub ListingsAreRead : Type 0
-ListingsAreRead = (bytes : List ℕ) → IsTrue (list_all (λ b. nat_lt b 256) bytes) → (t : Tree) → (listing bytes ≡ Ok t) ↔ IsListing bytes t
+ListingsAreRead = (bytes : List ℕ) (t : Tree) → (listing bytes ≡ Ok t) ↔ IsListing bytes t
+
+-- what a listing lists is a tree
+abbrev pub ListingsListTrees : Type 0
+ListingsListTrees = (bytes : List ℕ) (t : Tree) → IsListing bytes t → WellFormed t
+
+-- a text spells these bytes exactly where it is their spelling, so bytes have one spelling
+abbrev pub SpellingsAreRead : Type 0
+SpellingsAreRead = (text bytes : List ℕ) → (unspelled text ≡ Some bytes) ↔ (IsTrue (list_all (λ b. nat_lt b 256) bytes) × (text ≡ spelling bytes))

@@ -4,6 +4,9 @@
 mod fault;
 mod field;
 mod laws;
+mod line;
+mod list;
+mod listing;
 mod name;
 mod node;
 mod spelling;
@@ -12,7 +15,9 @@ mod tree;
 
 pub use fault::{ListingFault, NameFault, OutOfMemory, TreeFault};
 pub use field::{Fields, is_field, number_within, split_field};
-pub use laws::{edit_examples, edits_keep_trees, listing_examples, tree_law};
+pub use laws::{listing_examples, listing_law, spelling_law, tree_law};
+pub use list::ListTree;
+pub use listing::read_listing;
 pub use name::Name;
 pub use node::{Kind, NodeId};
 pub use spelling::{SpelledByte, byte_spelling, unspelled};
