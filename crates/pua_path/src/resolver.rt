@@ -5,6 +5,7 @@ ghost use Rattle.pua_tree.specs.Tree.{is_dir};
 ghost use Rattle.pua_path.specs.Resolution.{resolution, resolve_parts, standing_at, is_followed, start_of, step, last};
 ghost use Rattle.pua_path.specs.Paths.{is_absolute, parts_of};
 ghost use Rattle.pua_path.specs.Walks.{standing_seen, StandsIn, CanGoOn, goes_on, potential};
+ghost use Rattle.pua_path.specs.Bounds.{part_cost};
 ghost use Rattle.pua_path.specs.Remaining.{Remaining, is_done, is_readable};
 ghost use Rattle.pua_path.specs.declared.errno.Errno.TheVariants.{ELOOP, ENOENT, ENOTDIR};
 ghost use Rattle.pua_path.specs.declared.found.Way.TheVariants as ways;
@@ -46,7 +47,7 @@ pub fn resolve<'t, P: Probe<'t>>(
 /// What one part that another follows leads to, `used` links having been followed before it: the
 /// directory, and the links followed by then. Needs `dir` to be a living directory. Errors:
 /// `ENOENT` where nothing has that name, `ENOTDIR` where it is no directory, `ELOOP` where a 33rd
-/// link would be followed. Takes no memory.
+/// link would be followed. Takes no memory, and a bounded number of probes.
 pub fn step<'t, P: Probe<'t>>(
     probe: &mut P,
     dir: NodeId,
@@ -57,6 +58,7 @@ pub fn step<'t, P: Probe<'t>>(
     requires used { used ≤ 32 }
     ensures exact { result ≡ step (P.tree probe.old) dir used part.now }
     ensures tree { P.tree probe.new ≡ P.tree probe.old }
+    ensures cost { P.count probe.new ≤ P.count probe.old + part_cost (P.tree probe.old) }
 {
     let (found, left) = resolve_part(probe, dir, LINK_LIMIT - used, part, Last::Followed)?;
     match found {
@@ -90,6 +92,7 @@ pub fn last<'t, P: Probe<'t>>(
     requires used { used ≤ 32 }
     ensures exact { result ≡ last (P.tree probe.old) dir used part.now mode }
     ensures tree { P.tree probe.new ≡ P.tree probe.old }
+    ensures cost { P.count probe.new ≤ P.count probe.old + part_cost (P.tree probe.old) }
 {
     let (found, _) = resolve_part(probe, dir, LINK_LIMIT - used, part, mode)?;
     Ok(found)
@@ -107,6 +110,7 @@ fn resolve_part<'t, P: Probe<'t>>(
     ensures exact { result ≡ resolve_parts left (P.tree probe.old) mode dir ways.Top (part.now ∷ []) }
     ensures left { IfOk result (λ found. found.1 ≤ left) }
     ensures tree { P.tree probe.new ≡ P.tree probe.old }
+    ensures cost { P.count probe.new ≤ P.count probe.old + part_cost (P.tree probe.old) }
 {
     probe.known();
     let mut walk = Walk::new(dir, left, Rest::none());

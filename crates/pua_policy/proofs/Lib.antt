@@ -6,5 +6,6 @@ pub mod Fits
 pub mod Veils
 pub mod Places
 pub mod Narrowing
+pub mod Exec
 pub mod Standing
 pub mod Covers

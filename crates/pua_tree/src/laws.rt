@@ -1,9 +1,9 @@
 //! Laws and worked examples of the definitions of this crate, each the contract of a function
 //! that does nothing.
 
-ghost use Rattle.pua_tree.specs.Laws.{TreesAreTheirRows};
+ghost use Rattle.pua_tree.specs.Laws.{TreesAreTheirRows, EditsKeepTrees};
 ghost use Rattle.pua_tree.specs.Grammar.{ListingsAreRead, ListingsListTrees, SpellingsAreRead};
-ghost use Rattle.pua_tree.specs.Examples.{ListingRows, ExampleIsTree};
+ghost use Rattle.pua_tree.specs.Examples.{ListingRows, EditRows, ExampleIsTree};
 
 /// Trees with the same rows, kinds, targets and next number are equal.
 pub fn tree_law()
@@ -22,9 +22,20 @@ pub fn spelling_law()
     ensures { SpellingsAreRead }
 {}
 
+/// What each edit leaves is a tree again, whose next number is no lower.
+pub fn edits_keep_trees()
+    ensures { EditsKeepTrees }
+{}
+
 /// Examples of listings.
 #[tactic(auto, using(crate::specs::Examples::listing_rows, crate::specs::Examples::example_is_tree))]
 pub fn listing_examples()
     ensures listings { ListingRows }
     ensures tree { ExampleIsTree }
+{}
+
+/// Examples of edits.
+#[tactic(auto, using(crate::specs::Examples::edit_rows))]
+pub fn edit_examples()
+    ensures { EditRows }
 {}
