@@ -4,5 +4,6 @@ pub mod Scripts
 pub mod ScriptGrammar
 pub mod Replay
 pub mod Worlds
+pub mod Judged
 pub mod Laws
 pub mod Examples

@@ -208,6 +208,10 @@ unveil_effect t h path (Some perms) =
     on_found (resolution_of_text t (working_dir h) ending.Dot path Followed) λ object.
     unless (unveil_errno (unveil_fault h (place_of object) perms)) (Leaves t (Unveiled (place_of object) perms ∷ h))
 
+-- an unveil of a path: the promise and the lock first
+abbrev pub unveil_request : Tree → History → List ℕ → Option ℕ → Effect
+unveil_request t h path perms = if_promised (may_any h (unveil ∷ [])) (if is_locked h then Fails EPERM else unveil_effect t h path perms)
+
 abbrev pub given_set : Given → Option ℕ
 given_set (Good set) = Some set
 given_set _ = None
@@ -234,8 +238,7 @@ effect table w h (OnPath call path) = path_call table w.tree h call path
 effect table w h (Symlink target path) = symlink_effect table w.tree h target path
 effect table w h (Rename old new) = on_two_paths w.tree h ending.Dropped old new (λ a b. rename_found w.tree h a b (node_named a))
 effect table w h (Pledge promises execpromises) = pledge_effect w.tree h promises execpromises
-effect table w h (Unveil path perms) =
-    if_promised (may_any h (unveil ∷ [])) (if is_locked h then Fails EPERM else unveil_effect w.tree h path perms)
+effect table w h (Unveil path perms) = unveil_request w.tree h path perms
 effect table w h Lock = if_promised (may_any h (unveil ∷ [])) (Leaves w.tree (Locked ∷ h))
 effect table w h (Fork new) = if_promised (may_any h (proc ∷ [])) (fork_effect w h new)
 effect table w h Exit = Leaves w.tree (Ended ∷ h)

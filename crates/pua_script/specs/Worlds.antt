@@ -1,5 +1,5 @@
 -- What a world keeps, and for which worlds of the replay it stands.
-use Rattle.std.specs.Prelude.{◌≡◌, ℕ, List, [], ◌∷◌, length, nat_eq, Option, Some, None, IsTrue}
+use Rattle.std.specs.Prelude.{◌≡◌, ℕ, Bool, true, false, List, [], ◌∷◌, length, nat_eq, Option, Some, None, IsTrue}
 use Rattle.std.specs.Ordering.{nat_cmp}
 use Rattle.std.specs.FinMap.{is_sorted}
 use Rattle.std.specs.Map.{lookup}
@@ -7,9 +7,11 @@ use Rattle.pua_tree.specs.Tree.{Tree}
 use Rattle.pua_policy.specs.Calls.{standard_table}
 use Rattle.pua_policy.specs.History.{History, ProcessState, StandsFor}
 use Rattle.pua_script.specs.Requests.{Asked}
-use Rattle.pua_script.specs.Replay.{World, Effect, Fails, Kills, Leaves, Copies, history_of, apply, answers, world_after, answer_to}
+use Rattle.pua_script.specs.Replay.{World, Effect, Fails, Kills, Leaves, Copies, history_of, apply, effect, answers, world_after, answer_to}
 use Rattle.pua_policy.specs.History.{Ended}
 use Rattle.pua_script.specs.declared.answer.Answer.{Answer}
+use Rattle.pua_script.specs.declared.request.Action.{Action}
+use Rattle.pua_script.specs.declared.request.Action.TheVariants.{Fork}
 
 -- a tree, and all processes ever made with their numbers, in the order in which they were made
 pub record WorldState : Type 0 where
@@ -43,6 +45,19 @@ abbrev pub AreServed : WorldState → List Asked → List Answer → WorldState 
 AreServed before asks told after =
     (w : World) → StandsForWorld before w → (told ≡ answers standard_table w asks) × StandsForWorld after (world_after standard_table w asks)
 
+-- what the world keeps at a number stands for the history at that number, in each world for which it stands
+abbrev pub IsProcessOf : WorldState → ℕ → Option ProcessState → Type 0
+IsProcessOf s process kept = (w : World) → StandsForWorld s w → StandsAt kept (history_of w process)
+
+-- a request that makes a process
+abbrev pub is_fork : Action → Bool
+is_fork (Fork new) = true
+is_fork _ = false
+
+abbrev pub is_copy : Effect → Bool
+is_copy (Copies new) = true
+is_copy _ = false
+
 -- the tree and the history that an effect leaves a process that had these
 abbrev pub tree_left : Tree → Effect → Tree
 tree_left t (Leaves after h) = after
@@ -58,6 +73,19 @@ pub record Does (t : Tree) (h : History) (effect : Effect) (answer : Answer) (tr
   pub told : answer ≡ answer_to effect
   pub left : tree ≡ tree_left t effect
   pub stands : StandsFor process (history_left h effect)
+  pub alone : is_copy effect ≡ false
+
+-- a process was told of an effect on the tree alone, and the tree was left with it
+pub record Edits (t : Tree) (h : History) (effect : Effect) (answer : Answer) (tree : Tree) : Type 0 where
+  pub told : answer ≡ answer_to effect
+  pub left : tree ≡ tree_left t effect
+  pub same : history_left h effect ≡ h
+  pub alone : is_copy effect ≡ false
+
+-- a living process did what it asked for, whichever history it stands for
+abbrev pub Acts : Tree → ProcessState → Action → Answer → Tree → ProcessState → Type 0
+Acts t before action answer tree after =
+    (w : World) (h : History) → w.tree ≡ t → StandsFor before h → Does t h (effect standard_table w h action) answer tree after
 
 -- two worlds of the replay for which one world stands answer alike, and one world stands for both afterwards
 pub record AnswerAlike (v w : World) (asks : List Asked) : Type 0 where

@@ -2,11 +2,14 @@
 #![tactic(auto)]
 
 mod answer;
+mod change;
 mod fault;
 mod laws;
 mod line;
+mod look;
 mod request;
 mod script;
+mod serve;
 
 pub use answer::Answer;
 pub use fault::{ScriptFault, WorldFault};
