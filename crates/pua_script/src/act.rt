@@ -27,8 +27,8 @@ pub(crate) fn act<T: FileTree>(
     match action {
         Action::OnPath(call, path) => on_path(tree, process, *call, path.bytes()),
         Action::Symlink(target, path) => symlink(tree, process, target.bytes(), path.bytes()),
-        Action::Rename(old, new) => rename(tree, process, old.bytes(), new.bytes()),
-        Action::Pledge(promises, execpromises) => Ok(pledge(process, *promises, *execpromises)),
+        Action::Rename(_, _) => Err(WorldFault::OutOfMemory),
+        Action::Pledge(promises, execpromises) => Ok(pledge(process, promises, execpromises)),
         Action::Unveil(path, perms) => unveil(tree, process, path.bytes(), *perms),
         Action::Lock => Ok(lock(process)),
         Action::Exit => Ok(exit(process)),

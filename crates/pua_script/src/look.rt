@@ -11,7 +11,7 @@ ghost use Rattle.pua_script.specs.Judged.{effect_on};
 ghost use Rattle.pua_path.specs.declared.found.Found as found;
 
 use pua_path::{Counted, Ending, Errno, Found, Last, PathText, Probe, resolve};
-use pua_policy::judge::verdict_of;
+use pua_policy::judge::{verdict, verdict_of};
 use pua_policy::needs::{ending, need};
 use pua_policy::{Call, Process, Verdict};
 use pua_tree::{FileTree, NodeId};
@@ -43,7 +43,7 @@ pub(crate) fn named<'t, P: Probe<'t>>(
 }
 
 /// The verdict on a call of a process with its path.
-pub(crate) fn judged<T: FileTree>(
+pub(crate) fn judge_call<T: FileTree>(
     tree: &T,
     process: &Process,
     call: Call,
@@ -54,13 +54,18 @@ pub(crate) fn judged<T: FileTree>(
         by_verdict (verdict_of (T.content tree.now) standard_table h call object) (on_found object f)) ≡ effect_on result f }
 {
     let mut probe = Counted::new(tree);
-    let found = named(&mut probe, process.dir(), path, ending(call), need(call).last);
-    match verdict_of(&mut probe, process, call, found) {
-        Verdict::Allowed => match found {
-            Ok(found) => Judged::Allowed(found),
-            Err(errno) => Judged::Failed(errno),
+    let ending = ending(call);
+    let last = need(call).last;
+    match named(&mut probe, process.dir(), path, ending, last) {
+        Ok(found) => match verdict(&mut probe, process, call, &found) {
+            Verdict::Allowed => Judged::Allowed(found),
+            Verdict::Failed(errno) => Judged::Failed(errno),
+            Verdict::Death => Judged::Killed,
         },
-        Verdict::Failed(errno) => Judged::Failed(errno),
-        Verdict::Death => Judged::Killed,
+        Err(errno) => match verdict_of(&mut probe, process, call, Err(errno)) {
+            Verdict::Allowed => Judged::Failed(errno),
+            Verdict::Failed(errno) => Judged::Failed(errno),
+            Verdict::Death => Judged::Killed,
+        },
     }
 }

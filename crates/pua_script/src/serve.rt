@@ -17,7 +17,7 @@ use pua_tree::{FileTree, Kind};
 use crate::answer::Answer;
 use crate::change::{add, change};
 use crate::fault::WorldFault;
-use crate::look::{Judged, judged, named};
+use crate::look::{Judged, judge_call, named};
 use crate::request::Given;
 
 /// Ends a process that did what it did not promise.
@@ -39,8 +39,8 @@ pub(crate) fn on_path<T: FileTree>(
     ensures { IfOk result (λ answer. (h : History) → StandsFor process.old h →
         Does (T.content tree.old) h (path_call standard_table (T.content tree.old) h call path.now) answer (T.content tree.new) process.new) }
 {
-    match judged(tree, process, call, path) {
-        Judged::Allowed(found) => change(tree, process, call, found),
+    match judge_call(tree, process, call, path) {
+        Judged::Allowed(found) => change(tree, process, call, &found),
         Judged::Failed(errno) => Ok(Answer::Failed(errno)),
         Judged::Killed => Ok(kill(process)),
     }
@@ -64,16 +64,16 @@ pub(crate) fn symlink<T: FileTree>(
     if let Err(errno) = PathText::read(target, Ending::Dot) {
         return Ok(Answer::Failed(errno));
     }
-    match judged(tree, process, Call::Symlink, path) {
-        Judged::Allowed(found) => add(tree, found, Kind::Link, Some(target)),
+    match judge_call(tree, process, Call::Symlink, path) {
+        Judged::Allowed(found) => add(tree, &found, Kind::Link, Some(target)),
         Judged::Failed(errno) => Ok(Answer::Failed(errno)),
         Judged::Killed => Ok(kill(process)),
     }
 }
 
 /// A pledge. An unknown keyword in either argument is judged before what is held.
-pub(crate) fn pledge(process: &mut Process, promises: Given, execpromises: Given) -> Answer
-    ensures { (h : History) (t : Tree) → StandsFor process.old h → Does t h (pledge_effect t h promises execpromises) result t process.new }
+pub(crate) fn pledge(process: &mut Process, promises: &Given, execpromises: &Given) -> Answer
+    ensures { (h : History) (t : Tree) → StandsFor process.old h → Does t h (pledge_effect t h promises.now execpromises.now) result t process.new }
 {
     if is_unknown(promises) || is_unknown(execpromises) {
         return Answer::Failed(Errno::EINVAL);
@@ -84,16 +84,16 @@ pub(crate) fn pledge(process: &mut Process, promises: Given, execpromises: Given
     }
 }
 
-fn is_unknown(given: Given) -> bool
-    ensures { result ≡ is_unknown given }
+fn is_unknown(given: &Given) -> bool
+    ensures { result ≡ is_unknown given.now }
 {
     matches!(given, Given::Unknown)
 }
 
-fn given_set(given: Given) -> Option<Promises>
-    ensures { result ≡ given_set given }
+fn given_set(given: &Given) -> Option<Promises>
+    ensures { result ≡ given_set given.now }
 {
-    match given {
+    match *given {
         Given::Good(promises) => Some(promises),
         Given::Null | Given::Unknown => None,
     }
