@@ -23,7 +23,7 @@ use Rattle.pua_path.specs.declared.found.Way.{Way}
 use Rattle.pua_path.specs.declared.found.Way.TheVariants.{Named, Dot, DotDot, Top}
 use Rattle.pua_path.specs.declared.found.Found.{Found}
 use Rattle.pua_path.specs.declared.found.Found.TheVariants.{Whole, Slot}
-use Rattle.pua_policy.specs.Verdict.{FoundFits, is_link, is_link_kind}
+use Rattle.pua_policy.specs.Verdict.{FoundFits, FoundsFit, is_link, is_link_kind}
 use Rattle.pua_policy.specs.Laws.{IsOf, ResolutionFits, ResolutionsFit}
 use Rattle.pua_policy.proofs.Finding.{both_true, list_all-find_key}
 use Rattle.pua_policy.proofs.Climbs.{is_dir_above}
@@ -146,3 +146,13 @@ resolutions_fit t fits = record {
   last = λ dir used part mode object living e. found_fits t fits mode (resolve_parts (link_limit - used) t mode dir Top (part ∷ [])) object (resolve_fits t fits mode (link_limit - used) (part ∷ []) dir Top living) e;
   step = λ dir used part next living e. reached_is_dir t fits (resolve_parts (link_limit - used) t Followed dir Top (part ∷ parts.Dot ∷ [])) next (resolve_fits t fits Followed (link_limit - used) (part ∷ parts.Dot ∷ []) dir Top living) e;
 }
+
+-- so what is answered for a path may be judged
+pub founds_fit : (t : Tree) → WellFormed t → (from : ℕ) (ending : Ending) (text : List ℕ) (mode : Last) (found : Result Found Errno) → found ≡ resolution t from ending text mode → FoundsFit t found
+founds_fit t fits from ending text mode (Ok object) e = (whole_fits t fits from ending text mode object (sym e)).fits
+founds_fit t fits from ending text mode (Err errno) e = tt
+
+pub last_founds_fit : (t : Tree) → WellFormed t → (dir used : ℕ) (part : Part) (mode : Last) (found : Result Found Errno) → is_dir t dir ≡ true → found ≡ last t dir used part mode → FoundsFit t found
+last_founds_fit t fits dir used part mode (Ok object) living e =
+    (found_fits t fits mode (resolve_parts (link_limit - used) t mode dir Top (part ∷ [])) object (resolve_fits t fits mode (link_limit - used) (part ∷ []) dir Top living) (sym e)).fits
+last_founds_fit t fits dir used part mode (Err errno) living e = tt

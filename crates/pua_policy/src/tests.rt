@@ -1,4 +1,4 @@
-use crate::answer::{May, UnveilFault};
+use crate::answer::May;
 use crate::call::Call;
 use crate::needs;
 use crate::perms::Perms;
@@ -72,36 +72,6 @@ fn narrows_under_error(rt: HostRuntime) -> Result<(), Fail> {
     assert_eq!(rt; process.pledge(Some(more), Some(Promises::WPATH)), Ok(()));
     assert_eq!(rt; process.may(Promises::WPATH), May::Death);
     assert_eq!(rt; process.may(Promises::RPATH), May::Yes);
-    Ok(())
-}
-
-#[test]
-fn keeps_128_places(rt: HostRuntime) -> Result<(), Fail> {
-    let mut process = Process::new(rt.alloc())?;
-    for number in 1..=128u32 {
-        process.unveil_at(Place::Dir(NodeId::new(number)), Perms::READ)?;
-    }
-    let first = Place::Dir(NodeId::new(1));
-    let further = Place::Dir(NodeId::new(129));
-    assert_eq!(rt;
-        process.unveil_at(further, Perms::READ),
-        Err(UnveilFault::TooManyPlaces)
-    );
-    assert_eq!(rt;
-        process.unveil_at(first, Perms::WRITE),
-        Err(UnveilFault::NotPermitted)
-    );
-    assert_eq!(rt; process.unveil_at(first, Perms::NONE), Ok(()));
-    process.lock();
-    assert!(rt; process.locked());
-    assert_eq!(rt;
-        process.unveil_at(first, Perms::NONE),
-        Err(UnveilFault::NotPermitted)
-    );
-    assert_eq!(rt;
-        process.unveil_at(further, Perms::NONE),
-        Err(UnveilFault::NotPermitted)
-    );
     Ok(())
 }
 

@@ -138,18 +138,18 @@ module _ (h k : History) (a : Same h k) where
   same_path_call table t c path =
       let object = object_named t k c path in
       turned _ (by_verdict (verdict_of t table k c object) (on_found object (change t h c))) _
-          ((λ i. by_verdict (verdict_of t table h c (named_alike t c path i)) (on_found (named_alike t c path i) (change t h c)))
-          ∙ ap (λ v. by_verdict v (on_found object (change t h c))) (verdict_alike t table c object))
-          (same_verdict (verdict_of t table k c object) _ _ (same_found object _ _ (same_change t c)))
+      ((λ i. by_verdict (verdict_of t table h c (named_alike t c path i)) (on_found (named_alike t c path i) (change t h c)))
+      ∙ ap (λ v. by_verdict v (on_found object (change t h c))) (verdict_alike t table c object))
+      (same_verdict (verdict_of t table k c object) _ _ (same_found object _ _ (same_change t c)))
 
   same_symlink : (table : CallTable) (t : Tree) (target path : List ℕ) → SameEffect (symlink_effect table t h target path) (symlink_effect table t k target path)
   same_symlink table t target path =
       let object = object_named t k call.Symlink path in
       let needed = (rule_of table call.Symlink).alternatives in
       turned _ (if_promised (may_any k needed) (unless (path_fault target) (by_verdict (verdict_of t table k call.Symlink object) (on_found object (added t h (link_node target)))))) _
-          ((λ i. if_promised (allow.promises needed i) (unless (path_fault target) (by_verdict (verdict_of t table h call.Symlink (named_alike t call.Symlink path i)) (on_found (named_alike t call.Symlink path i) (added t h (link_node target))))))
-          ∙ ap (λ v. if_promised (may_any k needed) (unless (path_fault target) (by_verdict v (on_found object (added t h (link_node target)))))) (verdict_alike t table call.Symlink object))
-          (same_promised (may_any k needed) _ _ (same_unless (path_fault target) _ _ (same_verdict _ _ _ (same_found object _ _ (same_added t (link_node target))))))
+      ((λ i. if_promised (allow.promises needed i) (unless (path_fault target) (by_verdict (verdict_of t table h call.Symlink (named_alike t call.Symlink path i)) (on_found (named_alike t call.Symlink path i) (added t h (link_node target))))))
+      ∙ ap (λ v. if_promised (may_any k needed) (unless (path_fault target) (by_verdict v (on_found object (added t h (link_node target)))))) (verdict_alike t table call.Symlink object))
+      (same_promised (may_any k needed) _ _ (same_unless (path_fault target) _ _ (same_verdict _ _ _ (same_found object _ _ (same_added t (link_node target))))))
 
   same_shifted : (t : Tree) (x y : Option Spot) → SameEffect (shifted t h x y) (shifted t k x y)
   same_shifted t (Some x) (Some y) = same_edited_tree _
@@ -165,32 +165,32 @@ module _ (h k : History) (a : Same h k) where
   same_two_paths t end old_path new_path f g same =
       let needed = cpath ∷ [] in
       turned _ (if_promised (may_any k needed) (on_found (resolution_of_text t (working_dir k) end old_path Kept) λ x. on_found (resolution_of_text t (working_dir k) end new_path Kept) λ y.
-              unless (or_fault (cover_fault (cover t k x) creating) (cover_fault (cover t k y) creating)) (f x y))) _
-          (λ i. if_promised (allow.promises needed i) (on_found (resolution_of_text t (a.dir i) end old_path Kept) λ x. on_found (resolution_of_text t (a.dir i) end new_path Kept) λ y.
-              unless (or_fault (cover_fault (allow.covers t x i) creating) (cover_fault (allow.covers t y i) creating)) (f x y)))
-          (same_promised (may_any k needed) _ _ (same_found (resolution_of_text t (working_dir k) end old_path Kept) _ _ λ x. same_found (resolution_of_text t (working_dir k) end new_path Kept) _ _ λ y.
-              same_unless (or_fault (cover_fault (cover t k x) creating) (cover_fault (cover t k y) creating)) _ _ (same x y)))
+      unless (or_fault (cover_fault (cover t k x) creating) (cover_fault (cover t k y) creating)) (f x y))) _
+      (λ i. if_promised (allow.promises needed i) (on_found (resolution_of_text t (a.dir i) end old_path Kept) λ x. on_found (resolution_of_text t (a.dir i) end new_path Kept) λ y.
+      unless (or_fault (cover_fault (allow.covers t x i) creating) (cover_fault (allow.covers t y i) creating)) (f x y)))
+      (same_promised (may_any k needed) _ _ (same_found (resolution_of_text t (working_dir k) end old_path Kept) _ _ λ x. same_found (resolution_of_text t (working_dir k) end new_path Kept) _ _ λ y.
+      same_unless (or_fault (cover_fault (cover t k x) creating) (cover_fault (cover t k y) creating)) _ _ (same x y)))
 
   same_pledge : (t : Tree) (p e : Given) → SameEffect (pledge_effect t h p e) (pledge_effect t k p e)
   same_pledge t p e =
       turned _ (cond (is_unknown p || is_unknown e) (Fails EINVAL) (unless (pledge_fault k (given_set p) (given_set e)) (Leaves t (Pledged (given_set p) (given_set e) ∷ h)))) _
-          (λ i. cond (is_unknown p || is_unknown e) (Fails EINVAL) (unless (allow.pledges (given_set p) (given_set e) i) (Leaves t (Pledged (given_set p) (given_set e) ∷ h))))
-          (same_if (is_unknown p || is_unknown e) _ _ _ _ fails (same_unless _ _ _ (leaves (same_more (Pledged (given_set p) (given_set e)) h k a))))
+      (λ i. cond (is_unknown p || is_unknown e) (Fails EINVAL) (unless (allow.pledges (given_set p) (given_set e) i) (Leaves t (Pledged (given_set p) (given_set e) ∷ h))))
+      (same_if (is_unknown p || is_unknown e) _ _ _ _ fails (same_unless _ _ _ (leaves (same_more (Pledged (given_set p) (given_set e)) h k a))))
 
   same_unveil_effect : (t : Tree) (path : List ℕ) (perms : Option ℕ) → SameEffect (unveil_effect t h path perms) (unveil_effect t k path perms)
   same_unveil_effect t path None = fails
   same_unveil_effect t path (Some perms) =
       turned _ (on_found (resolution_of_text t (working_dir k) ending.Dot path Followed) λ object. unless (unveil_errno (unveil_fault k (place_of object) perms)) (Leaves t (Unveiled (place_of object) perms ∷ h))) _
-          (λ i. on_found (resolution_of_text t (a.dir i) ending.Dot path Followed) λ object. unless (unveil_errno (allow.unveils (place_of object) perms i)) (Leaves t (Unveiled (place_of object) perms ∷ h)))
-          (same_found (resolution_of_text t (working_dir k) ending.Dot path Followed) _ _ λ object.
-              same_unless (unveil_errno (unveil_fault k (place_of object) perms)) _ _ (leaves {t = t} (same_more (Unveiled (place_of object) perms) h k a)))
+      (λ i. on_found (resolution_of_text t (a.dir i) ending.Dot path Followed) λ object. unless (unveil_errno (allow.unveils (place_of object) perms i)) (Leaves t (Unveiled (place_of object) perms ∷ h)))
+      (same_found (resolution_of_text t (working_dir k) ending.Dot path Followed) _ _ λ object.
+      same_unless (unveil_errno (unveil_fault k (place_of object) perms)) _ _ (leaves {t = t} (same_more (Unveiled (place_of object) perms) h k a)))
 
   same_unveil : (t : Tree) (path : List ℕ) (perms : Option ℕ)
       → SameEffect (if_promised (may_any h (unveil ∷ [])) (cond (is_locked h) (Fails EPERM) (unveil_effect t h path perms))) (if_promised (may_any k (unveil ∷ [])) (cond (is_locked k) (Fails EPERM) (unveil_effect t k path perms)))
   same_unveil t path perms =
       turned _ (if_promised (may_any k (unveil ∷ [])) (cond (is_locked k) (Fails EPERM) (unveil_effect t h path perms))) _
-          (λ i. if_promised (allow.promises (unveil ∷ []) i) (cond (a.locked i) (Fails EPERM) (unveil_effect t h path perms)))
-          (same_promised _ _ _ (same_if (is_locked k) _ _ _ _ (fails_alike EPERM) (same_unveil_effect t path perms)))
+      (λ i. if_promised (allow.promises (unveil ∷ []) i) (cond (a.locked i) (Fails EPERM) (unveil_effect t h path perms)))
+      (same_promised _ _ _ (same_if (is_locked k) _ _ _ _ (fails_alike EPERM) (same_unveil_effect t path perms)))
 
   same_lock : (t : Tree) → SameEffect (if_promised (may_any h (unveil ∷ [])) (Leaves t (Locked ∷ h))) (if_promised (may_any k (unveil ∷ [])) (Leaves t (Locked ∷ k)))
   same_lock t = turned _ (if_promised (may_any k (unveil ∷ [])) (Leaves t (Locked ∷ h))) _
@@ -275,7 +275,7 @@ module _ (v w : World) (same : SameWorlds v w) where
       let d = effect standard_table v h ask.action in
       let e = effect standard_table w k ask.action in
       subst (λ b. SameDone (cond b (Gone, v) (answer_to d, left_by v ask.process h d)) (served standard_table w ask (Some k))) (sym at.ended)
-          (same_gone_if (is_ended k) _ _ (same_left ask.process h k at d e (same_effect h k at ask.action)))
+      (same_gone_if (is_ended k) _ _ (same_left ask.process h k at d e (same_effect h k at ask.action)))
 
   same_step : (ask : Asked) → SameDone (apply standard_table v ask) (apply standard_table w ask)
   same_step ask = same_served ask _ _ (same.at ask.process)

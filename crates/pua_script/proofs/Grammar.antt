@@ -84,6 +84,7 @@ given_read field given = by (is_dash field) refl (is_equals field) refl (has_emp
     listed : IsList field → (r : Result ℕ Errno) → promises_of field ≡ r → good_or_unknown r ≡ given → SpellsGiven field given
     listed list (Ok set) e is = subst (SpellsGiven field) is (known list e)
     listed list (Err errno) e is = subst (SpellsGiven field) is (unknown list e)
+
     by : (a : Bool) → is_dash field ≡ a → (b : Bool) → is_equals field ≡ b → (c : Bool) → has_empty_word field ≡ c
         → cond a (Some Null) (cond b (Some (Good 0)) (cond c None (Some (good_or_unknown (promises_of field))))) ≡ Some given → SpellsGiven field given
     by true d b e c w is = subst (SpellsGiven field) (same_Some Null given is) (null (same_from field (codes "-") d))
@@ -169,7 +170,7 @@ module _ (n : ℕ) where
       let first = bound (ok_or (given_in a) (BadList n)) (λ p. ok_or (given_in b) (BadList n) >>= λ x. Ok (Pledge p x)) action e in
       let second = bound (ok_or (given_in b) (BadList n)) (λ x. Ok (Pledge first.0 x)) action first.2 in
       subst (SpellsAction (word ∷ a ∷ b ∷ [])) (same_Ok (Pledge first.0 second.0) action second.2)
-          (pledge named (given_read a first.0 (found (given_in a) (BadList n) first.0 first.1)) (given_read b second.0 (found (given_in b) (BadList n) second.0 second.1)))
+      (pledge named (given_read a first.0 (found (given_in a) (BadList n) first.0 first.1)) (given_read b second.0 (found (given_in b) (BadList n) second.0 second.1)))
 
   unveil_form : (word a b : List ℕ) (action : Action) → word ≡ codes "unveil" → action_of n (UnveilForm a b) ≡ Ok action → SpellsAction (word ∷ a ∷ b ∷ []) action
   unveil_form word a b action named = by (is_dash a) refl (is_dash b) refl
@@ -182,7 +183,7 @@ module _ (n : ℕ) where
       by false d false f e =
           let path = bound (ok_or (path_in a) (BadPath n)) (λ text. Ok (Unveil text (perms_in b))) action e in
           subst (SpellsAction (word ∷ a ∷ b ∷ [])) (same_Ok (Unveil path.0 (perms_in b)) action path.2)
-              (unveil named (apart_from a (codes "-") d) (apart_from b (codes "-") f) (path_read a path.0 (found (path_in a) (BadPath n) path.0 path.1)) (perms_read b))
+          (unveil named (apart_from a (codes "-") d) (apart_from b (codes "-") f) (path_read a path.0 (found (path_in a) (BadPath n) path.0 path.1)) (perms_read b))
 
   one_argument : (word a : List ℕ) (form : Form) (action : Action) → form_of word (a ∷ []) ≡ Some form → action_of n form ≡ Ok action → SpellsAction (word ∷ a ∷ []) action
   one_argument word a form action = by (same_bytes word (codes "fork")) refl
@@ -234,16 +235,20 @@ module _ (n : ℕ) where
       (SymlinkForm a b, ap (λ w. form_of w (a ∷ b ∷ [])) named, paths_told Symlink a b x y first second)
   action_told _ _ (rename {a = a} {b = b} {old = x} {new = y} named first second) =
       (RenameForm a b, ap (λ w. form_of w (a ∷ b ∷ [])) named, paths_told Rename a b x y first second)
-  action_told _ _ (pledge {a = a} {b = b} {promises = p} {execpromises = x} named first second) =
-      (PledgeForm a b, ap (λ w. form_of w (a ∷ b ∷ [])) named,
-          ap (λ o. ok_or o (BadList n) >>= λ v. ok_or (given_in b) (BadList n) >>= λ w. Ok (Pledge v w)) (given_told a p first)
-          ∙ ap (λ o. ok_or o (BadList n) >>= λ w. Ok (Pledge p w)) (given_told b x second))
-  action_told _ _ (unveil {a = a} {b = b} {path = path} {perms = perms} named no_a no_b first second) =
-      (UnveilForm a b, ap (λ w. form_of w (a ∷ b ∷ [])) named,
-          ap (λ s. cond s (cond (is_dash b) (Ok Lock) (Err (BadList n))) (ok_or (path_in a) (BadPath n) >>= λ text. cond (is_dash b) (Err (BadList n)) (Ok (Unveil text (perms_in b))))) (apart_to a (codes "-") no_a)
-          ∙ ap (λ o. ok_or o (BadPath n) >>= λ text. cond (is_dash b) (Err (BadList n)) (Ok (Unveil text (perms_in b)))) (path_told a path first)
-          ∙ ap (λ t. cond t (Err (BadList n)) (Ok (Unveil path (perms_in b)))) (apart_to b (codes "-") no_b)
-          ∙ ap (λ v. Ok (Unveil path v)) (perms_told b perms second))
+  action_told _ _ (pledge {a = a} {b = b} {promises = p} {execpromises = x} named first second) = (
+    PledgeForm a b,
+    ap (λ w. form_of w (a ∷ b ∷ [])) named,
+    ap (λ o. ok_or o (BadList n) >>= λ v. ok_or (given_in b) (BadList n) >>= λ w. Ok (Pledge v w)) (given_told a p first)
+        ∙ ap (λ o. ok_or o (BadList n) >>= λ w. Ok (Pledge p w)) (given_told b x second),
+  )
+  action_told _ _ (unveil {a = a} {b = b} {path = path} {perms = perms} named no_a no_b first second) = (
+    UnveilForm a b,
+    ap (λ w. form_of w (a ∷ b ∷ [])) named,
+    ap (λ s. cond s (cond (is_dash b) (Ok Lock) (Err (BadList n))) (ok_or (path_in a) (BadPath n) >>= λ text. cond (is_dash b) (Err (BadList n)) (Ok (Unveil text (perms_in b))))) (apart_to a (codes "-") no_a)
+        ∙ ap (λ o. ok_or o (BadPath n) >>= λ text. cond (is_dash b) (Err (BadList n)) (Ok (Unveil text (perms_in b)))) (path_told a path first)
+        ∙ ap (λ t. cond t (Err (BadList n)) (Ok (Unveil path (perms_in b)))) (apart_to b (codes "-") no_b)
+        ∙ ap (λ v. Ok (Unveil path v)) (perms_told b perms second),
+  )
   action_told _ _ (lock {a = a} {b = b} named first second) =
       (UnveilForm a b, ap (λ w. form_of w (a ∷ b ∷ [])) named, (λ i. unveil_of n (first i) (second i)))
   action_told _ _ (fork {a = a} {new = new} named first low high) =
@@ -270,6 +275,7 @@ request_read n line ask = by (list_all is_field (fields line)) refl (fields line
           high = read.2;
           spells = action_read n more form.0 action.0 (found _ (BadCall n) form.0 form.1) form.2;
         })
+
     by : (s : Bool) → list_all is_field (fields line) ≡ s → (fs : List (List ℕ)) → fields line ≡ fs → cond s (request_of_fields n fs) (Err (BadLine n)) ≡ Ok ask → SpellsRequest line ask
     by true visible [] are e = absurd (Err≢Ok (BadLine n) ask e)
     by true visible (process ∷ more) are e = split process more visible are e

@@ -58,4 +58,4 @@ asked n number process more action numbered acts =
     let read = number_read 1 999999 process number (lit< tt) numbered in
     let form = bound (ok_or (form_in more) (BadCall n)) (action_of n) action acts in
     and_from _ _ (and_from _ _ (le-leb 1 number read.1) (le-leb number 999999 read.2))
-        (askable more action (action_read n more form.0 action (found (form_in more) (BadCall n) form.0 form.1) form.2))
+    (askable more action (action_read n more form.0 action (found (form_in more) (BadCall n) form.0 form.1) form.2))

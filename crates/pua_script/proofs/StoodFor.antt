@@ -48,9 +48,9 @@ module _ (s : WorldState) (w : World) (stands : StandsForWorld s w) (n : ℕ) (t
   at_each : (q : ℕ) → StandsAt (lookup (nat_eq q) more) (find_key nat_cmp q (put nat_cmp n h w.histories))
   at_each q =
       let found : find_key nat_cmp q (put nat_cmp n h w.histories) ≡ cond (nat_eq n q) (Some h) (history_of w q) =
-          find-put nat_cmp nat_cmp_total q n h w.histories ∙ ap (λ b. cond b (Some h) (history_of w q)) (nat_tie q n) in
+      find-put nat_cmp nat_cmp_total q n h w.histories ∙ ap (λ b. cond b (Some h) (history_of w q)) (nat_tie q n) in
       subst (λ o. StandsAt o (find_key nat_cmp q (put nat_cmp n h w.histories))) (sym (changed q))
-          (subst (λ g. StandsAt (cond (nat_eq n q) (Some p) (process_at s q)) g) (sym found) (stands_chosen (nat_eq n q) p h _ _ new (stands.processes q)))
+      (subst (λ g. StandsAt (cond (nat_eq n q) (Some p) (process_at s q)) g) (sym found) (stands_chosen (nat_eq n q) p h _ _ new (stands.processes q)))
 
   in_order : IsTrue (is_sorted nat_cmp (put nat_cmp n h w.histories))
   in_order = true_from_T _ (is_sorted-put nat_cmp nat_cmp_total n h w.histories (T_from_true _ stands.in_order))

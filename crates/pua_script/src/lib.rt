@@ -10,9 +10,13 @@ mod look;
 mod request;
 mod script;
 mod serve;
+mod world;
 
 pub use answer::Answer;
 pub use fault::{ScriptFault, WorldFault};
-pub use laws::{narrowing_law, replay_examples, replay_law, script_examples, script_law, standing_law};
+pub use laws::{
+    narrowing_law, replay_examples, replay_law, script_examples, script_law, standing_law,
+};
 pub use request::{Action, Given, PathBytes, Request};
 pub use script::{Script, read_script};
+pub use world::World;

@@ -14,11 +14,7 @@ use std::alloc::Global;
 const MOST_PROCESS: u32 = 999_999;
 
 /// The request of a line with this number.
-pub(crate) fn read_request(
-    alloc: Global,
-    number: u32,
-    line: &[u8],
-) -> Result<Request, ScriptFault>
+pub(crate) fn read_request(alloc: Global, number: u32, line: &[u8]) -> Result<Request, ScriptFault>
     ensures { IsReadAs (request_of number line.now) result }
 {
     let Some(fields) = Fields::read(line) else {
@@ -108,12 +104,7 @@ fn read_two(
 }
 
 /// An unveil, which has two NULLs or none.
-fn read_unveil(
-    alloc: Global,
-    number: u32,
-    path: &[u8],
-    perms: &[u8],
-) -> Result<Action, ScriptFault>
+fn read_unveil(alloc: Global, number: u32, path: &[u8], perms: &[u8]) -> Result<Action, ScriptFault>
     ensures { IsReadAs (unveil_of number path.now perms.now) result }
 {
     if is_null(path) {

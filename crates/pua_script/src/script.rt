@@ -1,12 +1,11 @@
 //! Scripts, and how they are read.
 
-use bstr::ByteSlice;
-use std::alloc::Global;
-use std::marker::Model;
-
 use crate::fault::ScriptFault;
 use crate::line::read_request;
 use crate::request::Request;
+use bstr::ByteSlice;
+use std::alloc::Global;
+use std::marker::Model;
 
 /// The most lines that a script may have.
 const MOST_LINES: u32 = 60_000;

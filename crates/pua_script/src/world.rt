@@ -1,23 +1,13 @@
 //! A world of processes over one tree.
 
 use indexmap::IndexMap;
-use pua_path::Errno;
-use pua_policy::{May, Process, Promises};
+use pua_policy::Process;
 use pua_tree::{FileTree, OutOfMemory};
 use std::alloc::Global;
 use std::marker::Model;
 
-use crate::act::act;
-use crate::answer::Answer;
-use crate::fault::WorldFault;
-use crate::request::{Action, Request};
-use crate::script::Script;
-
 /// The number of the process that a new world has.
 const FIRST_PROCESS: u32 = 1;
-
-/// The most processes that may ever be made.
-const MOST_PROCESSES: usize = 256;
 
 /// A tree, and all processes that were ever made, ended ones too. It keeps no histories; contracts
 /// say for which worlds of the replay it stands.
@@ -25,7 +15,6 @@ const MOST_PROCESSES: usize = 256;
 pub struct World<T: FileTree> {
     tree: T,
     processes: IndexMap<u32, Process>,
-    alloc: Global,
 }
 
 impl<T: FileTree> Model for World<T> {
@@ -36,10 +25,9 @@ impl<T: FileTree> Model for World<T> {
     ghost view = { λ a. record { tree = T.content a.tree; processes = a.processes.entries } };
 }
 
-ghost use Rattle.std.specs.Prelude.{◌≡◌, IfOk, IsFalse, option_copied};
+ghost use Rattle.std.specs.Prelude.{◌≡◌, IfOk, option_copied};
 ghost use Rattle.pua_script.specs.Replay.{new_world};
-ghost use Rattle.pua_script.specs.Worlds.{StandsForWorld, IsProcessOf, IsServed, AreServed, is_fork, process_at};
-ghost use Rattle.pua_script.specs.declared.request.Action.TheVariants as actions;
+ghost use Rattle.pua_script.specs.Worlds.{StandsForWorld, IsProcessOf, process_at};
 
 impl<T: FileTree> World<T> {
     /// A world over this tree with process 1 alone, which is new. `OutOfMemory` where a growth was
@@ -54,11 +42,7 @@ impl<T: FileTree> World<T> {
         let Ok(_) = processes.insert(FIRST_PROCESS, process) else {
             return Err(OutOfMemory);
         };
-        Ok(World {
-            tree,
-            processes,
-            alloc,
-        })
+        Ok(World { tree, processes })
     }
 
     /// The tree as it is now.
@@ -75,86 +59,4 @@ impl<T: FileTree> World<T> {
     {
         self.processes.get(&number)
     }
-
-    /// Serves one request, and answers it. A process that has ended or was never made is told
-    /// `Gone`; a request that fails changes nothing. `OutOfMemory` where a growth was refused.
-    pub fn apply(&mut self, request: &Request) -> Result<Answer, WorldFault>
-        ensures { IfOk result (λ answer. IsServed self.old request.now answer self.new) }
-    {
-        let number = request.process();
-        match request.action() {
-            Action::Fork(new) => fork(self.alloc, &self.tree, &mut self.processes, number, *new),
-            action => serve(&mut self.tree, &mut self.processes, number, action),
-        }
-    }
-
-    /// Serves the requests of a script in their order, and answers each. `OutOfMemory` where a
-    /// growth was refused; some of the first requests were then served.
-    pub fn run(&mut self, alloc: Global, script: &Script) -> Result<Vec<Answer>, WorldFault>
-        ensures { IfOk result (λ told. AreServed self.old script.now told.items self.new) }
-    {
-        let requests = script.requests();
-        let mut told = Vec::with_capacity(alloc, requests.len())
-            .map_err(|_refused| WorldFault::OutOfMemory)?;
-        for request in requests {
-            let answer = self.apply(request)?;
-            told.push(answer).map_err(|_refused| WorldFault::OutOfMemory)?;
-        }
-        Ok(told)
-    }
-}
-
-/// Serves a request that makes no process.
-fn serve<T: FileTree>(
-    tree: &mut T,
-    processes: &mut IndexMap<u32, Process>,
-    number: u32,
-    action: &Action,
-) -> Result<Answer, WorldFault>
-    requires { IsFalse (is_fork action.now) }
-    ensures { IfOk result (λ answer. IsServed (record { tree = T.content tree.old; processes = processes.old.entries })
-        (record { process = number; action = action.now }) answer (record { tree = T.content tree.new; processes = processes.new.entries })) }
-{
-    match processes.get_mut(&number) {
-        Some(process) if !process.ended() => act(tree, process, action),
-        _ => Ok(Answer::Gone),
-    }
-}
-
-/// Serves a fork: the new process is a copy of the one that asks.
-fn fork<T: FileTree>(
-    alloc: Global,
-    tree: &T,
-    processes: &mut IndexMap<u32, Process>,
-    number: u32,
-    new: u32,
-) -> Result<Answer, WorldFault>
-    ensures { IfOk result (λ answer. IsServed (record { tree = T.content tree.now; processes = processes.old.entries })
-        (record { process = number; action = actions.Fork new }) answer (record { tree = T.content tree.now; processes = processes.new.entries })) }
-{
-    let is_refused = processes.contains_key(&new) || processes.len() >= MOST_PROCESSES;
-    let Some(process) = processes.get_mut(&number) else {
-        return Ok(Answer::Gone);
-    };
-    if process.ended() {
-        return Ok(Answer::Gone);
-    }
-    match process.may(Promises::PROC) {
-        May::Yes => {}
-        May::Enosys => return Ok(Answer::Failed(Errno::ENOSYS)),
-        May::Death => {
-            process.end();
-            return Ok(Answer::Killed);
-        }
-    }
-    if is_refused {
-        return Ok(Answer::Failed(Errno::EAGAIN));
-    }
-    let copy = process
-        .fork(alloc)
-        .map_err(|_refused| WorldFault::OutOfMemory)?;
-    processes
-        .insert(new, copy)
-        .map_err(|_refused| WorldFault::OutOfMemory)?;
-    Ok(Answer::Okay)
 }

@@ -72,5 +72,5 @@ pub node_came : (rows more : List Row) (nodes : List Node) (next dir : ℕ) (nam
 node_came rows more nodes next dir name node made w e is =
     let below = numbers_below (held_tree rows nodes next) (map node_entry nodes) w.nodes_fit in
     let pushed : map node_entry (nodes ++ node ∷ []) ≡ put nat_cmp next made (map node_entry nodes) =
-        map_push node_entry nodes node ∙ ap (λ n. map node_entry nodes ++ n ∷ []) is ∙ sym (put_last next made (map node_entry nodes) below) in
+    map_push node_entry nodes node ∙ ap (λ n. map node_entry nodes ++ n ∷ []) is ∙ sym (put_last next made (map node_entry nodes) below) in
     λ i. record { rows = e i; nodes = pushed i; next = next + 1 }

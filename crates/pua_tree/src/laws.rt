@@ -10,6 +10,11 @@ pub fn tree_law()
     ensures { TreesAreTheirRows }
 {}
 
+/// What each edit leaves is a tree again, whose next number is no lower.
+pub fn edits_keep_trees()
+    ensures { EditsKeepTrees }
+{}
+
 /// Bytes are read as a tree exactly where they are a listing of it, and what a listing lists is a
 /// tree.
 pub fn listing_law()
@@ -20,11 +25,6 @@ pub fn listing_law()
 /// Bytes have one spelling, and it is read as them.
 pub fn spelling_law()
     ensures { SpellingsAreRead }
-{}
-
-/// What each edit leaves is a tree again, whose next number is no lower.
-pub fn edits_keep_trees()
-    ensures { EditsKeepTrees }
 {}
 
 /// Examples of listings.

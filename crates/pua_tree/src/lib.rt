@@ -26,3 +26,6 @@ pub use node::{Kind, NodeId};
 pub use spelling::{SpelledByte, byte_spelling, unspelled};
 pub use target::{has_short_components, is_target};
 pub use tree::FileTree;
+
+#[cfg(test)]
+mod tests;

@@ -120,7 +120,14 @@ impl FileTree for ListTree {
         let target = copied_target(alloc, target).map_err(|_| TreeFault::OutOfMemory)?;
         reserve_one(&mut self.rows, &mut self.nodes).map_err(|_| TreeFault::OutOfMemory)?;
         let id = NodeId::new(self.next);
-        put_row(&mut self.rows, Row { dir, name, node: id });
+        put_row(
+            &mut self.rows,
+            Row {
+                dir,
+                name,
+                node: id,
+            },
+        );
         push_node(&mut self.nodes, Node { id, kind, target });
         self.next += 1;
         Ok(id)
@@ -146,7 +153,14 @@ impl FileTree for ListTree {
         };
         let displaced = self.look(to, &new_name);
         take_row(&mut self.rows, from, name);
-        put_row(&mut self.rows, Row { dir: to, name: new_name, node });
+        put_row(
+            &mut self.rows,
+            Row {
+                dir: to,
+                name: new_name,
+                node,
+            },
+        );
         if let Some(displaced) = displaced {
             take_unnamed(&self.rows, &mut self.nodes, displaced);
         }
@@ -238,10 +252,16 @@ impl ListTree {
 
     /// The node of a row that may be moved, and None where it stands at the new place already, or
     /// else the first fault.
-    fn may_shift(&self, from: NodeId, name: &Name, to: NodeId, new_name: &Name) -> Result<Option<NodeId>, TreeFault>
+    fn may_shift(
+        &self,
+        from: NodeId,
+        name: &Name,
+        to: NodeId,
+        new_name: &Name,
+    ) -> Result<Option<NodeId>, TreeFault>
         ensures exact { MatchResult result
             (λ moves. MatchOption moves (shift self.now from name.now to new_name.now ≡ Ok self.now)
-                (λ node. shift self.now from name.now to new_name.now ≡ Ok (moved self.now from name.now to new_name.now node (look self.now to new_name.now))))
+            (λ node. shift self.now from name.now to new_name.now ≡ Ok (moved self.now from name.now to new_name.now node (look self.now to new_name.now))))
             (λ fault. (fault ≢ TreeFault.OutOfMemory) × (shift self.now from name.now to new_name.now ≡ Err fault)) }
         ensures found { IfOk result (λ moves. IfSome moves (λ node. look self.now from name.now ≡ Some node)) }
         ensures name { IsTrue (is_name new_name.now) }
@@ -330,3 +350,6 @@ fn name_set(alloc: Global, rows: &[Row]) -> Result<BTreeSet<Name>, AllocError>
     }
     Ok(names)
 }
+
+#[cfg(test)]
+mod tests;

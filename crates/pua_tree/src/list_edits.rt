@@ -1,10 +1,5 @@
 //! Changes of a list of rows and of a list of nodes, each in the order of its keys.
 
-use crate::list::{Node, Row, node_place, row_place};
-use crate::name::Name;
-use crate::node::NodeId;
-use std::alloc::{AllocError, Global};
-
 ghost use Rattle.std.specs.Prelude.{ℕ, ◌≡◌, ◌<◌, ◌++◌, ◌∷◌, [], IsTrue, IsSome, IfOk, OnOk, not, ◌==◌, map, option_map, option_copied, vec_len, vec_capacity};
 ghost use Rattle.std.specs.List.{list_any};
 ghost use Rattle.std.specs.Ordering.{nat_cmp, is_eq};
@@ -13,6 +8,11 @@ ghost use Rattle.std.specs.FinMap.Entries.{where_key};
 ghost use Rattle.pua_tree.specs.Tree.{spot_cmp};
 ghost use Rattle.pua_tree.specs.Edits.{without_unnamed};
 ghost use Rattle.pua_tree.specs.ListTree.{row_entry, node_entry, held_tree};
+
+use crate::list::{Node, Row, node_place, row_place};
+use crate::name::Name;
+use crate::node::NodeId;
+use std::alloc::{AllocError, Global};
 
 /// Makes room for a further row and a further node.
 pub(crate) fn reserve_one(rows: &mut Vec<Row>, nodes: &mut Vec<Node>) -> Result<(), AllocError>
@@ -25,7 +25,10 @@ pub(crate) fn reserve_one(rows: &mut Vec<Row>, nodes: &mut Vec<Node>) -> Result<
 }
 
 /// A copy of a link's target.
-pub(crate) fn copied_target(alloc: Global, target: Option<&[u8]>) -> Result<Option<Vec<u8>>, AllocError>
+pub(crate) fn copied_target(
+    alloc: Global,
+    target: Option<&[u8]>,
+) -> Result<Option<Vec<u8>>, AllocError>
     ensures { IfOk result (λ copy. option_map (λ bytes. bytes.items) copy ≡ option_copied target.entry) }
 {
     match target {

@@ -31,9 +31,9 @@ returns-in_err-request c =
     let less : c.loop-line.number < 60000 = omega (arith, few, apart) in
     let fault = c.in_err-request.field-0.0 in
     let refuses : fault ≢ OutOfMemory → script c.args.bytes.now ≡ Err fault = λ other.
-        c.loop-line.invariant.so_far
-        ∙ ap (onwards 60000 c.loop-line.number c.loop-line.requests.items) c.in-Some.ensures.steps
-        ∙ refused 60000 c.loop-line.number c.loop-line.requests.items c.in-Some.line.now c.next.new.self fault less (rw add-one at (c.in_err-request.ensures other)) in
+    c.loop-line.invariant.so_far
+    ∙ ap (onwards 60000 c.loop-line.number c.loop-line.requests.items) c.in-Some.ensures.steps
+    ∙ refused 60000 c.loop-line.number c.loop-line.requests.items c.in-Some.line.now c.next.new.self fault less (rw add-one at (c.in_err-request.ensures other)) in
     let p = err_from_is_err_and c.from_residual.result c.from_residual.ensures.1 in
     rw (p.1, p.2) refuses
 
@@ -47,9 +47,9 @@ loop-line-preserved c =
     record {
       few = omega (arith, less);
       so_far = c.loop-line.invariant.so_far
-        ∙ ap (onwards 60000 c.loop-line.number c.loop-line.requests.items) c.in-Some.ensures.steps
-        ∙ goes_on 60000 c.loop-line.number c.loop-line.requests.items c.in-Some.line.now c.next.new.self c.in_ok-request.request less (rw add-one at c.in_ok-request.ensures)
-        ∙ (λ i. onwards 60000 (sym next i) (sym pushed i) c.next.new.self);
+          ∙ ap (onwards 60000 c.loop-line.number c.loop-line.requests.items) c.in-Some.ensures.steps
+          ∙ goes_on 60000 c.loop-line.number c.loop-line.requests.items c.in-Some.line.now c.next.new.self c.in_ok-request.request less (rw add-one at c.in_ok-request.ensures)
+          ∙ (λ i. onwards 60000 (sym next i) (sym pushed i) c.next.new.self);
     }
 
 pub returns : goal.returns

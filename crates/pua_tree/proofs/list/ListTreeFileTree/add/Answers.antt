@@ -22,9 +22,9 @@ returns-clause-exact c =
     let entry : node_entry new ≡ (next, made) = λ i. (number i, record { kind = c.args.kind; target = target i }) in
     let nodes : c.push_node.new.nodes.items ≡ c.self.inside.nodes.items ++ new ∷ [] = c.push_node.ensures ∙ ap (λ (all : List Node). all ++ new ∷ []) c.reserve_one.ensures.nodes in
     let grown : held_tree rows c.push_node.new.nodes.items (next + 1) ≡ with_new self c.args.dir c.args.name made =
-        ap (λ (all : List Node). held_tree rows all (next + 1)) nodes
-        ∙ node_came c.self.inside.rows.items rows c.self.inside.nodes.items next c.args.dir c.args.name new made c.self.invariant row entry
-        ∙ ap (λ (t : tree.Tree). with_new t c.args.dir c.args.name made) c.self.view_is in
+    ap (λ (all : List Node). held_tree rows all (next + 1)) nodes
+    ∙ node_came c.self.inside.rows.items rows c.self.inside.nodes.items next c.args.dir c.args.name new made c.self.invariant row entry
+    ∙ ap (λ (t : tree.Tree). with_new t c.args.dir c.args.name made) c.self.view_is in
     let same : self.next ≡ c.new-id.result = sym (number ∙ ap (λ (t : tree.Tree). t.next) c.self.view_is) in
     c.in_ok-may_add.ensures.exact made ∙ λ i. Ok (same i, sym grown i)
 

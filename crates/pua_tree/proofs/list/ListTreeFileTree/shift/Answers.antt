@@ -17,10 +17,10 @@ returns-in-Some-displaced-clause-exact c =
     let change = λ (t : tree.Tree). with_row (without_row t c.args.from c.args.name.now) c.args.to c.args.new_name c.in-Some.node in
     let after = λ (there : Option ℕ). moved c.args.self.now c.args.from c.args.name.now c.args.to c.args.new_name c.in-Some.node there in
     let came : held_tree c.put_row.new.rows.items c.self.inside.nodes.items next ≡ change c.args.self.now =
-        row_moved c.self.inside.rows.items c.take_row.new.rows.items c.put_row.new.rows.items c.self.inside.nodes.items next c.args.from c.args.name.now c.args.to c.args.new_name c.in-Some.node c.take_row.ensures.rows c.put_row.ensures
-        ∙ ap change c.self.view_is in
+    row_moved c.self.inside.rows.items c.take_row.new.rows.items c.put_row.new.rows.items c.self.inside.nodes.items next c.args.from c.args.name.now c.args.to c.args.new_name c.in-Some.node c.take_row.ensures.rows c.put_row.ensures
+    ∙ ap change c.self.view_is in
     let left : held_tree c.put_row.new.rows.items c.take_unnamed.new.nodes.items next ≡ after (Some c.in-Some-displaced.displaced) =
-        (rw c.deref.ensures.value at (c.take_unnamed.ensures next)) ∙ ap (λ (t : tree.Tree). without_unnamed t c.in-Some-displaced.displaced) came in
+    (rw c.deref.ensures.value at (c.take_unnamed.ensures next)) ∙ ap (λ (t : tree.Tree). without_unnamed t c.in-Some-displaced.displaced) came in
     (rw c.in-Some.is at c.in_ok-node.ensures.exact)
     ∙ ap (λ (there : Option ℕ). Ok (after there)) (sym c.look-displaced.ensures ∙ c.in-Some-displaced.is)
     ∙ ap (λ (t : tree.Tree). Ok t) (sym left)
@@ -35,8 +35,8 @@ returns-in_default-displaced-clause-exact c =
     let change = λ (t : tree.Tree). with_row (without_row t c.args.from c.args.name.now) c.args.to c.args.new_name c.in-Some.node in
     let after = λ (there : Option ℕ). moved c.args.self.now c.args.from c.args.name.now c.args.to c.args.new_name c.in-Some.node there in
     let came : held_tree c.put_row.new.rows.items c.self.inside.nodes.items next ≡ after None =
-        row_moved c.self.inside.rows.items c.take_row.new.rows.items c.put_row.new.rows.items c.self.inside.nodes.items next c.args.from c.args.name.now c.args.to c.args.new_name c.in-Some.node c.take_row.ensures.rows c.put_row.ensures
-        ∙ ap change c.self.view_is in
+    row_moved c.self.inside.rows.items c.take_row.new.rows.items c.put_row.new.rows.items c.self.inside.nodes.items next c.args.from c.args.name.now c.args.to c.args.new_name c.in-Some.node c.take_row.ensures.rows c.put_row.ensures
+    ∙ ap change c.self.view_is in
     (rw c.in-Some.is at c.in_ok-node.ensures.exact)
     ∙ ap (λ (there : Option ℕ). Ok (after there)) (sym c.look-displaced.ensures ∙ c.in_default-displaced.is)
     ∙ ap (λ (t : tree.Tree). Ok t) (sym came)
