@@ -41,3 +41,8 @@ text_fits t well from ending text mode (Ok object) is = by (path_fault text) ref
     by : (o : Option Errno) → path_fault text ≡ o → FoundsFit t (Ok object)
     by None e = ((resolutions_fit t well).whole from ending text mode object (sym (rw e at is))).fits
     by (Some errno) e = absurd (Err≢Ok errno object (sym (rw e at is)))
+
+-- what a path without fault names is of the tree
+pub found_fit : (t : Tree) → WellFormed t → (from : ℕ) (ending : Ending) (text : List ℕ) (mode : Last) (r : Result Found Errno) → r ≡ resolution t from ending text mode → FoundsFit t r
+found_fit t well from ending text mode (Err errno) is = tt
+found_fit t well from ending text mode (Ok object) is = ((resolutions_fit t well).whole from ending text mode object (sym is)).fits
