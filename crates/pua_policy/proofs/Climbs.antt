@@ -1,5 +1,5 @@
 -- Climbing in a tree, one directory after another.
-use Rattle.std.proofs.Common.{◌≡◌, ℕ, zero, suc, ◌+◌, ◌-◌, ◌≤◌, ◌<◌, List, [], ◌∷◌, length, Bool, true, false, cond, map, refl, sym, ap, ◌∙◌, arith, subst}
+use Rattle.std.proofs.Common.{◌≡◌, ℕ, zero, suc, ◌+◌, ◌-◌, ◌≤◌, ◌≢◌, add-one, List, [], ◌∷◌, length, Bool, true, false, cond, map, refl, sym, ap, ◌∙◌, arith, subst}
 use Rattle.std.proofs.lemmas.Bool.{false≢true, eqb-true}
 use Rattle.std.specs.List.{list_all, list_any, find}
 use Rattle.std.specs.Prelude.{Option, Some, None, option_map, ◌&&◌, ◌||◌, ◌==◌, unwrap_or, nat_lt}
@@ -7,6 +7,8 @@ use Rattle.pua_tree.specs.Tree.{Tree, Node, WellFormed, is_dir, is_dir_kind, abo
 use Rattle.pua_tree.specs.Names.{is_name}
 use Rattle.pua_tree.specs.declared.node.Kind.{Kind}
 use Rattle.pua_tree.specs.declared.node.Kind.TheVariants.{Dir}
+use Rattle.pua_policy.specs.Verdict.{nearest}
+use Rattle.pua_policy.specs.declared.answer.Cover.TheVariants.{Nothing, Only}
 use Rattle.pua_policy.proofs.Finding.{both_true, list_all-find, list_all-find_key}
 
 -- a climb gets to the root
@@ -37,9 +39,9 @@ module _ (t : Tree) where
       let same = further n (above t (suc d)) (rest_has_root d (climb_within n t (above t (suc d))) e) in
       (ap (λ ds. suc d ∷ ds) (sym same), ap has_root same ∙ rest_has_root d (climb_within n t (above t (suc d))) e)
 
-  pub climb_step : (d : ℕ) → has_root (climb t (suc d)) ≡ true →
+  goes_on : (d : ℕ) → has_root (climb t (suc d)) ≡ true →
       (climb t (suc d) ≡ suc d ∷ climb t (above t (suc d))) × (has_root (climb t (above t (suc d))) ≡ true)
-  climb_step = step_within (length t.nodes)
+  goes_on = step_within (length t.nodes)
 
   root_within : (n : ℕ) → climb_within n t 0 ≡ 0 ∷ []
   root_within zero = refl
@@ -56,6 +58,15 @@ module _ (t : Tree) where
   -- a climb has at most one directory more than there are nodes
   pub length-climb : (d : ℕ) → length (climb t d) ≤ length t.nodes + 1
   length-climb = length_within (length t.nodes)
+
+  some_within : (n d : ℕ) → 1 ≤ length (climb_within n t d)
+  some_within zero d = omega arith
+  some_within (suc n) zero = omega arith
+  some_within (suc n) (suc d) = omega arith
+
+  -- and at least the directory itself
+  pub climb-some : (d : ℕ) → 1 ≤ length (climb t d)
+  climb-some = some_within (length t.nodes)
 
   module _ (fits : WellFormed t) where
     -- what is above a directory is one
@@ -84,3 +95,37 @@ module _ (t : Tree) where
             let two = both_true (nat_lt (suc d) t.next) _ all in
             let three = both_true (target_fits node.kind node.target) (rows_fit_kind t (suc d) node.kind) two.1 in
             of_kind node node.kind is three.1
+
+    -- a climb goes on with the climb from the directory above
+    pub climb_step : (d : ℕ) → d ≢ 0 → is_dir t d ≡ true → climb t d ≡ d ∷ climb t (above t d)
+    climb_step zero other e = absurd (other refl)
+    climb_step (suc d) other e = (goes_on d (climb_gets_to_root (suc d) e)).0
+
+    -- so it is longer by one
+    pub length-climb_step : (d : ℕ) → d ≢ 0 → is_dir t d ≡ true → length (climb t d) ≡ length (climb t (above t d)) + 1
+    length-climb_step d other e = ap length (climb_step d other e) ∙ sym (add-one (length (climb t (above t d))))
+
+    module _ (f : ℕ → Option ℕ) where
+      -- what a directory keeps covers it
+      pub nearest_here : (d perms : ℕ) → is_dir t d ≡ true → f d ≡ Some perms → nearest (map f (climb t d)) ≡ Only perms
+      nearest_here zero perms e here = ap (λ ds. nearest (map f ds)) climb_root ∙ ap (λ o. nearest (o ∷ [])) here
+      nearest_here (suc d) perms e here =
+          ap (λ ds. nearest (map f ds)) (goes_on d (climb_gets_to_root (suc d) e)).0
+          ∙ ap (λ o. nearest (o ∷ map f (climb t (above t (suc d))))) here
+
+      -- and where it keeps nothing, what is nearest above it
+      pub nearest_above : (d : ℕ) → d ≢ 0 → is_dir t d ≡ true → f d ≡ None → nearest (map f (climb t d)) ≡ nearest (map f (climb t (above t d)))
+      nearest_above d other e nothing =
+          ap (λ ds. nearest (map f ds)) (climb_step d other e) ∙ ap (λ o. nearest (o ∷ map f (climb t (above t d)))) nothing
+
+      pub nearest_root : f 0 ≡ None → nearest (map f (climb t 0)) ≡ Nothing
+      nearest_root nothing = ap (λ ds. nearest (map f ds)) climb_root ∙ ap (λ o. nearest (o ∷ [])) nothing
+
+      -- a directory itself and those over it are its climb
+      pub nearest_whole : (d : ℕ) → is_dir t d ≡ true → nearest (f d ∷ map f (climb t (above t d))) ≡ nearest (map f (climb t d))
+      nearest_whole zero e = ap (λ ds. nearest (f 0 ∷ map f ds)) climb_root ∙ once (f 0) ∙ ap (λ ds. nearest (map f ds)) (sym climb_root)
+        where
+          once : (o : Option ℕ) → nearest (o ∷ o ∷ []) ≡ nearest (o ∷ [])
+          once None = refl
+          once (Some perms) = refl
+      nearest_whole (suc d) e = ap (λ ds. nearest (map f ds)) (sym (goes_on d (climb_gets_to_root (suc d) e)).0)

@@ -6,3 +6,4 @@ pub mod Veils
 pub mod Places
 pub mod Narrowing
 pub mod Standing
+pub mod Covers

@@ -1,9 +1,8 @@
 //! What a process and the verdict on its calls answer.
 
+use crate::perms::Perms;
 use pua_path::Errno;
 use thiserror::Error;
-
-use crate::perms::Perms;
 
 /// Whether promises allow a call.
 #[derive(Clone, Copy, Debug, PartialEq, Eq)]

@@ -1,9 +1,8 @@
 //! The fourteen calls with one path.
 
-use pua_path::Last;
-
 use crate::perms::Perms;
 use crate::promises::Promises;
+use pua_path::Last;
 
 /// A call with one path, in the order of the calls' numbers.
 #[derive(Clone, Copy, Debug, PartialEq, Eq, PartialOrd, Ord, Hash)]

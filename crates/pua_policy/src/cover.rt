@@ -1,16 +1,15 @@
 //! What the veils of a process leave of an object.
 
 ghost use Rattle.std.specs.Prelude.{◌≡◌, ℕ, ◌+◌, ◌≤◌, length, map, IsTrue};
-ghost use Rattle.pua_tree.specs.Tree.{is_dir, climb};
+ghost use Rattle.pua_tree.specs.Tree.{WellFormed, is_dir, climb};
 ghost use Rattle.pua_policy.specs.History.{History, StandsFor, veil_at};
 ghost use Rattle.pua_policy.specs.Verdict.{FoundFits, cover, nearest};
-
-use pua_path::{Found, Probe};
-use pua_tree::NodeId;
 
 use crate::answer::Cover;
 use crate::place::Place;
 use crate::process::Process;
+use pua_path::{Found, Probe};
+use pua_tree::NodeId;
 
 impl Process {
     /// What the veils leave of an object: everything where no veil is kept; else the permissions at
@@ -26,6 +25,7 @@ impl Process {
         if !self.is_veiled() {
             return Cover::All;
         }
+        probe.known();
         match *found {
             Found::Whole { dir, .. } => self.nearest(probe, dir),
             Found::Slot { dir, name, .. } => match self.kept(&Place::Slot(dir, name)) {
@@ -37,12 +37,12 @@ impl Process {
 
     /// The permissions of the first directory that has a veil, from this one up to the root.
     fn nearest<'t, P: Probe<'t>>(&self, probe: &mut P, from: NodeId) -> Cover
-        requires { IsTrue (is_dir (P.tree probe.old) from) }
+        requires tree { WellFormed (P.tree probe.old) }
+        requires living { IsTrue (is_dir (P.tree probe.old) from) }
         ensures exact { result ≡ nearest (map (λ dir. veil_at self.now.veils (Place.Dir dir)) (climb (P.tree probe.old) from)) }
         ensures tree { P.tree probe.new ≡ P.tree probe.old }
         ensures cost { P.count probe.new ≤ P.count probe.old + length (P.tree probe.old).nodes }
     {
-        probe.known();
         let mut dir = from;
         loop {
             if let Some(perms) = self.kept(&Place::Dir(dir)) {

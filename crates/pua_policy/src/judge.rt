@@ -6,14 +6,13 @@ ghost use Rattle.pua_policy.specs.Calls.{standard_table};
 ghost use Rattle.pua_policy.specs.History.{History, StandsFor};
 ghost use Rattle.pua_policy.specs.Verdict.{FoundFits, FoundsFit, verdict, verdict_of, cover, or_fault, cover_fault, object_fault, rmdir_fault, object_of, object_of_kind, IsDir};
 
-use pua_path::{Errno, Found, Probe, Way};
-use pua_tree::{Kind, NodeId};
-
 use crate::answer::{Cover, May, Verdict};
 use crate::call::Call;
 use crate::needs;
 use crate::perms::Perms;
 use crate::process::Process;
+use pua_path::{Errno, Found, Probe, Way};
+use pua_tree::{Kind, NodeId};
 
 /// The verdict on a call, on what its path names: first the promises, then the cover, the
 /// permissions that it lacks, and what was found. Whether there is room for a new node is not
@@ -106,9 +105,7 @@ fn object_fault<'t, P: Probe<'t>>(probe: &mut P, call: Call, found: &Found) -> O
 {
     match *found {
         Found::Whole { dir, way } => directory_fault(probe, call, dir, way),
-        Found::Slot {
-            node: Some(id), ..
-        } => slot_fault(call, probe.kind(id)),
+        Found::Slot { node: Some(id), .. } => slot_fault(call, probe.kind(id)),
         Found::Slot { node: None, .. } => slot_fault(call, None),
     }
 }

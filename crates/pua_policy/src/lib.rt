@@ -4,14 +4,13 @@
 mod answer;
 mod call;
 mod cover;
+pub mod judge;
 mod laws;
+pub mod needs;
 mod perms;
 mod place;
 mod process;
 mod promises;
-
-pub mod judge;
-pub mod needs;
 
 pub use answer::{Cover, May, UnveilFault, Verdict};
 pub use call::{Call, Need};

@@ -3,11 +3,10 @@
 ghost use Rattle.std.specs.Prelude.{◌≡◌, [], ◌∷◌};
 ghost use Rattle.pua_policy.specs.Calls.{rule_of, standard_table, last_of, ending_of};
 
-use pua_path::{Ending, Last};
-
 use crate::call::{Call, Need};
 use crate::perms::Perms;
 use crate::promises::Promises;
+use pua_path::{Ending, Last};
 
 /// What a call needs, by the standard table.
 pub fn need(call: Call) -> Need

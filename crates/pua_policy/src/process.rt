@@ -1,15 +1,14 @@
 //! A process: what it keeps of what happened to it.
 
+use crate::answer::{May, UnveilFault};
+use crate::perms::Perms;
+use crate::place::Place;
+use crate::promises::Promises;
 use indexmap::IndexMap;
 use pua_path::Errno;
 use pua_tree::{NodeId, OutOfMemory};
 use std::alloc::Global;
 use std::marker::Model;
-
-use crate::answer::{May, UnveilFault};
-use crate::perms::Perms;
-use crate::place::Place;
-use crate::promises::Promises;
 
 /// How many places one process may keep veils at.
 const PLACE_LIMIT: usize = 128;

@@ -26,8 +26,9 @@ impl Model for Promises {
     ghost inverse = { λ n. record { keywords = record { 0 = n } } };
 }
 
-ghost use Rattle.std.specs.Prelude.{⊤, ◌≡◌, [], ◌∷◌, bit_and, bit_or, option_map};
-ghost use Rattle.pua_policy.specs.Promises.{holds, promises_of, promise_of, keyword_rows};
+ghost use Rattle.std.specs.Prelude.{⊤, ◌≡◌, [], ◌∷◌, ◌==◌, bit_and, bit_or, map, option_map};
+ghost use Rattle.pua_policy.specs.Promises.{holds, promises_of, promise_of, union_of, keyword_rows};
+ghost use Rattle.std.specs.List.{slice_split};
 
 use pua_path::Errno;
 
@@ -257,13 +258,10 @@ impl Promises {
         ensures { result ≡ promises_of text.now }
     {
         if text.is_empty() {
-            return Ok(Promises::NONE);
+            Ok(Promises::NONE)
+        } else {
+            named(text)
         }
-        let mut promises = Promises::NONE;
-        for word in text.split(|byte| *byte == b',') {
-            promises = promises.union(promise(word).ok_or(Errno::EINVAL)?);
-        }
-        Ok(promises)
     }
 
     /// Whether each of the others is one of these.
@@ -290,6 +288,17 @@ impl Promises {
             keywords: self.keywords.intersection(others.keywords),
         }
     }
+}
+
+/// The promises that keywords with a comma between each two name.
+fn named(text: &[u8]) -> Result<Promises, Errno>
+    ensures { result ≡ union_of (map promise_of (slice_split (λ b. b == 44) text.now)) }
+{
+    let mut promises = Promises::NONE;
+    for word in text.split(|byte| *byte == b',') {
+        promises = promises.union(promise(word).ok_or(Errno::EINVAL)?);
+    }
+    Ok(promises)
 }
 
 /// The promise of one keyword.

@@ -21,7 +21,9 @@ returns-then-is_err-clause-err c =
     λ h s. (λ no. absurd (no refl), λ _. unveil_fault_by c.args.self.now h s c.args.place c.args.perms ∙ sym c.unveil_fault.ensures.fault ∙ c.in_default.is)
 
 pub returns-clause-ok : goal.returns-clause-ok
-returns-clause-ok c = λ h s. (unveil_fault_by c.args.self.now h s c.args.place c.args.perms ∙ sym c.unveil_fault.ensures.fault ∙ c.in_default.is, record {
+returns-clause-ok c = λ h s. (
+  unveil_fault_by c.args.self.now h s c.args.place c.args.perms ∙ sym c.unveil_fault.ensures.fault ∙ c.in_default.is,
+  record {
     promises = ap (λ p. p.promises) c.self.view_is ∙ s.promises;
     execpromises = ap (λ p. p.execpromises) c.self.view_is ∙ s.execpromises;
     veils = if_no_err c.insert.result (sym c.is_err.ensures.value ∙ c.if-is_err.false) c.insert.ensures.entries
@@ -30,4 +32,5 @@ returns-clause-ok c = λ h s. (unveil_fault_by c.args.self.now h s c.args.place 
     locked = ap (λ p. p.locked) c.self.view_is ∙ s.locked;
     dir = ap (λ p. p.dir) c.self.view_is ∙ s.dir;
     ended = ap (λ p. p.ended) c.self.view_is ∙ s.ended;
-  })
+  },
+)

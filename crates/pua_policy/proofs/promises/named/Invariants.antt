@@ -3,7 +3,7 @@ use Rattle.std.specs.List.{slice_split}
 use Rattle.std.specs.Prelude.{◌==◌, map}
 use Rattle.pua_policy.specs.Promises.{promise_of, union_of}
 use Rattle.pua_policy.proofs.Sets.{with_rest}
-use Rattle.pua_policy.proofs.promises.Promises.read.Given as goal
+use Rattle.pua_policy.proofs.promises.named.Given as goal
 
 abbrev pub invariant-loop-word : goal.invariant-loop-word
 invariant-loop-word l =
