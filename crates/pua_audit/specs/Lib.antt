@@ -1,0 +1,4 @@
+pub mod Reach
+pub mod Begin
+pub mod Laws
+pub mod Examples

@@ -1,0 +1,10 @@
+//! Where the paths of an audit begin.
+
+/// Where the paths of an audit begin.
+#[derive(Clone, Copy, Debug, PartialEq, Eq)]
+pub enum Base {
+    /// At the root: paths are absolute.
+    Root,
+    /// At the working directory of the process: paths are relative.
+    Cwd,
+}

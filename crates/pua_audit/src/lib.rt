@@ -1,0 +1,12 @@
+//! The reach of a process: the pairs of path and call that it is allowed.
+#![tactic(auto)]
+
+mod base;
+mod fault;
+mod laws;
+mod line;
+
+pub use base::Base;
+pub use fault::AuditFault;
+pub use laws::{reach_examples, reach_laws};
+pub use line::Line;

@@ -1,0 +1,10 @@
+//! A line of the reach.
+
+use pua_policy::Call;
+
+/// A pair of the reach: a path in plain bytes, and a call that the process is allowed on it.
+#[derive(Clone, Copy)]
+pub struct Line<'a> {
+    pub path: &'a [u8],
+    pub call: Call,
+}
