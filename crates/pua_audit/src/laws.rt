@@ -14,3 +14,6 @@ pub fn reach_laws()
     ensures alphabet { AlphabetRises }
     ensures reach { ReachRises }
 {}
+
+#[tactic(auto, using(crate::proofs::Along::reach_is_along, crate::proofs::Turns::given, crate::proofs::Resume::give_on))]
+fn trial() {}

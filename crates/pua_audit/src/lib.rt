@@ -3,8 +3,10 @@
 
 mod base;
 mod fault;
+mod frame;
 mod laws;
 mod line;
+mod state;
 
 pub use base::Base;
 pub use fault::AuditFault;

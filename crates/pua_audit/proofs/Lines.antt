@@ -1,0 +1,231 @@
+-- The reach, cut by places: what the trail's lines are.
+use Rattle.std.proofs.Common.{ℕ, zero, suc, ◌-◌, ◌≡◌, List, [], ◌∷◌, ◌++◌, Option, Some, None, Bool, true, false, cond, refl, ap, arith, sym, ◌∙◌, map}
+use Rattle.std.proofs.lemmas.List.{map-append}
+use Rattle.std.proofs.lemmas.Grind.{flat_map-append}
+use Rattle.std.proofs.lemmas.List.Elements.{filter-append, filter_map-append}
+use Rattle.std.specs.Prelude.{flat_map, filter}
+use Rattle.pua_audit.specs.World.{Place, Start, Below, World}
+use Rattle.pua_policy.specs.Calls.{calls, call_number}
+use Rattle.pua_policy.specs.declared.call.Call.{Call}
+use Rattle.pua_audit.specs.declared.state.State.{State}
+use Rattle.pua_audit.specs.Reach.{Word, Pair, words, pairs}
+use Rattle.pua_audit.specs.World.{if_some, is_allowed_along, reach_along}
+use Rattle.pua_audit.specs.Trail.{Event, lines_of, under, under_all, with_calls, allowed_at, decide, entered, deeper, branches, pending, ahead}
+
+-- lists
+
+pub flat_map-cong : {A B : Type 0} (f g : A → List B) → ((x : A) → f x ≡ g x) → (xs : List A) → flat_map f xs ≡ flat_map g xs
+flat_map-cong f g same [] = refl
+flat_map-cong f g same (x ∷ xs) = ap (λ ys. ys ++ flat_map f xs) (same x) ∙ ap (λ ys. g x ++ ys) (flat_map-cong f g same xs)
+
+flat_map-nil : {A B : Type 0} (xs : List A) → flat_map {A = B} (λ _. []) xs ≡ []
+flat_map-nil [] = refl
+flat_map-nil (x ∷ xs) = flat_map-nil xs
+
+flat_map-flat_map : {A B C : Type 0} (f : B → List C) (g : A → List B) (xs : List A) → flat_map f (flat_map g xs) ≡ flat_map (λ x. flat_map f (g x)) xs
+flat_map-flat_map f g [] = refl
+flat_map-flat_map f g (x ∷ xs) = flat_map-append f (g x) (flat_map g xs) ∙ ap (λ ys. flat_map f (g x) ++ ys) (flat_map-flat_map f g xs)
+
+pub filter-flat_map : {A B : Type 0} (test : B → Bool) (g : A → List B) (xs : List A) → filter test (flat_map g xs) ≡ flat_map (λ x. filter test (g x)) xs
+filter-flat_map test g [] = refl
+filter-flat_map test g (x ∷ xs) = filter-append test (g x) (flat_map g xs) ∙ ap (λ ys. filter test (g x) ++ ys) (filter-flat_map test g xs)
+
+pub filter-map : {A B : Type 0} (test : B → Bool) (f : A → B) (xs : List A) → filter test (map f xs) ≡ map f (filter (λ x. test (f x)) xs)
+filter-map test f [] = refl
+filter-map test f (x ∷ xs) =
+    elim (test (f x)) as (λ b. cond b (f x ∷ filter test (map f xs)) (filter test (map f xs)) ≡ map f (cond b (x ∷ filter (λ x. test (f x)) xs) (filter (λ x. test (f x)) xs))) [
+      | true ↦ ap (λ ys. f x ∷ ys) (filter-map test f xs)
+      | false ↦ filter-map test f xs
+    ]
+
+pub filter-none : {A : Type 0} (xs : List A) → filter (λ _. false) xs ≡ []
+filter-none [] = refl
+filter-none (x ∷ xs) = filter-none xs
+
+-- pairs behind a letter
+
+abbrev pub longer : List ℕ → Pair → Pair
+longer a p = (a ∷ p.0, p.1)
+
+unfoldable pub cons : List ℕ → List Pair → List Pair
+cons a ps = map (longer a) ps
+
+unfoldable pub alone : List Call → List Pair
+alone cs = map (λ (c : Call). ([], c)) cs
+
+pub cons-nil : (a : List ℕ) → cons a [] ≡ []
+unfolding cons
+cons-nil a = refl
+
+pub cons-append : (a : List ℕ) (ps qs : List Pair) → cons a (ps ++ qs) ≡ cons a ps ++ cons a qs
+unfolding cons
+cons-append a ps qs = map-append (longer a) ps qs
+
+pub filter-cons : (test : Pair → Bool) (a : List ℕ) (ps : List Pair) → filter test (cons a ps) ≡ cons a (filter (λ p. test (longer a p)) ps)
+unfolding cons
+filter-cons test a ps = filter-map test (longer a) ps
+
+pub filter-alone : (test : Pair → Bool) (cs : List Call) → filter test (alone cs) ≡ alone (filter (λ c. test ([], c)) cs)
+unfolding alone
+filter-alone test cs = filter-map test (λ c. ([], c)) cs
+
+-- the pairs, letter by letter
+
+abbrev word_calls : Word → List Pair
+word_calls word = map (λ (call : Call). (word, call)) calls
+
+word_calls_behind : (a : List ℕ) (word : Word) (cs : List Call) → map (λ (call : Call). (a ∷ word, call)) cs ≡ map (longer a) (map (λ (call : Call). (word, call)) cs)
+word_calls_behind a word [] = refl
+word_calls_behind a word (c ∷ cs) = ap (λ ps. (a ∷ word, c) ∷ ps) (word_calls_behind a word cs)
+
+pairs_behind : (a : List ℕ) (ws : List Word) → flat_map word_calls (map (λ word. a ∷ word) ws) ≡ cons a (flat_map word_calls ws)
+unfolding cons
+pairs_behind a [] = refl
+pairs_behind a (word ∷ ws) =
+    ap (λ ps. ps ++ flat_map word_calls (map (λ v. a ∷ v) ws)) (word_calls_behind a word calls)
+    ∙ ap (λ ps. map (longer a) (word_calls word) ++ ps) (pairs_behind a ws)
+    ∙ sym (map-append (longer a) (word_calls word) (flat_map word_calls ws))
+
+pairs_more : (letters : List (List ℕ)) (l : ℕ) → pairs letters (suc l) ≡ alone calls ++ flat_map (λ a. cons a (pairs letters l)) letters
+unfolding alone
+pairs_more letters l =
+    ap (λ ps. word_calls [] ++ ps) (flat_map-flat_map word_calls (λ a. map (λ word. a ∷ word) (words letters l)) letters
+    ∙ flat_map-cong (λ a. flat_map word_calls (map (λ word. a ∷ word) (words letters l))) (λ a. cons a (pairs letters l)) (λ a. pairs_behind a (words letters l)) letters)
+
+pairs_end : (letters : List (List ℕ)) → pairs letters zero ≡ alone calls ++ []
+unfolding alone
+pairs_end letters = refl
+
+-- the lines at a place, and those that go on from it by at most l letters
+
+abbrev pub here : World → Place → List Pair
+here w x = alone (allowed_at w x)
+
+abbrev pub from_state : Option State → (State → List Pair) → List Pair
+from_state None go = []
+from_state (Some s) go = go s
+
+unfoldable pub below : World → List (List ℕ) → ℕ → Place → List Pair
+below w letters zero x = []
+below w letters (suc l) x = from_state (w.step x) (λ s. flat_map (λ a. cons a (here w (Below s a) ++ below w letters l (Below s a))) letters)
+
+unfoldable pub rows : World → List (List ℕ) → ℕ → State → List (List ℕ) → List Pair
+rows w letters l s some = flat_map (λ a. cons a (here w (Below s a) ++ below w letters l (Below s a))) some
+
+module _ (w : World) (letters : List (List ℕ)) where
+  pub below_some : (l : ℕ) (s : State) (x : Place) → w.step x ≡ Some s → below w letters (suc l) x ≡ rows w letters l s letters
+  unfolding below rows
+  below_some l s x step = rw step refl
+
+  pub below_none : (l : ℕ) (x : Place) → w.step x ≡ None → below w letters l x ≡ []
+  unfolding below
+  below_none zero x step = refl
+  below_none (suc l) x step = rw step refl
+
+  pub below_end : (x : Place) → below w letters zero x ≡ []
+  unfolding below
+  below_end x = refl
+
+  abbrev IsFiltered : ℕ → Place → Type 0
+  IsFiltered l x = filter (λ p. is_allowed_along w x p.0 p.1) (pairs letters l) ≡ here w x ++ below w letters l x
+
+  behind_filtered : (l : ℕ) → ((x : Place) → IsFiltered l x) → (r : Option State)
+      → flat_map (λ a. cons a (filter (λ p. if_some r (λ s. is_allowed_along w (Below s a) p.0 p.1)) (pairs letters l))) letters
+      ≡ from_state r (λ s. flat_map (λ a. cons a (here w (Below s a) ++ below w letters l (Below s a))) letters)
+  behind_filtered l each None = flat_map-cong _ (λ _. []) (λ a. ap (cons a) (filter-none (pairs letters l)) ∙ cons-nil a) letters ∙ flat_map-nil letters
+  behind_filtered l each (Some s) = flat_map-cong _ (λ a. cons a (here w (Below s a) ++ below w letters l (Below s a))) (λ a. ap (cons a) (each (Below s a))) letters
+
+  -- filtering all pairs gives the lines at the place and those behind it
+  pub filtered : (l : ℕ) (x : Place) → IsFiltered l x
+  unfolding below allowed_at
+  filtered zero x = ap (filter (λ p. is_allowed_along w x p.0 p.1)) (pairs_end letters) ∙ filter-append (λ p. is_allowed_along w x p.0 p.1) (alone calls) [] ∙ ap (λ ps. ps ++ []) (filter-alone (λ p. is_allowed_along w x p.0 p.1) calls)
+  filtered (suc l) x =
+      let test : Pair → Bool = λ p. is_allowed_along w x p.0 p.1 in
+      ap (filter test) (pairs_more letters l)
+      ∙ filter-append test (alone calls) (flat_map (λ a. cons a (pairs letters l)) letters)
+      ∙ ap (λ ps. ps ++ filter test (flat_map (λ a. cons a (pairs letters l)) letters)) (filter-alone test calls)
+      ∙ ap (λ ps. here w x ++ ps) (filter-flat_map test (λ a. cons a (pairs letters l)) letters
+      ∙ flat_map-cong _ (λ a. cons a (filter (λ p. test (longer a p)) (pairs letters l))) (λ a. filter-cons test a (pairs letters l)) letters
+      ∙ behind_filtered l (filtered l) (w.step x))
+
+pub reach_is : (w : World) (letters : List (List ℕ)) (limit : ℕ) → reach_along w letters limit ≡ here w Start ++ below w letters limit Start
+reach_is w letters limit = filtered w letters limit Start
+
+-- the lines of a trail
+
+pub lines-append : (xs ys : List Event) → lines_of (xs ++ ys) ≡ lines_of xs ++ lines_of ys
+lines-append xs ys = filter_map-append (λ e. e) xs ys
+
+pub lines-under : (a : List ℕ) (es : List Event) → lines_of (under a es) ≡ cons a (lines_of es)
+unfolding under cons
+lines-under a [] = refl
+lines-under a (None ∷ es) = lines-under a es
+lines-under a (Some p ∷ es) = ap (λ ps. longer a p ∷ ps) (lines-under a es)
+
+pub lines-with_calls : (cs : List Call) → lines_of (with_calls cs) ≡ alone cs
+unfolding with_calls alone
+lines-with_calls [] = refl
+lines-with_calls (c ∷ cs) = ap (λ ps. ([], c) ∷ ps) (lines-with_calls cs)
+
+pub lines-decide : (w : World) (x : Place) → lines_of (decide w x) ≡ here w x
+unfolding decide
+lines-decide w x = lines-with_calls (allowed_at w x)
+
+-- a test of states that drops only what has no line
+abbrev pub Prunes : World → (ℕ → State → Bool) → List (List ℕ) → Type 0
+Prunes w live letters = (l : ℕ) (s : State) → live (suc l) s ≡ false → rows w letters l s letters ≡ []
+
+pub prunes_none : (w : World) (letters : List (List ℕ)) → Prunes w (λ _ _. true) letters
+prunes_none w letters l s h = absurd cc
+
+module _ (w : World) (live : ℕ → State → Bool) (letters : List (List ℕ)) (prunes : Prunes w live letters) where
+  lines-flat : (l : ℕ) → ((x : Place) → lines_of (deeper w live letters l x) ≡ below w letters l x) → (s : State) (some : List (List ℕ))
+      → lines_of (flat_map (λ a. under a (decide w (Below s a) ++ deeper w live letters l (Below s a))) some) ≡ rows w letters l s some
+  unfolding rows
+  lines-flat l each s [] = refl
+  lines-flat l each s (a ∷ some) =
+      lines-append (under a (decide w (Below s a) ++ deeper w live letters l (Below s a))) (flat_map (λ a. under a (decide w (Below s a) ++ deeper w live letters l (Below s a))) some)
+      ∙ ap (λ ps. ps ++ lines_of (flat_map (λ a. under a (decide w (Below s a) ++ deeper w live letters l (Below s a))) some))
+      (lines-under a (decide w (Below s a) ++ deeper w live letters l (Below s a))
+      ∙ ap (cons a) (lines-append (decide w (Below s a)) (deeper w live letters l (Below s a)) ∙ ap (λ ps. ps ++ lines_of (deeper w live letters l (Below s a))) (lines-decide w (Below s a)) ∙ ap (λ ps. here w (Below s a) ++ ps) (each (Below s a))))
+      ∙ ap (λ ps. cons a (here w (Below s a) ++ below w letters l (Below s a)) ++ ps) (lines-flat l each s some)
+
+  lines-entered : (l : ℕ) → ((x : Place) → lines_of (deeper w live letters l x) ≡ below w letters l x) → (r : Option State)
+      → lines_of (entered r (live (suc l)) (λ s. flat_map (λ a. under a (decide w (Below s a) ++ deeper w live letters l (Below s a))) letters))
+      ≡ from_state r (λ s. flat_map (λ a. cons a (here w (Below s a) ++ below w letters l (Below s a))) letters)
+  unfolding rows
+  lines-entered l each None = refl
+  lines-entered l each (Some s) =
+      let all : List Event = flat_map (λ a. under a (decide w (Below s a) ++ deeper w live letters l (Below s a))) letters in
+      elim (live (suc l) s) as (λ b. live (suc l) s ≡ b → lines_of (cond b all []) ≡ rows w letters l s letters) [
+        | true ↦ λ e. lines-flat l each s letters
+        | false ↦ λ e. sym (prunes l s e)
+      ] refl
+
+  pub lines-deeper : (l : ℕ) (x : Place) → lines_of (deeper w live letters l x) ≡ below w letters l x
+  unfolding deeper below
+  lines-deeper zero x = refl
+  lines-deeper (suc l) x = lines-entered l (lines-deeper l) (w.step x)
+
+  pub lines-branches : (l : ℕ) (s : State) (some : List (List ℕ)) → lines_of (branches w live letters l s some) ≡ rows w letters l s some
+  unfolding branches
+  lines-branches l s some = lines-flat l (lines-deeper l) s some
+
+-- before its first look a walk has the reach before it
+pub lines-fresh : (w : World) (live : ℕ → State → Bool) (letters : List (List ℕ)) (limit : ℕ) → Prunes w live letters
+    → lines_of (ahead w live letters limit false [] Start (allowed_at w Start) []) ≡ reach_along w letters limit
+unfolding ahead under_all pending
+lines-fresh w live letters limit prunes =
+    let first : List Event = with_calls (allowed_at w Start) ++ deeper w live letters (limit - 0) Start in
+    lines-append first [] ∙ ap (λ ps. ps ++ []) (lines-append (with_calls (allowed_at w Start)) (deeper w live letters (limit - 0) Start)) ∙ append-nil (lines_of (with_calls (allowed_at w Start)) ++ lines_of (deeper w live letters (limit - 0) Start))
+    ∙ ap (λ ps. ps ++ lines_of (deeper w live letters (limit - 0) Start)) (lines-with_calls (allowed_at w Start))
+    ∙ ap (λ ps. here w Start ++ ps) (lines-deeper w live letters prunes (limit - 0) Start)
+    ∙ ap (λ n. here w Start ++ below w letters n Start) all
+    ∙ sym (reach_is w letters limit)
+  where
+    all : limit - 0 ≡ limit
+    all = omega arith
+
+    append-nil : (ps : List Pair) → ps ++ [] ≡ ps
+    append-nil [] = refl
+    append-nil (p ∷ ps) = ap (λ qs. p ∷ qs) (append-nil ps)

@@ -1,0 +1,10 @@
+//! An open directory of a walk.
+
+use crate::state::State;
+
+/// A state whose letters from `next` on are still to be tried.
+#[derive(Clone, Copy, Debug, PartialEq, Eq)]
+pub struct Frame {
+    pub state: State,
+    pub next: usize,
+}
