@@ -1,9 +1,10 @@
 -- What is true of resolution.
-use Rattle.std.specs.Prelude.{◌≡◌, ℕ, List, [], ◌∷◌, ◌++◌, Err}
+use Rattle.std.specs.Prelude.{◌≡◌, ℕ, ◌+◌, ◌-◌, ◌<◌, ◌≤◌, ◌⊎◌, List, [], ◌∷◌, ◌++◌, Result, Ok, Err}
 use Rattle.pua_tree.specs.Tree.{Tree}
 use Rattle.pua_tree.specs.Steps.{◌>>=◌}
-use Rattle.pua_path.specs.Resolution.{Resolved, resolve_parts}
-use Rattle.pua_path.specs.declared.errno.Errno.TheVariants.{ENOTDIR}
+use Rattle.pua_path.specs.Resolution.{Resolved, resolve_parts, link_limit, step, last}
+use Rattle.pua_path.specs.declared.errno.Errno.{Errno}
+use Rattle.pua_path.specs.declared.errno.Errno.TheVariants.{ENOTDIR, ELOOP}
 use Rattle.pua_path.specs.declared.found.Part.{Part}
 use Rattle.pua_path.specs.declared.found.Part.TheVariants as parts
 use Rattle.pua_path.specs.declared.found.Last.{Last}
@@ -23,3 +24,48 @@ abbrev pub ResolutionComposes : Type 0
 ResolutionComposes = (t : Tree) (mode : Last) (links dir : ℕ) (way : Way) (first : List Part) (next : Part) (rest : List Part) →
     resolve_parts links t mode dir way (first ++ next ∷ rest)
     ≡ (resolve_parts links t Followed dir way (first ++ parts.Dot ∷ []) >>= onwards t mode (next ∷ rest))
+
+-- one step after another, from a directory with links used, up to the first that leads nowhere
+abbrev pub steps : Tree → List Part → ℕ × ℕ → Result (ℕ × ℕ) Errno
+steps t [] at = Ok at
+steps t (part ∷ parts) at = step t at.0 at.1 part >>= steps t parts
+
+-- steps along the first parts and then the last part are the resolution of them all
+abbrev pub StepsCompose : Type 0
+StepsCompose = (t : Tree) (mode : Last) (dir used : ℕ) (first : List Part) (part : Part) → used ≤ link_limit →
+    (resolve_parts (link_limit - used) t mode dir Top (first ++ part ∷ []) >>= λ found. Ok found.0)
+    ≡ (steps t first (dir, used) >>= λ at. last t at.0 at.1 part mode)
+
+-- an answer that is got by following exactly so many links: the same with any more that may be followed, and ELOOP with any fewer
+pub record FollowsLinks {A : Type 0} (answer : ℕ → Result (A × ℕ) Errno) (count : ℕ) (outcome : Result A Errno) : Type 0 where
+  pub enough : (links : ℕ) → count ≤ links → answer links ≡ (outcome >>= λ found. Ok (found, links - count))
+  pub too_few : (links : ℕ) → links < count → answer links ≡ Err ELOOP
+
+-- with up to so many links an answer is ELOOP, or it is got by following a number of links that is its own
+abbrev pub IsDecidedByLinks : {A : Type 0} → (ℕ → Result (A × ℕ) Errno) → ℕ → Type 0
+IsDecidedByLinks {A} answer most = ((links : ℕ) → links ≤ most → answer links ≡ Err ELOOP) ⊎ ((count : ℕ) × ((outcome : Result A Errno) × ((count ≤ most) × FollowsLinks answer count outcome)))
+
+-- what parts name, and how many links are followed, depends on the tree, the directory and the parts alone
+abbrev pub LinksDecide : Type 0
+LinksDecide = (t : Tree) (mode : Last) (dir : ℕ) (way : Way) (parts : List Part) (most : ℕ) →
+    IsDecidedByLinks (λ links. resolve_parts links t mode dir way parts) most
+
+-- a step that follows exactly so many links, and leads to this directory or to this errno
+pub record StepFollows (t : Tree) (dir : ℕ) (part : Part) (count : ℕ) (outcome : Result ℕ Errno) : Type 0 where
+  pub enough : (used : ℕ) → used + count ≤ link_limit → step t dir used part ≡ (outcome >>= λ reached. Ok (reached, used + count))
+  pub too_few : (used : ℕ) → used ≤ link_limit → link_limit < used + count → step t dir used part ≡ Err ELOOP
+
+-- where a step leads, and how many links it follows, depends on the directory and the part alone
+abbrev pub StepsFollow : Type 0
+StepsFollow = (t : Tree) (dir : ℕ) (part : Part) →
+    ((used : ℕ) → used ≤ link_limit → step t dir used part ≡ Err ELOOP) ⊎ ((count : ℕ) × ((outcome : Result ℕ Errno) × StepFollows t dir part count outcome))
+
+-- a last part that follows exactly so many links, and names this or fails with this errno
+pub record LastFollows (t : Tree) (dir : ℕ) (part : Part) (mode : Last) (count : ℕ) (outcome : Result Found Errno) : Type 0 where
+  pub enough : (used : ℕ) → used + count ≤ link_limit → last t dir used part mode ≡ outcome
+  pub too_few : (used : ℕ) → used ≤ link_limit → link_limit < used + count → last t dir used part mode ≡ Err ELOOP
+
+-- what a last part names, and how many links it follows, depends on the directory and the part alone
+abbrev pub LastsFollow : Type 0
+LastsFollow = (t : Tree) (dir : ℕ) (part : Part) (mode : Last) →
+    ((used : ℕ) → used ≤ link_limit → last t dir used part mode ≡ Err ELOOP) ⊎ ((count : ℕ) × ((outcome : Result Found Errno) × LastFollows t dir part mode count outcome))

@@ -1,6 +1,10 @@
 pub mod Counts
 pub mod ErrnoNames
 pub mod Paths
+pub mod Remaining
+pub mod Pieces
 pub mod Resolution
+pub mod Bounds
+pub mod Walks
 pub mod Laws
 pub mod Examples

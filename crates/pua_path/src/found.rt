@@ -39,7 +39,10 @@ pub enum Way {
 #[derive(Clone, Copy, Debug, PartialEq, Eq)]
 pub enum Found {
     /// A directory, and how it was named.
-    Whole { dir: NodeId, way: Way },
+    Whole {
+        dir: NodeId,
+        way: Way,
+    },
     /// A name in a directory, and the node there, which is no directory; or nothing.
     Slot {
         dir: NodeId,

@@ -2,13 +2,20 @@
 #![tactic(auto)]
 
 mod errno;
-mod laws;
 mod found;
+mod laws;
+mod piece;
 mod probe;
+mod resolver;
+mod rest;
 mod text;
 
 pub use errno::Errno;
 pub use found::{Found, Last, Part, Way};
-pub use laws::{resolution_examples, resolution_law};
+pub use laws::{links_law, resolution_examples, resolution_law, steps_law};
 pub use probe::{Counted, Probe};
+pub use resolver::{last, resolve, step};
 pub use text::{Ending, PathText};
+
+#[cfg(test)]
+mod tests;

@@ -2,6 +2,7 @@
 
 use pua_tree::{FileTree, Kind, Name, NodeId, TreeFault};
 use std::alloc::Global;
+use std::marker::Model;
 
 /// A tree that is asked one thing at a time, and counts what it was asked. Targets live as long as
 /// the tree.
@@ -63,11 +64,19 @@ pub trait Probe<'t> {
         ensures count { count self.new ≡ one_more (count self.old) };
 }
 
-/// A tree, and how often it was asked.
+/// A tree, and how often it was asked. Contracts see what the tree holds, and the count.
 #[derive(Drop)]
 pub struct Counted<'t, T: FileTree> {
     tree: &'t T,
     count: u64,
+}
+
+impl<'t, T: FileTree> Model for Counted<'t, T> {
+    ghost use Rattle.pua_path.specs.Counts.{Asked};
+
+    ghost Value = { Asked };
+
+    ghost view = { λ a. record { tree = T.content a.tree.now; count = a.count } };
 }
 
 impl<'t, T: FileTree> Counted<'t, T> {
@@ -76,7 +85,7 @@ impl<'t, T: FileTree> Counted<'t, T> {
 
     /// The tree, not asked yet.
     pub fn new(tree: &'t T) -> Counted<'t, T>
-        ensures tree { T.content result.tree.now ≡ T.content tree.now }
+        ensures tree { result.tree ≡ T.content tree.now }
         ensures count { result.count ≡ 0 }
     {
         Counted { tree, count: 0 }
@@ -91,7 +100,7 @@ impl<'t, T: FileTree> Counted<'t, T> {
 }
 
 impl<'t, T: FileTree> Probe<'t> for Counted<'t, T> {
-    ghost tree = { λ c. T.content c.tree.now };
+    ghost tree = { λ c. c.tree };
 
     ghost count = { λ c. c.count };
 
@@ -132,5 +141,42 @@ impl<'t, T: FileTree> Probe<'t> for Counted<'t, T> {
     fn names(&mut self, alloc: Global) -> Result<Vec<Name>, TreeFault> {
         self.ask();
         self.tree.names(alloc)
+    }
+}
+
+#[cfg(test)]
+mod tests {
+    use super::*;
+    use pua_tree::read_listing;
+    use std::test::Fail;
+
+    #[test]
+    fn counts_up_to_the_greatest_value(rt: HostRuntime) -> Result<(), Fail> {
+        let tree = read_listing(rt.alloc(), b"tree 1\n0 dir\n")?;
+        let mut probe = Counted {
+            tree: &tree,
+            count: u64::MAX - 1,
+        };
+        for _ in 0..2 {
+            assert!(rt; probe.is_empty(NodeId::ROOT));
+            assert_eq!(rt; probe.probes(), u64::MAX);
+        }
+        Ok(())
+    }
+
+    #[test]
+    fn answers_as_its_tree(rt: HostRuntime) -> Result<(), Fail> {
+        let tree = read_listing(rt.alloc(), b"tree 1\n0 dir\n1 link 0 l to\n")?;
+        let mut probe = Counted::new(&tree);
+        let link = NodeId::new(1);
+        let name = Name::read(b"l")?;
+        assert_eq!(rt; probe.kind(link), Some(Kind::Link));
+        assert_eq!(rt; probe.look(NodeId::ROOT, &name), Some(link));
+        assert_eq!(rt; probe.parent(NodeId::ROOT), Some(NodeId::ROOT));
+        assert!(rt; probe.target(link) == Some(b"to".as_slice()));
+        assert!(rt; !probe.is_empty(NodeId::ROOT));
+        assert_eq!(rt; probe.names(rt.alloc())?.as_slice(), [name].as_slice());
+        assert_eq!(rt; probe.probes(), 6);
+        Ok(())
     }
 }

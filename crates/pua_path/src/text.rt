@@ -1,8 +1,12 @@
 //! Path texts.
 
-use std::marker::Model;
-
 use crate::errno::Errno;
+use pua_tree::has_short_components;
+
+/// The most bytes that a path has.
+const MOST_BYTES: usize = 1023;
+
+use std::marker::Model;
 
 /// What a slash at the end of a path adds.
 #[derive(Clone, Copy, Debug, PartialEq, Eq)]
@@ -30,4 +34,54 @@ impl<'a> Model for PathText<'a> {
     ghost view = { λ a. record { bytes = a.bytes.now; ending = a.ending } };
 
     ghost invariant = { λ a. path_fault a.bytes.now ≡ None };
+}
+
+ghost use Rattle.std.specs.Prelude.{◌≡◌, Some, None, MatchResult};
+ghost use Rattle.pua_path.specs.Paths.{path_fault};
+
+impl<'a> PathText<'a> {
+    /// A path of these bytes, and what a slash at its end adds. The first of these faults that it
+    /// has: `ENOENT`, it is empty; `ENAMETOOLONG`, it has more than 1,023 bytes, or a component
+    /// more than 255; `EINVAL`, it has a NUL.
+    pub fn read(bytes: &'a [u8], ending: Ending) -> Result<PathText<'a>, Errno>
+        ensures { MatchResult result
+            (λ text. (path_fault bytes.now ≡ None) × (text ≡ record { bytes = bytes.now; ending = ending }))
+            (λ errno. path_fault bytes.now ≡ Some errno) }
+    {
+        match fault_of(bytes) {
+            Some(errno) => Err(errno),
+            None => Ok(PathText { bytes, ending }),
+        }
+    }
+
+    /// Its bytes.
+    pub fn bytes(&self) -> &'a [u8]
+        ensures bytes { result.now ≡ self.now.bytes }
+        ensures path { path_fault self.now.bytes ≡ None }
+    {
+        self.bytes
+    }
+
+    /// What a slash at its end adds.
+    pub fn ending(&self) -> Ending
+        ensures { result ≡ self.now.ending }
+    {
+        self.ending
+    }
+}
+
+/// The first fault of a text that is no path.
+fn fault_of(bytes: &[u8]) -> Option<Errno>
+    ensures { result ≡ path_fault bytes.now }
+{
+    if bytes.is_empty() {
+        return Some(Errno::ENOENT);
+    }
+    if bytes.len() > MOST_BYTES || !has_short_components(bytes) {
+        return Some(Errno::ENAMETOOLONG);
+    }
+    if bytes.contains(&0) {
+        return Some(Errno::EINVAL);
+    }
+    None
 }

@@ -1,6 +1,8 @@
 -- Climbing in a tree, one directory after another.
 use Rattle.std.proofs.Common.{◌≡◌, ℕ, zero, suc, ◌+◌, ◌-◌, ◌≤◌, ◌≢◌, add-one, List, [], ◌∷◌, length, Bool, true, false, cond, map, refl, sym, ap, ◌∙◌, arith, subst}
 use Rattle.std.proofs.lemmas.Bool.{false≢true, eqb-true}
+use Rattle.std.specs.Ordering.{nat_cmp}
+use Rattle.std.specs.FinMap.{nat_cmp-IsAntisymmetric}
 use Rattle.std.specs.List.{list_all, list_any, find}
 use Rattle.std.specs.Prelude.{Option, Some, None, option_map, ◌&&◌, ◌||◌, ◌==◌, unwrap_or, nat_lt}
 use Rattle.pua_tree.specs.Tree.{Tree, Node, WellFormed, is_dir, is_dir_kind, above, climb, climb_within, node_at, kind_at, node_fits, row_fits, rows_fit_kind, rows_of, target_fits, is_living, Spot}
@@ -91,7 +93,7 @@ module _ (t : Tree) where
         by : (o : Option Node) → node_at t (suc d) ≡ o → is_dir_kind (option_map (λ n. n.kind) o) ≡ true → has_root (climb t (suc d)) ≡ true
         by None found is = cc
         by (Some node) found is =
-            let all = list_all-find_key (node_fits t) (suc d) t.nodes node fits.nodes_fit found in
+            let all = list_all-find_key nat_cmp nat_cmp-IsAntisymmetric (node_fits t) (suc d) t.nodes node fits.nodes_fit found in
             let two = both_true (nat_lt (suc d) t.next) _ all in
             let three = both_true (target_fits node.kind node.target) (rows_fit_kind t (suc d) node.kind) two.1 in
             of_kind node node.kind is three.1

@@ -2,8 +2,10 @@ pub mod Sets
 pub mod Finding
 pub mod Keywords
 pub mod Climbs
+pub mod Fits
 pub mod Veils
 pub mod Places
 pub mod Narrowing
+pub mod Exec
 pub mod Standing
 pub mod Covers

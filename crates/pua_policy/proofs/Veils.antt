@@ -1,16 +1,29 @@
 -- The veils are the places kept, and only an unveil changes a cover.
-use Rattle.std.proofs.Common.{◌≡◌, ℕ, List, [], ◌∷◌, Bool, true, false, cond, refl, sym, ap, ◌∙◌}
+use Rattle.std.proofs.Common.{◌≡◌, ℕ, List, [], ◌∷◌, ◌++◌, map, length, Bool, true, false, cond, refl, sym, ap, ◌∙◌}
 use Rattle.std.proofs.lemmas.Bool.{eqb-true, eq-eqb}
-use Rattle.std.specs.Prelude.{◌==◌, ◌&&◌, Option, Some, None}
+use Rattle.std.specs.Prelude.{◌==◌, ◌&&◌, Option, Some, None, is_none}
 use lib.Pointwise.{bytes_decides}
 use Rattle.std.specs.Map.{lookup}
 use Rattle.indexmap.specs.IndexMap.{insert_entry}
 use Rattle.pua_tree.specs.Names.{same_bytes}
 use Rattle.pua_policy.specs.declared.place.Place.{Place}
 use Rattle.pua_policy.specs.declared.place.Place.TheVariants.{Dir, Slot}
-use Rattle.pua_policy.specs.History.{Pledged, Unveiled, Locked, Moved, Ended, veils, with_veil, veil_at, same_place}
+use Rattle.pua_policy.specs.History.{History, Pledged, Unveiled, Locked, Moved, Ended, veils, kept, is_locked, place_fault, with_veil, veil_at, same_place}
 use Rattle.pua_policy.proofs.Finding.{both_true}
-use Rattle.pua_policy.specs.Laws.{VeilsAreKept, CoverNeedsUnveil}
+use Rattle.std.proofs.lemmas.List.{map-append}
+use Rattle.std.proofs.lemmas.List.Folds.{list_all-map}
+use Rattle.std.proofs.lemmas.Nat.{and_comm}
+use Rattle.std.specs.List.{list_any, list_all}
+use Rattle.pua_tree.specs.Tree.{Tree}
+use Rattle.pua_path.specs.declared.found.Found.{Found}
+use Rattle.pua_path.specs.declared.errno.Errno.{Errno}
+use Rattle.pua_path.specs.declared.errno.Errno.TheVariants.{EACCES}
+use Rattle.pua_policy.specs.declared.answer.Cover.TheVariants.{All, Only}
+use Rattle.pua_policy.specs.declared.answer.UnveilFault.TheVariants.{NotPermitted}
+use Rattle.pua_policy.specs.Promises.{holds}
+use Rattle.pua_policy.specs.Verdict.{cover, cover_fault, nearest, place_of, directories_over, is_unveil}
+use Rattle.pua_policy.proofs.Narrowing.{second_holds}
+use Rattle.pua_policy.specs.Laws.{VeilsAreKept, CoverNeedsUnveil, NearestCounts, KeptPlacesNarrow, places_over}
 
 -- places that test alike are one
 pub same_place_is : (a b : Place) → same_place a b ≡ true → a ≡ b
@@ -85,3 +98,73 @@ veil_at-lookup eq same place (v ∷ vs) = λ i. cond (same place v.0 i) (Some v.
 pub with_veil-insert_entry : (eq : Place → Place → Bool) → ((a b : Place) → eq a b ≡ same_place a b) → (place : Place) (perms : ℕ) (vs : List (Place × ℕ)) → insert_entry eq vs place perms ≡ with_veil place perms vs
 with_veil-insert_entry eq same place perms [] = refl
 with_veil-insert_entry eq same place perms (v ∷ vs) = λ i. cond (same place v.0 i) ((v.0, perms) ∷ vs) (v ∷ with_veil-insert_entry eq same place perms vs i)
+
+nearest-append : (near far : List (Option ℕ)) (perms : ℕ) → list_all is_none near ≡ true → nearest (near ++ Some perms ∷ far) ≡ Only perms
+nearest-append [] far perms e = refl
+nearest-append (None ∷ near) far perms e = nearest-append near far perms e
+nearest-append (Some other ∷ near) far perms e = cc
+
+-- a veil is kept where some place keeps permissions
+unveil_from_kept : (h : History) (place : Place) (perms : ℕ) → kept h place ≡ Some perms → list_any is_unveil h ≡ true
+unveil_from_kept [] place perms e = cc
+unveil_from_kept (Unveiled other p ∷ h) place perms e = refl
+unveil_from_kept (Pledged p x ∷ h) place perms e = unveil_from_kept h place perms e
+unveil_from_kept (Locked ∷ h) place perms e = unveil_from_kept h place perms e
+unveil_from_kept (Moved d ∷ h) place perms e = unveil_from_kept h place perms e
+unveil_from_kept (Ended ∷ h) place perms e = unveil_from_kept h place perms e
+
+-- a cover where a veil is kept, by the places where it is looked for
+cover-places : (t : Tree) (h : History) (object : Found) → list_any is_unveil h ≡ true → cover t h object ≡ nearest (map (kept h) (places_over t object))
+cover-places t h object e =
+    ap (λ b. cond b (nearest (kept h (place_of object) ∷ map (λ dir. kept h (Dir dir)) (directories_over t object))) All) e
+    ∙ ap (λ more. nearest (kept h (place_of object) ∷ more)) (at_dirs (directories_over t object))
+  where
+    at_dirs : (ds : List ℕ) → map (λ dir. kept h (Dir dir)) ds ≡ map (kept h) (map Dir ds)
+    at_dirs [] = refl
+    at_dirs (d ∷ ds) = ap (λ more. kept h (Dir d) ∷ more) (at_dirs ds)
+
+pub nearest_counts : NearestCounts
+nearest_counts t h object near far place perms split none here =
+    cover-places t h object (unveil_from_kept h place perms here)
+    ∙ ap (λ places. nearest (map (kept h) places)) split
+    ∙ ap nearest (map-append (kept h) near (place ∷ far) ∙ ap (λ o. map (kept h) near ++ o ∷ map (kept h) far) here)
+    ∙ nearest-append (map (kept h) near) (map (kept h) far) perms (list_all-map is_none (kept h) near ∙ none)
+
+-- what a set holds, a set that holds it holds
+holds_through : (old perms wanted : ℕ) → holds old perms ≡ true → holds perms wanted ≡ true → holds old wanted ≡ true
+holds_through old perms wanted a b =
+    second_holds perms old wanted (ap (λ s. holds s wanted) (and_comm perms old ∙ eqb-true _ _ a) ∙ b)
+
+if_none : (b : Bool) (fault : Errno) → cond b None (Some fault) ≡ None → b ≡ true
+if_none true fault e = refl
+if_none false fault e = cc
+
+nearest_narrows : (h : History) (place : Place) (old perms wanted : ℕ) → kept h place ≡ Some old → holds old perms ≡ true → (places : List Place) →
+    cover_fault (nearest (map (kept (Unveiled place perms ∷ h)) places)) wanted ≡ None → cover_fault (nearest (map (kept h) places)) wanted ≡ None
+nearest_narrows h place old perms wanted is less [] e = e
+nearest_narrows h place old perms wanted is less (p ∷ ps) e =
+    elim (same_place place p) as (λ b. same_place place p ≡ b →
+    cover_fault (nearest (cond b (Some perms) (kept h p) ∷ map (kept (Unveiled place perms ∷ h)) ps)) wanted ≡ None → cover_fault (nearest (kept h p ∷ map (kept h) ps)) wanted ≡ None) [
+      | true ↦ λ same fits.
+          let here : kept h p ≡ Some old = ap (kept h) (sym (same_place_is place p same)) ∙ is in
+          ap (λ o. cover_fault (nearest (o ∷ map (kept h) ps)) wanted) here
+          ∙ ap (λ b. cond b None (Some EACCES)) (holds_through old perms wanted less (if_none (holds perms wanted) EACCES fits))
+      | false ↦ λ other fits. elim (kept h p) as (λ o. cover_fault (nearest (o ∷ map (kept (Unveiled place perms ∷ h)) ps)) wanted ≡ None → cover_fault (nearest (o ∷ map (kept h) ps)) wanted ≡ None) [
+        | None ↦ nearest_narrows h place old perms wanted is less ps
+        | Some kept_there ↦ λ same. same
+      ] fits
+    ] refl e
+
+pub kept_places_narrow : KeptPlacesNarrow
+kept_places_narrow h place old perms is accepted t object wanted e =
+    ap (λ c. cover_fault c wanted) (cover-places t h object (unveil_from_kept h place old is))
+    ∙ nearest_narrows h place old perms wanted is (less (is_locked h) accepted) (places_over t object)
+    (ap (λ c. cover_fault c wanted) (sym (cover-places t (Unveiled place perms ∷ h) object refl)) ∙ e)
+  where
+    less : (locked : Bool) → cond locked (Some NotPermitted) (place_fault (kept h place) (length (veils h)) perms) ≡ None → holds old perms ≡ true
+    less true e = cc
+    less false fits = unless (holds old perms) (ap (λ o. place_fault o (length (veils h)) perms) (sym is) ∙ fits)
+      where
+        unless : (b : Bool) → cond b None (Some NotPermitted) ≡ None → b ≡ true
+        unless true e = refl
+        unless false e = cc

@@ -1,14 +1,15 @@
 -- Worked rows on covers and verdicts over the example tree.
-use Rattle.std.specs.Prelude.{◌≡◌, ◌+◌, ◌^◌, [], ◌∷◌, Some, None, Ok, Err, codes, refl}
+use Rattle.std.specs.Prelude.{◌≡◌, ◌+◌, ◌^◌, [], ◌∷◌, Some, None, Ok, Err, codes, map, refl}
+use Rattle.pua_tree.specs.Tree.{empty_tree}
 use Rattle.pua_tree.specs.Examples.{example_tree}
 use Rattle.pua_policy.specs.Promises.{promises_of, perms_of, reading, writing, rpath, wpath, error}
-use Rattle.pua_policy.specs.Calls.{standard_table}
+use Rattle.pua_policy.specs.Calls.{calls, standard_table}
 use Rattle.pua_policy.specs.History.{History, Pledged, Unveiled, Locked, new_history, held, held_for_exec, pledge_fault, unveil_fault, may_any}
-use Rattle.pua_policy.specs.Verdict.{cover, verdict_on}
-use Rattle.pua_path.specs.declared.errno.Errno.TheVariants.{EACCES, EPERM, EINVAL}
+use Rattle.pua_policy.specs.Verdict.{cover, verdict_on, object_fault, rmdir_fault, IsDir, IsFile, IsProg, IsLink, IsMissing}
+use Rattle.pua_path.specs.declared.errno.Errno.TheVariants.{EACCES, EPERM, EINVAL, ENOENT, EBUSY, EEXIST, ENOTDIR, EISDIR, ENOTEMPTY}
 use Rattle.pua_path.specs.declared.found.Way.TheVariants as way
 use Rattle.pua_path.specs.declared.found.Found.TheVariants as found
-use Rattle.pua_policy.specs.declared.call.Call.TheVariants.{Stat}
+use Rattle.pua_policy.specs.declared.call.Call.TheVariants.{Stat, Lstat, Readlink, Mkdir, Rmdir, Unlink, Symlink}
 use Rattle.pua_policy.specs.declared.place.Place.TheVariants.{Dir, Slot}
 use Rattle.pua_policy.specs.declared.answer.UnveilFault.TheVariants.{NotPermitted}
 use Rattle.pua_policy.specs.declared.answer.Cover.TheVariants.{Only}
@@ -70,4 +71,34 @@ verdict_rows = record {
   unknown_keyword = refl;
   letters = refl;
   unknown_letter = refl;
+}
+
+-- the last check, call by call and object by object
+pub record LastCheckRows : Type 0 where
+  pub directory : map (λ call. object_fault example_tree call (IsDir 1 (way.Named 0 (codes "etc")))) calls
+      ≡ None ∷ None ∷ Some EINVAL ∷ None ∷ Some EISDIR ∷ Some EISDIR ∷ Some EISDIR ∷ Some EEXIST ∷ Some ENOTEMPTY ∷ Some EPERM ∷ Some EEXIST ∷ None ∷ None ∷ Some EACCES ∷ []
+  pub file : map (λ call. object_fault example_tree call IsFile) calls
+      ≡ None ∷ None ∷ Some EINVAL ∷ None ∷ None ∷ None ∷ None ∷ Some EEXIST ∷ Some ENOTDIR ∷ None ∷ Some EEXIST ∷ None ∷ Some ENOTDIR ∷ Some EACCES ∷ []
+  pub program : map (λ call. object_fault example_tree call IsProg) calls
+      ≡ None ∷ None ∷ Some EINVAL ∷ None ∷ None ∷ None ∷ None ∷ Some EEXIST ∷ Some ENOTDIR ∷ None ∷ Some EEXIST ∷ None ∷ Some ENOTDIR ∷ None ∷ []
+  pub link : map (λ call. object_fault example_tree call IsLink) (Lstat ∷ Readlink ∷ Mkdir ∷ Rmdir ∷ Unlink ∷ Symlink ∷ [])
+      ≡ None ∷ None ∷ Some EEXIST ∷ Some ENOTDIR ∷ None ∷ Some EEXIST ∷ []
+  pub missing_name : map (λ call. object_fault example_tree call IsMissing) calls
+      ≡ Some ENOENT ∷ Some ENOENT ∷ Some ENOENT ∷ Some ENOENT ∷ Some ENOENT ∷ Some ENOENT ∷ None ∷ None ∷ Some ENOENT ∷ Some ENOENT ∷ None ∷ Some ENOENT ∷ Some ENOENT ∷ Some ENOENT ∷ []
+  pub by_dot : rmdir_fault example_tree 1 way.Dot ≡ Some EINVAL
+  pub by_dots : rmdir_fault example_tree 1 way.DotDot ≡ Some EINVAL
+  pub at_top : rmdir_fault example_tree 0 way.Top ≡ Some EBUSY
+  pub empty_directory : rmdir_fault empty_tree 0 (way.Named 0 (codes "d")) ≡ None
+
+pub last_check_rows : LastCheckRows
+last_check_rows = record {
+  directory = refl;
+  file = refl;
+  program = refl;
+  link = refl;
+  missing_name = refl;
+  by_dot = refl;
+  by_dots = refl;
+  at_top = refl;
+  empty_directory = refl;
 }

@@ -1,12 +1,21 @@
 -- What is true of histories and of covers.
-use Rattle.std.specs.Prelude.{◌≡◌, ℕ, List, [], ◌∷◌, Option, IsTrue, IsFalse, bit_and, ◌<◌, ◌^◌}
-use Rattle.pua_tree.specs.Tree.{Tree}
+use Rattle.std.specs.Prelude.{◌≡◌, ℕ, List, [], ◌∷◌, ◌++◌, map, Option, Some, None, is_none, false, Ok, IsTrue, IsFalse, bit_and, ◌<◌, ◌^◌}
+use Rattle.std.specs.List.{list_all}
+use Rattle.pua_tree.specs.Tree.{Tree, WellFormed, is_dir}
+use Rattle.pua_path.specs.Resolution.{resolution, step, last}
+use Rattle.pua_path.specs.declared.text.Ending.{Ending}
+use Rattle.pua_path.specs.declared.found.Part.{Part}
+use Rattle.pua_path.specs.declared.found.Last.{Last}
+use Rattle.pua_path.specs.declared.found.Last.TheVariants.{Followed}
 use Rattle.pua_path.specs.declared.found.Found.{Found}
 use Rattle.pua_policy.specs.declared.place.Place.{Place}
+use Rattle.pua_policy.specs.declared.place.Place.TheVariants.{Dir}
+use Rattle.pua_policy.specs.declared.answer.Cover.TheVariants.{Only}
+use Rattle.pua_policy.specs.declared.answer.Verdict.TheVariants.{Allowed}
 use Rattle.pua_policy.specs.Promises.{holds, error}
-use Rattle.pua_policy.specs.History.{History, Event, kept, veils, held, veil_at, pledge_fault, unveil_fault, may_any, ProcessState, StandsFor}
-use Rattle.pua_policy.specs.Verdict.{cover, is_unveil, verdict_on}
-use Rattle.pua_policy.specs.Calls.{CallTable}
+use Rattle.pua_policy.specs.History.{History, Event, Pledged, Unveiled, kept, veils, held, veil_at, pledge_fault, unveil_fault, may_any, ProcessState, StandsFor}
+use Rattle.pua_policy.specs.Verdict.{FoundFits, is_link, place_of, directories_over, cover, cover_fault, is_unveil, verdict, verdict_on}
+use Rattle.pua_policy.specs.Calls.{CallTable, standard_table}
 use Rattle.pua_policy.specs.declared.call.Call.{Call}
 
 -- the veils are exactly the places kept with their permissions
@@ -28,6 +37,39 @@ pub record AllowAlike (h k : History) : Type 0 where
   pub promises : (alternatives : List ℕ) → may_any h alternatives ≡ may_any k alternatives
   pub covers : (t : Tree) (found : Found) → cover t h found ≡ cover t k found
   pub verdicts : (t : Tree) (table : CallTable) (call : Call) (text : List ℕ) → verdict_on t table h call text ≡ verdict_on t table k call text
+
+-- where a cover is looked for: at the object's own place, and then at each directory over it
+abbrev pub places_over : Tree → Found → List Place
+places_over t object = place_of object ∷ map Dir (directories_over t object)
+
+-- only the nearest veil counts: the cover is what the first place with a veil keeps, whatever is kept farther away
+abbrev pub NearestCounts : Type 0
+NearestCounts = (t : Tree) (h : History) (object : Found) (near far : List Place) (place : Place) (perms : ℕ) →
+    places_over t object ≡ near ++ place ∷ far → IsTrue (list_all (λ other. is_none (kept h other)) near) → kept h place ≡ Some perms → cover t h object ≡ Only perms
+
+-- an accepted unveil at a place that is kept leaves no object more than it had
+abbrev pub KeptPlacesNarrow : Type 0
+KeptPlacesNarrow = (h : History) (place : Place) (old perms : ℕ) → kept h place ≡ Some old → unveil_fault h place perms ≡ None →
+    (t : Tree) (object : Found) (wanted : ℕ) → cover_fault (cover t (Unveiled place perms ∷ h) object) wanted ≡ None → cover_fault (cover t h object) wanted ≡ None
+
+-- no pledge makes a call allowed, whether or not it names `error`
+abbrev pub PledgesNarrow : Type 0
+PledgesNarrow = (promises execpromises : Option ℕ) (h : History) (t : Tree) (call : Call) (object : Found) →
+    verdict t standard_table (Pledged promises execpromises ∷ h) call object ≡ Allowed → verdict t standard_table h call object ≡ Allowed
+
+-- what was found is of the tree, and is no link where the last part is followed
+pub record IsOf (t : Tree) (mode : Last) (object : Found) : Type 0 where
+  pub fits : FoundFits t object
+  pub followed : mode ≡ Followed → is_link t object ≡ false
+
+-- what a path names is of the tree, and so is what its last part names in a directory
+pub record ResolutionFits (t : Tree) : Type 0 where
+  pub whole : (from : ℕ) (ending : Ending) (text : List ℕ) (mode : Last) (object : Found) → resolution t from ending text mode ≡ Ok object → IsOf t mode object
+  pub last : (dir used : ℕ) (part : Part) (mode : Last) (object : Found) → IsTrue (is_dir t dir) → last t dir used part mode ≡ Ok object → IsOf t mode object
+  pub step : (dir used : ℕ) (part : Part) (next : ℕ × ℕ) → IsTrue (is_dir t dir) → step t dir used part ≡ Ok next → IsTrue (is_dir t next.0)
+
+abbrev pub ResolutionsFit : Type 0
+ResolutionsFit = (t : Tree) → WellFormed t → ResolutionFits t
 
 -- what a process keeps decides what it may do, whichever history it stands for
 abbrev pub ProcessesDecide : Type 0

@@ -56,6 +56,15 @@ abbrev pub FoundsFit : Tree → Result Found Errno → Type 0
 FoundsFit t (Ok object) = FoundFits t object
 FoundsFit t (Err errno) = Unit {0}
 
+-- what was found is a link
+abbrev pub is_link_kind : Option Kind → Bool
+is_link_kind (Some kind.Link) = true
+is_link_kind _ = false
+
+abbrev pub is_link : Tree → Found → Bool
+is_link t (found.Slot dir name (Some x)) = is_link_kind (kind_at t x)
+is_link t _ = false
+
 abbrev pub is_unveil : Event → Bool
 is_unveil (Unveiled place perms) = true
 is_unveil _ = false

@@ -11,10 +11,14 @@ mod perms;
 mod place;
 mod process;
 mod promises;
+#[cfg(test)]
+mod tests;
 
 pub use answer::{Cover, May, UnveilFault, Verdict};
 pub use call::{Call, Need};
-pub use laws::{cover_examples, cover_laws, promise_law, standing_law, verdict_examples};
+pub use laws::{
+    cover_examples, cover_laws, promise_laws, resolution_law, standing_law, verdict_examples,
+};
 pub use perms::Perms;
 pub use place::Place;
 pub use process::Process;

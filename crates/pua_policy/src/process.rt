@@ -36,9 +36,9 @@ impl Model for Process {
     ghost view = { λ a. record { promises = a.promises; execpromises = a.execpromises; veils = a.veils.entries; locked = a.locked; dir = a.dir; ended = a.ended } };
 }
 
-ghost use Rattle.std.specs.Prelude.{◌≡◌, ◌≢◌, ◌-◌, [], ◌∷◌, length, Option, Some, None, IfOk, OnOk, OnErr, IfErr, IfSome, if◌then◌else◌, MatchResult, unwrap_or};
+ghost use Rattle.std.specs.Prelude.{◌≡◌, ◌≢◌, ◌-◌, [], ◌∷◌, length, Option, Some, None, IfOk, OnOk, OnErr, IfErr, IfSome, if◌then◌else◌, false, MatchResult, unwrap_or};
 ghost use Rattle.pua_policy.specs.Promises.{all_promises, error};
-ghost use Rattle.pua_policy.specs.History.{History, StandsFor, Pledged, Unveiled, Locked, Moved, Ended, new_history, pledge_fault, unveil_fault, place_fault, is_within, narrowed, may_any, is_locked, is_ended, working_dir, veil_at, has_veil};
+ghost use Rattle.pua_policy.specs.History.{History, StandsFor, Pledged, Unveiled, Locked, Moved, Ended, new_history, after_exec, pledge_fault, unveil_fault, place_fault, is_within, narrowed, may_any, is_locked, is_ended, working_dir, veil_at, has_veil};
 
 impl Process {
     /// A new process, in the root: it holds every promise but `error`, and has no veil.
@@ -147,6 +147,41 @@ impl Process {
         ensures history { (h : History) → StandsFor self.now h → result ≡ is_ended h }
     {
         self.ended
+    }
+
+    /// A copy for a new process, which has the same promises, veils, lock and working directory.
+    /// `OutOfMemory` where a growth was refused.
+    pub fn fork(&self, alloc: Global) -> Result<Process, OutOfMemory>
+        ensures { IfOk result (λ copy. copy ≡ self.now) }
+    {
+        let Ok(veils) = self.veils.clone() else {
+            return Err(OutOfMemory);
+        };
+        Ok(Process {
+            promises: self.promises,
+            execpromises: self.execpromises,
+            veils,
+            locked: self.locked,
+            dir: self.dir,
+            ended: self.ended,
+        })
+    }
+
+    /// Makes it the process of a new program. Where execpromises were given, they become its
+    /// promises, and its veils and lock stay; else it holds every promise but `error`, and has no
+    /// veil and no lock. Its working directory stays. It has not ended.
+    pub fn exec_into(&mut self)
+        requires { self.old.ended ≡ false }
+        ensures { (h : History) → StandsFor self.old h → StandsFor self.new (after_exec h) }
+    {
+        let Some(promises) = self.execpromises else {
+            self.promises = None;
+            self.veils.clear();
+            self.locked = false;
+            return;
+        };
+        self.promises = Some(promises);
+        self.execpromises = None;
     }
 
     /// Whether it may do what needs all of these promises. One that has ended may do nothing.

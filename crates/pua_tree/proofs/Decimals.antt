@@ -1,5 +1,5 @@
 -- The number that digits write.
-use Rattle.std.proofs.Common.{◌≡◌, ℕ, zero, suc, ◌+◌, ◌-◌, ◌*◌, ◌<◌, ◌≤◌, List, [], ◌∷◌, length, get_or, Option, Some, None, refl, sym, ◌∙◌, arith, cond, leb, fold, take}
+use Rattle.std.proofs.Common.{◌≡◌, ℕ, zero, suc, ◌+◌, ◌-◌, ◌*◌, ◌<◌, ◌≤◌, List, [], ◌∷◌, length, get_or, Some, None, sym, arith, cond, leb, fold, take}
 use Rattle.std.proofs.lemmas.Bool.{cond-false, lt-leb}
 use Rattle.std.proofs.lemmas.List.Sums.{fold_more}
 use Rattle.pua_tree.specs.Spelling.{decimal_value}

@@ -1,5 +1,5 @@
 -- How a name is kept in an array.
-use Rattle.std.proofs.Common.{◌≡◌, ◌≢◌, ◌==◌, ℕ, ◌-◌, ◌<◌, ◌≤◌, true, false, List, ◌++◌, length, take, replicate, refl, sym, ap, ◌∙◌, cond, nat_lt, ok_or, Bool, Result, Some, None, Ok, Err}
+use Rattle.std.proofs.Common.{◌≡◌, ◌≢◌, ◌==◌, ℕ, ◌-◌, ◌<◌, ◌≤◌, true, false, List, length, take, replicate, refl, sym, ap, ◌∙◌, cond, nat_lt, ok_or, Bool, Some, None, Ok, Err}
 use Rattle.std.proofs.lemmas.Bool.{cond-true, cond-false, ne_eqb, lt-ltb, le-ltb}
 use Rattle.std.proofs.lemmas.List.{take_at}
 use Rattle.pua_tree.specs.Names.{has_byte, is_name, padded}

@@ -1,5 +1,5 @@
 -- What a write of bytes into a room of a fixed length leaves.
-use Rattle.std.proofs.Common.{◌≡◌, ℕ, suc, ◌+◌, ◌-◌, ◌≤◌, List, [], ◌∷◌, ◌++◌, length, take, drop, set, replicate, refl, sym, ap, ◌∙◌, arith}
+use Rattle.std.proofs.Common.{◌≡◌, ℕ, suc, ◌≤◌, List, [], ◌∷◌, ◌++◌, length, take, drop, set, replicate, refl, sym, ap, ◌∙◌, arith}
 use Rattle.std.proofs.lemmas.List.{set_past, set_at, append_assoc, append-nil, length_push, length-set, length-append, drop_all, take_all, drop-replicate, length-replicate}
 use Rattle.pua_tree.specs.Names.{padded}
 use Rattle.pua_tree.specs.Writes.{overwritten}

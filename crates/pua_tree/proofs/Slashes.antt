@@ -3,7 +3,7 @@ use Rattle.std.proofs.Common.{◌≡◌, ◌≢◌, ℕ, ◌+◌, ◌-◌, ◌*�
 use Rattle.std.proofs.lemmas.Bool.{cases_eq, ne_eqb, and_parts}
 use Rattle.std.proofs.lemmas.Bool.Decides.{nat_tests}
 use Rattle.pua_tree.specs.Names.{has_byte}
-use Rattle.pua_tree.specs.Spelling.{unspelled, unspelled_from, with_front, front_byte, escaped_byte, is_plain, is_octal}
+use Rattle.pua_tree.specs.Spelling.{unspelled, unspelled_from, with_front, escaped_byte, is_plain, is_octal}
 
 -- a front and what is behind it, where both are spelled
 fronts : (front : Option ℕ) (behind : Option (List ℕ)) (bytes : List ℕ) → with_front front behind ≡ Some bytes

@@ -1,5 +1,4 @@
 -- A line as its reader gives it.
-use Rattle.std.specs.Borrow.{Bor}
 use Rattle.pua_tree.specs.Listing.{Line}
 use Rattle.pua_tree.specs.declared.line.Line.{Line as Parts}
 

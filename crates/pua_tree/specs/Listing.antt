@@ -77,7 +77,11 @@ node_of n line kind = Ok (record { kind = kind; target = None })
 abbrev pub is_taken : List Entry → ℕ → List ℕ → Bool
 is_taken earlier parent name = list_any (λ e. e.parent == parent && same_bytes e.name name) earlier
 
--- what line n says after the earlier ones, or its first fault; line 2 is the first node's, and 4,096 nodes are allowed
+-- the entry of line n, if its name is free and there is room; line 2 is the first node's, and 4,096 nodes are allowed
+abbrev pub admitted : List Entry → ℕ → Entry → Result Entry ListingFault
+admitted earlier n e = if is_taken earlier e.parent e.name then Err (Taken n) else (if nat_lt 4097 n then Err (TooMany n) else Ok e)
+
+-- what line n says after the earlier ones, or its first fault
 abbrev pub entry_of : List Entry → ℕ → List ℕ → Result Entry ListingFault
 entry_of earlier n text = do
   line ← ok_or (line_of text) (BadLine n)
@@ -85,9 +89,7 @@ entry_of earlier n text = do
   parent ← ok_or (parent_in earlier line) (BadParent n)
   name ← ok_or (result_ok (name_of line.name)) (BadName n)
   made ← node_of n line line.kind
-  if is_taken earlier parent name then Err (Taken n)
-      else (if nat_lt 4097 n then Err (TooMany n)
-      else Ok (record { number = number; parent = parent; name = name; made = made }))
+  admitted earlier n (record { number = number; parent = parent; name = name; made = made })
 
 -- what further lines say after the earlier ones, or the fault of the first line that has one
 abbrev pub entries_of : List Entry → ℕ → List (List ℕ) → Result (List Entry) ListingFault

@@ -6,6 +6,7 @@ ghost use Rattle.std.specs.Option.{option_map_or};
 ghost use Rattle.pua_tree.specs.Fields.{first_fields};
 ghost use Rattle.pua_tree.specs.Spelling.{decimal_value, fields, is_decimal, is_digit, is_field, number_within};
 
+use crate::spelling::is_visible;
 use std::marker::Model;
 
 /// The most fields of a line that are kept: more than any line may have.
@@ -70,12 +71,6 @@ fn are_visible(bytes: &[u8]) -> bool
     ensures { result ≡ list_all (λ b. nat_le 33 b && nat_le b 126) bytes.now }
 {
     bytes.iter().all(|byte| is_visible(*byte))
-}
-
-fn is_visible(byte: u8) -> bool
-    ensures { result ≡ (nat_le 33 byte && nat_le byte 126) }
-{
-    matches!(byte, b'!'..=b'~')
 }
 
 /// The first field of a line, and what stands behind the space that ends it, if one does.

@@ -21,7 +21,7 @@ pub(crate) struct Line<'a> {
 
 /// The line that a text without its end is, and None where a field is empty or holds what no field
 /// may, the kind is unknown, or there are more or fewer fields than its kind has.
-pub(crate) fn read_line<'a>(text: &'a [u8]) -> Option<Line<'a>>
+pub(crate) fn read_line(text: &[u8]) -> Option<Line<'_>>
     ensures { option_map line_read result ≡ line_of text.now }
 {
     let fields = Fields::read(text)?;

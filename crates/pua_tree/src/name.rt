@@ -44,7 +44,7 @@ ghost use Rattle.pua_tree.specs.Spelling.{name_of};
 
 impl Name {
     /// The most bytes that a name has.
-    const MOST: usize = 255;
+    pub(crate) const MOST: usize = 255;
 
     /// The name that a text spells, or the first of its faults.
     pub fn read(spelling: &[u8]) -> Result<Name, NameFault>

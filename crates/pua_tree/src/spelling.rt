@@ -23,7 +23,7 @@ impl Model for SpelledByte {
     ghost invariant = { λ a. a.len ≤ 4 };
 }
 
-ghost use Rattle.std.specs.Prelude.{◌≡◌, ◌<◌, ◌≤◌, ℕ, List, Some, None, length, option_map, IfSome, OnSome, IfOk, MatchOption};
+ghost use Rattle.std.specs.Prelude.{◌≡◌, ◌<◌, ◌≤◌, ◌&&◌, nat_le, ℕ, List, Some, None, length, option_map, IfSome, OnSome, IfOk, MatchOption};
 ghost use Rattle.pua_tree.specs.Spelling.{byte_spelling, escaped_byte, is_octal, is_plain, unspelled, with_front};
 ghost use Rattle.pua_tree.specs.Writes.{overwritten};
 
@@ -114,10 +114,9 @@ fn escaped_byte(text: &[u8]) -> Option<u8>
     ensures byte { result ≡ escaped_byte text.now }
     ensures digits { OnSome result (3 ≤ length text.now) }
 {
-    if text.len() < 3 {
+    let &[a, b, c, ..] = text else {
         return None;
-    }
-    let (a, b, c) = (text[0], text[1], text[2]);
+    };
     if !(is_octal(a) && is_octal(b) && is_octal(c)) {
         return None;
     }
@@ -139,5 +138,12 @@ fn is_octal(byte: u8) -> bool
 fn is_plain(byte: u8) -> bool
     ensures { result ≡ is_plain byte }
 {
-    matches!(byte, b'!'..=b'~') && byte != b'\\'
+    is_visible(byte) && byte != b'\\'
+}
+
+/// Whether a byte is a visible character of ASCII, as each byte of a field is.
+pub(crate) fn is_visible(byte: u8) -> bool
+    ensures { result ≡ (nat_le 33 byte && nat_le byte 126) }
+{
+    matches!(byte, b'!'..=b'~')
 }

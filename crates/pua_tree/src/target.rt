@@ -3,11 +3,10 @@
 ghost use Rattle.std.specs.Prelude.{◌≡◌};
 ghost use Rattle.pua_tree.specs.Names.{has_short_components, is_target};
 
+use crate::name::Name;
+
 /// The most bytes that a target has.
 const MOST_BYTES: usize = 1023;
-
-/// The most bytes that one component of a target or path has.
-const MOST_IN_COMPONENT: usize = 255;
 
 /// Whether these bytes are a link's target: 1 to 1,023 bytes without NUL, with short components.
 pub fn is_target(bytes: &[u8]) -> bool
@@ -24,5 +23,5 @@ pub fn has_short_components(text: &[u8]) -> bool
     ensures { result ≡ has_short_components text.now }
 {
     text.split(|byte| *byte == b'/')
-        .all(|component| component.len() <= MOST_IN_COMPONENT)
+        .all(|component| component.len() <= Name::MOST)
 }

@@ -1,7 +1,7 @@
-use Rattle.std.proofs.Common.{◌≡◌, ◌<◌, ◌≤◌, ◌⊎◌, ℕ, List, [], length, Some, None, sym, ap, ◌∙◌, arith, inl, inr, option_map}
+use Rattle.std.proofs.Common.{◌≡◌, ◌<◌, ◌≤◌, ◌⊎◌, ℕ, List, [], length, sym, ap, ◌∙◌, arith, inl, inr, option_map}
 use Rattle.std.specs.Borrow.{Bor}
 use Rattle.std.proofs.lemmas.Bool.{ltb-true, ltb-false, leb-true, leb-false}
-use Rattle.pua_tree.specs.Listing.{line_of, line_of_fields}
+use Rattle.pua_tree.specs.Listing.{line_of_fields}
 use Rattle.pua_tree.proofs.LineFields.{line_of-first_fields, line_of_fields-four, line_of_fields-other, plain_line}
 use Rattle.pua_tree.proofs.line.read_line.Goals as goal
 use Rattle.pua_tree.proofs.line.read_line.Goals.{in_default-via-then-as_slice-lt4, in_default-via-else-as_slice-lt4+else-this-lt5+else-this-lt6}

@@ -1,4 +1,4 @@
-use Rattle.std.proofs.Common.{◌≡◌, ◌≤◌, ℕ, suc, List, [], length, map, take}
+use Rattle.std.proofs.Common.{◌≡◌, ◌≤◌, suc, [], length, map, take}
 use Rattle.std.specs.Option.{option_map_or}
 use Rattle.pua_tree.specs.Spelling.{fields}
 use Rattle.pua_tree.proofs.Filling.{filled}

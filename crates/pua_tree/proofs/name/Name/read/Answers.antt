@@ -1,4 +1,4 @@
-use Rattle.std.proofs.Common.{◌≡◌, ◌≢◌, false, ℕ, ◌<◌, ◌≤◌, List, length, sym, ap, ◌∙◌, arith, ok_or}
+use Rattle.std.proofs.Common.{◌≡◌, ◌≢◌, false, ◌<◌, ◌≤◌, length, sym, ap, ◌∙◌, arith, ok_or}
 use Rattle.pua_tree.specs.Names.{has_byte}
 use Rattle.pua_tree.specs.declared.fault.NameFault.TheVariants.{NotAName}
 use Rattle.pua_tree.proofs.NameFields.{name_of-slash, name_of-long, name_of-short, ok_or-name}

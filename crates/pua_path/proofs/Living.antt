@@ -1,0 +1,110 @@
+-- What is true of the nodes of every tree.
+use Rattle.std.proofs.Common.{◌≡◌, ℕ, zero, suc, Bool, true, false, ◌&&◌, List, [], ◌∷◌, Option, Some, None, length, refl, sym, ap, ◌∙◌, arith, ◌≤◌, max, cond, fold, find, is_none, option_map, option_and_then, option_copied, ◌++◌, ◌+◌, ◌-◌, ◌<◌, length-append, sub-one}
+use Rattle.std.specs.Prelude.{◌==◌, if◌then◌else◌, nat_lt, nat_le, not, unwrap_or}
+use Rattle.std.specs.List.{list_all}
+use Rattle.std.specs.Ordering.{nat_cmp, eq_by_cmp}
+use Rattle.std.specs.FinMap.{find as find_key}
+use Rattle.std.specs.Borrow.{Bor}
+use Rattle.pua_tree.specs.Names.{has_byte, has_short_components, is_name, is_target}
+use Rattle.pua_tree.specs.Tree.{Tree, Node, Spot, WellFormed, node_at, target_at, is_dir, is_living, above, parent, row_fits, node_fits, target_fits, rows_fit_kind}
+use Rattle.pua_tree.specs.declared.node.Kind.{Kind}
+use Rattle.pua_tree.specs.declared.node.Kind.TheVariants.{Dir, File, Prog, Link}
+use Rattle.pua_path.specs.Paths.{is_absolute, parts_of}
+use Rattle.pua_path.specs.Bounds.{target_parts, most_parts}
+use Rattle.pua_path.specs.Remaining.{Remaining, is_readable}
+use Rattle.pua_path.specs.Resolution.{start_of}
+use Rattle.pua_path.specs.Walks.{potential}
+use Rattle.pua_path.specs.declared.text.Ending.TheVariants as ending
+use Rattle.pua_path.proofs.Pieces.{both}
+
+-- what is found passes a test that all pass
+find_passes : {A : Type 0} (p test : A → Bool) (xs : List A) (x : A) → list_all p xs ≡ true → find test xs ≡ Some x → p x ≡ true
+find_passes p test [] x h e = cc
+find_passes p test (y ∷ ys) x h e = by (find_passes p test ys x (both (p y) (list_all p ys) h).1) (test y) e
+  where
+    by : (find test ys ≡ Some x → p x ≡ true) → (v : Bool) → cond v (Some y) (find test ys) ≡ Some x → p x ≡ true
+    by more true e = let same : y ≡ x = cc in ap p (sym same) ∙ (both (p y) (list_all p ys) h).0
+    by more false e = more e
+
+-- the directory above a directory lives
+pub above_lives : (t : Tree) (d : ℕ) → WellFormed t → is_dir t (above t d) ≡ true
+above_lives t zero w = w.root
+above_lives t (suc d) w = by (find (λ row. row.1 == suc d) t.rows) refl
+  where
+    by : (r : Option (Spot × ℕ)) → find (λ row. row.1 == suc d) t.rows ≡ r → is_dir t (unwrap_or (option_map (λ spot. spot.0) (option_map (λ row. row.0) r)) 0) ≡ true
+    by None e = w.root
+    by (Some row) e = (both (is_dir t row.0.0) _ (find_passes (row_fits t) (λ row. row.1 == suc d) t.rows row w.rows_fit e)).0
+
+-- a living node is as its kind wants
+found_fits : (p : ℕ × Node → Bool) (x : ℕ) (node : Node) (es : List (ℕ × Node)) → list_all p es ≡ true → find_key nat_cmp x es ≡ Some node → (y : ℕ) × (p (y, node) ≡ true)
+found_fits p x node [] h e = cc
+found_fits p x node (entry ∷ es) h e = by (found_fits p x node es (both (p entry) (list_all p es) h).1) (eq_by_cmp nat_cmp x entry.0) e
+  where
+    by : (find_key nat_cmp x es ≡ Some node → (y : ℕ) × (p (y, node) ≡ true)) → (v : Bool) → cond v (Some entry.1) (find_key nat_cmp x es) ≡ Some node → (y : ℕ) × (p (y, node) ≡ true)
+    by more true e = let same : entry.1 ≡ node = cc in (entry.0, ap (λ n. p (entry.0, n)) (sym same) ∙ (both (p entry) (list_all p es) h).0)
+    by more false e = more e
+
+max_kept : (a : ℕ) (es : List (ℕ × Node)) → a ≤ fold (λ most entry. max most (target_parts entry.1.target)) a es
+max_kept a [] = omega arith
+max_kept a (entry ∷ es) = omega (arith, max_kept (max a (target_parts entry.1.target)) es)
+
+most_counts : (x : ℕ) (node : Node) (a : ℕ) (es : List (ℕ × Node)) → find_key nat_cmp x es ≡ Some node → target_parts node.target ≤ fold (λ most entry. max most (target_parts entry.1.target)) a es
+most_counts x node a [] e = cc
+most_counts x node a (entry ∷ es) e = by (most_counts x node (max a (target_parts entry.1.target)) es) (eq_by_cmp nat_cmp x entry.0) e
+  where
+    by : (find_key nat_cmp x es ≡ Some node → target_parts node.target ≤ fold (λ most entry. max most (target_parts entry.1.target)) (max a (target_parts entry.1.target)) es) → (v : Bool) → cond v (Some entry.1) (find_key nat_cmp x es) ≡ Some node → target_parts node.target ≤ fold (λ most entry. max most (target_parts entry.1.target)) (max a (target_parts entry.1.target)) es
+    by more true e =
+        let same : entry.1 ≡ node = cc in
+        let parts : target_parts entry.1.target ≡ target_parts node.target = ap (λ n. target_parts n.target) same in
+        omega (arith, parts, max_kept (max a (target_parts entry.1.target)) es)
+    by more false e = more e
+
+fits_target : (kind : Kind) (target : List ℕ) → target_fits kind (Some target) ≡ true → is_target target ≡ true
+fits_target Dir target h = cc
+fits_target File target h = cc
+fits_target Prog target h = cc
+fits_target Link target h = h
+
+target_readable : (target : List ℕ) → is_target target ≡ true → is_readable target ≡ true
+target_readable target h =
+    let a = both (nat_lt 0 (length target)) (nat_le (length target) 1023 && (not (has_byte 0 target) && has_short_components target)) h in
+    (both (nat_le (length target) 1023) (not (has_byte 0 target) && has_short_components target) a.1).1
+
+-- the parts of a target can be read, and are few
+pub target_stands : (t : Tree) (x : ℕ) (target : Option (List ℕ)) → WellFormed t → target ≡ target_at t x → (is_readable (unwrap_or target []) ≡ true) × (length (parts_of ending.Dot (unwrap_or target [])) ≤ most_parts t)
+target_stands t x None w e = (refl, omega arith)
+target_stands t x (Some target) w e = by (node_at t x) refl e
+  where
+    by : (n : Option Node) → node_at t x ≡ n → Some target ≡ option_and_then (λ node. node.target) n → (is_readable target ≡ true) × (length (parts_of ending.Dot target) ≤ most_parts t)
+    by None f e = cc
+    by (Some node) f e =
+        let fits = found_fits (node_fits t) x node t.nodes w.nodes_fit f in
+        let kind_fits = (both (target_fits node.kind node.target) (rows_fit_kind t fits.0 node.kind) (both (nat_lt fits.0 t.next) (target_fits node.kind node.target && rows_fit_kind t fits.0 node.kind) fits.1).1).0 in
+        let is : target_fits node.kind (Some target) ≡ true = ap (target_fits node.kind) e ∙ kind_fits in
+        let counted : target_parts (Some target) ≤ most_parts t = rw (← e) at (most_counts x node 1 t.nodes f) in
+        (target_readable target (fits_target node.kind target is), counted)
+
+-- the same of a target that was read from the tree, or of none
+pub seen_target : (t : Tree) (x : ℕ) (read : Option (Bor (List ℕ))) (nothing : Bor (List ℕ)) → WellFormed t → option_copied read ≡ target_at t x → nothing.now ≡ [] →
+    (is_readable (unwrap_or read nothing).now ≡ true) × (length (parts_of ending.Dot (unwrap_or read nothing).now) ≤ most_parts t)
+seen_target t x None nothing w e n = rw n (target_stands t x None w e)
+seen_target t x (Some target) nothing w e n = target_stands t x (Some target.now) w e
+
+-- a target starts at a living directory
+pub start_lives : (t : Tree) (dir : ℕ) (target : List ℕ) → WellFormed t → is_dir t dir ≡ true → is_dir t (start_of target dir) ≡ true
+start_lives t dir target w h = by (is_absolute target)
+  where
+    by : (v : Bool) → is_dir t (if v then 0 else dir) ≡ true
+    by true = w.root
+    by false = h
+
+-- a link costs no more than was kept for it
+pub potential_linked : (t : Tree) (left : ℕ) (rest further : Remaining) (target : List ℕ) → further.parts ≡ parts_of ending.Dot target ++ rest.parts → length (parts_of ending.Dot target) ≤ most_parts t → 0 < left → potential t (left - 1) further ≤ potential t left rest
+potential_linked t zero rest further target e m l = absurd (omega (arith, l))
+potential_linked t (suc left) rest further target e m l =
+    let sizes : length further.parts ≡ length (parts_of ending.Dot target) + length rest.parts = ap length e ∙ length-append (parts_of ending.Dot target) rest.parts in
+    rw sub-one (omega (arith, sizes, m))
+
+-- the directory above, as the probe answers it
+pub parent_lives : (t : Tree) (dir : ℕ) → WellFormed t → is_dir t dir ≡ true → is_dir t (unwrap_or (parent t dir) 0) ≡ true
+parent_lives t dir w h = ap (λ v. is_dir t (unwrap_or (if v then Some (above t dir) else None) 0)) h ∙ above_lives t dir w

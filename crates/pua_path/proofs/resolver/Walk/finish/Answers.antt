@@ -1,0 +1,11 @@
+use Rattle.std.proofs.Common.{sym, ap, ◌∙◌}
+use Rattle.pua_path.specs.Resolution.{resolve_parts}
+use Rattle.pua_path.proofs.Steps.{resolve_end}
+use Rattle.pua_path.proofs.resolver.Walk.finish.Goals as goal
+
+pub returns-clause-exact : goal.returns-clause-exact
+returns-clause-exact g c =
+    let t = g.P.Probe.tree c.args.probe.now in
+    sym (resolve_end t c.args.mode c.loop-part.self.left c.loop-part.self.here c.loop-part.self.way)
+    ∙ ap (resolve_parts c.loop-part.self.left t c.args.mode c.loop-part.self.here c.loop-part.self.way) (sym c.in_default.ensures.parts.0)
+    ∙ c.loop-part.invariant.so_far

@@ -1,0 +1,42 @@
+-- A resolution on its way: what stands at a name, and how one part leads on to the next.
+use Rattle.std.specs.Prelude.{ℕ, ◌+◌, ◌*◌, ◌≤◌, length, List, Option, Some, None, Result, Ok, Err, IsTrue}
+use Rattle.pua_tree.specs.Tree.{Tree, WellFormed, is_dir}
+use Rattle.pua_path.specs.Paths.{parts_of}
+use Rattle.pua_path.specs.Remaining.{Remaining, is_readable}
+use Rattle.pua_path.specs.Resolution.{Resolved, Standing, Directory, Linked, Plain, Nothing}
+use Rattle.pua_path.specs.Bounds.{most_parts}
+use Rattle.pua_path.specs.declared.errno.Errno.{Errno}
+use Rattle.pua_path.specs.declared.text.Ending.TheVariants.{Dot}
+use Rattle.pua_path.specs.declared.found.Found.{Found}
+use Rattle.pua_path.specs.declared.resolver.Standing as seen
+use Rattle.pua_path.specs.declared.resolver.Standing.TheVariants as see
+
+-- what was seen at a name
+abbrev pub standing_seen : seen.Standing → Standing
+standing_seen (see.Directory x) = Directory x
+standing_seen (see.Linked x target) = Linked x target.now
+standing_seen (see.Plain x) = Plain x
+standing_seen see.Nothing = Nothing
+
+-- what was seen in a tree: a directory that lives, or a target whose parts can be read and are few
+abbrev pub StandsIn : Tree → seen.Standing → Type 0
+StandsIn t (see.Directory x) = IsTrue (is_dir t x)
+StandsIn t (see.Linked x target) = IsTrue (is_readable target.now) × (length (parts_of Dot target.now) ≤ most_parts t)
+StandsIn t (see.Plain x) = Unit {0}
+StandsIn t see.Nothing = Unit {0}
+
+-- a part ends the resolution, or leaves it to the further parts
+abbrev pub goes_on : Result (Option Found) Errno → ℕ → Resolved → Resolved
+goes_on (Ok None) left further = further
+goes_on (Ok (Some found)) left further = Ok (found, left)
+goes_on (Err errno) left further = Err errno
+
+-- the parts that are left, and those that links can still add
+abbrev pub potential : Tree → ℕ → Remaining → ℕ
+potential t left rest = length rest.parts + most_parts t * left
+
+-- a resolution that can go on: from a living directory, with room for the targets that may come
+pub record CanGoOn (t : Tree) (here left : ℕ) (rest : Remaining) : Type 0 where
+  pub tree : WellFormed t
+  pub dir : IsTrue (is_dir t here)
+  pub room : rest.depth + left ≤ 32

@@ -1,0 +1,342 @@
+//! Resolution: what parts name in a tree.
+
+ghost use Rattle.std.specs.Prelude.{◌≡◌, ◌≤◌, ◌<◌, ◌+◌, ◌-◌, ◌*◌, ◌∷◌, ◌++◌, IsTrue, IfOk, IfErr, IfSome, OnOk, is_some, not, ◌&&◌, ◌==◌, Ok, Err, Some, None, [], zero, suc, if◌then◌else◌};
+ghost use Rattle.pua_tree.specs.Tree.{is_dir};
+ghost use Rattle.pua_path.specs.Resolution.{resolution, resolve_parts, standing_at, is_followed, start_of, step, last};
+ghost use Rattle.pua_path.specs.Paths.{is_absolute, parts_of};
+ghost use Rattle.pua_path.specs.Walks.{standing_seen, StandsIn, CanGoOn, goes_on, potential};
+ghost use Rattle.pua_path.specs.Bounds.{part_cost};
+ghost use Rattle.pua_path.specs.Remaining.{Remaining, is_done, is_readable};
+ghost use Rattle.pua_path.specs.declared.errno.Errno.TheVariants.{ELOOP, ENOENT, ENOTDIR};
+ghost use Rattle.pua_path.specs.declared.found.Way.TheVariants as ways;
+ghost use Rattle.pua_path.specs.declared.found.Part.TheVariants as parts;
+ghost use Rattle.pua_path.specs.declared.found.Found.TheVariants.{Slot};
+ghost use Rattle.pua_path.specs.declared.text.Ending.TheVariants as ending;
+
+use crate::errno::Errno;
+use crate::found::{Found, Last, Part, Way};
+use crate::probe::Probe;
+use crate::rest::Rest;
+use crate::text::PathText;
+use pua_tree::{Kind, Name, NodeId};
+
+/// At most so many links are followed in one resolution.
+const LINK_LIMIT: u8 = 32;
+
+/// What a path names from a directory, by the rules of path resolution: 32 links are followed at
+/// most. A relative path needs `from` to be a living directory. Errors: `ENOENT` where `from` is
+/// none, or a part before the last one is missing; `ENOTDIR` where such a part is no directory;
+/// `ELOOP` where a 33rd link would be followed. Takes no memory.
+pub fn resolve<'t, P: Probe<'t>>(
+    probe: &mut P,
+    from: NodeId,
+    text: &PathText<'_>,
+    mode: Last,
+) -> Result<Found, Errno>
+    ensures exact { result ≡ resolution (P.tree probe.old) from text.now.ending text.now.bytes mode }
+    ensures tree { P.tree probe.new ≡ P.tree probe.old }
+{
+    let Some(start) = start_of(probe, from, text.bytes()) else {
+        return Err(Errno::ENOENT);
+    };
+    let walk = Walk::new(start, LINK_LIMIT, Rest::of_text(text));
+    let (found, _) = walk.finish(probe, mode)?;
+    Ok(found)
+}
+
+/// What one part that another follows leads to, `used` links having been followed before it: the
+/// directory, and the links followed by then. Needs `dir` to be a living directory. Errors:
+/// `ENOENT` where nothing has that name, `ENOTDIR` where it is no directory, `ELOOP` where a 33rd
+/// link would be followed. Takes no memory, and a bounded number of probes.
+pub fn step<'t, P: Probe<'t>>(
+    probe: &mut P,
+    dir: NodeId,
+    used: u8,
+    part: &Part,
+) -> Result<(NodeId, u8), Errno>
+    requires dir { IsTrue (is_dir (P.tree probe.old) dir) }
+    requires used { used ≤ 32 }
+    ensures exact { result ≡ step (P.tree probe.old) dir used part.now }
+    ensures tree { P.tree probe.new ≡ P.tree probe.old }
+    ensures cost { P.count probe.new ≤ P.count probe.old + part_cost (P.tree probe.old) }
+{
+    let (found, left) = resolve_part(probe, dir, LINK_LIMIT - used, part, Last::Followed)?;
+    match found {
+        Found::Whole { dir, .. } => Ok((dir, LINK_LIMIT - left)),
+        Found::Slot { node, .. } => Err(not_entered(node)),
+    }
+}
+
+/// Why what was found can't be entered: it is no directory, or nothing.
+fn not_entered(node: Option<NodeId>) -> Errno
+    ensures { result ≡ (if is_some node then ENOTDIR else ENOENT) }
+{
+    if node.is_some() {
+        Errno::ENOTDIR
+    } else {
+        Errno::ENOENT
+    }
+}
+
+/// What the last part names, `used` links having been followed before it. Needs `dir` to be a
+/// living directory. Errors are those of `step`, for the parts of a link's target; a last part that
+/// names nothing, or no directory, is found. Takes no memory.
+pub fn last<'t, P: Probe<'t>>(
+    probe: &mut P,
+    dir: NodeId,
+    used: u8,
+    part: &Part,
+    mode: Last,
+) -> Result<Found, Errno>
+    requires dir { IsTrue (is_dir (P.tree probe.old) dir) }
+    requires used { used ≤ 32 }
+    ensures exact { result ≡ last (P.tree probe.old) dir used part.now mode }
+    ensures tree { P.tree probe.new ≡ P.tree probe.old }
+    ensures cost { P.count probe.new ≤ P.count probe.old + part_cost (P.tree probe.old) }
+{
+    let (found, _) = resolve_part(probe, dir, LINK_LIMIT - used, part, mode)?;
+    Ok(found)
+}
+
+fn resolve_part<'t, P: Probe<'t>>(
+    probe: &mut P,
+    dir: NodeId,
+    left: u8,
+    part: &Part,
+    mode: Last,
+) -> Result<(Found, u8), Errno>
+    requires dir { IsTrue (is_dir (P.tree probe.old) dir) }
+    requires left { left ≤ 32 }
+    ensures exact { result ≡ resolve_parts left (P.tree probe.old) mode dir ways.Top (part.now ∷ []) }
+    ensures left { IfOk result (λ found. found.1 ≤ left) }
+    ensures tree { P.tree probe.new ≡ P.tree probe.old }
+    ensures cost { P.count probe.new ≤ P.count probe.old + part_cost (P.tree probe.old) }
+{
+    probe.known();
+    let mut walk = Walk::new(dir, left, Rest::none());
+    match walk.enter(probe, part, mode)? {
+        Some(found) => Ok((found, walk.left)),
+        None => walk.finish(probe, mode),
+    }
+}
+
+/// Where a path starts; None where that is no living directory.
+fn start_of<'t, P: Probe<'t>>(probe: &mut P, from: NodeId, text: &[u8]) -> Option<NodeId>
+    ensures start { result ≡ (if not (is_absolute text.now) && not (is_dir (P.tree probe.old) from) then None else Some (start_of text.now from)) }
+    ensures ready { IfSome result (λ start. (rest : Remaining) → rest.depth ≡ 0 → CanGoOn (P.tree probe.old) start 32 rest) }
+    ensures tree { P.tree probe.new ≡ P.tree probe.old }
+{
+    probe.known();
+    if is_absolute(text) {
+        return Some(NodeId::ROOT);
+    }
+    match probe.kind(from) {
+        Some(Kind::Dir) => Some(from),
+        _ => None,
+    }
+}
+
+fn is_absolute(text: &[u8]) -> bool
+    ensures { result ≡ is_absolute text.now }
+{
+    text.first() == Some(&b'/')
+}
+
+/// What stands at a name in a directory.
+enum Standing<'t> {
+    Directory(NodeId),
+    Linked(NodeId, &'t [u8]),
+    Plain(NodeId),
+    Nothing,
+}
+
+fn standing_at<'t, P: Probe<'t>>(probe: &mut P, dir: NodeId, name: &Name) -> Standing<'t>
+    ensures standing { standing_seen result ≡ standing_at (P.tree probe.old) dir name.now }
+    ensures stands { StandsIn (P.tree probe.old) result }
+    ensures tree { P.tree probe.new ≡ P.tree probe.old }
+    ensures count { P.count probe.new ≤ P.count probe.old + 3 }
+{
+    probe.known();
+    let Some(node) = probe.look(dir, name) else {
+        return Standing::Nothing;
+    };
+    match probe.kind(node) {
+        Some(Kind::Dir) => Standing::Directory(node),
+        Some(Kind::Link) => Standing::Linked(node, probe.target(node).unwrap_or(&[])),
+        Some(Kind::File | Kind::Prog) => Standing::Plain(node),
+        None => Standing::Nothing,
+    }
+}
+
+/// A resolution on its way: the directory where it is, how that was named, how many links it may
+/// still follow, and the parts that are left.
+#[derive(Drop)]
+struct Walk<'a> {
+    here: NodeId,
+    way: Way,
+    left: u8,
+    rest: Rest<'a>,
+}
+
+impl<'a> Walk<'a> {
+    fn new(dir: NodeId, left: u8, rest: Rest<'a>) -> Walk<'a>
+        ensures { result ≡ record { here = dir; way = ways.Top; left = left; rest = rest.entry } }
+    {
+        Walk {
+            here: dir,
+            way: Way::Top,
+            left,
+            rest,
+        }
+    }
+
+    /// Resolves the parts that are left.
+    fn finish<'t: 'a, P: Probe<'t>>(
+        mut self,
+        probe: &mut P,
+        mode: Last,
+    ) -> Result<(Found, u8), Errno>
+        requires ready { CanGoOn (P.tree probe.old) self.here self.left self.rest }
+        ensures exact { result ≡ resolve_parts self.entry.left (P.tree probe.old) mode self.entry.here self.entry.way self.entry.rest.parts }
+        ensures left { IfOk result (λ found. found.1 ≤ self.entry.left) }
+        ensures tree { P.tree probe.new ≡ P.tree probe.old }
+        ensures count { P.count probe.new ≤ P.count probe.old + 3 * potential (P.tree probe.old) self.entry.left self.entry.rest }
+    {
+        while let Some(part) = self.rest.next() {
+            if let Some(found) = self.enter(probe, &part, mode)? {
+                return Ok((found, self.left));
+            }
+        }
+        let whole = Found::Whole {
+            dir: self.here,
+            way: self.way,
+        };
+        Ok((whole, self.left))
+    }
+
+    /// Resolves one part; the answer is what was found, where it ends the resolution.
+    fn enter<'t: 'a, P: Probe<'t>>(
+        &mut self,
+        probe: &mut P,
+        part: &Part,
+        mode: Last,
+    ) -> Result<Option<Found>, Errno>
+        requires ready { CanGoOn (P.tree probe.old) self.old.here self.old.left self.old.rest }
+        ensures exact { let t = P.tree probe.old in
+            resolve_parts self.old.left t mode self.old.here self.old.way (part.now ∷ self.old.rest.parts)
+            ≡ goes_on result self.new.left (resolve_parts self.new.left t mode self.new.here self.new.way self.new.rest.parts) }
+        ensures ready { CanGoOn (P.tree probe.old) self.new.here self.new.left self.new.rest }
+        ensures left { self.new.left ≤ self.old.left }
+        ensures potential { potential (P.tree probe.old) self.new.left self.new.rest ≤ potential (P.tree probe.old) self.old.left self.old.rest }
+        ensures tree { P.tree probe.new ≡ P.tree probe.old }
+        ensures count { P.count probe.new ≤ P.count probe.old + 3 }
+    {
+        match part {
+            Part::Dot => {
+                self.way = Way::Dot;
+                Ok(None)
+            }
+            Part::DotDot => {
+                self.here = probe.parent(self.here).unwrap_or(NodeId::ROOT);
+                self.way = Way::DotDot;
+                Ok(None)
+            }
+            Part::Name(name) => self.enter_name(probe, name, mode),
+        }
+    }
+
+    fn enter_name<'t: 'a, P: Probe<'t>>(
+        &mut self,
+        probe: &mut P,
+        name: &Name,
+        mode: Last,
+    ) -> Result<Option<Found>, Errno>
+        requires ready { CanGoOn (P.tree probe.old) self.old.here self.old.left self.old.rest }
+        ensures exact { let t = P.tree probe.old in
+            resolve_parts self.old.left t mode self.old.here self.old.way (parts.Name name.now ∷ self.old.rest.parts)
+            ≡ goes_on result self.new.left (resolve_parts self.new.left t mode self.new.here self.new.way self.new.rest.parts) }
+        ensures ready { CanGoOn (P.tree probe.old) self.new.here self.new.left self.new.rest }
+        ensures left { self.new.left ≤ self.old.left }
+        ensures potential { potential (P.tree probe.old) self.new.left self.new.rest ≤ potential (P.tree probe.old) self.old.left self.old.rest }
+        ensures tree { P.tree probe.new ≡ P.tree probe.old }
+        ensures count { P.count probe.new ≤ P.count probe.old + 3 }
+    {
+        let dir = self.here;
+        match standing_at(probe, dir, name) {
+            Standing::Directory(node) => {
+                self.here = node;
+                self.way = Way::Named {
+                    parent: dir,
+                    name: *name,
+                };
+                Ok(None)
+            }
+            Standing::Linked(node, target) => {
+                if !self.is_followed(mode) {
+                    return Ok(Some(Found::Slot {
+                        dir,
+                        name: *name,
+                        node: Some(node),
+                    }));
+                }
+                self.follow(target)?;
+                Ok(None)
+            }
+            Standing::Plain(node) => self.end_at(name, Some(node), Errno::ENOTDIR),
+            Standing::Nothing => self.end_at(name, None, Errno::ENOENT),
+        }
+    }
+
+    fn is_followed(&self, mode: Last) -> bool
+        ensures { result ≡ is_followed mode self.now.rest.parts }
+    {
+        match mode {
+            Last::Followed => true,
+            Last::Kept => !self.rest.is_done(),
+        }
+    }
+
+    /// What is no directory is found where no part is left.
+    fn end_at(
+        &self,
+        name: &Name,
+        node: Option<NodeId>,
+        errno: Errno,
+    ) -> Result<Option<Found>, Errno>
+        ensures { result ≡ (if is_done self.now.rest.parts then Ok (Some (Slot self.now.here name.now node)) else Err errno) }
+    {
+        if !self.rest.is_done() {
+            return Err(errno);
+        }
+        Ok(Some(Found::Slot {
+            dir: self.here,
+            name: *name,
+            node,
+        }))
+    }
+
+    /// Follows a link: its target comes before the parts that are left.
+    fn follow(&mut self, target: &'a [u8]) -> Result<(), Errno>
+        requires readable { IsTrue (is_readable target.now) }
+        requires room { self.old.rest.depth + self.old.left ≤ 32 }
+        ensures ok { OnOk result (0 < self.old.left) }
+        ensures err { IfErr result (λ errno. (errno ≡ ELOOP) × (self.old.left ≡ 0)) }
+        ensures left { self.new.left ≡ self.old.left - 1 }
+        ensures unchanged { self.old.left ≡ 0 → self.new ≡ self.old }
+        ensures here { 0 < self.old.left → self.new.here ≡ start_of target.now self.old.here }
+        ensures way { 0 < self.old.left → self.new.way ≡ ways.Top }
+        ensures parts { 0 < self.old.left → self.new.rest.parts ≡ parts_of ending.Dot target.now ++ self.old.rest.parts }
+        ensures room { self.new.rest.depth + self.new.left ≤ 32 }
+    {
+        if self.left == 0 {
+            return Err(Errno::ELOOP);
+        }
+        self.left -= 1;
+        if is_absolute(target) {
+            self.here = NodeId::ROOT;
+        }
+        self.way = Way::Top;
+        self.rest.put(target);
+        Ok(())
+    }
+}

@@ -1,0 +1,79 @@
+-- What a process stands for after a successful exec.
+use Rattle.std.proofs.Common.{◌≡◌, ℕ, List, [], ◌∷◌, false, refl, sym, ap, ◌∙◌}
+use Rattle.std.specs.Prelude.{Option, Some, None, not, filter, filter_map}
+use Rattle.std.specs.List.{list_any}
+use Rattle.pua_policy.specs.History.{History, ProcessState, StandsFor, Pledged, Unveiled, Locked, Moved, Ended, promises_in, execpromises_in, common, meet, is_pledge, held_for_exec, after_exec, veils, with_veil, is_lock, is_locked, is_end, is_ended, dir_in, working_dir, first}
+use Rattle.std.specs.Prelude.{unwrap_or, ◌||◌}
+
+-- the events that are no pledges
+abbrev others : History → History
+others = filter (λ event. not (is_pledge event))
+
+no_promises : (h : History) → filter_map promises_in (others h) ≡ []
+no_promises [] = refl
+no_promises (Pledged p e ∷ h) = no_promises h
+no_promises (Unveiled place perms ∷ h) = no_promises h
+no_promises (Locked ∷ h) = no_promises h
+no_promises (Moved d ∷ h) = no_promises h
+no_promises (Ended ∷ h) = no_promises h
+
+no_execpromises : (h : History) → filter_map execpromises_in (others h) ≡ []
+no_execpromises [] = refl
+no_execpromises (Pledged p e ∷ h) = no_execpromises h
+no_execpromises (Unveiled place perms ∷ h) = no_execpromises h
+no_execpromises (Locked ∷ h) = no_execpromises h
+no_execpromises (Moved d ∷ h) = no_execpromises h
+no_execpromises (Ended ∷ h) = no_execpromises h
+
+same_veils : (h : History) → veils (others h) ≡ veils h
+same_veils [] = refl
+same_veils (Pledged p e ∷ h) = same_veils h
+same_veils (Unveiled place perms ∷ h) = ap (with_veil place perms) (same_veils h)
+same_veils (Locked ∷ h) = same_veils h
+same_veils (Moved d ∷ h) = same_veils h
+same_veils (Ended ∷ h) = same_veils h
+
+same_lock : (h : History) → is_locked (others h) ≡ is_locked h
+same_lock [] = refl
+same_lock (Pledged p e ∷ h) = same_lock h
+same_lock (Unveiled place perms ∷ h) = same_lock h
+same_lock (Locked ∷ h) = refl
+same_lock (Moved d ∷ h) = same_lock h
+same_lock (Ended ∷ h) = same_lock h
+
+same_dirs : (h : History) → filter_map dir_in (others h) ≡ filter_map dir_in h
+same_dirs [] = refl
+same_dirs (Pledged p e ∷ h) = same_dirs h
+same_dirs (Unveiled place perms ∷ h) = same_dirs h
+same_dirs (Locked ∷ h) = same_dirs h
+same_dirs (Moved d ∷ h) = ap (λ ds. d ∷ ds) (same_dirs h)
+same_dirs (Ended ∷ h) = same_dirs h
+
+same_end : (h : History) → is_ended (others h) ≡ is_ended h
+same_end [] = refl
+same_end (Pledged p e ∷ h) = same_end h
+same_end (Unveiled place perms ∷ h) = same_end h
+same_end (Locked ∷ h) = same_end h
+same_end (Moved d ∷ h) = same_end h
+same_end (Ended ∷ h) = refl
+
+-- with execpromises, they become the promises, and all but the pledges stays
+pub stands_given : (p : ProcessState) (h : History) → StandsFor p h → (set : ℕ) → p.execpromises ≡ Some set →
+    StandsFor (record { promises = Some set; execpromises = None; veils = p.veils; locked = p.locked; dir = p.dir; ended = p.ended }) (after_exec h)
+stands_given p h s set e =
+    let given : held_for_exec h ≡ Some set = sym s.execpromises ∙ e in
+    rw given (record {
+      promises = ap (λ sets. Some (meet set (common sets))) (sym (no_promises h));
+      execpromises = ap common (sym (no_execpromises h));
+      veils = s.veils ∙ sym (same_veils h);
+      locked = s.locked ∙ sym (same_lock h);
+      dir = s.dir ∙ ap (λ ds. unwrap_or (first ds) 0) (sym (same_dirs h));
+      ended = s.ended ∙ sym (same_end h);
+    })
+
+-- without them the working directory alone stays
+pub stands_alone : (p : ProcessState) (h : History) → StandsFor p h → p.execpromises ≡ None → p.ended ≡ false →
+    StandsFor (record { promises = None; execpromises = None; veils = []; locked = false; dir = p.dir; ended = p.ended }) (after_exec h)
+stands_alone p h s e lives =
+    let none : held_for_exec h ≡ None = sym s.execpromises ∙ e in
+    rw none (record { promises = refl; execpromises = refl; veils = refl; locked = refl; dir = s.dir; ended = lives })

@@ -1,0 +1,6 @@
+use Rattle.std.proofs.Common.{◌≡◌, map, reverse}
+use Rattle.pua_tree.specs.Tree.{distinct_names}
+use Rattle.pua_tree.proofs.list.name_set.Given as goal
+
+abbrev pub invariant-loop-row : goal.invariant-loop-row
+invariant-loop-row l = l.names.keys ≡ distinct_names (map (λ row. row.name) (reverse (map (λ row. row.now) l.yielded)))

@@ -1,0 +1,183 @@
+//! A tree kept as a list of rows and a list of nodes, each in the order of its keys.
+
+use crate::fault::TreeFault;
+use crate::name::Name;
+use crate::node::{Kind, NodeId};
+use crate::tree::FileTree;
+use std::alloc::{AllocError, Global};
+use std::cmp::Ordering;
+use std::collections::BTreeSet;
+use std::marker::Model;
+
+/// A node that has a name in a directory.
+#[derive(Clone, Copy)]
+pub(crate) struct Row {
+    pub(crate) dir: NodeId,
+    pub(crate) name: Name,
+    pub(crate) node: NodeId,
+}
+
+/// A living node, and where it leads if it is a link.
+#[derive(Drop)]
+pub(crate) struct Node {
+    pub(crate) id: NodeId,
+    pub(crate) kind: Kind,
+    pub(crate) target: Option<Vec<u8>>,
+}
+
+/// A tree of files in two lists: rows by directory and name, and nodes by number.
+#[derive(Drop)]
+pub struct ListTree {
+    rows: Vec<Row>,
+    nodes: Vec<Node>,
+    next: u32,
+}
+
+impl Model for ListTree {
+    ghost use Rattle.pua_tree.specs.Tree.{Tree, WellFormed};
+
+    ghost Value = { Tree };
+
+    ghost use Rattle.pua_tree.specs.ListTree.{held_tree};
+
+    ghost view = { λ a. held_tree a.rows.items a.nodes.items a.next };
+
+    ghost invariant = { λ a. WellFormed (held_tree a.rows.items a.nodes.items a.next) };
+}
+
+ghost use Rattle.std.specs.Prelude.{ℕ, ◌≡◌, ◌<◌, ◌≤◌, Some, None, IsTrue, IfOk, IfErr, MatchResult, ◌==◌, unwrap_or, find, length, map, option_map, option_copied};
+ghost use Rattle.std.specs.List.{HoldsAt, insert, list_any};
+ghost use Rattle.std.specs.Ordering.{nat_cmp};
+ghost use Rattle.std.specs.FinMap.{is_sorted, find as find_key, put};
+ghost use Rattle.pua_tree.specs.Tree.{WellFormed, spot_cmp, is_dir, distinct_names};
+ghost use Rattle.pua_tree.specs.ListTree.{row_entry, node_entry, made_of, held_tree};
+
+impl FileTree for ListTree {
+    ghost content = { λ t. t };
+
+    fn known(&self) {
+        let _rows = &self.rows;
+    }
+
+    fn kind(&self, id: NodeId) -> Option<Kind> {
+        match node_place(&self.nodes, id) {
+            Ok(place) => Some(self.nodes[place].kind),
+            Err(_) => None,
+        }
+    }
+
+    fn look(&self, dir: NodeId, name: &Name) -> Option<NodeId> {
+        match row_place(&self.rows, dir, name) {
+            Ok(place) => Some(self.rows[place].node),
+            Err(_) => None,
+        }
+    }
+
+    /// Goes over the rows once, since they are not in the order of their nodes.
+    fn parent(&self, dir: NodeId) -> Option<NodeId> {
+        if self.is_dir(dir) {
+            Some(dir_above(&self.rows, dir))
+        } else {
+            None
+        }
+    }
+
+    fn target(&self, id: NodeId) -> Option<&[u8]> {
+        match node_place(&self.nodes, id) {
+            Ok(place) => match &self.nodes[place].target {
+                Some(target) => Some(target.as_slice()),
+                None => None,
+            },
+            Err(_) => None,
+        }
+    }
+
+    fn is_empty(&self, dir: NodeId) -> bool {
+        self.is_dir(dir) && !has_row(&self.rows, dir)
+    }
+
+    #[tactic(auto, using(crate::proofs::Rows::entry_names))]
+    fn names(&self, alloc: Global) -> Result<Vec<Name>, TreeFault> {
+        row_names(alloc, &self.rows).map_err(|_| TreeFault::OutOfMemory)
+    }
+}
+
+impl ListTree {
+    /// The tree of these rows, nodes and next number.
+    pub(crate) fn new(rows: Vec<Row>, nodes: Vec<Node>, next: u32) -> ListTree
+        requires { WellFormed (held_tree rows.items nodes.items next) }
+        ensures { result ≡ held_tree rows.items nodes.items next }
+    {
+        ListTree { rows, nodes, next }
+    }
+
+    fn is_dir(&self, id: NodeId) -> bool
+        ensures { result ≡ is_dir self.now id }
+    {
+        self.kind(id) == Some(Kind::Dir)
+    }
+}
+
+impl Row {
+    /// How its spot compares with this one.
+    fn cmp_spot(&self, dir: NodeId, name: &Name) -> Ordering
+        ensures { result ≡ spot_cmp (self.now.dir, self.now.name) (dir, name.now) }
+    {
+        self.dir.cmp(&dir).then_with(|| self.name.cmp(name))
+    }
+}
+
+/// Where the row of this spot stands among rows in order, or else where it would stand.
+pub(crate) fn row_place(rows: &[Row], dir: NodeId, name: &Name) -> Result<usize, usize>
+    requires { IsTrue (is_sorted spot_cmp (map row_entry rows.now)) }
+    ensures found { IfOk result (λ i. (i < length rows.now) × HoldsAt (λ row. find_key spot_cmp (dir, name.now) (map row_entry rows.now) ≡ Some row.node) rows.now i) }
+    ensures missing { IfErr result (λ i. (i ≤ length rows.now) × (find_key spot_cmp (dir, name.now) (map row_entry rows.now) ≡ None)) }
+    ensures place { IfErr result (λ i. (node : ℕ) → put spot_cmp (dir, name.now) node (map row_entry rows.now) ≡ insert (map row_entry rows.now) i ((dir, name.now), node)) }
+{
+    rows.binary_search_by(|row| row.cmp_spot(dir, name))
+}
+
+/// Where the node of this number stands among nodes in order, or else where it would stand.
+pub(crate) fn node_place(nodes: &[Node], id: NodeId) -> Result<usize, usize>
+    requires { IsTrue (is_sorted nat_cmp (map node_entry nodes.now)) }
+    ensures found { IfOk result (λ i. (i < length nodes.now) × HoldsAt (λ node. find_key nat_cmp id (map node_entry nodes.now) ≡ Some (made_of node)) nodes.now i) }
+    ensures missing { IfErr result (λ i. (i ≤ length nodes.now) × (find_key nat_cmp id (map node_entry nodes.now) ≡ None)) }
+{
+    nodes.binary_search_by_key(&id, |node| node.id)
+}
+
+/// Whether a row stands in this directory.
+fn has_row(rows: &[Row], dir: NodeId) -> bool
+    requires { IsTrue (is_sorted spot_cmp (map row_entry rows.now)) }
+    ensures { result ≡ list_any (λ row. row.0.0 == dir) (map row_entry rows.now) }
+{
+    rows.binary_search_by_key(&dir, |row| row.dir).is_ok()
+}
+
+/// The directory in which this node stands, and the root where it stands in none.
+fn dir_above(rows: &[Row], node: NodeId) -> NodeId
+    ensures { result ≡ unwrap_or (option_map (λ row. row.dir) (find (λ row. row.node == node) rows.now)) 0 }
+{
+    rows.iter()
+        .find(|row| row.node == node)
+        .map_or(NodeId::ROOT, |row| row.dir)
+}
+
+/// The names in the rows: each once, in the order of their bytes.
+fn row_names(alloc: Global, rows: &[Row]) -> Result<Vec<Name>, AllocError>
+    ensures { IfOk result (λ all. all.items ≡ distinct_names (map (λ row. row.name) rows.now)) }
+{
+    let names = name_set(alloc, rows)?;
+    names.into_iter().collect(alloc)
+}
+
+/// The names in the rows, as a set.
+fn name_set(alloc: Global, rows: &[Row]) -> Result<BTreeSet<Name>, AllocError>
+    ensures { IfOk result (λ names. names.keys ≡ distinct_names (map (λ row. row.name) rows.now)) }
+{
+    let mut names = BTreeSet::new(alloc);
+    for row in rows.iter().rev() {
+        names.insert(row.name)?;
+    }
+    Ok(names)
+}
