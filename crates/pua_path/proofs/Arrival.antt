@@ -1,10 +1,10 @@
 -- A part that another follows, by the part alone: what was found there, and the errno where it is no directory.
-use Rattle.std.proofs.Common.{is_some, ◌≡◌, ℕ, zero, suc, Bool, true, false, List, [], ◌∷◌, ◌++◌, Option, Some, None, refl, sym, ap, ◌∙◌, append_assoc, ◌-◌, Result, Ok, Err}
+use Rattle.std.proofs.Common.{is_some, ◌≡◌, ℕ, zero, suc, Bool, true, false, List, [], ◌∷◌, ◌++◌, Some, None, refl, sym, ap, ◌∙◌, append_assoc, ◌-◌, Result, Ok, Err}
 use Rattle.std.specs.Prelude.{if◌then◌else◌, not, ◌&&◌}
 use Rattle.pua_tree.specs.Tree.{Tree, is_dir}
 use Rattle.pua_tree.specs.Steps.{◌>>=◌}
 use Rattle.pua_path.specs.Paths.{parts_of, is_absolute}
-use Rattle.pua_path.specs.Resolution.{Resolved, Standing, Directory, Linked, Plain, Nothing, standing_at, is_followed, slot_or, walk, start_of, resolve_parts, resolution, reached, step, last, link_limit}
+use Rattle.pua_path.specs.Resolution.{Resolved, Standing, Directory, Linked, Plain, Nothing, standing_at, walk, start_of, resolve_parts, resolution, reached, step, link_limit}
 use Rattle.pua_path.specs.declared.errno.Errno.{Errno}
 use Rattle.pua_path.specs.declared.errno.Errno.TheVariants.{ENOENT, ENOTDIR, ELOOP}
 use Rattle.pua_path.specs.declared.text.Ending.{Ending}

@@ -1,11 +1,10 @@
 -- How an answer depends on the links that may be followed.
-use Rattle.std.proofs.Common.{◌≡◌, ℕ, zero, suc, Bool, true, false, List, [], ◌∷◌, ◌++◌, Option, Some, None, refl, sym, ap, ◌∙◌, arith, ◌+◌, ◌-◌, ◌≤◌, ◌<◌, ◌⊎◌, inl, inr, Result, Ok, Err}
-use Rattle.std.specs.Prelude.{if◌then◌else◌}
+use Rattle.std.proofs.Common.{◌≡◌, ℕ, zero, suc, Bool, true, false, List, [], ◌∷◌, ◌++◌, Some, None, refl, ap, ◌∙◌, arith, ◌+◌, ◌-◌, ◌≤◌, ◌<◌, ◌⊎◌, inl, inr, Result, Ok, Err}
 use Rattle.pua_tree.specs.Tree.{Tree}
 use Rattle.pua_tree.specs.Steps.{◌>>=◌}
 use Rattle.pua_path.specs.Paths.{parts_of}
 use Rattle.pua_path.specs.Resolution.{Resolved, Standing, Directory, Linked, Plain, Nothing, standing_at, is_followed, slot_or, start_of, resolve_parts, reached, step, last, link_limit}
-use Rattle.pua_path.specs.Laws.{FollowsLinks, IsDecidedByLinks, LinksDecide, StepFollows, StepsFollow, LastFollows, LastsFollow}
+use Rattle.pua_path.specs.Laws.{IsDecidedByLinks, LinksDecide, StepFollows, StepsFollow, LastFollows, LastsFollow}
 use Rattle.pua_path.specs.declared.errno.Errno.{Errno}
 use Rattle.pua_path.specs.declared.errno.Errno.TheVariants.{ENOENT, ENOTDIR, ELOOP}
 use Rattle.pua_path.specs.declared.text.Ending.TheVariants as ending
@@ -123,9 +122,9 @@ steps_follow t dir part = by (links_decide t Followed dir ways.Top (part ∷ par
       ),
     )
 
-found_after : (outcome : Result Found Errno) (left : ℕ) → ((outcome >>= λ found. Ok (found, left)) >>= λ found. Ok found.0) ≡ outcome
-found_after (Err errno) left = refl
-found_after (Ok found) left = refl
+found_after : (outcome : Result Found Errno) (left : ℕ) (answer : Resolved) → answer ≡ (outcome >>= λ found. Ok (found, left)) → (answer >>= λ found. Ok found.0) ≡ outcome
+found_after (Err errno) left answer e = ap (λ (r : Resolved). r >>= λ found. Ok found.0) e
+found_after (Ok found) left answer e = ap (λ (r : Resolved). r >>= λ found. Ok found.0) e
 
 pub lasts_follow : LastsFollow
 lasts_follow t dir part mode = by (links_decide t mode dir ways.Top (part ∷ []) link_limit)
@@ -138,9 +137,7 @@ lasts_follow t dir part mode = by (links_decide t mode dir ways.Top (part ∷ []
       (
         outcome,
         record {
-          enough = λ used k.
-              ap (λ r. r >>= λ found. Ok found.0) (h.enough (link_limit - used) (omega (arith, k)))
-              ∙ found_after outcome (link_limit - used - count);
+          enough = λ used k. found_after outcome (link_limit - used - count) _ (h.enough (link_limit - used) (omega (arith, k)));
           too_few = λ used m k. ap (λ r. r >>= λ found. Ok found.0) (h.too_few (link_limit - used) (omega (arith, m, k)));
         },
       ),

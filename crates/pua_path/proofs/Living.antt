@@ -1,12 +1,12 @@
 -- What is true of the nodes of every tree.
-use Rattle.std.proofs.Common.{◌≡◌, ℕ, zero, suc, Bool, true, false, ◌&&◌, List, [], ◌∷◌, Option, Some, None, length, refl, sym, ap, ◌∙◌, arith, ◌≤◌, max, cond, fold, find, is_none, option_map, option_and_then, option_copied, ◌++◌, ◌+◌, ◌-◌, ◌<◌, length-append, sub-one}
+use Rattle.std.proofs.Common.{◌≡◌, ℕ, zero, suc, Bool, true, false, ◌&&◌, List, [], ◌∷◌, Option, Some, None, length, refl, sym, ap, ◌∙◌, arith, ◌≤◌, max, cond, fold, find, option_map, option_and_then, option_copied, ◌++◌, ◌+◌, ◌-◌, ◌<◌, length-append, sub-one}
 use Rattle.std.specs.Prelude.{◌==◌, if◌then◌else◌, nat_lt, nat_le, not, unwrap_or}
 use Rattle.std.specs.List.{list_all}
 use Rattle.std.specs.Ordering.{nat_cmp, eq_by_cmp}
 use Rattle.std.specs.FinMap.{find as find_key}
 use Rattle.std.specs.Borrow.{Bor}
-use Rattle.pua_tree.specs.Names.{has_byte, has_short_components, is_name, is_target}
-use Rattle.pua_tree.specs.Tree.{Tree, Node, Spot, WellFormed, node_at, target_at, is_dir, is_living, above, parent, row_fits, node_fits, target_fits, rows_fit_kind}
+use Rattle.pua_tree.specs.Names.{has_byte, has_short_components, is_target}
+use Rattle.pua_tree.specs.Tree.{Tree, Node, Spot, WellFormed, node_at, target_at, is_dir, above, parent, row_fits, node_fits, target_fits, rows_fit_kind}
 use Rattle.pua_tree.specs.declared.node.Kind.{Kind}
 use Rattle.pua_tree.specs.declared.node.Kind.TheVariants.{Dir, File, Prog, Link}
 use Rattle.pua_path.specs.Paths.{is_absolute, parts_of}

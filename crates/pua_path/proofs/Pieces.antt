@@ -1,5 +1,5 @@
 -- Pieces of texts: components, a slash at the end, and whether a text can be read, along a cut.
-use Rattle.std.proofs.Common.{◌≡◌, ℕ, zero, suc, Bool, true, false, not, ◌&&◌, ◌||◌, cond, List, [], ◌∷◌, ◌++◌, length, map, refl, sym, ap, ◌∙◌, append-nil, append_assoc, arith, IsTrue, lt-ltb, get_or, take, drop, ◌<◌, ◌≤◌, Some, None, position, drop-cons, ltb-false, take_all, ne_eqb, eqb-true, Fits, w8, IsSome, Option}
+use Rattle.std.proofs.Common.{◌≡◌, ℕ, zero, suc, Bool, true, false, not, ◌&&◌, ◌||◌, cond, List, [], ◌∷◌, ◌++◌, length, map, refl, sym, ap, ◌∙◌, append-nil, arith, lt-ltb, get_or, take, drop, ◌<◌, ◌≤◌, Some, None, position, drop-cons, ltb-false, take_all, ne_eqb, eqb-true, Fits, w8, IsSome, Option}
 use Rattle.std.specs.Prelude.{◌==◌, if◌then◌else◌, nat_lt, nat_le}
 use Rattle.std.specs.List.{All, filter, slice_split, onto_first, list_any, list_all}
 use Rattle.std.proofs.lemmas.List.Splits.{slice_split_none, slice_split_at}

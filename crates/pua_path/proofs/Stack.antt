@@ -1,14 +1,14 @@
 -- Texts that lie one on another: what is left when one is read to its end, and when one is put on top.
-use Rattle.std.proofs.Common.{◌≡◌, ℕ, zero, suc, Bool, true, false, not, ◌&&◌, ◌||◌, List, [], ◌∷◌, ◌++◌, length, map, refl, sym, ap, ◌∙◌, append-nil, append_assoc, arith, lt-ltb, ltb-true, get_or, take, set, ◌+◌, ◌-◌, ◌<◌, ◌≤◌, sub-one, eqb-true, ne_eqb}
+use Rattle.std.proofs.Common.{◌≡◌, ℕ, zero, suc, true, false, ◌&&◌, ◌||◌, List, [], ◌∷◌, ◌++◌, length, refl, sym, ap, ◌∙◌, append-nil, append_assoc, arith, get_or, take, set, ◌+◌, ◌-◌, ◌<◌, ◌≤◌, sub-one, eqb-true, ne_eqb}
 use Rattle.std.specs.Prelude.{◌==◌, nat_lt}
 use Rattle.std.specs.Borrow.{Bor}
 use Rattle.std.specs.List.{list_all}
 use Rattle.std.proofs.Math.Seq.{take-suc}
 use Rattle.std.proofs.lemmas.List.{take_more_set}
 use Rattle.std.proofs.lemmas.List.Folds.{list_all-append}
-use Rattle.pua_path.specs.Paths.{part_of, parts_of}
+use Rattle.pua_path.specs.Paths.{parts_of}
 use Rattle.pua_path.specs.Remaining.{rest_parts, pending, is_readable, can_wait, is_stack, is_done, after_slashes}
-use Rattle.pua_path.proofs.Pieces.{both, some, rest_parts-some, parts_of-begin}
+use Rattle.pua_path.proofs.Pieces.{both, rest_parts-some, parts_of-begin}
 use Rattle.pua_path.specs.declared.text.Ending.TheVariants as ending
 use Rattle.pua_path.specs.declared.found.Part.{Part}
 

@@ -1,5 +1,5 @@
 -- A resolution on its way: what stands at a name, and how one part leads on to the next.
-use Rattle.std.specs.Prelude.{ℕ, ◌+◌, ◌*◌, ◌≤◌, length, List, Option, Some, None, Result, Ok, Err, IsTrue}
+use Rattle.std.specs.Prelude.{ℕ, ◌+◌, ◌*◌, ◌≤◌, length, Option, Some, None, Result, Ok, Err, IsTrue}
 use Rattle.pua_tree.specs.Tree.{Tree, WellFormed, is_dir}
 use Rattle.pua_path.specs.Paths.{parts_of}
 use Rattle.pua_path.specs.Remaining.{Remaining, is_readable}

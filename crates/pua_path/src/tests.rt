@@ -10,58 +10,47 @@ fn found(tree: &ListTree, text: &[u8], ending: Ending, mode: Last) -> Result<Fou
     resolve(&mut Counted::new(tree), NodeId::ROOT, &text, mode)
 }
 
+fn whole(dir: NodeId, way: Way) -> Result<Found, Errno> {
+    Ok(Found::Whole { dir, way })
+}
+
+fn slot(dir: NodeId, name: Name, node: Option<NodeId>) -> Result<Found, Errno> {
+    Ok(Found::Slot { dir, name, node })
+}
+
 #[test]
 fn finds_what_texts_name(rt: HostRuntime) -> Result<(), Fail> {
     let tree = read_listing(rt.alloc(), EXAMPLE)?;
-    let root = NodeId::ROOT;
-    let [etc, tmp, t] = [1, 3, 4].map(NodeId::new);
-    let whole = |dir, way| Ok(Found::Whole { dir, way });
-    let tmp_name = Name::read(b"tmp")?;
-    let t_name = Name::read(b"t")?;
-    let x_name = Name::read(b"x")?;
-    let t_link = Ok(Found::Slot {
-        dir: root,
-        name: t_name,
-        node: Some(t),
-    });
+    let [root, tmp, t] = [0, 3, 4].map(NodeId::new);
     let named_tmp = Way::Named {
         parent: root,
-        name: tmp_name,
+        name: Name::read(b"tmp")?,
     };
-    let in_etc = Ok(Found::Slot {
-        dir: etc,
-        name: x_name,
-        node: None,
-    });
-    for (text, ending, mode, want) in [
-        (
-            b"/".as_slice(),
-            Ending::Dot,
-            Last::Followed,
-            whole(root, Way::Top),
-        ),
-        (b"/t", Ending::Dot, Last::Followed, whole(tmp, named_tmp)),
-        (b"/t", Ending::Dot, Last::Kept, t_link),
-        (b"/t/", Ending::Dot, Last::Kept, whole(tmp, Way::Dot)),
-        (b"/t/", Ending::Dropped, Last::Kept, t_link),
-        (b"//t//", Ending::Dropped, Last::Kept, t_link),
-        (
-            b"/tmp/up/..",
-            Ending::Dot,
-            Last::Followed,
-            whole(root, Way::DotDot),
-        ),
-        (b"/tmp/up/x", Ending::Dot, Last::Followed, in_etc),
-        (
-            b"/etc/passwd/x",
-            Ending::Dot,
-            Last::Followed,
-            Err(Errno::ENOTDIR),
-        ),
-        (b"/no/x", Ending::Dot, Last::Followed, Err(Errno::ENOENT)),
-        (b"/tmp/self", Ending::Dot, Last::Followed, Err(Errno::ELOOP)),
+    let t_link = slot(root, Name::read(b"t")?, Some(t));
+    let top = found(&tree, b"/", Ending::Dot, Last::Followed);
+    assert!(rt; top == whole(root, Way::Top));
+    let followed = found(&tree, b"/t", Ending::Dot, Last::Followed);
+    assert!(rt; followed == whole(tmp, named_tmp));
+    assert!(rt; found(&tree, b"/t", Ending::Dot, Last::Kept) == t_link);
+    assert!(rt; found(&tree, b"/t/", Ending::Dropped, Last::Kept) == t_link);
+    let entered = found(&tree, b"/t/", Ending::Dot, Last::Kept);
+    assert!(rt; entered == whole(tmp, Way::Dot));
+    Ok(())
+}
+
+#[test]
+fn goes_on_behind_links(rt: HostRuntime) -> Result<(), Fail> {
+    let tree = read_listing(rt.alloc(), EXAMPLE)?;
+    let above = found(&tree, b"/tmp/up/..", Ending::Dot, Last::Followed);
+    assert!(rt; above == whole(NodeId::ROOT, Way::DotDot));
+    let missing = found(&tree, b"/tmp/up/x", Ending::Dot, Last::Followed);
+    assert!(rt; missing == slot(NodeId::new(1), Name::read(b"x")?, None));
+    for (text, errno) in [
+        (b"/etc/passwd/x".as_slice(), Errno::ENOTDIR),
+        (b"/no/x", Errno::ENOENT),
+        (b"/tmp/self", Errno::ELOOP),
     ] {
-        assert_eq!(rt; found(&tree, text, ending, mode), want);
+        assert!(rt; found(&tree, text, Ending::Dot, Last::Followed) == Err(errno));
     }
     Ok(())
 }
@@ -119,7 +108,7 @@ fn steps_through_links(rt: HostRuntime) -> Result<(), Fail> {
 #[test]
 fn follows_32_links_and_no_more(rt: HostRuntime) -> Result<(), Fail> {
     let mut text = String::from_str(rt.alloc(), "tree 1\n0 dir\n1 file 0 f\n2 link 0 a1 f\n")?;
-    for number in 2..34 {
+    for number in 2u32..34 {
         writeln!(text, "{} link 0 a{number} a{}", number + 1, number - 1)?;
     }
     let tree = read_listing(rt.alloc(), text.as_bytes())?;
@@ -131,11 +120,11 @@ fn follows_32_links_and_no_more(rt: HostRuntime) -> Result<(), Fail> {
 #[test]
 fn counts_the_links_of_a_whole_path(rt: HostRuntime) -> Result<(), Fail> {
     let mut text = String::from_str(rt.alloc(), "tree 1\n0 dir\n1 dir 0 d\n2 link 0 d1 d\n")?;
-    for number in 2..21 {
+    for number in 2u32..21 {
         writeln!(text, "{} link 0 d{number} d{}", number + 1, number - 1)?;
     }
     text.push_str("22 file 1 f\n23 link 1 g1 f\n")?;
-    for number in 2..14 {
+    for number in 2u32..14 {
         writeln!(text, "{} link 1 g{number} g{}", number + 22, number - 1)?;
     }
     let tree = read_listing(rt.alloc(), text.as_bytes())?;

@@ -151,3 +151,8 @@ resolutions_fit t fits = record {
 pub founds_fit : (t : Tree) → WellFormed t → (from : ℕ) (ending : Ending) (text : List ℕ) (mode : Last) (found : Result Found Errno) → found ≡ resolution t from ending text mode → FoundsFit t found
 founds_fit t fits from ending text mode (Ok object) e = (whole_fits t fits from ending text mode object (sym e)).fits
 founds_fit t fits from ending text mode (Err errno) e = tt
+
+pub last_founds_fit : (t : Tree) → WellFormed t → (dir used : ℕ) (part : Part) (mode : Last) (found : Result Found Errno) → is_dir t dir ≡ true → found ≡ last t dir used part mode → FoundsFit t found
+last_founds_fit t fits dir used part mode (Ok object) living e =
+    (found_fits t fits mode (resolve_parts (link_limit - used) t mode dir Top (part ∷ [])) object (resolve_fits t fits mode (link_limit - used) (part ∷ []) dir Top living) (sym e)).fits
+last_founds_fit t fits dir used part mode (Err errno) living e = tt

@@ -36,7 +36,7 @@ impl Model for Process {
     ghost view = { λ a. record { promises = a.promises; execpromises = a.execpromises; veils = a.veils.entries; locked = a.locked; dir = a.dir; ended = a.ended } };
 }
 
-ghost use Rattle.std.specs.Prelude.{◌≡◌, ◌≢◌, ◌-◌, [], ◌∷◌, length, Option, Some, None, IfOk, OnOk, OnErr, IfErr, IfSome, if◌then◌else◌, false, MatchResult, unwrap_or};
+ghost use Rattle.std.specs.Prelude.{◌≡◌, ◌≢◌, ◌-◌, [], ◌∷◌, length, Option, Some, None, Err, IfOk, OnOk, OnErr, IfErr, IfSome, if◌then◌else◌, false, MatchResult, unwrap_or};
 ghost use Rattle.pua_policy.specs.Promises.{all_promises, error};
 ghost use Rattle.pua_policy.specs.History.{History, StandsFor, Pledged, Unveiled, Locked, Moved, Ended, new_history, after_exec, pledge_fault, unveil_fault, place_fault, is_within, narrowed, may_any, is_locked, is_ended, working_dir, veil_at, has_veil};
 
@@ -93,6 +93,7 @@ impl Process {
         ensures err { IfErr result (λ fault. (h : History) → StandsFor self.old h →
             (fault ≢ UnveilFault.OutOfMemory → unveil_fault h place perms ≡ Some fault)
             × (fault ≡ UnveilFault.OutOfMemory → unveil_fault h place perms ≡ None)) }
+        ensures memory { result ≡ Err UnveilFault.OutOfMemory → veil_at self.old.veils place ≡ None }
         ensures unchanged { OnErr result (self.new ≡ self.old) }
     {
         if let Some(fault) = self.unveil_fault(&place, perms) {

@@ -1,5 +1,5 @@
 -- What a reading of lines has gathered, looked up and added to.
-use Rattle.std.proofs.Common.{◌≡◌, ◌<◌, ◌≤◌, ◌+◌, ℕ, zero, suc, List, [], ◌∷◌, ◌++◌, length, map, Option, Some, None, Result, Ok, Err, MatchResult, OnOk, OnErr, ◌≢◌, Bool, true, false, cond, IsTrue, is_some, ltb, refl, sym, ap, subst, ◌∙◌, arith}
+use Rattle.std.proofs.Common.{◌≡◌, ◌<◌, ◌≤◌, ◌+◌, ℕ, zero, suc, List, [], ◌∷◌, ◌++◌, length, map, Some, None, Result, Ok, Err, MatchResult, OnOk, OnErr, ◌≢◌, true, false, IsTrue, is_some, ltb, refl, sym, ap, ◌∙◌, arith}
 use Rattle.std.specs.List.{insert, HoldsAt}
 use Rattle.std.specs.FinMap.{is_sorted, find, put}
 use Rattle.std.proofs.lemmas.List.{map_push}
@@ -7,7 +7,7 @@ use Rattle.std.proofs.lemmas.Bool.{le-ltb, lt-ltb}
 use Rattle.pua_tree.specs.Tree.{Spot, spot_cmp}
 use Rattle.pua_tree.specs.Listing as listing
 use Rattle.pua_tree.specs.Listing.{rows_of_entries, root_node, is_taken, last_number, tree_of, admitted, entry_of}
-use Rattle.pua_tree.specs.ListTree.{row_entry, node_entry, held_tree}
+use Rattle.pua_tree.specs.ListTree.{row_entry, node_entry}
 use Rattle.pua_tree.specs.Reading.{Gathers, IsGathered, gathered_tree}
 use Rattle.pua_tree.specs.declared.list.Row.{Row}
 use Rattle.pua_tree.specs.declared.list.Node.{Node}
@@ -15,7 +15,7 @@ use Rattle.pua_tree.specs.declared.listing.Reading.{Reading}
 use Rattle.pua_tree.specs.declared.fault.ListingFault.TheVariants.{Taken, TooMany, OutOfMemory}
 use Rattle.pua_tree.specs.declared.fault.ListingFault.{ListingFault}
 use Rattle.pua_tree.proofs.ListingGrammar.{entry_read}
-use Rattle.pua_tree.proofs.Entries.{fits_from, entries_push, rows_push, rows_in_order, true_from_T, taken_is_found, node_row, last_number_push, entries_rise, nodes_in_order}
+use Rattle.pua_tree.proofs.Entries.{fits_from, entries_push, rows_push, rows_in_order, true_from_T, taken_is_found, node_row, last_number_push}
 
 rows_held : (r : Reading) (es : List listing.Entry) → Gathers r es → map row_entry r.rows.items ≡ rows_of_entries es
 rows_held r es g = ap (λ t. t.rows) g.tree

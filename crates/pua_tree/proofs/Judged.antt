@@ -1,26 +1,20 @@
 -- How a line is judged by what the lines before it have gathered.
-use Rattle.std.proofs.Common.{◌≡◌, ◌<◌, ◌≤◌, ◌≢◌, ℕ, zero, suc, List, [], ◌∷◌, length, get_or, map, Option, Some, None, option_map, Result, Ok, Err, Bool, true, false, cond, not, ◌&&◌, ◌==◌, IsTrue, T, ltb, leb, refl, sym, ap, subst, ◌∙◌, arith}
-use Rattle.std.specs.List.{list_all}
+use Rattle.std.proofs.Common.{◌≡◌, ℕ, suc, List, [], map, Option, Some, None, option_map, Ok, Err, Bool, cond, IsTrue, ltb, refl, ap, ◌∙◌, arith}
 use Rattle.std.specs.Ordering.{nat_cmp}
 use Rattle.std.specs.FinMap.{is_sorted, find}
-use Rattle.std.specs.Result.{result_ok}
-use Rattle.std.proofs.lemmas.Bool.{ltb-true, leb-true, lt-ltb, and_from}
-use Rattle.pua_tree.specs.Names.{is_name, has_byte, is_target}
-use Rattle.pua_tree.specs.Spelling.{name_of, name_of_bytes, number_within, is_decimal, decimal_value, unspelled}
+use Rattle.pua_tree.specs.Names.{is_target}
+use Rattle.pua_tree.specs.Spelling.{name_of, number_within, unspelled}
 use Rattle.pua_tree.specs.Tree.{Node, is_dir_kind}
 use Rattle.pua_tree.specs.Listing as listing
 use Rattle.pua_tree.specs.Listing.{Line, only_if, number_in, parent_in, node_of, line_of, entry_of, admitted, last_number, is_earlier_dir, root_node, tree_of}
-use Rattle.pua_tree.specs.Grammar.{target_stands}
 use Rattle.pua_tree.specs.ListTree.{node_entry}
 use Rattle.pua_tree.specs.Reading.{Gathers, IsGathered}
-use Rattle.pua_tree.specs.declared.node.Kind.{Kind}
 use Rattle.pua_tree.specs.declared.node.Kind.TheVariants.{Link}
 use Rattle.pua_tree.specs.declared.listing.Reading.{Reading}
 use Rattle.pua_tree.specs.declared.fault.NameFault.{NameFault}
-use Rattle.pua_tree.specs.declared.fault.NameFault.TheVariants.{BadSpelling, Empty, TooLong, NotAName}
 use Rattle.pua_tree.specs.declared.fault.ListingFault.{ListingFault}
-use Rattle.pua_tree.specs.declared.fault.ListingFault.TheVariants.{BadLine, BadNumber, BadParent, BadName}
-use Rattle.pua_tree.proofs.Entries.{Rising, entries_rise, earlier_dir_is_found, nodes_in_order, node_row}
+use Rattle.pua_tree.specs.declared.fault.ListingFault.TheVariants.{BadParent, BadName}
+use Rattle.pua_tree.proofs.Entries.{entries_rise, earlier_dir_is_found, nodes_in_order}
 
 pub nodes_sorted : (r : Reading) → IsGathered r → IsTrue (is_sorted nat_cmp (map node_entry r.nodes.items))
 nodes_sorted r g = rw (ap (λ t. t.nodes) g.1.tree) (nodes_in_order g.0 (entries_rise [] g.0 g.1.fit))

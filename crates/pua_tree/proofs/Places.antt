@@ -1,14 +1,14 @@
 -- Where a key stands among entries in order, as a binary search finds it.
-use Rattle.std.proofs.Common.{◌≡◌, ◌≢◌, ◌<◌, ◌≤◌, ◌+◌, ℕ, zero, suc, List, [], ◌∷◌, ◌++◌, length, get_or, map, take, drop, Option, Some, None, Result, Ok, Err, MatchResult, IfOk, IfErr, Bool, true, false, cond, T, IsTrue, ◌&&◌, refl, sym, ap, subst, ◌∙◌, inl, inr, arith}
+use Rattle.std.proofs.Common.{◌≡◌, ◌≢◌, ◌<◌, ◌≤◌, ◌+◌, ℕ, zero, suc, List, [], ◌∷◌, ◌++◌, length, get_or, set, not, map, take, drop, Option, Some, None, Result, Ok, Err, MatchResult, IfOk, IfErr, Bool, true, false, cond, T, IsTrue, ◌&&◌, refl, sym, ap, subst, ◌∙◌, inl, inr, arith}
 use Rattle.std.proofs.lemmas.Bool.{cases_lt}
-use Rattle.std.specs.List.{insert, HoldsAt, AllWithin}
+use Rattle.std.specs.List.{insert, remove, HoldsAt, AllWithin}
 use Rattle.std.specs.List.Sorted.{IsNonDecreasingBy, IsBinarySearchResult, IsSearchInRange}
 use Rattle.std.specs.declared.cmp.Ordering.{Ordering}
 use Rattle.std.specs.declared.cmp.Ordering.TheVariants.{Less, Equal, Greater}
 use Rattle.std.specs.Ordering.{eq_by_cmp, is_eq, is_lt, ordering_reverse, ordering_index}
-use Rattle.std.specs.Cmp.{IsTotalOrder, tied_back, alike_right}
+use Rattle.std.specs.Cmp.{IsTotalOrder, tied_back, tied_itself, alike_right}
 use Rattle.std.specs.FinMap.{find, put, is_sorted}
-use Rattle.std.specs.FinMap.Entries.{below_all, by_order}
+use Rattle.std.specs.FinMap.Entries.{where_key, below_all, by_order}
 
 pub left : (a b : Bool) → T (a && b) → T a
 left true b h = tt
@@ -113,3 +113,55 @@ module _ {X K V : Type 0} {R : K → K → Ordering} (o : IsTotalOrder R) (entry
   put_place xs q (Err i) h bound p =
       let parts = p (searchable xs q (passed _ h)) in
       λ v. put_at xs q v i bound (λ k d lt. parts.0 k d (omega arith) lt) (λ d lt. parts.1 i d (omega arith) lt)
+
+  pub key_place : (exact : (a b : K) → R a b ≡ Equal → a ≡ b) (xs : List X) (q : K) (r : Result ℕ ℕ) → IsBinarySearchResult (key_cmp q) xs r → IfOk r (λ i. HoldsAt (λ x. (entry x).0 ≡ q) xs i)
+  key_place exact xs q (Ok i) p = λ d. exact _ _ (p d)
+  key_place exact xs q (Err i) p = tt
+
+  -- the entries without one at a place
+  keep_above : (k : K) (es : List (K × V)) → T (below_all R k es) → where_key R (λ other. not (is_eq (R k other))) es ≡ es
+  keep_above k [] h = refl
+  keep_above k (e ∷ es) h =
+      let rest = keep_above k es (right _ _ h) in
+      ap (λ r. cond (not (is_eq r)) (e ∷ where_key R (λ other. not (is_eq (R k other))) es) (where_key R (λ other. not (is_eq (R k other))) es)) (is_less _ (left _ _ h)) ∙ ap (λ l. e ∷ l) rest
+
+  pub removed_at : (xs : List X) (q : K) (i : ℕ) → T (is_sorted R (map entry xs)) → i < length xs → HoldsAt (λ x. (entry x).0 ≡ q) xs i
+      → map entry (remove xs i) ≡ where_key R (λ other. not (is_eq (R q other))) (map entry xs)
+  removed_at [] q i h lt e = absurd (omega arith)
+  removed_at (x ∷ xs) q zero h lt e =
+      let rest = where_key R (λ other. not (is_eq (R q other))) (map entry xs) in
+      let tie : R q (entry x).0 ≡ Equal = ap (R q) (e x) ∙ tied_itself o q in
+      sym (ap (λ r. cond (not (is_eq r)) (entry x ∷ rest) rest) tie ∙ keep_above q (map entry xs) (subst (λ k. T (below_all R k (map entry xs))) (e x) (left _ _ h)))
+  removed_at (x ∷ xs) q (suc i) h lt e =
+      let rest = where_key R (λ other. not (is_eq (R q other))) (map entry xs) in
+      let before : R (entry x).0 q ≡ Less = sym (ap (R (entry x).0) (e x)) ∙ below_at _ xs i x (left _ _ h) (omega arith) in
+      ap (λ l. entry x ∷ l) (removed_at xs q i (right _ _ h) (omega arith) e)
+      ∙ sym (ap (λ r. cond (not (is_eq r)) (entry x ∷ rest) rest) (turned _ _ Less before))
+
+  pub absent_removed : (q : K) (es : List (K × V)) → find R q es ≡ None → where_key R (λ other. not (is_eq (R q other))) es ≡ es
+  absent_removed q [] h = refl
+  absent_removed q (e ∷ es) h =
+      elim (is_eq (R q e.0)) as (λ b. cond b (Some e.1) (find R q es) ≡ None → cond (not b) (e ∷ where_key R (λ other. not (is_eq (R q other))) es) (where_key R (λ other. not (is_eq (R q other))) es) ≡ e ∷ es) [
+        | true ↦ λ some. absurd (cc)
+        | false ↦ λ none. ap (λ l. e ∷ l) (absent_removed q es none)
+      ] h
+
+  -- the entries with one in another's place, or at a new one
+  pub replaced_at : (xs : List X) (q : K) (v : V) (i : ℕ) (y : X) → T (is_sorted R (map entry xs)) → i < length xs → HoldsAt (λ x. (entry x).0 ≡ q) xs i → entry y ≡ (q, v)
+      → map entry (set xs i y) ≡ put R q v (map entry xs)
+  replaced_at [] q v i y h lt e new = absurd (omega arith)
+  replaced_at (x ∷ xs) q v zero y h lt e new =
+      let tie : R q (entry x).0 ≡ Equal = ap (R q) (e x) ∙ tied_itself o q in
+      let same : entry y ≡ ((entry x).0, v) = new ∙ ap (λ (k : K). (k, v)) (sym (e x)) in
+      ap (λ l. l ∷ map entry xs) same
+      ∙ sym (ap (λ r. by_order r ((q, v) ∷ entry x ∷ map entry xs) (((entry x).0, v) ∷ map entry xs) (entry x ∷ put R q v (map entry xs))) tie)
+  replaced_at (x ∷ xs) q v (suc i) y h lt e new =
+      let before : R (entry x).0 q ≡ Less = sym (ap (R (entry x).0) (e x)) ∙ below_at _ xs i x (left _ _ h) (omega arith) in
+      ap (λ l. entry x ∷ l) (replaced_at xs q v i y (right _ _ h) (omega arith) e new)
+      ∙ sym (ap (λ r. by_order r ((q, v) ∷ entry x ∷ map entry xs) (((entry x).0, v) ∷ map entry xs) (entry x ∷ put R q v (map entry xs))) (turned _ _ Less before))
+
+pub inserted_at : {A B : Type 0} (f : A → B) (xs : List A) (i : ℕ) (x : A) → map f (insert xs i x) ≡ insert (map f xs) i (f x)
+inserted_at f [] zero x = refl
+inserted_at f [] (suc i) x = refl
+inserted_at f (y ∷ xs) zero x = refl
+inserted_at f (y ∷ xs) (suc i) x = ap (λ l. f y ∷ l) (inserted_at f xs i x)

@@ -1,8 +1,7 @@
 -- What rows in order say of a directory and of a node.
-use Rattle.std.proofs.Common.{◌≡◌, ◌<◌, ◌≤◌, ℕ, zero, suc, List, [], ◌∷◌, ◌++◌, length, get_or, map, Option, Some, None, Result, Ok, Err, Bool, true, false, not, cond, ◌&&◌, ◌||◌, ◌==◌, ◌≢◌, T, IsTrue, unwrap_or, option_map, find, refl, sym, ap, ◌∙◌, inl, inr, arith, is_ok, reverse, Bor}
+use Rattle.std.proofs.Common.{◌≡◌, ◌<◌, ◌≤◌, ℕ, zero, suc, List, [], ◌∷◌, ◌++◌, length, get_or, map, Some, None, Result, Ok, Err, Bool, true, false, not, cond, ◌&&◌, ◌||◌, ◌==◌, ◌≢◌, T, IsTrue, unwrap_or, option_map, find, refl, sym, ap, ◌∙◌, inl, inr, arith, is_ok, reverse, Bor}
 use Rattle.std.specs.List.{list_all, list_any}
 use Rattle.std.specs.List.Sorted.{IsNonDecreasingBy, IsBinarySearchResult, IsSearchInRange}
-use Rattle.std.specs.declared.cmp.Ordering.{Ordering}
 use Rattle.std.specs.declared.cmp.Ordering.TheVariants.{Less, Equal, Greater}
 use Rattle.std.specs.Ordering.{nat_cmp, ordering_index, ordering_then}
 use Rattle.std.specs.FinMap.{is_sorted, nat_cmp-IsAntisymmetric}
@@ -12,12 +11,10 @@ use Rattle.std.specs.BTreeSet.{insert_key}
 use Rattle.std.specs.Ordering.{match_ordering}
 use Rattle.std.specs.FinMap.Entries.{by_order}
 use Rattle.std.proofs.lemmas.Bool.Decides.{nat_tests}
-use Rattle.pua_tree.specs.Tree as tree
 use Rattle.pua_tree.specs.Tree.{Spot, Tree, with_name, distinct_names, spot_cmp, name_cmp, above, is_dir, is_living, row_fits}
 use Rattle.pua_tree.specs.Names.{is_name}
-use Rattle.pua_tree.specs.ListTree.{row_entry, held_tree}
+use Rattle.pua_tree.specs.ListTree.{row_entry}
 use Rattle.pua_tree.specs.declared.list.Row.{Row}
-use Rattle.pua_tree.specs.declared.list.Node.{Node}
 use Rattle.pua_tree.proofs.Content.{spots_total}
 use Rattle.pua_tree.proofs.Places.{passed, left, right, rises}
 

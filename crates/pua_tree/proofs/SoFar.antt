@@ -1,17 +1,18 @@
 -- How far the lines of a listing have been read.
-use Rattle.std.proofs.Common.{◌≡◌, ◌≢◌, ◌≤◌, ◌+◌, ℕ, suc, List, [], ◌∷◌, ◌++◌, length, Ok, Err, sym, ap, subst, ◌∙◌, refl, true, false, cond, Bool, arith, length-append, add-one}
-use Rattle.std.specs.Prelude.{codes, IsTrue}
-use Rattle.std.specs.Str.Lines.{lines}
+use Rattle.std.proofs.Common.{◌≡◌, ◌≢◌, ◌≤◌, ◌+◌, ℕ, suc, List, [], ◌∷◌, ◌++◌, length, Ok, Err, sym, ap, ◌∙◌, refl, true, false, map, arith, length-append, add-one}
+use Rattle.std.specs.Prelude.{codes}
 use lib.Pointwise.{bytes_decides}
 use Rattle.pua_tree.specs.Names.{same_bytes}
 use Rattle.pua_tree.specs.Tree.{WellFormed}
 use Rattle.pua_tree.specs.Listing as listing
 use Rattle.pua_tree.specs.Listing.{entry_of, entries_of, tree_of, after_header, listing_of_lines}
 use Rattle.pua_tree.specs.ListTree.{held_tree}
-use Rattle.pua_tree.specs.Reading.{Gathers, gathered_tree}
+use Rattle.pua_tree.specs.Reading.{Gathers}
 use Rattle.pua_tree.specs.declared.listing.Reading.{Reading}
 use Rattle.pua_tree.specs.declared.fault.ListingFault.{ListingFault}
 use Rattle.pua_tree.specs.declared.fault.ListingFault.TheVariants.{BadHeader, BadLine}
+use Rattle.bstr.specs.Text.{lines_of, without_terminator}
+use Rattle.pua_tree.proofs.Lines.{lines_agree}
 use Rattle.pua_tree.proofs.ListingIsTree.{well_formed}
 use Rattle.pua_tree.proofs.ListingGrammar.{entries_more, entries_stop}
 
@@ -56,6 +57,10 @@ lines_differ bs cs ne = elim (same_bytes bs cs) as (λ b. same_bytes bs cs ≡ b
   | true ↦ λ t. absurd (ne ((bytes_decides bs cs).0 t))
   | false ↦ λ f. refl
 ] refl
+
+-- a listing by the lines that are read
+pub by_lines : (bytes : List ℕ) (read : List (List ℕ)) → read ≡ map without_terminator (lines_of bytes) → listing.listing bytes ≡ listing_of_lines read
+by_lines bytes read e = ap listing_of_lines (sym (e ∙ lines_agree bytes))
 
 pub no_header : (all : List (List ℕ)) → ((rest : List (List ℕ)) → all ≢ codes "tree 1" ∷ rest) → listing_of_lines all ≡ Err BadHeader
 no_header [] h = refl

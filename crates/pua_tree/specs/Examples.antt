@@ -1,9 +1,11 @@
 -- Worked rows on trees and listings.
 use Rattle.std.specs.Prelude.{◌≡◌, ℕ, List, [], ◌∷◌, ◌++◌, Some, None, Ok, Err, codes, flat_map, refl, take, length}
 use Rattle.pua_tree.specs.Tree.{Node, Tree, WellFormed}
+use Rattle.pua_tree.specs.Edits.{add, cut, shift}
 use Rattle.pua_tree.specs.Listing.{listing}
 use Rattle.pua_tree.specs.declared.node.Kind.TheVariants.{Dir, File, Prog, Link}
 use Rattle.pua_tree.specs.declared.fault.ListingFault.TheVariants.{BadHeader, BadLine, BadNumber, BadParent, BadName, BadTarget, Taken}
+use Rattle.pua_tree.specs.declared.fault.TreeFault.TheVariants.{Missing, NotDir, NotEmpty, Inside, Full, Taken as NameTaken}
 
 -- lines that end in LF
 abbrev pub text_of_lines : List (List ℕ) → List ℕ
@@ -57,3 +59,58 @@ ExampleIsTree = WellFormed example_tree
 
 pub example_is_tree : ExampleIsTree
 example_is_tree = record { rows_in_order = refl; nodes_in_order = refl; root = refl; rows_fit = refl; nodes_fit = refl }
+
+-- the example tree after its program came to stand where its one file stood
+abbrev pub tree_after_move : Tree
+tree_after_move = record {
+  rows = ((0, codes "etc"), 1) ∷ ((0, codes "t"), 4) ∷ ((0, codes "tmp"), 3) ∷ ((1, codes "passwd"), 7) ∷ ((3, codes "self"), 6) ∷ ((3, codes "up"), 5) ∷ [];
+  nodes = (0, record { kind = Dir; target = None }) ∷ (1, record { kind = Dir; target = None }) ∷ (3, record { kind = Dir; target = None }) ∷ (4, record { kind = Link; target = Some (codes "tmp") }) ∷ (5, record { kind = Link; target = Some (codes "../etc") }) ∷ (6, record { kind = Link; target = Some (codes "self") }) ∷ (7, record { kind = Prog; target = None }) ∷ [];
+  next = 8;
+}
+
+abbrev pub small_tree : Tree
+small_tree = record {
+  rows = ((0, codes "a"), 1) ∷ ((0, codes "b"), 2) ∷ [];
+  nodes = (0, record { kind = Dir; target = None }) ∷ (1, record { kind = Dir; target = None }) ∷ (2, record { kind = File; target = None }) ∷ [];
+  next = 3;
+}
+
+-- edits and their faults, the first that holds
+pub record EditRows : Type 0 where
+  pub added : add small_tree 1 (codes "c") plain ≡ Ok (
+    3,
+    record {
+      rows = ((0, codes "a"), 1) ∷ ((0, codes "b"), 2) ∷ ((1, codes "c"), 3) ∷ [];
+      nodes = (0, record { kind = Dir; target = None }) ∷ (1, record { kind = Dir; target = None }) ∷ (2, record { kind = File; target = None }) ∷ (3, plain) ∷ [];
+      next = 4;
+    },
+  )
+  pub into_file : add example_tree 2 (codes "passwd") plain ≡ Err NotDir
+  pub name_taken : add (record example_tree { next = 4294967295 }) 0 (codes "tmp") plain ≡ Err NameTaken
+  pub no_number : add (record example_tree { next = 4294967295 }) 0 (codes "tmpp") plain ≡ Err Full
+  pub cut_dir : cut small_tree 0 (codes "a") ≡ Ok (
+    1,
+    record {
+      rows = ((0, codes "b"), 2) ∷ [];
+      nodes = (0, record { kind = Dir; target = None }) ∷ (2, record { kind = File; target = None }) ∷ [];
+      next = 3;
+    },
+  )
+  pub cut_in_link : cut example_tree 4 (codes "sh") ≡ Err NotDir
+  pub cut_nothing : cut example_tree 0 (codes "sh") ≡ Err Missing
+  pub cut_full_dir : cut example_tree 0 (codes "tmp") ≡ Err NotEmpty
+  pub moved : shift example_tree 3 (codes "sh") 1 (codes "passwd") ≡ Ok tree_after_move
+  pub onto_empty_dir : shift small_tree 0 (codes "b") 0 (codes "a") ≡ Ok (record {
+    rows = ((0, codes "a"), 2) ∷ [];
+    nodes = (0, record { kind = Dir; target = None }) ∷ (2, record { kind = File; target = None }) ∷ [];
+    next = 3;
+  })
+  pub in_place : shift example_tree 0 (codes "tmp") 0 (codes "tmp") ≡ Ok example_tree
+  pub move_from_file : shift example_tree 2 (codes "x") 0 (codes "y") ≡ Err NotDir
+  pub move_to_gone : shift example_tree 0 (codes "x") 9 (codes "y") ≡ Err NotDir
+  pub move_nothing : shift example_tree 0 (codes "x") 0 (codes "tmp") ≡ Err Missing
+  pub into_itself : shift example_tree 0 (codes "etc") 1 (codes "passwd") ≡ Err Inside
+  pub onto_full_dir : shift example_tree 0 (codes "etc") 0 (codes "tmp") ≡ Err NotEmpty
+
+pub edit_rows : EditRows
+edit_rows = record { added = refl; into_file = refl; name_taken = refl; no_number = refl; cut_dir = refl; cut_in_link = refl; cut_nothing = refl; cut_full_dir = refl; moved = refl; onto_empty_dir = refl; in_place = refl; move_from_file = refl; move_to_gone = refl; move_nothing = refl; into_itself = refl; onto_full_dir = refl }

@@ -1,5 +1,5 @@
 -- What reading the lines of a listing has gathered so far.
-use Rattle.std.specs.Prelude.{◌≡◌, ◌≤◌, ℕ, suc, List, [], IsTrue, option_map}
+use Rattle.std.specs.Prelude.{◌≡◌, ◌≤◌, suc, List, [], IsTrue, option_map}
 use Rattle.pua_tree.specs.Tree.{Tree}
 use Rattle.pua_tree.specs.Listing as listing
 use Rattle.pua_tree.specs.Listing.{tree_of}
@@ -21,6 +21,6 @@ pub record Gathers (reading : Reading) (es : List listing.Entry) : Type 0 where
   pub tree : gathered_tree reading ≡ tree_of es
   pub small : reading.last ≤ 999999
 
--- such entries are there
+-- the reading holds the tree of some such entries
 abbrev pub IsGathered : Reading → Type 0
 IsGathered reading = (es : List listing.Entry) × Gathers reading es

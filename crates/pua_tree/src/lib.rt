@@ -6,6 +6,7 @@ mod field;
 mod laws;
 mod line;
 mod list;
+mod list_edits;
 mod listing;
 mod name;
 mod node;
@@ -15,7 +16,9 @@ mod tree;
 
 pub use fault::{ListingFault, NameFault, OutOfMemory, TreeFault};
 pub use field::{Fields, is_field, number_within, split_field};
-pub use laws::{listing_examples, listing_law, spelling_law, tree_law};
+pub use laws::{
+    edit_examples, edits_keep_trees, listing_examples, listing_law, spelling_law, tree_law,
+};
 pub use list::ListTree;
 pub use listing::read_listing;
 pub use name::Name;

@@ -1,6 +1,7 @@
 //! A tree kept as a list of rows and a list of nodes, each in the order of its keys.
 
 use crate::fault::TreeFault;
+use crate::list_edits::{copied_target, push_node, put_row, reserve_one, take_row, take_unnamed};
 use crate::name::Name;
 use crate::node::{Kind, NodeId};
 use crate::tree::FileTree;
@@ -8,6 +9,9 @@ use std::alloc::{AllocError, Global};
 use std::cmp::Ordering;
 use std::collections::BTreeSet;
 use std::marker::Model;
+
+/// How many nodes may live, the root among them.
+const MAX_NODES: usize = 65_535;
 
 /// A node that has a name in a directory.
 #[derive(Clone, Copy)]
@@ -45,11 +49,14 @@ impl Model for ListTree {
     ghost invariant = { λ a. WellFormed (held_tree a.rows.items a.nodes.items a.next) };
 }
 
-ghost use Rattle.std.specs.Prelude.{ℕ, ◌≡◌, ◌<◌, ◌≤◌, Some, None, IsTrue, IfOk, IfErr, MatchResult, ◌==◌, unwrap_or, find, length, map, option_map, option_copied};
+ghost use Rattle.std.specs.Prelude.{ℕ, ◌≡◌, ◌≢◌, ◌<◌, ◌≤◌, Some, None, Ok, Err, IsTrue, IfOk, IfErr, IfSome, OnOk, MatchResult, MatchOption, ◌==◌, unwrap_or, find, length, map, option_map, option_copied};
 ghost use Rattle.std.specs.List.{HoldsAt, insert, list_any};
 ghost use Rattle.std.specs.Ordering.{nat_cmp};
 ghost use Rattle.std.specs.FinMap.{is_sorted, find as find_key, put};
-ghost use Rattle.pua_tree.specs.Tree.{WellFormed, spot_cmp, is_dir, distinct_names};
+ghost use Rattle.pua_tree.specs.Names.{is_name};
+ghost use Rattle.pua_tree.specs.Tree as tree;
+ghost use Rattle.pua_tree.specs.Tree.{WellFormed, spot_cmp, is_dir, look, climb, distinct_names};
+ghost use Rattle.pua_tree.specs.Edits.{add, cut, shift, is_full_dir, has_room, with_new, without_row, without_unnamed, moved};
 ghost use Rattle.pua_tree.specs.ListTree.{row_entry, node_entry, made_of, held_tree};
 
 impl FileTree for ListTree {
@@ -100,6 +107,65 @@ impl FileTree for ListTree {
     fn names(&self, alloc: Global) -> Result<Vec<Name>, TreeFault> {
         row_names(alloc, &self.rows).map_err(|_| TreeFault::OutOfMemory)
     }
+
+    fn add(
+        &mut self,
+        dir: NodeId,
+        name: Name,
+        kind: Kind,
+        target: Option<&[u8]>,
+    ) -> Result<NodeId, TreeFault> {
+        self.may_add(dir, &name)?;
+        let alloc = *self.nodes.allocator();
+        let target = copied_target(alloc, target).map_err(|_| TreeFault::OutOfMemory)?;
+        reserve_one(&mut self.rows, &mut self.nodes).map_err(|_| TreeFault::OutOfMemory)?;
+        let id = NodeId::new(self.next);
+        put_row(
+            &mut self.rows,
+            Row {
+                dir,
+                name,
+                node: id,
+            },
+        );
+        push_node(&mut self.nodes, Node { id, kind, target });
+        self.next += 1;
+        Ok(id)
+    }
+
+    fn cut(&mut self, dir: NodeId, name: &Name) -> Result<NodeId, TreeFault> {
+        let node = self.may_cut(dir, name)?;
+        take_row(&mut self.rows, dir, name);
+        take_unnamed(&self.rows, &mut self.nodes, node);
+        Ok(node)
+    }
+
+    /// Takes no memory: the row that goes leaves room for the one that comes.
+    fn shift(
+        &mut self,
+        from: NodeId,
+        name: &Name,
+        to: NodeId,
+        new_name: Name,
+    ) -> Result<(), TreeFault> {
+        let Some(node) = self.may_shift(from, name, to, &new_name)? else {
+            return Ok(());
+        };
+        let displaced = self.look(to, &new_name);
+        take_row(&mut self.rows, from, name);
+        put_row(
+            &mut self.rows,
+            Row {
+                dir: to,
+                name: new_name,
+                node,
+            },
+        );
+        if let Some(displaced) = displaced {
+            take_unnamed(&self.rows, &mut self.nodes, displaced);
+        }
+        Ok(())
+    }
 }
 
 impl ListTree {
@@ -115,6 +181,107 @@ impl ListTree {
         ensures { result ≡ is_dir self.now id }
     {
         self.kind(id) == Some(Kind::Dir)
+    }
+
+    /// Whether this is a directory in which something stands.
+    fn is_full_dir(&self, id: NodeId) -> bool
+        ensures { result ≡ is_full_dir self.now id }
+    {
+        self.is_dir(id) && has_row(&self.rows, id)
+    }
+
+    /// Whether there is room for a further node, and a number.
+    fn has_room(&self) -> bool
+        ensures { result ≡ has_room self.now }
+    {
+        self.nodes.len() < MAX_NODES && self.next < u32::MAX
+    }
+
+    /// Whether the directory is this node, or stands beneath it.
+    fn is_within(&self, dir: NodeId, node: NodeId) -> bool
+        ensures { result ≡ list_any (λ d. d == node) (climb self.now dir) }
+    {
+        let mut at = dir;
+        for _ in 0..self.nodes.len() {
+            if at == node {
+                return true;
+            }
+            if at == NodeId::ROOT {
+                return false;
+            }
+            at = dir_above(&self.rows, at);
+        }
+        at == node
+    }
+
+    /// Whether a node may be added under this name, or else the first fault.
+    fn may_add(&self, dir: NodeId, name: &Name) -> Result<(), TreeFault>
+        ensures exact { MatchResult result
+            (λ _. (node : tree.Node) → add self.now dir name.now node ≡ Ok (self.now.next, with_new self.now dir name.now node))
+            (λ fault. (fault ≢ TreeFault.OutOfMemory) × ((node : tree.Node) → add self.now dir name.now node ≡ Err fault)) }
+        ensures number { OnOk result (self.now.next < 4294967295) }
+        ensures name { IsTrue (is_name name.now) }
+    {
+        name.known();
+        if !self.is_dir(dir) {
+            return Err(TreeFault::NotDir);
+        }
+        if self.look(dir, name).is_some() {
+            return Err(TreeFault::Taken);
+        }
+        if !self.has_room() {
+            return Err(TreeFault::Full);
+        }
+        Ok(())
+    }
+
+    /// The node of a row that may be taken away, or else the first fault.
+    fn may_cut(&self, dir: NodeId, name: &Name) -> Result<NodeId, TreeFault>
+        ensures exact { MatchResult result (λ node. cut self.now dir name.now ≡ Ok (node, without_unnamed (without_row self.now dir name.now) node)) (λ fault. cut self.now dir name.now ≡ Err fault) }
+        ensures found { IfOk result (λ node. look self.now dir name.now ≡ Some node) }
+    {
+        if !self.is_dir(dir) {
+            return Err(TreeFault::NotDir);
+        }
+        let node = self.look(dir, name).ok_or(TreeFault::Missing)?;
+        if self.is_full_dir(node) {
+            return Err(TreeFault::NotEmpty);
+        }
+        Ok(node)
+    }
+
+    /// The node of a row that may be moved, and None where it stands at the new place already, or
+    /// else the first fault.
+    fn may_shift(
+        &self,
+        from: NodeId,
+        name: &Name,
+        to: NodeId,
+        new_name: &Name,
+    ) -> Result<Option<NodeId>, TreeFault>
+        ensures exact { MatchResult result
+            (λ moves. MatchOption moves (shift self.now from name.now to new_name.now ≡ Ok self.now)
+            (λ node. shift self.now from name.now to new_name.now ≡ Ok (moved self.now from name.now to new_name.now node (look self.now to new_name.now))))
+            (λ fault. (fault ≢ TreeFault.OutOfMemory) × (shift self.now from name.now to new_name.now ≡ Err fault)) }
+        ensures found { IfOk result (λ moves. IfSome moves (λ node. look self.now from name.now ≡ Some node)) }
+        ensures name { IsTrue (is_name new_name.now) }
+    {
+        new_name.known();
+        if !(self.is_dir(from) && self.is_dir(to)) {
+            return Err(TreeFault::NotDir);
+        }
+        let node = self.look(from, name).ok_or(TreeFault::Missing)?;
+        let there = self.look(to, new_name);
+        if there == Some(node) {
+            return Ok(None);
+        }
+        if self.is_dir(node) && self.is_within(to, node) {
+            return Err(TreeFault::Inside);
+        }
+        if there.is_some_and(|displaced| self.is_full_dir(displaced)) {
+            return Err(TreeFault::NotEmpty);
+        }
+        Ok(Some(node))
     }
 }
 
@@ -132,6 +299,7 @@ pub(crate) fn row_place(rows: &[Row], dir: NodeId, name: &Name) -> Result<usize,
     requires { IsTrue (is_sorted spot_cmp (map row_entry rows.now)) }
     ensures found { IfOk result (λ i. (i < length rows.now) × HoldsAt (λ row. find_key spot_cmp (dir, name.now) (map row_entry rows.now) ≡ Some row.node) rows.now i) }
     ensures missing { IfErr result (λ i. (i ≤ length rows.now) × (find_key spot_cmp (dir, name.now) (map row_entry rows.now) ≡ None)) }
+    ensures spot { IfOk result (λ i. HoldsAt (λ row. (row_entry row).0 ≡ (dir, name.now)) rows.now i) }
     ensures place { IfErr result (λ i. (node : ℕ) → put spot_cmp (dir, name.now) node (map row_entry rows.now) ≡ insert (map row_entry rows.now) i ((dir, name.now), node)) }
 {
     rows.binary_search_by(|row| row.cmp_spot(dir, name))
@@ -142,6 +310,7 @@ pub(crate) fn node_place(nodes: &[Node], id: NodeId) -> Result<usize, usize>
     requires { IsTrue (is_sorted nat_cmp (map node_entry nodes.now)) }
     ensures found { IfOk result (λ i. (i < length nodes.now) × HoldsAt (λ node. find_key nat_cmp id (map node_entry nodes.now) ≡ Some (made_of node)) nodes.now i) }
     ensures missing { IfErr result (λ i. (i ≤ length nodes.now) × (find_key nat_cmp id (map node_entry nodes.now) ≡ None)) }
+    ensures number { IfOk result (λ i. HoldsAt (λ node. node.id ≡ id) nodes.now i) }
 {
     nodes.binary_search_by_key(&id, |node| node.id)
 }
@@ -181,3 +350,6 @@ fn name_set(alloc: Global, rows: &[Row]) -> Result<BTreeSet<Name>, AllocError>
     }
     Ok(names)
 }
+
+#[cfg(test)]
+mod tests;

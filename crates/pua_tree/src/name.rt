@@ -79,6 +79,13 @@ impl Name {
         })
     }
 
+    /// Does nothing. A caller learns from it what is true of the bytes of every name.
+    pub(crate) fn known(&self)
+        ensures { IsTrue (is_name self.now) }
+    {
+        let _len = &self.len;
+    }
+
     /// Its bytes.
     pub fn bytes(&self) -> &[u8]
         ensures bytes { result.now ≡ self.now }

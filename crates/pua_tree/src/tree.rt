@@ -8,8 +8,9 @@ use std::alloc::Global;
 /// A tree of files: rows that give a node a name in a directory, the living nodes with their kinds
 /// and targets, and a number above each of them.
 pub trait FileTree {
-    ghost use Rattle.std.specs.Prelude.{◌≡◌, IfOk, IfErr, option_copied};
-    ghost use Rattle.pua_tree.specs.Tree.{Tree, WellFormed, kind_at, look, parent, target_at, is_empty, names};
+    ghost use Rattle.std.specs.Prelude.{◌≡◌, Ok, Err, IsTrue, IfOk, IfErr, OnErr, MatchResult, option_copied};
+    ghost use Rattle.pua_tree.specs.Tree.{Tree, WellFormed, kind_at, look, parent, target_at, target_fits, is_empty, names};
+    ghost use Rattle.pua_tree.specs.Edits.{Refuses, add, cut, shift};
 
     /// What the tree holds.
     ghost content: { Self → Tree };
@@ -44,4 +45,47 @@ pub trait FileTree {
     fn names(&self, alloc: Global) -> Result<Vec<Name>, TreeFault>
         ensures names { IfOk result (λ all. all.items ≡ names (content self.now)) }
         ensures memory { IfErr result (λ fault. fault ≡ TreeFault.OutOfMemory) };
+
+    /// Adds a node under this name, and answers its number, which is the next one. A link comes with
+    /// its target, and no other kind with any. The faults, of which the first that holds is answered:
+    /// `NotDir` where `dir` is no living directory, `Taken` where it has the name already, `Full`
+    /// where 65,535 nodes are living, the root among them, or the next number is 4,294,967,295, and
+    /// `OutOfMemory`. After each of them the tree is as it was.
+    fn add(
+        &mut self,
+        dir: NodeId,
+        name: Name,
+        kind: Kind,
+        target: Option<&[u8]>,
+    ) -> Result<NodeId, TreeFault>
+        requires { IsTrue (target_fits kind (option_copied target)) }
+        ensures exact { let rule = add (content self.old) dir name (record { kind = kind; target = option_copied target.entry }) in
+            MatchResult result (λ id. rule ≡ Ok (id, content self.new)) (Refuses rule) }
+        ensures unchanged { OnErr result (content self.new ≡ content self.old) };
+
+    /// Takes a row away, and its node with its last row, and answers the node's number. The faults,
+    /// of which the first that holds is answered: `NotDir` where `dir` is no living directory,
+    /// `Missing` where it does not have the name, and `NotEmpty` where the node is a directory in
+    /// which something stands. After each of them the tree is as it was. It takes no memory.
+    fn cut(&mut self, dir: NodeId, name: &Name) -> Result<NodeId, TreeFault>
+        ensures exact { let rule = cut (content self.old) dir name.now in
+            MatchResult result (λ id. rule ≡ Ok (id, content self.new)) (λ fault. rule ≡ Err fault) }
+        ensures unchanged { OnErr result (content self.new ≡ content self.old) };
+
+    /// Moves a row to another directory and name. What stood there is taken away with its last row,
+    /// if it is no directory or one in which nothing stands; where the same node stood there, nothing
+    /// changes. The faults, of which the first that holds is answered: `NotDir` where `from` or `to`
+    /// is no living directory, `Missing` where `from` does not have the name, `Inside` where a
+    /// directory would come to stand in itself or beneath itself, `NotEmpty` where something stands
+    /// in a directory at the new place, and `OutOfMemory`. After each of them the tree is as it was.
+    fn shift(
+        &mut self,
+        from: NodeId,
+        name: &Name,
+        to: NodeId,
+        new_name: Name,
+    ) -> Result<(), TreeFault>
+        ensures exact { let rule = shift (content self.old) from name.now to new_name in
+            MatchResult result (λ _. rule ≡ Ok (content self.new)) (Refuses rule) }
+        ensures unchanged { OnErr result (content self.new ≡ content self.old) };
 }

@@ -134,8 +134,12 @@ fn cut(len: usize) -> &'static [u8] {
 #[test]
 fn takes_4096_nodes_and_no_more(rt: HostRuntime) -> Result<(), Fail> {
     let mut text = String::from_str(rt.alloc(), "tree 1\n0 dir\n")?;
-    for number in 1..4096 {
-        writeln!(text, "{number} file 0 {:04}", 4096 - number)?;
+    for number in 1..4096u32 {
+        writeln!(
+            text,
+            "{number} file 0 {:04}",
+            4096u32.saturating_sub(number)
+        )?;
     }
     let full = read_listing(rt.alloc(), text.as_bytes())?;
     assert_eq!(rt;

@@ -1,7 +1,7 @@
 use Rattle.std.proofs.Common.{rules, ◌∙◌}
 use Rattle.std.proofs.lemmas.Fn.{always_returns_same}
 use Rattle.pua_tree.specs.declared.list.Row.{Row}
-use Rattle.pua_tree.proofs.Rows.{any_row, above_row}
+use Rattle.pua_tree.proofs.Rows.{any_row}
 use Rattle.pua_tree.proofs.list.has_row.Goals as goal
 
 pub returns : goal.returns

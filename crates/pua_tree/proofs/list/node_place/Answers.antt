@@ -1,9 +1,10 @@
 use Rattle.std.proofs.Common.{rules}
 use Rattle.std.proofs.lemmas.Fn.{always_returns_same}
 use Rattle.std.specs.Cmp.{nat_cmp_total}
+use Rattle.std.specs.FinMap.{nat_cmp-IsAntisymmetric}
 use Rattle.pua_tree.specs.ListTree.{node_entry}
 use Rattle.pua_tree.specs.declared.list.Node.{Node}
-use Rattle.pua_tree.proofs.Places.{found_place, missing_place}
+use Rattle.pua_tree.proofs.Places.{found_place, missing_place, key_place}
 use Rattle.pua_tree.proofs.list.node_place.Goals as goal
 
 pub returns : goal.returns
@@ -13,4 +14,5 @@ returns c =
     record {
       found = found_place nat_cmp_total node_entry _ c.args.id _ c.requires bound searched;
       missing = missing_place nat_cmp_total node_entry _ c.args.id _ c.requires bound searched;
+      number = key_place nat_cmp_total node_entry nat_cmp-IsAntisymmetric _ c.args.id _ searched;
     }

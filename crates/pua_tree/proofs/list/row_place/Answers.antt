@@ -3,8 +3,8 @@ use Rattle.std.proofs.lemmas.Fn.{always_returns_same}
 use Rattle.pua_tree.specs.Tree.{Spot, spot_cmp}
 use Rattle.pua_tree.specs.ListTree.{row_entry}
 use Rattle.pua_tree.specs.declared.list.Row.{Row}
-use Rattle.pua_tree.proofs.Content.{spots_total}
-use Rattle.pua_tree.proofs.Places.{found_place, missing_place, put_place}
+use Rattle.pua_tree.proofs.Content.{spots_total, exact_spots}
+use Rattle.pua_tree.proofs.Places.{found_place, missing_place, key_place, put_place}
 use Rattle.pua_tree.proofs.list.row_place.Goals as goal
 
 pub returns : goal.returns
@@ -15,5 +15,6 @@ returns c =
     record {
       found = found_place spots_total row_entry _ spot _ c.requires bound searched;
       missing = missing_place spots_total row_entry _ spot _ c.requires bound searched;
+      spot = key_place spots_total row_entry exact_spots _ spot _ searched;
       place = put_place spots_total row_entry _ spot _ c.requires bound searched;
     }

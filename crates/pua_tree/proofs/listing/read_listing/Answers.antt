@@ -1,38 +1,30 @@
-use Rattle.std.proofs.Common.{◌≡◌, ◌∙◌, Ok, sym, ap}
+use Rattle.std.proofs.Common.{◌∙◌, Ok, sym, ap}
 use Rattle.std.proofs.lemmas.Result.{err_from_is_err_and}
-use Rattle.pua_tree.specs.Listing.{listing, listing_of_lines, tree_of}
-use Rattle.pua_tree.proofs.Lines.{lines_agree}
-use Rattle.pua_tree.proofs.SoFar.{no_header, no_root, entries_fault, entries_tree, read_tree, read_fits}
+use Rattle.pua_tree.proofs.SoFar.{by_lines, no_header, no_root, entries_fault, entries_tree, read_tree, read_fits}
 use Rattle.pua_tree.proofs.listing.read_listing.Goals as goal
 
 pub returns-then-not-take_line-clause-err : goal.returns-then-not-take_line-clause-err
 returns-then-not-take_line-clause-err c = λ _.
-    let bytes = c.args.bytes.now in
-    let read : listing bytes ≡ listing_of_lines c.lines-lines.result = ap listing_of_lines (sym (c.lines-lines.ensures.value ∙ lines_agree bytes)) in
-    read ∙ no_header c.lines-lines.result c.if-not-take_line.ensures.other
+    by_lines c.args.bytes.now c.lines-lines.result c.lines-lines.ensures.value ∙ no_header c.lines-lines.result c.if-not-take_line.ensures.other
 
 pub returns-then-not-take_line-2-clause-err : goal.returns-then-not-take_line-2-clause-err
 returns-then-not-take_line-2-clause-err c = λ _.
-    let bytes = c.args.bytes.now in
-    let read : listing bytes ≡ listing_of_lines c.lines-lines.result = ap listing_of_lines (sym (c.lines-lines.ensures.value ∙ lines_agree bytes)) in
-    read ∙ no_root c.lines-lines.result c.take_line.new.lines c.if-not-take_line.ensures.this c.if-not-take_line-2.ensures.other
+    by_lines c.args.bytes.now c.lines-lines.result c.lines-lines.ensures.value
+    ∙ no_root c.lines-lines.result c.take_line.new.lines c.if-not-take_line.ensures.this c.if-not-take_line-2.ensures.other
 
 pub returns-in_err-rows-clause-err : goal.returns-in_err-rows-clause-err
 returns-in_err-rows-clause-err c =
-    let bytes = c.args.bytes.now in
-    let read : listing bytes ≡ listing_of_lines c.lines-lines.result = ap listing_of_lines (sym (c.lines-lines.ensures.value ∙ lines_agree bytes)) in
     let failed = err_from_is_err_and c.from_residual.result c.from_residual.ensures.1 in
     rw (failed.1, failed.2) (λ other.
-    read ∙ entries_fault c.lines-lines.result c.take_line.new.lines c.take_line-2.new.lines c.in_err-rows.field-0.0 c.if-not-take_line.ensures.this c.if-not-take_line-2.ensures.this (c.in_err-rows.ensures.err other))
+    by_lines c.args.bytes.now c.lines-lines.result c.lines-lines.ensures.value
+    ∙ entries_fault c.lines-lines.result c.take_line.new.lines c.take_line-2.new.lines c.in_err-rows.field-0.0 c.if-not-take_line.ensures.this c.if-not-take_line-2.ensures.this (c.in_err-rows.ensures.err other))
 
 pub new-requires : goal.new-requires
 new-requires c = read_fits c.in_ok-rows.field-0 c.in_ok-rows.ensures.ok.0 c.in_ok-rows.ensures.ok.1
 
 pub returns-clause-ok : goal.returns-clause-ok
 returns-clause-ok c =
-    let bytes = c.args.bytes.now in
     let entries = c.in_ok-rows.ensures.ok in
-    let read : listing bytes ≡ listing_of_lines c.lines-lines.result = ap listing_of_lines (sym (c.lines-lines.ensures.value ∙ lines_agree bytes)) in
-    let told : listing bytes ≡ Ok (tree_of entries.0) =
-    read ∙ entries_tree c.lines-lines.result c.take_line.new.lines c.take_line-2.new.lines entries.0 c.if-not-take_line.ensures.this c.if-not-take_line-2.ensures.this entries.2 in
-    told ∙ ap Ok (sym (c.new.ensures ∙ read_tree c.in_ok-rows.field-0 entries.0 entries.1))
+    by_lines c.args.bytes.now c.lines-lines.result c.lines-lines.ensures.value
+    ∙ entries_tree c.lines-lines.result c.take_line.new.lines c.take_line-2.new.lines entries.0 c.if-not-take_line.ensures.this c.if-not-take_line-2.ensures.this entries.2
+    ∙ ap Ok (sym (c.new.ensures ∙ read_tree c.in_ok-rows.field-0 entries.0 entries.1))

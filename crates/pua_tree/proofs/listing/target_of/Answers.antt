@@ -1,4 +1,4 @@
-use Rattle.std.proofs.Common.{◌≡◌, Some, refl, sym, true, rules, IsTrue}
+use Rattle.std.proofs.Common.{◌≡◌, Some, sym, rules, IsTrue}
 use Rattle.pua_tree.specs.Spelling.{unspelled}
 use Rattle.pua_tree.specs.Names.{is_target}
 use Rattle.pua_tree.specs.declared.node.Kind.TheVariants.{Link}

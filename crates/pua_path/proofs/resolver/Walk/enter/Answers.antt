@@ -1,5 +1,3 @@
-use Rattle.std.proofs.Common.{ap, ◌∙◌}
-use Rattle.pua_tree.specs.Tree.{is_dir}
 use Rattle.pua_path.proofs.Living.{parent_lives}
 use Rattle.pua_path.proofs.resolver.Walk.enter.Goals as goal
 

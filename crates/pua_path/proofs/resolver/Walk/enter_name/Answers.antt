@@ -1,8 +1,6 @@
-use Rattle.std.proofs.Common.{◌≡◌, ◌∷◌, Some, None, sym, ap, ◌∙◌}
-use Rattle.std.specs.Prelude.{IsTrue}
-use Rattle.pua_tree.specs.Tree.{is_dir}
+use Rattle.std.proofs.Common.{Some, None, sym, ap, ◌∙◌}
 use Rattle.pua_path.specs.Resolution.{resolve_parts, Plain, Nothing}
-use Rattle.pua_path.specs.Walks.{goes_on, potential}
+use Rattle.pua_path.specs.Walks.{goes_on}
 use Rattle.pua_path.specs.declared.errno.Errno.TheVariants.{ENOENT, ENOTDIR}
 use Rattle.pua_path.specs.declared.found.Found.TheVariants.{Slot}
 use Rattle.pua_path.proofs.Living.{start_lives, potential_linked}

@@ -1,6 +1,5 @@
-use Rattle.std.proofs.Common.{◌≡◌, sym, ap, ◌∙◌, ◌++◌, ◌≤◌, ◌<◌, IsTrue, length, take, arith}
-use Rattle.pua_path.specs.Remaining.{Remaining, is_stack, rest_parts, pending}
-use Rattle.pua_path.specs.declared.rest.Rest.TheInside.{Inside}
+use Rattle.std.proofs.Common.{◌≡◌, sym, ap, ◌∙◌, ◌++◌, ◌<◌, length, take, arith}
+use Rattle.pua_path.specs.Remaining.{Remaining}
 use Rattle.pua_path.specs.Paths.{parts_of}
 use Rattle.pua_path.specs.declared.text.Ending.TheVariants as ending
 use Rattle.pua_path.proofs.Pieces.{no_parts, not_empty, text_readable}

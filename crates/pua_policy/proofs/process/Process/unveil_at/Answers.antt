@@ -1,16 +1,21 @@
-use Rattle.std.proofs.Common.{◌≡◌, ◌∙◌, sym, ap, refl, false}
-use Rattle.std.specs.Prelude.{Result, Ok, Err, OnOk}
+use Rattle.std.proofs.Common.{◌≡◌, ◌∙◌, sym, ap, refl, true, false}
+use Rattle.std.specs.Prelude.{Result, Ok, Err, OnOk, OnErr}
 use Rattle.std.specs.Result.{is_err}
-use Rattle.pua_policy.specs.History.{with_veil}
+use Rattle.pua_policy.specs.History.{with_veil, veil_at}
+use Rattle.pua_policy.specs.declared.answer.UnveilFault.TheVariants.{OutOfMemory}
 use Rattle.pua_policy.proofs.Standing.{unveil_fault_by}
 use Rattle.pua_policy.proofs.Places.{same_place-eq}
-use Rattle.pua_policy.proofs.Veils.{with_veil-insert_entry}
+use Rattle.pua_policy.proofs.Veils.{with_veil-insert_entry, veil_at-lookup}
 use Rattle.pua_policy.specs.contracts.place.PlacePartialEq.TheImpl.{ghosts}
 use Rattle.pua_policy.proofs.process.Process.unveil_at.Goals as goal
 
 if_no_err : {T E P : Type 0} (r : Result T E) → is_err r ≡ false → OnOk r P → P
 if_no_err (Ok x) e p = p
 if_no_err (Err x) e p = cc
+
+if_err : {T E P : Type 0} (r : Result T E) → is_err r ≡ true → OnErr r P → P
+if_err (Ok x) e p = cc
+if_err (Err x) e p = p
 
 pub returns-in-Some-clause-err : goal.returns-in-Some-clause-err
 returns-in-Some-clause-err c =
@@ -34,3 +39,12 @@ returns-clause-ok c = λ h s. (
     ended = ap (λ p. p.ended) c.self.view_is ∙ s.ended;
   },
 )
+
+pub returns-in-Some-clause-memory : goal.returns-in-Some-clause-memory
+returns-in-Some-clause-memory c = λ e. let same : c.in-Some.fault ≡ OutOfMemory = cc in absurd (c.in-Some.ensures.other same)
+
+pub returns-then-is_err-clause-memory : goal.returns-then-is_err-clause-memory
+returns-then-is_err-clause-memory c = λ _.
+    ap (λ p. veil_at p.veils c.args.place) (sym c.self.view_is)
+    ∙ sym (veil_at-lookup ghosts.eq same_place-eq c.args.place c.self.inside.veils.entries)
+    ∙ if_err c.insert.result (sym c.is_err.ensures.value ∙ c.if-is_err.true) c.insert.ensures.absent

@@ -1,5 +1,5 @@
-use Rattle.std.proofs.Common.{◌≡◌, ◌∙◌, ◌==◌, true, refl, ap, Some, unwrap_or, option_map, find, map}
-use Rattle.pua_tree.specs.Tree.{is_dir, above}
+use Rattle.std.proofs.Common.{◌≡◌, ◌∙◌, true, refl, ap, Some, map}
+use Rattle.pua_tree.specs.Tree.{is_dir}
 use Rattle.pua_tree.specs.ListTree.{row_entry}
 use Rattle.pua_tree.proofs.Rows.{above_row}
 use Rattle.pua_tree.proofs.list.ListTreeFileTree.parent.Goals as goal

@@ -1,0 +1,76 @@
+-- Edits of the lists that hold a tree, as edits of the tree.
+use Rattle.std.proofs.Common.{◌≡◌, ℕ, ◌+◌, ◌++◌, ltb, IsTrue, Bool, true, false, not, ◌&&◌, ◌||◌, cond, List, [], ◌∷◌, map, ◌==◌, count_by, eqb, refl, sym, ap, ◌∙◌}
+use Rattle.std.specs.List.{list_all, list_any}
+use Rattle.std.specs.Ordering.{nat_cmp, is_eq}
+use Rattle.std.specs.FinMap.{is_sorted, put}
+use Rattle.std.specs.FinMap.Entries.{where_key, is_sorted-where_key}
+use Rattle.std.proofs.lemmas.Bool.{and_parts, and_from}
+use Rattle.std.proofs.lemmas.List.{map_push}
+use Rattle.std.proofs.lemmas.List.Folds.{sum_by-zero}
+use Rattle.pua_tree.specs.Tree as tree
+use Rattle.pua_tree.specs.Tree.{WellFormed, node_fits}
+use Rattle.pua_tree.specs.Edits.{without_row, without_unnamed, without_node, with_row, with_new}
+use Rattle.pua_tree.specs.ListTree.{row_entry, node_entry, held_tree}
+use Rattle.pua_tree.specs.declared.list.Row.{Row}
+use Rattle.pua_tree.specs.declared.list.Node.{Node}
+use Rattle.pua_tree.proofs.Places.{passed}
+use Rattle.pua_tree.proofs.Sound.{holds}
+use Rattle.pua_tree.proofs.Entries.{put_last}
+
+no_row : (rows : List Row) (x : ℕ) → list_all (λ row. eqb (cond (row.1 == x) 1 0) 0) (map row_entry rows) ≡ not (list_any (λ row. row.node == x) rows)
+no_row [] x = refl
+no_row (r ∷ rows) x =
+    elim (r.node == x) as (λ b. (eqb (cond b 1 0) 0 && list_all (λ row. eqb (cond (row.1 == x) 1 0) 0) (map row_entry rows)) ≡ not (b || list_any (λ row. row.node == x) rows)) [
+      | true ↦ refl
+      | false ↦ no_row rows x
+    ]
+
+-- a node stands in no row where none has it
+rows_none : (rows : List Row) (x : ℕ) → (count_by (λ row. row.1 == x) (map row_entry rows) == 0) ≡ not (list_any (λ row. row.node == x) rows)
+rows_none rows x = sum_by-zero (λ row. cond (row.1 == x) 1 0) (map row_entry rows) ∙ no_row rows x
+
+pub unnamed_taken : (rows : List Row) (nodes left : List Node) (x next : ℕ) → list_any (λ row. row.node == x) rows ≡ false
+    → map node_entry left ≡ where_key nat_cmp (λ other. not (is_eq (nat_cmp x other))) (map node_entry nodes)
+    → held_tree rows left next ≡ without_unnamed (held_tree rows nodes next) x
+unnamed_taken rows nodes left x next none e =
+    let t = held_tree rows nodes next in
+    let taken : held_tree rows left next ≡ without_node t x = λ i. record { rows = map row_entry rows; nodes = e i; next = next } in
+    taken ∙ sym (ap (λ b. cond b (without_node t x) t) (rows_none rows x ∙ ap not none))
+
+pub named_kept : (rows : List Row) (nodes : List Node) (x next : ℕ) → list_any (λ row. row.node == x) rows ≡ true
+    → held_tree rows nodes next ≡ without_unnamed (held_tree rows nodes next) x
+named_kept rows nodes x next some =
+    let t = held_tree rows nodes next in
+    sym (ap (λ b. cond b (without_node t x) t) (rows_none rows x ∙ ap not some))
+
+pub sorted_without : (dir : ℕ) (name : List ℕ) (es : List (tree.Spot × ℕ)) → IsTrue (is_sorted tree.spot_cmp es)
+    → IsTrue (is_sorted tree.spot_cmp (where_key tree.spot_cmp (λ spot. not (is_eq (tree.spot_cmp (dir, name) spot))) es))
+sorted_without dir name es h = holds _ (is_sorted-where_key tree.spot_cmp (λ spot. not (is_eq (tree.spot_cmp (dir, name) spot))) es (passed _ h))
+
+pub row_gone : (rows left : List Row) (nodes : List Node) (next dir : ℕ) (name : List ℕ)
+    → map row_entry left ≡ where_key tree.spot_cmp (λ spot. not (is_eq (tree.spot_cmp (dir, name) spot))) (map row_entry rows)
+    → held_tree left nodes next ≡ without_row (held_tree rows nodes next) dir name
+row_gone rows left nodes next dir name e = λ i. record { rows = e i; nodes = map node_entry nodes; next = next }
+
+pub row_moved : (rows left more : List Row) (nodes : List Node) (next from : ℕ) (name : List ℕ) (to : ℕ) (new_name : List ℕ) (x : ℕ)
+    → map row_entry left ≡ where_key tree.spot_cmp (λ spot. not (is_eq (tree.spot_cmp (from, name) spot))) (map row_entry rows)
+    → map row_entry more ≡ put tree.spot_cmp (to, new_name) x (map row_entry left)
+    → held_tree more nodes next ≡ with_row (without_row (held_tree rows nodes next) from name) to new_name x
+row_moved rows left more nodes next from name to new_name x took came =
+    let moved = came ∙ ap (put tree.spot_cmp (to, new_name) x) took in
+    λ i. record { rows = moved i; nodes = map node_entry nodes; next = next }
+
+numbers_below : (t : tree.Tree) (es : List (ℕ × tree.Node)) → list_all (node_fits t) es ≡ true → list_all (λ e. ltb e.0 t.next) es ≡ true
+numbers_below t [] h = refl
+numbers_below t (e ∷ es) h =
+    let parts = and_parts _ _ h in
+    and_from _ _ (and_parts _ _ parts.0).0 (numbers_below t es parts.1)
+
+pub node_came : (rows more : List Row) (nodes : List Node) (next dir : ℕ) (name : List ℕ) (node : Node) (made : tree.Node) → WellFormed (held_tree rows nodes next)
+    → map row_entry more ≡ put tree.spot_cmp (dir, name) next (map row_entry rows) → node_entry node ≡ (next, made)
+    → held_tree more (nodes ++ node ∷ []) (next + 1) ≡ with_new (held_tree rows nodes next) dir name made
+node_came rows more nodes next dir name node made w e is =
+    let below = numbers_below (held_tree rows nodes next) (map node_entry nodes) w.nodes_fit in
+    let pushed : map node_entry (nodes ++ node ∷ []) ≡ put nat_cmp next made (map node_entry nodes) =
+    map_push node_entry nodes node ∙ ap (λ n. map node_entry nodes ++ n ∷ []) is ∙ sym (put_last next made (map node_entry nodes) below) in
+    λ i. record { rows = e i; nodes = pushed i; next = next + 1 }
