@@ -1,6 +1,7 @@
 pub mod Reach
 pub mod Begin
-pub mod Laws
-pub mod Examples
 pub mod World
 pub mod Trail
+pub mod Laws
+pub mod Examples
+pub mod Seen

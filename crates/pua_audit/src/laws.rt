@@ -1,6 +1,6 @@
 //! Laws and worked examples of reaches, each the contract of a function that does nothing.
 
-ghost use Rattle.pua_audit.specs.Laws.{AlphabetRises, ReachRises};
+ghost use Rattle.pua_audit.specs.Laws.{AlphabetRises, ClosedReaches, ReachIsAlong, ReachRises, TrailsReach};
 ghost use Rattle.pua_audit.specs.Examples.{ReachRows};
 
 /// Examples of small reaches.
@@ -15,5 +15,11 @@ pub fn reach_laws()
     ensures reach { ReachRises }
 {}
 
-#[tactic(auto, using(crate::proofs::Along::reach_is_along, crate::proofs::Turns::given, crate::proofs::Resume::give_on))]
-fn trial() {}
+/// The reach is what is allowed letter by letter, and nothing where the process has ended or its
+/// base was removed; a walk through the words gives the pairs that are allowed letter by letter.
+#[tactic(auto, using(crate::proofs::Audited::reaches_along, crate::proofs::Audited::closed_reaches, crate::proofs::Audited::trails_reach))]
+pub fn walk_laws()
+    ensures along { ReachIsAlong }
+    ensures closed { ClosedReaches }
+    ensures trails { TrailsReach }
+{}

@@ -2,6 +2,7 @@
 #![tactic(auto)]
 
 mod base;
+mod content;
 mod fault;
 mod frame;
 mod laws;
@@ -10,5 +11,5 @@ mod state;
 
 pub use base::Base;
 pub use fault::AuditFault;
-pub use laws::{reach_examples, reach_laws};
+pub use laws::{reach_examples, reach_laws, walk_laws};
 pub use line::Line;

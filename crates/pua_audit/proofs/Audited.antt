@@ -1,0 +1,33 @@
+-- The laws on what is allowed letter by letter.
+use Rattle.std.proofs.Common.{◌≡◌, ℕ, Bool, true, false, not, ◌&&◌, List, [], ◌∷◌, refl, sym, ◌∙◌}
+use Rattle.std.specs.List.{AllByRecursion, list_all}
+use Rattle.pua_tree.specs.Tree.{is_dir}
+use Rattle.pua_policy.specs.History.{is_ended}
+use Rattle.pua_policy.proofs.Finding.{both_true}
+use Rattle.pua_audit.specs.Reach.{Scope, reach}
+use Rattle.pua_audit.specs.World.{base_dir, is_letter}
+use Rattle.pua_audit.specs.Trail.{everywhere}
+use Rattle.pua_audit.specs.Laws.{IsAudited, ReachIsAlong, ClosedReaches, TrailsReach}
+use Rattle.pua_audit.proofs.Paths.{IsPiece, letter_is_piece}
+use Rattle.pua_audit.proofs.Along.{IsReadable, reach_is_along, none_for_ended, none_without_base}
+use Rattle.pua_audit.proofs.Lines.{lines-fresh, prunes_none}
+
+pieces : (letters : List (List ℕ)) → list_all is_letter letters ≡ true → AllByRecursion IsPiece letters
+pieces [] h = tt
+pieces (a ∷ letters) h = let is = both_true (is_letter a) (list_all is_letter letters) h in (letter_is_piece a is.0, pieces letters is.1)
+
+readable : (s : Scope) → IsAudited s → IsReadable s.alphabet s.limit
+readable s is = record { letters = pieces s.alphabet is.letters; fits = is.short }
+
+pub reaches_along : ReachIsAlong
+reaches_along s is lives = reach_is_along s is.tree (readable s is) lives
+
+pub closed_reaches : ClosedReaches
+closed_reaches s is closed = by (is_ended s.history) refl closed
+  where
+    by : (v : Bool) → is_ended s.history ≡ v → (not v && is_dir s.tree (base_dir s.base s.history)) ≡ false → reach s ≡ []
+    by true e closed = none_for_ended s is.tree (readable s is) e
+    by false e closed = none_without_base s is.tree (readable s is) closed
+
+pub trails_reach : TrailsReach
+trails_reach w letters limit = lines-fresh w everywhere letters limit (prunes_none w letters)

@@ -1,0 +1,34 @@
+//! What contracts alone see of an audit.
+
+ghost use Rattle.std.specs.Prelude.{◌≡◌};
+ghost use Rattle.pua_audit.specs.Seen.{Seen};
+ghost use base.Fml.{ftrue};
+
+use std::marker::{Model, PhantomData};
+
+/// The content of a tree and the history of a process, which contracts alone see. It has no bytes.
+pub struct Content {
+    marker: PhantomData<()>,
+    pub ghost scope: { Seen },
+}
+
+impl Model for Content {
+    ghost also_owns = { λ _. ftrue };
+}
+
+impl Content {
+    /// What the caller's proof picks.
+    pub fn of<T>(x: &T) -> Content
+        ghost scope: { Seen }
+        ensures { result.scope ≡ scope }
+    {
+        let _ = x;
+        Content { marker: PhantomData }
+    }
+}
+
+impl Drop for Content {
+    fn drop(self) {
+        let Self { marker: _ } = self;
+    }
+}
