@@ -1,4 +1,4 @@
-use Rattle.std.proofs.Common.{◌≡◌, ◌∙◌, ap}
+use Rattle.std.proofs.Common.{◌∙◌, ap}
 use Rattle.pua_path.specs.Resolution.{resolution}
 use Rattle.pua_policy.proofs.Fits.{founds_fit}
 use Rattle.pua_tests.proofs.example.resolved.Goals as goal
