@@ -1,6 +1,8 @@
-//! Measures what docs/BENCHMARKS.md tells: how long one reading of a listing, or one resolution of a
-//! path, takes. Without words it says how it is called.
+//! Measures what docs/BENCHMARKS.md tells: how long one reading of a listing, one resolution of a path
+//! or one cover takes. Without words it says how it is called.
 #![tactic(auto)]
+
+mod covers;
 
 use anyhow::{Result, anyhow, bail};
 use pua_path::{Counted, Ending, Last, PathText, Probe, resolve};
@@ -9,7 +11,8 @@ use std::rt::{Clock, Files};
 use std::time::Instant;
 use std::{env, fs};
 
-const USAGE: &str = "pua_bench read LISTING TURNS; pua_bench resolve LISTING PATH TURNS";
+const USAGE: &str =
+    "pua_bench read LISTING TURNS; pua_bench resolve LISTING PATH TURNS; pua_bench cover LISTING FROM VEILS TURNS";
 
 fn main(rt: HostRuntime) -> Result<()> {
     let mut words = Vec::new(rt.alloc());
@@ -20,6 +23,13 @@ fn main(rt: HostRuntime) -> Result<()> {
     match word(words, 0) {
         "read" => read(&rt, word(words, 1), word(words, 2)),
         "resolve" => resolution(&rt, word(words, 1), word(words, 2), word(words, 3)),
+        "cover" => cover(
+            &rt,
+            word(words, 1),
+            word(words, 2),
+            word(words, 3),
+            word(words, 4),
+        ),
         _ => Ok(println!(rt; "{USAGE}")?),
     }
 }
@@ -67,6 +77,29 @@ fn resolution<R: AllocGlobal + Clock + Files + Print>(
     let nanos = start.elapsed(rt)?.as_nanos();
     let each = nanos / u128::from(turns.max(1));
     Ok(println!(rt; "{each} ns a resolution, {probes} looks in all")?)
+}
+
+/// Tells so many times what some veils leave of the file `f` in a directory, one of them on the root.
+fn cover<R: AllocGlobal + Clock + Files + Print>(
+    rt: &R,
+    listing: &str,
+    from: &str,
+    veils: &str,
+    turns: &str,
+) -> Result<()> {
+    let bytes = fs::read(rt, listing)?;
+    let tree = tree_of(rt, bytes.as_slice())?;
+    let from: u32 = from.parse()?;
+    let veils: u32 = veils.parse()?;
+    let turns: u32 = turns.parse()?;
+    let Some(process) = covers::veiled(rt.alloc(), veils) else {
+        bail!("not so many veils: {veils}");
+    };
+    let start = Instant::now(rt)?;
+    let probes = covers::probes_of(&tree, NodeId::new(from), &process, turns);
+    let nanos = start.elapsed(rt)?.as_nanos();
+    let each = nanos / u128::from(turns.max(1));
+    Ok(println!(rt; "{each} ns a cover, {probes} looks in all")?)
 }
 
 /// How often so many resolutions look at a tree.

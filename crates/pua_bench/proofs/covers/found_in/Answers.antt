@@ -1,0 +1,11 @@
+use Rattle.std.proofs.Common.{◌≡◌, ◌∙◌, ap}
+use Rattle.pua_path.specs.Resolution.{resolution}
+use Rattle.pua_path.specs.declared.found.Last.TheVariants.{Followed}
+use Rattle.pua_policy.proofs.Fits.{founds_fit}
+use Rattle.pua_bench.proofs.covers.found_in.Goals as goal
+
+pub returns : goal.returns
+returns c =
+    let text = c.args.text.now in
+    founds_fit c.args.tree.now c.known.ensures c.args.from text.ending text.bytes Followed c.resolve.result
+    (c.resolve.ensures.exact ∙ ap (λ t. resolution t c.args.from text.ending text.bytes Followed) c.new-probe.ensures.tree)

@@ -1,0 +1,53 @@
+//! Covers of a file in a deep directory.
+
+ghost use Rattle.pua_policy.specs.Verdict.{FoundFits, FoundsFit};
+
+use pua_path::{Counted, Ending, Errno, Found, Last, PathText, Probe, resolve};
+use pua_policy::{Perms, Place, Process};
+use pua_tree::{FileTree, ListTree, NodeId};
+use std::alloc::Global;
+
+/// A process with so many veils: one on the root, and the others on nodes that no tree has.
+pub(crate) fn veiled(alloc: Global, veils: u32) -> Option<Process> {
+    let mut process = Process::new(alloc).ok()?;
+    for veil in 0..veils {
+        let number = if veil == 0 {
+            0
+        } else {
+            veil.saturating_add(1_000_000)
+        };
+        process
+            .unveil_at(Place::Dir(NodeId::new(number)), Perms::READ)
+            .ok()?;
+    }
+    Some(process)
+}
+
+/// How often so many covers of the file `f` in a directory look at a tree.
+pub(crate) fn probes_of(tree: &ListTree, from: NodeId, process: &Process, turns: u32) -> u64 {
+    let Ok(text) = PathText::read(b"f", Ending::Dot) else {
+        return 0;
+    };
+    match found_in(tree, from, &text) {
+        Ok(found) => probes_of_covers(tree, process, &found, turns),
+        Err(_) => 0,
+    }
+}
+
+fn found_in(tree: &ListTree, from: NodeId, text: &PathText<'_>) -> Result<Found, Errno>
+    ensures { FoundsFit tree.now result }
+{
+    tree.known();
+    let mut probe = Counted::new(tree);
+    resolve(&mut probe, from, text, Last::Followed)
+}
+
+fn probes_of_covers(tree: &ListTree, process: &Process, found: &Found, turns: u32) -> u64
+    requires { FoundFits tree.now found.now }
+{
+    let mut probe = Counted::new(tree);
+    for _turn in 0..turns {
+        let _ = process.cover(&mut probe, found);
+    }
+    probe.probes()
+}
