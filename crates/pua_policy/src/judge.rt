@@ -85,8 +85,9 @@ fn found_fault<'t, P: Probe<'t>>(
     }
 }
 
-/// What is wrong with a cover for a call that needs these permissions.
-fn cover_fault(cover: Cover, perms: Perms) -> Option<Errno>
+/// What is wrong with a cover for a call that needs these permissions: `ENOENT` where nothing is
+/// left of the object, `EACCES` where a letter lacks, and None where neither is so.
+pub fn cover_fault(cover: Cover, perms: Perms) -> Option<Errno>
     ensures { result ≡ cover_fault cover perms }
 {
     match cover {
