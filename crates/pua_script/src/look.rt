@@ -1,0 +1,71 @@
+//! What paths name to a process, and what is answered to calls on it.
+
+ghost use Rattle.std.specs.Prelude.{◌≡◌, IfOk};
+ghost use Rattle.pua_tree.specs.Tree.{Tree};
+ghost use Rattle.pua_path.specs.Resolution.{resolution_of_text};
+ghost use Rattle.pua_policy.specs.Calls.{standard_table};
+ghost use Rattle.pua_policy.specs.History.{History, StandsFor};
+ghost use Rattle.pua_policy.specs.Verdict.{FoundsFit, object_named, verdict_of};
+ghost use Rattle.pua_script.specs.Replay.{Effect, by_verdict, on_found};
+ghost use Rattle.pua_script.specs.Judged.{effect_on};
+ghost use Rattle.pua_path.specs.declared.found.Found as found;
+
+use pua_path::{Counted, Ending, Errno, Found, Last, PathText, Probe, resolve};
+use pua_policy::judge::{verdict, verdict_of};
+use pua_policy::needs::{ending, need};
+use pua_policy::{Call, Process, Verdict};
+use pua_tree::{FileTree, NodeId};
+
+/// What becomes of a call on a path.
+#[derive(Clone, Copy)]
+pub(crate) enum Judged {
+    /// It is allowed on what the path named.
+    Allowed(Found),
+    Failed(Errno),
+    Killed,
+}
+
+/// What a path names from a directory.
+pub(crate) fn named<'t, P: Probe<'t>>(
+    probe: &mut P,
+    from: NodeId,
+    path: &[u8],
+    ending: Ending,
+    last: Last,
+) -> Result<Found, Errno>
+    ensures exact { result ≡ resolution_of_text (P.tree probe.old) from ending path.now last }
+    ensures fits { FoundsFit (P.tree probe.old) result }
+    ensures tree { P.tree probe.new ≡ P.tree probe.old }
+{
+    probe.known();
+    let text = PathText::read(path, ending)?;
+    resolve(probe, from, &text, last)
+}
+
+/// The verdict on a call of a process with its path.
+pub(crate) fn judge_call<T: FileTree>(
+    tree: &T,
+    process: &Process,
+    call: Call,
+    path: &[u8],
+) -> Judged
+    ensures { (h : History) → StandsFor process.now h → (f : found.Found → Effect) →
+        (let object = object_named (T.content tree.now) h call path.now in
+        by_verdict (verdict_of (T.content tree.now) standard_table h call object) (on_found object f)) ≡ effect_on result f }
+{
+    let mut probe = Counted::new(tree);
+    let ending = ending(call);
+    let last = need(call).last;
+    match named(&mut probe, process.dir(), path, ending, last) {
+        Ok(found) => match verdict(&mut probe, process, call, &found) {
+            Verdict::Allowed => Judged::Allowed(found),
+            Verdict::Failed(errno) => Judged::Failed(errno),
+            Verdict::Death => Judged::Killed,
+        },
+        Err(errno) => match verdict_of(&mut probe, process, call, Err(errno)) {
+            Verdict::Allowed => Judged::Failed(errno),
+            Verdict::Failed(errno) => Judged::Failed(errno),
+            Verdict::Death => Judged::Killed,
+        },
+    }
+}
