@@ -1,5 +1,5 @@
 -- What a world keeps, and for which worlds of the replay it stands.
-use Rattle.std.specs.Prelude.{◌≡◌, ℕ, Bool, true, false, List, [], ◌∷◌, length, nat_eq, Option, Some, None, IsTrue}
+use Rattle.std.specs.Prelude.{◌≡◌, ℕ, Bool, true, false, List, ◌∷◌, length, nat_eq, Option, Some, None, IsTrue}
 use Rattle.std.specs.Ordering.{nat_cmp}
 use Rattle.std.specs.FinMap.{is_sorted}
 use Rattle.std.specs.Map.{lookup}
@@ -7,7 +7,7 @@ use Rattle.pua_tree.specs.Tree.{Tree}
 use Rattle.pua_policy.specs.Calls.{standard_table}
 use Rattle.pua_policy.specs.History.{History, ProcessState, StandsFor}
 use Rattle.pua_script.specs.Requests.{Asked}
-use Rattle.pua_script.specs.Replay.{World, Effect, Fails, Kills, Leaves, Copies, history_of, apply, effect, answers, world_after, answer_to}
+use Rattle.pua_script.specs.Replay.{World, Effect, Kills, Leaves, Copies, history_of, apply, effect, answers, world_after, answer_to}
 use Rattle.pua_policy.specs.History.{Ended}
 use Rattle.pua_script.specs.declared.answer.Answer.{Answer}
 use Rattle.pua_script.specs.declared.request.Action.{Action}

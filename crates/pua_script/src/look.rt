@@ -11,9 +11,9 @@ ghost use Rattle.pua_script.specs.Judged.{effect_on};
 ghost use Rattle.pua_path.specs.declared.found.Found as found;
 
 use pua_path::{Counted, Ending, Errno, Found, Last, PathText, Probe, resolve};
-use pua_policy::judge::{verdict, verdict_of};
+use pua_policy::judge::verdict;
 use pua_policy::needs::{ending, need};
-use pua_policy::{Call, Process, Verdict};
+use pua_policy::{Call, May, Process, Verdict};
 use pua_tree::{FileTree, NodeId};
 
 /// What becomes of a call on a path.
@@ -42,7 +42,7 @@ pub(crate) fn named<'t, P: Probe<'t>>(
     resolve(probe, from, &text, last)
 }
 
-/// The verdict on a call of a process with its path.
+/// What becomes of a call of a process: its promises are judged before its path is read.
 pub(crate) fn judge_call<T: FileTree>(
     tree: &T,
     process: &Process,
@@ -53,19 +53,20 @@ pub(crate) fn judge_call<T: FileTree>(
         (let object = object_named (T.content tree.now) h call path.now in
         by_verdict (verdict_of (T.content tree.now) standard_table h call object) (on_found object f)) ≡ effect_on result f }
 {
+    let need = need(call);
+    match process.may(need.promises) {
+        May::Yes => {}
+        May::Enosys => return Judged::Failed(Errno::ENOSYS),
+        May::Death => return Judged::Killed,
+    }
     let mut probe = Counted::new(tree);
-    let ending = ending(call);
-    let last = need(call).last;
-    match named(&mut probe, process.dir(), path, ending, last) {
-        Ok(found) => match verdict(&mut probe, process, call, &found) {
-            Verdict::Allowed => Judged::Allowed(found),
-            Verdict::Failed(errno) => Judged::Failed(errno),
-            Verdict::Death => Judged::Killed,
-        },
-        Err(errno) => match verdict_of(&mut probe, process, call, Err(errno)) {
-            Verdict::Allowed => Judged::Failed(errno),
-            Verdict::Failed(errno) => Judged::Failed(errno),
-            Verdict::Death => Judged::Killed,
-        },
+    let found = match named(&mut probe, process.dir(), path, ending(call), need.last) {
+        Ok(found) => found,
+        Err(errno) => return Judged::Failed(errno),
+    };
+    match verdict(&mut probe, process, call, &found) {
+        Verdict::Allowed => Judged::Allowed(found),
+        Verdict::Failed(errno) => Judged::Failed(errno),
+        Verdict::Death => Judged::Killed,
     }
 }

@@ -1,4 +1,3 @@
-use Rattle.pua_policy.specs.History.{may_any}
 use Rattle.pua_script.proofs.Doing.{as_death}
 use Rattle.pua_script.proofs.serve.lock.Goals as goal
 
