@@ -2,11 +2,15 @@
 #![tactic(auto)]
 
 mod answer;
+mod change;
 mod fault;
 mod laws;
 mod line;
+mod look;
+mod rename;
 mod request;
 mod script;
+mod serve;
 mod world;
 
 pub use answer::Answer;
