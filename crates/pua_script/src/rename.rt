@@ -68,6 +68,7 @@ fn pair_named<T: FileTree>(
         on_two_paths (T.content tree.now) h ending.Dropped old.now new.now effect ≡ on_pair result effect }
     ensures fit { IfOk result (λ pair. NameFits (T.content tree.now) pair.from × NameFits (T.content tree.now) pair.to) }
 {
+    tree.known();
     let mut probe = Counted::new(tree);
     let from = named(&mut probe, process.dir(), old, Ending::Dropped, Last::Kept)?;
     let to = named(&mut probe, process.dir(), new, Ending::Dropped, Last::Kept)?;
@@ -221,7 +222,10 @@ fn is_within<T: FileTree>(tree: &T, dir: NodeId, node: NodeId) -> bool
 {
     tree.known();
     let mut at = dir;
-    while at != node {
+    loop {
+        if at == node {
+            return true;
+        }
         if at == NodeId::ROOT {
             return false;
         }
@@ -230,7 +234,6 @@ fn is_within<T: FileTree>(tree: &T, dir: NodeId, node: NodeId) -> bool
         };
         at = above;
     }
-    true
 }
 
 /// A directory is not put in the place of anything else, nothing else in the place of a directory,
