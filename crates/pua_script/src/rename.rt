@@ -14,14 +14,13 @@ ghost use Rattle.pua_script.specs.Replay.{Effect, on_two_paths, rename_found, sp
 ghost use Rattle.pua_script.specs.Renames.{NameFits, StandsAtSpot, on_pair};
 ghost use Rattle.pua_script.specs.Worlds.{Does, Edits};
 
+use crate::answer::Answer;
+use crate::fault::WorldFault;
+use crate::look::named;
 use pua_path::{Counted, Ending, Errno, Found, Last, Probe, Way};
 use pua_policy::judge::cover_fault;
 use pua_policy::{May, Perms, Process, Promises};
 use pua_tree::{FileTree, Kind, Name, NodeId, TreeFault};
-
-use crate::answer::Answer;
-use crate::fault::WorldFault;
-use crate::look::named;
 
 /// What the two paths of a rename name.
 #[derive(Clone, Copy)]
@@ -41,7 +40,7 @@ pub(crate) fn rename<T: FileTree>(
     requires { process.old.ended ≡ false }
     ensures { IfOk result (λ answer. (h : History) → StandsFor process.old h →
         Does (T.content tree.old) h (on_two_paths (T.content tree.old) h ending.Dropped old.now new.now
-            (λ a b. rename_found (T.content tree.old) h a b (node_named a))) answer (T.content tree.new) process.new) }
+        (λ a b. rename_found (T.content tree.old) h a b (node_named a))) answer (T.content tree.new) process.new) }
 {
     match process.may(Promises::CPATH) {
         May::Yes => {}
