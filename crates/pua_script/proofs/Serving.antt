@@ -30,7 +30,6 @@ gone_ended s ask p there ended w stands = by (history_of w ask.process) (stands.
     ends : (h : History) (b : Bool) (d : Answer × World) → is_ended h ≡ b → b ≡ true → (Gone ≡ (cond b (Gone, w) d).0) × StandsForWorld s (cond b (Gone, w) d).1
     ends h true d is e = (refl, stands)
     ends h false d is e = absurd (true≢false (sym e))
-
     by : (g : Option History) → StandsAt (process_at s ask.process) g → (Gone ≡ (served standard_table w ask g).0) × StandsForWorld s (served standard_table w ask g).1
     by None at = absurd (subst (λ o. StandsAt o None) there at)
     by (Some h) at = let own : StandsFor p h = subst (λ o. StandsAt o (Some h)) there at in ends h (is_ended h) _ refl (sym own.ended ∙ ended)
@@ -59,16 +58,10 @@ module _ (s : WorldState) (ask : Asked) (answer : Answer) (t : Tree) (p q : Proc
 
     left : (e : Effect) → Does s.tree h e answer t q → (answer ≡ answer_to e) × StandsForWorld after (left_by w ask.process h e)
     left (Fails errno) does = (does.told, stays w.tree (does.left ∙ stands.tree) does.stands)
-    left Kills does = (
-      does.told,
-      subst (λ x. StandsForWorld (record { tree = x; processes = more }) (left_by w ask.process h Kills)) (sym (does.left ∙ stands.tree))
-          (stands_changed s w stands ask.process w.tree q (Ended ∷ h) more does.stands changed (ap is_some known) counted),
-    )
-    left (Leaves tree g) does = (
-      does.told,
-      subst (λ x. StandsForWorld (record { tree = x; processes = more }) (left_by w ask.process h (Leaves tree g))) (sym does.left)
-          (stands_changed s w stands ask.process tree q g more does.stands changed (ap is_some known) counted),
-    )
+    left Kills does = (does.told, subst (λ x. StandsForWorld (record { tree = x; processes = more }) (left_by w ask.process h Kills)) (sym (does.left ∙ stands.tree))
+        (stands_changed s w stands ask.process w.tree q (Ended ∷ h) more does.stands changed (ap is_some known) counted))
+    left (Leaves tree g) does = (does.told, subst (λ x. StandsForWorld (record { tree = x; processes = more }) (left_by w ask.process h (Leaves tree g))) (sym does.left)
+        (stands_changed s w stands ask.process tree q g more does.stands changed (ap is_some known) counted))
     left (Copies new) does = absurd (true≢false does.alone)
 
   pub serves : IsServed s ask answer after
@@ -77,7 +70,6 @@ module _ (s : WorldState) (ask : Asked) (answer : Answer) (t : Tree) (p q : Proc
       lives : (h : History) (b : Bool) (d : Answer × World) → b ≡ false → (answer ≡ d.0) × StandsForWorld after d.1 → (answer ≡ (cond b (Gone, w) d).0) × StandsForWorld after (cond b (Gone, w) d).1
       lives h true d e done = absurd (true≢false e)
       lives h false d e done = done
-
       by : (g : Option History) → history_of w ask.process ≡ g → StandsAt (process_at s ask.process) g → (answer ≡ (served standard_table w ask g).0) × StandsForWorld after (served standard_table w ask g).1
       by None known at = absurd (subst (λ o. StandsAt o None) there at)
       by (Some h) known at =

@@ -7,11 +7,12 @@ ghost use Rattle.pua_policy.specs.History.{History, StandsFor};
 ghost use Rattle.pua_script.specs.Replay.{added, edited, removed, moved_to, change};
 ghost use Rattle.pua_script.specs.Worlds.{Does, Edits};
 
-use crate::answer::Answer;
-use crate::fault::WorldFault;
 use pua_path::{Errno, Found, Way};
 use pua_policy::{Call, Process};
 use pua_tree::{FileTree, Kind, Name, NodeId, TreeFault};
+
+use crate::answer::Answer;
+use crate::fault::WorldFault;
 
 /// Adds a node where nothing stands. What was checked before leaves want of room as the only fault.
 pub(crate) fn add<T: FileTree>(

@@ -9,15 +9,16 @@ ghost use Rattle.pua_policy.specs.Verdict.{place_of};
 ghost use Rattle.pua_script.specs.Replay.{Kills, Leaves, if_promised, unless, path_call, symlink_effect, pledge_effect, unveil_request, unveil_errno, given_set, is_unknown};
 ghost use Rattle.pua_script.specs.Worlds.{Does};
 
+use pua_path::{Counted, Ending, Errno, Found, Last, PathText};
+use pua_policy::needs::need;
+use pua_policy::{Call, May, Perms, Place, Process, Promises, UnveilFault};
+use pua_tree::{FileTree, Kind};
+
 use crate::answer::Answer;
 use crate::change::{add, change};
 use crate::fault::WorldFault;
 use crate::look::{Judged, judge_call, named};
 use crate::request::Given;
-use pua_path::{Counted, Ending, Errno, Found, Last, PathText};
-use pua_policy::needs::need;
-use pua_policy::{Call, May, Perms, Place, Process, Promises, UnveilFault};
-use pua_tree::{FileTree, Kind};
 
 /// Ends a process that did what it did not promise.
 fn kill(process: &mut Process) -> Answer
