@@ -1,5 +1,5 @@
 -- Steps in the proof of a rename.
-use Rattle.std.proofs.Common.{◌≡◌, ◌≢◌, ℕ, List, ◌∷◌, Bool, true, false, refl, ap, ◌∙◌}
+use Rattle.std.proofs.Common.{◌≡◌, ◌≢◌, ℕ, true, false, refl, ap, ◌∙◌}
 use Rattle.std.specs.Prelude.{Option, Some, None, Result, Ok, Err, ◌==◌, ◌||◌, IfOk}
 use Rattle.std.specs.Option.{option_or}
 use Rattle.std.specs.List.{list_any}

@@ -1,6 +1,6 @@
 -- A directory that a path names by a name is the node of that name's row.
 use Rattle.std.proofs.Common.{◌≡◌, ℕ, zero, suc, List, [], ◌∷◌, ◌++◌, Bool, true, false, refl, sym, ap, subst, ◌∙◌}
-use Rattle.std.specs.Prelude.{Option, Some, None, Result, Ok, Err, option_map, is_none, is_some, if◌then◌else◌, ◌&&◌, not, ◌==◌, IsTrue, IfOk}
+use Rattle.std.specs.Prelude.{Option, Some, None, Result, Ok, Err, option_map, is_none, if◌then◌else◌, ◌&&◌, not, ◌==◌, IsTrue, IfOk}
 use Rattle.std.specs.Option.{option_eq}
 use Rattle.std.proofs.lemmas.Bool.{eqb-true}
 use Rattle.pua_tree.specs.Tree.{Tree, Node, WellFormed, look, node_at, is_dir, is_dir_kind, above}
