@@ -1,6 +1,6 @@
 -- A directory that a path names by a name is the node of that name's row.
 use Rattle.std.proofs.Common.{◌≡◌, ℕ, zero, suc, List, [], ◌∷◌, ◌++◌, Bool, true, false, refl, sym, ap, subst, ◌∙◌}
-use Rattle.std.specs.Prelude.{Option, Some, None, Result, Ok, Err, option_map, is_none, is_some, if◌then◌else◌, ◌&&◌, not, ◌==◌, IsTrue}
+use Rattle.std.specs.Prelude.{Option, Some, None, Result, Ok, Err, option_map, is_none, if◌then◌else◌, ◌&&◌, not, ◌==◌, IsTrue, IfOk}
 use Rattle.std.specs.Option.{option_eq}
 use Rattle.std.proofs.lemmas.Bool.{eqb-true}
 use Rattle.pua_tree.specs.Tree.{Tree, Node, WellFormed, look, node_at, is_dir, is_dir_kind, above}
@@ -34,7 +34,7 @@ module _ (t : Tree) where
   WayFits dir DotDot = Unit {0}
   WayFits dir Top = Unit {0}
 
-  abbrev pub FoundByWay : Found → Type 0
+  abbrev FoundByWay : Found → Type 0
   FoundByWay (Whole dir way) = WayFits dir way
   FoundByWay (Slot dir name _) = Unit {0}
 
@@ -142,16 +142,11 @@ module _ (t : Tree) where
       record { fits = fits; spot = (both.0, some_there _ x (both_true (option_eq ◌==◌ (look t dir name) (Some x)) _ both.1).0) }
 
   -- what a text names, with its name
-  pub text_name_fits : WellFormed t → (from : ℕ) (ending : Ending) (text : List ℕ) (mode : Last) (r : Result Found Errno) (object : Found) →
-      r ≡ Ok object → FoundsFit t r → r ≡ resolution_of_text t from ending text mode → NameFits t object
-  text_name_fits well from ending text mode r object ok fit is = by (path_fault text) refl
+  pub text_names_fit : WellFormed t → (from : ℕ) (ending : Ending) (text : List ℕ) (mode : Last) (r : Result Found Errno) →
+      FoundsFit t r → r ≡ resolution_of_text t from ending text mode → IfOk r (NameFits t)
+  text_names_fit well from ending text mode (Err errno) fits is = tt
+  text_names_fit well from ending text mode (Ok object) fits is = by (path_fault text) refl
     where
       by : (o : Option Errno) → path_fault text ≡ o → NameFits t object
-      by None e = name_fits object (subst (FoundsFit t) ok fit) (whole_ends well mode from ending text object (sym (rw e at is) ∙ ok))
-      by (Some errno) e = absurd (Err≢Ok errno object (sym (rw e at is) ∙ ok))
-
--- the same where a probe was asked
-pub probed_name_fits : (u t : Tree) → u ≡ t → WellFormed t → (from : ℕ) (ending : Ending) (text : List ℕ) (mode : Last) (r : Result Found Errno) (object : Found) →
-    r ≡ Ok object → FoundsFit u r → r ≡ resolution_of_text u from ending text mode → NameFits t object
-probed_name_fits u t same well from ending text mode r object ok fit is =
-    text_name_fits t well from ending text mode r object ok (subst (λ t. FoundsFit t r) same fit) (is ∙ ap (λ t. resolution_of_text t from ending text mode) same)
+      by None e = name_fits object fits (whole_ends well mode from ending text object (sym (rw e at is)))
+      by (Some errno) e = absurd (Err≢Ok errno object (sym (rw e at is)))

@@ -1,17 +1,19 @@
 //! A rename: what its two paths name, what is wrong with them, and the row that moves.
 
-ghost use Rattle.std.specs.Prelude.{◌≡◌, ◌∷◌, [], ℕ, ◌==◌, None, Some, IfOk, IsOk, IsTrue, false};
+ghost use Rattle.std.specs.Prelude.{◌≡◌, ◌∷◌, [], ℕ, ◌==◌, Some, IfOk, IsOk, IsTrue, false};
 ghost use Rattle.std.specs.List.{list_any};
 ghost use Rattle.pua_tree.specs.Tree.{Spot, is_dir, climb};
 ghost use Rattle.pua_tree.specs.Edits.{shift, is_same_node};
+ghost use Rattle.pua_path.specs.Resolution.{resolution_of_text};
 ghost use Rattle.pua_path.specs.declared.found.Found as found;
+ghost use Rattle.pua_path.specs.declared.found.Last.TheVariants.{Kept};
 ghost use Rattle.pua_path.specs.declared.text.Ending.TheVariants as ending;
 ghost use Rattle.pua_policy.specs.Promises.{cpath, creating};
-ghost use Rattle.pua_policy.specs.History.{History, StandsFor, may_any};
+ghost use Rattle.pua_policy.specs.History.{History, StandsFor, may_any, working_dir};
 ghost use Rattle.pua_policy.specs.Verdict.{FoundFits, cover, cover_fault, or_fault};
 ghost use Rattle.pua_policy.specs.declared.answer.May.TheVariants as may;
 ghost use Rattle.pua_script.specs.Replay.{Effect, on_two_paths, rename_found, spot_named, node_named, dots_fault, top_fault, is_whole, kinds_fault, inside_fault, shifted};
-ghost use Rattle.pua_script.specs.Renames.{NameFits, StandsAtSpot, on_pair};
+ghost use Rattle.pua_script.specs.Renames.{NameFits, on_pair};
 ghost use Rattle.pua_script.specs.Worlds.{Does, Edits};
 
 use crate::answer::Answer;
@@ -67,14 +69,23 @@ fn pair_named<T: FileTree>(
         on_two_paths (T.content tree.now) h ending.Dropped old.now new.now effect ≡ on_pair result effect }
     ensures fit { IfOk result (λ pair. NameFits (T.content tree.now) pair.from × NameFits (T.content tree.now) pair.to) }
 {
-    tree.known();
     let mut probe = Counted::new(tree);
-    let from = named(&mut probe, process.dir(), old, Ending::Dropped, Last::Kept)?;
-    let to = named(&mut probe, process.dir(), new, Ending::Dropped, Last::Kept)?;
+    let from = name_at(&mut probe, process, old)?;
+    let to = name_at(&mut probe, process, new)?;
     match covers_fault(&mut probe, process, &from, &to) {
         None => Ok(Pair { from, to }),
         Some(errno) => Err(errno),
     }
+}
+
+/// What one path names. A link that its last part names is kept.
+fn name_at<'t, P: Probe<'t>>(probe: &mut P, process: &Process, path: &[u8]) -> Result<Found, Errno>
+    ensures exact { (h : History) → StandsFor process.now h → result ≡ resolution_of_text (P.tree probe.old) (working_dir h) ending.Dropped path.now Kept }
+    ensures fit { IfOk result (λ found. NameFits (P.tree probe.old) found) }
+    ensures tree { P.tree probe.new ≡ P.tree probe.old }
+{
+    probe.known();
+    named(probe, process.dir(), path, Ending::Dropped, Last::Kept)
 }
 
 /// What is wrong with the two covers, the first one first.

@@ -3,7 +3,7 @@ use Rattle.std.proofs.lemmas.Bool.{eqb-false}
 use Rattle.std.proofs.lemmas.Option.{same_Some}
 use Rattle.std.specs.Prelude.{Some, None}
 use Rattle.std.specs.List.{list_any}
-use Rattle.pua_tree.specs.Tree.{above, climb, parent}
+use Rattle.pua_tree.specs.Tree.{above, climb}
 use Rattle.pua_tree.proofs.Sound.{climb_here, climb_root}
 use Rattle.pua_policy.proofs.Climbs.{is_dir_above, length-climb_step}
 use Rattle.pua_script.proofs.Renaming.{climb_other}
