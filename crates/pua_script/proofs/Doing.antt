@@ -28,16 +28,9 @@ module _ (t u : Tree) (h : History) (a : Answer) (q : ProcessState) where
   pub as_same : (d e : Effect) → d ≡ e → Does t h e a u q → Does t h d a u q
   as_same d e is does = subst (λ x. Does t h x a u q) (sym is) does
 
-  -- where the promises are held, and where their lack ends the process
-  pub as_yes : (m : May) (e : Effect) → may.Yes ≡ m → Does t h e a u q → Does t h (if_promised m e) a u q
-  as_yes m e is does = subst (λ x. Does t h (if_promised x e) a u q) is does
-
+  -- where the lack of promises ends the process
   pub as_death : (m : May) (e : Effect) → may.Death ≡ m → Does t h Kills a u q → Does t h (if_promised m e) a u q
   as_death m e is does = subst (λ x. Does t h (if_promised x e) a u q) is does
-
-  -- where there is no fault
-  pub as_faultless : (o : Option Errno) (e : Effect) → o ≡ None → Does t h e a u q → Does t h (unless o e) a u q
-  as_faultless o e is does = subst (λ x. Does t h (unless x e) a u q) (sym is) does
 
   -- an effect on the tree alone
   pub as_edit : (e : Effect) → Edits t h e a u → StandsFor q h → Does t h e a u q
@@ -67,10 +60,10 @@ module _ (t u : Tree) (before q : ProcessState) where
   all_acts (Err fault) d e same does = tt
 
 -- an effect on the tree alone, and one that does not ask for the tree
-pub all_edits : (t u : Tree) (q : ProcessState) (r : Result Answer WorldFault) (e : History → Effect)
-    → IfOk r (λ answer. (h : History) → Edits t h (e h) answer u) → IfOk r (λ answer. (h : History) → StandsFor q h → Does t h (e h) answer u q)
-all_edits t u q (Ok answer) e edits = λ h s. as_edit t u h answer q (e h) (edits h) s
-all_edits t u q (Err fault) e edits = tt
+pub all_edits : (t u : Tree) (q : ProcessState) (r : Result Answer WorldFault) (d e : History → Effect) → ((h : History) → StandsFor q h → d h ≡ e h)
+    → IfOk r (λ answer. (h : History) → Edits t h (e h) answer u) → IfOk r (λ answer. (h : History) → StandsFor q h → Does t h (d h) answer u q)
+all_edits t u q (Ok answer) d e same edits = λ h s. as_same t u h answer q (d h) (e h) (same h s) (as_edit t u h answer q (e h) (edits h) s)
+all_edits t u q (Err fault) d e same edits = tt
 
 pub all_at : (t : Tree) (before q : ProcessState) (r : Result Answer WorldFault) (e : Tree → History → Effect)
     → IfOk r (λ answer. (h : History) (t : Tree) → StandsFor before h → Does t h (e t h) answer t q) → IfOk r (λ answer. (h : History) → StandsFor before h → Does t h (e t h) answer t q)

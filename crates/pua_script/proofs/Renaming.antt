@@ -1,18 +1,12 @@
 -- Steps in the proof of a rename.
 use Rattle.std.proofs.Common.{◌≡◌, ◌≢◌, ℕ, true, false, refl, ap, ◌∙◌}
-use Rattle.std.specs.Prelude.{Option, Some, None, Result, Ok, Err, ◌==◌, ◌||◌, IfOk}
+use Rattle.std.specs.Prelude.{Option, Some, None, ◌==◌, ◌||◌}
 use Rattle.std.specs.Option.{option_or}
 use Rattle.std.specs.List.{list_any}
 use Rattle.pua_tree.specs.Tree.{Tree, WellFormed, is_dir, above, climb}
 use Rattle.pua_path.specs.declared.errno.Errno.{Errno}
-use Rattle.pua_policy.specs.History.{History, ProcessState, StandsFor}
 use Rattle.pua_policy.specs.Verdict.{or_fault}
 use Rattle.pua_policy.proofs.Climbs.{climb_step}
-use Rattle.pua_script.specs.declared.answer.Answer.{Answer}
-use Rattle.pua_script.specs.declared.fault.WorldFault.{WorldFault}
-use Rattle.pua_script.specs.Replay.{Effect}
-use Rattle.pua_script.specs.Worlds.{Does, Edits}
-use Rattle.pua_script.proofs.Doing.{as_same, as_edit}
 
 -- the first of two faults
 pub first_fault : (a b : Option Errno) → option_or a b ≡ or_fault a b
@@ -24,9 +18,3 @@ pub climb_other : (t : Tree) → WellFormed t → (d x : ℕ) → d ≢ 0 → is
     list_any (λ e. e == x) (climb t d) ≡ list_any (λ e. e == x) (climb t (above t d))
 climb_other t well d x higher living other =
     ap (list_any (λ e. e == x)) (climb_step t well d higher living) ∙ ap (λ b. b || list_any (λ e. e == x) (climb t (above t d))) other
-
--- what a process does by an edit of an equal effect
-pub does_alike : (t u : Tree) (p : ProcessState) (d e : History → Effect) (r : Result Answer WorldFault) → ((h : History) → StandsFor p h → d h ≡ e h) →
-    IfOk r (λ answer. (h : History) → Edits t h (e h) answer u) → IfOk r (λ answer. (h : History) → StandsFor p h → Does t h (d h) answer u p)
-does_alike t u p d e (Ok answer) alike edits = λ h stands. as_same t u h answer p (d h) (e h) (alike h stands) (as_edit t u h answer p (e h) (edits h) stands)
-does_alike t u p d e (Err fault) alike edits = tt

@@ -1,9 +1,10 @@
 -- One request of the replay, from what the process that asks did.
-use Rattle.std.proofs.Common.{◌≡◌, ◌<◌, ℕ, ◌+◌, take, get_or, add-one, Result, Ok, Err, IfOk, [], ◌∷◌, ◌++◌, ◌||◌, nat_eq, List, length, Bool, true, false, cond, Option, Some, None, is_some, refl, sym, ap, subst, ◌∙◌, true≢false}
+use Rattle.std.proofs.Common.{◌≡◌, ◌<◌, ℕ, ◌+◌, take, get_or, add-one, Result, Ok, Err, IfOk, OnErr, [], ◌∷◌, ◌++◌, ◌||◌, nat_eq, List, length, Bool, true, false, cond, Option, Some, None, is_some, refl, sym, ap, subst, ◌∙◌, true≢false}
 use Rattle.std.proofs.lemmas.Bool.{eqb-true}
 use Rattle.std.proofs.Math.Seq.{take-suc}
 use Rattle.std.specs.Prelude.{nat_le}
-use Rattle.std.specs.Map.{lookup}
+use Rattle.std.specs.Map.{lookup, set_value}
+use Rattle.std.proofs.lemmas.Map.Steps.{set_value_same}
 use Rattle.pua_tree.specs.Tree.{Tree}
 use Rattle.pua_policy.specs.Calls.{standard_table}
 use Rattle.pua_policy.specs.Promises.{proc}
@@ -16,40 +17,21 @@ use Rattle.pua_script.specs.declared.fault.WorldFault.{WorldFault}
 use Rattle.pua_script.specs.declared.answer.Answer.TheVariants.{Okay, Gone}
 use Rattle.pua_script.specs.declared.request.Action.TheVariants.{Fork}
 use Rattle.pua_script.specs.Replay.{World, Effect, Fails, Kills, Leaves, Copies, if_promised, process_limit, history_of, effect, answer_to, left_by, served, world_after}
-use Rattle.pua_script.specs.Worlds.{WorldState, StandsAt, StandsForWorld, process_at, IsServed, AreServed, Does, Acts}
+use Rattle.pua_script.specs.Worlds.{WorldState, StandsAt, StandsForWorld, process_at, IsServed, AreServed, AreServedInPart, Does, Acts}
 use Rattle.pua_script.proofs.Composition.{replay_composes}
 use Rattle.pua_script.proofs.StoodFor.{same_numbers, stands_changed, stands_made}
-
--- a process that was never made, or has ended, is gone
-pub gone_unmade : (s : WorldState) (ask : Asked) → process_at s ask.process ≡ None → IsServed s ask Gone s
-gone_unmade s ask none w stands = by (history_of w ask.process) refl (stands.processes ask.process)
-  where
-    by : (g : Option History) → history_of w ask.process ≡ g → StandsAt (process_at s ask.process) g → (Gone ≡ (served standard_table w ask g).0) × StandsForWorld s (served standard_table w ask g).1
-    by None is at = (refl, stands)
-    by (Some h) is at = absurd (subst (λ o. StandsAt o (Some h)) none at)
-
-pub gone_ended : (s : WorldState) (ask : Asked) (p : ProcessState) → process_at s ask.process ≡ Some p → p.ended ≡ true → IsServed s ask Gone s
-gone_ended s ask p there ended w stands = by (history_of w ask.process) (stands.processes ask.process)
-  where
-    ends : (h : History) (b : Bool) (d : Answer × World) → is_ended h ≡ b → b ≡ true → (Gone ≡ (cond b (Gone, w) d).0) × StandsForWorld s (cond b (Gone, w) d).1
-    ends h true d is e = (refl, stands)
-    ends h false d is e = absurd (true≢false (sym e))
-
-    by : (g : Option History) → StandsAt (process_at s ask.process) g → (Gone ≡ (served standard_table w ask g).0) × StandsForWorld s (served standard_table w ask g).1
-    by None at = absurd (subst (λ o. StandsAt o None) there at)
-    by (Some h) at = let own : StandsFor p h = subst (λ o. StandsAt o (Some h)) there at in ends h (is_ended h) _ refl (sym own.ended ∙ ended)
 
 -- what a process did is its request of the replay
 module _ (s : WorldState) (ask : Asked) (answer : Answer) (t : Tree) (p q : ProcessState) (more : List (ℕ × ProcessState))
     (there : process_at s ask.process ≡ Some p) (living : p.ended ≡ false)
     (changed : (n : ℕ) → lookup (nat_eq n) more ≡ cond (nat_eq ask.process n) (Some q) (process_at s n)) (counted : length more ≡ length s.processes)
     (acts : (w : World) (h : History) → StandsForWorld s w → StandsFor p h → Does s.tree h (effect standard_table w h ask.action) answer t q) where
-  abbrev pub after : WorldState
-  after = record { tree = t; processes = more }
+  abbrev pub left_world : WorldState
+  left_world = record { tree = t; processes = more }
 
   module _ (w : World) (stands : StandsForWorld s w) (h : History) (known : history_of w ask.process ≡ Some h) where
     -- the caller's history stays as it was
-    stays : (tree : Tree) → t ≡ tree → StandsFor q h → StandsForWorld after (record { tree = tree; histories = w.histories })
+    stays : (tree : Tree) → t ≡ tree → StandsFor q h → StandsForWorld left_world (record { tree = tree; histories = w.histories })
     stays tree is new = record {
       tree = is;
       processes = λ n. subst (λ o. StandsAt o (history_of w n)) (sym (changed n)) (at n (nat_eq ask.process n) refl);
@@ -61,7 +43,7 @@ module _ (s : WorldState) (ask : Asked) (answer : Answer) (t : Tree) (p q : Proc
         at n true e = subst (λ k. StandsAt (Some q) (history_of w k)) (eqb-true ask.process n e) (subst (StandsAt (Some q)) (sym known) new)
         at n false e = stands.processes n
 
-    left : (e : Effect) → Does s.tree h e answer t q → (answer ≡ answer_to e) × StandsForWorld after (left_by w ask.process h e)
+    left : (e : Effect) → Does s.tree h e answer t q → (answer ≡ answer_to e) × StandsForWorld left_world (left_by w ask.process h e)
     left (Fails errno) does = (does.told, stays w.tree (does.left ∙ stands.tree) does.stands)
     left Kills does = (
       does.told,
@@ -75,14 +57,14 @@ module _ (s : WorldState) (ask : Asked) (answer : Answer) (t : Tree) (p q : Proc
     )
     left (Copies new) does = absurd (true≢false does.alone)
 
-  pub serves : IsServed s ask answer after
+  pub serves : IsServed s ask answer left_world
   serves w stands = by (history_of w ask.process) refl (stands.processes ask.process)
     where
-      lives : (h : History) (b : Bool) (d : Answer × World) → b ≡ false → (answer ≡ d.0) × StandsForWorld after d.1 → (answer ≡ (cond b (Gone, w) d).0) × StandsForWorld after (cond b (Gone, w) d).1
+      lives : (h : History) (b : Bool) (d : Answer × World) → b ≡ false → (answer ≡ d.0) × StandsForWorld left_world d.1 → (answer ≡ (cond b (Gone, w) d).0) × StandsForWorld left_world (cond b (Gone, w) d).1
       lives h true d e done = absurd (true≢false e)
       lives h false d e done = done
 
-      by : (g : Option History) → history_of w ask.process ≡ g → StandsAt (process_at s ask.process) g → (answer ≡ (served standard_table w ask g).0) × StandsForWorld after (served standard_table w ask g).1
+      by : (g : Option History) → history_of w ask.process ≡ g → StandsAt (process_at s ask.process) g → (answer ≡ (served standard_table w ask g).0) × StandsForWorld left_world (served standard_table w ask g).1
       by None known at = absurd (subst (λ o. StandsAt o None) there at)
       by (Some h) known at =
           let own : StandsFor p h = subst (λ o. StandsAt o (Some h)) there at in
@@ -98,29 +80,20 @@ unset true c is = is
 unset false c is = refl
 
 -- a process that may fork, and the processes with its copy
-module _ (s : WorldState) (number new : ℕ) (p q copy : ProcessState) (mid more : List (ℕ × ProcessState)) (old : Option ProcessState)
+module _ (s : WorldState) (number new : ℕ) (p copy : ProcessState) (mid more : List (ℕ × ProcessState)) (old : Option ProcessState)
     (there : process_at s number ≡ Some p) (living : p.ended ≡ false)
     (promised : (h : History) → StandsFor p h → may_any h (proc ∷ []) ≡ may.Yes)
     (free : (is_some (process_at s new) || nat_le process_limit (length s.processes)) ≡ false)
-    (kept : q ≡ p) (copied : copy ≡ q)
-    (wrote : (n : ℕ) → lookup (nat_eq n) mid ≡ cond (nat_eq number n) (Some q) (process_at s n)) (as_many : length mid ≡ length s.processes)
-    (puts : (n : ℕ) → lookup (nat_eq n) more ≡ cond (nat_eq new n) (Some copy) (lookup (nat_eq n) mid))
+    (copied : copy ≡ p) (same : mid ≡ s.processes) (puts : (n : ℕ) → lookup (nat_eq n) more ≡ cond (nat_eq new n) (Some copy) (lookup (nat_eq n) mid))
     (was : old ≡ lookup (nat_eq new) mid) (counted : length more ≡ length mid + cond (is_some old) 0 1) where
-  same_at : (n : ℕ) (b : Bool) → nat_eq number n ≡ b → cond b (Some q) (process_at s n) ≡ process_at s n
-  same_at n true e = ap Some kept ∙ sym there ∙ ap (process_at s) (eqb-true number n e)
-  same_at n false e = refl
-
-  same_mid : (n : ℕ) → lookup (nat_eq n) mid ≡ process_at s n
-  same_mid n = wrote n ∙ same_at n (nat_eq number n) refl
-
   copied_at : (n : ℕ) → lookup (nat_eq n) more ≡ cond (nat_eq new n) (Some p) (process_at s n)
-  copied_at n = puts n ∙ (λ i. cond (nat_eq new n) (Some ((copied ∙ kept) i)) (same_mid n i))
+  copied_at n = puts n ∙ (λ i. cond (nat_eq new n) (Some (copied i)) (lookup (nat_eq n) (same i)))
 
   is_new : is_some (process_at s new) ≡ false
   is_new = unset _ _ free
 
   one_more : length more ≡ length s.processes + 1
-  one_more = counted ∙ (λ i. as_many i + cond ((ap is_some (was ∙ same_mid new) ∙ is_new) i) 0 1)
+  one_more = counted ∙ (λ i. length (same i) + cond ((ap is_some (was ∙ ap (lookup (nat_eq new)) same) ∙ is_new) i) 0 1)
 
   pub forks : IsServed s (record { process = number; action = Fork new }) Okay (record { tree = s.tree; processes = more })
   forks w stands = by (history_of w number) (stands.processes number)
@@ -160,6 +133,14 @@ served_next before mid after asks i told more ask answer within is pushed first 
     subst (λ xs. AreServed before xs more after) (sym taken)
     (subst (λ ys. AreServed before (take i asks ++ ask ∷ []) ys after) (sym pushed) (served_more before mid after (take i asks) told ask answer first next))
 
+-- some first ones, where the next was not served
+pub served_before : (before mid after : WorldState) (asks own : List Asked) (i : ℕ) (told : List Answer) → own ≡ asks → after ≡ mid → AreServed before (take i own) told mid → AreServedInPart before asks after
+served_before before mid after asks own i told is same first = (
+  i,
+  λ w stands. subst (λ x. StandsForWorld x (world_after standard_table w (take i asks))) (sym same)
+      (subst (λ xs. StandsForWorld mid (world_after standard_table w (take i xs))) is (first w stands).1),
+)
+
 -- where a growth may have been refused
 pub all_serve : (s : WorldState) (ask : Asked) (r : Result Answer WorldFault) (t : Tree) (p q : ProcessState) (more : List (ℕ × ProcessState)) → Some p ≡ process_at s ask.process → p.ended ≡ false
     → ((n : ℕ) → lookup (nat_eq n) more ≡ cond (nat_eq ask.process n) (Some q) (process_at s n)) → length more ≡ length s.processes
@@ -167,9 +148,29 @@ pub all_serve : (s : WorldState) (ask : Asked) (r : Result Answer WorldFault) (t
 all_serve s ask (Ok answer) t p q more there living changed counted acts = serves s ask answer t p q more (sym there) living changed counted (λ w h stands own. acts w h (sym stands.tree) own)
 all_serve s ask (Err fault) t p q more there living changed counted acts = tt
 
-pub all_fork : (r : Result Answer WorldFault) (s : WorldState) (t : Tree) (earlier later : List (ℕ × ProcessState)) (ask asked : Asked) → record { tree = t; processes = earlier } ≡ s → ask ≡ asked
-    → IfOk r (λ answer. (t : Tree) → IsServed (record { tree = t; processes = earlier }) ask answer (record { tree = t; processes = later }))
-    → IfOk r (λ answer. IsServed s asked answer (record { tree = t; processes = later }))
-all_fork (Ok answer) s t earlier later ask asked is same served = subst (λ s. IsServed s asked answer (record { tree = t; processes = later })) is
-    (subst (λ a. IsServed (record { tree = t; processes = earlier }) a answer (record { tree = t; processes = later })) same (served t))
-all_fork (Err fault) s t earlier later ask asked is same served = tt
+pub all_fork : (r : Result Answer WorldFault) (s : WorldState) (t : Tree) (before after : List (ℕ × ProcessState)) (ask asked : Asked) → record { tree = t; processes = before } ≡ s → ask ≡ asked
+    → IfOk r (λ answer. (t : Tree) → IsServed (record { tree = t; processes = before }) ask answer (record { tree = t; processes = after }))
+    → IfOk r (λ answer. IsServed s asked answer (record { tree = t; processes = after }))
+all_fork (Ok answer) s t before after ask asked is same served = subst (λ s. IsServed s asked answer (record { tree = t; processes = after })) is
+    (subst (λ a. IsServed (record { tree = t; processes = before }) a answer (record { tree = t; processes = after })) same (served t))
+all_fork (Err fault) s t before after ask asked is same served = tt
+
+-- a process written back as it was
+pub same_entries : (n : ℕ) (p q : ProcessState) (entries more : List (ℕ × ProcessState)) → Some p ≡ lookup (nat_eq n) entries → more ≡ set_value (nat_eq n) entries q → q ≡ p → more ≡ entries
+same_entries n p q entries more there wrote same = wrote ∙ set_value_same (nat_eq n) entries q (sym there ∙ ap Some (sym same))
+
+-- where a growth was refused, nothing changed
+pub all_kept : (r : Result Answer WorldFault) (t u : Tree) (n : ℕ) (p q : ProcessState) (entries more : List (ℕ × ProcessState)) → Some p ≡ lookup (nat_eq n) entries → more ≡ set_value (nat_eq n) entries q
+    → OnErr r ((u ≡ t) × (q ≡ p)) → OnErr r ((u ≡ t) × (more ≡ entries))
+all_kept (Ok answer) t u n p q entries more there wrote same = tt
+all_kept (Err fault) t u n p q entries more there wrote same = (same.0, same_entries n p q entries more there wrote same.1)
+
+pub world_kept : (r : Result Answer WorldFault) (t u : Tree) (entries more : List (ℕ × ProcessState)) (s : WorldState) → record { tree = t; processes = entries } ≡ s
+    → OnErr r ((u ≡ t) × (more ≡ entries)) → OnErr r (record { tree = u; processes = more } ≡ s)
+world_kept (Ok answer) t u entries more s is same = tt
+world_kept (Err fault) t u entries more s is same = (λ i. record { tree = same.0 i; processes = same.1 i }) ∙ is
+
+pub processes_kept : (r : Result Answer WorldFault) (t : Tree) (entries more : List (ℕ × ProcessState)) (s : WorldState) → record { tree = t; processes = entries } ≡ s
+    → OnErr r (more ≡ entries) → OnErr r (record { tree = t; processes = more } ≡ s)
+processes_kept (Ok answer) t entries more s is same = tt
+processes_kept (Err fault) t entries more s is same = ap (λ es. record { tree = t; processes = es }) same ∙ is

@@ -1,6 +1,6 @@
 //! What a living process's request does, where it makes no process.
 
-ghost use Rattle.std.specs.Prelude.{◌≡◌, IfOk, IsFalse, false};
+ghost use Rattle.std.specs.Prelude.{◌≡◌, IfOk, OnErr, IsFalse, false};
 ghost use Rattle.pua_script.specs.Worlds.{Acts, is_fork};
 
 use crate::answer::Answer;
@@ -19,7 +19,8 @@ pub(crate) fn act<T: FileTree>(
 ) -> Result<Answer, WorldFault>
     requires living { process.old.ended ≡ false }
     requires other { IsFalse (is_fork action.now) }
-    ensures { IfOk result (λ answer. Acts (T.content tree.old) process.old action.now answer (T.content tree.new) process.new) }
+    ensures exact { IfOk result (λ answer. Acts (T.content tree.old) process.old action.now answer (T.content tree.new) process.new) }
+    ensures unchanged { OnErr result ((T.content tree.new ≡ T.content tree.old) × (process.new ≡ process.old)) }
 {
     match action {
         Action::OnPath(call, path) => on_path(tree, process, *call, path.bytes()),

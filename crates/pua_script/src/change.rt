@@ -1,6 +1,6 @@
 //! What allowed calls change.
 
-ghost use Rattle.std.specs.Prelude.{◌≡◌, IfOk, IsTrue, false, option_copied};
+ghost use Rattle.std.specs.Prelude.{◌≡◌, IfOk, OnErr, IsTrue, false, option_copied};
 ghost use Rattle.pua_tree.specs.Tree.{Tree, target_fits};
 ghost use Rattle.pua_tree.specs.Edits.{cut};
 ghost use Rattle.pua_policy.specs.History.{History, StandsFor};
@@ -21,8 +21,9 @@ pub(crate) fn add<T: FileTree>(
     target: Option<&[u8]>,
 ) -> Result<Answer, WorldFault>
     requires { IsTrue (target_fits kind (option_copied target)) }
-    ensures { IfOk result (λ answer. (h : History) →
+    ensures exact { IfOk result (λ answer. (h : History) →
         Edits (T.content tree.old) h (added (T.content tree.old) h (record { kind = kind; target = option_copied target.entry }) found.now) answer (T.content tree.new)) }
+    ensures unchanged { OnErr result (T.content tree.new ≡ T.content tree.old) }
 {
     match *found {
         Found::Slot {
@@ -84,8 +85,9 @@ pub(crate) fn change<T: FileTree>(
     found: &Found,
 ) -> Result<Answer, WorldFault>
     requires { process.old.ended ≡ false }
-    ensures { IfOk result (λ answer. (h : History) → StandsFor process.old h →
+    ensures exact { IfOk result (λ answer. (h : History) → StandsFor process.old h →
         Does (T.content tree.old) h (change (T.content tree.old) h call found.now) answer (T.content tree.new) process.new) }
+    ensures unchanged { OnErr result ((T.content tree.new ≡ T.content tree.old) × (process.new ≡ process.old)) }
 {
     match call {
         Call::Create => add(tree, found, Kind::File, None),

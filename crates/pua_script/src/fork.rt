@@ -1,6 +1,6 @@
 //! How a process makes another one.
 
-ghost use Rattle.std.specs.Prelude.{◌≡◌, ◌∷◌, [], ◌||◌, ℕ, IfOk, IfSome, None, false, if◌then◌else◌, is_some, length, nat_eq, nat_le};
+ghost use Rattle.std.specs.Prelude.{◌≡◌, ◌∷◌, [], ◌||◌, ℕ, IfOk, OnErr, IfSome, None, false, if◌then◌else◌, is_some, length, nat_eq, nat_le};
 ghost use Rattle.std.specs.Map.{lookup};
 ghost use Rattle.pua_tree.specs.Tree.{Tree};
 ghost use Rattle.pua_policy.specs.History.{History, StandsFor, may_any};
@@ -30,8 +30,9 @@ pub(crate) fn fork(
     number: u32,
     new: u32,
 ) -> Result<Answer, WorldFault>
-    ensures { IfOk result (λ answer. (t : Tree) → IsServed (record { tree = t; processes = processes.old.entries })
+    ensures served { IfOk result (λ answer. (t : Tree) → IsServed (record { tree = t; processes = processes.old.entries })
         (record { process = number; action = actions.Fork new }) answer (record { tree = t; processes = processes.new.entries })) }
+    ensures unchanged { OnErr result (processes.new.entries ≡ processes.old.entries) }
 {
     let is_refused = is_refused(processes, new);
     let Some(process) = processes.get_mut(&number) else {

@@ -1,6 +1,6 @@
 //! A rename: what its two paths name, what is wrong with them, and the row that moves.
 
-ghost use Rattle.std.specs.Prelude.{◌≡◌, ◌∷◌, [], ℕ, ◌==◌, Some, IfOk, IsOk, IsTrue, false};
+ghost use Rattle.std.specs.Prelude.{◌≡◌, ◌∷◌, [], ℕ, ◌==◌, Some, IfOk, OnErr, IsOk, IsTrue, false};
 ghost use Rattle.std.specs.List.{list_any};
 ghost use Rattle.pua_tree.specs.Tree.{Spot, is_dir, climb};
 ghost use Rattle.pua_tree.specs.Edits.{shift, is_same_node};
@@ -19,6 +19,7 @@ ghost use Rattle.pua_script.specs.Worlds.{Does, Edits};
 use crate::answer::Answer;
 use crate::fault::WorldFault;
 use crate::look::named;
+use crate::serve::kill;
 use pua_path::{Counted, Ending, Errno, Found, Last, Probe, Way};
 use pua_policy::judge::cover_fault;
 use pua_policy::{May, Perms, Process, Promises};
@@ -40,17 +41,15 @@ pub(crate) fn rename<T: FileTree>(
     new: &[u8],
 ) -> Result<Answer, WorldFault>
     requires { process.old.ended ≡ false }
-    ensures { IfOk result (λ answer. (h : History) → StandsFor process.old h →
+    ensures exact { IfOk result (λ answer. (h : History) → StandsFor process.old h →
         Does (T.content tree.old) h (on_two_paths (T.content tree.old) h ending.Dropped old.now new.now
         (λ a b. rename_found (T.content tree.old) h a b (node_named a))) answer (T.content tree.new) process.new) }
+    ensures unchanged { OnErr result ((T.content tree.new ≡ T.content tree.old) × (process.new ≡ process.old)) }
 {
     match process.may(Promises::CPATH) {
         May::Yes => {}
         May::Enosys => return Ok(Answer::Failed(Errno::ENOSYS)),
-        May::Death => {
-            process.end();
-            return Ok(Answer::Killed);
-        }
+        May::Death => return Ok(kill(process)),
     }
     match pair_named(tree, process, old, new) {
         Ok(pair) => rename_found(tree, &pair.from, &pair.to),
@@ -112,8 +111,9 @@ fn covers_fault<'t, P: Probe<'t>>(
 fn rename_found<T: FileTree>(tree: &mut T, from: &Found, to: &Found) -> Result<Answer, WorldFault>
     requires from { NameFits (T.content tree.old) from.now }
     requires to { NameFits (T.content tree.old) to.now }
-    ensures { IfOk result (λ answer. (h : History) →
+    ensures exact { IfOk result (λ answer. (h : History) →
         Edits (T.content tree.old) h (rename_found (T.content tree.old) h from.now to.now (node_named from.now)) answer (T.content tree.new)) }
+    ensures unchanged { OnErr result (T.content tree.new ≡ T.content tree.old) }
 {
     let Some(node) = node_named(from) else {
         return Ok(Answer::Failed(Errno::ENOENT));
@@ -275,8 +275,9 @@ fn kinds_fault<T: FileTree>(tree: &T, from: &Found, to: &Found) -> Option<Errno>
 fn shift<T: FileTree>(tree: &mut T, from: &Found, to: &Found) -> Result<Answer, WorldFault>
     requires { (from_spot : Spot) (to_spot : Spot) → spot_named from.now ≡ Some from_spot → spot_named to.now ≡ Some to_spot →
         IsOk (shift (T.content tree.old) from_spot.0 from_spot.1 to_spot.0 to_spot.1) }
-    ensures { IfOk result (λ answer. (h : History) →
+    ensures exact { IfOk result (λ answer. (h : History) →
         Edits (T.content tree.old) h (shifted (T.content tree.old) h (spot_named from.now) (spot_named to.now)) answer (T.content tree.new)) }
+    ensures unchanged { OnErr result (T.content tree.new ≡ T.content tree.old) }
 {
     let Some((dir, name)) = spot_named(from) else {
         return Ok(Answer::Okay);

@@ -1,6 +1,6 @@
 //! What each kind of request does.
 
-ghost use Rattle.std.specs.Prelude.{◌≡◌, ◌∷◌, [], IfOk, false};
+ghost use Rattle.std.specs.Prelude.{◌≡◌, ◌∷◌, [], IfOk, OnErr, false};
 ghost use Rattle.pua_tree.specs.Tree.{Tree};
 ghost use Rattle.pua_policy.specs.Calls.{standard_table};
 ghost use Rattle.pua_policy.specs.History.{History, StandsFor, Unveiled, Locked, Ended, may_any, unveil_fault};
@@ -35,8 +35,9 @@ pub(crate) fn on_path<T: FileTree>(
     path: &[u8],
 ) -> Result<Answer, WorldFault>
     requires { process.old.ended ≡ false }
-    ensures { IfOk result (λ answer. (h : History) → StandsFor process.old h →
+    ensures exact { IfOk result (λ answer. (h : History) → StandsFor process.old h →
         Does (T.content tree.old) h (path_call standard_table (T.content tree.old) h call path.now) answer (T.content tree.new) process.new) }
+    ensures unchanged { OnErr result ((T.content tree.new ≡ T.content tree.old) × (process.new ≡ process.old)) }
 {
     match judge_call(tree, process, call, path) {
         Judged::Allowed(found) => change(tree, process, call, &found),
@@ -52,8 +53,9 @@ pub(crate) fn symlink<T: FileTree>(
     target: &[u8],
     path: &[u8],
 ) -> Result<Answer, WorldFault>
-    ensures { IfOk result (λ answer. (h : History) → StandsFor process.old h →
+    ensures exact { IfOk result (λ answer. (h : History) → StandsFor process.old h →
         Does (T.content tree.old) h (symlink_effect standard_table (T.content tree.old) h target.now path.now) answer (T.content tree.new) process.new) }
+    ensures unchanged { OnErr result ((T.content tree.new ≡ T.content tree.old) × (process.new ≡ process.old)) }
 {
     match process.may(need(Call::Symlink).promises) {
         May::Yes => {}
@@ -105,8 +107,9 @@ pub(crate) fn unveil<T: FileTree>(
     path: &[u8],
     perms: Option<Perms>,
 ) -> Result<Answer, WorldFault>
-    ensures { IfOk result (λ answer. (h : History) → StandsFor process.old h →
+    ensures exact { IfOk result (λ answer. (h : History) → StandsFor process.old h →
         Does (T.content tree.now) h (unveil_request (T.content tree.now) h path.now perms) answer (T.content tree.now) process.new) }
+    ensures unchanged { OnErr result (process.new ≡ process.old) }
 {
     match process.may(Promises::UNVEIL) {
         May::Yes => {}
@@ -137,8 +140,9 @@ fn place_of(found: Found) -> Place
 
 /// Puts a veil on a place.
 fn put_veil(process: &mut Process, place: Place, perms: Perms) -> Result<Answer, WorldFault>
-    ensures { IfOk result (λ answer. (h : History) (t : Tree) → StandsFor process.old h →
+    ensures exact { IfOk result (λ answer. (h : History) (t : Tree) → StandsFor process.old h →
         Does t h (unless (unveil_errno (unveil_fault h place perms)) (Leaves t (Unveiled place perms ∷ h))) answer t process.new) }
+    ensures unchanged { OnErr result (process.new ≡ process.old) }
 {
     match process.unveil_at(place, perms) {
         Ok(()) => Ok(Answer::Okay),

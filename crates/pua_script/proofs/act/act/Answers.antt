@@ -6,17 +6,17 @@ use Rattle.pua_script.specs.Replay.{Leaves, effect, symlink_effect, on_two_paths
 use Rattle.pua_script.proofs.Doing.{all_acts, as_same}
 use Rattle.pua_script.proofs.act.act.Goals as goal
 
-pub returns-in-Symlink : goal.returns-in-Symlink
-returns-in-Symlink g c = all_acts _ _ _ _ c.symlink.result _ _ (λ w h trees.
+pub returns-in-Symlink-clause-exact : goal.returns-in-Symlink-clause-exact
+returns-in-Symlink-clause-exact g c = all_acts (g.T.FileTree.content c.args.tree.now) (g.T.FileTree.content c.symlink.new.tree) c.args.process.now c.symlink.new.process c.symlink.result _ _ (λ w h trees.
     ap (effect standard_table w h) c.in-Symlink.is
-    ∙ (λ i. symlink_effect standard_table (trees i) h (sym c.bytes-in-Symlink.ensures i) (sym c.bytes-in-Symlink-2.ensures i))) c.symlink.ensures
+    ∙ (λ i. symlink_effect standard_table (trees i) h (sym c.bytes-in-Symlink.ensures i) (sym c.bytes-in-Symlink-2.ensures i))) c.symlink.ensures.exact
 
-pub returns-in-Rename : goal.returns-in-Rename
-returns-in-Rename g c = all_acts _ _ _ _ c.rename.result _ _ (λ w h trees.
+pub returns-in-Rename-clause-exact : goal.returns-in-Rename-clause-exact
+returns-in-Rename-clause-exact g c = all_acts (g.T.FileTree.content c.args.tree.now) (g.T.FileTree.content c.rename.new.tree) c.args.process.now c.rename.new.process c.rename.result _ _ (λ w h trees.
     ap (effect standard_table w h) c.in-Rename.is
-    ∙ (λ i. on_two_paths (trees i) h ending.Dropped (sym c.bytes-in-Rename.ensures i) (sym c.bytes-in-Rename-2.ensures i) (λ a b. rename_found (trees i) h a b (node_named a)))) c.rename.ensures
+    ∙ (λ i. on_two_paths (trees i) h ending.Dropped (sym c.bytes-in-Rename.ensures i) (sym c.bytes-in-Rename-2.ensures i) (λ a b. rename_found (trees i) h a b (node_named a)))) c.rename.ensures.exact
 
-pub returns-in-Exit : goal.returns-in-Exit
-returns-in-Exit g c = λ w h trees s. as_same _ _ h _ _ _ _
+pub returns-in-Exit-clause-exact : goal.returns-in-Exit-clause-exact
+returns-in-Exit-clause-exact g c = λ w h trees s. as_same _ _ h _ _ _ _
     (ap (effect standard_table w h) c.in-Exit.is ∙ ap (λ t. Leaves t (Ended ∷ h)) trees)
     (c.exit.ensures h _ s)

@@ -1,15 +1,12 @@
 use Rattle.std.proofs.Common.{sym}
-use Rattle.pua_path.specs.declared.text.Ending.TheVariants.{Dropped}
-use Rattle.pua_script.specs.Replay.{on_two_paths, rename_found, node_named}
-use Rattle.pua_script.proofs.Renaming.{does_alike}
+use Rattle.pua_script.specs.Replay.{rename_found, node_named}
+use Rattle.pua_script.proofs.Doing.{all_edits, as_death}
 use Rattle.pua_script.proofs.rename.rename.Goals as goal
 
-pub returns-in-Ok : goal.returns-in-Ok
-returns-in-Ok g c =
+pub returns-in-Death-clause-exact : goal.returns-in-Death-clause-exact
+returns-in-Death-clause-exact g c = λ h s. as_death _ _ h _ _ _ _ (c.in-Death.ensures h s) (c.kill.ensures h _ s)
+
+pub returns-in-Ok-clause-exact : goal.returns-in-Ok-clause-exact
+returns-in-Ok-clause-exact g c =
     let t = g.T.FileTree.content c.args.tree.now in
-    does_alike t (g.T.FileTree.content c.rename_found.new.tree) c.args.process.now
-    (λ h. on_two_paths t h Dropped c.args.old.now c.args.new.now (λ a b. rename_found t h a b (node_named a)))
-    (λ h. rename_found t h c.in-Ok.pair.from c.in-Ok.pair.to (node_named c.in-Ok.pair.from))
-    c.rename_found.result
-    (λ h stands. c.in-Ok.ensures.exact h stands (sym (c.in-Yes.ensures h stands)) (λ a b. rename_found t h a b (node_named a)))
-    c.rename_found.ensures
+    all_edits t (g.T.FileTree.content c.rename_found.new.tree) c.args.process.now c.rename_found.result _ _ (λ h s. c.in-Ok.ensures.exact h s (sym (c.in-Yes.ensures h s)) (λ a b. rename_found t h a b (node_named a))) c.rename_found.ensures.exact
