@@ -172,6 +172,7 @@ fn is_whole(found: &Found) -> bool
 
 /// What is wrong with the way in which they were named: `.` or `..` on either side, then the root on
 /// either side.
+#[tactic(auto, using(crate::proofs::Renaming::first_fault))]
 fn names_fault(from: &Found, to: &Found) -> Option<Errno>
     ensures { result ≡ or_fault (dots_fault from.now) (or_fault (dots_fault to.now) (or_fault (top_fault from.now) (top_fault to.now))) }
 {
