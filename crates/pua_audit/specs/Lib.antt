@@ -5,3 +5,4 @@ pub mod Trail
 pub mod Laws
 pub mod Examples
 pub mod Seen
+pub mod Ready

@@ -7,7 +7,10 @@ mod fault;
 mod frame;
 mod laws;
 mod line;
+mod place;
 mod state;
+mod terms;
+mod walk;
 
 pub use base::Base;
 pub use fault::AuditFault;
