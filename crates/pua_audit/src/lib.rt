@@ -7,6 +7,8 @@ mod fault;
 mod frame;
 mod laws;
 mod line;
+mod named;
+mod path;
 mod place;
 mod state;
 mod terms;

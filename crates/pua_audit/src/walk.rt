@@ -1,14 +1,15 @@
 //! The walk through the words over an alphabet.
 
-ghost use Rattle.std.specs.Prelude.{◌≡◌, ◌≤◌, ◌<◌, ◌+◌, ◌++◌, ◌∷◌, [], length, IsTrue, false, true, MatchOption};
+ghost use Rattle.std.specs.Prelude.{◌≡◌, ◌≤◌, ◌<◌, ◌+◌, ◌-◌, ◌++◌, ◌∷◌, [], length, take, None, IsTrue, false, true, MatchOption};
 ghost use Rattle.pua_audit.specs.Trail.{lines_of};
 ghost use Rattle.pua_audit.specs.declared.place.Place.TheVariants as places;
-ghost use Rattle.pua_audit.specs.Ready.{IsReady, IsBetween, HasRoom, trail, left_in, left_over, waiting, IsEntered};
+ghost use Rattle.pua_audit.specs.Ready.{IsReady, IsBetween, IsSpelled, HasRoom, trail, left_in, left_over, waiting, IsEntered, IsNextCall};
 
 use pua_path::Probe;
 use pua_policy::Call;
 
 use crate::frame::Frame;
+use crate::path::{add_letter, drop_letter};
 use crate::place::Place;
 use crate::state::State;
 use crate::terms::Terms;
@@ -24,6 +25,7 @@ pub struct Walk {
     pub frames: Vec<Frame>,
     pub calls: Vec<Call>,
     pub given: usize,
+    pub path: Vec<u8>,
 }
 
 impl Walk {
@@ -70,19 +72,21 @@ impl Walk {
                 self.enter(frame.state, frame.next);
                 return true;
             }
-            let _ = self.word.pop();
+            self.leave();
         }
         self.done = true;
         false
     }
 
     /// Goes from a state to the word with one letter more.
-    fn enter(&mut self, state: State, letter: usize)
+    pub fn enter(&mut self, state: State, letter: usize)
         requires room { HasRoom self.old }
+        requires spelled { IsSpelled self.old.terms self.old.word.items self.old.path.items }
         requires frames { length self.old.frames.items < self.old.terms.limit }
         requires words { length self.old.word.items < self.old.terms.limit }
         requires letter { letter < length self.old.terms.letters.items }
         ensures room { HasRoom self.new }
+        ensures spelled { IsSpelled self.new.terms self.new.word.items self.new.path.items }
         ensures kept { (self.new.terms ≡ self.old.terms) × (self.new.done ≡ self.old.done) × (self.new.calls ≡ self.old.calls) × (self.new.given ≡ self.old.given) }
         ensures frames { self.new.frames.items ≡ self.old.frames.items ++ record { state = state; next = letter + 1 } ∷ [] }
         ensures word { self.new.word.items ≡ self.old.word.items ++ letter ∷ [] }
@@ -96,10 +100,25 @@ impl Walk {
             })
             .unwrap();
         self.word.push(letter).unwrap();
+        add_letter(&mut self.path, &self.terms.letters[letter]);
         self.place = Place::Below {
             state: State { dir, used },
             letter,
         };
+    }
+
+    /// Goes back to the word with one letter less, if it has one.
+    fn leave(&mut self)
+        requires room { HasRoom self.old }
+        requires spelled { IsSpelled self.old.terms self.old.word.items self.old.path.items }
+        ensures room { HasRoom self.new }
+        ensures spelled { IsSpelled self.new.terms self.new.word.items self.new.path.items }
+        ensures kept { (self.new.terms ≡ self.old.terms) × (self.new.done ≡ self.old.done) × (self.new.calls ≡ self.old.calls) × (self.new.given ≡ self.old.given) × (self.new.frames ≡ self.old.frames) }
+        ensures word { self.new.word.items ≡ take (length self.old.word.items - 1) self.old.word.items }
+    {
+        if let Some(letter) = self.word.pop() {
+            drop_letter(&mut self.path, &self.terms.letters[letter]);
+        }
     }
 
     /// Goes on to the next word, if there is one.
@@ -121,7 +140,43 @@ impl Walk {
             self.frames.push(Frame { state, next: 0 }).unwrap();
             return self.turn();
         }
-        let _ = self.word.pop();
+        self.leave();
         self.turn()
+    }
+    /// Decides the calls of the word.
+    fn decide<'t, P: Probe<'t>>(&mut self, probe: &mut P)
+        requires tree { P.tree probe.old ≡ self.old.terms.seen.scope.tree }
+        requires ready { IsReady self.old }
+        requires going { self.old.done ≡ false }
+        ensures ready { IsReady self.new }
+        ensures terms { self.new.terms ≡ self.old.terms }
+        ensures trail { waiting self.old ≡ None ∷ trail self.new }
+        ensures tree { P.tree probe.new ≡ P.tree probe.old }
+    {
+        self.terms.decide(probe, &self.place, &mut self.calls);
+        self.given = 0;
+    }
+
+    /// The call of the next line: its word is the walk's. None where there is none.
+    pub fn next_call<'t, P: Probe<'t>>(&mut self, probe: &mut P) -> Option<Call>
+        requires tree { P.tree probe.old ≡ self.old.terms.seen.scope.tree }
+        requires ready { IsReady self.old }
+        ensures ready { IsReady self.new }
+        ensures terms { self.new.terms ≡ self.old.terms }
+        ensures next { IsNextCall self.old result self.new }
+        ensures tree { P.tree probe.new ≡ P.tree probe.old }
+    {
+        'words: loop {
+            if let Some(call) = self.take_call() {
+                return Some(call);
+            }
+            if self.done {
+                return None;
+            }
+            if !self.advance(probe) {
+                return None;
+            }
+            self.decide(probe);
+        }
     }
 }
