@@ -79,3 +79,11 @@ pub dropped : (path front letter : List ℕ) (n : ℕ) → path ≡ front ++ 47 
 dropped path front letter n split h =
     let many : length front ≡ n = omega (arith, ap length split, length-append front (47 ∷ letter)) in
     ap (take n) split ∙ take_at front (47 ∷ letter) n many
+
+-- no letter, and no byte
+pub spelled_none : (a : Terms) (word path : List ℕ) → word ≡ [] → path ≡ [] → IsSpelled a word path
+unfolding word_of
+spelled_none a word path none empty = record {
+  known = subst (λ v. AllByRecursion (λ i. i < length a.letters.items) v) (sym none) tt;
+  path = empty ∙ ap (λ v. from_root (word_of (letters_of a) v)) (sym none)
+}

@@ -6,3 +6,5 @@ pub mod Laws
 pub mod Examples
 pub mod Seen
 pub mod Ready
+pub mod AuditState
+pub mod Lent

@@ -14,7 +14,7 @@ use Rattle.pua_path.specs.declared.found.Found.TheVariants.{Whole}
 use Rattle.pua_policy.specs.Calls.{standard_table, last_of}
 use Rattle.pua_policy.specs.History.{StandsFor}
 use Rattle.pua_policy.specs.declared.call.Call.{Call}
-use Rattle.pua_audit.specs.Reach.{Word, from_root}
+use Rattle.pua_audit.specs.Reach.{Word, Scope, from_root}
 use Rattle.pua_audit.specs.Begin.{longest}
 use Rattle.pua_audit.specs.declared.base.Base.{Base}
 use Rattle.pua_audit.specs.declared.base.Base.TheVariants.{Root, Cwd}
@@ -38,6 +38,10 @@ letters_of a = map part_bytes a.letters.items
 
 abbrev pub world_in : Terms → World
 world_in a = world_of a.seen.scope.tree standard_table a.base a.seen.scope.history
+
+-- what is audited
+abbrev pub scope_in : Terms → Scope
+scope_in a = record { tree = a.seen.scope.tree; table = standard_table; history = a.seen.scope.history; base = a.base; alphabet = letters_of a; limit = a.limit }
 
 -- the letters at some places of the alphabet
 unfoldable pub word_of : List (List ℕ) → List ℕ → Word

@@ -1,6 +1,7 @@
 //! The reach of a process: the pairs of path and call that it is allowed.
 #![tactic(auto)]
 
+mod audit;
 mod base;
 mod content;
 mod fault;
@@ -14,6 +15,7 @@ mod state;
 mod terms;
 mod walk;
 
+pub use audit::Audit;
 pub use base::Base;
 pub use fault::AuditFault;
 pub use laws::{reach_examples, reach_laws, walk_laws};

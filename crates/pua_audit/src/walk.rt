@@ -1,9 +1,12 @@
 //! The walk through the words over an alphabet.
 
-ghost use Rattle.std.specs.Prelude.{◌≡◌, ◌≤◌, ◌<◌, ◌+◌, ◌-◌, ◌++◌, ◌∷◌, [], length, take, None, IsTrue, false, true, MatchOption};
+ghost use Rattle.std.specs.Prelude.{◌≡◌, ◌≤◌, ◌<◌, ◌+◌, ◌-◌, ◌++◌, ◌∷◌, [], ◌*◌, suc, length, take, None, IfOk, IsTrue, false, true, MatchOption};
+ghost use Rattle.pua_audit.specs.Begin.{longest};
 ghost use Rattle.pua_audit.specs.Trail.{lines_of};
 ghost use Rattle.pua_audit.specs.declared.place.Place.TheVariants as places;
-ghost use Rattle.pua_audit.specs.Ready.{IsReady, IsBetween, IsSpelled, HasRoom, trail, left_in, left_over, waiting, IsEntered, IsNextCall};
+ghost use Rattle.pua_audit.specs.Ready.{IsSound, IsAt, letters_of, IsReady, IsBetween, IsSpelled, HasRoom, trail, left_in, left_over, waiting, IsEntered, IsNextCall};
+
+use std::alloc::{AllocError, Global};
 
 use pua_path::Probe;
 use pua_policy::Call;
@@ -19,16 +22,54 @@ use crate::terms::Terms;
 #[derive(Drop)]
 pub struct Walk {
     pub terms: Terms,
+    /// Nothing is ahead.
     pub done: bool,
+    /// The word, by the places of its letters in the alphabet.
     pub word: Vec<usize>,
+    /// Where the word ends.
     pub place: Place,
+    /// The directories that are open, one for each letter: a word's letter stands in its frame's.
     pub frames: Vec<Frame>,
+    /// The calls that are allowed on the word.
     pub calls: Vec<Call>,
+    /// How many of the calls were given.
     pub given: usize,
+    /// The letters of the word, each behind a slash.
     pub path: Vec<u8>,
 }
 
 impl Walk {
+    /// A walk that stands before the empty word and has none of its calls, or one with nothing
+    /// ahead. It reserves all that it will need, the path as many bytes as are given.
+    pub fn new(
+        alloc: Global,
+        terms: Terms,
+        done: bool,
+        path_room: usize,
+    ) -> Result<Walk, AllocError>
+        requires sound { IsSound terms }
+        requires path_room { terms.limit * suc (longest (letters_of terms)) ≤ path_room }
+        requires open { done ≡ false → IsAt terms places.Start }
+        ensures ready { IfOk result (λ walk. IsReady walk) }
+        ensures terms { IfOk result (λ walk. walk.terms ≡ terms) }
+        ensures fresh { IfOk result (λ walk. (walk.done ≡ done) × (walk.word.items ≡ []) × (walk.place ≡ places.Start) × (walk.frames.items ≡ [])) }
+    {
+        let word = Vec::with_capacity(alloc, terms.limit)?;
+        let frames = Vec::with_capacity(alloc, terms.limit)?;
+        let calls = Vec::with_capacity(alloc, Call::ALL.len())?;
+        let path = Vec::with_capacity(alloc, path_room)?;
+        Ok(Walk {
+            terms,
+            done,
+            word,
+            place: Place::Start,
+            frames,
+            calls,
+            given: 0,
+            path,
+        })
+    }
+
     /// Gives one of the calls that are left.
     fn take_call(&mut self) -> Option<Call>
         ensures { MatchOption result ((self.new ≡ self.old) × (left_in self.old ≡ []))
