@@ -6,3 +6,4 @@ pub mod Laws
 pub mod Examples
 pub mod Seen
 pub mod Ready
+pub mod Alphabets

@@ -1,7 +1,9 @@
 //! The reach of a process: the pairs of path and call that it is allowed.
 #![tactic(auto)]
 
+mod alphabet;
 mod base;
+mod candidates;
 mod content;
 mod fault;
 mod frame;
