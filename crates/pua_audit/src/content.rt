@@ -23,9 +23,7 @@ impl Content {
         ensures { result.scope ≡ scope }
     {
         let _ = x;
-        Content {
-            marker: PhantomData,
-        }
+        Content { marker: PhantomData }
     }
 }
 

@@ -8,13 +8,14 @@ ghost use Rattle.pua_audit.specs.World.{base_dir, base_way, state_of};
 ghost use Rattle.pua_audit.specs.declared.place.Place.TheVariants as places;
 ghost use Rattle.pua_audit.specs.Ready.{IsSound, IsAt, IsState, step_from, found_from, by_last};
 
+use pua_path::{Errno, Found, Last, Part, Probe, Way};
+use pua_policy::{Call, Process, Verdict, judge, needs};
+use pua_tree::NodeId;
+
 use crate::base::Base;
 use crate::content::Content;
 use crate::place::Place;
 use crate::state::State;
-use pua_path::{Errno, Found, Last, Part, Probe, Way};
-use pua_policy::{Call, Process, Verdict, judge, needs};
-use pua_tree::NodeId;
 
 /// What an audit is of: a process, where paths begin, the most letters of a word, and the letters in
 /// the order of their bytes.

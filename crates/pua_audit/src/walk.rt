@@ -5,12 +5,13 @@ ghost use Rattle.pua_audit.specs.Trail.{lines_of};
 ghost use Rattle.pua_audit.specs.declared.place.Place.TheVariants as places;
 ghost use Rattle.pua_audit.specs.Ready.{IsReady, IsBetween, HasRoom, trail, left_in, left_over, waiting, IsEntered};
 
+use pua_path::Probe;
+use pua_policy::Call;
+
 use crate::frame::Frame;
 use crate::place::Place;
 use crate::state::State;
 use crate::terms::Terms;
-use pua_path::Probe;
-use pua_policy::Call;
 
 /// A walk through the words over an alphabet, in their order. It takes no memory but what was
 /// reserved.

@@ -41,7 +41,7 @@ returns-then-frame-len-clause-ready c =
       states = subst (λ (t : Terms). Frames t b.frames.items) (sym same) pushed;
       place = λ _. subst (λ (t : Terms). IsAt t b.place) (sym same) there;
       framed = λ _. omega (arith, ap length split, length_push c.pop.new.self.items c.in-Some.frame, c.loop-frame.invariant.framed, ap length c.enter.ensures.frames, length_push c.pop.new.self.items (record { state = c.in-Some.frame.state; next = c.in-Some.frame.next + 1 }), ap length c.enter.ensures.word, length_push a.word.items c.in-Some.frame.next);
-      over = λ _. given;
+      over = λ _. given
     }
 
 pub loop-frame-preserved : goal.loop-frame-preserved
@@ -63,7 +63,7 @@ loop-frame-preserved c =
       framed = grind (arith, common_steps);
       most = omega arith;
       going = c.loop-frame.invariant.going;
-      so_far = c.loop-frame.invariant.so_far ∙ left_by (world_in a.terms) (letters_of a.terms) a.terms.limit a.word.items c.pop-in-Some.new.self.items c.pop-in-Some.result a.frames.items c.pop.new.self.items c.in-Some.frame split even none c.pop-in-Some.ensures.items;
+      so_far = c.loop-frame.invariant.so_far ∙ left_by (world_in a.terms) (letters_of a.terms) a.terms.limit a.word.items c.pop-in-Some.new.self.items c.pop-in-Some.result a.frames.items c.pop.new.self.items c.in-Some.frame split even none c.pop-in-Some.ensures.items
     }
 
 pub returns-clause-none : goal.returns-clause-none
