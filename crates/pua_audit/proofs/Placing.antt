@@ -68,7 +68,7 @@ pub none_is : (test : List ℕ → Bool) (ms : List (List ℕ)) → ((k : ℕ) �
 none_is test [] others = refl
 none_is test (m ∷ ms) others = ap (λ b. cond b (Some m) (find test ms)) (others 0 (omega arith)) ∙ none_is test ms (λ k h. others (suc k) (omega (arith, h)))
 
-other_bytes : (a b : List ℕ) → a ≢ b → same_bytes a b ≡ false
+pub other_bytes : (a b : List ℕ) → a ≢ b → same_bytes a b ≡ false
 other_bytes a b other = by (same_bytes a b) refl
   where
     by : (v : Bool) → same_bytes a b ≡ v → v ≡ false

@@ -7,3 +7,4 @@ pub mod Examples
 pub mod Seen
 pub mod Ready
 pub mod Alphabets
+pub mod Starting

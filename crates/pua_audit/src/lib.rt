@@ -10,6 +10,7 @@ mod frame;
 mod laws;
 mod line;
 mod place;
+mod resume_text;
 mod state;
 mod terms;
 mod walk;
