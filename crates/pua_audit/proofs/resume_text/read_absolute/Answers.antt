@@ -2,7 +2,7 @@ use Rattle.std.proofs.Common.{◌≡◌, ◌∙◌, ℕ, length, map, get_or, ap
 use Rattle.std.proofs.lemmas.Grind.{common_steps}
 use Rattle.pua_audit.specs.Begin.{word_within}
 use Rattle.pua_audit.specs.Ready.{part_bytes}
-use Rattle.pua_audit.proofs.Spelled.{empty_read, slash_alone}
+use Rattle.pua_audit.proofs.ResumeTexts.{empty_read, slash_alone}
 use Rattle.pua_audit.proofs.resume_text.read_absolute.Goals as goal
 
 pub returns-then-is_empty : goal.returns-then-is_empty

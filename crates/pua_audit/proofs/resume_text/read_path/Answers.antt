@@ -3,7 +3,7 @@ use Rattle.pua_tree.specs.Names.{same_bytes}
 use Rattle.pua_audit.specs.Begin.{word_within, word_of_path, word_of_pieces_between}
 use Rattle.pua_audit.specs.Ready.{part_bytes}
 use Rattle.pua_audit.specs.declared.base.Base.{Base}
-use Rattle.pua_audit.proofs.Spelled.{empty_read}
+use Rattle.pua_audit.proofs.ResumeTexts.{empty_read}
 use Rattle.pua_audit.proofs.resume_text.read_path.Goals as goal
 
 pub returns-then-eq : goal.returns-then-eq

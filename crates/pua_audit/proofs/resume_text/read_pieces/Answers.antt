@@ -11,7 +11,7 @@ use Rattle.pua_audit.specs.Begin.{word_of_pieces, word_within}
 use Rattle.pua_audit.specs.Ready.{part_bytes, word_of}
 use Rattle.pua_audit.specs.Starting.{AreLetters}
 use Rattle.pua_audit.proofs.Moves.{length-word_of, word_of-push}
-use Rattle.pua_audit.proofs.Spelled.{behind_word, nothing_read, empty_read, letter_more, piece_read, piece_refused, piece_over, pieces_read}
+use Rattle.pua_audit.proofs.ResumeTexts.{behind_word, nothing_read, empty_read, letter_more, piece_read, piece_refused, piece_over, pieces_read}
 use Rattle.pua_audit.proofs.resume_text.read_pieces.Goals as goal
 
 pub loop-piece-init : goal.loop-piece-init

@@ -4,7 +4,7 @@ use Rattle.std.specs.Prelude.{◌==◌}
 use Rattle.pua_audit.specs.Begin.{word_of_pieces}
 use Rattle.pua_audit.specs.Ready.{part_bytes, word_of}
 use Rattle.pua_audit.specs.Starting.{AreLetters}
-use Rattle.pua_audit.proofs.Spelled.{behind_word}
+use Rattle.pua_audit.proofs.ResumeTexts.{behind_word}
 use Rattle.pua_audit.proofs.resume_text.read_pieces.Given as goal
 
 -- the letters so far stand before those of the pieces that are left

@@ -1,7 +1,7 @@
 use Rattle.std.proofs.Common.{◌≡◌, ℕ, ◌+◌, ◌∙◌, length, take, drop, take_all, sym, ap, arith}
 use Rattle.std.proofs.lemmas.List.{length-drop}
 use Rattle.std.specs.Prelude.{◌==◌}
-use Rattle.pua_audit.proofs.Spelled.{first_at, first_nowhere}
+use Rattle.pua_audit.proofs.ResumeTexts.{first_at, first_nowhere}
 use Rattle.pua_audit.proofs.resume_text.split_at_colon.Goals as goal
 
 pub returns-in-Some-clause-front : goal.returns-in-Some-clause-front
