@@ -8,3 +8,5 @@ pub mod Seen
 pub mod Ready
 pub mod AuditState
 pub mod Lent
+pub mod Alphabets
+pub mod Starting

@@ -1,8 +1,10 @@
 //! The reach of a process: the pairs of path and call that it is allowed.
 #![tactic(auto)]
 
+mod alphabet;
 mod audit;
 mod base;
+mod candidates;
 mod content;
 mod fault;
 mod frame;
@@ -11,6 +13,7 @@ mod line;
 mod named;
 mod path;
 mod place;
+mod resume_text;
 mod state;
 mod terms;
 mod walk;

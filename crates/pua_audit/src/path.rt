@@ -5,18 +5,8 @@ ghost use Rattle.pua_audit.specs.Ready.{part_bytes, lent};
 
 use pua_path::Part;
 
+use crate::alphabet::part_bytes;
 use crate::base::Base;
-
-/// The bytes of a letter.
-pub fn letter_bytes(letter: &Part) -> &[u8]
-    ensures { result.now ≡ part_bytes letter.now }
-{
-    match letter {
-        Part::Dot => b".",
-        Part::DotDot => b"..",
-        Part::Name(name) => name.bytes(),
-    }
-}
 
 /// Puts a letter at the end of a path, behind a slash.
 pub fn add_letter(path: &mut Vec<u8>, letter: &Part)
@@ -25,7 +15,7 @@ pub fn add_letter(path: &mut Vec<u8>, letter: &Part)
     ensures room { vec_capacity path.old ≤ vec_capacity path.new }
 {
     path.push(b'/').unwrap();
-    path.extend_from_slice(letter_bytes(letter)).unwrap();
+    path.extend_from_slice(part_bytes(letter)).unwrap();
 }
 
 /// Takes the last letter off a path, and the slash before it.
@@ -34,7 +24,7 @@ pub fn drop_letter(path: &mut Vec<u8>, letter: &Part)
     ensures path { (front : List ℕ) → path.old.items ≡ front ++ 47 ∷ part_bytes letter.now → path.new.items ≡ front }
     ensures room { vec_capacity path.new ≡ vec_capacity path.old }
 {
-    let bytes = letter_bytes(letter);
+    let bytes = part_bytes(letter);
     let left = path.len() - bytes.len() - 1;
     path.truncate(left);
 }
