@@ -1,6 +1,7 @@
 -- A walk's fields between two calls, and what they say is still to be done.
 use Rattle.std.specs.Prelude.{◌≡◌, ◌≤◌, ◌<◌, ℕ, suc, zero, ◌-◌, Bool, true, false, List, [], ◌∷◌, ◌++◌, length, drop, map, get_or, filter, ◌*◌, Option, Some, None, Result, Ok, Err, MatchOption, IsTrue, vec_capacity, codes, ◌+◌}
 use Rattle.std.specs.List.{AllByRecursion}
+use Rattle.std.specs.Ordering.{is_lt}
 use Rattle.pua_tree.specs.Tree.{Tree, WellFormed, is_dir}
 use Rattle.pua_path.specs.Paths.{part_of}
 use Rattle.pua_path.specs.Resolution.{last}
@@ -14,11 +15,11 @@ use Rattle.pua_path.specs.declared.found.Found.TheVariants.{Whole}
 use Rattle.pua_policy.specs.Calls.{standard_table, last_of}
 use Rattle.pua_policy.specs.History.{StandsFor}
 use Rattle.pua_policy.specs.declared.call.Call.{Call}
-use Rattle.pua_audit.specs.Reach.{Word, Scope, from_root}
+use Rattle.pua_audit.specs.Reach.{Word, Pair, Scope, from_root, pair_cmp}
 use Rattle.pua_audit.specs.Begin.{longest}
 use Rattle.pua_audit.specs.declared.base.Base.{Base}
 use Rattle.pua_audit.specs.declared.base.Base.TheVariants.{Root, Cwd}
-use Rattle.pua_audit.specs.World.{Place, Start, Below, World, base_dir, base_way, world_of}
+use Rattle.pua_audit.specs.World.{Place, Start, Below, World, base_dir, base_way, world_of, reach_along}
 use Rattle.pua_audit.specs.Trail.{Event, allowed_at, pending, ahead, everywhere, lines_of}
 use Rattle.pua_audit.specs.declared.frame.Frame.{Frame}
 use Rattle.pua_audit.specs.declared.state.State.{State}
@@ -138,6 +139,18 @@ pub record IsReady (a : Walk) : Type 0 where
   pub place : a.done ≡ false → IsAt a.terms a.place
   pub framed : a.done ≡ false → length a.frames.items ≡ length a.word.items
   pub over : a.done ≡ true → left_in a ≡ []
+
+-- nothing is given yet: the walk stands at the empty word, without its calls
+pub record IsFresh (a : Walk) : Type 0 where
+  pub going : a.done ≡ false
+  pub word : a.word.items ≡ []
+  pub place : a.place ≡ places.Start
+  pub frames : a.frames.items ≡ []
+  pub left : left_in a ≡ []
+
+-- the pairs that come after one, judged letter by letter
+abbrev pub along_after : Terms → Pair → List Pair
+along_after a pair = filter (λ other. is_lt (pair_cmp pair other)) (reach_along (world_in a) (letters_of a) a.limit)
 
 -- the deepest frame waits for a letter
 pub record IsBetween (a : Walk) : Type 0 where

@@ -13,6 +13,7 @@ mod line;
 mod named;
 mod path;
 mod place;
+mod resume;
 mod resume_text;
 mod state;
 mod terms;

@@ -4,7 +4,7 @@ ghost use Rattle.std.specs.Prelude.{◌≡◌, ◌≤◌, ◌<◌, ◌+◌, ◌-
 ghost use Rattle.pua_audit.specs.Begin.{longest};
 ghost use Rattle.pua_audit.specs.Trail.{lines_of};
 ghost use Rattle.pua_audit.specs.declared.place.Place.TheVariants as places;
-ghost use Rattle.pua_audit.specs.Ready.{IsSound, IsAt, letters_of, IsReady, IsBetween, IsSpelled, HasRoom, trail, left_in, left_over, waiting, IsEntered, IsNextCall};
+ghost use Rattle.pua_audit.specs.Ready.{IsSound, IsAt, letters_of, IsFresh, allowed_here, IsReady, IsBetween, IsSpelled, HasRoom, trail, left_in, left_over, waiting, IsEntered, IsNextCall};
 
 use std::alloc::{AllocError, Global};
 
@@ -52,7 +52,8 @@ impl Walk {
         requires open { done ≡ false → IsAt terms places.Start }
         ensures ready { IfOk result (λ walk. IsReady walk) }
         ensures terms { IfOk result (λ walk. walk.terms ≡ terms) }
-        ensures fresh { IfOk result (λ walk. (walk.done ≡ done) × (walk.word.items ≡ []) × (walk.place ≡ places.Start) × (walk.frames.items ≡ [])) }
+        ensures fresh { IfOk result (λ walk. done ≡ false → IsFresh walk) }
+        ensures done { IfOk result (λ walk. walk.done ≡ done) }
     {
         let word = Vec::with_capacity(alloc, terms.limit)?;
         let frames = Vec::with_capacity(alloc, terms.limit)?;
@@ -185,12 +186,13 @@ impl Walk {
         self.turn()
     }
     /// Decides the calls of the word.
-    fn decide<'t, P: Probe<'t>>(&mut self, probe: &mut P)
+    pub fn decide<'t, P: Probe<'t>>(&mut self, probe: &mut P)
         requires tree { P.tree probe.old ≡ self.old.terms.seen.scope.tree }
         requires ready { IsReady self.old }
         requires going { self.old.done ≡ false }
         ensures ready { IsReady self.new }
-        ensures terms { self.new.terms ≡ self.old.terms }
+        ensures kept { self.new ≡ record self.old { calls = self.new.calls; given = 0 } }
+        ensures calls { self.new.calls.items ≡ allowed_here self.old }
         ensures trail { waiting self.old ≡ None ∷ trail self.new }
         ensures tree { P.tree probe.new ≡ P.tree probe.old }
     {
