@@ -1,14 +1,13 @@
 -- What a resumed walk has to give, as it goes along the pair's word by places of the alphabet.
-use Rattle.std.proofs.Common.{ℕ, suc, ◌+◌, ◌-◌, ◌<◌, ◌≤◌, ◌≡◌, List, [], ◌∷◌, ◌++◌, Some, None, Bool, true, false, refl, ap, arith, sym, ◌∙◌, length, drop, get_or, filter, nat_lt}
-use Rattle.std.proofs.lemmas.List.{drop_more, length-map}
-use Rattle.std.proofs.lemmas.Bool.{lt-ltb, lt-leb, le-leb}
-use Rattle.std.proofs.lemmas.Cmp.{nat_cmp_total}
+use Rattle.std.proofs.Common.{ℕ, suc, ◌+◌, ◌-◌, ◌<◌, ◌≤◌, ◌≡◌, List, [], ◌∷◌, ◌++◌, Some, None, Bool, true, false, refl, ap, arith, sym, ◌∙◌, length, drop, get_or, filter, nat_lt, cond, ◌==◌}
+use Rattle.std.proofs.lemmas.List.{drop_more}
 use Rattle.std.proofs.Math.ListN.{drop_of_length-le}
 use Rattle.std.specs.Ordering.{nat_cmp, is_lt}
+use Rattle.std.specs.declared.cmp.Ordering.TheVariants.{Less, Equal, Greater}
 use Rattle.pua_tree.specs.Tree.{name_cmp}
 use Rattle.pua_policy.specs.Calls.{call_number}
 use Rattle.pua_policy.specs.declared.call.Call.{Call}
-use Rattle.pua_audit.specs.Reach.{Word}
+use Rattle.pua_audit.specs.Reach.{Word, Pair}
 use Rattle.pua_audit.specs.Laws.{Rises}
 use Rattle.pua_audit.specs.World.{Start, Below, World, reach_along}
 use Rattle.pua_audit.specs.Trail.{lines_of, allowed_at, ahead, everywhere}
@@ -23,7 +22,11 @@ use Rattle.pua_audit.proofs.Resume.{filter-cong, comes_after, calls_after, to_gi
 
 -- a number comes before another as the test says
 lt_is : (m n : ℕ) → is_lt (nat_cmp m n) ≡ nat_lt m n
-lt_is m n = ?
+lt_is m n =
+    elim (nat_lt m n) as (λ b. is_lt (cond b Less (cond (m == n) Equal Greater)) ≡ b) [
+      | true ↦ refl
+      | false ↦ elim (m == n) as (λ e. is_lt (cond e Equal Greater) ≡ false) [ true ↦ refl | false ↦ refl ]
+    ]
 
 calls_behind : (c : Call) (cs : List Call) → calls_after c cs ≡ filter (λ other. nat_lt (call_number c) (call_number other)) cs
 unfolding calls_after
@@ -40,7 +43,7 @@ module _ (w : World) (letters : List (List ℕ)) (limit : ℕ) where
       ∙ ap (λ fs. to_give w everywhere letters limit [] Start fs v c) g ∙ give_start w everywhere letters limit (prunes_none w letters) v c
 
   module _ (word : List ℕ) (x : at.Place) (frames : List Frame) (way : List ℕ) (d : ℕ) (c : Call) where
-    abbrev to_come : List ℕ → at.Place → List Frame → ℕ → List _
+    abbrev to_come : List ℕ → at.Place → List Frame → ℕ → List Pair
     to_come word x frames d = to_give w everywhere letters limit (word_of letters word) (place_of letters x) frames (word_of letters (drop d way)) c
 
     next_letter : d < length way → word_of letters (drop d way) ≡ get_or letters (get_or way d 0) [] ∷ word_of letters (drop (d + 1) way)

@@ -7,7 +7,8 @@ use Rattle.pua_audit.specs.Trail.{pending, everywhere}
 use Rattle.pua_audit.specs.Ready.{part_bytes, letters_of, world_in, word_of, place_of, IsState, IsSound, IsAt, Frames, left_over, waiting, left_in}
 use Rattle.pua_audit.specs.declared.terms.Terms.{Terms}
 use Rattle.pua_audit.specs.declared.place.Place.TheVariants as places
-use Rattle.pua_audit.proofs.Moves.{taken_by, left_by, none_left, all_front, all_pushed}
+use Rattle.pua_audit.proofs.Entered.{entered_ready}
+use Rattle.pua_audit.proofs.Moves.{taken_by, left_by, none_left, all_front}
 use Rattle.pua_audit.proofs.walk.Walk.turn.Goals as goal
 
 pub returns-then-frame-len-clause-waiting : goal.returns-then-frame-len-clause-waiting
@@ -29,21 +30,12 @@ returns-then-frame-len-clause-ready c =
     let a = c.loop-frame.self in
     let b = c.enter.new.self in
     let split : a.frames.items ≡ c.pop.new.self.items ++ c.in-Some.frame ∷ [] = c.in-Some.ensures.items in
-    let same : b.terms ≡ a.terms = c.enter.ensures.kept.0 in
     let tree = a.terms.seen.scope.tree in
     let parts = all_front (λ f. IsState tree f.state) c.pop.new.self.items c.in-Some.frame (subst (Frames a.terms) split c.loop-frame.invariant.states) in
-    let pushed : Frames a.terms b.frames.items = subst (Frames a.terms) (sym c.enter.ensures.frames) (all_pushed (λ f. IsState tree f.state) c.pop.new.self.items (record { state = c.in-Some.frame.state; next = c.in-Some.frame.next + 1 }) parts.0 parts.1) in
-    let there : IsAt a.terms b.place = subst (IsAt a.terms) (sym c.enter.ensures.place) (parts.1, omega arith) in
     let given : left_in b ≡ [] = ap (λ (n : ℕ). drop n b.calls.items) c.enter.ensures.kept.3 ∙ ap (λ v. drop a.given v.items) c.enter.ensures.kept.2 ∙ c.loop-frame.invariant.given in
-    record {
-      sound = subst IsSound (sym same) c.loop-frame.invariant.sound;
-      room = c.enter.ensures.room;
-      spelled = c.enter.ensures.spelled;
-      states = subst (λ (t : Terms). Frames t b.frames.items) (sym same) pushed;
-      place = λ _. subst (λ (t : Terms). IsAt t b.place) (sym same) there;
-      framed = λ _. omega (arith, ap length split, length_push c.pop.new.self.items c.in-Some.frame, c.loop-frame.invariant.framed, ap length c.enter.ensures.frames, length_push c.pop.new.self.items (record { state = c.in-Some.frame.state; next = c.in-Some.frame.next + 1 }), ap length c.enter.ensures.word, length_push a.word.items c.in-Some.frame.next);
-      over = λ _. given
-    }
+    let even : length b.frames.items ≡ length b.word.items =
+    omega (arith, ap length split, length_push c.pop.new.self.items c.in-Some.frame, c.loop-frame.invariant.framed, ap length c.enter.ensures.frames, length_push c.pop.new.self.items (record { state = c.in-Some.frame.state; next = c.in-Some.frame.next + 1 }), ap length c.enter.ensures.word, length_push a.word.items c.in-Some.frame.next) in
+    entered_ready a.terms b c.pop.new.self.items c.in-Some.frame.state c.in-Some.frame.next c.loop-frame.invariant.sound parts.0 parts.1 (omega arith) c.enter.ensures.kept.0 c.enter.ensures.room c.enter.ensures.spelled c.enter.ensures.frames c.enter.ensures.place even given
 
 pub loop-frame-preserved : goal.loop-frame-preserved
 loop-frame-preserved c =

@@ -3,7 +3,7 @@ use Rattle.pua_audit.specs.Trail.{everywhere}
 use Rattle.pua_audit.specs.Starting.{pair_in}
 use Rattle.pua_audit.specs.Ready.{IsReady, letters_of, word_of, word_in, place_in, left_in, world_in, along_after}
 use Rattle.pua_audit.proofs.Resume.{to_give}
-use Rattle.pua_audit.proofs.resume.Walk.resume.Given as goal
+use Rattle.pua_audit.proofs.walk.Walk.resume.Given as goal
 
 abbrev pub invariant-loop-letter : goal.invariant-loop-letter
 invariant-loop-letter g l = record {
