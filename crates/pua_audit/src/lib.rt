@@ -3,6 +3,7 @@
 
 mod alphabet;
 mod base;
+mod beginning;
 mod candidates;
 mod content;
 mod fault;
