@@ -150,7 +150,8 @@ longest_from : (most : ℕ) (xs : List (List ℕ)) → most ≤ fold (λ m lette
 longest_from most [] = omega arith
 longest_from most (x ∷ xs) = omega (arith, longest_from (max most (length x)) xs)
 
-no_longer : (most : ℕ) (xs : List (List ℕ)) → AllByRecursion (λ x. length x ≤ fold (λ m letter. max m (length letter)) most xs) xs
+-- no letter is longer than the longest
+pub no_longer : (most : ℕ) (xs : List (List ℕ)) → AllByRecursion (λ x. length x ≤ fold (λ m letter. max m (length letter)) most xs) xs
 no_longer most [] = tt
 no_longer most (x ∷ xs) = (omega (arith, longest_from (max most (length x)) xs), no_longer (max most (length x)) xs)
 

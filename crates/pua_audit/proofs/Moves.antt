@@ -1,6 +1,6 @@
 -- What the walk's code does to what is still to be done, with words as places of the alphabet.
-use Rattle.std.proofs.Common.{ℕ, zero, suc, ◌+◌, ◌-◌, ◌<◌, ◌≤◌, ◌≡◌, List, [], ◌∷◌, ◌++◌, Option, Some, None, Bool, true, false, refl, ap, arith, sym, ◌∙◌, length, drop, map, get_or, filter, ◌==◌}
-use Rattle.std.proofs.lemmas.List.{map-append, length-map}
+use Rattle.std.proofs.Common.{ℕ, zero, suc, ◌+◌, ◌-◌, ◌<◌, ◌≤◌, ◌≡◌, List, [], ◌∷◌, ◌++◌, Option, Some, None, Bool, true, false, refl, ap, arith, sym, ◌∙◌, length, drop, take, map, get_or, filter, ◌==◌}
+use Rattle.std.proofs.lemmas.List.{map-append, length-map, take_all, take_more}
 use Rattle.std.specs.Prelude.{option_to_list, option_map}
 use Rattle.std.specs.List.{AllByRecursion}
 use Rattle.pua_policy.specs.declared.call.Call.{Call}
@@ -12,7 +12,7 @@ use Rattle.pua_audit.specs.declared.frame.Frame.{Frame}
 use Rattle.pua_audit.specs.declared.state.State.{State}
 use Rattle.pua_audit.specs.declared.place.Place as at
 use Rattle.pua_audit.specs.declared.place.Place.TheVariants as places
-use Rattle.pua_audit.proofs.Turns.{taken, exhausted, shortened, nothing_pending, at_limit, no_step, opened, given}
+use Rattle.pua_audit.proofs.Turns.{taken, exhausted, shortened, nothing_pending, at_limit, no_step, opened, given, nothing_ahead}
 
 pub all_front : {A : Type 0} (P : A → Type 0) (xs : List A) (x : A) → AllByRecursion P (xs ++ x ∷ []) → AllByRecursion P xs × P x
 all_front P [] x all = (tt, all.0)
@@ -26,6 +26,14 @@ pub all_at_index : {A : Type 0} (P : A → Type 0) (xs : List A) (d : A) → All
 all_at_index P [] d all i h = absurd (omega (arith, h))
 all_at_index P (x ∷ xs) d all zero h = all.0
 all_at_index P (x ∷ xs) d all (suc i) h = all_at_index P xs d all.1 i (omega (arith, h))
+
+-- a list is all but its last, and its last if it has one
+front_and_last : (xs : List ℕ) → (last : Option ℕ) × (xs ≡ take (length xs - 1) xs ++ option_to_list last)
+front_and_last [] = (None, refl)
+front_and_last (x ∷ xs) =
+    let last : ℕ = get_or (x ∷ xs) (length xs) 0 in
+    let many : length xs ≡ length (x ∷ xs) - 1 = omega arith in
+    (Some last, sym (take_all (length xs + 1) (x ∷ xs) (omega arith)) ∙ take_more (x ∷ xs) (length xs) 0 (omega arith) ∙ ap (λ n. take n (x ∷ xs) ++ last ∷ []) many)
 
 module _ (letters : List (List ℕ)) where
   pub word_of-push : (word : List ℕ) (i : ℕ) → word_of letters (word ++ i ∷ []) ≡ word_of letters word ++ get_or letters i [] ∷ []
@@ -59,25 +67,31 @@ module _ (w : World) (letters : List (List ℕ)) (limit : ℕ) where
       ∙ ap (λ fs. None ∷ ahead w everywhere letters limit false (word_of letters word-after) (place_of letters place) (allowed_at w (place_of letters place)) fs) (sym pushed)
       ∙ ap (λ d. None ∷ ahead w everywhere letters limit d (word_of letters word-after) (place_of letters place) (allowed_at w (place_of letters place)) frames-after) (sym going)
 
+  -- the word loses its last letter
+  pub shortened_by : (word front : List ℕ) (frames : List Frame) → length frames ≡ length word → front ≡ take (length word - 1) word
+      → pending w everywhere letters limit 0 (word_of letters word) frames ≡ pending w everywhere letters limit 0 (word_of letters front) frames
+  shortened_by word front frames even shorter =
+      let ends = front_and_last word in
+      let split : word ≡ front ++ option_to_list ends.0 = ends.1 ∙ ap (λ v. v ++ option_to_list ends.0) (sym shorter) in
+      shortened w everywhere letters limit (word_of letters word) (word_of letters front) (option_map (λ i. get_or letters i []) ends.0) frames (even ∙ sym (length-word_of letters word)) (word_of-split letters word front ends.0 split)
+
   -- the deepest frame has no letter left
-  pub left_by : (word front : List ℕ) (last : Option ℕ) (frames frames-left : List Frame) (f : Frame)
-      → frames ≡ frames-left ++ f ∷ [] → length frames-left ≡ length word → length letters ≤ f.next → word ≡ front ++ option_to_list last
-      → pending w everywhere letters limit 0 (word_of letters word) frames ≡ pending w everywhere letters limit 0 (word_of letters front) frames-left
-  left_by word front last frames frames-left f split even none shorter =
+  pub left_by : (word front : List ℕ) (frames frames-left frames-after : List Frame) (f : Frame)
+      → frames ≡ frames-left ++ f ∷ [] → length frames-left ≡ length word → length letters ≤ f.next → front ≡ take (length word - 1) word → frames-after ≡ frames-left
+      → pending w everywhere letters limit 0 (word_of letters word) frames ≡ pending w everywhere letters limit 0 (word_of letters front) frames-after
+  left_by word front frames frames-left frames-after f split even none shorter kept =
       let same : length frames-left ≡ length (word_of letters word) = even ∙ sym (length-word_of letters word) in
       ap (λ fs. pending w everywhere letters limit 0 (word_of letters word) fs) split
       ∙ exhausted w everywhere letters limit (word_of letters word) frames-left f same none
-      ∙ shortened w everywhere letters limit (word_of letters word) (word_of letters front) (option_map (λ i. get_or letters i []) last) frames-left same (word_of-split letters word front last shorter)
-
-  -- the word loses its last letter
-  pub shortened_by : (word front : List ℕ) (last : Option ℕ) (frames : List Frame) → length frames ≡ length word → word ≡ front ++ option_to_list last
-      → pending w everywhere letters limit 0 (word_of letters word) frames ≡ pending w everywhere letters limit 0 (word_of letters front) frames
-  shortened_by word front last frames even shorter =
-      shortened w everywhere letters limit (word_of letters word) (word_of letters front) (option_map (λ i. get_or letters i []) last) frames (even ∙ sym (length-word_of letters word)) (word_of-split letters word front last shorter)
+      ∙ shortened_by word front frames-left even shorter
+      ∙ ap (λ fs. pending w everywhere letters limit 0 (word_of letters front) fs) (sym kept)
 
   pub none_left : (word : Word) (frames : List Frame) → length frames ≡ 0 → pending w everywhere letters limit 0 word frames ≡ []
   none_left word [] h = nothing_pending w everywhere letters limit word
   none_left word (f ∷ frames) h = absurd (omega (arith, h))
+
+  pub over_by : (done : Bool) (word : Word) (x : Place) (left : List Call) (frames : List Frame) → done ≡ true → ahead w everywhere letters limit done word x left frames ≡ []
+  over_by done word x left frames e = ap (λ d. ahead w everywhere letters limit d word x left frames) e ∙ nothing_ahead w everywhere letters limit word x left frames
 
   module _ (done : Bool) (word : Word) (x : Place) (left : List Call) (frames : List Frame) (going : done ≡ false) where
     pub at_limit_by : left ≡ [] → limit ≤ length word → ahead w everywhere letters limit done word x left frames ≡ pending w everywhere letters limit 0 word frames

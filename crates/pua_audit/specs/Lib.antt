@@ -6,5 +6,7 @@ pub mod Laws
 pub mod Examples
 pub mod Seen
 pub mod Ready
+pub mod AuditState
+pub mod Lent
 pub mod Alphabets
 pub mod Starting

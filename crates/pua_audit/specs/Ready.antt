@@ -1,6 +1,7 @@
 -- A walk's fields between two calls, and what they say is still to be done.
-use Rattle.std.specs.Prelude.{◌≡◌, ◌≤◌, ◌<◌, ℕ, suc, zero, ◌-◌, Bool, true, false, List, [], ◌∷◌, ◌++◌, length, drop, map, get_or, filter, Option, Some, None, Result, Ok, Err, MatchOption, IsTrue, vec_capacity, codes, ◌+◌}
+use Rattle.std.specs.Prelude.{◌≡◌, ◌≤◌, ◌<◌, ℕ, suc, zero, ◌-◌, Bool, true, false, List, [], ◌∷◌, ◌++◌, length, drop, map, get_or, filter, ◌*◌, Option, Some, None, Result, Ok, Err, MatchOption, IsTrue, vec_capacity, codes, ◌+◌}
 use Rattle.std.specs.List.{AllByRecursion}
+use Rattle.std.specs.Ordering.{is_lt}
 use Rattle.pua_tree.specs.Tree.{Tree, WellFormed, is_dir}
 use Rattle.pua_path.specs.Paths.{part_of}
 use Rattle.pua_path.specs.Resolution.{last}
@@ -14,8 +15,11 @@ use Rattle.pua_path.specs.declared.found.Found.TheVariants.{Whole}
 use Rattle.pua_policy.specs.Calls.{standard_table, last_of}
 use Rattle.pua_policy.specs.History.{StandsFor}
 use Rattle.pua_policy.specs.declared.call.Call.{Call}
-use Rattle.pua_audit.specs.Reach.{Word}
-use Rattle.pua_audit.specs.World.{Place, Start, Below, World, base_dir, base_way, world_of}
+use Rattle.pua_audit.specs.Reach.{Word, Pair, Scope, from_root, pair_cmp}
+use Rattle.pua_audit.specs.Begin.{longest}
+use Rattle.pua_audit.specs.declared.base.Base.{Base}
+use Rattle.pua_audit.specs.declared.base.Base.TheVariants.{Root, Cwd}
+use Rattle.pua_audit.specs.World.{Place, Start, Below, World, base_dir, base_way, world_of, reach_along}
 use Rattle.pua_audit.specs.Trail.{Event, allowed_at, pending, ahead, everywhere, lines_of}
 use Rattle.pua_audit.specs.declared.frame.Frame.{Frame}
 use Rattle.pua_audit.specs.declared.state.State.{State}
@@ -35,6 +39,10 @@ letters_of a = map part_bytes a.letters.items
 
 abbrev pub world_in : Terms → World
 world_in a = world_of a.seen.scope.tree standard_table a.base a.seen.scope.history
+
+-- what is audited
+abbrev pub scope_in : Terms → Scope
+scope_in a = record { tree = a.seen.scope.tree; table = standard_table; history = a.seen.scope.history; base = a.base; alphabet = letters_of a; limit = a.limit }
 
 -- the letters at some places of the alphabet
 unfoldable pub word_of : List (List ℕ) → List ℕ → Word
@@ -99,12 +107,25 @@ waiting a = None ∷ ahead (world_in a.terms) everywhere (letters_of a.terms) a.
 abbrev pub left_over : Walk → List Frame → List Event
 left_over a frames = pending (world_in a.terms) everywhere (letters_of a.terms) a.terms.limit 0 (word_in a) frames
 
--- there is room for as many letters and frames as a word may have, and for all calls
+-- there is room for as many letters and frames as a word may have, for all calls, and for the longest path
 pub record HasRoom (a : Walk) : Type 0 where
   pub words : a.terms.limit ≤ vec_capacity a.word
   pub frames : a.terms.limit ≤ vec_capacity a.frames
   pub calls : 14 ≤ vec_capacity a.calls
+  pub paths : a.terms.limit * suc (longest (letters_of a.terms)) ≤ vec_capacity a.path
   pub within : length a.word.items ≤ a.terms.limit
+
+-- the places of a word are of the alphabet, and its path has each letter behind a slash
+pub record IsSpelled (a : Terms) (word bytes : List ℕ) : Type 0 where
+  pub known : AllByRecursion (λ i. i < length a.letters.items) word
+  pub path : bytes ≡ from_root (word_of (letters_of a) word)
+
+-- the path that is lent: the base itself, or the letters, and before the first a slash only from the root
+abbrev pub lent : Base → List ℕ → List ℕ
+lent Root [] = codes "/"
+lent Root (b ∷ bs) = b ∷ bs
+lent Cwd [] = codes "."
+lent Cwd (b ∷ bs) = bs
 
 abbrev pub Frames : Terms → List Frame → Type 0
 Frames a frames = AllByRecursion (λ f. IsState a.seen.scope.tree f.state) frames
@@ -113,15 +134,29 @@ Frames a frames = AllByRecursion (λ f. IsState a.seen.scope.tree f.state) frame
 pub record IsReady (a : Walk) : Type 0 where
   pub sound : IsSound a.terms
   pub room : HasRoom a
+  pub spelled : IsSpelled a.terms a.word.items a.path.items
   pub states : Frames a.terms a.frames.items
   pub place : a.done ≡ false → IsAt a.terms a.place
   pub framed : a.done ≡ false → length a.frames.items ≡ length a.word.items
   pub over : a.done ≡ true → left_in a ≡ []
 
+-- nothing is given yet: the walk stands at the empty word, without its calls
+pub record IsFresh (a : Walk) : Type 0 where
+  pub going : a.done ≡ false
+  pub word : a.word.items ≡ []
+  pub place : a.place ≡ places.Start
+  pub frames : a.frames.items ≡ []
+  pub left : left_in a ≡ []
+
+-- the pairs that come after one, judged letter by letter
+abbrev pub along_after : Terms → Pair → List Pair
+along_after a pair = filter (λ other. is_lt (pair_cmp pair other)) (reach_along (world_in a) (letters_of a) a.limit)
+
 -- the deepest frame waits for a letter
 pub record IsBetween (a : Walk) : Type 0 where
   pub sound : IsSound a.terms
   pub room : HasRoom a
+  pub spelled : IsSpelled a.terms a.word.items a.path.items
   pub states : Frames a.terms a.frames.items
   pub given : left_in a ≡ []
   pub going : a.done ≡ false

@@ -2,6 +2,7 @@
 #![tactic(auto)]
 
 mod alphabet;
+mod audit;
 mod base;
 mod beginning;
 mod candidates;
@@ -10,12 +11,16 @@ mod fault;
 mod frame;
 mod laws;
 mod line;
+mod named;
+mod path;
 mod place;
+mod resume;
 mod resume_text;
 mod state;
 mod terms;
 mod walk;
 
+pub use audit::Audit;
 pub use base::Base;
 pub use fault::AuditFault;
 pub use laws::{reach_examples, reach_laws, walk_laws};

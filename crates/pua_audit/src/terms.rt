@@ -1,12 +1,13 @@
 //! What an audit is of.
 
-ghost use Rattle.std.specs.Prelude.{◌≡◌, ◌≤◌, ◌<◌, length, IsTrue, IfOk, IfSome};
+ghost use Rattle.std.specs.Prelude.{◌≡◌, ◌≤◌, ◌<◌, length, IsTrue, IfOk, IfSome, vec_capacity};
 ghost use Rattle.pua_tree.specs.Tree.{is_dir};
 ghost use Rattle.pua_policy.specs.Calls.{standard_table, last_of};
 ghost use Rattle.pua_policy.specs.Verdict.{FoundsFit, verdict_of, is_allowed};
 ghost use Rattle.pua_audit.specs.World.{base_dir, base_way, state_of};
 ghost use Rattle.pua_audit.specs.declared.place.Place.TheVariants as places;
-ghost use Rattle.pua_audit.specs.Ready.{IsSound, IsAt, IsState, step_from, found_from, by_last};
+ghost use Rattle.pua_audit.specs.Ready.{IsSound, IsAt, IsState, step_from, found_from, by_last, world_in, letters_of, place_of};
+ghost use Rattle.pua_audit.specs.Trail.{allowed_at};
 
 use pua_path::{Errno, Found, Last, Part, Probe, Way};
 use pua_policy::{Call, Process, Verdict, judge, needs};
@@ -14,6 +15,7 @@ use pua_tree::NodeId;
 
 use crate::base::Base;
 use crate::content::Content;
+use crate::named::Named;
 use crate::place::Place;
 use crate::state::State;
 
@@ -127,23 +129,52 @@ impl Terms {
         pua_path::last(probe, state.dir, state.used, part, mode)
     }
 
-    /// Whether a call is allowed on a path, by what the path names with its last part followed and
-    /// kept.
-    pub fn allows<'t, P: Probe<'t>>(
-        &self,
-        probe: &mut P,
-        call: Call,
-        followed: Result<Found, Errno>,
-        kept: Result<Found, Errno>,
-    ) -> bool
+    /// The calls that are allowed on a word, in their order, in a list that has room for all: what
+    /// the path names with its last part followed and kept is asked once.
+    pub fn decide<'t, P: Probe<'t>>(&self, probe: &mut P, place: &Place, calls: &mut Vec<Call>)
         requires tree { P.tree probe.old ≡ self.now.seen.scope.tree }
         requires sound { IsSound self.now }
-        requires followed { FoundsFit self.now.seen.scope.tree followed }
-        requires kept { FoundsFit self.now.seen.scope.tree kept }
-        ensures value { result ≡ is_allowed (verdict_of self.now.seen.scope.tree standard_table self.now.seen.scope.history call (by_last (last_of call) followed kept)) }
+        requires at { IsAt self.now place.now }
+        requires room { 14 ≤ vec_capacity calls.old }
+        ensures calls { calls.new.items ≡ allowed_at (world_in self.now) (place_of (letters_of self.now) place.now) }
+        ensures room { 14 ≤ vec_capacity calls.new }
         ensures tree { P.tree probe.new ≡ P.tree probe.old }
     {
-        let found = by_last(needs::need(call).last, followed, kept);
+        let named = self.named(probe, place);
+        calls.clear();
+        for call in Call::ALL {
+            if self.allows(probe, call, &named) {
+                calls.push(call).unwrap();
+            }
+        }
+    }
+
+    /// What the path of a word names, with its last part followed and kept.
+    fn named<'t, P: Probe<'t>>(&self, probe: &mut P, place: &Place) -> Named
+        requires tree { P.tree probe.old ≡ self.now.seen.scope.tree }
+        requires sound { IsSound self.now }
+        requires at { IsAt self.now place.now }
+        ensures followed { result.followed ≡ found_from self.now place.now Last.Followed }
+        ensures kept { result.kept ≡ found_from self.now place.now Last.Kept }
+        ensures followed_fits { FoundsFit self.now.seen.scope.tree result.followed }
+        ensures kept_fits { FoundsFit self.now.seen.scope.tree result.kept }
+        ensures tree { P.tree probe.new ≡ P.tree probe.old }
+    {
+        let followed = self.found(probe, *place, Last::Followed);
+        let kept = self.found(probe, *place, Last::Kept);
+        Named { followed, kept }
+    }
+
+    /// Whether a call is allowed on a path, by what the path names.
+    fn allows<'t, P: Probe<'t>>(&self, probe: &mut P, call: Call, named: &Named) -> bool
+        requires tree { P.tree probe.old ≡ self.now.seen.scope.tree }
+        requires sound { IsSound self.now }
+        requires followed { FoundsFit self.now.seen.scope.tree named.now.followed }
+        requires kept { FoundsFit self.now.seen.scope.tree named.now.kept }
+        ensures value { result ≡ is_allowed (verdict_of self.now.seen.scope.tree standard_table self.now.seen.scope.history call (by_last (last_of call) named.now.followed named.now.kept)) }
+        ensures tree { P.tree probe.new ≡ P.tree probe.old }
+    {
+        let found = named.by(needs::need(call).last);
         is_allowed(judge::verdict_of(probe, &self.process, call, found))
     }
 }
@@ -155,20 +186,6 @@ fn state_of(reached: Result<(NodeId, u8), Errno>) -> Option<State>
     match reached {
         Ok((dir, used)) => Some(State { dir, used }),
         Err(_) => None,
-    }
-}
-
-/// What a path names, by whether its last part is followed.
-fn by_last(
-    last: Last,
-    followed: Result<Found, Errno>,
-    kept: Result<Found, Errno>,
-) -> Result<Found, Errno>
-    ensures { result ≡ by_last last followed kept }
-{
-    match last {
-        Last::Followed => followed,
-        Last::Kept => kept,
     }
 }
 

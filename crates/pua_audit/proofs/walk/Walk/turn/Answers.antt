@@ -1,4 +1,4 @@
-use Rattle.std.proofs.Common.{rules, ◌≡◌, ℕ, ◌+◌, ◌<◌, ◌≤◌, length, [], ◌∷◌, ◌++◌, List, None, false, refl, sym, arith, ◌∙◌, ap, drop, subst}
+use Rattle.std.proofs.Common.{rules, ◌≡◌, ℕ, ◌+◌, ◌-◌, length-take, ◌<◌, ◌≤◌, length, [], ◌∷◌, ◌++◌, List, None, false, refl, sym, arith, ◌∙◌, ap, drop, subst}
 use Rattle.std.proofs.lemmas.Grind.{common_steps}
 use Rattle.std.proofs.lemmas.List.{length_push, length-map}
 use Rattle.pua_path.specs.declared.found.Part.{Part}
@@ -38,6 +38,7 @@ returns-then-frame-len-clause-ready c =
     record {
       sound = subst IsSound (sym same) c.loop-frame.invariant.sound;
       room = c.enter.ensures.room;
+      spelled = c.enter.ensures.spelled;
       states = subst (λ (t : Terms). Frames t b.frames.items) (sym same) pushed;
       place = λ _. subst (λ (t : Terms). IsAt t b.place) (sym same) there;
       framed = λ _. omega (arith, ap length split, length_push c.pop.new.self.items c.in-Some.frame, c.loop-frame.invariant.framed, ap length c.enter.ensures.frames, length_push c.pop.new.self.items (record { state = c.in-Some.frame.state; next = c.in-Some.frame.next + 1 }), ap length c.enter.ensures.word, length_push a.word.items c.in-Some.frame.next);
@@ -47,23 +48,30 @@ returns-then-frame-len-clause-ready c =
 pub loop-frame-preserved : goal.loop-frame-preserved
 loop-frame-preserved c =
     let a = c.loop-frame.self in
+    let b = c.leave.new.self in
     let split : a.frames.items ≡ c.pop.new.self.items ++ c.in-Some.frame ∷ [] = c.in-Some.ensures.items in
     let even : length c.pop.new.self.items ≡ length a.word.items = omega (arith, ap length split, length_push c.pop.new.self.items c.in-Some.frame, c.loop-frame.invariant.framed) in
-    let fewer : length a.frames.items ≡ length c.pop.new.self.items + 1 = omega (arith, ap length split, length_push c.pop.new.self.items c.in-Some.frame) in
     let none : length (letters_of a.terms) ≤ c.in-Some.frame.next = omega (arith, length-map a.terms.letters.items part_bytes) in
+    let same : b.terms ≡ a.terms = c.leave.ensures.kept.0 in
+    let frames : b.frames.items ≡ c.pop.new.self.items = ap (λ v. v.items) c.leave.ensures.kept.4 in
+    let below : Frames a.terms c.pop.new.self.items = (all_front (λ f. IsState a.terms.seen.scope.tree f.state) c.pop.new.self.items c.in-Some.frame (subst (Frames a.terms) split c.loop-frame.invariant.states)).0 in
     record {
-      terms = c.loop-frame.invariant.terms;
-      sound = c.loop-frame.invariant.sound;
-      words = grind (arith, common_steps);
-      frames = grind (arith, common_steps);
-      calls = c.loop-frame.invariant.calls;
-      within = grind (arith, common_steps);
-      states = (all_front (λ f. IsState a.terms.seen.scope.tree f.state) c.pop.new.self.items c.in-Some.frame (subst (Frames a.terms) split c.loop-frame.invariant.states)).0;
-      given = c.loop-frame.invariant.given;
-      framed = grind (arith, common_steps);
-      most = omega arith;
-      going = c.loop-frame.invariant.going;
-      so_far = c.loop-frame.invariant.so_far ∙ left_by (world_in a.terms) (letters_of a.terms) a.terms.limit a.word.items c.pop-in-Some.new.self.items c.pop-in-Some.result a.frames.items c.pop.new.self.items c.in-Some.frame split even none c.pop-in-Some.ensures.items
+      terms = same ∙ c.loop-frame.invariant.terms;
+      sound = subst IsSound (sym same) c.loop-frame.invariant.sound;
+      words = c.leave.ensures.room.words;
+      frames = c.leave.ensures.room.frames;
+      calls = c.leave.ensures.room.calls;
+      paths = c.leave.ensures.room.paths;
+      spelled = c.leave.ensures.spelled;
+      within = c.leave.ensures.room.within;
+      states = subst (λ (t : Terms). Frames t b.frames.items) (sym same) (subst (Frames a.terms) (sym frames) below);
+      given = ap (λ (n : ℕ). drop n b.calls.items) c.leave.ensures.kept.3 ∙ ap (λ v. drop a.given v.items) c.leave.ensures.kept.2 ∙ c.loop-frame.invariant.given;
+      framed = omega (arith, ap length frames, ap length c.leave.ensures.word, length-take (length a.word.items - 1) a.word.items, even);
+      most = omega (arith, ap length frames, even, c.loop-frame.invariant.within, ap (λ (t : Terms). t.limit) same);
+      going = c.leave.ensures.kept.1 ∙ c.loop-frame.invariant.going;
+      so_far = c.loop-frame.invariant.so_far
+          ∙ left_by (world_in a.terms) (letters_of a.terms) a.terms.limit a.word.items b.word.items a.frames.items c.pop.new.self.items b.frames.items c.in-Some.frame split even none c.leave.ensures.word frames
+          ∙ ap (λ (t : Terms). pending (world_in t) everywhere (letters_of t) t.limit 0 (word_of (letters_of t) b.word.items) b.frames.items) (sym same)
     }
 
 pub returns-clause-none : goal.returns-clause-none

@@ -1,5 +1,6 @@
-use Rattle.std.proofs.Common.{◌≡◌, ◌-◌, ◌≤◌, length, false, [], vec_capacity}
-use Rattle.pua_audit.specs.Ready.{Frames, left_in, left_over, IsSound}
+use Rattle.std.proofs.Common.{◌≡◌, ◌-◌, ◌≤◌, ◌*◌, suc, length, false, [], vec_capacity}
+use Rattle.pua_audit.specs.Begin.{longest}
+use Rattle.pua_audit.specs.Ready.{Frames, letters_of, IsSpelled, left_in, left_over, IsSound}
 use Rattle.pua_audit.proofs.walk.Walk.turn.Given as goal
 
 abbrev pub invariant-loop-frame : goal.invariant-loop-frame
@@ -9,6 +10,8 @@ invariant-loop-frame l = record {
   words : l.self.terms.limit ≤ vec_capacity l.self.word;
   frames : l.self.terms.limit ≤ vec_capacity l.self.frames;
   calls : 14 ≤ vec_capacity l.self.calls;
+  paths : l.self.terms.limit * suc (longest (letters_of l.self.terms)) ≤ vec_capacity l.self.path;
+  spelled : IsSpelled l.self.terms l.self.word.items l.self.path.items;
   within : length l.self.word.items ≤ l.self.terms.limit;
   states : Frames l.self.terms l.self.frames.items;
   given : left_in l.self ≡ [];
