@@ -1,16 +1,16 @@
 -- The letters that pieces of a printed path spell.
-use Rattle.std.proofs.Common.{◌≡◌, ◌≢◌, ℕ, zero, suc, ◌+◌, ◌<◌, ◌≤◌, List, [], ◌∷◌, ◌++◌, Bool, true, false, cond, Option, Some, None, Result, Ok, Err, length, map, get_or, take, drop, refl, sym, ap, subst, ◌∙◌, inl, inr, ◌⊎◌, arith, append_assoc, length-append, codes, position, ltb, take_all}
-use Rattle.std.specs.Prelude.{find, option_map, option_and_then, IsTrue, nat_le, ◌==◌, ◌||◌}
+use Rattle.std.proofs.Common.{◌≡◌, ◌≢◌, ℕ, zero, suc, ◌+◌, ◌<◌, ◌≤◌, List, [], ◌∷◌, ◌++◌, Bool, true, false, cond, Option, Some, None, Result, Ok, Err, length, get_or, drop, refl, sym, ap, subst, ◌∙◌, inl, inr, ◌⊎◌, arith, append_assoc, length-append, codes, position, ltb, take_all}
+use Rattle.std.specs.Prelude.{find, option_map, option_and_then, IsTrue}
 use Rattle.std.specs.Bool.{one_answer}
 use Rattle.std.specs.List.{list_all, position_or_len, before_first, after_first}
 use Rattle.std.specs.Result.{result_ok}
-use Rattle.std.proofs.lemmas.Bool.{and_parts, or_cases, lt-leb, le-leb, eq-eqb, ltb-true, ltb-false, false≢true}
+use Rattle.std.proofs.lemmas.Bool.{and_parts, or_cases, lt-leb, le-leb, eq-eqb, ltb-false, false≢true}
 use Rattle.std.proofs.lemmas.List.{drop_all, drop_more}
 use Rattle.std.proofs.lemmas.Slice.Eq.{bytes_eq-Decides}
 use Rattle.pua_tree.specs.Names.{is_name, same_bytes}
 use Rattle.pua_tree.specs.Spelling.{spelling, name_of}
 use Rattle.pua_tree.specs.declared.fault.NameFault.{NameFault}
-use Rattle.pua_tree.proofs.Spellings.{is_byte, name_is_bytes, spelling_tells, name_of-spelling, name_read, Err≢Ok}
+use Rattle.pua_tree.proofs.Spellings.{is_byte, name_is_bytes, spelling_tells, name_of-spelling, Err≢Ok}
 use Rattle.pua_audit.specs.Reach.{Word}
 use Rattle.pua_audit.specs.Begin.{word_of_pieces, word_of_path, word_within}
 use Rattle.pua_audit.specs.World.{is_letter}

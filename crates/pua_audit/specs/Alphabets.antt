@@ -1,5 +1,5 @@
 -- Letters as parts of paths, and where they stand among others.
-use Rattle.std.specs.Prelude.{◌≡◌, ◌<◌, ◌≤◌, ℕ, List, [], ◌∷◌, length, get_or, Option, Some, None, Result, MatchResult, find}
+use Rattle.std.specs.Prelude.{◌≡◌, ◌<◌, ◌≤◌, ℕ, List, [], ◌∷◌, length, get_or, None, Result, MatchResult, find}
 use Rattle.std.specs.List.{AllByRecursion, insert}
 use Rattle.pua_tree.specs.Names.{same_bytes}
 use Rattle.pua_tree.specs.Tree.{with_name}

@@ -4,6 +4,7 @@
 mod alphabet;
 mod audit;
 mod base;
+mod beginning;
 mod candidates;
 mod content;
 mod fault;

@@ -1,5 +1,5 @@
 use Rattle.std.proofs.Common.{◌≡◌, ◌∙◌, map, codes, sym, ap, subst}
-use Rattle.pua_tree.specs.Tree.{name_cmp, with_name, distinct_names, names}
+use Rattle.pua_tree.specs.Tree.{name_cmp, with_name, names}
 use Rattle.pua_audit.specs.Laws.{Rises}
 use Rattle.pua_audit.specs.Ready.{part_bytes}
 use Rattle.pua_audit.specs.Alphabets.{with_names}

@@ -10,4 +10,4 @@ pub returns : goal.returns
 returns c =
     let ord = λ (p : Part). name_cmp (part_bytes p) c.args.bytes.now in
     let searched = c.binary_search_by.ensures.position ord (always_returns_same _ _ _ (λ a r f g. search rules)) in
-    placed c.args.letters.now c.args.bytes.now c.requires _ c.binary_search_by.ensures.bound searched
+    placed c.args.letters.now c.args.bytes.now c.requires c.binary_search_by.result c.binary_search_by.ensures.bound searched

@@ -1,4 +1,4 @@
-use Rattle.std.proofs.Common.{◌≡◌, ◌∙◌, ℕ, length, map, get_or, ap, arith}
+use Rattle.std.proofs.Common.{◌≡◌, ◌∙◌, length, map, get_or, ap, arith}
 use Rattle.std.proofs.lemmas.Grind.{common_steps}
 use Rattle.pua_audit.specs.Begin.{word_within}
 use Rattle.pua_audit.specs.Ready.{part_bytes}

@@ -1,4 +1,4 @@
-use Rattle.std.proofs.Common.{◌≡◌, ◌∙◌, ℕ, map, codes, Some, [], true, cond, sym, ap}
+use Rattle.std.proofs.Common.{◌≡◌, ◌∙◌, map, codes, Some, [], true, cond, sym, ap}
 use Rattle.pua_tree.specs.Names.{same_bytes}
 use Rattle.pua_audit.specs.Begin.{word_within, word_of_path, word_of_pieces_between}
 use Rattle.pua_audit.specs.Ready.{part_bytes}
