@@ -1,18 +1,25 @@
 //! What an audit is of.
 
-ghost use Rattle.std.specs.Prelude.{◌≡◌, ◌≤◌, ◌<◌, length, IsTrue, IfOk, IfSome, vec_capacity};
+ghost use Rattle.std.specs.Prelude.{◌≡◌, ◌≤◌, ◌<◌, ◌*◌, suc, length, IsTrue, IfOk, IfSome, vec_capacity};
 ghost use Rattle.pua_tree.specs.Tree.{is_dir};
 ghost use Rattle.pua_policy.specs.Calls.{standard_table, last_of};
+ghost use Rattle.pua_policy.specs.History.{History, StandsFor};
 ghost use Rattle.pua_policy.specs.Verdict.{FoundsFit, verdict_of, is_allowed};
-ghost use Rattle.pua_audit.specs.World.{base_dir, base_way, state_of};
+ghost use Rattle.pua_audit.specs.Alphabets.{AreParts};
+ghost use Rattle.pua_audit.specs.Begin.{longest};
+ghost use Rattle.pua_audit.specs.Starting.{scope_with};
+ghost use Rattle.pua_audit.specs.World.{base_dir, base_way, state_of, is_open};
 ghost use Rattle.pua_audit.specs.declared.place.Place.TheVariants as places;
-ghost use Rattle.pua_audit.specs.Ready.{IsSound, IsAt, IsState, step_from, found_from, by_last, world_in, letters_of, place_of};
+ghost use Rattle.pua_audit.specs.Ready.{scope_in, IsSound, IsAt, IsState, step_from, found_from, by_last, world_in, letters_of, place_of};
 ghost use Rattle.pua_audit.specs.Trail.{allowed_at};
+
+use std::alloc::Global;
 
 use pua_path::{Errno, Found, Last, Part, Probe, Way};
 use pua_policy::{Call, Process, Verdict, judge, needs};
-use pua_tree::NodeId;
+use pua_tree::{Kind, NodeId, OutOfMemory};
 
+use crate::alphabet::longest;
 use crate::base::Base;
 use crate::content::Content;
 use crate::named::Named;
@@ -31,6 +38,57 @@ pub struct Terms {
 }
 
 impl Terms {
+    /// What an audit of a copy of a process is of, over the tree of a probe, by words of at most so
+    /// many of these letters. The history is one that the process stands for. `OutOfMemory` where
+    /// the growth for the copy was refused.
+    pub fn new<'t, P: Probe<'t>>(
+        alloc: Global,
+        probe: &P,
+        process: &Process,
+        base: Base,
+        limit: u8,
+        letters: Vec<Part>,
+    ) -> Result<Terms, OutOfMemory>
+        ghost history: { History }
+        requires stands { StandsFor process.now history }
+        requires parts { AreParts letters.items }
+        ensures sound { IfOk result (λ terms. IsSound terms) }
+        ensures scope { IfOk result (λ terms. scope_in terms ≡ scope_with (P.tree probe.now) standard_table history base limit letters.items) }
+        ensures letters { IfOk result (λ terms. (terms.limit ≡ limit) × (terms.letters ≡ letters)) }
+    {
+        probe.known();
+        let process = process.fork(alloc)?;
+        Ok(Terms {
+            seen: Content::of(probe),
+            process,
+            base,
+            limit: usize::from(limit),
+            letters,
+        })
+    }
+
+    /// Whether something may be allowed: the process has not ended, and the directory at the base
+    /// was not removed.
+    pub fn is_open<'t, P: Probe<'t>>(&self, probe: &mut P) -> bool
+        requires tree { P.tree probe.old ≡ self.now.seen.scope.tree }
+        requires sound { IsSound self.now }
+        ensures open { result ≡ is_open (scope_in self.now) }
+        ensures tree { P.tree probe.new ≡ P.tree probe.old }
+    {
+        if self.process.ended() {
+            return false;
+        }
+        matches!(probe.kind(self.base_dir()), Some(Kind::Dir))
+    }
+
+    /// How many bytes the letters of a word and their slashes have at most.
+    pub fn most_bytes(&self) -> usize
+        requires { self.now.limit * suc (longest (letters_of self.now)) ≤ 1023 }
+        ensures { result ≡ self.now.limit * suc (longest (letters_of self.now)) }
+    {
+        self.limit * (longest(self.letters.as_slice()) + 1)
+    }
+
     /// The directory in which the first letter stands.
     pub fn base_dir(&self) -> NodeId
         requires { IsSound self.now }
