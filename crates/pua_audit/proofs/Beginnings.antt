@@ -1,6 +1,7 @@
 -- What an audit begins with, or the first fault, test by test.
-use Rattle.std.proofs.Common.{◌≡◌, ℕ, suc, ◌+◌, ◌*◌, ◌≤◌, ◌<◌, List, [], ◌∷◌, ◌++◌, Bool, length, map, codes, refl, sym, ap, subst, ◌∙◌, add-one}
-use Rattle.std.specs.Prelude.{Option, Result, Ok, Err, nat_le, ok_or, IsTrue}
+use Rattle.std.proofs.Common.{◌≡◌, ℕ, suc, ◌+◌, ◌*◌, ◌≤◌, ◌<◌, List, [], ◌∷◌, ◌++◌, Bool, true, false, length, map, codes, refl, sym, ap, subst, ◌∙◌, add-one}
+use Rattle.std.specs.Prelude.{Option, Some, None, Result, Ok, Err, nat_le, ok_or, option_map, filter, not, IsTrue}
+use Rattle.std.specs.Ordering.{is_lt}
 use Rattle.std.specs.Result.{result_ok}
 use Rattle.std.specs.List.{AllByRecursion, list_all}
 use Rattle.std.proofs.lemmas.Bool.{le-leb, lt-leb, and_parts, and_from, or_left}
@@ -11,15 +12,20 @@ use Rattle.pua_tree.specs.Tree.{Tree, Spot, WellFormed, row_fits, is_dir, distin
 use Rattle.pua_tree.specs.declared.fault.NameFault.{NameFault}
 use Rattle.pua_tree.proofs.Spellings.{name_read, Err≢Ok, same_Ok}
 use Rattle.pua_policy.specs.Calls.{CallTable}
-use Rattle.pua_policy.specs.History.{History}
-use Rattle.pua_audit.specs.Reach.{Scope, alphabet_of}
-use Rattle.pua_audit.specs.Begin.{Beginning, candidates_from, longest, fault_unless, beginning}
-use Rattle.pua_audit.specs.World.{is_letter}
-use Rattle.pua_audit.specs.Starting.{begun_in}
+use Rattle.pua_policy.specs.History.{History, is_ended}
+use Rattle.pua_policy.proofs.Finding.{both_true}
+use Rattle.pua_audit.specs.Reach.{Pair, Scope, alphabet_of, pair_cmp, rest_after}
+use Rattle.pua_audit.specs.Begin.{Beginning, candidates_from, longest, fault_unless, beginning, still_to_come}
+use Rattle.pua_audit.specs.World.{is_letter, is_open, base_dir, world, reach_along}
+use Rattle.pua_audit.specs.Laws.{IsAudited}
+use Rattle.pua_audit.specs.Starting.{IsBegun, begun_in, beginning_with, pair_in, scope_with}
+use Rattle.pua_audit.specs.declared.beginning.Begun.{Begun}
+use Rattle.pua_audit.specs.declared.resume_text.Resumption.{Resumption}
 use Rattle.pua_audit.specs.declared.base.Base.{Base}
 use Rattle.pua_audit.specs.declared.fault.AuditFault.{AuditFault}
 use Rattle.pua_audit.specs.declared.fault.AuditFault.TheVariants.{LimitTooLarge, TooLong, TooManyNames, BadCandidate}
 use Rattle.pua_audit.proofs.Rising.{all_joined, all_with_name}
+use Rattle.pua_audit.proofs.Audited.{reaches_along, closed_reaches}
 
 module _ (t : Tree) (table : CallTable) (h : History) (base : Base) (texts : List (List ℕ)) (limit : ℕ) (after : Option (List ℕ)) where
   abbrev scope_of : List (List ℕ) → Scope
@@ -99,3 +105,34 @@ alphabet_letters t fits texts candidates read =
 -- the same product, of equal factors
 pub same_product : (from limit result most : ℕ) → from ≡ limit → result ≡ most → from * (result + 1) ≡ limit * suc most
 same_product from limit result most f r = (λ i. f i * (r i + 1)) ∙ ap (λ n. limit * n) (add-one most)
+
+-- what is still to come, judged letter by letter
+
+module _ (t : Tree) (table : CallTable) (h : History) (base : Base) (limit : ℕ) (b : Begun) (begun : IsBegun t limit b) where
+  abbrev scope : Scope
+  scope = scope_with t table h base limit b.letters.items
+
+  pub audited : IsAudited scope
+  audited = record { tree = begun.tree; letters = begun.sound.known; short = begun.sound.short }
+
+  lives : is_open scope ≡ true → IsTrue (is_dir t (base_dir base h))
+  lives opened = (both_true (not (is_ended h)) (is_dir t (base_dir base h)) opened).1
+
+  -- all that is allowed, where nothing is resumed
+  pub to_come_fresh : is_open scope ≡ true → b.after ≡ None → still_to_come (beginning_with t table h base limit b) ≡ reach_along (world scope) scope.alphabet limit
+  to_come_fresh opened none = ap (λ o. rest_after scope (option_map (pair_in scope.alphabet) o)) none ∙ reaches_along scope audited (lives opened)
+
+  -- what comes behind the pair
+  pub to_come_after : is_open scope ≡ true → (r : Resumption) → b.after ≡ Some r
+      → still_to_come (beginning_with t table h base limit b) ≡ filter (λ other. is_lt (pair_cmp (pair_in scope.alphabet r) other)) (reach_along (world scope) scope.alphabet limit)
+  to_come_after opened r some =
+      ap (λ o. rest_after scope (option_map (pair_in scope.alphabet) o)) some
+      ∙ ap (filter (λ other. is_lt (pair_cmp (pair_in scope.alphabet r) other))) (reaches_along scope audited (lives opened))
+
+  -- nothing, where the process has ended or its base was removed
+  pub to_come_closed : is_open scope ≡ false → still_to_come (beginning_with t table h base limit b) ≡ []
+  to_come_closed closed = by (option_map (pair_in scope.alphabet) b.after)
+    where
+      by : (o : Option Pair) → rest_after scope o ≡ []
+      by None = closed_reaches scope audited closed
+      by (Some pair) = ap (filter (λ other. is_lt (pair_cmp pair other))) (closed_reaches scope audited closed)

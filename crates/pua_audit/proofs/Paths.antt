@@ -80,7 +80,7 @@ letter_is_piece a h = by (is_name a) refl h
 
 -- the parts of a path
 
-no_slash_all : (xs : List ℕ) → list_any slash xs ≡ false → All (λ b. slash b ≡ false) xs
+pub no_slash_all : (xs : List ℕ) → list_any slash xs ≡ false → All (λ b. slash b ≡ false) xs
 no_slash_all [] h = λ k d l. absurd (omega (arith, l))
 no_slash_all (b ∷ bs) h = by (λ k. no_slash_all bs k) (b == 47) refl h
   where
@@ -182,7 +182,7 @@ path_is Root a word piece all h =
     record {
       fault = faultless (from_root (a ∷ word)) (a ∷ word) (lt-ltb 0 (length (from_root (a ∷ word))) (omega arith)) h pieces (all_short (a ∷ word) (piece, all)) (no_nul_from (a ∷ word) (piece, all));
       parts = λ e. parts_are e (from_root (a ∷ word)) (a ∷ word) pieces (end_of_root a word piece all);
-      absolute = refl
+      absolute = refl;
     }
 path_is Cwd a word piece all h =
     let pieces = components_of a word piece all in
@@ -191,5 +191,5 @@ path_is Cwd a word piece all h =
     record {
       fault = faultless (a ++ from_root word) (a ∷ word) (some_before a (from_root word) piece.some) fits pieces (all_short (a ∷ word) (piece, all)) nul;
       parts = λ e. parts_are e (a ++ from_root word) (a ∷ word) pieces (end_of a word piece all);
-      absolute = relative a (from_root word) piece
+      absolute = relative a (from_root word) piece;
     }

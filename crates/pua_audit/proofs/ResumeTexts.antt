@@ -26,7 +26,7 @@ use Rattle.pua_audit.proofs.Placing.{other_bytes}
 letter_is : (a : List ℕ) → IsTrue (is_letter a) → IsTrue (is_name a) ⊎ (a ≡ codes "..")
 letter_is a h = elim (or_cases (is_name a) (same_bytes a (codes "..")) h) [ inl n ↦ inl n | inr d ↦ inr ((bytes_eq-Decides a (codes "..")).0 d) ]
 
-letter_bytes : (a : List ℕ) → IsTrue (is_letter a) → IsTrue (list_all is_byte a)
+pub letter_bytes : (a : List ℕ) → IsTrue (is_letter a) → IsTrue (list_all is_byte a)
 letter_bytes a h = elim (letter_is a h) [ inl n ↦ name_is_bytes a n | inr d ↦ subst (λ l. IsTrue (list_all is_byte l)) (sym d) refl ]
 
 -- where a letter was looked for by its bytes
@@ -45,7 +45,7 @@ found_placed : (q : List ℕ) (ms : List (List ℕ)) (r : Result ℕ ℕ) → Is
 found_placed q ms (Ok i) p = ap Some p.1 ∙ sym (found q ms i p.0 p.1)
 found_placed q ms (Err i) p = sym p.2
 
-same_find : (f g : List ℕ → Bool) (ms : List (List ℕ)) → IsTrue (list_all is_letter ms) → ((a : List ℕ) → IsTrue (is_letter a) → f a ≡ g a) → find f ms ≡ find g ms
+pub same_find : (f g : List ℕ → Bool) (ms : List (List ℕ)) → IsTrue (list_all is_letter ms) → ((a : List ℕ) → IsTrue (is_letter a) → f a ≡ g a) → find f ms ≡ find g ms
 same_find f g [] all same = refl
 same_find f g (m ∷ ms) all same =
     let parts = and_parts (is_letter m) (list_all is_letter ms) all in
@@ -55,16 +55,19 @@ find_none : (ms : List (List ℕ)) → find (λ _. false) ms ≡ None
 find_none [] = refl
 find_none (m ∷ ms) = find_none ms
 
+-- bytes are a letter's where their spelling is
+pub spelled_same : (q piece : List ℕ) → piece ≡ spelling q → IsTrue (list_all is_byte q) → (a : List ℕ) → IsTrue (is_letter a) → same_bytes q a ≡ same_bytes (spelling a) piece
+spelled_same q piece is bytes a h =
+    one_answer (same_bytes q a) (same_bytes (spelling a) piece) (bytes_eq-Decides q a) (
+      λ e. spelling_tells q a bytes (letter_bytes a h) (sym is ∙ sym ((bytes_eq-Decides (spelling a) piece).0 e)),
+      λ e. (bytes_eq-Decides (spelling a) piece).1 (ap spelling (sym e) ∙ sym is),
+    )
+
 module _ (ms : List (List ℕ)) (all : IsTrue (list_all is_letter ms)) where
   -- bytes that a text spells are found by the text
   pub spelled_placed : (q piece : List ℕ) (r : Result ℕ ℕ) → piece ≡ spelling q → IsTrue (list_all is_byte q) → IsPlaced ms q r
       → option_map (λ i. get_or ms i []) (result_ok r) ≡ find (λ a. same_bytes (spelling a) piece) ms
-  spelled_placed q piece r is bytes p = found_placed q ms r p ∙ same_find (same_bytes q) (λ a. same_bytes (spelling a) piece) ms all same
-    where
-      same : (a : List ℕ) → IsTrue (is_letter a) → same_bytes q a ≡ same_bytes (spelling a) piece
-      same a h =
-          one_answer (same_bytes q a) (same_bytes (spelling a) piece) (bytes_eq-Decides q a)
-          (λ e. spelling_tells q a bytes (letter_bytes a h) (sym is ∙ sym ((bytes_eq-Decides (spelling a) piece).0 e)), λ e. (bytes_eq-Decides (spelling a) piece).1 (ap spelling (sym e) ∙ sym is))
+  spelled_placed q piece r is bytes p = found_placed q ms r p ∙ same_find (same_bytes q) (λ a. same_bytes (spelling a) piece) ms all (spelled_same q piece is bytes)
 
   -- what spells no name and is not two dots spells no letter
   pub none_spelled : (piece : List ℕ) (fault : NameFault) → name_of piece ≡ Err fault → same_bytes piece (codes "..") ≡ false → find (λ a. same_bytes (spelling a) piece) ms ≡ None

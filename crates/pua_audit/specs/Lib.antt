@@ -10,3 +10,4 @@ pub mod AuditState
 pub mod Lent
 pub mod Alphabets
 pub mod Starting
+pub mod PairTexts

@@ -23,5 +23,5 @@ mod walk;
 pub use audit::Audit;
 pub use base::Base;
 pub use fault::AuditFault;
-pub use laws::{reach_examples, reach_laws, walk_laws};
+pub use laws::{reach_examples, reach_laws, resume_text_law, walk_laws};
 pub use line::Line;
