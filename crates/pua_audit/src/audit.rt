@@ -33,10 +33,10 @@ impl Model for Audit {
 
     ghost Value = { AuditState };
 
-    ghost use Rattle.pua_audit.specs.Ready.{scope_in, trail, IsReady};
+    ghost use Rattle.pua_audit.specs.Ready.{trail, IsReady};
     ghost use Rattle.pua_audit.specs.Trail.{lines_of};
 
-    ghost view = { λ a. record { scope = scope_in a.walk.terms; left = lines_of (trail a.walk) } };
+    ghost view = { λ a. record { tree = a.walk.terms.seen.scope.tree; base = a.walk.terms.base; left = lines_of (trail a.walk) } };
 
     ghost invariant = { λ a. IsReady a.walk };
 }
@@ -45,7 +45,8 @@ impl Audit {
     /// Begins the audit of a process over the tree of a probe: by paths from this base, of at most
     /// `limit` letters, each a name of the tree's rows, `..` or a candidate; from its first line, or
     /// from the one behind the pair that a text `CALL:PATH` names. The process is copied, so what
-    /// becomes of it later changes nothing. The history is one that the process stands for.
+    /// becomes of it later changes nothing. What is to come is the same for each history that the
+    /// process stands for, and there is one.
     ///
     /// The errors come in the order of `AuditFault`'s page, but that `OutOfMemory` comes wherever a
     /// growth was refused. The resume text is judged also where nothing is allowed at all. Later
@@ -59,13 +60,12 @@ impl Audit {
         limit: u8,
         after: Option<&[u8]>,
     ) -> Result<Audit, AuditFault>
-        ghost history: { History }
-        requires stands { StandsFor process.now history }
-        ensures begun { IfOk result (λ audit. (b : Beginning) ×
-            ((beginning (P.tree probe.old) standard_table history base (map (λ s. s.now) candidates.now) limit (option_map (λ s. s.now) after.entry) ≡ Ok b)
-            × (audit.scope ≡ b.scope) × (audit.left ≡ still_to_come b))) }
-        ensures refused { IfErr result (λ fault. fault ≢ AuditFault.OutOfMemory →
-            beginning (P.tree probe.old) standard_table history base (map (λ s. s.now) candidates.now) limit (option_map (λ s. s.now) after.entry) ≡ Err fault) }
+        requires stands { (h : History) × StandsFor process.now h }
+        ensures begun { IfOk result (λ audit. (h : History) → StandsFor process.now h → (b : Beginning) ×
+            ((beginning (P.tree probe.old) standard_table h base (map (λ s. s.now) candidates.now) limit (option_map (λ s. s.now) after.entry) ≡ Ok b) × (audit.left ≡ still_to_come b))) }
+        ensures of { IfOk result (λ audit. (audit.tree ≡ P.tree probe.old) × (audit.base ≡ base)) }
+        ensures refused { IfErr result (λ fault. fault ≢ AuditFault.OutOfMemory → (h : History) →
+            beginning (P.tree probe.old) standard_table h base (map (λ s. s.now) candidates.now) limit (option_map (λ s. s.now) after.entry) ≡ Err fault) }
         ensures tree { P.tree probe.new ≡ P.tree probe.old }
     {
         let Begun { letters, after } =
@@ -82,7 +82,7 @@ impl Audit {
     /// Lends the next line, in the order of the reach: None where no pair is left. The tree is the
     /// one with which the audit began. It takes no memory and never fails.
     pub fn next_line<'t, P: Probe<'t>>(&mut self, probe: &mut P) -> Option<Line<'_>>
-        requires { P.tree probe.old ≡ self.old.scope.tree }
+        requires { P.tree probe.old ≡ self.old.tree }
         ensures* rest { sem 𝓛 (LendsLine self.entry result) }
         ensures tree { P.tree probe.new ≡ P.tree probe.old }
     {
