@@ -41,10 +41,11 @@ impl Walk {
         if !open {
             return Ok(walk);
         }
-        match after {
-            Some(after) => walk.resume(probe, &after),
-            None => walk.decide(probe),
-        }
+        let Some(after) = after else {
+            walk.decide(probe);
+            return Ok(walk);
+        };
+        walk.resume(probe, &after);
         Ok(walk)
     }
 

@@ -3,10 +3,11 @@
 ghost use Rattle.std.specs.Prelude.{◌≡◌, ◌≤◌, ◌<◌, ◌*◌, suc, length, IsTrue, IfOk, IfSome, vec_capacity};
 ghost use Rattle.pua_tree.specs.Tree.{is_dir};
 ghost use Rattle.pua_policy.specs.Calls.{standard_table, last_of};
-ghost use Rattle.pua_policy.specs.History.{History, StandsFor};
+ghost use Rattle.pua_policy.specs.History.{StandsFor};
 ghost use Rattle.pua_policy.specs.Verdict.{FoundsFit, verdict_of, is_allowed};
 ghost use Rattle.pua_audit.specs.Alphabets.{AreParts};
 ghost use Rattle.pua_audit.specs.Begin.{longest};
+ghost use Rattle.pua_audit.specs.Past.{history_of};
 ghost use Rattle.pua_audit.specs.Starting.{scope_with};
 ghost use Rattle.pua_audit.specs.World.{base_dir, base_way, state_of, is_open};
 ghost use Rattle.pua_audit.specs.declared.place.Place.TheVariants as places;
@@ -39,8 +40,7 @@ pub struct Terms {
 
 impl Terms {
     /// What an audit of a copy of a process is of, over the tree of a probe, by words of at most so
-    /// many of these letters. The history is one that the process stands for. `OutOfMemory` where
-    /// the growth for the copy was refused.
+    /// many of these letters. `OutOfMemory` where the growth for the copy was refused.
     pub fn new<'t, P: Probe<'t>>(
         alloc: Global,
         probe: &P,
@@ -49,11 +49,10 @@ impl Terms {
         limit: u8,
         letters: Vec<Part>,
     ) -> Result<Terms, OutOfMemory>
-        ghost history: { History }
-        requires stands { StandsFor process.now history }
+        requires stands { StandsFor process.now (history_of process.now) }
         requires parts { AreParts letters.items }
         ensures sound { IfOk result (λ terms. IsSound terms) }
-        ensures scope { IfOk result (λ terms. scope_in terms ≡ scope_with (P.tree probe.now) standard_table history base limit letters.items) }
+        ensures scope { IfOk result (λ terms. scope_in terms ≡ scope_with (P.tree probe.now) standard_table (history_of process.now) base limit letters.items) }
         ensures letters { IfOk result (λ terms. (terms.limit ≡ limit) × (terms.letters ≡ letters)) }
     {
         probe.known();
@@ -92,7 +91,7 @@ impl Terms {
     /// The directory in which the first letter stands.
     pub fn base_dir(&self) -> NodeId
         requires { IsSound self.now }
-        ensures { result ≡ base_dir self.now.base self.now.seen.scope.history }
+        ensures { result ≡ base_dir self.now.base (history_of self.now.process) }
     {
         match self.base {
             Base::Root => NodeId::ROOT,
@@ -229,7 +228,7 @@ impl Terms {
         requires sound { IsSound self.now }
         requires followed { FoundsFit self.now.seen.scope.tree named.now.followed }
         requires kept { FoundsFit self.now.seen.scope.tree named.now.kept }
-        ensures value { result ≡ is_allowed (verdict_of self.now.seen.scope.tree standard_table self.now.seen.scope.history call (by_last (last_of call) named.now.followed named.now.kept)) }
+        ensures value { result ≡ is_allowed (verdict_of self.now.seen.scope.tree standard_table (history_of self.now.process) call (by_last (last_of call) named.now.followed named.now.kept)) }
         ensures tree { P.tree probe.new ≡ P.tree probe.old }
     {
         let found = named.by(needs::need(call).last);
