@@ -21,6 +21,7 @@ use Rattle.pua_policy.specs.declared.place.Place.{Place}
 use Rattle.pua_script.specs.declared.answer.Answer.{Answer}
 use Rattle.pua_script.specs.declared.fault.WorldFault.{WorldFault}
 use Rattle.pua_script.specs.Replay.{World, Effect, Fails, Kills, Leaves, if_promised, on_found, unless, unveil_errno, unveil_request}
+use Rattle.pua_script.specs.Judged.{unveil_on}
 use Rattle.pua_script.specs.Worlds.{Does, Edits}
 
 module _ (t u : Tree) (h : History) (a : Answer) (q : ProcessState) where
@@ -36,15 +37,11 @@ module _ (t u : Tree) (h : History) (a : Answer) (q : ProcessState) where
   pub as_edit : (e : Effect) → Edits t h e a u → StandsFor q h → Does t h e a u q
   as_edit e edits stands = record { told = edits.told; left = edits.left; stands = subst (StandsFor q) (sym edits.same) stands; alone = edits.alone }
 
--- an unveil whose path named something
-pub unveil_named : (t : Tree) (h : History) (path : List ℕ) (perms : Option ℕ) (p : ℕ) (object : Found) (place : Place) → may.Yes ≡ may_any h (unveil ∷ []) → false ≡ is_locked h → perms ≡ Some p
-    → Ok object ≡ resolution_of_text t (working_dir h) ending.Dot path Followed → place ≡ place_of object
-    → unveil_request t h path perms ≡ unless (unveil_errno (unveil_fault h place p)) (Leaves t (Unveiled place p ∷ h))
-unveil_named t h path perms p object place promised unlocked is named at =
-    ap (unveil_request t h path) is
-    ∙ (λ i. if_promised (sym promised i) (cond (sym unlocked i) (Fails EPERM)
-    (on_found (sym named i) λ x. unless (unveil_errno (unveil_fault h (place_of x) p)) (Leaves t (Unveiled (place_of x) p ∷ h)))))
-    ∙ ap (λ at. unless (unveil_errno (unveil_fault h at p)) (Leaves t (Unveiled at p ∷ h))) (sym at)
+-- an unveil of a path, by the effect that puts the veil
+pub unveil_as_judged : (t : Tree) (h : History) (path : List ℕ) (perms : Option ℕ)
+    → unveil_request t h path perms ≡ unveil_on t h path perms (λ place p. unless (unveil_errno (unveil_fault h place p)) (Leaves t (Unveiled place p ∷ h)))
+unveil_as_judged t h path None = refl
+unveil_as_judged t h path (Some p) = refl
 
 -- the same where a growth may have been refused
 module _ (t u : Tree) (before q : ProcessState) where

@@ -5,9 +5,10 @@ ghost use Rattle.pua_script.specs.Worlds.{Acts, is_fork};
 
 use crate::answer::Answer;
 use crate::fault::WorldFault;
+use crate::process::{exit, lock, pledge};
 use crate::rename::rename;
 use crate::request::Action;
-use crate::serve::{exit, lock, on_path, pledge, symlink, unveil};
+use crate::serve::{on_path, symlink, unveil};
 use pua_policy::Process;
 use pua_tree::FileTree;
 

@@ -9,6 +9,7 @@ mod fork;
 mod laws;
 mod line;
 mod look;
+mod process;
 mod rename;
 mod request;
 mod script;

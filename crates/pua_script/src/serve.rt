@@ -1,22 +1,18 @@
-//! What each kind of request does.
+//! Requests with a path: calls of the table, symlinks and unveils.
 
-ghost use Rattle.std.specs.Prelude.{◌≡◌, ◌∷◌, [], IfOk, OnErr, false};
+ghost use Rattle.std.specs.Prelude.{◌≡◌, ◌∷◌, IfOk, OnErr, false};
 ghost use Rattle.pua_tree.specs.Tree.{Tree};
 ghost use Rattle.pua_policy.specs.Calls.{standard_table};
-ghost use Rattle.pua_policy.specs.History.{History, StandsFor, Unveiled, Locked, Ended, may_any, unveil_fault};
-ghost use Rattle.pua_policy.specs.Promises.{unveil as unveiling};
-ghost use Rattle.pua_policy.specs.Verdict.{place_of};
-ghost use Rattle.pua_script.specs.Replay.{Kills, Leaves, if_promised, unless, path_call, symlink_effect, pledge_effect, unveil_request, unveil_errno, given_set, is_unknown};
+ghost use Rattle.pua_policy.specs.History.{History, StandsFor, Unveiled, unveil_fault};
+ghost use Rattle.pua_script.specs.Replay.{Kills, Leaves, unless, path_call, symlink_effect, unveil_request, unveil_errno};
 ghost use Rattle.pua_script.specs.Worlds.{Does};
 
 use crate::answer::Answer;
 use crate::change::{add, change};
 use crate::fault::WorldFault;
-use crate::look::{Judged, judge_call, named};
-use crate::request::Given;
-use pua_path::{Counted, Ending, Errno, Found, Last, PathText};
-use pua_policy::needs::need;
-use pua_policy::{Call, May, Perms, Place, Process, Promises, UnveilFault};
+use crate::look::{Judged, judge_call, judge_symlink, judge_unveil};
+use pua_path::Errno;
+use pua_policy::{Call, Perms, Place, Process, UnveilFault};
 use pua_tree::{FileTree, Kind};
 
 /// Ends a process that did what it did not promise.
@@ -46,7 +42,7 @@ pub(crate) fn on_path<T: FileTree>(
     }
 }
 
-/// A symlink: the promise, then the target's text, then the path.
+/// A symlink.
 pub(crate) fn symlink<T: FileTree>(
     tree: &mut T,
     process: &mut Process,
@@ -57,50 +53,14 @@ pub(crate) fn symlink<T: FileTree>(
         Does (T.content tree.old) h (symlink_effect standard_table (T.content tree.old) h target.now path.now) answer (T.content tree.new) process.new) }
     ensures unchanged { OnErr result ((T.content tree.new ≡ T.content tree.old) × (process.new ≡ process.old)) }
 {
-    match process.may(need(Call::Symlink).promises) {
-        May::Yes => {}
-        May::Enosys => return Ok(Answer::Failed(Errno::ENOSYS)),
-        May::Death => return Ok(kill(process)),
-    }
-    if let Err(errno) = PathText::read(target, Ending::Dot) {
-        return Ok(Answer::Failed(errno));
-    }
-    match judge_call(tree, process, Call::Symlink, path) {
+    match judge_symlink(tree, process, target, path) {
         Judged::Allowed(found) => add(tree, &found, Kind::Link, Some(target)),
         Judged::Failed(errno) => Ok(Answer::Failed(errno)),
         Judged::Killed => Ok(kill(process)),
     }
 }
 
-/// A pledge. An unknown keyword in either argument is judged before what is held.
-pub(crate) fn pledge(process: &mut Process, promises: &Given, execpromises: &Given) -> Answer
-    ensures { (h : History) (t : Tree) → StandsFor process.old h → Does t h (pledge_effect t h promises.now execpromises.now) result t process.new }
-{
-    if is_unknown(promises) || is_unknown(execpromises) {
-        return Answer::Failed(Errno::EINVAL);
-    }
-    match process.pledge(given_set(promises), given_set(execpromises)) {
-        Ok(()) => Answer::Okay,
-        Err(errno) => Answer::Failed(errno),
-    }
-}
-
-fn is_unknown(given: &Given) -> bool
-    ensures { result ≡ is_unknown given.now }
-{
-    matches!(given, Given::Unknown)
-}
-
-fn given_set(given: &Given) -> Option<Promises>
-    ensures { result ≡ given_set given.now }
-{
-    match *given {
-        Given::Good(promises) => Some(promises),
-        Given::Null | Given::Unknown => None,
-    }
-}
-
-/// An unveil of a path: the promise, the lock, the letters, the path, and the veils kept so far.
+/// An unveil of a path.
 pub(crate) fn unveil<T: FileTree>(
     tree: &T,
     process: &mut Process,
@@ -111,30 +71,10 @@ pub(crate) fn unveil<T: FileTree>(
         Does (T.content tree.now) h (unveil_request (T.content tree.now) h path.now perms) answer (T.content tree.now) process.new) }
     ensures unchanged { OnErr result (process.new ≡ process.old) }
 {
-    match process.may(Promises::UNVEIL) {
-        May::Yes => {}
-        May::Enosys => return Ok(Answer::Failed(Errno::ENOSYS)),
-        May::Death => return Ok(kill(process)),
-    }
-    if process.locked() {
-        return Ok(Answer::Failed(Errno::EPERM));
-    }
-    let Some(perms) = perms else {
-        return Ok(Answer::Failed(Errno::EINVAL));
-    };
-    let mut probe = Counted::new(tree);
-    match named(&mut probe, process.dir(), path, Ending::Dot, Last::Followed) {
-        Ok(found) => put_veil(process, place_of(found), perms),
-        Err(errno) => Ok(Answer::Failed(errno)),
-    }
-}
-
-fn place_of(found: Found) -> Place
-    ensures { result ≡ place_of found }
-{
-    match found {
-        Found::Whole { dir, .. } => Place::Dir(dir),
-        Found::Slot { dir, name, .. } => Place::Slot(dir, name),
+    match judge_unveil(tree, process, path, perms) {
+        Judged::Allowed((place, perms)) => put_veil(process, place, perms),
+        Judged::Failed(errno) => Ok(Answer::Failed(errno)),
+        Judged::Killed => Ok(kill(process)),
     }
 }
 
@@ -150,27 +90,4 @@ fn put_veil(process: &mut Process, place: Place, perms: Perms) -> Result<Answer,
         Err(UnveilFault::TooManyPlaces) => Ok(Answer::Failed(Errno::E2BIG)),
         Err(UnveilFault::OutOfMemory) => Err(WorldFault::OutOfMemory),
     }
-}
-
-/// An unveil with two NULLs.
-pub(crate) fn lock(process: &mut Process) -> Answer
-    ensures { (h : History) (t : Tree) → StandsFor process.old h →
-        Does t h (if_promised (may_any h (unveiling ∷ [])) (Leaves t (Locked ∷ h))) result t process.new }
-{
-    match process.may(Promises::UNVEIL) {
-        May::Yes => {
-            process.lock();
-            Answer::Okay
-        }
-        May::Enosys => Answer::Failed(Errno::ENOSYS),
-        May::Death => kill(process),
-    }
-}
-
-/// An exit, which needs no promise.
-pub(crate) fn exit(process: &mut Process) -> Answer
-    ensures { (h : History) (t : Tree) → StandsFor process.old h → Does t h (Leaves t (Ended ∷ h)) result t process.new }
-{
-    process.end();
-    Answer::Okay
 }
