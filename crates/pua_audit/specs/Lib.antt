@@ -5,3 +5,5 @@ pub mod Trail
 pub mod Laws
 pub mod Examples
 pub mod Seen
+pub mod State
+pub mod Audits

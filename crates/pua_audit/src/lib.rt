@@ -1,6 +1,7 @@
 //! The reach of a process: the pairs of path and call that it is allowed.
 #![tactic(auto)]
 
+mod audit;
 mod base;
 mod content;
 mod fault;
@@ -9,6 +10,7 @@ mod laws;
 mod line;
 mod state;
 
+pub use audit::Audit;
 pub use base::Base;
 pub use fault::AuditFault;
 pub use laws::{reach_examples, reach_laws, walk_laws};

