@@ -7,3 +7,4 @@ pub mod Examples
 pub mod Seen
 pub mod State
 pub mod Audits
+pub mod Kept

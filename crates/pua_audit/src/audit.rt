@@ -46,13 +46,12 @@ impl Audit {
         limit: u8,
         after: Option<&[u8]>,
     ) -> Result<Audit, AuditFault>
-        ghost history: { History }
-        requires { StandsFor process.now history }
-        ensures begun { IfOk result (λ audit. (b : Beginning)
-            × (beginning (P.tree probe.old) standard_table history base (map (λ s. s.now) candidates.now) limit (option_map (λ s. s.now) after.entry) ≡ Ok b)
-            × (audit.scope ≡ b.scope) × (audit.left ≡ still_to_come b)) }
-        ensures refused { IfErr result (λ fault. fault ≢ AuditFault.OutOfMemory →
-            (beginning (P.tree probe.old) standard_table history base (map (λ s. s.now) candidates.now) limit (option_map (λ s. s.now) after.entry) ≡ Err fault)) }
+        requires { (h : History) × StandsFor process.now h }
+        ensures begun { IfOk result (λ audit. (h : History) → StandsFor process.now h → (b : Beginning)
+            × (beginning (P.tree probe.old) standard_table h base (map (λ s. s.now) candidates.now) limit (option_map (λ s. s.now) after.entry) ≡ Ok b)
+            × (audit.scope.tree ≡ b.scope.tree) × (audit.scope.base ≡ b.scope.base) × (audit.left ≡ still_to_come b)) }
+        ensures refused { IfErr result (λ fault. fault ≢ AuditFault.OutOfMemory → (h : History) → StandsFor process.now h →
+            (beginning (P.tree probe.old) standard_table h base (map (λ s. s.now) candidates.now) limit (option_map (λ s. s.now) after.entry) ≡ Err fault)) }
         ensures tree { P.tree probe.new ≡ P.tree probe.old }
     {
         Err(AuditFault::OutOfMemory)

@@ -1,5 +1,9 @@
-use Rattle.std.proofs.Common.{◌≡◌, refl, sym, ap}
+use Rattle.std.proofs.Common.{◌≡◌, List, [], refl, sym, ap}
+use Rattle.pua_audit.specs.Reach.{Pair}
+use Rattle.pua_audit.proofs.Kept.{kept_stands, begins_alike, refused_alike}
 use Rattle.pua_audit.proofs.audit.Audit.next_line.Goals as goal
 
 pub returns : goal.returns
-returns g c = ((refl, λ _. tt, (ap (λ s. s.scope) c.self.view_is, (sym (ap (λ s. s.left) c.self.view_is), refl))), record { rest = tt; tree = refl })
+returns g c =
+    let none : c.args.self.now.left ≡ [] = sym (ap (λ s. s.left) c.self.view_is) in
+    ((refl, λ _. tt, (refl, (none, none))), record { rest = tt; tree = refl })
