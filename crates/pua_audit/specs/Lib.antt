@@ -5,6 +5,6 @@ pub mod Trail
 pub mod Laws
 pub mod Examples
 pub mod Seen
-pub mod State
-pub mod Audits
+pub mod AuditState
+pub mod Lent
 pub mod Kept

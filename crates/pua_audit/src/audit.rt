@@ -5,7 +5,7 @@ ghost use Rattle.std.specs.Borrow.{sem};
 ghost use Rattle.pua_policy.specs.Calls.{standard_table};
 ghost use Rattle.pua_policy.specs.History.{History, StandsFor};
 ghost use Rattle.pua_audit.specs.Begin.{Beginning, beginning, still_to_come};
-ghost use Rattle.pua_audit.specs.Audits.{LendsLine};
+ghost use Rattle.pua_audit.specs.Lent.{LendsLine};
 
 use crate::base::Base;
 use crate::fault::AuditFault;
@@ -24,7 +24,7 @@ pub struct Audit {
 impl Model for Audit {
     ghost use Rattle.std.specs.Prelude.{[]};
     ghost use Rattle.pua_policy.specs.Calls.{standard_table};
-    ghost use Rattle.pua_audit.specs.State.{AuditState};
+    ghost use Rattle.pua_audit.specs.AuditState.{AuditState};
     ghost use Rattle.pua_audit.specs.declared.base.Base.TheVariants.{Root};
 
     ghost Value = { AuditState };

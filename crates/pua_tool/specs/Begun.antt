@@ -1,5 +1,5 @@
 -- What the code keeps of a replay and of an audit, as the definitions see it.
-use Rattle.std.specs.Prelude.{◌≡◌, ◌≤◌, ℕ, length, List}
+use Rattle.std.specs.Prelude.{◌≡◌, ◌≤◌, length, List}
 use Rattle.std.specs.List.{AllByRecursion}
 use Rattle.pua_script.specs.Worlds.{StandsForWorld}
 use Rattle.pua_audit.specs.Reach.{Pair, path_of}

@@ -2,11 +2,13 @@
 
 ghost use Rattle.std.specs.Prelude.{◌≡◌, ◌≢◌, Ok, Err, IfOk, IfErr};
 ghost use Rattle.pua_policy.specs.Calls.{standard_table};
-ghost use Rattle.pua_tool.specs.Texts.{Replayed, replayed};
+ghost use Rattle.pua_tree.specs.Listing.{listing};
+ghost use Rattle.pua_script.specs.Scripts.{script};
+ghost use Rattle.pua_tool.specs.Texts.{Replayed, as_listing, as_script, replayed};
 ghost use Rattle.pua_tool.specs.Begun.{IsReplay};
 
 use crate::fault::ToolFault;
-use pua_script::{Answer, ScriptFault, World, read_script};
+use pua_script::{Answer, Script, ScriptFault, World, read_script};
 use pua_tree::{ListTree, ListingFault, read_listing};
 use std::alloc::Global;
 
@@ -28,16 +30,8 @@ pub(crate) fn replay_script(
     ensures refused { IfErr result (λ fault. fault ≢ ToolFault.OutOfMemory → (replayed standard_table tree_bytes.now script_bytes.now ≡ Err fault)) }
     ensures unwritten { IfErr result (λ fault. fault ≢ ToolFault.Write) }
 {
-    let tree = match read_listing(alloc, tree_bytes) {
-        Ok(tree) => tree,
-        Err(ListingFault::OutOfMemory) => return Err(ToolFault::OutOfMemory),
-        Err(fault) => return Err(ToolFault::Listing(fault)),
-    };
-    let script = match read_script(alloc, script_bytes) {
-        Ok(script) => script,
-        Err(ScriptFault::OutOfMemory) => return Err(ToolFault::OutOfMemory),
-        Err(fault) => return Err(ToolFault::Script(fault)),
-    };
+    let tree = read_tree(alloc, tree_bytes)?;
+    let script = read_requests(alloc, script_bytes)?;
     let Ok(mut world) = World::new(alloc, tree) else {
         return Err(ToolFault::OutOfMemory);
     };
@@ -45,4 +39,28 @@ pub(crate) fn replay_script(
         return Err(ToolFault::OutOfMemory);
     };
     Ok(Replay { world, told })
+}
+
+fn read_tree(alloc: Global, bytes: &[u8]) -> Result<ListTree, ToolFault>
+    ensures read { IfOk result (λ tree. as_listing (listing bytes.now) ≡ Ok tree) }
+    ensures refused { IfErr result (λ fault. fault ≢ ToolFault.OutOfMemory → (as_listing (listing bytes.now) ≡ Err fault)) }
+    ensures unwritten { IfErr result (λ fault. fault ≢ ToolFault.Write) }
+{
+    match read_listing(alloc, bytes) {
+        Ok(tree) => Ok(tree),
+        Err(ListingFault::OutOfMemory) => Err(ToolFault::OutOfMemory),
+        Err(fault) => Err(ToolFault::Listing(fault)),
+    }
+}
+
+fn read_requests(alloc: Global, bytes: &[u8]) -> Result<Script, ToolFault>
+    ensures read { IfOk result (λ asks. as_script (script bytes.now) ≡ Ok asks) }
+    ensures refused { IfErr result (λ fault. fault ≢ ToolFault.OutOfMemory → (as_script (script bytes.now) ≡ Err fault)) }
+    ensures unwritten { IfErr result (λ fault. fault ≢ ToolFault.Write) }
+{
+    match read_script(alloc, bytes) {
+        Ok(requests) => Ok(requests),
+        Err(ScriptFault::OutOfMemory) => Err(ToolFault::OutOfMemory),
+        Err(fault) => Err(ToolFault::Script(fault)),
+    }
 }
