@@ -7,4 +7,3 @@ pub mod Examples
 pub mod Seen
 pub mod AuditState
 pub mod Lent
-pub mod Kept

@@ -23,16 +23,12 @@ pub struct Audit {
 
 impl Model for Audit {
     ghost use Rattle.std.specs.Prelude.{[]};
-    ghost use Rattle.pua_policy.specs.Calls.{standard_table};
     ghost use Rattle.pua_audit.specs.AuditState.{AuditState};
     ghost use Rattle.pua_audit.specs.declared.base.Base.TheVariants.{Root};
 
     ghost Value = { AuditState };
 
-    ghost view = { λ a. record {
-      scope = record { tree = record { rows = []; nodes = []; next = 0 }; table = standard_table; history = []; base = Root; alphabet = []; limit = 0 };
-      left = [];
-    } };
+    ghost view = { λ a. record { tree = record { rows = []; nodes = []; next = 0 }; base = Root; left = [] } };
 }
 
 impl Audit {
@@ -46,12 +42,12 @@ impl Audit {
         limit: u8,
         after: Option<&[u8]>,
     ) -> Result<Audit, AuditFault>
-        requires { (h : History) × StandsFor process.now h }
-        ensures begun { IfOk result (λ audit. (h : History) → StandsFor process.now h → (b : Beginning)
-            × (beginning (P.tree probe.old) standard_table h base (map (λ s. s.now) candidates.now) limit (option_map (λ s. s.now) after.entry) ≡ Ok b)
-            × (audit.scope.tree ≡ b.scope.tree) × (audit.scope.base ≡ b.scope.base) × (audit.left ≡ still_to_come b)) }
-        ensures refused { IfErr result (λ fault. fault ≢ AuditFault.OutOfMemory → (h : History) → StandsFor process.now h →
-            (beginning (P.tree probe.old) standard_table h base (map (λ s. s.now) candidates.now) limit (option_map (λ s. s.now) after.entry) ≡ Err fault)) }
+        requires stands { (h : History) × StandsFor process.now h }
+        ensures begun { IfOk result (λ audit. (h : History) → StandsFor process.now h → (b : Beginning) ×
+            ((beginning (P.tree probe.old) standard_table h base (map (λ s. s.now) candidates.now) limit (option_map (λ s. s.now) after.entry) ≡ Ok b) × (audit.left ≡ still_to_come b))) }
+        ensures of { IfOk result (λ audit. (audit.tree ≡ P.tree probe.old) × (audit.base ≡ base)) }
+        ensures refused { IfErr result (λ fault. fault ≢ AuditFault.OutOfMemory → (h : History) →
+            beginning (P.tree probe.old) standard_table h base (map (λ s. s.now) candidates.now) limit (option_map (λ s. s.now) after.entry) ≡ Err fault) }
         ensures tree { P.tree probe.new ≡ P.tree probe.old }
     {
         Err(AuditFault::OutOfMemory)
@@ -59,7 +55,7 @@ impl Audit {
 
     /// Lends the next line.
     pub fn next_line<'t, P: Probe<'t>>(&mut self, probe: &mut P) -> Option<Line<'_>>
-        requires { P.tree probe.old ≡ self.old.scope.tree }
+        requires { P.tree probe.old ≡ self.old.tree }
         ensures* rest { sem 𝓛 (LendsLine self.entry result) }
         ensures tree { P.tree probe.new ≡ P.tree probe.old }
     {
