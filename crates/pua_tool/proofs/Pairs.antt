@@ -75,9 +75,9 @@ rest_short s None fits = reach_short s fits
 rest_short s (Some pair) fits = all_kept (λ pair. length (path_of s.base pair.0) ≤ 1023) (λ other. is_lt (pair_cmp pair other)) (reach s) (reach_short s fits)
 
 module _ (t : Tree) (table : CallTable) (h : History) (base : Base) (texts : List (List ℕ)) (limit : ℕ) (after : Option (List ℕ)) where
-  -- what begins is over the tree, and its pairs have short paths
+  -- what begins has the base, and its pairs have short paths
   abbrev Fits : Result Beginning AuditFault → Type 0
-  Fits (Ok b) = (b.scope.tree ≡ t) × AreShort b.scope.base (still_to_come b)
+  Fits (Ok b) = (b.scope.base ≡ base) × AreShort b.scope.base (still_to_come b)
   Fits (Err fault) = Unit {0}
 
   abbrev scope_with : List (List ℕ) → Scope
@@ -113,5 +113,5 @@ module _ (t : Tree) (table : CallTable) (h : History) (base : Base) (texts : Lis
   tested_fits true true (Err fault) = tt
   tested_fits true true (Ok candidates) = within_fits candidates (nat_le (room_of candidates) 1023) refl
 
-  pub begins_fit : (b : Beginning) → beginning t table h base texts limit after ≡ Ok b → (b.scope.tree ≡ t) × AreShort b.scope.base (still_to_come b)
+  pub begins_fit : (b : Beginning) → beginning t table h base texts limit after ≡ Ok b → (b.scope.base ≡ base) × AreShort b.scope.base (still_to_come b)
   begins_fit b e = subst Fits e (tested_fits (nat_le limit 16) (nat_le (length texts) 1024) (candidates_from 1 texts))

@@ -21,7 +21,7 @@ AreShort base pairs = AllByRecursion (λ pair. length (path_of base pair.0) ≤ 
 -- the answers, the tree and the audit are those that were begun
 pub record IsBegun (audited : Audited) (b : Begun) : Type 0 where
   pub told : audited.told.items ≡ b.told
-  pub tree : audited.world.tree ≡ audited.audit.scope.tree
-  pub base : audited.audit.scope.base ≡ b.beginning.scope.base
+  pub tree : audited.world.tree ≡ audited.audit.tree
+  pub base : audited.audit.base ≡ b.beginning.scope.base
   pub left : audited.audit.left ≡ still_to_come b.beginning
-  pub short : AreShort audited.audit.scope.base audited.audit.left
+  pub short : AreShort audited.audit.base audited.audit.left

@@ -71,10 +71,10 @@ fn write_text<'t, P: Probe<'t>, S: Sink>(
     line: &mut Vec<u8>,
     sink: &mut S,
 ) -> Result<(), PutFault>
-    requires tree { P.tree probe.old ≡ audit.old.scope.tree }
-    requires short { AreShort audit.old.scope.base audit.old.left }
+    requires tree { P.tree probe.old ≡ audit.old.tree }
+    requires short { AreShort audit.old.base audit.old.left }
     requires room { MOST_LINE ≤ vec_capacity line.old }
-    ensures { Writes (front.now ++ pair_lines audit.old.scope.base audit.old.left) result (S.written sink.old) (S.written sink.new) (S.failed sink.old) (S.failed sink.new) }
+    ensures { Writes (front.now ++ pair_lines audit.old.base audit.old.left) result (S.written sink.old) (S.written sink.new) (S.failed sink.old) (S.failed sink.new) }
 {
     put_all(sink, front.as_bytes())?;
     write_lines(audit, probe, line, sink)

@@ -22,17 +22,18 @@ returns-in-Ok-clause-begun c =
     let done = c.in_ok-world.ensures.done in
     let made = is_made c.in-Some.process.now (history_of done.0.world c.args.job.now.process) (c.in-Some.ensures.history done.0.world done.2.stands) in
     let begins = c.in-Ok.ensures.begun made.history made.stands in
+    let of = c.in-Ok.ensures.of in
     let tree : c.new-probe.result.tree ≡ done.0.world.tree = c.new-probe.ensures.tree ∙ c.tree.ensures ∙ done.2.stands.tree in
     let same : beginning done.0.world.tree standard_table made.history w.base w.candidates w.limit w.after ≡ Ok begins.0 =
-    subst (λ (t : Tree). beginning t standard_table made.history w.base w.candidates w.limit w.after ≡ Ok begins.0) tree begins.1 in
+    subst (λ (t : Tree). beginning t standard_table made.history w.base w.candidates w.limit w.after ≡ Ok begins.0) tree begins.1.0 in
     let fits = begins_fit done.0.world.tree standard_table made.history w.base w.candidates w.limit w.after begins.0 same in (
       record { told = done.0.told; beginning = begins.0 },
       begun_is standard_table c.args.tree_bytes.now c.args.script_bytes.now w done.0 made.history begins.0 done.1 made.is same,
       record {
         told = done.2.told;
-        tree = done.2.stands.tree ∙ sym fits.0 ∙ sym begins.2;
-        base = begins.3;
-        left = begins.4;
-        short = subst (λ (base : Base). AreShort base c.in-Ok.audit.left) (sym begins.3) (subst (λ (left : List _). AreShort begins.0.scope.base left) (sym begins.4) fits.1);
+        tree = sym (of.0 ∙ c.new-probe.ensures.tree ∙ c.tree.ensures);
+        base = of.1 ∙ sym fits.0;
+        left = begins.1.1;
+        short = subst (λ (base : Base). AreShort base c.in-Ok.audit.left) (fits.0 ∙ sym of.1) (subst (λ (left : List _). AreShort begins.0.scope.base left) (sym begins.1.1) fits.1);
       },
     )

@@ -7,11 +7,11 @@ use Rattle.pua_tool.proofs.line.write_lines.Given as goal
 -- the lines of the pairs that were given are written, and the others are still to come
 abbrev pub invariant-loop-pair : goal.invariant-loop-pair
 invariant-loop-pair g l = record {
-  tree : g.P.Probe.tree l.probe ≡ l.audit.scope.tree;
-  base : l.audit.scope.base ≡ l.fn.audit.scope.base;
-  short : AreShort l.audit.scope.base l.audit.left;
+  tree : g.P.Probe.tree l.probe ≡ l.audit.tree;
+  base : l.audit.base ≡ l.fn.audit.base;
+  short : AreShort l.audit.base l.audit.left;
   room : 4102 ≤ vec_capacity l.line;
-  put : HasPut (pair_lines l.fn.audit.scope.base l.fn.audit.left) (pair_lines l.fn.audit.scope.base l.audit.left) (g.S.Sink.written l.fn.sink) (g.S.Sink.written l.sink);
+  put : HasPut (pair_lines l.fn.audit.base l.fn.audit.left) (pair_lines l.fn.audit.base l.audit.left) (g.S.Sink.written l.fn.sink) (g.S.Sink.written l.sink);
   unfailed : g.S.Sink.failed l.sink ≡ g.S.Sink.failed l.fn.sink;
 }
 
