@@ -1,7 +1,3 @@
 pub mod Putting
-pub mod Rising
-pub mod WordLines
-pub mod Alphabets
-pub mod BeginLaws
-pub mod Trails
-pub mod Lines
+pub mod Replays
+pub mod Pairs

@@ -2,31 +2,59 @@
 use Rattle.std.specs.Prelude.{◌≡◌, ℕ, List, [], ◌∷◌, None, Some, Ok, Err, codes, refl}
 use Rattle.std.specs.Fmt.{digits}
 use Rattle.pua_tree.specs.Examples.{text_of_lines}
-use Rattle.pua_policy.specs.Calls.{standard_table}
-use Rattle.pua_tool.specs.Texts.{Asked, audit_text}
-use Rattle.pua_tool.specs.declared.job.Base.TheVariants.{Root, Cwd}
 use Rattle.pua_tree.specs.declared.fault.ListingFault.TheVariants.{BadLine}
-use Rattle.pua_tool.specs.declared.fault.ScriptFault.TheVariants.{BadCall}
-use Rattle.pua_tool.specs.declared.fault.AuditFault.TheVariants.{BadResume}
+use Rattle.pua_policy.specs.Calls.{standard_table}
+use Rattle.pua_script.specs.declared.fault.ScriptFault.TheVariants.{BadCall}
+use Rattle.pua_audit.specs.declared.base.Base.TheVariants.{Root, Cwd}
+use Rattle.pua_audit.specs.declared.fault.AuditFault.TheVariants.{BadResume}
+use Rattle.pua_tool.specs.Texts.{Wanted, run_text, audit_text}
 use Rattle.pua_tool.specs.declared.fault.ToolFault.TheVariants.{Listing, Script, NoProcess, Audit}
 
 abbrev pub root_alone : List ℕ
 root_alone = text_of_lines (codes "tree 1" ∷ codes "0 dir" ∷ [])
 
-abbrev pub plain_job : Asked
-plain_job = record { limit = 1; process = 1; base = Root; after = None; candidates = [] }
+abbrev pub creating_alone : List ℕ
+creating_alone = text_of_lines (codes "1 pledge stdio,cpath -" ∷ [])
+
+abbrev pub ending : List ℕ
+ending = text_of_lines (codes "1 pledge = -" ∷ codes "1 stat /" ∷ codes "1 exit" ∷ [])
+
+abbrev pub forking : List ℕ
+forking = text_of_lines (codes "1 fork 2" ∷ codes "2 chdir /" ∷ [])
+
+abbrev pub plain_job : Wanted
+plain_job = record { limit = 2; process = 1; base = Root; after = None; candidates = codes "a" ∷ [] }
 
 pub record TextRows : Type 0 where
-  pub root : audit_text standard_table root_alone [] plain_job
-      ≡ Ok (text_of_lines (codes "reach 1" ∷ codes "/ stat" ∷ codes "/ lstat" ∷ codes "/ open-r" ∷ codes "/ chmod" ∷ codes "/ chdir"
-      ∷ codes "/.. stat" ∷ codes "/.. lstat" ∷ codes "/.. open-r" ∷ codes "/.. chmod" ∷ codes "/.. chdir" ∷ []))
-  pub working_directory : audit_text standard_table root_alone [] (record plain_job { base = Cwd; limit = 0 })
-      ≡ Ok (text_of_lines (codes "reach 1" ∷ codes ". stat" ∷ codes ". lstat" ∷ codes ". open-r" ∷ codes ". chmod" ∷ codes ". chdir" ∷ []))
-  pub bad_listing : audit_text standard_table (text_of_lines (codes "tree 1" ∷ codes "0 dir" ∷ codes "1 dir 0" ∷ [])) (10 ∷ []) plain_job ≡ Err (Listing (BadLine 3))
-  pub bad_script : audit_text standard_table root_alone (10 ∷ []) (record plain_job { process = 2 }) ≡ Err (Script (BadCall 1))
+  pub run : run_text standard_table root_alone ending ≡ Ok (text_of_lines (codes "1 ok" ∷ codes "2 killed" ∷ codes "3 gone" ∷ []))
+  pub run_of_no_lines : run_text standard_table root_alone [] ≡ Ok []
+  pub audit : audit_text standard_table root_alone creating_alone plain_job
+      ≡ Ok (text_of_lines (codes "1 ok" ∷ codes "reach 1" ∷ codes "/../a mkdir" ∷ codes "/../a symlink" ∷ codes "/a mkdir" ∷ codes "/a symlink" ∷ []))
+  pub resumed : audit_text standard_table root_alone creating_alone (record plain_job { after = Some (codes "symlink:/../a") })
+      ≡ Ok (text_of_lines (codes "/a mkdir" ∷ codes "/a symlink" ∷ []))
+  pub spelled : audit_text standard_table root_alone creating_alone (record plain_job { limit = 1; candidates = codes "a\\040b" ∷ [] })
+      ≡ Ok (text_of_lines (codes "1 ok" ∷ codes "reach 1" ∷ codes "/a\\040b mkdir" ∷ codes "/a\\040b symlink" ∷ []))
+  pub ended_process : audit_text standard_table root_alone ending plain_job
+      ≡ Ok (text_of_lines (codes "1 ok" ∷ codes "2 killed" ∷ codes "3 gone" ∷ codes "reach 1" ∷ []))
+  pub another_process : audit_text standard_table root_alone forking (record plain_job { limit = 0; process = 2; base = Cwd })
+      ≡ Ok (text_of_lines (codes "1 ok" ∷ codes "2 ok" ∷ codes "reach 2" ∷ codes ". stat" ∷ codes ". lstat" ∷ codes ". open-r" ∷ codes ". chmod" ∷ codes ". chdir" ∷ []))
+  pub bad_listing : audit_text standard_table (text_of_lines (codes "tree 1" ∷ codes "0 dir" ∷ codes "1 dir 0" ∷ [])) (codes "1") plain_job ≡ Err (Listing (BadLine 3))
+  pub bad_script : audit_text standard_table root_alone (codes "1 stat") (record plain_job { process = 2 }) ≡ Err (Script (BadCall 1))
   pub never_made : audit_text standard_table root_alone [] (record plain_job { process = 2; limit = 17 }) ≡ Err NoProcess
-  pub resumed : audit_text standard_table root_alone [] (record plain_job { after = Some (codes "stat:/") }) ≡ Err (Audit BadResume)
+  pub bad_resume : audit_text standard_table root_alone [] (record plain_job { after = Some (codes "stat:/nope") }) ≡ Err (Audit BadResume)
 
 pub text_rows : TextRows
 unfolding digits
-text_rows = record { root = refl; working_directory = refl; bad_listing = refl; bad_script = refl; never_made = refl; resumed = refl }
+text_rows = record {
+  run = refl;
+  run_of_no_lines = refl;
+  audit = refl;
+  resumed = refl;
+  spelled = refl;
+  ended_process = refl;
+  another_process = refl;
+  bad_listing = refl;
+  bad_script = refl;
+  never_made = refl;
+  bad_resume = refl;
+}

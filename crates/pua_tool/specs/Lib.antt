@@ -2,10 +2,6 @@ pub mod Sinks
 pub mod Sources
 pub mod Named
 pub mod Statuses
-pub mod Letters
-pub mod Reach
-pub mod Begin
 pub mod Texts
-pub mod Filter
-pub mod Laws
+pub mod Begun
 pub mod Examples

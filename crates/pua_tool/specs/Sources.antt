@@ -1,5 +1,5 @@
 -- What a whole reading takes from a source.
-use Rattle.std.specs.Prelude.{ℕ, ◌+◌, ◌-◌, ◌<◌, ◌≤◌, ◌⊎◌, List, length, Option, IfSome}
+use Rattle.std.specs.Prelude.{ℕ, ◌<◌, ◌⊎◌, List, length, Option, IfSome}
 use Rattle.pua_tool.specs.Sinks.{HasFailed}
 
 -- an input has at most so many bytes

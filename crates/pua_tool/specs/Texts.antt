@@ -1,24 +1,35 @@
--- The text of an audit, and what refuses it.
-use Rattle.std.specs.Prelude.{ℕ, List, [], ◌∷◌, ◌++◌, flat_map, ◌==◌, if◌then◌else◌, Option, Some, None, Result, Ok, Err, codes, ok_or, decimal, map, option_map}
+-- The text of a run and of an audit, and what refuses them.
+use Rattle.std.specs.Prelude.{ℕ, suc, List, [], ◌∷◌, ◌++◌, flat_map, Option, Some, None, Result, Ok, Err, codes, ok_or, decimal, map, option_map}
 use Rattle.pua_tree.specs.Tree.{Tree}
 use Rattle.pua_tree.specs.Listing.{listing}
 use Rattle.pua_tree.specs.Steps.{◌>>=◌}
-use Rattle.pua_policy.specs.Calls.{CallTable, call_name}
-use Rattle.pua_policy.specs.History.{History, new_history}
-use Rattle.pua_tool.specs.Reach.{Scope, Pair, printed_path, reach}
-use Rattle.pua_tool.specs.Begin.{beginning}
 use Rattle.pua_tree.specs.declared.fault.ListingFault.{ListingFault}
-use Rattle.pua_tool.specs.declared.job.Base.{Base}
+use Rattle.pua_policy.specs.Calls.{CallTable, call_name}
+use Rattle.pua_script.specs.Requests.{Asked}
+use Rattle.pua_script.specs.Scripts.{script}
+use Rattle.pua_script.specs.Replay.{World, new_world, history_of, answers, world_after}
+use Rattle.pua_script.specs.AnswerTexts.{answer_text}
+use Rattle.pua_script.specs.declared.answer.Answer.{Answer}
+use Rattle.pua_script.specs.declared.fault.ScriptFault.{ScriptFault}
+use Rattle.pua_audit.specs.Reach.{Pair, printed_path}
+use Rattle.pua_audit.specs.Begin.{Beginning, beginning, still_to_come}
+use Rattle.pua_audit.specs.declared.base.Base.{Base}
+use Rattle.pua_audit.specs.declared.fault.AuditFault.{AuditFault}
 use Rattle.pua_tool.specs.declared.job.Job.{Job}
-use Rattle.pua_tool.specs.declared.fault.ScriptFault.{ScriptFault}
-use Rattle.pua_tool.specs.declared.fault.ScriptFault.TheVariants.{BadCall}
-use Rattle.pua_tool.specs.declared.fault.AuditFault.{AuditFault}
 use Rattle.pua_tool.specs.declared.fault.ToolFault.{ToolFault}
 use Rattle.pua_tool.specs.declared.fault.ToolFault.TheVariants.{Listing, Script, NoProcess, Audit}
 
 -- each line of a text ends in LF
 abbrev pub ended : List ℕ → List ℕ
 ended line = line ++ 10 ∷ []
+
+abbrev pub answer_line : ℕ → Answer → List ℕ
+answer_line n answer = ended (decimal n ++ 32 ∷ answer_text answer)
+
+-- a line for each answer, with the number of the script's line, counted from n
+abbrev pub answer_lines : ℕ → List Answer → List ℕ
+answer_lines n [] = []
+answer_lines n (answer ∷ more) = answer_line n answer ++ answer_lines (suc n) more
 
 abbrev pub pair_line : Base → Pair → List ℕ
 pair_line base pair = ended (printed_path base pair.0 ++ 32 ∷ call_name pair.1)
@@ -29,50 +40,69 @@ pair_lines base pairs = flat_map (pair_line base) pairs
 abbrev pub reach_line : ℕ → List ℕ
 reach_line process = ended (codes "reach " ++ decimal process)
 
--- no call is known to scripts yet, so any line at all is a bad call
-abbrev pub script : List ℕ → Result (Unit {0}) ScriptFault
-script [] = Ok tt
-script (b ∷ more) = Err (BadCall 1)
-
--- the history of the only process
-abbrev pub history_of : ℕ → Option History
-history_of process = if process == 1 then Some new_history else None
-
 -- what a whole audit is asked for, besides the table and the two texts
-pub record Asked : Type 0 where
+pub record Wanted : Type 0 where
   pub limit : ℕ
   pub process : ℕ
   pub base : Base
   pub after : Option (List ℕ)
   pub candidates : List (List ℕ)
 
-abbrev pub asked : Job → Asked
-asked job = record { limit = job.limit; process = job.process; base = job.base; after = option_map (λ text. text.now) job.after; candidates = map (λ text. text.now) job.candidates.now }
+abbrev pub wanted : Job → Wanted
+wanted job = record { limit = job.limit; process = job.process; base = job.base; after = option_map (λ text. text.now) job.after; candidates = map (λ text. text.now) job.candidates.now }
 
 abbrev pub as_listing : Result Tree ListingFault → Result Tree ToolFault
 as_listing (Ok t) = Ok t
 as_listing (Err fault) = Err (Listing fault)
 
-abbrev pub as_script : Result (Unit {0}) ScriptFault → Result (Unit {0}) ToolFault
-as_script (Ok done) = Ok done
+abbrev pub as_script : Result (List Asked) ScriptFault → Result (List Asked) ToolFault
+as_script (Ok asks) = Ok asks
 as_script (Err fault) = Err (Script fault)
 
-abbrev pub as_audit : Result Scope AuditFault → Result Scope ToolFault
-as_audit (Ok scope) = Ok scope
+abbrev pub as_audit : Result Beginning AuditFault → Result Beginning ToolFault
+as_audit (Ok b) = Ok b
 as_audit (Err fault) = Err (Audit fault)
 
--- what is audited, or the first fault: the listing, the script, the process, and what the audit can't begin with
-abbrev pub audited : CallTable → List ℕ → List ℕ → Asked → Result Scope ToolFault
-audited table tree_bytes script_bytes asked = do
-  t ← as_listing (listing tree_bytes)
-  _ ← as_script (script script_bytes)
-  h ← ok_or (history_of asked.process) NoProcess
-  as_audit (beginning t table h asked.base asked.candidates asked.limit asked.after)
+-- what a script was answered over a listing, and the world that it left
+pub record Replayed : Type 0 where
+  pub told : List Answer
+  pub world : World
 
--- the heading, and a line for each pair of the reach
-abbrev pub text_of : ℕ → Scope → List ℕ
-text_of process s = reach_line process ++ pair_lines s.base (reach s)
+-- the replay of a script over a listing, or the first fault: the listing's, or the script's
+abbrev pub replayed : CallTable → List ℕ → List ℕ → Result Replayed ToolFault
+replayed table tree_bytes script_bytes = do
+  t ← as_listing (listing tree_bytes)
+  asks ← as_script (script script_bytes)
+  Ok (record { told = answers table (new_world t) asks; world = world_after table (new_world t) asks })
+
+-- a line for each answer of a script over a listing
+abbrev pub run_text : CallTable → List ℕ → List ℕ → Result (List ℕ) ToolFault
+run_text table tree_bytes script_bytes = do
+  done ← replayed table tree_bytes script_bytes
+  Ok (answer_lines 1 done.told)
+
+-- a replay, and the audit that begins where it ends
+pub record Begun : Type 0 where
+  pub told : List Answer
+  pub beginning : Beginning
+
+-- the audit of a process at the end of a script over a listing, or the first fault: the listing's, the script's, a process never made, or what no audit begins with
+abbrev pub begun : CallTable → List ℕ → List ℕ → Wanted → Result Begun ToolFault
+begun table tree_bytes script_bytes wanted = do
+  done ← replayed table tree_bytes script_bytes
+  h ← ok_or (history_of done.world wanted.process) NoProcess
+  b ← as_audit (beginning done.world.tree table h wanted.base wanted.candidates wanted.limit wanted.after)
+  Ok (record { told = done.told; beginning = b })
+
+-- the answers and the heading, which an audit that is resumed doesn't tell again
+abbrev pub front_of : Option (List ℕ) → ℕ → List Answer → List ℕ
+front_of None process told = answer_lines 1 told ++ reach_line process
+front_of (Some after) process told = []
+
+-- the front, and a line for each pair that is still to come
+abbrev pub text_of : Wanted → Begun → List ℕ
+text_of wanted b = front_of wanted.after wanted.process b.told ++ pair_lines b.beginning.scope.base (still_to_come b.beginning)
 
 -- the whole text of an audit, or what refuses it
-abbrev pub audit_text : CallTable → List ℕ → List ℕ → Asked → Result (List ℕ) ToolFault
-audit_text table tree_bytes script_bytes asked = audited table tree_bytes script_bytes asked >>= λ s. Ok (text_of asked.process s)
+abbrev pub audit_text : CallTable → List ℕ → List ℕ → Wanted → Result (List ℕ) ToolFault
+audit_text table tree_bytes script_bytes wanted = begun table tree_bytes script_bytes wanted >>= λ b. Ok (text_of wanted b)

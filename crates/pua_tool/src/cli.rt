@@ -1,14 +1,15 @@
 //! The whole program, as a function over its inputs and outputs.
 
-ghost use Rattle.std.specs.Prelude.{◌≡◌, ◌≢◌, ◌≤◌};
+ghost use Rattle.std.specs.Prelude.{◌≡◌, ◌≢◌, ◌≤◌, OnOk, IfErr};
 ghost use Rattle.pua_tool.specs.Statuses.{status_of};
 
 use crate::audit::audit_to;
 use crate::fault::ToolFault;
 use crate::inputs::{InputFault, Inputs};
-use crate::job::{Base, Job};
+use crate::job::Job;
+use crate::run::run_to;
 use crate::sink::{Sink, put_all};
-use crate::words::{AuditWords, Stop, read_words};
+use crate::words::{Stop, Text, Words, read_words};
 use std::alloc::Global;
 use std::fmt;
 use std::fmt::{Display, Write};
@@ -28,11 +29,13 @@ const MEMORY: u8 = 4;
 pub const USAGE_LINE: &str =
     "pua: usage: pua run TREE SCRIPT; pua audit --limit N [--process P] [--base root|cwd] [--after CALL:PATH] TREE SCRIPT [NAME...]";
 
-/// Does what the words behind the program's name ask for: the text goes to `out`, and of a fault one
-/// line goes to `err`, which is dropped where it can't be written. It answers the status: 0 where it
-/// is done, 1 where an input was refused, 2 where the words are no command, 3 where a file can't be
-/// read or the text can't be written, and 4 where a growth of memory was refused. Help is asked for
-/// by `--help`, `-h` or `help`, and goes to `out`.
+/// Does what the words behind the program's name ask for: the text of a run or of an audit goes to
+/// `out`, and of a fault one line goes to `err`, which is dropped where it can't be written. Both
+/// inputs are taken, the tree's first, before either is read as a listing or a script.
+///
+/// It answers the status: 0 where it is done, 1 where an input was refused, 2 where the words are no
+/// command, 3 where a file can't be read or the text can't be written, and 4 where a growth of memory
+/// was refused. Help is asked for by `--help`, `-h` or `help`, and goes to `out`.
 pub fn command<I: Inputs, O: Sink, E: Sink>(
     alloc: Global,
     words: &[&str],
@@ -42,9 +45,10 @@ pub fn command<I: Inputs, O: Sink, E: Sink>(
 ) -> u8
     ensures status { result ≤ MEMORY }
     ensures unwritten { result ≢ DONE → result ≢ DEVICE → O.written out.new ≡ O.written out.old }
+    ensures unfailed { result ≡ DONE → O.failed out.new ≡ O.failed out.old }
 {
     match read_words(alloc, words) {
-        Ok(asked) => audit(alloc, &asked, inputs, out, err),
+        Ok(words) => serve(alloc, &words, inputs, out, err),
         Err(Stop::Help(text)) => match put_all(out, text.as_bytes()) {
             Ok(()) => DONE,
             Err(_) => tell_fault(ToolFault::Write, err),
@@ -57,40 +61,61 @@ pub fn command<I: Inputs, O: Sink, E: Sink>(
     }
 }
 
-fn audit<I: Inputs, O: Sink, E: Sink>(
+/// Takes the inputs, and writes the text that the words ask for.
+fn serve<I: Inputs, O: Sink, E: Sink>(
     alloc: Global,
-    asked: &AuditWords<'_>,
+    words: &Words<'_>,
     inputs: &mut I,
     out: &mut O,
     err: &mut E,
 ) -> u8
     ensures status { result ≤ MEMORY }
     ensures unwritten { result ≢ DONE → result ≢ DEVICE → O.written out.new ≡ O.written out.old }
+    ensures unfailed { result ≡ DONE → O.failed out.new ≡ O.failed out.old }
 {
-    let tree = match inputs.take(alloc, asked.tree) {
+    let tree = match inputs.take(alloc, words.tree) {
         Ok(bytes) => bytes,
-        Err(fault) => return tell_input(fault, asked.tree, err),
+        Err(fault) => return tell_input(fault, words.tree, err),
     };
-    let script = match inputs.take(alloc, asked.script) {
+    let script = match inputs.take(alloc, words.script) {
         Ok(bytes) => bytes,
-        Err(fault) => return tell_input(fault, asked.script, err),
+        Err(fault) => return tell_input(fault, words.script, err),
     };
-    let job = Job {
-        limit: asked.limit,
-        process: 1,
-        base: Base::Root,
-        after: None,
-        candidates: asked.names.as_slice(),
-    };
-    match audit_to(alloc, tree.as_slice(), script.as_slice(), &job, out) {
+    match write_text(alloc, tree.as_slice(), script.as_slice(), &words.text, out) {
         Ok(()) => DONE,
         Err(fault) => tell_fault(fault, err),
     }
 }
 
+fn write_text<O: Sink>(
+    alloc: Global,
+    tree: &[u8],
+    script: &[u8],
+    text: &Text<'_>,
+    out: &mut O,
+) -> Result<(), ToolFault>
+    ensures unfailed { OnOk result (O.failed out.new ≡ O.failed out.old) }
+    ensures unwritten { IfErr result (λ fault. fault ≢ ToolFault.Write → O.written out.new ≡ O.written out.old) }
+{
+    match text {
+        Text::Run => run_to(alloc, tree, script, out),
+        Text::Audit(words) => {
+            let job = Job {
+                limit: words.limit,
+                process: words.process,
+                base: words.base,
+                after: words.after,
+                candidates: words.names.as_slice(),
+            };
+            audit_to(alloc, tree, script, &job, out)
+        }
+    }
+}
+
 /// Tells that an input is not there, and answers the status.
 fn tell_input<E: Sink>(fault: InputFault, name: &str, err: &mut E) -> u8
-    ensures { result ≤ MEMORY }
+    ensures most { result ≤ MEMORY }
+    ensures undone { result ≢ DONE }
 {
     match fault {
         InputFault::Unreadable => {

@@ -1,17 +1,9 @@
-//! Laws and worked examples of reaches and texts, each the contract of a function that does nothing.
+//! Worked examples of texts.
 
-ghost use Rattle.pua_tool.specs.Laws.{AlphabetRises, ReachRises};
 ghost use Rattle.pua_tool.specs.Examples.{TextRows};
 
-/// Examples of whole texts.
+/// Examples of whole texts, and of what refuses them.
 #[tactic(auto, using(crate::specs::Examples::text_rows))]
-pub fn audit_examples()
+pub fn text_examples()
     ensures { TextRows }
-{}
-
-/// The alphabet rises by bytes, and the reach has each pair once, in order.
-#[tactic(auto, using(crate::proofs::Rising::alphabet_rises, crate::proofs::Rising::reach_rises))]
-pub fn reach_laws()
-    ensures alphabet { AlphabetRises }
-    ensures reach { ReachRises }
 {}

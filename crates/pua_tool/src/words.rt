@@ -1,19 +1,37 @@
 //! The words of the command line, read by `clap`.
 
+use crate::help;
 use clap::error::ErrorKind;
 use clap::{Arg, ArgAction, ArgMatches, Command, Error, value_parser};
+use pua_audit::Base;
 use std::alloc::{AllocError, Global};
 
-/// What the words of an audit say.
+/// What the words say: the names of two inputs, and what is to be made of them.
+#[derive(Debug, Drop)]
+pub(crate) struct Words<'a> {
+    pub(crate) tree: &'a str,
+    pub(crate) script: &'a str,
+    pub(crate) text: Text<'a>,
+}
+
+/// Which text is to be written.
+#[derive(Debug, Drop)]
+pub(crate) enum Text<'a> {
+    Run,
+    Audit(AuditWords<'a>),
+}
+
+/// What the words of an audit say, besides its inputs.
 #[derive(Debug, Drop)]
 pub(crate) struct AuditWords<'a> {
     pub(crate) limit: u8,
-    pub(crate) tree: &'a str,
-    pub(crate) script: &'a str,
+    pub(crate) process: u32,
+    pub(crate) base: Base,
+    pub(crate) after: Option<&'a [u8]>,
     pub(crate) names: Vec<&'a [u8]>,
 }
 
-/// Why there is nothing to audit.
+/// Why there is nothing to write.
 #[derive(Debug, Drop)]
 pub(crate) enum Stop {
     /// The words are not those of any command.
@@ -31,48 +49,89 @@ impl From<AllocError> for Stop {
 }
 
 /// What the words behind the program's name say.
-pub(crate) fn read_words<'a>(alloc: Global, words: &'a [&'a str]) -> Result<AuditWords<'a>, Stop> {
+pub(crate) fn read_words<'a>(alloc: Global, words: &'a [&'a str]) -> Result<Words<'a>, Stop> {
     let command = pua_command(alloc)?;
     let found = match command.try_get_matches_from(words) {
         Ok(found) => found,
         Err(error) => return Err(stop_of(alloc, &error)),
     };
     match found.subcommand() {
+        Some(("run", inner)) => read_run(inner),
         Some((_, inner)) => read_audit(alloc, inner),
         None => Err(Stop::Usage),
     }
 }
 
 fn pua_command<'a>(alloc: Global) -> Result<Command<'a>, AllocError> {
+    let run = run_command(alloc)?;
     let audit = audit_command(alloc)?;
     Command::new(alloc, "pua")
         .no_binary_name(true)
         .bin_name("pua")?
+        .about(help::PUA)
+        .after_help(help::INPUTS)
         .subcommand_required(true)
+        .subcommand(run)?
         .subcommand(audit)
 }
 
+fn run_command<'a>(alloc: Global) -> Result<Command<'a>, AllocError> {
+    Command::new(alloc, "run")
+        .about(help::RUN)
+        .after_help(help::RUN_OUTPUT)
+        .arg(operand(alloc, "tree", "TREE", help::TREE))?
+        .arg(operand(alloc, "script", "SCRIPT", help::SCRIPT))
+}
+
 fn audit_command<'a>(alloc: Global) -> Result<Command<'a>, AllocError> {
-    let limit = Arg::new(alloc, "limit")
-        .long("limit")
-        .action(ArgAction::Set)
-        .value_name("N")
-        .required(true)
-        .value_parser(value_parser!(u8));
     let names = Arg::new(alloc, "names")
         .value_name("NAME")
+        .help(help::NAMES)
         .action(ArgAction::Append)
         .num_args(0..);
     Command::new(alloc, "audit")
-        .about("Lists what a process may reach")
-        .arg(limit)?
-        .arg(operand(alloc, "tree", "TREE"))?
-        .arg(operand(alloc, "script", "SCRIPT"))?
+        .about(help::AUDIT)
+        .after_help(help::AUDIT_OUTPUT)
+        .arg(limit(alloc))?
+        .arg(process(alloc))?
+        .arg(base(alloc))?
+        .arg(option(alloc, "after", "CALL:PATH", help::AFTER))?
+        .arg(operand(alloc, "tree", "TREE", help::TREE))?
+        .arg(operand(alloc, "script", "SCRIPT", help::SCRIPT))?
         .arg(names)
 }
 
-fn operand<'a>(alloc: Global, name: &'a str, value: &'a str) -> Arg<'a> {
-    Arg::new(alloc, name).required(true).value_name(value)
+fn limit<'a>(alloc: Global) -> Arg<'a> {
+    option(alloc, "limit", "N", help::LIMIT)
+        .required(true)
+        .value_parser(value_parser!(u8))
+}
+
+fn process<'a>(alloc: Global) -> Arg<'a> {
+    option(alloc, "process", "P", help::PROCESS)
+        .default_value("1")
+        .value_parser(value_parser!(u32).range(1..=999_999))
+}
+
+fn base<'a>(alloc: Global) -> Arg<'a> {
+    option(alloc, "base", "BASE", help::BASE)
+        .default_value("root")
+        .value_parser(["root", "cwd"].as_slice())
+}
+
+fn option<'a>(alloc: Global, name: &'a str, value: &'a str, text: &'a str) -> Arg<'a> {
+    Arg::new(alloc, name)
+        .long(name)
+        .action(ArgAction::Set)
+        .value_name(value)
+        .help(text)
+}
+
+fn operand<'a>(alloc: Global, name: &'a str, value: &'a str, text: &'a str) -> Arg<'a> {
+    Arg::new(alloc, name)
+        .required(true)
+        .value_name(value)
+        .help(text)
 }
 
 fn stop_of(alloc: Global, error: &Error) -> Stop {
@@ -86,18 +145,35 @@ fn stop_of(alloc: Global, error: &Error) -> Stop {
     }
 }
 
-fn read_audit<'a>(alloc: Global, found: &ArgMatches<'a>) -> Result<AuditWords<'a>, Stop> {
-    let (Some(tree), Some(script)) = (found.get_str("tree"), found.get_str("script")) else {
+fn read_run<'a>(found: &ArgMatches<'a>) -> Result<Words<'a>, Stop> {
+    read_inputs(found, Text::Run)
+}
+
+fn read_audit<'a>(alloc: Global, found: &ArgMatches<'a>) -> Result<Words<'a>, Stop> {
+    let (Some(limit), Some(process)) = (
+        found.get_one::<u8>("limit"),
+        found.get_one::<u32>("process"),
+    ) else {
         return Err(Stop::Usage);
     };
-    let Some(limit) = found.get_one::<u8>("limit") else {
-        return Err(Stop::Usage);
+    let base = match found.get_str("base") {
+        Some("cwd") => Base::Cwd,
+        _ => Base::Root,
     };
     let names = found.get_strs("names").unwrap_or(&[]);
-    Ok(AuditWords {
+    let audit = AuditWords {
         limit,
-        tree,
-        script,
+        process,
+        base,
+        after: found.get_str("after").map(|text| text.as_bytes()),
         names: names.iter().map(|name| name.as_bytes()).collect(alloc)?,
-    })
+    };
+    read_inputs(found, Text::Audit(audit))
+}
+
+fn read_inputs<'a>(found: &ArgMatches<'a>, text: Text<'a>) -> Result<Words<'a>, Stop> {
+    match (found.get_str("tree"), found.get_str("script")) {
+        (Some(tree), Some(script)) => Ok(Words { tree, script, text }),
+        _ => Err(Stop::Usage),
+    }
 }

@@ -1,6 +1,5 @@
-use Rattle.std.proofs.Common.{sym, ◌∙◌}
 use Rattle.std.proofs.lemmas.Result.{err_from_is_err_and}
-use Rattle.pua_tool.proofs.Putting.{has_put_more, has_put_front, counted_has_failed}
+use Rattle.pua_tool.proofs.Putting.{has_put_more, has_put_front}
 use Rattle.pua_tool.proofs.sink.put_all.Goals as goal
 
 pub returns-in_err-count-clause-front : goal.returns-in_err-count-clause-front

@@ -1,0 +1,50 @@
+-- What is replayed and begun, step by step.
+use Rattle.std.proofs.Common.{◌≡◌, ℕ, List, refl, ◌∙◌}
+use Rattle.std.specs.Prelude.{Option, Some, None, Result, Ok, ok_or}
+use Rattle.pua_tree.specs.Tree.{Tree}
+use Rattle.pua_tree.specs.Listing.{listing}
+use Rattle.pua_tree.specs.Steps.{◌>>=◌}
+use Rattle.pua_policy.specs.Calls.{CallTable}
+use Rattle.pua_policy.specs.History.{History, ProcessState, StandsFor}
+use Rattle.pua_script.specs.Requests.{Asked}
+use Rattle.pua_script.specs.Scripts.{script}
+use Rattle.pua_script.specs.Replay.{new_world, history_of, answers, world_after}
+use Rattle.pua_script.specs.Worlds.{StandsAt}
+use Rattle.pua_audit.specs.Begin.{Beginning, beginning}
+use Rattle.pua_tool.specs.Texts.{Wanted, Replayed, Begun, as_listing, as_script, as_audit, replayed, begun}
+use Rattle.pua_tool.specs.declared.fault.ToolFault.{ToolFault}
+use Rattle.pua_tool.specs.declared.fault.ToolFault.TheVariants.{NoProcess}
+
+module _ (table : CallTable) (tree_bytes script_bytes : List ℕ) where
+  abbrev left_by : Tree → List Asked → Replayed
+  left_by t asks = record { told = answers table (new_world t) asks; world = world_after table (new_world t) asks }
+
+  pub replayed_is : (t : Tree) (asks : List Asked) → as_listing (listing tree_bytes) ≡ Ok t → as_script (script script_bytes) ≡ Ok asks
+      → replayed table tree_bytes script_bytes ≡ Ok (record { told = answers table (new_world t) asks; world = world_after table (new_world t) asks })
+  replayed_is t asks l s = λ i. l i >>= λ t. s i >>= λ asks. Ok (left_by t asks)
+
+  module _ (wanted : Wanted) where
+    abbrev begun_with : Replayed → Result Beginning ToolFault → Result Begun ToolFault
+    begun_with done begins = begins >>= λ b. Ok (record { told = done.told; beginning = b })
+
+    abbrev begun_by : Replayed → Option History → Result Begun ToolFault
+    begun_by done made =
+        ok_or made NoProcess >>= λ h. begun_with done (as_audit (beginning done.world.tree table h wanted.base wanted.candidates wanted.limit wanted.after))
+
+    pub begun_is : (done : Replayed) (h : History) (b : Beginning) → replayed table tree_bytes script_bytes ≡ Ok done → history_of done.world wanted.process ≡ Some h
+        → beginning done.world.tree table h wanted.base wanted.candidates wanted.limit wanted.after ≡ Ok b
+        → begun table tree_bytes script_bytes wanted ≡ Ok (record { told = done.told; beginning = b })
+    begun_is done h b r m e =
+        (λ i. r i >>= λ done. begun_by done (history_of done.world wanted.process))
+        ∙ (λ i. begun_by done (m i))
+        ∙ (λ i. begun_with done (as_audit (e i)))
+
+-- what a process stands for at a number is a history that was made
+pub record IsMade (p : ProcessState) (made : Option History) : Type 0 where
+  pub history : History
+  pub is : made ≡ Some history
+  pub stands : StandsFor p history
+
+pub is_made : (p : ProcessState) (made : Option History) → StandsAt (Some p) made → IsMade p made
+is_made p None none = absurd none
+is_made p (Some h) stands = record { history = h; is = refl; stands = stands }

@@ -1,0 +1,39 @@
+use Rattle.std.proofs.Common.{◌≡◌, List, refl, sym, ◌∙◌, subst, Ok}
+use Rattle.pua_tree.specs.Tree.{Tree}
+use Rattle.pua_policy.specs.Calls.{standard_table}
+use Rattle.pua_script.specs.Replay.{history_of}
+use Rattle.pua_audit.specs.Begin.{beginning}
+use Rattle.pua_audit.specs.declared.base.Base.{Base}
+use Rattle.pua_tool.specs.Texts.{wanted}
+use Rattle.pua_tool.specs.Begun.{AreShort}
+use Rattle.pua_tool.proofs.Replays.{begun_is, is_made}
+use Rattle.pua_tool.proofs.Pairs.{begins_fit}
+use Rattle.pua_tool.proofs.audit.begin.Goals as goal
+
+pub begin-audit-requires : goal.begin-audit-requires
+begin-audit-requires c κs =
+    let done = c.in_ok-world.ensures.done in
+    let made = is_made c.in-Some.process.now (history_of done.0.world c.args.job.now.process) (c.in-Some.ensures.history done.0.world done.2.stands) in
+    ((refl, tt), (made.history, made.stands))
+
+pub returns-in-Ok-clause-begun : goal.returns-in-Ok-clause-begun
+returns-in-Ok-clause-begun c =
+    let w = wanted c.args.job.now in
+    let done = c.in_ok-world.ensures.done in
+    let made = is_made c.in-Some.process.now (history_of done.0.world c.args.job.now.process) (c.in-Some.ensures.history done.0.world done.2.stands) in
+    let begins = c.in-Ok.ensures.begun made.history made.stands in
+    let of = c.in-Ok.ensures.of in
+    let tree : c.new-probe.result.tree ≡ done.0.world.tree = c.new-probe.ensures.tree ∙ c.tree.ensures ∙ done.2.stands.tree in
+    let same : beginning done.0.world.tree standard_table made.history w.base w.candidates w.limit w.after ≡ Ok begins.0 =
+    subst (λ (t : Tree). beginning t standard_table made.history w.base w.candidates w.limit w.after ≡ Ok begins.0) tree begins.1.0 in
+    let fits = begins_fit done.0.world.tree standard_table made.history w.base w.candidates w.limit w.after begins.0 same in (
+      record { told = done.0.told; beginning = begins.0 },
+      begun_is standard_table c.args.tree_bytes.now c.args.script_bytes.now w done.0 made.history begins.0 done.1 made.is same,
+      record {
+        told = done.2.told;
+        tree = sym (of.0 ∙ c.new-probe.ensures.tree ∙ c.tree.ensures);
+        base = of.1 ∙ sym fits.0;
+        left = begins.1.1;
+        short = subst (λ (base : Base). AreShort base c.in-Ok.audit.left) (fits.0 ∙ sym of.1) (subst (λ (left : List _). AreShort begins.0.scope.base left) (sym begins.1.1) fits.1);
+      },
+    )

@@ -1,0 +1,43 @@
+//! The lines that tell what a script was answered.
+
+ghost use Rattle.std.specs.Prelude.{◌≡◌, ◌<◌, ◌^◌, ◌++◌, IfOk, OnOk, string_bytes, length, option_map};
+ghost use Rattle.pua_tool.specs.Texts.{answer_line, answer_lines, front_of};
+
+use pua_script::Answer;
+use std::alloc::{AllocError, Global};
+use std::fmt::Write;
+
+/// A line for each answer, with the number of its line in the script, counted from 1.
+pub(crate) fn answer_text(alloc: Global, told: &[Answer]) -> Result<String, AllocError>
+    ensures { IfOk result (λ text. string_bytes text ≡ answer_lines 1 told.now) }
+{
+    let mut text = String::new(alloc);
+    for (place, answer) in told.iter().enumerate() {
+        push_answer(&mut text, place + 1, *answer)?;
+    }
+    Ok(text)
+}
+
+fn push_answer(text: &mut String, number: usize, answer: Answer) -> Result<(), AllocError>
+    ensures { OnOk result (string_bytes text.new ≡ string_bytes text.old ++ answer_line number answer) }
+{
+    writeln!(text, "{number} {answer}")
+}
+
+/// What stands before the lines of the pairs: the answers and the heading, but for an audit that is
+/// resumed, which doesn't tell them again.
+pub(crate) fn front_text(
+    alloc: Global,
+    told: &[Answer],
+    process: u32,
+    after: Option<&[u8]>,
+) -> Result<String, AllocError>
+    ensures { IfOk result (λ text. string_bytes text ≡ front_of (option_map (λ s. s.now) after.entry) process told.now) }
+{
+    if after.is_some() {
+        return Ok(String::new(alloc));
+    }
+    let mut text = answer_text(alloc, told)?;
+    writeln!(text, "reach {process}")?;
+    Ok(text)
+}

@@ -1,0 +1,66 @@
+//! The replay of a script over the tree of a listing.
+
+ghost use Rattle.std.specs.Prelude.{◌≡◌, ◌≢◌, Ok, Err, IfOk, IfErr};
+ghost use Rattle.pua_policy.specs.Calls.{standard_table};
+ghost use Rattle.pua_tree.specs.Listing.{listing};
+ghost use Rattle.pua_script.specs.Scripts.{script};
+ghost use Rattle.pua_tool.specs.Texts.{Replayed, as_listing, as_script, replayed};
+ghost use Rattle.pua_tool.specs.Begun.{IsReplay};
+
+use crate::fault::ToolFault;
+use pua_script::{Answer, Script, ScriptFault, World, read_script};
+use pua_tree::{ListTree, ListingFault, read_listing};
+use std::alloc::Global;
+
+/// The world that a script left, and what its lines were answered.
+#[derive(Drop)]
+pub(crate) struct Replay {
+    pub(crate) world: World<ListTree>,
+    pub(crate) told: Vec<Answer>,
+}
+
+/// Serves a script over the tree of a listing, or answers the first fault: the listing's, or the
+/// script's. `OutOfMemory` where a growth was refused.
+pub(crate) fn replay_script(
+    alloc: Global,
+    tree_bytes: &[u8],
+    script_bytes: &[u8],
+) -> Result<Replay, ToolFault>
+    ensures done { IfOk result (λ replay. (done : Replayed) × (replayed standard_table tree_bytes.now script_bytes.now ≡ Ok done) × IsReplay replay done) }
+    ensures refused { IfErr result (λ fault. fault ≢ ToolFault.OutOfMemory → (replayed standard_table tree_bytes.now script_bytes.now ≡ Err fault)) }
+    ensures unwritten { IfErr result (λ fault. fault ≢ ToolFault.Write) }
+{
+    let tree = read_tree(alloc, tree_bytes)?;
+    let script = read_requests(alloc, script_bytes)?;
+    let Ok(mut world) = World::new(alloc, tree) else {
+        return Err(ToolFault::OutOfMemory);
+    };
+    let Ok(told) = world.run(alloc, &script) else {
+        return Err(ToolFault::OutOfMemory);
+    };
+    Ok(Replay { world, told })
+}
+
+fn read_tree(alloc: Global, bytes: &[u8]) -> Result<ListTree, ToolFault>
+    ensures read { IfOk result (λ tree. as_listing (listing bytes.now) ≡ Ok tree) }
+    ensures refused { IfErr result (λ fault. fault ≢ ToolFault.OutOfMemory → (as_listing (listing bytes.now) ≡ Err fault)) }
+    ensures unwritten { IfErr result (λ fault. fault ≢ ToolFault.Write) }
+{
+    match read_listing(alloc, bytes) {
+        Ok(tree) => Ok(tree),
+        Err(ListingFault::OutOfMemory) => Err(ToolFault::OutOfMemory),
+        Err(fault) => Err(ToolFault::Listing(fault)),
+    }
+}
+
+fn read_requests(alloc: Global, bytes: &[u8]) -> Result<Script, ToolFault>
+    ensures read { IfOk result (λ asks. as_script (script bytes.now) ≡ Ok asks) }
+    ensures refused { IfErr result (λ fault. fault ≢ ToolFault.OutOfMemory → (as_script (script bytes.now) ≡ Err fault)) }
+    ensures unwritten { IfErr result (λ fault. fault ≢ ToolFault.Write) }
+{
+    match read_script(alloc, bytes) {
+        Ok(requests) => Ok(requests),
+        Err(ScriptFault::OutOfMemory) => Err(ToolFault::OutOfMemory),
+        Err(fault) => Err(ToolFault::Script(fault)),
+    }
+}
