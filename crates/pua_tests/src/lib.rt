@@ -3,6 +3,8 @@
 #![tactic(auto)]
 
 #[cfg(test)]
+mod audits;
+#[cfg(test)]
 mod commands;
 #[cfg(test)]
 mod edits;
@@ -20,8 +22,22 @@ mod probes;
 #[cfg(test)]
 mod processes;
 #[cfg(test)]
+mod readings;
+#[cfg(test)]
+mod refusals;
+#[cfg(test)]
+mod resumed;
+#[cfg(test)]
+mod runs;
+#[cfg(test)]
 mod steps;
+#[cfg(test)]
+mod told;
 #[cfg(test)]
 mod verdicts;
 #[cfg(test)]
+mod walks;
+#[cfg(test)]
 mod words;
+#[cfg(test)]
+mod worlds;
