@@ -1,7 +1,7 @@
 //! Audits: the answers of the script, and then the reach, whole or resumed.
 
 use crate::example::EXAMPLE;
-use crate::told::{Files, ROOT, expect, output};
+use crate::told::{Files, ROOT, behind, expect, output};
 use std::alloc::Global;
 use std::process::Abort;
 use std::test::Fail;
@@ -257,13 +257,17 @@ fn links_used_on_the_way_count(rt: HostRuntime) -> Result<(), Fail> {
     let alloc = rt.alloc();
     let mut tree = String::new(alloc);
     tree.push_str("tree 1\n0 dir\n1 dir 0 d\n2 link 0 d1 d\n")?;
-    for number in 2..=20 {
-        let line = format!(in alloc; "{} link 0 d{number} d{}\n", number + 1, number - 1)?;
+    let mut above = 1;
+    for (row, number) in (3..=21).zip(2..=20) {
+        let line = format!(in alloc; "{row} link 0 d{number} d{above}\n")?;
+        above = number;
         tree.push_str(line.as_str())?;
     }
+    above = 1;
     tree.push_str("22 file 1 f\n23 link 1 g1 f\n")?;
-    for number in 2..=13 {
-        let line = format!(in alloc; "{} link 1 g{number} g{}\n", number + 22, number - 1)?;
+    for (row, number) in (24..=35).zip(2..=13) {
+        let line = format!(in alloc; "{row} link 1 g{number} g{above}\n")?;
+        above = number;
         tree.push_str(line.as_str())?;
     }
     let files = Files {
@@ -274,8 +278,11 @@ fn links_used_on_the_way_count(rt: HostRuntime) -> Result<(), Fail> {
     let heading = b"1 ok\n2 ok\nreach 1\n".as_slice();
     assert!(rt; text.starts_with(heading));
     assert_eq!(rt; lines_of(text.as_slice()), 3 + 607);
-    assert!(rt; text.windows(15).any(|part| part == b"\n/d20/g12 stat\n"));
-    assert!(rt; !text.windows(9).any(|part| part == b"/d20/g13 "));
+    assert!(rt;
+        text.windows(15)
+            .any(|part| part == b"\n/d20/g12 stat\n".as_slice())
+    );
+    assert!(rt; !text.windows(9).any(|part| part == b"/d20/g13 ".as_slice()));
     Ok(())
 }
 
@@ -300,21 +307,26 @@ fn a_locked_family_reaches_the_same(rt: HostRuntime) -> Result<(), Fail> {
     let alloc = rt.alloc();
     let script =
         b"1 unveil /etc r\n1 unveil - -\n1 fork 2\n2 unveil /tmp r\n1 unveil /tmp r\n2 pledge stdio -\n1 stat /etc\n2 stat /etc\n";
-    let after = |length: usize| Files {
-        tree: EXAMPLE,
-        script: &script[..length],
-    };
     let words = ["audit", "--limit", "3", "T", "S"];
-    let first = output(&rt, alloc, &words, &after(29))?;
-    let pairs = &first.as_slice()[b"1 ok\n2 ok\nreach 1\n".len()..];
-    let last = output(&rt, alloc, &words, &after(script.len()))?;
-    let heading = b"1 ok\n2 ok\n3 ok\n4 EPERM\n5 EPERM\n6 ok\n7 ok\n8 killed\nreach 1\n".len();
-    assert_eq!(rt; &last.as_slice()[heading..], pairs);
+    let first = output(&rt, alloc, &words, &served(&script[..29]))?;
+    let pairs = behind(first.as_slice(), b"1 ok\n2 ok\nreach 1\n");
+    assert!(rt; !pairs.is_empty());
+    let last = output(&rt, alloc, &words, &served(script))?;
+    let heading = b"1 ok\n2 ok\n3 ok\n4 EPERM\n5 EPERM\n6 ok\n7 ok\n8 killed\nreach 1\n";
+    assert_eq!(rt; behind(last.as_slice(), heading), pairs);
     let words = ["audit", "--limit", "3", "--process", "2", "T", "S"];
-    let child = output(&rt, alloc, &words, &after(38))?;
-    let heading = b"1 ok\n2 ok\n3 ok\nreach 2\n".len();
-    assert_eq!(rt; &child.as_slice()[heading..], pairs);
+    let child = output(&rt, alloc, &words, &served(&script[..38]))?;
+    let heading = b"1 ok\n2 ok\n3 ok\nreach 2\n";
+    assert_eq!(rt; behind(child.as_slice(), heading), pairs);
     Ok(())
+}
+
+/// A script over the example tree.
+fn served(script: &[u8]) -> Files<'_> {
+    Files {
+        tree: EXAMPLE,
+        script,
+    }
 }
 
 #[test]

@@ -1,26 +1,26 @@
 //! Audits that are resumed: each cut is followed by what was still to come.
 
 use crate::example::EXAMPLE;
-use crate::told::{Files, output};
+use crate::told::{Files, behind, output};
 use pua_audit::Base;
 use pua_tool::{Job, MemorySink, audit_to};
 use std::alloc::Global;
 use std::process::Abort;
 use std::test::Fail;
 
-/// Resumes an audit after each of its lines, and compares what is written with what stood behind
-/// the line. The heading is what comes before the first line.
+/// Resumes an audit after each of its pairs, and compares what is written with what stood behind
+/// the pair.
 fn expect_rests(
     rt: &impl Abort,
     alloc: Global,
     files: &Files<'_>,
     base: Base,
-    heading: usize,
-    whole: &[u8],
+    pairs: &[u8],
 ) -> Result<(), Fail> {
-    let mut at = heading;
-    for line in whole[heading..].split_inclusive(|byte| *byte == b'\n') {
-        at += line.len();
+    let mut rest = pairs;
+    assert!(rt; !pairs.is_empty());
+    for line in pairs.split_inclusive(|byte| *byte == b'\n') {
+        rest = behind(rest, line);
         let after = resume_text(alloc, line)?;
         let job = Job {
             limit: 3,
@@ -29,9 +29,9 @@ fn expect_rests(
             after: Some(after.as_slice()),
             candidates: &[],
         };
-        let mut sink = MemorySink::new(alloc, whole.len())?;
+        let mut sink = MemorySink::new(alloc, pairs.len())?;
         audit_to(alloc, files.tree, files.script, &job, &mut sink)?;
-        assert_eq!(rt; sink.bytes(), &whole[at..]);
+        assert_eq!(rt; sink.bytes(), rest);
     }
     Ok(())
 }
@@ -39,12 +39,11 @@ fn expect_rests(
 /// The text that resumes after a line: the call, a colon, and the path.
 fn resume_text(alloc: Global, line: &[u8]) -> Result<Vec<u8>, Fail> {
     let mut after = Vec::new(alloc);
-    if let [pair @ .., b'\n'] = line {
-        if let Some(space) = pair.iter().position(|byte| *byte == b' ') {
-            after.extend_from_slice(&pair[space + 1..])?;
-            after.push(b':')?;
-            after.extend_from_slice(&pair[..space])?;
-        }
+    let mut fields = line.split(|byte| *byte == b' ' || *byte == b'\n');
+    if let (Some(path), Some(call)) = (fields.next(), fields.next()) {
+        after.extend_from_slice(call)?;
+        after.push(b':')?;
+        after.extend_from_slice(path)?;
     }
     Ok(after)
 }
@@ -61,27 +60,8 @@ fn each_line_of_a_veiled_file_is_resumed_after(rt: HostRuntime) -> Result<(), Fa
         &["audit", "--limit", "3", "T", "S"],
         &files,
     )?;
-    let heading = b"1 ok\n2 ok\nreach 1\n".len();
-    expect_rests(
-        &rt,
-        rt.alloc(),
-        &files,
-        Base::Root,
-        heading,
-        text.as_slice(),
-    )
-}
-
-#[test]
-fn each_relative_line_is_resumed_after(rt: HostRuntime) -> Result<(), Fail> {
-    let files = Files {
-        tree: EXAMPLE,
-        script: b"1 chdir /tmp\n1 unveil /tmp rwxc\n",
-    };
-    let words = ["audit", "--limit", "3", "--base", "cwd", "T", "S"];
-    let text = output(&rt, rt.alloc(), &words, &files)?;
-    let heading = b"1 ok\n2 ok\nreach 1\n".len();
-    expect_rests(&rt, rt.alloc(), &files, Base::Cwd, heading, text.as_slice())
+    let pairs = behind(text.as_slice(), b"1 ok\n2 ok\nreach 1\n");
+    expect_rests(&rt, rt.alloc(), &files, Base::Cwd, pairs)
 }
 
 #[test]

@@ -53,3 +53,11 @@ pub(crate) fn output(
     assert_eq!(rt; err.bytes(), b"".as_slice());
     Ok(Vec::from_slice(alloc, out.bytes())?)
 }
+
+/// What stands in a text behind its heading; nothing where it has another one.
+pub(crate) fn behind<'a>(text: &'a [u8], heading: &[u8]) -> &'a [u8] {
+    match text.get(heading.len()..) {
+        Some(rest) if text.starts_with(heading) => rest,
+        _ => b"",
+    }
+}

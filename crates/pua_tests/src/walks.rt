@@ -1,7 +1,7 @@
 //! The walk beside a filter of all words, over small trees.
 
 use crate::example::{EXAMPLE, found_from};
-use crate::told::Files;
+use crate::told::{Files, behind};
 use pua_audit::Base;
 use pua_path::Counted;
 use pua_policy::judge::verdict_of;
