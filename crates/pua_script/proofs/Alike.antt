@@ -20,7 +20,7 @@ use Rattle.pua_path.specs.declared.found.Last.TheVariants.{Followed, Kept}
 use Rattle.pua_path.specs.declared.found.Way.TheVariants as way
 use Rattle.pua_policy.specs.Promises.{cpath, proc, unveil, creating}
 use Rattle.pua_policy.specs.Calls.{CallTable, rule_of, standard_table, ending_of, last_of}
-use Rattle.pua_policy.specs.History.{History, Pledged, Unveiled, Locked, Moved, Ended, ProcessState, StandsFor, is_locked, is_ended, working_dir, after_exec, may_any, pledge_fault, unveil_fault}
+use Rattle.pua_policy.specs.History.{History, Pledged, Unveiled, Locked, Moved, Ended, ProcessState, is_locked, is_ended, working_dir, may_any, pledge_fault, unveil_fault}
 use Rattle.pua_policy.specs.Verdict.{place_of, cover, cover_fault, or_fault, object_fault, object_of, object_named, allowed_unless, verdict_of}
 use Rattle.pua_policy.specs.Verdict.{if_promised as verdict_if}
 use Rattle.pua_policy.specs.Laws.{AllowAlike}
@@ -38,7 +38,7 @@ use Rattle.pua_script.specs.declared.request.Given.{Given}
 use Rattle.pua_script.specs.declared.request.Action.{Action}
 use Rattle.pua_script.specs.declared.request.Action.TheVariants.{OnPath, Symlink, Rename, Pledge, Unveil, Lock, Fork, Exit}
 use Rattle.pua_script.specs.Replay.{World, Effect, Fails, Kills, Leaves, Copies, history_of, effect, if_promised, unless, edited, edited_tree, added, removed, moved_to, change, by_verdict, on_found, path_call, symlink_effect, link_node, on_two_paths, rename_found, shifted, node_named, unveil_errno, unveil_effect, given_set, is_unknown, pledge_effect, process_limit, fork_effect, answer_to, left_by, served, apply, answers, world_after}
-use Rattle.pua_script.specs.Worlds.{WorldState, StandsAt, StandsForWorld, AnswerAlike, WorldsAnswerAlike, process_at}
+use Rattle.pua_script.specs.Worlds.{WorldState, StandsAt, StandsForWorld, WorldsAnswerAlike, process_at}
 use Rattle.pua_script.proofs.StoodFor.{nat_tie, nat_turned, true_from_T, T_from_true}
 use Rattle.pua_script.proofs.Histories.{Same, state_of, same_self, same_from_standing, stands_from_same, same_more, same_after_exec}
 

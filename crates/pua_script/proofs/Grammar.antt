@@ -1,14 +1,14 @@
 -- A script is read exactly as the requests that its lines spell.
-use Rattle.std.proofs.Common.{◌≡◌, ℕ, suc, ◌≤◌, ◌<◌, Bool, true, false, cond, ltb, List, [], ◌∷◌, length, take, Option, Some, None, Result, Ok, Err, refl, sym, ap, subst, ◌∙◌, true≢false, arith, lit<, find}
-use Rattle.std.specs.Prelude.{◌≢◌, codes, decimal, IsTrue, IsFalse, ok_or, option_map, nat_lt, not}
+use Rattle.std.proofs.Common.{◌≡◌, ℕ, suc, ◌≤◌, ◌<◌, Bool, true, false, cond, List, [], ◌∷◌, length, take, Option, Some, None, Result, Ok, Err, refl, sym, ap, subst, ◌∙◌, true≢false, arith, lit<, find}
+use Rattle.std.specs.Prelude.{◌≢◌, codes, IsTrue, ok_or, option_map, nat_lt, not}
 use Rattle.std.specs.List.{list_all}
 use Rattle.std.specs.Result.{result_ok}
 use Rattle.std.specs.Str.Lines.{lines}
-use Rattle.std.proofs.lemmas.Bool.{not-true, not_from_false, le-ltb, ltb-false, cond-true, cond-false}
+use Rattle.std.proofs.lemmas.Bool.{not-true, le-ltb, ltb-false, cond-true}
 use Rattle.std.proofs.lemmas.List.{take_all}
 use lib.Pointwise.{bytes_decides}
 use Rattle.pua_tree.specs.Names.{same_bytes}
-use Rattle.pua_tree.specs.Spelling.{unspelled, spelling, fields, is_field, number_within}
+use Rattle.pua_tree.specs.Spelling.{unspelled, fields, is_field, number_within}
 use Rattle.pua_tree.specs.Steps.{◌>>=◌}
 use Rattle.pua_tree.specs.Listing.{only_if}
 use Rattle.pua_tree.proofs.Spellings.{same_Some, None≢Some, guarded, Err≢Ok, same_Ok, unspelled-spelling, spelling-unspelled, bytes_unspelled, decimal_within, number_read}
@@ -19,13 +19,13 @@ use Rattle.pua_policy.specs.declared.call.Call.{Call}
 use Rattle.pua_policy.specs.declared.call.Call.TheVariants as call
 use Rattle.pua_script.specs.Requests.{Asked, is_symlink, has_no_nul}
 use Rattle.pua_script.specs.declared.request.Given.{Given}
-use Rattle.pua_script.specs.declared.request.Given.TheVariants.{Null, Good, Unknown}
+use Rattle.pua_script.specs.declared.request.Given.TheVariants.{Null, Good}
 use Rattle.pua_script.specs.declared.request.Action.{Action}
 use Rattle.pua_script.specs.declared.request.Action.TheVariants.{OnPath, Symlink, Rename, Pledge, Unveil, Lock, Fork, Exit}
 use Rattle.pua_script.specs.declared.fault.ScriptFault.{ScriptFault}
 use Rattle.pua_script.specs.declared.fault.ScriptFault.TheVariants.{BadLine, BadCall, BadPath, BadList, TooMany}
-use Rattle.pua_script.specs.Scripts.{is_dash, is_equals, path_in, has_empty_word, good_or_unknown, given_in, perms_in, Form, PathForm, SymlinkForm, RenameForm, PledgeForm, UnveilForm, ForkForm, ExitForm, form_of, with_paths, unveil_of, action_of, form_in, action_in, request_of_fields, request_of, requests_of, line_limit, script}
-use Rattle.pua_script.specs.ScriptGrammar.{SpellsPath, empty, spelled, IsList, SpellsGiven, null, nothing, known, unknown, SpellsPerms, no_letter, letters, unknown_letter, SpellsAction, on_path, symlink, rename, pledge, unveil, lock, fork, exit, SpellsRequest, SpellRequests, IsScript, ScriptsAreRead}
+use Rattle.pua_script.specs.Scripts.{is_dash, is_equals, path_in, has_empty_word, good_or_unknown, given_in, perms_in, Form, PathForm, SymlinkForm, RenameForm, PledgeForm, UnveilForm, ForkForm, ExitForm, form_of, with_paths, unveil_of, action_of, form_in, action_in, request_of_fields, request_of, requests_of}
+use Rattle.pua_script.specs.ScriptGrammar.{SpellsPath, empty, spelled, IsList, SpellsGiven, null, nothing, known, unknown, SpellsPerms, no_letter, letters, unknown_letter, SpellsAction, on_path, symlink, rename, pledge, unveil, lock, fork, exit, SpellsRequest, SpellRequests, ScriptsAreRead}
 
 same_from : (a b : List ℕ) → same_bytes a b ≡ true → a ≡ b
 same_from a b e = (bytes_decides a b).0 e

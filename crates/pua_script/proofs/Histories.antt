@@ -1,8 +1,7 @@
 -- Histories that one process stands for go on to be such.
-use Rattle.std.proofs.Common.{◌≡◌, ℕ, List, [], ◌∷◌, Bool, true, false, not, refl, sym, ap, subst, ◌∙◌}
+use Rattle.std.proofs.Common.{◌≡◌, ℕ, [], ◌∷◌, not, refl, sym, ap, subst, ◌∙◌}
 use Rattle.std.specs.Prelude.{Option, Some, None, filter, filter_map}
-use Rattle.std.specs.List.{list_any}
-use Rattle.pua_policy.specs.History.{History, Event, Pledged, Unveiled, Locked, Moved, Ended, ProcessState, StandsFor, pledged, held_for_exec, veils, with_veil, is_locked, is_ended, is_lock, is_end, working_dir, meet, common, promises_in, execpromises_in, dir_in, first, is_pledge, after_exec}
+use Rattle.pua_policy.specs.History.{History, Event, Pledged, Unveiled, Locked, Moved, Ended, ProcessState, StandsFor, pledged, held_for_exec, veils, with_veil, is_locked, is_ended, working_dir, meet, common, promises_in, execpromises_in, is_pledge, after_exec}
 
 -- what a process that stands for a history keeps
 abbrev pub state_of : History → ProcessState

@@ -1,13 +1,12 @@
 -- A script that was read up to some line.
-use Rattle.std.proofs.Common.{◌≡◌, ℕ, zero, suc, ◌+◌, ◌-◌, ◌<◌, ◌≤◌, Bool, true, false, cond, List, [], ◌∷◌, ◌++◌, length, take, Result, Ok, Err, refl, sym, ap, subst, ◌∙◌, arith, append_assoc, append-nil, add-zero, zero-add}
+use Rattle.std.proofs.Common.{◌≡◌, ℕ, zero, suc, ◌+◌, ◌-◌, ◌<◌, ◌≤◌, Bool, cond, List, [], ◌∷◌, ◌++◌, length, take, Result, Ok, Err, refl, sym, ap, ◌∙◌, arith, append_assoc, append-nil, zero-add}
 use Rattle.std.specs.Prelude.{nat_lt}
-use Rattle.std.specs.Str.Lines.{lines}
 use Rattle.std.proofs.lemmas.Bool.{lt-ltb, le-ltb}
 use Rattle.pua_tree.specs.Steps.{◌>>=◌}
 use Rattle.pua_script.specs.Requests.{Asked}
 use Rattle.pua_script.specs.declared.fault.ScriptFault.{ScriptFault}
 use Rattle.pua_script.specs.declared.fault.ScriptFault.TheVariants.{TooMany}
-use Rattle.pua_script.specs.Scripts.{request_of, requests_of, script}
+use Rattle.pua_script.specs.Scripts.{request_of, requests_of}
 
 -- requests, unless there are more lines than may be
 abbrev unless_more : Bool → List Asked → Result (List Asked) ScriptFault

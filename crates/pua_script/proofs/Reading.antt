@@ -1,19 +1,17 @@
 -- The parts of a line as its reader finds them.
-use Rattle.std.proofs.Common.{◌≡◌, ℕ, ◌+◌, ◌<◌, ◌≤◌, Bool, true, false, cond, List, [], ◌∷◌, map, length, take, Option, Some, None, Result, Ok, Err, refl, sym, ap, subst, ◌∙◌, arith, lit<}
+use Rattle.std.proofs.Common.{◌≡◌, ℕ, ◌≤◌, cond, List, [], ◌∷◌, map, length, take, Some, Ok, Err, refl, ap, ◌∙◌, arith, lit<}
 use Rattle.std.specs.Borrow.{Bor}
-use Rattle.std.specs.Prelude.{IsTrue, ok_or, nat_lt, ◌++◌}
+use Rattle.std.specs.Prelude.{IsTrue, ok_or}
 use Rattle.std.specs.List.{list_all}
 use Rattle.std.proofs.lemmas.Bool.{and_from, le-leb, not_from_false}
 use Rattle.pua_tree.specs.Spelling.{fields, is_field, number_within}
 use Rattle.pua_tree.specs.Fields.{first_fields}
-use Rattle.pua_tree.specs.Steps.{◌>>=◌}
 use Rattle.pua_tree.proofs.Spellings.{guarded, number_read}
-use Rattle.pua_script.specs.Requests.{Asked, has_no_nul, is_asked, is_askable}
+use Rattle.pua_script.specs.Requests.{has_no_nul, is_asked, is_askable}
 use Rattle.pua_script.specs.declared.request.Action.{Action}
-use Rattle.pua_script.specs.declared.fault.ScriptFault.{ScriptFault}
-use Rattle.pua_script.specs.declared.fault.ScriptFault.TheVariants.{BadLine, BadCall, TooMany}
-use Rattle.pua_script.specs.Scripts.{action_in, form_in, action_of, request_of_fields, request_of, requests_of, script, line_limit}
-use Rattle.pua_script.specs.ScriptGrammar.{SpellsPath, empty, spelled, SpellsAction, on_path, symlink, rename, pledge, unveil, lock, fork, exit, SpellsRequest}
+use Rattle.pua_script.specs.declared.fault.ScriptFault.TheVariants.{BadLine, BadCall}
+use Rattle.pua_script.specs.Scripts.{action_in, form_in, action_of, request_of_fields, request_of}
+use Rattle.pua_script.specs.ScriptGrammar.{SpellsPath, empty, spelled, SpellsAction, on_path, symlink, rename, pledge, unveil, lock, fork, exit}
 use Rattle.pua_script.proofs.Grammar.{bound, found, action_read}
 
 -- no call has more than two arguments

@@ -1,5 +1,5 @@
 -- A world that stands for one of the replay still does after a process was changed or made on both sides.
-use Rattle.std.proofs.Common.{◌≡◌, ℕ, ◌+◌, T, eqb, Bool, true, false, cond, nat_eq, List, length, Option, Some, None, is_some, refl, sym, subst, ap, ◌∙◌, true≢false}
+use Rattle.std.proofs.Common.{◌≡◌, ℕ, ◌+◌, T, eqb, Bool, true, false, cond, nat_eq, List, length, Option, Some, None, is_some, refl, sym, subst, ap, ◌∙◌}
 use Rattle.std.specs.Prelude.{IsTrue}
 use Rattle.std.proofs.lemmas.Bool.{eqb-true, eq-eqb}
 use Rattle.std.proofs.lemmas.Bool.Decides.{same_from_decides}

@@ -1,5 +1,5 @@
 -- What a script is as a text: lines, each of which spells a request by its fields.
-use Rattle.std.specs.Prelude.{◌≡◌, ◌≢◌, ℕ, ◌≤◌, List, [], ◌∷◌, length, Option, Some, None, Result, Ok, Err, codes, decimal, IsTrue, IsFalse, nat_lt, ◌↔◌}
+use Rattle.std.specs.Prelude.{◌≡◌, ◌≢◌, ℕ, ◌≤◌, List, [], ◌∷◌, length, Option, Some, None, Ok, Err, codes, decimal, IsTrue, IsFalse, nat_lt, ◌↔◌}
 use Rattle.std.specs.List.{list_all}
 use Rattle.std.specs.Str.Lines.{lines}
 use Rattle.pua_tree.specs.Spelling.{spelling, fields, is_field}

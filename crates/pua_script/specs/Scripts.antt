@@ -1,5 +1,5 @@
 -- Which bytes are a script of which requests, and else which fault comes first.
-use Rattle.std.specs.Prelude.{◌≡◌, ◌≢◌, MatchResult, ℕ, suc, Bool, true, false, not, if◌then◌else◌, List, [], ◌∷◌, length, take, nat_lt, ◌==◌, Option, Some, None, Result, Ok, Err, codes, ok_or, option_map}
+use Rattle.std.specs.Prelude.{◌≡◌, ◌≢◌, MatchResult, ℕ, suc, Bool, not, if◌then◌else◌, List, [], ◌∷◌, length, take, nat_lt, ◌==◌, Option, Some, None, Result, Ok, Err, codes, ok_or, option_map}
 use Rattle.std.specs.List.{list_all, list_any, slice_split}
 use Rattle.std.specs.Result.{result_ok}
 use Rattle.std.specs.Str.Lines.{lines}

@@ -1,5 +1,5 @@
 -- What a world keeps, and for which worlds of the replay it stands.
-use Rattle.std.specs.Prelude.{◌≡◌, ℕ, Bool, true, false, List, [], ◌∷◌, length, nat_eq, Option, Some, None, IsTrue}
+use Rattle.std.specs.Prelude.{◌≡◌, ℕ, Bool, true, false, List, ◌∷◌, length, take, nat_eq, Option, Some, None, IsTrue}
 use Rattle.std.specs.Ordering.{nat_cmp}
 use Rattle.std.specs.FinMap.{is_sorted}
 use Rattle.std.specs.Map.{lookup}
@@ -7,7 +7,7 @@ use Rattle.pua_tree.specs.Tree.{Tree}
 use Rattle.pua_policy.specs.Calls.{standard_table}
 use Rattle.pua_policy.specs.History.{History, ProcessState, StandsFor}
 use Rattle.pua_script.specs.Requests.{Asked}
-use Rattle.pua_script.specs.Replay.{World, Effect, Fails, Kills, Leaves, Copies, history_of, apply, effect, answers, world_after, answer_to}
+use Rattle.pua_script.specs.Replay.{World, Effect, Kills, Leaves, Copies, history_of, apply, effect, answers, world_after, answer_to}
 use Rattle.pua_policy.specs.History.{Ended}
 use Rattle.pua_script.specs.declared.answer.Answer.{Answer}
 use Rattle.pua_script.specs.declared.request.Action.{Action}
@@ -44,6 +44,10 @@ IsServed before ask answer after =
 abbrev pub AreServed : WorldState → List Asked → List Answer → WorldState → Type 0
 AreServed before asks told after =
     (w : World) → StandsForWorld before w → (told ≡ answers standard_table w asks) × StandsForWorld after (world_after standard_table w asks)
+
+-- some first ones of the requests were served
+abbrev pub AreServedInPart : WorldState → List Asked → WorldState → Type 0
+AreServedInPart before asks after = (count : ℕ) × ((w : World) → StandsForWorld before w → StandsForWorld after (world_after standard_table w (take count asks)))
 
 -- what the world keeps at a number stands for the history at that number, in each world for which it stands
 abbrev pub IsProcessOf : WorldState → ℕ → Option ProcessState → Type 0

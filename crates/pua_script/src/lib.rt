@@ -1,12 +1,18 @@
 //! Scripts of calls, and a world of processes over one tree.
 #![tactic(auto)]
 
+mod act;
 mod answer;
+mod change;
 mod fault;
+mod fork;
 mod laws;
 mod line;
+mod look;
+mod rename;
 mod request;
 mod script;
+mod serve;
 mod world;
 
 pub use answer::Answer;

@@ -1,5 +1,11 @@
 //! A world of processes over one tree.
 
+use crate::act::act;
+use crate::answer::Answer;
+use crate::fault::WorldFault;
+use crate::fork::fork;
+use crate::request::{Action, Request};
+use crate::script::Script;
 use indexmap::IndexMap;
 use pua_policy::Process;
 use pua_tree::{FileTree, OutOfMemory};
@@ -15,6 +21,7 @@ const FIRST_PROCESS: u32 = 1;
 pub struct World<T: FileTree> {
     tree: T,
     processes: IndexMap<u32, Process>,
+    alloc: Global,
 }
 
 impl<T: FileTree> Model for World<T> {
@@ -25,9 +32,9 @@ impl<T: FileTree> Model for World<T> {
     ghost view = { λ a. record { tree = T.content a.tree; processes = a.processes.entries } };
 }
 
-ghost use Rattle.std.specs.Prelude.{◌≡◌, IfOk, option_copied};
+ghost use Rattle.std.specs.Prelude.{◌≡◌, IfOk, OnErr, MatchResult, IsFalse, option_copied};
 ghost use Rattle.pua_script.specs.Replay.{new_world};
-ghost use Rattle.pua_script.specs.Worlds.{StandsForWorld, IsProcessOf, process_at};
+ghost use Rattle.pua_script.specs.Worlds.{StandsForWorld, IsProcessOf, IsServed, AreServed, AreServedInPart, is_fork, process_at};
 
 impl<T: FileTree> World<T> {
     /// A world over this tree with process 1 alone, which is new. `OutOfMemory` where a growth was
@@ -42,7 +49,11 @@ impl<T: FileTree> World<T> {
         let Ok(_) = processes.insert(FIRST_PROCESS, process) else {
             return Err(OutOfMemory);
         };
-        Ok(World { tree, processes })
+        Ok(World {
+            tree,
+            processes,
+            alloc,
+        })
     }
 
     /// The tree as it is now.
@@ -58,5 +69,56 @@ impl<T: FileTree> World<T> {
         ensures history { IsProcessOf self.now number (option_copied result) }
     {
         self.processes.get(&number)
+    }
+
+    /// Serves one request, and answers it. A process that has ended or was never made is told
+    /// `Gone`; a request that fails changes nothing. `OutOfMemory` where a growth was refused; the world is
+    /// then as it was.
+    pub fn apply(&mut self, request: &Request) -> Result<Answer, WorldFault>
+        ensures served { IfOk result (λ answer. IsServed self.old request.now answer self.new) }
+        ensures unchanged { OnErr result (self.new ≡ self.old) }
+    {
+        let number = request.process();
+        match request.action() {
+            Action::Fork(new) => fork(self.alloc, &mut self.processes, number, *new),
+            action => serve(&mut self.tree, &mut self.processes, number, action),
+        }
+    }
+
+    /// Serves the requests of a script in their order, and answers each. `OutOfMemory` where a
+    /// growth was refused: before the first request where there is no room for the answers, and
+    /// else some of the first requests were served.
+    pub fn run(&mut self, alloc: Global, script: &Script) -> Result<Vec<Answer>, WorldFault>
+        ensures { MatchResult result (λ told. AreServed self.old script.now told.items self.new) (λ _. AreServedInPart self.old script.now self.new) }
+    {
+        let requests = script.requests();
+        let Ok(mut told) = Vec::with_capacity(alloc, requests.len()) else {
+            return Err(WorldFault::OutOfMemory);
+        };
+        for request in requests {
+            let answer = self.apply(request)?;
+            let Ok(()) = told.push(answer) else {
+                return Err(WorldFault::OutOfMemory);
+            };
+        }
+        Ok(told)
+    }
+}
+
+/// Serves a request that makes no process.
+fn serve<T: FileTree>(
+    tree: &mut T,
+    processes: &mut IndexMap<u32, Process>,
+    number: u32,
+    action: &Action,
+) -> Result<Answer, WorldFault>
+    requires { IsFalse (is_fork action.now) }
+    ensures served { IfOk result (λ answer. IsServed (record { tree = T.content tree.old; processes = processes.old.entries })
+        (record { process = number; action = action.now }) answer (record { tree = T.content tree.new; processes = processes.new.entries })) }
+    ensures unchanged { OnErr result ((T.content tree.new ≡ T.content tree.old) × (processes.new.entries ≡ processes.old.entries)) }
+{
+    match processes.get_mut(&number) {
+        Some(process) if !process.ended() => act(tree, process, action),
+        _ => Ok(Answer::Gone),
     }
 }

@@ -1,9 +1,9 @@
-use Rattle.std.proofs.Common.{◌≡◌, ◌≢◌, ◌<◌, ◌≤◌, ◌+◌, suc, arith, sym, ap, ◌∙◌, Err, add-one}
+use Rattle.std.proofs.Common.{◌≡◌, ◌≢◌, ◌<◌, ◌+◌, suc, arith, sym, ap, ◌∙◌, Err, add-one}
 use Rattle.std.specs.Str.Lines.{lines}
 use Rattle.std.proofs.lemmas.Result.{err_from_is_err_and}
 use Rattle.pua_tree.proofs.Lines.{lines_agree}
 use Rattle.pua_script.specs.declared.fault.ScriptFault.TheVariants.{OutOfMemory}
-use Rattle.pua_script.specs.Scripts.{script, request_of}
+use Rattle.pua_script.specs.Scripts.{script}
 use Rattle.pua_script.proofs.Onwards.{onwards, begins, full, ends, refused, goes_on}
 use Rattle.pua_script.proofs.script.read_script.Goals as goal
 

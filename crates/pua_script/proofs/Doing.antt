@@ -1,0 +1,85 @@
+-- What a process does, by the effect of what it asks for.
+use Rattle.std.proofs.Common.{◌≡◌, ℕ, List, [], ◌∷◌, false, cond, Option, Some, None, Result, Ok, Err, IfOk, refl, sym, ap, subst, ◌∙◌}
+use Rattle.pua_tree.specs.Tree.{Tree, WellFormed}
+use Rattle.pua_tree.proofs.Spellings.{Err≢Ok}
+use Rattle.pua_path.specs.Paths.{path_fault}
+use Rattle.pua_path.specs.Resolution.{resolution, resolution_of_text}
+use Rattle.pua_path.specs.declared.errno.Errno.{Errno}
+use Rattle.pua_path.specs.declared.errno.Errno.TheVariants.{EPERM}
+use Rattle.pua_path.specs.declared.text.Ending.{Ending}
+use Rattle.pua_path.specs.declared.text.Ending.TheVariants as ending
+use Rattle.pua_path.specs.declared.found.Last.{Last}
+use Rattle.pua_path.specs.declared.found.Last.TheVariants.{Followed}
+use Rattle.pua_path.specs.declared.found.Found.{Found}
+use Rattle.pua_policy.specs.Promises.{unveil}
+use Rattle.pua_policy.specs.Verdict.{FoundsFit, place_of}
+use Rattle.pua_policy.proofs.Fits.{resolutions_fit}
+use Rattle.pua_policy.specs.History.{History, ProcessState, StandsFor, Unveiled, is_locked, may_any, unveil_fault, working_dir}
+use Rattle.pua_policy.specs.declared.answer.May.{May}
+use Rattle.pua_policy.specs.declared.answer.May.TheVariants as may
+use Rattle.pua_policy.specs.declared.place.Place.{Place}
+use Rattle.pua_script.specs.declared.answer.Answer.{Answer}
+use Rattle.pua_script.specs.declared.fault.WorldFault.{WorldFault}
+use Rattle.pua_script.specs.Replay.{World, Effect, Fails, Kills, Leaves, if_promised, on_found, unless, unveil_errno, unveil_request}
+use Rattle.pua_script.specs.Worlds.{Does, Edits}
+
+module _ (t u : Tree) (h : History) (a : Answer) (q : ProcessState) where
+  -- by an equal effect
+  pub as_same : (d e : Effect) → d ≡ e → Does t h e a u q → Does t h d a u q
+  as_same d e is does = subst (λ x. Does t h x a u q) (sym is) does
+
+  -- where the lack of promises ends the process
+  pub as_death : (m : May) (e : Effect) → may.Death ≡ m → Does t h Kills a u q → Does t h (if_promised m e) a u q
+  as_death m e is does = subst (λ x. Does t h (if_promised x e) a u q) is does
+
+  -- an effect on the tree alone
+  pub as_edit : (e : Effect) → Edits t h e a u → StandsFor q h → Does t h e a u q
+  as_edit e edits stands = record { told = edits.told; left = edits.left; stands = subst (StandsFor q) (sym edits.same) stands; alone = edits.alone }
+
+-- an unveil whose path named something
+pub unveil_named : (t : Tree) (h : History) (path : List ℕ) (perms : Option ℕ) (p : ℕ) (object : Found) (place : Place) → may.Yes ≡ may_any h (unveil ∷ []) → false ≡ is_locked h → perms ≡ Some p
+    → Ok object ≡ resolution_of_text t (working_dir h) ending.Dot path Followed → place ≡ place_of object
+    → unveil_request t h path perms ≡ unless (unveil_errno (unveil_fault h place p)) (Leaves t (Unveiled place p ∷ h))
+unveil_named t h path perms p object place promised unlocked is named at =
+    ap (unveil_request t h path) is
+    ∙ (λ i. if_promised (sym promised i) (cond (sym unlocked i) (Fails EPERM)
+    (on_found (sym named i) λ x. unless (unveil_errno (unveil_fault h (place_of x) p)) (Leaves t (Unveiled (place_of x) p ∷ h)))))
+    ∙ ap (λ at. unless (unveil_errno (unveil_fault h at p)) (Leaves t (Unveiled at p ∷ h))) (sym at)
+
+-- the same where a growth may have been refused
+module _ (t u : Tree) (before q : ProcessState) where
+  pub all_same : (r : Result Answer WorldFault) (d e : History → Effect) → ((h : History) → StandsFor before h → d h ≡ e h)
+      → IfOk r (λ answer. (h : History) → StandsFor before h → Does t h (e h) answer u q) → IfOk r (λ answer. (h : History) → StandsFor before h → Does t h (d h) answer u q)
+  all_same (Ok answer) d e same does = λ h s. as_same t u h answer q (d h) (e h) (same h s) (does h s)
+  all_same (Err fault) d e same does = tt
+
+  pub all_acts : (r : Result Answer WorldFault) (d : World → History → Effect) (e : History → Effect) → ((w : World) (h : History) → w.tree ≡ t → d w h ≡ e h)
+      → IfOk r (λ answer. (h : History) → StandsFor before h → Does t h (e h) answer u q)
+      → IfOk r (λ answer. (w : World) (h : History) → w.tree ≡ t → StandsFor before h → Does t h (d w h) answer u q)
+  all_acts (Ok answer) d e same does = λ w h trees s. as_same t u h answer q (d w h) (e h) (same w h trees) (does h s)
+  all_acts (Err fault) d e same does = tt
+
+-- an effect on the tree alone, and one that does not ask for the tree
+pub all_edits : (t u : Tree) (q : ProcessState) (r : Result Answer WorldFault) (d e : History → Effect) → ((h : History) → StandsFor q h → d h ≡ e h)
+    → IfOk r (λ answer. (h : History) → Edits t h (e h) answer u) → IfOk r (λ answer. (h : History) → StandsFor q h → Does t h (d h) answer u q)
+all_edits t u q (Ok answer) d e same edits = λ h s. as_same t u h answer q (d h) (e h) (same h s) (as_edit t u h answer q (e h) (edits h) s)
+all_edits t u q (Err fault) d e same edits = tt
+
+pub all_at : (t : Tree) (before q : ProcessState) (r : Result Answer WorldFault) (e : Tree → History → Effect)
+    → IfOk r (λ answer. (h : History) (t : Tree) → StandsFor before h → Does t h (e t h) answer t q) → IfOk r (λ answer. (h : History) → StandsFor before h → Does t h (e t h) answer t q)
+all_at t before q (Ok answer) e does = λ h s. does h t s
+all_at t before q (Err fault) e does = tt
+
+-- what a text names is of the tree
+pub text_fits : (t : Tree) → WellFormed t → (from : ℕ) (ending : Ending) (text : List ℕ) (mode : Last) (r : Result Found Errno) → r ≡ resolution_of_text t from ending text mode → FoundsFit t r
+text_fits t well from ending text mode (Err errno) is = tt
+text_fits t well from ending text mode (Ok object) is = by (path_fault text) refl
+  where
+    by : (o : Option Errno) → path_fault text ≡ o → FoundsFit t (Ok object)
+    by None e = ((resolutions_fit t well).whole from ending text mode object (sym (rw e at is))).fits
+    by (Some errno) e = absurd (Err≢Ok errno object (sym (rw e at is)))
+
+-- what a path without fault names is of the tree
+pub found_fit : (t : Tree) → WellFormed t → (from : ℕ) (ending : Ending) (text : List ℕ) (mode : Last) (r : Result Found Errno) → r ≡ resolution t from ending text mode → FoundsFit t r
+found_fit t well from ending text mode (Err errno) is = tt
+found_fit t well from ending text mode (Ok object) is = ((resolutions_fit t well).whole from ending text mode object (sym is)).fits

@@ -1,0 +1,20 @@
+-- Steps in the proof of a rename.
+use Rattle.std.proofs.Common.{◌≡◌, ◌≢◌, ℕ, true, false, refl, ap, ◌∙◌}
+use Rattle.std.specs.Prelude.{Option, Some, None, ◌==◌, ◌||◌}
+use Rattle.std.specs.Option.{option_or}
+use Rattle.std.specs.List.{list_any}
+use Rattle.pua_tree.specs.Tree.{Tree, WellFormed, is_dir, above, climb}
+use Rattle.pua_path.specs.declared.errno.Errno.{Errno}
+use Rattle.pua_policy.specs.Verdict.{or_fault}
+use Rattle.pua_policy.proofs.Climbs.{climb_step}
+
+-- the first of two faults
+pub first_fault : (a b : Option Errno) → option_or a b ≡ or_fault a b
+first_fault None b = refl
+first_fault (Some errno) b = refl
+
+-- one step up a climb that has not met the node
+pub climb_other : (t : Tree) → WellFormed t → (d x : ℕ) → d ≢ 0 → is_dir t d ≡ true → (d == x) ≡ false →
+    list_any (λ e. e == x) (climb t d) ≡ list_any (λ e. e == x) (climb t (above t d))
+climb_other t well d x higher living other =
+    ap (list_any (λ e. e == x)) (climb_step t well d higher living) ∙ ap (λ b. b || list_any (λ e. e == x) (climb t (above t d))) other

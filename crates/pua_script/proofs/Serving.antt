@@ -1,0 +1,176 @@
+-- One request of the replay, from what the process that asks did.
+use Rattle.std.proofs.Common.{◌≡◌, ◌<◌, ℕ, ◌+◌, take, get_or, add-one, Result, Ok, Err, IfOk, OnErr, [], ◌∷◌, ◌++◌, ◌||◌, nat_eq, List, length, Bool, true, false, cond, Option, Some, None, is_some, refl, sym, ap, subst, ◌∙◌, true≢false}
+use Rattle.std.proofs.lemmas.Bool.{eqb-true}
+use Rattle.std.proofs.Math.Seq.{take-suc}
+use Rattle.std.specs.Prelude.{nat_le}
+use Rattle.std.specs.Map.{lookup, set_value}
+use Rattle.std.proofs.lemmas.Map.Steps.{set_value_same}
+use Rattle.pua_tree.specs.Tree.{Tree}
+use Rattle.pua_policy.specs.Calls.{standard_table}
+use Rattle.pua_policy.specs.Promises.{proc}
+use Rattle.pua_policy.specs.History.{History, ProcessState, StandsFor, Ended, is_ended, may_any}
+use Rattle.pua_policy.specs.declared.answer.May.TheVariants as may
+use Rattle.pua_path.specs.declared.errno.Errno.TheVariants.{EAGAIN}
+use Rattle.pua_script.specs.Requests.{Asked}
+use Rattle.pua_script.specs.declared.answer.Answer.{Answer}
+use Rattle.pua_script.specs.declared.fault.WorldFault.{WorldFault}
+use Rattle.pua_script.specs.declared.answer.Answer.TheVariants.{Okay, Gone}
+use Rattle.pua_script.specs.declared.request.Action.TheVariants.{Fork}
+use Rattle.pua_script.specs.Replay.{World, Effect, Fails, Kills, Leaves, Copies, if_promised, process_limit, history_of, effect, answer_to, left_by, served, world_after}
+use Rattle.pua_script.specs.Worlds.{WorldState, StandsAt, StandsForWorld, process_at, IsServed, AreServed, AreServedInPart, Does, Acts}
+use Rattle.pua_script.proofs.Composition.{replay_composes}
+use Rattle.pua_script.proofs.StoodFor.{same_numbers, stands_changed, stands_made}
+
+-- what a process did is its request of the replay
+module _ (s : WorldState) (ask : Asked) (answer : Answer) (t : Tree) (p q : ProcessState) (more : List (ℕ × ProcessState))
+    (there : process_at s ask.process ≡ Some p) (living : p.ended ≡ false)
+    (changed : (n : ℕ) → lookup (nat_eq n) more ≡ cond (nat_eq ask.process n) (Some q) (process_at s n)) (counted : length more ≡ length s.processes)
+    (acts : (w : World) (h : History) → StandsForWorld s w → StandsFor p h → Does s.tree h (effect standard_table w h ask.action) answer t q) where
+  abbrev pub left_world : WorldState
+  left_world = record { tree = t; processes = more }
+
+  module _ (w : World) (stands : StandsForWorld s w) (h : History) (known : history_of w ask.process ≡ Some h) where
+    -- the caller's history stays as it was
+    stays : (tree : Tree) → t ≡ tree → StandsFor q h → StandsForWorld left_world (record { tree = tree; histories = w.histories })
+    stays tree is new = record {
+      tree = is;
+      processes = λ n. subst (λ o. StandsAt o (history_of w n)) (sym (changed n)) (at n (nat_eq ask.process n) refl);
+      count = counted ∙ stands.count;
+      in_order = stands.in_order;
+    }
+      where
+        at : (n : ℕ) (b : Bool) → nat_eq ask.process n ≡ b → StandsAt (cond b (Some q) (process_at s n)) (history_of w n)
+        at n true e = subst (λ k. StandsAt (Some q) (history_of w k)) (eqb-true ask.process n e) (subst (StandsAt (Some q)) (sym known) new)
+        at n false e = stands.processes n
+
+    left : (e : Effect) → Does s.tree h e answer t q → (answer ≡ answer_to e) × StandsForWorld left_world (left_by w ask.process h e)
+    left (Fails errno) does = (does.told, stays w.tree (does.left ∙ stands.tree) does.stands)
+    left Kills does = (
+      does.told,
+      subst (λ x. StandsForWorld (record { tree = x; processes = more }) (left_by w ask.process h Kills)) (sym (does.left ∙ stands.tree))
+          (stands_changed s w stands ask.process w.tree q (Ended ∷ h) more does.stands changed (ap is_some known) counted),
+    )
+    left (Leaves tree g) does = (
+      does.told,
+      subst (λ x. StandsForWorld (record { tree = x; processes = more }) (left_by w ask.process h (Leaves tree g))) (sym does.left)
+          (stands_changed s w stands ask.process tree q g more does.stands changed (ap is_some known) counted),
+    )
+    left (Copies new) does = absurd (true≢false does.alone)
+
+  pub serves : IsServed s ask answer left_world
+  serves w stands = by (history_of w ask.process) refl (stands.processes ask.process)
+    where
+      lives : (h : History) (b : Bool) (d : Answer × World) → b ≡ false → (answer ≡ d.0) × StandsForWorld left_world d.1 → (answer ≡ (cond b (Gone, w) d).0) × StandsForWorld left_world (cond b (Gone, w) d).1
+      lives h true d e done = absurd (true≢false e)
+      lives h false d e done = done
+
+      by : (g : Option History) → history_of w ask.process ≡ g → StandsAt (process_at s ask.process) g → (answer ≡ (served standard_table w ask g).0) × StandsForWorld left_world (served standard_table w ask g).1
+      by None known at = absurd (subst (λ o. StandsAt o None) there at)
+      by (Some h) known at =
+          let own : StandsFor p h = subst (λ o. StandsAt o (Some h)) there at in
+          lives h (is_ended h) _ (sym own.ended ∙ living) (left w stands h known (effect standard_table w h ask.action) (acts w h stands own))
+
+-- where a fork is refused, so it is in the replay
+pub refused_alike : (s : WorldState) (w : World) → StandsForWorld s w → (h : History) (new : ℕ) (b : Bool) → b ≡ (is_some (process_at s new) || nat_le process_limit (length s.processes))
+    → effect standard_table w h (Fork new) ≡ if_promised (may_any h (proc ∷ [])) (cond b (Fails EAGAIN) (Copies new))
+refused_alike s w stands h new b is = λ i. if_promised (may_any h (proc ∷ [])) (cond (sym (is ∙ (λ j. same_numbers _ _ (stands.processes new) j || nat_le process_limit (stands.count j))) i) (Fails EAGAIN) (Copies new))
+
+unset : (b c : Bool) → (b || c) ≡ false → b ≡ false
+unset true c is = is
+unset false c is = refl
+
+-- a process that may fork, and the processes with its copy
+module _ (s : WorldState) (number new : ℕ) (p copy : ProcessState) (mid more : List (ℕ × ProcessState)) (old : Option ProcessState)
+    (there : process_at s number ≡ Some p) (living : p.ended ≡ false)
+    (promised : (h : History) → StandsFor p h → may_any h (proc ∷ []) ≡ may.Yes)
+    (free : (is_some (process_at s new) || nat_le process_limit (length s.processes)) ≡ false)
+    (copied : copy ≡ p) (same : mid ≡ s.processes) (puts : (n : ℕ) → lookup (nat_eq n) more ≡ cond (nat_eq new n) (Some copy) (lookup (nat_eq n) mid))
+    (was : old ≡ lookup (nat_eq new) mid) (counted : length more ≡ length mid + cond (is_some old) 0 1) where
+  copied_at : (n : ℕ) → lookup (nat_eq n) more ≡ cond (nat_eq new n) (Some p) (process_at s n)
+  copied_at n = puts n ∙ (λ i. cond (nat_eq new n) (Some (copied i)) (lookup (nat_eq n) (same i)))
+
+  is_new : is_some (process_at s new) ≡ false
+  is_new = unset _ _ free
+
+  one_more : length more ≡ length s.processes + 1
+  one_more = counted ∙ (λ i. length (same i) + cond ((ap is_some (was ∙ ap (lookup (nat_eq new)) same) ∙ is_new) i) 0 1)
+
+  pub forks : IsServed s (record { process = number; action = Fork new }) Okay (record { tree = s.tree; processes = more })
+  forks w stands = by (history_of w number) (stands.processes number)
+    where
+      copies : (h : History) (b : Bool) (e : Effect) → b ≡ false → e ≡ Copies new → StandsFor p h
+          → (Okay ≡ (cond {A = Answer × World} b (Gone, w) (answer_to e, left_by w number h e)).0) × StandsForWorld (record { tree = s.tree; processes = more }) (cond {A = Answer × World} b (Gone, w) (answer_to e, left_by w number h e)).1
+      copies h true e ended is own = absurd (true≢false ended)
+      copies h false e living is own =
+          subst (λ e. (Okay ≡ answer_to e) × StandsForWorld (record { tree = s.tree; processes = more }) (left_by w number h e)) (sym is) (
+            refl,
+            subst (λ t. StandsForWorld (record { tree = t; processes = more }) (left_by w number h (Copies new))) (sym stands.tree)
+                (stands_made s w stands new w.tree p h more own copied_at (sym (same_numbers _ _ (stands.processes new)) ∙ is_new) one_more),
+          )
+
+      by : (g : Option History) → StandsAt (process_at s number) g
+          → (Okay ≡ (served standard_table w (record { process = number; action = Fork new }) g).0) × StandsForWorld (record { tree = s.tree; processes = more }) (served standard_table w (record { process = number; action = Fork new }) g).1
+      by None at = absurd (subst (λ o. StandsAt o None) there at)
+      by (Some h) at =
+          let own : StandsFor p h = subst (λ o. StandsAt o (Some h)) there at in
+          copies h (is_ended h) (effect standard_table w h (Fork new)) (sym own.ended ∙ living)
+          (refused_alike s w stands h new false (sym free) ∙ ap (λ m. if_promised m (Copies new)) (promised h own)) own
+
+-- one request more
+pub served_more : (before mid after : WorldState) (asks : List Asked) (told : List Answer) (ask : Asked) (answer : Answer) → AreServed before asks told mid → IsServed mid ask answer after
+    → AreServed before (asks ++ ask ∷ []) (told ++ answer ∷ []) after
+served_more before mid after asks told ask answer first next w stands =
+    let done = first w stands in
+    let last = next (world_after standard_table w asks) done.1 in
+    let composed = replay_composes standard_table w asks (ask ∷ []) in
+    ((λ i. done.0 i ++ last.0 i ∷ []) ∙ sym composed.0, subst (StandsForWorld after) (sym composed.1) last.1)
+
+-- the next of a list of requests
+pub served_next : (before mid after : WorldState) (asks : List Asked) (i : ℕ) (told more : List Answer) (ask : Asked) (answer : Answer) → i < length asks → ask ≡ get_or asks i ask → more ≡ told ++ answer ∷ []
+    → AreServed before (take i asks) told mid → IsServed mid ask answer after → AreServed before (take (i + 1) asks) more after
+served_next before mid after asks i told more ask answer within is pushed first next =
+    let taken : take (i + 1) asks ≡ take i asks ++ ask ∷ [] = ap (λ n. take n asks) (add-one i) ∙ take-suc asks i ask within ∙ ap (λ x. take i asks ++ x ∷ []) (sym is) in
+    subst (λ xs. AreServed before xs more after) (sym taken)
+    (subst (λ ys. AreServed before (take i asks ++ ask ∷ []) ys after) (sym pushed) (served_more before mid after (take i asks) told ask answer first next))
+
+-- some first ones, where the next was not served
+pub served_before : (before mid after : WorldState) (asks own : List Asked) (i : ℕ) (told : List Answer) → own ≡ asks → after ≡ mid → AreServed before (take i own) told mid → AreServedInPart before asks after
+served_before before mid after asks own i told is same first = (
+  i,
+  λ w stands. subst (λ x. StandsForWorld x (world_after standard_table w (take i asks))) (sym same)
+      (subst (λ xs. StandsForWorld mid (world_after standard_table w (take i xs))) is (first w stands).1),
+)
+
+-- where a growth may have been refused
+pub all_serve : (s : WorldState) (ask : Asked) (r : Result Answer WorldFault) (t : Tree) (p q : ProcessState) (more : List (ℕ × ProcessState)) → Some p ≡ process_at s ask.process → p.ended ≡ false
+    → ((n : ℕ) → lookup (nat_eq n) more ≡ cond (nat_eq ask.process n) (Some q) (process_at s n)) → length more ≡ length s.processes
+    → IfOk r (λ answer. Acts s.tree p ask.action answer t q) → IfOk r (λ answer. IsServed s ask answer (record { tree = t; processes = more }))
+all_serve s ask (Ok answer) t p q more there living changed counted acts = serves s ask answer t p q more (sym there) living changed counted (λ w h stands own. acts w h (sym stands.tree) own)
+all_serve s ask (Err fault) t p q more there living changed counted acts = tt
+
+pub all_fork : (r : Result Answer WorldFault) (s : WorldState) (t : Tree) (before after : List (ℕ × ProcessState)) (ask asked : Asked) → record { tree = t; processes = before } ≡ s → ask ≡ asked
+    → IfOk r (λ answer. (t : Tree) → IsServed (record { tree = t; processes = before }) ask answer (record { tree = t; processes = after }))
+    → IfOk r (λ answer. IsServed s asked answer (record { tree = t; processes = after }))
+all_fork (Ok answer) s t before after ask asked is same served = subst (λ s. IsServed s asked answer (record { tree = t; processes = after })) is
+    (subst (λ a. IsServed (record { tree = t; processes = before }) a answer (record { tree = t; processes = after })) same (served t))
+all_fork (Err fault) s t before after ask asked is same served = tt
+
+-- a process written back as it was
+pub same_entries : (n : ℕ) (p q : ProcessState) (entries more : List (ℕ × ProcessState)) → Some p ≡ lookup (nat_eq n) entries → more ≡ set_value (nat_eq n) entries q → q ≡ p → more ≡ entries
+same_entries n p q entries more there wrote same = wrote ∙ set_value_same (nat_eq n) entries q (sym there ∙ ap Some (sym same))
+
+-- where a growth was refused, nothing changed
+pub all_kept : (r : Result Answer WorldFault) (t u : Tree) (n : ℕ) (p q : ProcessState) (entries more : List (ℕ × ProcessState)) → Some p ≡ lookup (nat_eq n) entries → more ≡ set_value (nat_eq n) entries q
+    → OnErr r ((u ≡ t) × (q ≡ p)) → OnErr r ((u ≡ t) × (more ≡ entries))
+all_kept (Ok answer) t u n p q entries more there wrote same = tt
+all_kept (Err fault) t u n p q entries more there wrote same = (same.0, same_entries n p q entries more there wrote same.1)
+
+pub world_kept : (r : Result Answer WorldFault) (t u : Tree) (entries more : List (ℕ × ProcessState)) (s : WorldState) → record { tree = t; processes = entries } ≡ s
+    → OnErr r ((u ≡ t) × (more ≡ entries)) → OnErr r (record { tree = u; processes = more } ≡ s)
+world_kept (Ok answer) t u entries more s is same = tt
+world_kept (Err fault) t u entries more s is same = (λ i. record { tree = same.0 i; processes = same.1 i }) ∙ is
+
+pub processes_kept : (r : Result Answer WorldFault) (t : Tree) (entries more : List (ℕ × ProcessState)) (s : WorldState) → record { tree = t; processes = entries } ≡ s
+    → OnErr r (more ≡ entries) → OnErr r (record { tree = t; processes = more } ≡ s)
+processes_kept (Ok answer) t entries more s is same = tt
+processes_kept (Err fault) t entries more s is same = ap (λ es. record { tree = t; processes = es }) same ∙ is
