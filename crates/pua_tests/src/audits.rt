@@ -247,6 +247,31 @@ fn the_longest_name_fits_three_times(rt: HostRuntime) -> Result<(), Fail> {
     Ok(())
 }
 
+#[test]
+fn audits_take_1024_candidates(rt: HostRuntime) -> Result<(), Fail> {
+    let alloc = rt.alloc();
+    let mut names = Vec::new(alloc);
+    for number in 0..1024 {
+        names.push(format!(in alloc; "n{number:04}")?)?;
+    }
+    let mut words = Vec::new(alloc);
+    for word in ["audit", "--limit", "1", "T", "S"] {
+        words.push(word)?;
+    }
+    for name in &names {
+        words.push(name.as_str())?;
+    }
+    let files = Files {
+        tree: ROOT,
+        script: b"1 pledge stdio,cpath -\n",
+    };
+    let text = output(&rt, alloc, words.as_slice(), &files)?;
+    assert!(rt; text.starts_with(b"1 ok\nreach 1\n/n0000 mkdir\n/n0000 symlink\n/n0001 mkdir\n"));
+    assert!(rt; text.ends_with(b"/n1023 mkdir\n/n1023 symlink\n"));
+    assert_eq!(rt; lines_of(text.as_slice()), 2 + 2 * 1024);
+    Ok(())
+}
+
 /// How many lines a text has.
 fn lines_of(text: &[u8]) -> usize {
     text.iter().filter(|byte| **byte == b'\n').count()

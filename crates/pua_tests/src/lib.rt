@@ -12,6 +12,8 @@ mod example;
 #[cfg(test)]
 mod fields;
 #[cfg(test)]
+mod lines;
+#[cfg(test)]
 mod listings;
 #[cfg(test)]
 mod names;
@@ -31,6 +33,8 @@ mod resumed;
 mod runs;
 #[cfg(test)]
 mod steps;
+#[cfg(test)]
+mod texts;
 #[cfg(test)]
 mod told;
 #[cfg(test)]
