@@ -72,7 +72,7 @@ module _ (t : Tree) (fits : WellFormed t) (table : CallTable) (base : Base) (h :
           → (r : Resolved) → Lands t fits links r
           → judged c (r >>= onwards t (last_of c) (map part_of (b ∷ word))) ≡ if_some (state_of (r >>= reached)) (λ s. is_allowed_along w (Below s b) word c)
       by on (Ok (Whole next way, left)) is = on left next (omega (arith, is.1, le)) is.0
-      by on (Ok (Slot at name node, left)) is = refused (may_any h (rule_of table c).alternatives) ENOTDIR
+      by on (Ok (Slot at name _, left)) is = refused (may_any h (rule_of table c).alternatives) ENOTDIR
       by on (Err errno) is = refused (may_any h (rule_of table c).alternatives) errno
 
   module _ (lives : is_dir t (base_dir base h) ≡ true) where
@@ -150,7 +150,8 @@ longest_from : (most : ℕ) (xs : List (List ℕ)) → most ≤ fold (λ m lette
 longest_from most [] = omega arith
 longest_from most (x ∷ xs) = omega (arith, longest_from (max most (length x)) xs)
 
-no_longer : (most : ℕ) (xs : List (List ℕ)) → AllByRecursion (λ x. length x ≤ fold (λ m letter. max m (length letter)) most xs) xs
+-- no letter is longer than the longest
+pub no_longer : (most : ℕ) (xs : List (List ℕ)) → AllByRecursion (λ x. length x ≤ fold (λ m letter. max m (length letter)) most xs) xs
 no_longer most [] = tt
 no_longer most (x ∷ xs) = (omega (arith, longest_from (max most (length x)) xs), no_longer (max most (length x)) xs)
 

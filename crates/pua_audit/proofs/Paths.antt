@@ -80,7 +80,7 @@ letter_is_piece a h = by (is_name a) refl h
 
 -- the parts of a path
 
-no_slash_all : (xs : List ℕ) → list_any slash xs ≡ false → All (λ b. slash b ≡ false) xs
+pub no_slash_all : (xs : List ℕ) → list_any slash xs ≡ false → All (λ b. slash b ≡ false) xs
 no_slash_all [] h = λ k d l. absurd (omega (arith, l))
 no_slash_all (b ∷ bs) h = by (λ k. no_slash_all bs k) (b == 47) refl h
   where

@@ -24,7 +24,7 @@ use Rattle.pua_audit.proofs.Lines.{filter-none, longer, cons, alone, cons-nil, c
 
 -- lists
 
-filter-cong : {A : Type 0} (f g : A → Bool) → ((x : A) → f x ≡ g x) → (xs : List A) → filter f xs ≡ filter g xs
+pub filter-cong : {A : Type 0} (f g : A → Bool) → ((x : A) → f x ≡ g x) → (xs : List A) → filter f xs ≡ filter g xs
 filter-cong f g same [] = refl
 filter-cong f g same (x ∷ xs) = ap (λ b. cond b (x ∷ filter f xs) (filter f xs)) (same x) ∙ ap (λ ys. cond (g x) (x ∷ ys) ys) (filter-cong f g same xs)
 

@@ -39,18 +39,18 @@ word_of_path Root alphabet (b ∷ []) = if b == 47 then Some [] else None
 word_of_path Root alphabet (b ∷ c ∷ more) = if b == 47 then word_of_pieces_between alphabet (c ∷ more) else None
 word_of_path Cwd alphabet text = if same_bytes text (codes ".") then Some [] else word_of_pieces_between alphabet text
 
--- the pair that a text `CALL:PATH` names: a word of the alphabet with no more letters than the limit
-abbrev pub resume_pair : Scope → List ℕ → Option Pair
-resume_pair s text =
-    option_and_then (λ call. option_map (λ word. (word, call))
-    (only_if (λ word. nat_le (length word) s.limit) (option_and_then (word_of_path s.base s.alphabet) (after_colon text))))
-    (option_and_then call_named (before_colon text))
-  where
-    before_colon : List ℕ → Option (List ℕ)
-    before_colon text = Some (before_first (λ b. b == 58) text)
+-- a word, if it has no more letters than the limit
+abbrev pub word_within : ℕ → Option Word → Option Word
+word_within limit word = only_if (λ w. nat_le (length w) limit) word
 
-    after_colon : List ℕ → Option (List ℕ)
-    after_colon text = Some (after_first (λ b. b == 58) text)
+-- the pair that a text `CALL:PATH` names: a word of the alphabet with no more letters than the limit
+abbrev pub pair_named : Base → List (List ℕ) → ℕ → List ℕ → Option Pair
+pair_named base alphabet limit text =
+    option_and_then (λ call. option_map (λ word. (word, call)) (word_within limit (word_of_path base alphabet (after_first (λ b. b == 58) text))))
+    (call_named (before_first (λ b. b == 58) text))
+
+abbrev pub resume_pair : Scope → List ℕ → Option Pair
+resume_pair s text = pair_named s.base s.alphabet s.limit text
 
 abbrev pub longest : List (List ℕ) → ℕ
 longest letters = fold (λ most letter. max most (length letter)) 0 letters

@@ -5,3 +5,10 @@ pub mod Trail
 pub mod Laws
 pub mod Examples
 pub mod Seen
+pub mod Past
+pub mod Ready
+pub mod AuditState
+pub mod Lent
+pub mod Alphabets
+pub mod Starting
+pub mod PairTexts

@@ -54,7 +54,7 @@ state_behind t base h (Below s letter) = state_of (step t s.dir s.used (part_of 
 abbrev pub world_of : Tree → CallTable → Base → History → World
 world_of t table base h = record {
   step = state_behind t base h;
-  own = λ place call. is_allowed (verdict_of t table h call (found_at t base h place call));
+  own = λ place call. is_allowed (verdict_of t table h call (found_at t base h place call))
 }
 
 abbrev pub world : Scope → World

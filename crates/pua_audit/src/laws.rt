@@ -1,6 +1,7 @@
 //! Laws and worked examples of reaches, each the contract of a function that does nothing.
 
 ghost use Rattle.pua_audit.specs.Laws.{AlphabetRises, ClosedReaches, ReachIsAlong, ReachRises, TrailsReach};
+ghost use Rattle.pua_audit.specs.PairTexts.{ResumeTextsName};
 ghost use Rattle.pua_audit.specs.Examples.{ReachRows};
 
 /// Examples of small reaches.
@@ -22,4 +23,10 @@ pub fn walk_laws()
     ensures along { ReachIsAlong }
     ensures closed { ClosedReaches }
     ensures trails { TrailsReach }
+{}
+
+/// A text names a pair to resume after exactly where it is the text of that pair: the call's name, a
+/// colon, and the printed path of a word over the alphabet within the limit.
+pub fn resume_text_law()
+    ensures { ResumeTextsName }
 {}

@@ -1,15 +1,27 @@
 //! The reach of a process: the pairs of path and call that it is allowed.
 #![tactic(auto)]
 
+mod alphabet;
+mod audit;
 mod base;
+mod beginning;
+mod candidates;
 mod content;
 mod fault;
 mod frame;
 mod laws;
 mod line;
+mod named;
+mod path;
+mod place;
+mod resume_text;
+mod resumed;
 mod state;
+mod terms;
+mod walk;
 
+pub use audit::Audit;
 pub use base::Base;
 pub use fault::AuditFault;
-pub use laws::{reach_examples, reach_laws, walk_laws};
+pub use laws::{reach_examples, reach_laws, resume_text_law, walk_laws};
 pub use line::Line;

@@ -1,0 +1,17 @@
+-- What a line that is lent out of an audit is, and what the audit is once the line is given back.
+use Rattle.std.specs.Prelude.{◌≡◌, [], ◌∷◌, Option, MatchOption, ⊤}
+use mathlib.Core.Option.{none}
+use Rattle.std.specs.Borrow.{Fml, MutBor, follows_so}
+use Rattle.pua_audit.specs.Reach.{Word, path_of}
+use Rattle.pua_audit.specs.AuditState.{AuditState}
+use Rattle.pua_audit.specs.declared.line.Line.{Line}
+use Rattle.pua_audit.specs.contracts.audit.Audit.{the_row}
+
+-- the line is the first of the pairs to come, with the path of its word; the others stay to come. No line is lent where no pair is to come
+abbrev pub IsNextLine : AuditState → Option Line → AuditState → Type 0
+IsNextLine old result new =
+    (new.tree ≡ old.tree) × (new.base ≡ old.base)
+    × MatchOption result ((old.left ≡ []) × (new.left ≡ [])) (λ line. (word : Word) × ((line.path.now ≡ path_of old.base word) × (old.left ≡ (word, line.call) ∷ new.left)))
+
+abbrev pub LendsLine : MutBor AuditState → Option Line → Fml
+LendsLine audit result = follows_so the_row the_row audit.ghost_name none (λ _ _. ⊤) (IsNextLine audit.now result)

@@ -1,0 +1,59 @@
+-- What the code reads of an audit's beginning.
+use Rattle.std.specs.Prelude.{◌≡◌, ◌<◌, ◌≤◌, ◌*◌, suc, ℕ, Bool, List, length, map, Option, Some, None, Result, Ok, option_map, IfSome, IsTrue, MatchBool}
+use Rattle.std.specs.List.{AllByRecursion, list_all}
+use Rattle.pua_tree.specs.Tree.{Tree, WellFormed, name_cmp}
+use Rattle.pua_tree.specs.Steps.{◌>>=◌}
+use Rattle.pua_path.specs.declared.found.Part.{Part}
+use Rattle.pua_policy.specs.Calls.{CallTable}
+use Rattle.pua_policy.specs.History.{History}
+use Rattle.pua_audit.specs.Reach.{Word, Pair, Scope}
+use Rattle.pua_audit.specs.Begin.{Beginning, longest, resume_in, word_within}
+use Rattle.pua_audit.specs.World.{is_letter}
+use Rattle.pua_audit.specs.Laws.{Rises}
+use Rattle.pua_audit.specs.Ready.{part_bytes, word_of}
+use Rattle.pua_audit.specs.Alphabets.{AreParts}
+use Rattle.pua_audit.specs.declared.base.Base.{Base}
+use Rattle.pua_audit.specs.declared.fault.AuditFault.{AuditFault}
+use Rattle.pua_audit.specs.declared.beginning.Begun.{Begun}
+use Rattle.pua_audit.specs.declared.resume_text.Resumption.{Resumption}
+
+-- places of the alphabet that are a word of at most so many letters
+pub record AreLetters (letters : List (List ℕ)) (limit : ℕ) (places : List ℕ) : Type 0 where
+  pub within : length places ≤ limit
+  pub there : AllByRecursion (λ i. i < length letters) places
+
+-- whether there is a word within the limit, and its places in the alphabet
+abbrev pub IsRead : List (List ℕ) → ℕ → Option Word → Bool → List ℕ → Type 0
+IsRead letters limit word result places =
+    MatchBool result ((word_within limit word ≡ Some (word_of letters places)) × AreLetters letters limit places) (word_within limit word ≡ None)
+
+-- the word of some places, and the call
+abbrev pub pair_in : List (List ℕ) → Resumption → Pair
+pair_in letters r = (word_of letters r.word.items, r.call)
+
+-- letters in the order of their bytes, each of them a part of a path, and no path of a word is too long
+pub record AreSound (limit : ℕ) (letters : List Part) : Type 0 where
+  pub few : limit ≤ 16
+  pub parts : AreParts letters
+  pub known : IsTrue (list_all is_letter (map part_bytes letters))
+  pub rises : Rises name_cmp (map part_bytes letters)
+  pub short : limit * suc (longest (map part_bytes letters)) ≤ 1023
+
+-- what is audited by words of these letters
+abbrev pub scope_with : Tree → CallTable → History → Base → ℕ → List Part → Scope
+scope_with t table h base limit letters = record { tree = t; table = table; history = h; base = base; alphabet = map part_bytes letters; limit = limit }
+
+-- the beginning of an audit, by its resume text
+abbrev pub begun_in : Scope → Option (List ℕ) → Result Beginning AuditFault
+begun_in s after = resume_in s after >>= λ pair. Ok (record { scope = s; after = pair })
+
+-- the beginning that letters and a pair are
+abbrev pub beginning_with : Tree → CallTable → History → Base → ℕ → Begun → Beginning
+beginning_with t table h base limit b =
+    record { scope = scope_with t table h base limit b.letters.items; after = option_map (pair_in (map part_bytes b.letters.items)) b.after }
+
+-- its letters are sound, and its word is one of them
+pub record IsBegun (t : Tree) (limit : ℕ) (b : Begun) : Type 0 where
+  pub tree : WellFormed t
+  pub sound : AreSound limit b.letters.items
+  pub after : IfSome b.after (λ r. AreLetters (map part_bytes b.letters.items) limit r.word.items)

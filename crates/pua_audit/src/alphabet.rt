@@ -1,0 +1,103 @@
+//! The alphabet of an audit: its letters in the order of their bytes.
+
+ghost use Rattle.std.specs.Prelude.{◌≡◌, ◌≤◌, Ok, Err, IfOk, map, length};
+ghost use Rattle.pua_tree.specs.Tree.{name_cmp, with_name};
+ghost use Rattle.pua_path.specs.Paths.{part_of};
+ghost use Rattle.pua_audit.specs.Reach.{alphabet_of};
+ghost use Rattle.pua_audit.specs.Begin.{longest};
+ghost use Rattle.pua_audit.specs.Laws.{Rises};
+ghost use Rattle.pua_audit.specs.Ready.{part_bytes};
+ghost use Rattle.pua_audit.specs.Alphabets.{with_names, IsPlaced, AreParts};
+
+use pua_path::{Part, Probe};
+use pua_tree::{Name, OutOfMemory};
+use std::alloc::Global;
+
+/// The names in a tree's rows, `..` and the candidates: distinct, in the order of their bytes. The
+/// only error is that a growth was refused.
+pub fn alphabet<'t, P: Probe<'t>>(
+    alloc: Global,
+    probe: &mut P,
+    candidates: &[Name],
+) -> Result<Vec<Part>, OutOfMemory>
+    ensures letters { IfOk result (λ letters. map part_bytes letters.items ≡ alphabet_of (P.tree probe.old) candidates.now) }
+    ensures tree { P.tree probe.new ≡ P.tree probe.old }
+{
+    let Ok(names) = probe.names(alloc) else {
+        return Err(OutOfMemory);
+    };
+    let mut letters = named_parts(alloc, names.as_slice())?;
+    add_names(&mut letters, candidates)?;
+    add_letter(&mut letters, Part::DotDot)?;
+    Ok(letters)
+}
+
+/// Names as parts of paths.
+fn named_parts(alloc: Global, names: &[Name]) -> Result<Vec<Part>, OutOfMemory>
+    ensures { IfOk result (λ parts. map part_bytes parts.items ≡ names.now) }
+{
+    let mut parts = Vec::new(alloc);
+    for name in names {
+        parts.push(Part::Name(*name)).map_err(|_| OutOfMemory)?;
+    }
+    Ok(parts)
+}
+
+/// Puts each name at its place among letters, the last one first.
+fn add_names(letters: &mut Vec<Part>, names: &[Name]) -> Result<(), OutOfMemory>
+    requires { Rises name_cmp (map part_bytes letters.old.items) }
+    ensures { IfOk result (λ _. map part_bytes letters.new.items ≡ with_names names.now (map part_bytes letters.old.items)) }
+{
+    for name in names.iter().rev() {
+        add_letter(letters, Part::Name(*name))?;
+    }
+    Ok(())
+}
+
+/// Puts a letter at its place among letters, unless it is there.
+fn add_letter(letters: &mut Vec<Part>, letter: Part) -> Result<(), OutOfMemory>
+    requires { Rises name_cmp (map part_bytes letters.old.items) }
+    ensures { IfOk result (λ _. map part_bytes letters.new.items ≡ with_name (part_bytes letter) (map part_bytes letters.old.items)) }
+{
+    let Err(place) = place_of(letters.as_slice(), part_bytes(&letter)) else {
+        return Ok(());
+    };
+    if letters.insert(place, letter).is_err() {
+        return Err(OutOfMemory);
+    }
+    Ok(())
+}
+
+/// Where a letter of these bytes stands among letters, or else where it would stand.
+pub fn place_of(letters: &[Part], bytes: &[u8]) -> Result<usize, usize>
+    requires { Rises name_cmp (map part_bytes letters.now) }
+    ensures { IsPlaced (map part_bytes letters.now) bytes.now result }
+{
+    letters.binary_search_by(|letter| part_bytes(letter).cmp(bytes))
+}
+
+/// The bytes of a part.
+pub fn part_bytes(part: &Part) -> &[u8]
+    ensures bytes { result.now ≡ part_bytes part.now }
+    ensures part { part_of (part_bytes part.now) ≡ part.now }
+    ensures short { length (part_bytes part.now) ≤ 255 }
+{
+    match part {
+        Part::Dot => b".",
+        Part::DotDot => b"..",
+        Part::Name(name) => name.bytes(),
+    }
+}
+
+/// The bytes of the longest letter.
+pub fn longest(letters: &[Part]) -> usize
+    ensures longest { result ≡ longest (map part_bytes letters.now) }
+    ensures parts { AreParts letters.now }
+    ensures short { result ≤ 255 }
+{
+    let mut most = 0;
+    for letter in letters {
+        most = part_bytes(letter).len().max(most);
+    }
+    most
+}

@@ -1,0 +1,91 @@
+//! What an audit begins with, or why it can't begin.
+
+ghost use Rattle.std.specs.Prelude.{◌≡◌, ◌≢◌, ◌≤◌, ℕ, List, Option, Ok, Err, IfOk, IfErr, map, option_map, length};
+ghost use Rattle.pua_tree.specs.Tree.{WellFormed};
+ghost use Rattle.pua_policy.specs.Calls.{CallTable};
+ghost use Rattle.pua_policy.specs.History.{History};
+ghost use Rattle.pua_audit.specs.Begin.{beginning};
+ghost use Rattle.pua_audit.specs.declared.base.Base as bases;
+ghost use Rattle.pua_audit.specs.Starting.{AreSound, IsBegun, scope_with, begun_in, beginning_with};
+
+use crate::alphabet::{alphabet, longest};
+use crate::base::Base;
+use crate::candidates::read_candidates;
+use crate::fault::AuditFault;
+use crate::resume_text::{Resumption, read_pair};
+use pua_path::{Part, Probe};
+use std::alloc::Global;
+
+/// The most letters of a word.
+const MOST_LETTERS: u8 = 16;
+
+/// The most candidates.
+const MOST_CANDIDATES: usize = 1024;
+
+/// The most bytes of a path.
+const MOST_PATH: usize = 1023;
+
+/// What an audit begins with: its letters in the order of their bytes, and the pair that it resumes
+/// after, if there is one.
+#[derive(Drop)]
+pub struct Begun {
+    pub letters: Vec<Part>,
+    pub after: Option<Resumption>,
+}
+
+/// What an audit begins with, by its base, candidates, limit and resume text, or the first fault;
+/// `OutOfMemory` comes wherever a growth was refused.
+pub fn begin<'t, P: Probe<'t>>(
+    alloc: Global,
+    probe: &mut P,
+    base: Base,
+    candidates: &[&[u8]],
+    limit: u8,
+    after: Option<&[u8]>,
+) -> Result<Begun, AuditFault>
+    ensures begun { IfOk result (λ b. (table : CallTable) (h : History) →
+        beginning (P.tree probe.old) table h base (map (λ s. s.now) candidates.now) limit (option_map (λ s. s.now) after.entry) ≡ Ok (beginning_with (P.tree probe.old) table h base limit b)) }
+    ensures refused { IfErr result (λ fault. fault ≢ AuditFault.OutOfMemory → (table : CallTable) (h : History) →
+        beginning (P.tree probe.old) table h base (map (λ s. s.now) candidates.now) limit (option_map (λ s. s.now) after.entry) ≡ Err fault) }
+    ensures sound { IfOk result (λ b. IsBegun (P.tree probe.old) limit b) }
+    ensures tree { P.tree probe.new ≡ P.tree probe.old }
+{
+    let letters = letters_within(alloc, probe, candidates, limit)?;
+    let after = match after {
+        None => None,
+        Some(text) => Some(read_pair(alloc, base, letters.as_slice(), usize::from(limit), text)?),
+    };
+    Ok(Begun { letters, after })
+}
+
+/// The letters of an audit, or the first fault but that of its resume text.
+fn letters_within<'t, P: Probe<'t>>(
+    alloc: Global,
+    probe: &mut P,
+    candidates: &[&[u8]],
+    limit: u8,
+) -> Result<Vec<Part>, AuditFault>
+    ensures begun { IfOk result (λ letters. (table : CallTable) (h : History) (base : bases.Base) (after : Option (List ℕ)) →
+        beginning (P.tree probe.old) table h base (map (λ s. s.now) candidates.now) limit after ≡ begun_in (scope_with (P.tree probe.old) table h base limit letters.items) after) }
+    ensures refused { IfErr result (λ fault. fault ≢ AuditFault.OutOfMemory → (table : CallTable) (h : History) (base : bases.Base) (after : Option (List ℕ)) →
+        beginning (P.tree probe.old) table h base (map (λ s. s.now) candidates.now) limit after ≡ Err fault) }
+    ensures known { IfOk result (λ letters. WellFormed (P.tree probe.old)) }
+    ensures sound { IfOk result (λ letters. AreSound limit letters.items) }
+    ensures tree { P.tree probe.new ≡ P.tree probe.old }
+{
+    if limit > MOST_LETTERS {
+        return Err(AuditFault::LimitTooLarge);
+    }
+    if candidates.len() > MOST_CANDIDATES {
+        return Err(AuditFault::TooManyNames);
+    }
+    let names = read_candidates(alloc, candidates)?;
+    probe.known();
+    let Ok(letters) = alphabet(alloc, probe, names.as_slice()) else {
+        return Err(AuditFault::OutOfMemory);
+    };
+    if usize::from(limit) * (longest(letters.as_slice()) + 1) > MOST_PATH {
+        return Err(AuditFault::TooLong);
+    }
+    Ok(letters)
+}
