@@ -2,6 +2,7 @@
 
 use crate::example::EXAMPLE;
 use crate::told::{Files, ROOT, expect, output};
+use pua_tool::{MemorySink, run_to};
 use std::alloc::Global;
 use std::process::Abort;
 use std::test::Fail;
@@ -287,6 +288,19 @@ fn a_world_makes_256_processes(rt: HostRuntime) -> Result<(), Fail> {
     script.push_str("1 fork 257\n256 exit\n256 stat /\n2 fork 256\n")?;
     answers.push_str("256 EAGAIN\n257 ok\n258 gone\n259 EAGAIN\n")?;
     expect_answers(&rt, alloc, &[(ROOT, script.as_bytes(), answers.as_bytes())])
+}
+
+#[test]
+fn run_to_writes_behind_what_was_there(rt: HostRuntime) -> Result<(), Fail> {
+    let mut sink = MemorySink::new(rt.alloc(), 64)?;
+    for _ in 0..2 {
+        run_to(rt.alloc(), ROOT, b"1 stat /\n1 stat /a\n", &mut sink)?;
+    }
+    assert_eq!(rt;
+        sink.bytes(),
+        b"1 ok\n2 ENOENT\n1 ok\n2 ENOENT\n".as_slice()
+    );
+    Ok(())
 }
 
 #[test]
