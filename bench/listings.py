@@ -50,5 +50,7 @@ def tower():
     return [f"{i + 1} dir {i} d" for i in range(4000)] + ["4001 file 4000 f"]
 
 
-for name, lines in [("wide", wide()), ("mixed", mixed()), ("deep", deep()), ("tower", tower())]:
+# of the wide one, the first 4,000 nodes and the first 3,000
+listings = [("wide", wide()), ("large", wide()[:3999]), ("middle", wide()[:2999])]
+for name, lines in [*listings, ("mixed", mixed()), ("deep", deep()), ("tower", tower())]:
     write(name, lines)

@@ -3,12 +3,16 @@
 #![tactic(auto)]
 
 #[cfg(test)]
+mod audits;
+#[cfg(test)]
 mod commands;
 #[cfg(test)]
 mod edits;
 mod example;
 #[cfg(test)]
 mod fields;
+#[cfg(test)]
+mod lines;
 #[cfg(test)]
 mod listings;
 #[cfg(test)]
@@ -20,8 +24,24 @@ mod probes;
 #[cfg(test)]
 mod processes;
 #[cfg(test)]
+mod readings;
+#[cfg(test)]
+mod refusals;
+#[cfg(test)]
+mod resumed;
+#[cfg(test)]
+mod runs;
+#[cfg(test)]
 mod steps;
+#[cfg(test)]
+mod texts;
+#[cfg(test)]
+mod told;
 #[cfg(test)]
 mod verdicts;
 #[cfg(test)]
+mod walks;
+#[cfg(test)]
 mod words;
+#[cfg(test)]
+mod worlds;

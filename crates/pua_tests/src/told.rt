@@ -1,0 +1,63 @@
+//! Commands over files in memory, and what they tell.
+
+use pua_tool::{MemoryInputs, MemorySink, command};
+use std::alloc::Global;
+use std::process::Abort;
+use std::test::Fail;
+
+/// The listing of a root in which nothing stands.
+pub(crate) const ROOT: &[u8] = b"tree 1\n0 dir\n";
+
+/// The bytes of the files T and S.
+#[derive(Clone, Copy)]
+pub(crate) struct Files<'a> {
+    pub(crate) tree: &'a [u8],
+    pub(crate) script: &'a [u8],
+}
+
+/// Runs a command, and compares its status, its output and its fault line.
+pub(crate) fn expect(
+    rt: &impl Abort,
+    alloc: Global,
+    words: &[&str],
+    files: &Files<'_>,
+    status: u8,
+    text: &[u8],
+    line: &[u8],
+) -> Result<(), Fail> {
+    let entries = [("T", files.tree), ("S", files.script)];
+    let mut inputs = MemoryInputs::new(&entries);
+    let mut out = MemorySink::new(alloc, 65_536)?;
+    let mut err = MemorySink::new(alloc, 1024)?;
+    assert_eq!(rt;
+        command(alloc, words, &mut inputs, &mut out, &mut err),
+        status
+    );
+    assert_eq!(rt; out.bytes(), text);
+    assert_eq!(rt; err.bytes(), line);
+    Ok(())
+}
+
+/// The output of a command that tells no fault.
+pub(crate) fn output(
+    rt: &impl Abort,
+    alloc: Global,
+    words: &[&str],
+    files: &Files<'_>,
+) -> Result<Vec<u8>, Fail> {
+    let entries = [("T", files.tree), ("S", files.script)];
+    let mut inputs = MemoryInputs::new(&entries);
+    let mut out = MemorySink::new(alloc, 1_048_576)?;
+    let mut err = MemorySink::new(alloc, 1024)?;
+    assert_eq!(rt; command(alloc, words, &mut inputs, &mut out, &mut err), 0);
+    assert_eq!(rt; err.bytes(), b"".as_slice());
+    Ok(Vec::from_slice(alloc, out.bytes())?)
+}
+
+/// What stands in a text behind its heading; nothing where it has another one.
+pub(crate) fn behind<'a>(text: &'a [u8], heading: &[u8]) -> &'a [u8] {
+    match text.get(heading.len()..) {
+        Some(rest) if text.starts_with(heading) => rest,
+        _ => b"",
+    }
+}

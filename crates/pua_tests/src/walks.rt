@@ -1,0 +1,173 @@
+//! The walk beside a filter of all words, over small trees.
+
+use crate::example::{EXAMPLE, found_from};
+use crate::told::{Files, behind};
+use pua_audit::Base;
+use pua_path::Counted;
+use pua_policy::judge::verdict_of;
+use pua_policy::needs::{ending, need};
+use pua_policy::{Call, Process, Verdict};
+use pua_script::{World, read_script};
+use pua_tool::{Job, MemorySink, audit_to};
+use pua_tree::{ListTree, NodeId, read_listing};
+use std::alloc::Global;
+use std::process::Abort;
+use std::test::Fail;
+
+/// What is filtered: the paths of one process, and the lines that were found allowed.
+#[derive(Drop)]
+struct Filter<'a> {
+    tree: &'a ListTree,
+    process: &'a Process,
+    from: NodeId,
+    lines: Vec<u8>,
+}
+
+impl Filter<'_> {
+    /// Adds the lines of one path.
+    fn judge(&mut self, path: &[u8]) -> Result<(), Fail> {
+        for call in Call::ALL {
+            if self.allows(call, path) {
+                self.lines.extend_from_slice(path)?;
+                self.lines.push(b' ')?;
+                self.lines.extend_from_slice(call.name().as_bytes())?;
+                self.lines.push(b'\n')?;
+            }
+        }
+        Ok(())
+    }
+
+    fn allows(&self, call: Call, path: &[u8]) -> bool {
+        let found = found_from(self.tree, self.from, path, ending(call), need(call).last);
+        let mut probe = Counted::new(self.tree);
+        verdict_of(&mut probe, self.process, call, found) == Verdict::Allowed
+    }
+}
+
+/// A path with one letter more.
+fn extended(alloc: Global, base: Base, path: &[u8], letter: &[u8]) -> Result<Vec<u8>, Fail> {
+    let mut longer = Vec::from_slice(alloc, path)?;
+    if base == Base::Root || !path.is_empty() {
+        longer.push(b'/')?;
+    }
+    longer.extend_from_slice(letter)?;
+    Ok(longer)
+}
+
+/// The lines of all paths of at most two letters, each path judged by itself.
+fn filtered(
+    alloc: Global,
+    tree: &ListTree,
+    process: &Process,
+    base: Base,
+    letters: &[&[u8]],
+) -> Result<Vec<u8>, Fail> {
+    let mut filter = Filter {
+        tree,
+        process,
+        from: process.dir(),
+        lines: Vec::new(alloc),
+    };
+    filter.judge(match base {
+        Base::Root => b"/",
+        Base::Cwd => b".",
+    })?;
+    for first in letters {
+        let path = extended(alloc, base, b"", first)?;
+        filter.judge(path.as_slice())?;
+        judge_behind(alloc, &mut filter, base, path.as_slice(), letters)?;
+    }
+    Ok(filter.lines)
+}
+
+fn judge_behind(
+    alloc: Global,
+    filter: &mut Filter<'_>,
+    base: Base,
+    path: &[u8],
+    letters: &[&[u8]],
+) -> Result<(), Fail> {
+    for letter in letters {
+        let longer = extended(alloc, base, path, letter)?;
+        filter.judge(longer.as_slice())?;
+    }
+    Ok(())
+}
+
+/// Compares the lines of the walk with those of the filter.
+fn expect_same(
+    rt: &impl Abort,
+    alloc: Global,
+    files: &Files<'_>,
+    base: Base,
+    letters: &[&[u8]],
+) -> Result<(), Fail> {
+    let script = read_script(alloc, files.script)?;
+    let mut world = World::new(alloc, read_listing(alloc, files.tree)?)?;
+    let answers = world.run(alloc, &script)?;
+    let Some(process) = world.process(1) else {
+        return Ok(());
+    };
+    let lines = filtered(alloc, world.tree(), process, base, letters)?;
+    let job = Job {
+        limit: 2,
+        process: 1,
+        base,
+        after: None,
+        candidates: &[b"new".as_slice()],
+    };
+    let mut sink = MemorySink::new(alloc, 1_048_576)?;
+    audit_to(alloc, files.tree, files.script, &job, &mut sink)?;
+    assert!(rt; sink.bytes().ends_with(lines.as_slice()));
+    let heading = sink.bytes().len() - lines.len();
+    assert!(rt; sink.bytes()[..heading].ends_with(b"reach 1\n"));
+    assert_eq!(rt;
+        answers.len(),
+        files.script.split(|byte| *byte == b'\n').count() - 1
+    );
+    Ok(())
+}
+
+const EXAMPLE_LETTERS: [&[u8]; 9] = [
+    b"..", b"etc", b"new", b"passwd", b"self", b"sh", b"t", b"tmp", b"up",
+];
+
+#[test]
+fn walks_the_example_as_a_filter_does(rt: HostRuntime) -> Result<(), Fail> {
+    let scripts: [&[u8]; 6] = [
+        b"",
+        b"1 chdir /tmp\n",
+        b"1 unveil /etc r\n1 unveil /tmp/sh x\n1 unveil - -\n",
+        b"1 chdir /t\n1 unveil /tmp rwxc\n1 unveil /tmp/sh =\n1 pledge stdio,rpath,cpath -\n",
+        b"1 chdir /tmp\n1 rename /tmp/self /etc/self\n1 rmdir /tmp\n1 rename /tmp /etc/tmp\n",
+        b"1 mkdir /tmp/t\n1 chdir /tmp/t\n1 rmdir /tmp/t\n",
+    ];
+    for script in &scripts {
+        let files = Files {
+            tree: EXAMPLE,
+            script,
+        };
+        expect_same(&rt, rt.alloc(), &files, Base::Root, &EXAMPLE_LETTERS)?;
+        expect_same(&rt, rt.alloc(), &files, Base::Cwd, &EXAMPLE_LETTERS)?;
+    }
+    Ok(())
+}
+
+const NET_LETTERS: [&[u8]; 6] = [b"..", b"a", b"b", b"c", b"d", b"new"];
+
+#[test]
+fn walks_nets_of_links_as_a_filter_does(rt: HostRuntime) -> Result<(), Fail> {
+    let trees: [&[u8]; 4] = [
+        b"tree 1\n0 dir\n1 link 0 a b/b\n2 link 0 b a/a\n3 link 0 c .\n4 link 0 d /\n",
+        b"tree 1\n0 dir\n1 dir 0 a\n2 dir 1 b\n3 link 2 c ../../d\n4 link 0 d a/b/\n",
+        b"tree 1\n0 dir\n1 dir 0 a\n2 link 1 a ../a/c\n3 link 1 b ..\n4 prog 1 c\n5 file 0 d\n",
+        b"tree 1\n0 dir\n1 dir 0 d\n2 dir 1 c\n3 link 2 b new\n4 link 0 a d/c/b\n",
+    ];
+    let script = b"1 unveil /a rwxc\n1 unveil /d/c rc\n1 unveil /new rwc\n1 chdir /a\n";
+    for tree in &trees {
+        let files = Files { tree, script };
+        expect_same(&rt, rt.alloc(), &files, Base::Root, &NET_LETTERS)?;
+        expect_same(&rt, rt.alloc(), &files, Base::Cwd, &NET_LETTERS)?;
+    }
+    Ok(())
+}

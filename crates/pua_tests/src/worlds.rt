@@ -1,0 +1,154 @@
+//! Worlds that serve requests, by direct calls, and what answers are displayed as.
+
+use crate::example::EXAMPLE;
+use crate::told::ROOT;
+use pua_path::Errno;
+use pua_policy::{Call, May, Promises};
+use pua_script::{Action, Answer, Request, ScriptFault, World, WorldFault, read_script};
+use pua_tree::{FileTree, Kind, ListTree, Name, NodeId, read_listing};
+use std::alloc::Global;
+use std::test::Fail;
+
+/// A world over a listing.
+fn world(alloc: Global, listing: &[u8]) -> Result<World<ListTree>, Fail> {
+    Ok(World::new(alloc, read_listing(alloc, listing)?)?)
+}
+
+/// The working directory of a process.
+fn dir_of(world: &World<ListTree>, number: u32) -> Option<NodeId> {
+    Some(world.process(number)?.dir())
+}
+
+/// Whether a process has ended.
+fn has_ended(world: &World<ListTree>, number: u32) -> Option<bool> {
+    Some(world.process(number)?.ended())
+}
+
+/// What a process may do with this promise.
+fn may(world: &World<ListTree>, number: u32, promise: Promises) -> Option<May> {
+    Some(world.process(number)?.may(promise))
+}
+
+#[test]
+fn a_new_world_has_one_process(rt: HostRuntime) -> Result<(), Fail> {
+    let world = world(rt.alloc(), EXAMPLE)?;
+    assert!(rt; world.process(2).is_none());
+    assert_eq!(rt; dir_of(&world, 1), Some(NodeId::ROOT));
+    assert_eq!(rt; world.tree().kind(NodeId::new(7)), Some(Kind::Prog));
+    Ok(())
+}
+
+#[test]
+fn requests_are_served_one_by_one(rt: HostRuntime) -> Result<(), Fail> {
+    let script = read_script(
+        rt.alloc(),
+        b"1 mkdir /a\n1 chdir /a\n2 stat /\n1 fork 2\n2 pledge stdio -\n2 stat /\n2 exit\n",
+    )?;
+    let answers = [
+        Answer::Okay,
+        Answer::Okay,
+        Answer::Gone,
+        Answer::Okay,
+        Answer::Okay,
+        Answer::Killed,
+        Answer::Gone,
+    ];
+    let mut world = world(rt.alloc(), ROOT)?;
+    for (request, answer) in script.requests().iter().zip(answers.iter()) {
+        assert_eq!(rt; world.apply(request), Ok(*answer));
+    }
+    assert_eq!(rt;
+        world.tree().look(NodeId::ROOT, &Name::read(b"a")?),
+        Some(NodeId::new(1))
+    );
+    Ok(())
+}
+
+#[test]
+fn processes_are_told_by_their_numbers(rt: HostRuntime) -> Result<(), Fail> {
+    let script = read_script(
+        rt.alloc(),
+        b"1 chdir /tmp\n1 fork 9\n9 pledge stdio,rpath -\n9 chdir /etc\n9 exit\n",
+    )?;
+    let mut world = world(rt.alloc(), EXAMPLE)?;
+    let answers = world.run(rt.alloc(), &script)?;
+    assert_eq!(rt; answers.as_slice(), [Answer::Okay; 5].as_slice());
+    for (number, dir, ended, answer) in [(1, 3, false, May::Yes), (9, 1, true, May::Death)] {
+        assert_eq!(rt; dir_of(&world, number), Some(NodeId::new(dir)));
+        assert_eq!(rt; has_ended(&world, number), Some(ended));
+        assert_eq!(rt; may(&world, number, Promises::WPATH), Some(answer));
+    }
+    assert_eq!(rt; dir_of(&world, 2), None);
+    Ok(())
+}
+
+#[test]
+fn a_full_tree_has_no_space(rt: HostRuntime) -> Result<(), Fail> {
+    let mut tree = read_listing(rt.alloc(), ROOT)?;
+    for number in 1..65_535 {
+        let name = Name::read(format!(in rt.alloc(); "{number:05}")?.as_bytes())?;
+        let _ = tree.add(NodeId::ROOT, name, Kind::File, None)?;
+    }
+    let mut world = World::new(rt.alloc(), tree)?;
+    let script = read_script(
+        rt.alloc(),
+        b"1 mkdir /x\n1 symlink a /x\n1 create /x\n1 create /00001\n1 unlink /00001\n1 create /x\n",
+    )?;
+    let answers = world.run(rt.alloc(), &script)?;
+    let full = Answer::Failed(Errno::ENOSPC);
+    assert_eq!(rt;
+        answers.as_slice(),
+        [full, full, full, Answer::Okay, Answer::Okay, Answer::Okay].as_slice()
+    );
+    Ok(())
+}
+
+/// Whether this asks for a stat of this path.
+fn is_stat_of(request: &Request, path: &[u8]) -> bool {
+    match request.action() {
+        Action::OnPath(Call::Stat, asked) => asked.bytes() == path,
+        _ => false,
+    }
+}
+
+#[test]
+fn scripts_are_read(rt: HostRuntime) -> Result<(), Fail> {
+    let script = read_script(rt.alloc(), b"1 stat /a\\040b\r\n999999 exit")?;
+    let numbers: [u32; 2] = [1, 999_999];
+    assert_eq!(rt; script.requests().len(), 2);
+    for (request, number) in script.requests().iter().zip(numbers.iter()) {
+        assert_eq!(rt; request.process(), *number);
+    }
+    assert!(rt;
+        script
+            .requests()
+            .iter()
+            .any(|request| is_stat_of(request, b"/a b"))
+    );
+    assert!(rt;
+        script
+            .requests()
+            .iter()
+            .any(|request| matches!(request.action(), Action::Exit))
+    );
+    let fault = read_script(rt.alloc(), b"1 stat /\n1000000 exit\n").err();
+    assert_eq!(rt; fault, Some(ScriptFault::BadLine(2)));
+    Ok(())
+}
+
+#[test]
+fn answers_are_displayed(rt: HostRuntime) -> Result<(), Fail> {
+    for (answer, text) in [
+        (Answer::Okay, "ok"),
+        (Answer::Failed(Errno::ENAMETOOLONG), "ENAMETOOLONG"),
+        (Answer::Killed, "killed"),
+        (Answer::Gone, "gone"),
+    ] {
+        assert_eq!(rt; format!(in rt.alloc(); "{answer}")?.as_str(), text);
+    }
+    assert_eq!(rt;
+        format!(in rt.alloc(); "{}", WorldFault::OutOfMemory)?.as_str(),
+        "out of memory"
+    );
+    Ok(())
+}
