@@ -1,5 +1,5 @@
 -- A walk that has entered a letter is ready.
-use Rattle.std.proofs.Common.{ℕ, ◌+◌, ◌<◌, ◌≡◌, List, [], ◌∷◌, ◌++◌, false, length, sym, subst}
+use Rattle.std.proofs.Common.{ℕ, ◌+◌, ◌<◌, ◌≡◌, List, [], ◌∷◌, ◌++◌, length, sym, subst}
 use Rattle.pua_audit.specs.Ready.{IsSound, IsAt, IsState, IsReady, HasRoom, IsSpelled, Frames, left_in}
 use Rattle.pua_audit.specs.declared.frame.Frame.{Frame}
 use Rattle.pua_audit.specs.declared.place.Place.TheVariants as places

@@ -1,5 +1,5 @@
 -- What the walk's questions answer, in words of the alphabet.
-use Rattle.std.proofs.Common.{Bool, true, false, cond, ◌+◌, ◌++◌, take, filter, append-nil, ℕ, ◌<◌, ◌≤◌, ◌-◌, ◌≡◌, List, [], ◌∷◌, length, map, get_or, Some, None, refl, sym, ap, ◌∙◌, arith, subst}
+use Rattle.std.proofs.Common.{Bool, true, false, cond, ◌+◌, ◌++◌, take, filter, append-nil, ℕ, ◌<◌, ◌≤◌, ◌-◌, ◌≡◌, List, [], ◌∷◌, length, map, get_or, refl, sym, ap, ◌∙◌, arith}
 use Rattle.std.specs.Prelude.{Result, Ok, Err, IfSome, IsTrue}
 use Rattle.std.specs.List.{AllByRecursion}
 use Rattle.std.proofs.lemmas.List.{get_or-map, take_more, take_all}

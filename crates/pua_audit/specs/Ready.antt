@@ -1,5 +1,5 @@
 -- A walk's fields between two calls, and what they say is still to be done.
-use Rattle.std.specs.Prelude.{◌≡◌, ◌≤◌, ◌<◌, ℕ, suc, zero, ◌-◌, Bool, true, false, List, [], ◌∷◌, ◌++◌, length, drop, map, get_or, filter, ◌*◌, Option, Some, None, Result, Ok, Err, MatchOption, IsTrue, vec_capacity, codes, ◌+◌}
+use Rattle.std.specs.Prelude.{◌≡◌, ◌≤◌, ◌<◌, ℕ, suc, ◌-◌, true, false, List, [], ◌∷◌, ◌++◌, length, drop, map, get_or, filter, ◌*◌, Option, None, Result, Ok, MatchOption, IsTrue, vec_capacity, codes}
 use Rattle.std.specs.List.{AllByRecursion}
 use Rattle.std.specs.Ordering.{is_lt}
 use Rattle.pua_tree.specs.Tree.{Tree, WellFormed, is_dir}
@@ -12,7 +12,7 @@ use Rattle.pua_path.specs.declared.found.Last.{Last}
 use Rattle.pua_path.specs.declared.found.Last.TheVariants.{Followed, Kept}
 use Rattle.pua_path.specs.declared.found.Found.{Found}
 use Rattle.pua_path.specs.declared.found.Found.TheVariants.{Whole}
-use Rattle.pua_policy.specs.Calls.{standard_table, last_of}
+use Rattle.pua_policy.specs.Calls.{standard_table}
 use Rattle.pua_policy.specs.History.{StandsFor}
 use Rattle.pua_policy.specs.declared.call.Call.{Call}
 use Rattle.pua_audit.specs.Past.{history_of}

@@ -23,7 +23,9 @@ impl Content {
         ensures { result.scope ≡ scope }
     {
         let _ = x;
-        Content { marker: PhantomData }
+        Content {
+            marker: PhantomData,
+        }
     }
 }
 

@@ -9,14 +9,12 @@ ghost use Rattle.pua_audit.specs.Trail.{lines_of};
 ghost use Rattle.pua_audit.specs.Ready.{scope_in, IsSound, IsReady, IsFresh, letters_of, trail, along_after};
 ghost use Rattle.pua_audit.specs.Starting.{AreLetters, AreSound, pair_in};
 
-use std::alloc::{AllocError, Global};
-
-use pua_path::Probe;
-use pua_policy::Call;
-
 use crate::resume_text::Resumption;
 use crate::terms::Terms;
 use crate::walk::Walk;
+use pua_path::Probe;
+use pua_policy::Call;
+use std::alloc::{AllocError, Global};
 
 impl Walk {
     /// A walk with all pairs of the reach ahead, or with those behind a pair. Where the process has

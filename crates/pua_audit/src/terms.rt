@@ -14,18 +14,16 @@ ghost use Rattle.pua_audit.specs.declared.place.Place.TheVariants as places;
 ghost use Rattle.pua_audit.specs.Ready.{scope_in, IsSound, IsAt, IsState, step_from, found_from, by_last, world_in, letters_of, place_of};
 ghost use Rattle.pua_audit.specs.Trail.{allowed_at};
 
-use std::alloc::Global;
-
-use pua_path::{Errno, Found, Last, Part, Probe, Way};
-use pua_policy::{Call, Process, Verdict, judge, needs};
-use pua_tree::{Kind, NodeId, OutOfMemory};
-
 use crate::alphabet::longest;
 use crate::base::Base;
 use crate::content::Content;
 use crate::named::Named;
 use crate::place::Place;
 use crate::state::State;
+use pua_path::{Errno, Found, Last, Part, Probe, Way};
+use pua_policy::{Call, Process, Verdict, judge, needs};
+use pua_tree::{Kind, NodeId, OutOfMemory};
+use std::alloc::Global;
 
 /// What an audit is of: a process, where paths begin, the most letters of a word, and the letters in
 /// the order of their bytes.

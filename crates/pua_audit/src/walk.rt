@@ -6,16 +6,14 @@ ghost use Rattle.pua_audit.specs.Trail.{lines_of};
 ghost use Rattle.pua_audit.specs.declared.place.Place.TheVariants as places;
 ghost use Rattle.pua_audit.specs.Ready.{IsSound, IsAt, letters_of, IsFresh, allowed_here, IsReady, IsBetween, IsSpelled, HasRoom, trail, left_in, left_over, waiting, IsEntered, IsNextCall};
 
-use std::alloc::{AllocError, Global};
-
-use pua_path::Probe;
-use pua_policy::Call;
-
 use crate::frame::Frame;
 use crate::path::{add_letter, drop_letter};
 use crate::place::Place;
 use crate::state::State;
 use crate::terms::Terms;
+use pua_path::Probe;
+use pua_policy::Call;
+use std::alloc::{AllocError, Global};
 
 /// A walk through the words over an alphabet, in their order. It takes no memory but what was
 /// reserved.

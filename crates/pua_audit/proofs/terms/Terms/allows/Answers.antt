@@ -1,5 +1,5 @@
-use Rattle.std.proofs.Common.{rules, ◌≡◌, ap, sym, ◌∙◌, subst}
-use Rattle.pua_policy.specs.Calls.{standard_table, last_of}
+use Rattle.std.proofs.Common.{rules, ap, sym, ◌∙◌, subst}
+use Rattle.pua_policy.specs.Calls.{standard_table}
 use Rattle.pua_policy.specs.Verdict.{FoundsFit, verdict_of, is_allowed}
 use Rattle.pua_audit.specs.Past.{history_of}
 use Rattle.pua_audit.specs.Ready.{by_last}

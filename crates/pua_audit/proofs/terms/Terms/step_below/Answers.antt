@@ -1,11 +1,10 @@
 use Rattle.std.proofs.Common.{◌≡◌, get_or, ap, sym, ◌∙◌, arith, subst}
 use Rattle.std.specs.Prelude.{IfSome}
 use Rattle.std.proofs.lemmas.Grind.{common_steps}
-use Rattle.pua_path.specs.Paths.{part_of}
 use Rattle.pua_path.specs.Resolution.{step}
 use Rattle.pua_path.specs.declared.found.Part.TheVariants.{Dot}
 use Rattle.pua_audit.specs.World.{state_of}
-use Rattle.pua_audit.specs.Ready.{place_of, letters_of, IsState}
+use Rattle.pua_audit.specs.Ready.{place_of, IsState}
 use Rattle.pua_audit.proofs.Letters.{letter_part, state_fits}
 use Rattle.pua_audit.proofs.terms.Terms.step_below.Goals as goal
 

@@ -1,12 +1,8 @@
-use Rattle.std.proofs.Common.{rules, ◌≡◌, ℕ, ◌+◌, ◌-◌, length-take, ◌<◌, ◌≤◌, length, [], ◌∷◌, ◌++◌, List, None, false, refl, sym, arith, ◌∙◌, ap, drop, subst}
-use Rattle.std.proofs.lemmas.Grind.{common_steps}
+use Rattle.std.proofs.Common.{◌≡◌, ℕ, ◌+◌, ◌-◌, length-take, ◌<◌, ◌≤◌, length, [], ◌∷◌, ◌++◌, false, sym, arith, ◌∙◌, ap, drop, subst}
 use Rattle.std.proofs.lemmas.List.{length_push, length-map}
-use Rattle.pua_path.specs.declared.found.Part.{Part}
-use Rattle.pua_audit.specs.World.{World}
 use Rattle.pua_audit.specs.Trail.{pending, everywhere}
-use Rattle.pua_audit.specs.Ready.{part_bytes, letters_of, world_in, word_of, place_of, IsState, IsSound, IsAt, Frames, left_over, waiting, left_in}
+use Rattle.pua_audit.specs.Ready.{part_bytes, letters_of, world_in, word_of, IsState, IsSound, Frames, left_in}
 use Rattle.pua_audit.specs.declared.terms.Terms.{Terms}
-use Rattle.pua_audit.specs.declared.place.Place.TheVariants as places
 use Rattle.pua_audit.proofs.Entered.{entered_ready}
 use Rattle.pua_audit.proofs.Moves.{taken_by, left_by, none_left, all_front}
 use Rattle.pua_audit.proofs.walk.Walk.turn.Goals as goal
@@ -63,7 +59,7 @@ loop-frame-preserved c =
       going = c.leave.ensures.kept.1 ∙ c.loop-frame.invariant.going;
       so_far = c.loop-frame.invariant.so_far
           ∙ left_by (world_in a.terms) (letters_of a.terms) a.terms.limit a.word.items b.word.items a.frames.items c.pop.new.self.items b.frames.items c.in-Some.frame split even none c.leave.ensures.word frames
-          ∙ ap (λ (t : Terms). pending (world_in t) everywhere (letters_of t) t.limit 0 (word_of (letters_of t) b.word.items) b.frames.items) (sym same)
+          ∙ ap (λ (t : Terms). pending (world_in t) everywhere (letters_of t) t.limit 0 (word_of (letters_of t) b.word.items) b.frames.items) (sym same);
     }
 
 pub returns-clause-none : goal.returns-clause-none
