@@ -72,7 +72,7 @@ module _ (t : Tree) (fits : WellFormed t) (table : CallTable) (base : Base) (h :
           → (r : Resolved) → Lands t fits links r
           → judged c (r >>= onwards t (last_of c) (map part_of (b ∷ word))) ≡ if_some (state_of (r >>= reached)) (λ s. is_allowed_along w (Below s b) word c)
       by on (Ok (Whole next way, left)) is = on left next (omega (arith, is.1, le)) is.0
-      by on (Ok (Slot at name node, left)) is = refused (may_any h (rule_of table c).alternatives) ENOTDIR
+      by on (Ok (Slot at name _, left)) is = refused (may_any h (rule_of table c).alternatives) ENOTDIR
       by on (Err errno) is = refused (may_any h (rule_of table c).alternatives) errno
 
   module _ (lives : is_dir t (base_dir base h) ≡ true) where

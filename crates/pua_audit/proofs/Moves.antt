@@ -7,9 +7,10 @@ use Rattle.pua_policy.specs.declared.call.Call.{Call}
 use Rattle.pua_audit.specs.Reach.{Word}
 use Rattle.pua_audit.specs.World.{Place, Start, Below, World}
 use Rattle.pua_audit.specs.Trail.{Event, allowed_at, pending, ahead, everywhere}
-use Rattle.pua_audit.specs.Ready.{word_of, place_of}
+use Rattle.pua_audit.specs.Ready.{letters_of, world_in, word_of, place_of, word_in, place_in, left_in, trail}
 use Rattle.pua_audit.specs.declared.frame.Frame.{Frame}
 use Rattle.pua_audit.specs.declared.state.State.{State}
+use Rattle.pua_audit.specs.declared.walk.Walk.{Walk}
 use Rattle.pua_audit.specs.declared.place.Place as at
 use Rattle.pua_audit.specs.declared.place.Place.TheVariants as places
 use Rattle.pua_audit.proofs.Turns.{taken, exhausted, shortened, nothing_pending, at_limit, no_step, opened, given, nothing_ahead}
@@ -114,3 +115,7 @@ module _ (w : World) (letters : List (List ℕ)) (limit : ℕ) where
     given_by call more first =
         ap (λ d. ahead w everywhere letters limit d word x left frames) going ∙ ap (λ cs. ahead w everywhere letters limit false word x cs frames) first
         ∙ given w everywhere letters limit word x frames call more ∙ ap (λ d. Some (word, call) ∷ ahead w everywhere letters limit d word x more frames) (sym going)
+
+-- nothing is ahead of a walk that is done
+pub nothing_left : (a : Walk) → a.done ≡ true → trail a ≡ []
+nothing_left a e = over_by (world_in a.terms) (letters_of a.terms) a.terms.limit a.done (word_in a) (place_in a) (left_in a) a.frames.items e

@@ -1,7 +1,10 @@
--- What contracts see of an audit: what it is of, and the pairs that are still to come.
+-- What contracts see of an audit: the tree, where paths begin, and the pairs that are still to come.
 use Rattle.std.specs.Prelude.{List}
-use Rattle.pua_audit.specs.Reach.{Pair, Scope}
+use Rattle.pua_tree.specs.Tree.{Tree}
+use Rattle.pua_audit.specs.Reach.{Pair}
+use Rattle.pua_audit.specs.declared.base.Base.{Base}
 
 pub record AuditState : Type 0 where
-  pub scope : Scope
+  pub tree : Tree
+  pub base : Base
   pub left : List Pair

@@ -10,7 +10,8 @@ use Rattle.pua_audit.specs.contracts.audit.Audit.{the_row}
 -- the line is the first of the pairs to come, with the path of its word; the others stay to come. No line is lent where no pair is to come
 abbrev pub IsNextLine : AuditState → Option Line → AuditState → Type 0
 IsNextLine old result new =
-    (new.scope ≡ old.scope) × MatchOption result ((old.left ≡ []) × (new.left ≡ [])) (λ line. (word : Word) × ((line.path.now ≡ path_of old.scope.base word) × (old.left ≡ (word, line.call) ∷ new.left)))
+    (new.tree ≡ old.tree) × (new.base ≡ old.base)
+    × MatchOption result ((old.left ≡ []) × (new.left ≡ [])) (λ line. (word : Word) × ((line.path.now ≡ path_of old.base word) × (old.left ≡ (word, line.call) ∷ new.left)))
 
 abbrev pub LendsLine : MutBor AuditState → Option Line → Fml
 LendsLine audit result = follows_so the_row the_row audit.ghost_name none (λ _ _. ⊤) (IsNextLine audit.now result)

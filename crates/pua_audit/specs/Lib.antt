@@ -5,6 +5,7 @@ pub mod Trail
 pub mod Laws
 pub mod Examples
 pub mod Seen
+pub mod Past
 pub mod Ready
 pub mod AuditState
 pub mod Lent

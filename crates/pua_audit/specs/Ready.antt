@@ -15,6 +15,7 @@ use Rattle.pua_path.specs.declared.found.Found.TheVariants.{Whole}
 use Rattle.pua_policy.specs.Calls.{standard_table, last_of}
 use Rattle.pua_policy.specs.History.{StandsFor}
 use Rattle.pua_policy.specs.declared.call.Call.{Call}
+use Rattle.pua_audit.specs.Past.{history_of}
 use Rattle.pua_audit.specs.Reach.{Word, Pair, Scope, from_root, pair_cmp}
 use Rattle.pua_audit.specs.Begin.{longest}
 use Rattle.pua_audit.specs.declared.base.Base.{Base}
@@ -38,11 +39,11 @@ abbrev pub letters_of : Terms → List (List ℕ)
 letters_of a = map part_bytes a.letters.items
 
 abbrev pub world_in : Terms → World
-world_in a = world_of a.seen.scope.tree standard_table a.base a.seen.scope.history
+world_in a = world_of a.seen.scope.tree standard_table a.base (history_of a.process)
 
 -- what is audited
 abbrev pub scope_in : Terms → Scope
-scope_in a = record { tree = a.seen.scope.tree; table = standard_table; history = a.seen.scope.history; base = a.base; alphabet = letters_of a; limit = a.limit }
+scope_in a = record { tree = a.seen.scope.tree; table = standard_table; history = history_of a.process; base = a.base; alphabet = letters_of a; limit = a.limit }
 
 -- the letters at some places of the alphabet
 unfoldable pub word_of : List (List ℕ) → List ℕ → Word
@@ -57,7 +58,7 @@ abbrev pub step_from : Terms → at.Place → Option State
 step_from a x = (world_in a).step (place_of (letters_of a) x)
 
 unfoldable pub found_from : Terms → at.Place → Last → Result Found Errno
-found_from a places.Start mode = Ok (Whole (base_dir a.base a.seen.scope.history) (base_way a.base))
+found_from a places.Start mode = Ok (Whole (base_dir a.base (history_of a.process)) (base_way a.base))
 found_from a (places.Below s i) mode = last a.seen.scope.tree s.dir s.used (part_of (get_or (letters_of a) i [])) mode
 
 -- one of two, by whether a last part is followed
@@ -73,12 +74,12 @@ pub record IsState (t : Tree) (s : State) : Type 0 where
 -- the tree is one, the process stands for its history, and the letters are parts
 pub record IsSound (a : Terms) : Type 0 where
   pub tree : WellFormed a.seen.scope.tree
-  pub stands : StandsFor a.process a.seen.scope.history
+  pub stands : StandsFor a.process (history_of a.process)
   pub parts : AllByRecursion (λ p. part_of (part_bytes p) ≡ p) a.letters.items
 
 -- a place whose directory lives
 abbrev pub IsAt : Terms → at.Place → Type 0
-IsAt a places.Start = IsTrue (is_dir a.seen.scope.tree (base_dir a.base a.seen.scope.history))
+IsAt a places.Start = IsTrue (is_dir a.seen.scope.tree (base_dir a.base (history_of a.process)))
 IsAt a (places.Below s i) = IsState a.seen.scope.tree s × (i < length a.letters.items)
 
 abbrev pub word_in : Walk → Word

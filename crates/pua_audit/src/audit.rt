@@ -1,15 +1,24 @@
 //! The audit of a process: its reach, pair by pair.
 
-ghost use Rattle.std.specs.Prelude.{◌≡◌};
+ghost use Rattle.std.specs.Prelude.{◌≡◌, ◌≢◌, Ok, Err, IfOk, IfErr, map, option_map};
 ghost use Rattle.std.specs.Borrow.{sem};
+ghost use Rattle.pua_policy.specs.Calls.{standard_table};
+ghost use Rattle.pua_policy.specs.History.{History, StandsFor};
+ghost use Rattle.pua_audit.specs.Begin.{Beginning, beginning, still_to_come};
 ghost use Rattle.pua_audit.specs.Lent.{LendsLine};
 
+use std::alloc::Global;
 use std::marker::Model;
 
 use pua_path::Probe;
+use pua_policy::Process;
 
+use crate::base::Base;
+use crate::beginning::{self, Begun};
+use crate::fault::AuditFault;
 use crate::line::Line;
 use crate::path::lent_path;
+use crate::terms::Terms;
 use crate::walk::Walk;
 
 /// What a process is allowed in a tree, line by line in order. Contracts see what it is of, and the
@@ -24,19 +33,56 @@ impl Model for Audit {
 
     ghost Value = { AuditState };
 
-    ghost use Rattle.pua_audit.specs.Ready.{scope_in, trail, IsReady};
+    ghost use Rattle.pua_audit.specs.Ready.{trail, IsReady};
     ghost use Rattle.pua_audit.specs.Trail.{lines_of};
 
-    ghost view = { λ a. record { scope = scope_in a.walk.terms; left = lines_of (trail a.walk) } };
+    ghost view = { λ a. record { tree = a.walk.terms.seen.scope.tree; base = a.walk.terms.base; left = lines_of (trail a.walk) } };
 
     ghost invariant = { λ a. IsReady a.walk };
 }
 
 impl Audit {
+    /// Begins the audit of a process over the tree of a probe: by paths from this base, of at most
+    /// `limit` letters, each a name of the tree's rows, `..` or a candidate; from its first line, or
+    /// from the one behind the pair that a text `CALL:PATH` names. The process is copied, so what
+    /// becomes of it later changes nothing. What is to come is the same for each history that the
+    /// process stands for, and there is one.
+    ///
+    /// The errors come in the order of `AuditFault`'s page, but that `OutOfMemory` comes wherever a
+    /// growth was refused. The resume text is judged also where nothing is allowed at all. Later
+    /// lines take no memory.
+    pub fn begin<'t, P: Probe<'t>>(
+        alloc: Global,
+        probe: &mut P,
+        process: &Process,
+        base: Base,
+        candidates: &[&[u8]],
+        limit: u8,
+        after: Option<&[u8]>,
+    ) -> Result<Audit, AuditFault>
+        requires stands { (h : History) × StandsFor process.now h }
+        ensures begun { IfOk result (λ audit. (h : History) → StandsFor process.now h → (b : Beginning) ×
+            ((beginning (P.tree probe.old) standard_table h base (map (λ s. s.now) candidates.now) limit (option_map (λ s. s.now) after.entry) ≡ Ok b) × (audit.left ≡ still_to_come b))) }
+        ensures of { IfOk result (λ audit. (audit.tree ≡ P.tree probe.old) × (audit.base ≡ base)) }
+        ensures refused { IfErr result (λ fault. fault ≢ AuditFault.OutOfMemory → (h : History) →
+            beginning (P.tree probe.old) standard_table h base (map (λ s. s.now) candidates.now) limit (option_map (λ s. s.now) after.entry) ≡ Err fault) }
+        ensures tree { P.tree probe.new ≡ P.tree probe.old }
+    {
+        let Begun { letters, after } =
+            beginning::begin(alloc, probe, base, candidates, limit, after)?;
+        let Ok(terms) = Terms::new(alloc, &*probe, process, base, limit, letters) else {
+            return Err(AuditFault::OutOfMemory);
+        };
+        let Ok(walk) = Walk::begin(alloc, probe, terms, after) else {
+            return Err(AuditFault::OutOfMemory);
+        };
+        Ok(Audit { walk })
+    }
+
     /// Lends the next line, in the order of the reach: None where no pair is left. The tree is the
     /// one with which the audit began. It takes no memory and never fails.
     pub fn next_line<'t, P: Probe<'t>>(&mut self, probe: &mut P) -> Option<Line<'_>>
-        requires { P.tree probe.old ≡ self.old.scope.tree }
+        requires { P.tree probe.old ≡ self.old.tree }
         ensures* rest { sem 𝓛 (LendsLine self.entry result) }
         ensures tree { P.tree probe.new ≡ P.tree probe.old }
     {

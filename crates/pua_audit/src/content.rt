@@ -6,7 +6,7 @@ ghost use base.Fml.{ftrue};
 
 use std::marker::{Model, PhantomData};
 
-/// The content of a tree and the history of a process, which contracts alone see. It has no bytes.
+/// The content of a tree, which contracts alone see. It has no bytes.
 pub struct Content {
     marker: PhantomData<()>,
     pub ghost scope: { Seen },

@@ -1,18 +1,26 @@
 //! What an audit is of.
 
-ghost use Rattle.std.specs.Prelude.{◌≡◌, ◌≤◌, ◌<◌, length, IsTrue, IfOk, IfSome, vec_capacity};
+ghost use Rattle.std.specs.Prelude.{◌≡◌, ◌≤◌, ◌<◌, ◌*◌, suc, length, IsTrue, IfOk, IfSome, vec_capacity};
 ghost use Rattle.pua_tree.specs.Tree.{is_dir};
 ghost use Rattle.pua_policy.specs.Calls.{standard_table, last_of};
+ghost use Rattle.pua_policy.specs.History.{StandsFor};
 ghost use Rattle.pua_policy.specs.Verdict.{FoundsFit, verdict_of, is_allowed};
-ghost use Rattle.pua_audit.specs.World.{base_dir, base_way, state_of};
+ghost use Rattle.pua_audit.specs.Alphabets.{AreParts};
+ghost use Rattle.pua_audit.specs.Begin.{longest};
+ghost use Rattle.pua_audit.specs.Past.{history_of};
+ghost use Rattle.pua_audit.specs.Starting.{scope_with};
+ghost use Rattle.pua_audit.specs.World.{base_dir, base_way, state_of, is_open};
 ghost use Rattle.pua_audit.specs.declared.place.Place.TheVariants as places;
-ghost use Rattle.pua_audit.specs.Ready.{IsSound, IsAt, IsState, step_from, found_from, by_last, world_in, letters_of, place_of};
+ghost use Rattle.pua_audit.specs.Ready.{scope_in, IsSound, IsAt, IsState, step_from, found_from, by_last, world_in, letters_of, place_of};
 ghost use Rattle.pua_audit.specs.Trail.{allowed_at};
+
+use std::alloc::Global;
 
 use pua_path::{Errno, Found, Last, Part, Probe, Way};
 use pua_policy::{Call, Process, Verdict, judge, needs};
-use pua_tree::NodeId;
+use pua_tree::{Kind, NodeId, OutOfMemory};
 
+use crate::alphabet::longest;
 use crate::base::Base;
 use crate::content::Content;
 use crate::named::Named;
@@ -31,10 +39,59 @@ pub struct Terms {
 }
 
 impl Terms {
+    /// What an audit of a copy of a process is of, over the tree of a probe, by words of at most so
+    /// many of these letters. `OutOfMemory` where the growth for the copy was refused.
+    pub fn new<'t, P: Probe<'t>>(
+        alloc: Global,
+        probe: &P,
+        process: &Process,
+        base: Base,
+        limit: u8,
+        letters: Vec<Part>,
+    ) -> Result<Terms, OutOfMemory>
+        requires stands { StandsFor process.now (history_of process.now) }
+        requires parts { AreParts letters.items }
+        ensures sound { IfOk result (λ terms. IsSound terms) }
+        ensures scope { IfOk result (λ terms. scope_in terms ≡ scope_with (P.tree probe.now) standard_table (history_of process.now) base limit letters.items) }
+        ensures letters { IfOk result (λ terms. (terms.limit ≡ limit) × (terms.letters ≡ letters)) }
+    {
+        probe.known();
+        let process = process.fork(alloc)?;
+        Ok(Terms {
+            seen: Content::of(probe),
+            process,
+            base,
+            limit: usize::from(limit),
+            letters,
+        })
+    }
+
+    /// Whether something may be allowed: the process has not ended, and the directory at the base
+    /// was not removed.
+    pub fn is_open<'t, P: Probe<'t>>(&self, probe: &mut P) -> bool
+        requires tree { P.tree probe.old ≡ self.now.seen.scope.tree }
+        requires sound { IsSound self.now }
+        ensures open { result ≡ is_open (scope_in self.now) }
+        ensures tree { P.tree probe.new ≡ P.tree probe.old }
+    {
+        if self.process.ended() {
+            return false;
+        }
+        matches!(probe.kind(self.base_dir()), Some(Kind::Dir))
+    }
+
+    /// How many bytes the letters of a word and their slashes have at most.
+    pub fn most_bytes(&self) -> usize
+        requires { self.now.limit * suc (longest (letters_of self.now)) ≤ 1023 }
+        ensures { result ≡ self.now.limit * suc (longest (letters_of self.now)) }
+    {
+        self.limit * (longest(self.letters.as_slice()) + 1)
+    }
+
     /// The directory in which the first letter stands.
     pub fn base_dir(&self) -> NodeId
         requires { IsSound self.now }
-        ensures { result ≡ base_dir self.now.base self.now.seen.scope.history }
+        ensures { result ≡ base_dir self.now.base (history_of self.now.process) }
     {
         match self.base {
             Base::Root => NodeId::ROOT,
@@ -171,7 +228,7 @@ impl Terms {
         requires sound { IsSound self.now }
         requires followed { FoundsFit self.now.seen.scope.tree named.now.followed }
         requires kept { FoundsFit self.now.seen.scope.tree named.now.kept }
-        ensures value { result ≡ is_allowed (verdict_of self.now.seen.scope.tree standard_table self.now.seen.scope.history call (by_last (last_of call) named.now.followed named.now.kept)) }
+        ensures value { result ≡ is_allowed (verdict_of self.now.seen.scope.tree standard_table (history_of self.now.process) call (by_last (last_of call) named.now.followed named.now.kept)) }
         ensures tree { P.tree probe.new ≡ P.tree probe.old }
     {
         let found = named.by(needs::need(call).last);

@@ -39,16 +39,11 @@ pub struct Walk {
 }
 
 impl Walk {
-    /// A walk that stands before the empty word and has none of its calls, or one with nothing
-    /// ahead. It reserves all that it will need, the path as many bytes as are given.
-    pub fn new(
-        alloc: Global,
-        terms: Terms,
-        done: bool,
-        path_room: usize,
-    ) -> Result<Walk, AllocError>
+    /// A walk that stands at the empty word and has none of its calls, or one with nothing ahead.
+    /// It reserves all that it will need. The error is that a growth was refused.
+    pub fn new(alloc: Global, terms: Terms, done: bool) -> Result<Walk, AllocError>
         requires sound { IsSound terms }
-        requires path_room { terms.limit * suc (longest (letters_of terms)) ≤ path_room }
+        requires short { terms.limit * suc (longest (letters_of terms)) ≤ 1023 }
         requires open { done ≡ false → IsAt terms places.Start }
         ensures ready { IfOk result (λ walk. IsReady walk) }
         ensures terms { IfOk result (λ walk. walk.terms ≡ terms) }
@@ -58,7 +53,7 @@ impl Walk {
         let word = Vec::with_capacity(alloc, terms.limit)?;
         let frames = Vec::with_capacity(alloc, terms.limit)?;
         let calls = Vec::with_capacity(alloc, Call::ALL.len())?;
-        let path = Vec::with_capacity(alloc, path_room)?;
+        let path = Vec::with_capacity(alloc, terms.most_bytes())?;
         Ok(Walk {
             terms,
             done,

@@ -10,7 +10,7 @@ returns-clause-ready c = record {
     words = c.in_ok-word.ensures.capacity;
     frames = c.in_ok-frames.ensures.capacity;
     calls = c.in_ok-calls.ensures.capacity;
-    paths = omega (arith, c.requires.path_room, c.in_ok-path.ensures.capacity);
+    paths = omega (arith, c.most_bytes.ensures, c.in_ok-path.ensures.capacity);
     within = omega (arith, ap length c.in_ok-word.ensures.items);
   };
   spelled = spelled_none c.args.terms c.in_ok-word.word.items c.in_ok-path.path.items c.in_ok-word.ensures.items c.in_ok-path.ensures.items;

@@ -2,11 +2,8 @@ use Rattle.std.proofs.Common.{◌≡◌, ◌+◌, ◌∷◌, [], Bool, true, fal
 use Rattle.pua_audit.specs.Trail.{lines_of, ahead, everywhere}
 use Rattle.pua_audit.specs.Ready.{letters_of, world_in, word_in, place_in, left_in, trail}
 use Rattle.pua_audit.specs.declared.walk.Walk.{Walk}
-use Rattle.pua_audit.proofs.Moves.{given_by, over_by}
+use Rattle.pua_audit.proofs.Moves.{given_by, nothing_left}
 use Rattle.pua_audit.proofs.walk.Walk.next_call.Goals as goal
-
-nothing_left : (a : Walk) → a.done ≡ true → trail a ≡ []
-nothing_left a e = over_by (world_in a.terms) (letters_of a.terms) a.terms.limit a.done (word_in a) (place_in a) (left_in a) a.frames.items e
 
 pub returns-in-Some-clause-next : goal.returns-in-Some-clause-next
 returns-in-Some-clause-next g c =

@@ -1,0 +1,38 @@
+use Rattle.std.proofs.Common.{◌≡◌, rules, List, refl, sym, ap, ◌∙◌, map}
+use Rattle.std.specs.Prelude.{option_map}
+use Rattle.pua_tree.specs.Tree.{Tree}
+use Rattle.pua_path.specs.declared.found.Part.{Part}
+use Rattle.pua_policy.specs.Calls.{standard_table}
+use Rattle.pua_policy.specs.History.{StandsFor}
+use Rattle.pua_audit.specs.Past.{history_of}
+use Rattle.pua_audit.specs.Reach.{Scope, rest_after}
+use Rattle.pua_audit.specs.Begin.{Beginning}
+use Rattle.pua_audit.specs.Alphabets.{AreParts}
+use Rattle.pua_audit.specs.Ready.{part_bytes, scope_in}
+use Rattle.pua_audit.specs.Starting.{pair_in, scope_with, beginning_with}
+use Rattle.pua_audit.proofs.Pasts.{stands_for_past, rest_by_process}
+use Rattle.pua_audit.proofs.audit.Audit.begin.Goals as goal
+
+pub new-requires : goal.new-requires
+new-requires g c =
+    let past : StandsFor c.args.process.now (history_of c.args.process.now) = stands_for_past c.args.process.now c.requires.stands.0 c.requires.stands.1 in
+    let parts : AreParts c.in_ok-letters.field-0.letters.items = c.in_ok-letters.ensures.sound.sound.parts in
+    search rules
+
+pub returns-clause-begun : goal.returns-clause-begun
+returns-clause-begun g c = λ h stands.
+    let p = c.args.process.now in
+    let t : Tree = g.P.Probe.tree c.args.probe.now in
+    let base = c.args.base in
+    let limit = c.args.limit in
+    let after = c.in_ok-letters.field-0.after in
+    let letters : List Part = c.in_ok-letters.field-0.letters.items in
+    let b : Beginning = beginning_with t standard_table h base limit c.in_ok-letters.field-0 in
+    let past = stands_for_past p c.requires.stands.0 c.requires.stands.1 in
+    let known : c.in-Ok.terms.letters.items ≡ letters = ap (λ v. v.items) c.in-Ok.ensures.letters.1 in
+    (b, (c.in_ok-letters.ensures.begun standard_table h,
+      c.in-Ok-begin.ensures.left
+      ∙ ap (λ (ls : List Part). rest_after (scope_in c.in-Ok.terms) (option_map (pair_in (map part_bytes ls)) after)) known
+      ∙ ap (λ (s : Scope). rest_after s (option_map (pair_in (map part_bytes letters)) after)) c.in-Ok.ensures.scope
+      ∙ ap (λ (u : Tree). rest_after (scope_with u standard_table (history_of p) base limit letters) (option_map (pair_in (map part_bytes letters)) after)) c.in_ok-letters.ensures.tree
+      ∙ rest_by_process t standard_table base (map part_bytes letters) limit p (history_of p) h past stands (option_map (pair_in (map part_bytes letters)) after)))
