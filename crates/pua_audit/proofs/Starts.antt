@@ -25,8 +25,8 @@ module _ (a : Terms) (sound : IsSound a) (letters : AreSound a.limit a.letters.i
   nothing_after closed None = closed_reaches (scope_in a) audited closed
   nothing_after closed (Some pair) = ap (filter (λ other. is_lt (pair_cmp pair other))) (closed_reaches (scope_in a) audited closed)
 
-  pub lives : is_open (scope_in a) ≡ true → IsTrue (is_dir a.seen.scope.tree (base_dir a.base (history_of a.process)))
-  lives opened = (both_true (not (is_ended (history_of a.process))) (is_dir a.seen.scope.tree (base_dir a.base (history_of a.process))) opened).1
+  pub lives : is_open (scope_in a) ≡ true → IsTrue (is_dir a.seen.tree (base_dir a.base (history_of a.process)))
+  lives opened = (both_true (not (is_ended (history_of a.process))) (is_dir a.seen.tree (base_dir a.base (history_of a.process))) opened).1
 
   pub all_along : is_open (scope_in a) ≡ true → reach_along (world_in a) (letters_of a) a.limit ≡ reach (scope_in a)
   all_along opened = sym (reaches_along (scope_in a) audited (lives opened))

@@ -34,7 +34,7 @@ impl Model for Audit {
     ghost use Rattle.pua_audit.specs.Ready.{trail, IsReady};
     ghost use Rattle.pua_audit.specs.Trail.{lines_of};
 
-    ghost view = { λ a. record { tree = a.walk.terms.seen.scope.tree; base = a.walk.terms.base; left = lines_of (trail a.walk) } };
+    ghost view = { λ a. record { tree = a.walk.terms.seen.tree; base = a.walk.terms.base; left = lines_of (trail a.walk) } };
 
     ghost invariant = { λ a. IsReady a.walk };
 }

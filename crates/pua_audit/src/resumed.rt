@@ -25,7 +25,7 @@ impl Walk {
         terms: Terms,
         after: Option<Resumption>,
     ) -> Result<Walk, AllocError>
-        requires tree { P.tree probe.old ≡ terms.seen.scope.tree }
+        requires tree { P.tree probe.old ≡ terms.seen.tree }
         requires sound { IsSound terms }
         requires letters { AreSound terms.limit terms.letters.items }
         requires word { IfSome after (λ r. AreLetters (letters_of terms) terms.limit r.word.items) }
@@ -51,7 +51,7 @@ impl Walk {
     /// the word's calls that come behind the pair's. It ends where no step leads on, since nothing
     /// is allowed on a word that goes on from there.
     pub fn resume<'t, P: Probe<'t>>(&mut self, probe: &mut P, after: &Resumption)
-        requires tree { P.tree probe.old ≡ self.old.terms.seen.scope.tree }
+        requires tree { P.tree probe.old ≡ self.old.terms.seen.tree }
         requires ready { IsReady self.old }
         requires fresh { IsFresh self.old }
         requires rises { Rises name_cmp (letters_of self.old.terms) }

@@ -79,7 +79,7 @@ impl Walk {
 
     /// The state behind the word, if it is to be entered.
     fn entrance<'t, P: Probe<'t>>(&self, probe: &mut P) -> Option<State>
-        requires tree { P.tree probe.old ≡ self.now.terms.seen.scope.tree }
+        requires tree { P.tree probe.old ≡ self.now.terms.seen.tree }
         requires ready { IsReady self.now }
         requires given { left_in self.now ≡ [] }
         requires going { self.now.done ≡ false }
@@ -158,7 +158,7 @@ impl Walk {
 
     /// Goes on to the next word, if there is one.
     fn advance<'t, P: Probe<'t>>(&mut self, probe: &mut P) -> bool
-        requires tree { P.tree probe.old ≡ self.old.terms.seen.scope.tree }
+        requires tree { P.tree probe.old ≡ self.old.terms.seen.tree }
         requires ready { IsReady self.old }
         requires given { left_in self.old ≡ [] }
         requires going { self.old.done ≡ false }
@@ -180,7 +180,7 @@ impl Walk {
     }
     /// Decides the calls of the word.
     pub fn decide<'t, P: Probe<'t>>(&mut self, probe: &mut P)
-        requires tree { P.tree probe.old ≡ self.old.terms.seen.scope.tree }
+        requires tree { P.tree probe.old ≡ self.old.terms.seen.tree }
         requires ready { IsReady self.old }
         requires going { self.old.done ≡ false }
         ensures ready { IsReady self.new }
@@ -195,7 +195,7 @@ impl Walk {
 
     /// The call of the next line: its word is the walk's. None where there is none.
     pub fn next_call<'t, P: Probe<'t>>(&mut self, probe: &mut P) -> Option<Call>
-        requires tree { P.tree probe.old ≡ self.old.terms.seen.scope.tree }
+        requires tree { P.tree probe.old ≡ self.old.terms.seen.tree }
         requires ready { IsReady self.old }
         ensures ready { IsReady self.new }
         ensures terms { self.new.terms ≡ self.old.terms }

@@ -14,10 +14,10 @@ returns-clause-value g c =
     let a = c.args.self.now in
     let part : c.index-part.result.now ≡ get_or a.letters.items c.args.letter Dot = grind (arith, common_steps) in
     c.state_of.ensures ∙ ap state_of (c.step-reached.ensures.exact ∙ ap (λ t. step t c.args.state.dir c.args.state.used c.index-part.result.now) c.requires.tree
-    ∙ ap (step a.seen.scope.tree c.args.state.dir c.args.state.used) (part ∙ sym (letter_part a.letters.items c.args.letter Dot c.requires.sound.parts c.requires.at.1)))
+    ∙ ap (step a.seen.tree c.args.state.dir c.args.state.used) (part ∙ sym (letter_part a.letters.items c.args.letter Dot c.requires.sound.parts c.requires.at.1)))
 
 pub returns-clause-state : goal.returns-clause-state
 returns-clause-state g c =
     let a = c.args.self.now in
     let same = c.step-reached.ensures.exact ∙ ap (λ t. step t c.args.state.dir c.args.state.used c.index-part.result.now) c.requires.tree in
-    subst (λ r. IfSome r (λ s. IsState a.seen.scope.tree s)) (sym (c.state_of.ensures ∙ ap state_of same)) (state_fits a.seen.scope.tree c.requires.sound.tree c.args.state.dir c.args.state.used c.index-part.result.now c.requires.at.0.dir)
+    subst (λ r. IfSome r (λ s. IsState a.seen.tree s)) (sym (c.state_of.ensures ∙ ap state_of same)) (state_fits a.seen.tree c.requires.sound.tree c.args.state.dir c.args.state.used c.index-part.result.now c.requires.at.0.dir)

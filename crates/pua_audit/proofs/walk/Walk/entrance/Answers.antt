@@ -24,7 +24,7 @@ returns-clause-ahead g c =
           (ap lines_of f, omega (arith, ap length f))
       | Some s ↦ λ e. (
         below,
-        subst (λ r. IfSome r (λ s. IsState a.terms.seen.scope.tree s)) e c.step.ensures.state,
+        subst (λ r. IfSome r (λ s. IsState a.terms.seen.tree s)) e c.step.ensures.state,
         opened_by (world_in a.terms) (letters_of a.terms) a.terms.limit a.done (word_in a) (place_in a) (left_in a) a.frames.items c.requires.going s c.requires.given even below_word (sym c.step.ensures.value ∙ e),
       )
     ] refl

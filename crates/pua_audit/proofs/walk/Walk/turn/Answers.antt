@@ -26,7 +26,7 @@ returns-then-frame-len-clause-ready c =
     let a = c.loop-frame.self in
     let b = c.enter.new.self in
     let split : a.frames.items ≡ c.pop.new.self.items ++ c.in-Some.frame ∷ [] = c.in-Some.ensures.items in
-    let tree = a.terms.seen.scope.tree in
+    let tree = a.terms.seen.tree in
     let parts = all_front (λ f. IsState tree f.state) c.pop.new.self.items c.in-Some.frame (subst (Frames a.terms) split c.loop-frame.invariant.states) in
     let given : left_in b ≡ [] = ap (λ (n : ℕ). drop n b.calls.items) c.enter.ensures.kept.3 ∙ ap (λ v. drop a.given v.items) c.enter.ensures.kept.2 ∙ c.loop-frame.invariant.given in
     let even : length b.frames.items ≡ length b.word.items =
@@ -42,7 +42,7 @@ loop-frame-preserved c =
     let none : length (letters_of a.terms) ≤ c.in-Some.frame.next = omega (arith, length-map a.terms.letters.items part_bytes) in
     let same : b.terms ≡ a.terms = c.leave.ensures.kept.0 in
     let frames : b.frames.items ≡ c.pop.new.self.items = ap (λ v. v.items) c.leave.ensures.kept.4 in
-    let below : Frames a.terms c.pop.new.self.items = (all_front (λ f. IsState a.terms.seen.scope.tree f.state) c.pop.new.self.items c.in-Some.frame (subst (Frames a.terms) split c.loop-frame.invariant.states)).0 in
+    let below : Frames a.terms c.pop.new.self.items = (all_front (λ f. IsState a.terms.seen.tree f.state) c.pop.new.self.items c.in-Some.frame (subst (Frames a.terms) split c.loop-frame.invariant.states)).0 in
     record {
       terms = same ∙ c.loop-frame.invariant.terms;
       sound = subst IsSound (sym same) c.loop-frame.invariant.sound;
