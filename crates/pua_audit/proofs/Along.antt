@@ -1,37 +1,32 @@
 -- A word is judged by its path as it is judged letter by letter.
-use Rattle.std.proofs.Common.{◌≡◌, ℕ, zero, suc, Bool, true, false, not, ◌&&◌, cond, List, [], ◌∷◌, ◌++◌, length, map, refl, sym, ap, ◌∙◌, arith, ◌+◌, ◌-◌, ◌*◌, ◌≤◌, Some, None, nat_le, max, fold, mul-le-mul_right}
-use Rattle.std.specs.Prelude.{if◌then◌else◌, Ok, Err, IsTrue, filter, flat_map}
+use Rattle.std.proofs.Common.{◌≡◌, ℕ, zero, suc, Bool, true, false, cond, List, [], ◌∷◌, length, map, refl, sym, ap, ◌∙◌, arith, ◌-◌, ◌*◌, ◌≤◌, max, fold, mul-le-mul_right}
+use Rattle.std.specs.Prelude.{Ok, Err, filter}
 use Rattle.std.specs.List.{AllByRecursion}
 use Rattle.pua_tree.specs.Tree.{Tree, WellFormed, is_dir}
 use Rattle.pua_tree.specs.Steps.{◌>>=◌}
-use Rattle.pua_path.specs.Paths.{part_of, parts_of, path_fault, is_absolute}
-use Rattle.pua_path.specs.Resolution.{Resolved, resolve_parts, resolution, resolution_of_text, start_of, reached, link_limit, step, last}
+use Rattle.pua_path.specs.Paths.{part_of, is_absolute}
+use Rattle.pua_path.specs.Resolution.{Resolved, resolve_parts, resolution_of_text, reached}
 use Rattle.pua_path.specs.Laws.{onwards}
 use Rattle.pua_path.proofs.Composition.{composes}
 use Rattle.pua_path.specs.declared.errno.Errno.{Errno}
 use Rattle.pua_path.specs.declared.errno.Errno.TheVariants.{ENOENT, ENOTDIR}
 use Rattle.pua_path.specs.declared.text.Ending.{Ending}
 use Rattle.pua_path.specs.declared.text.Ending.TheVariants as ending
-use Rattle.pua_path.specs.declared.found.Part.{Part}
 use Rattle.pua_path.specs.declared.found.Part.TheVariants as parts
-use Rattle.pua_path.specs.declared.found.Last.{Last}
-use Rattle.pua_path.specs.declared.found.Last.TheVariants.{Followed, Kept}
+use Rattle.pua_path.specs.declared.found.Last.TheVariants.{Followed}
 use Rattle.pua_path.specs.declared.found.Way.TheVariants.{Top}
-use Rattle.pua_path.specs.declared.found.Found.{Found}
 use Rattle.pua_path.specs.declared.found.Found.TheVariants.{Whole, Slot}
 use Rattle.pua_policy.specs.Calls.{CallTable, rule_of, last_of, ending_of, calls}
 use Rattle.pua_policy.specs.History.{History, may_any, is_ended, working_dir}
 use Rattle.pua_policy.specs.Verdict.{if_promised, verdict_of, verdict_on, object_named, is_allowed}
 use Rattle.pua_policy.specs.declared.answer.May.{May}
 use Rattle.pua_policy.specs.declared.answer.May.TheVariants.{Yes, Enosys, Death}
-use Rattle.pua_policy.specs.declared.answer.Verdict.TheVariants.{Allowed, Failed}
+use Rattle.pua_policy.specs.declared.answer.Verdict.TheVariants.{Failed}
 use Rattle.pua_policy.specs.declared.call.Call.{Call}
-use Rattle.pua_policy.specs.declared.call.Call.TheVariants as call
 use Rattle.pua_audit.specs.Reach.{Word, Pair, Scope, words, pairs, from_root, path_of, is_reached, reach}
-use Rattle.pua_audit.specs.World.{Place, Start, Below, World, base_dir, base_way, found_at, state_behind, state_of, world_of, world, if_some, is_allowed_along, reach_along, is_open}
+use Rattle.pua_audit.specs.World.{Start, Below, World, base_dir, base_way, state_of, world_of, world, if_some, is_allowed_along, reach_along}
 use Rattle.pua_audit.specs.declared.base.Base.{Base}
 use Rattle.pua_audit.specs.declared.base.Base.TheVariants.{Root, Cwd}
-use Rattle.pua_audit.specs.declared.state.State.{State}
 use Rattle.pua_audit.proofs.Landing.{Lands, lands}
 use Rattle.pua_audit.specs.Begin.{longest}
 use Rattle.pua_audit.proofs.Paths.{IsPiece, IsPath, path_is, length_from_root}

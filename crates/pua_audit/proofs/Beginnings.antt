@@ -1,7 +1,6 @@
 -- What an audit begins with, or the first fault, test by test.
-use Rattle.std.proofs.Common.{◌≡◌, ℕ, suc, ◌+◌, ◌*◌, ◌≤◌, ◌<◌, List, [], ◌∷◌, ◌++◌, Bool, true, false, length, map, codes, refl, sym, ap, subst, ◌∙◌, add-one}
-use Rattle.std.specs.Prelude.{Option, Some, None, Result, Ok, Err, nat_le, ok_or, option_map, filter, not, IsTrue}
-use Rattle.std.specs.Ordering.{is_lt}
+use Rattle.std.proofs.Common.{◌≡◌, ℕ, suc, ◌+◌, ◌*◌, ◌≤◌, ◌<◌, List, [], ◌∷◌, ◌++◌, Bool, length, map, codes, refl, sym, ap, subst, ◌∙◌, add-one}
+use Rattle.std.specs.Prelude.{Option, Result, Ok, Err, nat_le, ok_or, IsTrue}
 use Rattle.std.specs.Result.{result_ok}
 use Rattle.std.specs.List.{AllByRecursion, list_all}
 use Rattle.std.proofs.lemmas.Bool.{le-leb, lt-leb, and_parts, and_from, or_left}
@@ -12,20 +11,15 @@ use Rattle.pua_tree.specs.Tree.{Tree, Spot, WellFormed, row_fits, is_dir, distin
 use Rattle.pua_tree.specs.declared.fault.NameFault.{NameFault}
 use Rattle.pua_tree.proofs.Spellings.{name_read, Err≢Ok, same_Ok}
 use Rattle.pua_policy.specs.Calls.{CallTable}
-use Rattle.pua_policy.specs.History.{History, is_ended}
-use Rattle.pua_policy.proofs.Finding.{both_true}
-use Rattle.pua_audit.specs.Reach.{Pair, Scope, alphabet_of, pair_cmp, rest_after}
-use Rattle.pua_audit.specs.Begin.{Beginning, candidates_from, longest, fault_unless, beginning, still_to_come}
-use Rattle.pua_audit.specs.World.{is_letter, is_open, base_dir, world, reach_along}
-use Rattle.pua_audit.specs.Laws.{IsAudited}
-use Rattle.pua_audit.specs.Starting.{IsBegun, begun_in, beginning_with, pair_in, scope_with}
-use Rattle.pua_audit.specs.declared.beginning.Begun.{Begun}
-use Rattle.pua_audit.specs.declared.resume_text.Resumption.{Resumption}
+use Rattle.pua_policy.specs.History.{History}
+use Rattle.pua_audit.specs.Reach.{Scope, alphabet_of}
+use Rattle.pua_audit.specs.Begin.{Beginning, candidates_from, longest, fault_unless, beginning}
+use Rattle.pua_audit.specs.World.{is_letter}
+use Rattle.pua_audit.specs.Starting.{begun_in}
 use Rattle.pua_audit.specs.declared.base.Base.{Base}
 use Rattle.pua_audit.specs.declared.fault.AuditFault.{AuditFault}
 use Rattle.pua_audit.specs.declared.fault.AuditFault.TheVariants.{LimitTooLarge, TooLong, TooManyNames, BadCandidate}
 use Rattle.pua_audit.proofs.Rising.{all_joined, all_with_name}
-use Rattle.pua_audit.proofs.Audited.{reaches_along, closed_reaches}
 
 module _ (t : Tree) (table : CallTable) (h : History) (base : Base) (texts : List (List ℕ)) (limit : ℕ) (after : Option (List ℕ)) where
   abbrev scope_of : List (List ℕ) → Scope

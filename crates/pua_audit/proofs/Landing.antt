@@ -1,13 +1,12 @@
 -- What a resolution from a living directory finds is of the tree, and the links left are no more than there were.
-use Rattle.std.proofs.Common.{◌≡◌, ℕ, zero, suc, Bool, true, false, ◌&&◌, List, [], ◌∷◌, ◌++◌, Option, Some, None, refl, sym, ap, ◌∙◌, arith, cond, ◌≤◌, not, ◌==◌, is_some, is_none}
+use Rattle.std.proofs.Common.{◌≡◌, ℕ, zero, suc, Bool, true, false, List, [], ◌∷◌, ◌++◌, Option, Some, None, refl, sym, ap, ◌∙◌, arith, cond, ◌≤◌, ◌==◌, is_some}
 use Rattle.std.proofs.lemmas.Bool.Decides.{nat_tests}
-use Rattle.std.specs.Prelude.{if◌then◌else◌, unwrap_or, option_map, option_and_then, Ok, Err, find}
+use Rattle.std.specs.Prelude.{if◌then◌else◌, unwrap_or, option_map, Ok, Err, find}
 use Rattle.std.specs.List.{list_all}
-use Rattle.std.specs.Option.{option_eq}
 use Rattle.std.specs.declared.cmp.Ordering.{Ordering}
 use Rattle.std.specs.Ordering.{is_eq}
 use Rattle.std.specs.FinMap.{find as find_key}
-use Rattle.pua_tree.specs.Tree.{Tree, Node, Spot, WellFormed, spot_cmp, look, node_at, kind_at, is_dir, is_dir_kind, is_living, above, row_fits}
+use Rattle.pua_tree.specs.Tree.{Tree, Node, Spot, WellFormed, spot_cmp, look, node_at, is_dir, is_dir_kind, is_living, above, row_fits}
 use Rattle.pua_tree.specs.declared.node.Kind.{Kind}
 use Rattle.pua_tree.specs.declared.node.Kind.TheVariants as kinds
 use Rattle.pua_path.specs.Paths.{parts_of}
@@ -18,11 +17,10 @@ use Rattle.pua_path.specs.declared.text.Ending.TheVariants as ending
 use Rattle.pua_path.specs.declared.found.Part.{Part}
 use Rattle.pua_path.specs.declared.found.Part.TheVariants as parts
 use Rattle.pua_path.specs.declared.found.Last.{Last}
-use Rattle.pua_path.specs.declared.found.Last.TheVariants.{Followed, Kept}
 use Rattle.pua_path.specs.declared.found.Way.{Way}
 use Rattle.pua_path.specs.declared.found.Way.TheVariants.{Named, Dot, DotDot, Top}
 use Rattle.pua_path.specs.declared.found.Found.{Found}
-use Rattle.pua_path.specs.declared.found.Found.TheVariants.{Whole, Slot}
+use Rattle.pua_path.specs.declared.found.Found.TheVariants.{Slot}
 use Rattle.pua_policy.specs.Verdict.{found_fits}
 use Rattle.pua_policy.proofs.Finding.{both_true, list_all-find}
 

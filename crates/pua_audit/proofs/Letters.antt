@@ -1,5 +1,5 @@
 -- What the walk's questions answer, in words of the alphabet.
-use Rattle.std.proofs.Common.{Bool, true, false, cond, ◌+◌, ◌++◌, take, filter, append-nil, ℕ, ◌<◌, ◌≤◌, ◌-◌, ◌≡◌, List, [], ◌∷◌, length, map, get_or, Some, None, refl, sym, ap, ◌∙◌, arith, subst}
+use Rattle.std.proofs.Common.{Bool, true, false, cond, ◌+◌, ◌++◌, take, filter, append-nil, ℕ, ◌<◌, ◌≤◌, ◌-◌, ◌≡◌, List, [], ◌∷◌, length, map, get_or, refl, sym, ap, ◌∙◌, arith}
 use Rattle.std.specs.Prelude.{Result, Ok, Err, IfSome, IsTrue}
 use Rattle.std.specs.List.{AllByRecursion}
 use Rattle.std.proofs.lemmas.List.{get_or-map, take_more, take_all}
@@ -54,7 +54,7 @@ last_fits t fits dir used p mode lives = by (last t dir used p mode) refl
     by (Err errno) e = tt
 
 -- a call finds what its rule for the last part says
-pub found_at_is : (a : Terms) (x : at.Place) (c : Call) → found_at a.seen.scope.tree a.base (history_of a.process) (place_of (letters_of a) x) c ≡ found_from a x (last_of c)
+pub found_at_is : (a : Terms) (x : at.Place) (c : Call) → found_at a.seen.tree a.base (history_of a.process) (place_of (letters_of a) x) c ≡ found_from a x (last_of c)
 unfolding place_of found_from
 found_at_is a places.Start c = refl
 found_at_is a (places.Below s i) c = refl
@@ -69,9 +69,9 @@ by_last-keeps P Kept followed kept f k = k
 
 -- a call is allowed on a word by what its path names with the last part followed and kept
 pub allows_own : (a : Terms) (x : at.Place) (c : Call) (followed kept : Result Found Errno) → followed ≡ found_from a x Followed → kept ≡ found_from a x Kept
-    → is_allowed (verdict_of a.seen.scope.tree standard_table (history_of a.process) c (by_last (last_of c) followed kept)) ≡ (world_in a).own (place_of (letters_of a) x) c
+    → is_allowed (verdict_of a.seen.tree standard_table (history_of a.process) c (by_last (last_of c) followed kept)) ≡ (world_in a).own (place_of (letters_of a) x) c
 allows_own a x c followed kept f k =
-    ap (λ r. is_allowed (verdict_of a.seen.scope.tree standard_table (history_of a.process) c r)) (found_by a x (last_of c) followed kept f k ∙ sym (found_at_is a x c))
+    ap (λ r. is_allowed (verdict_of a.seen.tree standard_table (history_of a.process) c r)) (found_by a x (last_of c) followed kept f k ∙ sym (found_at_is a x c))
 
 -- the calls decided so far
 module _ (f : Call → Bool) (i : ℕ) (d : Call) (h : i < length calls) where

@@ -5,7 +5,7 @@ use Rattle.std.proofs.lemmas.Grind.{flat_map-append}
 use Rattle.std.proofs.lemmas.List.Elements.{filter-append, filter_map-append}
 use Rattle.std.specs.Prelude.{flat_map, filter}
 use Rattle.pua_audit.specs.World.{Place, Start, Below, World}
-use Rattle.pua_policy.specs.Calls.{calls, call_number}
+use Rattle.pua_policy.specs.Calls.{calls}
 use Rattle.pua_policy.specs.declared.call.Call.{Call}
 use Rattle.pua_audit.specs.declared.state.State.{State}
 use Rattle.pua_audit.specs.Reach.{Word, Pair, words, pairs}

@@ -1,12 +1,12 @@
 -- What the walk's code does to what is still to be done, with words as places of the alphabet.
-use Rattle.std.proofs.Common.{ℕ, zero, suc, ◌+◌, ◌-◌, ◌<◌, ◌≤◌, ◌≡◌, List, [], ◌∷◌, ◌++◌, Option, Some, None, Bool, true, false, refl, ap, arith, sym, ◌∙◌, length, drop, take, map, get_or, filter, ◌==◌}
+use Rattle.std.proofs.Common.{ℕ, zero, suc, ◌+◌, ◌-◌, ◌<◌, ◌≤◌, ◌≡◌, List, [], ◌∷◌, ◌++◌, Option, Some, None, Bool, true, false, refl, ap, arith, sym, ◌∙◌, length, take, map, get_or}
 use Rattle.std.proofs.lemmas.List.{map-append, length-map, take_all, take_more}
 use Rattle.std.specs.Prelude.{option_to_list, option_map}
 use Rattle.std.specs.List.{AllByRecursion}
 use Rattle.pua_policy.specs.declared.call.Call.{Call}
 use Rattle.pua_audit.specs.Reach.{Word}
-use Rattle.pua_audit.specs.World.{Place, Start, Below, World}
-use Rattle.pua_audit.specs.Trail.{Event, allowed_at, pending, ahead, everywhere}
+use Rattle.pua_audit.specs.World.{Place, Below, World}
+use Rattle.pua_audit.specs.Trail.{allowed_at, pending, ahead, everywhere}
 use Rattle.pua_audit.specs.Ready.{letters_of, world_in, word_of, place_of, word_in, place_in, left_in, trail}
 use Rattle.pua_audit.specs.declared.frame.Frame.{Frame}
 use Rattle.pua_audit.specs.declared.state.State.{State}

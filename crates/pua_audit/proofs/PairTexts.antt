@@ -1,7 +1,6 @@
 -- A text names a pair exactly where it is the text of that pair.
-use Rattle.std.proofs.Common.{◌≡◌, ◌≢◌, ℕ, zero, suc, ◌+◌, ◌/◌, ◌%◌, ◌<◌, ◌≤◌, List, [], ◌∷◌, ◌++◌, Bool, true, false, cond, not, Option, Some, None, length, map, get_or, take, drop, refl, sym, ap, subst, ◌∙◌, inl, inr, arith, append-nil, codes, leb, leb-true, le-leb, one-add, ne_eqb, eqb-true}
+use Rattle.std.proofs.Common.{◌≡◌, ◌≢◌, ℕ, ◌+◌, ◌/◌, ◌%◌, ◌<◌, List, [], ◌∷◌, ◌++◌, Bool, true, false, cond, not, Option, Some, None, length, map, get_or, take, drop, refl, sym, ap, subst, ◌∙◌, inl, inr, arith, append-nil, codes, leb-true, le-leb, one-add, ne_eqb, eqb-true}
 use Rattle.std.specs.Prelude.{find, option_map, option_and_then, IsTrue, nat_le, ◌==◌, ◌||◌}
-use Rattle.std.specs.Bool.{one_answer}
 use Rattle.std.specs.List.{AllByRecursion, list_all, list_any, slice_split, join_with_byte, position_or_len, before_first, after_first}
 use Rattle.std.proofs.Math.Seq.{take-append_seam, drop-append-add}
 use Rattle.std.proofs.lemmas.Bool.{and_parts, or_right, cases_lt, false≢true}

@@ -1,9 +1,8 @@
 -- The path of a word: its parts are the word's letters, and it has no fault.
-use Rattle.std.proofs.Common.{subst, ◌≡◌, ℕ, zero, suc, Bool, true, false, not, ◌&&◌, ◌||◌, cond, List, [], ◌∷◌, ◌++◌, length, map, refl, sym, ap, ◌∙◌, arith, lt-ltb, le-leb, ltb-true, leb-true, ◌+◌, ◌*◌, ◌<◌, ◌≤◌, append-nil, length-append, Some, None, ◌==◌, codes, max, fold, nat_lt, nat_le}
+use Rattle.std.proofs.Common.{subst, ◌≡◌, ℕ, suc, Bool, true, false, not, ◌&&◌, ◌||◌, List, [], ◌∷◌, ◌++◌, length, map, refl, sym, ap, ◌∙◌, arith, lt-ltb, ◌+◌, ◌*◌, ◌≤◌, append-nil, length-append, None, ◌==◌, codes, nat_lt, nat_le}
 use Rattle.std.proofs.lemmas.Bool.{false≢true}
 use Rattle.std.proofs.lemmas.Bool.Decides.{nat_tests}
-use Rattle.std.specs.Prelude.{if◌then◌else◌}
-use Rattle.std.specs.List.{All, AllByRecursion, filter, slice_split, onto_first, list_any, list_all}
+use Rattle.std.specs.List.{All, AllByRecursion, list_any, list_all}
 use Rattle.std.proofs.lemmas.List.Splits.{slice_split_none, slice_split_at}
 use Rattle.std.proofs.lemmas.List.Folds.{list_any-append}
 use Rattle.std.proofs.lemmas.List.Elements.{All-cons}
@@ -13,7 +12,6 @@ use Rattle.pua_path.specs.declared.text.Ending.{Ending}
 use Rattle.pua_path.specs.declared.text.Ending.TheVariants as ending
 use Rattle.pua_policy.proofs.Finding.{both_true}
 use Rattle.pua_audit.specs.Reach.{Word, from_root, path_of}
-use Rattle.pua_audit.specs.Begin.{longest}
 use Rattle.pua_audit.specs.World.{is_letter}
 use Rattle.pua_audit.specs.declared.base.Base.{Base}
 use Rattle.pua_audit.specs.declared.base.Base.TheVariants.{Root, Cwd}

@@ -1,7 +1,5 @@
 -- What comes after a pair, step by step along its word.
-use Rattle.std.proofs.Common.{ℕ, zero, suc, ◌+◌, ◌-◌, ◌<◌, ◌≤◌, ◌≡◌, List, [], ◌∷◌, ◌++◌, Some, None, Bool, true, false, cond, refl, ap, arith, sym, ◌∙◌, length, drop, append_assoc, get_or, add-one, length-append}
-use Rattle.std.proofs.lemmas.List.{drop_more}
-use Rattle.std.proofs.Math.ListN.{drop_of_length-le}
+use Rattle.std.proofs.Common.{ℕ, zero, suc, ◌+◌, ◌-◌, ◌<◌, ◌≡◌, List, [], ◌∷◌, ◌++◌, Some, None, Bool, true, false, cond, refl, ap, arith, sym, ◌∙◌, length, drop, append_assoc, get_or, add-one, length-append}
 use Rattle.std.proofs.lemmas.List.Elements.{filter-append}
 use Rattle.std.specs.Prelude.{flat_map, filter}
 use Rattle.std.specs.List.{AllByRecursion}
@@ -11,16 +9,16 @@ use Rattle.std.specs.Cmp.{tied_itself}
 use Rattle.std.specs.Cmp.Lexicographic.{slice_cmp, nat_list_cmp_total}
 use Rattle.pua_audit.specs.World.{Place, Start, Below, World}
 use Rattle.pua_audit.specs.declared.frame.Frame.{Frame}
-use Rattle.pua_policy.specs.Calls.{calls, call_number}
+use Rattle.pua_policy.specs.Calls.{call_number}
 use Rattle.pua_policy.specs.declared.call.Call.{Call}
 use Rattle.pua_audit.specs.declared.state.State.{State}
 use Rattle.pua_audit.specs.Reach.{Word, Pair, pair_cmp}
 use Rattle.pua_audit.specs.Laws.{Rises}
 use Rattle.pua_audit.specs.World.{reach_along}
 use Rattle.pua_tree.specs.Tree.{name_cmp}
-use Rattle.pua_audit.specs.Trail.{Event, lines_of, under_all, with_calls, allowed_at, decide, deeper, branches, pending, ahead}
+use Rattle.pua_audit.specs.Trail.{Event, lines_of, under_all, with_calls, allowed_at, deeper, branches, pending, ahead}
 use Rattle.pua_audit.proofs.Steps.{pending_push, pending_back}
-use Rattle.pua_audit.proofs.Lines.{filter-none, longer, cons, alone, cons-nil, cons-append, filter-cons, filter-alone, here, from_state, below, rows, below_some, reach_is, lines-append, lines-under, lines-with_calls, lines-decide, Prunes, lines-deeper, lines-branches}
+use Rattle.pua_audit.proofs.Lines.{filter-none, longer, cons, alone, cons-nil, cons-append, filter-cons, filter-alone, here, from_state, below, rows, reach_is, lines-append, lines-under, lines-with_calls, Prunes, lines-deeper, lines-branches}
 
 -- lists
 

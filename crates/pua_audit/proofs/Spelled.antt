@@ -1,9 +1,8 @@
 -- The path of a walk's word, letter by letter.
-use Rattle.std.proofs.Common.{ℕ, suc, ◌+◌, ◌-◌, ◌*◌, ◌<◌, ◌≤◌, ◌≡◌, List, [], ◌∷◌, ◌++◌, refl, ap, arith, sym, ◌∙◌, subst, length, map, get_or, append_assoc, append-nil, take, length-append, mul-le-mul_right, codes}
+use Rattle.std.proofs.Common.{ℕ, suc, ◌+◌, ◌-◌, ◌*◌, ◌<◌, ◌≤◌, ◌≡◌, List, [], ◌∷◌, ◌++◌, refl, ap, arith, sym, ◌∙◌, subst, length, get_or, append_assoc, append-nil, take, length-append, mul-le-mul_right}
 use Rattle.std.proofs.lemmas.List.{get_or-map, length-map, take_at}
 use Rattle.std.specs.List.{AllByRecursion}
 use Rattle.pua_path.specs.declared.found.Part.{Part}
-use Rattle.pua_path.specs.declared.found.Part.TheVariants.{Dot}
 use Rattle.pua_audit.specs.Reach.{Word, from_root, path_of}
 use Rattle.pua_audit.specs.Begin.{longest}
 use Rattle.pua_audit.specs.Ready.{part_bytes, letters_of, word_of, IsSpelled, lent}
@@ -57,7 +56,7 @@ pub spelled_push : (a : Terms) (word path word-after path-after : List ℕ) (i :
 spelled_push a word path word-after path-after i is here longer spelled = record {
   known = subst (λ v. AllByRecursion (λ i. i < length a.letters.items) v) (sym longer) (all_pushed (λ i. i < length a.letters.items) word i is.known here);
   path = spelled ∙ ap (λ bs. bs ++ 47 ∷ get_or (letters_of a) i []) is.path ∙ sym (from_root-push (word_of (letters_of a) word) (get_or (letters_of a) i []))
-      ∙ ap from_root (sym (ap (word_of (letters_of a)) longer ∙ word_of-push (letters_of a) word i))
+      ∙ ap from_root (sym (ap (word_of (letters_of a)) longer ∙ word_of-push (letters_of a) word i));
 }
 
 -- the last letter of a word
@@ -71,7 +70,7 @@ spelled_end a word path front i is split =
     let all = all_front (λ i. i < length a.letters.items) front i (subst (λ v. AllByRecursion (λ i. i < length a.letters.items) v) split is.known) in record {
       known = all.0;
       here = all.1;
-      path = is.path ∙ ap from_root (ap (word_of (letters_of a)) split ∙ word_of-push (letters_of a) front i) ∙ from_root-push (word_of (letters_of a) front) (get_or (letters_of a) i [])
+      path = is.path ∙ ap from_root (ap (word_of (letters_of a)) split ∙ word_of-push (letters_of a) front i) ∙ from_root-push (word_of (letters_of a) front) (get_or (letters_of a) i []);
     }
 
 -- a letter and its slash are taken off
@@ -85,5 +84,5 @@ pub spelled_none : (a : Terms) (word path : List ℕ) → word ≡ [] → path �
 unfolding word_of
 spelled_none a word path none empty = record {
   known = subst (λ v. AllByRecursion (λ i. i < length a.letters.items) v) (sym none) tt;
-  path = empty ∙ ap (λ v. from_root (word_of (letters_of a) v)) (sym none)
+  path = empty ∙ ap (λ v. from_root (word_of (letters_of a) v)) (sym none);
 }

@@ -1,19 +1,17 @@
 -- What is ahead of a walk that begins.
-use Rattle.std.proofs.Common.{◌≡◌, List, [], ℕ, Bool, true, false, not, refl, sym, ap, ◌∙◌, filter}
+use Rattle.std.proofs.Common.{◌≡◌, List, [], ℕ, true, false, not, sym, ap, ◌∙◌, filter}
 use Rattle.std.specs.Prelude.{Option, Some, None, IsTrue}
 use Rattle.std.specs.Ordering.{is_lt}
 use Rattle.pua_tree.specs.Tree.{is_dir}
-use Rattle.pua_policy.specs.Calls.{standard_table}
 use Rattle.pua_policy.specs.History.{is_ended}
 use Rattle.pua_policy.proofs.Finding.{both_true}
 use Rattle.pua_audit.specs.Past.{history_of}
-use Rattle.pua_audit.specs.Reach.{Pair, Scope, pair_cmp, reach, rest_after}
-use Rattle.pua_audit.specs.World.{World, Start, base_dir, is_open, reach_along}
+use Rattle.pua_audit.specs.Reach.{Pair, pair_cmp, reach, rest_after}
+use Rattle.pua_audit.specs.World.{World, base_dir, is_open, reach_along}
 use Rattle.pua_audit.specs.Laws.{IsAudited}
 use Rattle.pua_audit.specs.Trail.{lines_of, allowed_at, ahead, everywhere}
 use Rattle.pua_audit.specs.Ready.{scope_in, letters_of, world_in, word_of, place_of, trail, allowed_here, along_after, IsSound, IsFresh}
 use Rattle.pua_audit.specs.Starting.{AreSound}
-use Rattle.pua_audit.specs.declared.place.Place.TheVariants as places
 use Rattle.pua_audit.specs.declared.terms.Terms.{Terms}
 use Rattle.pua_audit.specs.declared.walk.Walk.{Walk}
 use Rattle.pua_audit.proofs.Audited.{reaches_along, closed_reaches, trails_reach}
@@ -27,8 +25,8 @@ module _ (a : Terms) (sound : IsSound a) (letters : AreSound a.limit a.letters.i
   nothing_after closed None = closed_reaches (scope_in a) audited closed
   nothing_after closed (Some pair) = ap (filter (λ other. is_lt (pair_cmp pair other))) (closed_reaches (scope_in a) audited closed)
 
-  pub lives : is_open (scope_in a) ≡ true → IsTrue (is_dir a.seen.scope.tree (base_dir a.base (history_of a.process)))
-  lives opened = (both_true (not (is_ended (history_of a.process))) (is_dir a.seen.scope.tree (base_dir a.base (history_of a.process))) opened).1
+  pub lives : is_open (scope_in a) ≡ true → IsTrue (is_dir a.seen.tree (base_dir a.base (history_of a.process)))
+  lives opened = (both_true (not (is_ended (history_of a.process))) (is_dir a.seen.tree (base_dir a.base (history_of a.process))) opened).1
 
   pub all_along : is_open (scope_in a) ≡ true → reach_along (world_in a) (letters_of a) a.limit ≡ reach (scope_in a)
   all_along opened = sym (reaches_along (scope_in a) audited (lives opened))

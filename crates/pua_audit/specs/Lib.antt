@@ -4,7 +4,6 @@ pub mod World
 pub mod Trail
 pub mod Laws
 pub mod Examples
-pub mod Seen
 pub mod Past
 pub mod Ready
 pub mod AuditState

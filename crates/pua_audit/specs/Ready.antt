@@ -1,5 +1,5 @@
 -- A walk's fields between two calls, and what they say is still to be done.
-use Rattle.std.specs.Prelude.{◌≡◌, ◌≤◌, ◌<◌, ℕ, suc, zero, ◌-◌, Bool, true, false, List, [], ◌∷◌, ◌++◌, length, drop, map, get_or, filter, ◌*◌, Option, Some, None, Result, Ok, Err, MatchOption, IsTrue, vec_capacity, codes, ◌+◌}
+use Rattle.std.specs.Prelude.{◌≡◌, ◌≤◌, ◌<◌, ℕ, suc, ◌-◌, true, false, List, [], ◌∷◌, ◌++◌, length, drop, map, get_or, filter, ◌*◌, Option, None, Result, Ok, MatchOption, IsTrue, vec_capacity, codes}
 use Rattle.std.specs.List.{AllByRecursion}
 use Rattle.std.specs.Ordering.{is_lt}
 use Rattle.pua_tree.specs.Tree.{Tree, WellFormed, is_dir}
@@ -12,7 +12,7 @@ use Rattle.pua_path.specs.declared.found.Last.{Last}
 use Rattle.pua_path.specs.declared.found.Last.TheVariants.{Followed, Kept}
 use Rattle.pua_path.specs.declared.found.Found.{Found}
 use Rattle.pua_path.specs.declared.found.Found.TheVariants.{Whole}
-use Rattle.pua_policy.specs.Calls.{standard_table, last_of}
+use Rattle.pua_policy.specs.Calls.{standard_table}
 use Rattle.pua_policy.specs.History.{StandsFor}
 use Rattle.pua_policy.specs.declared.call.Call.{Call}
 use Rattle.pua_audit.specs.Past.{history_of}
@@ -39,11 +39,11 @@ abbrev pub letters_of : Terms → List (List ℕ)
 letters_of a = map part_bytes a.letters.items
 
 abbrev pub world_in : Terms → World
-world_in a = world_of a.seen.scope.tree standard_table a.base (history_of a.process)
+world_in a = world_of a.seen.tree standard_table a.base (history_of a.process)
 
 -- what is audited
 abbrev pub scope_in : Terms → Scope
-scope_in a = record { tree = a.seen.scope.tree; table = standard_table; history = history_of a.process; base = a.base; alphabet = letters_of a; limit = a.limit }
+scope_in a = record { tree = a.seen.tree; table = standard_table; history = history_of a.process; base = a.base; alphabet = letters_of a; limit = a.limit }
 
 -- the letters at some places of the alphabet
 unfoldable pub word_of : List (List ℕ) → List ℕ → Word
@@ -59,7 +59,7 @@ step_from a x = (world_in a).step (place_of (letters_of a) x)
 
 unfoldable pub found_from : Terms → at.Place → Last → Result Found Errno
 found_from a places.Start mode = Ok (Whole (base_dir a.base (history_of a.process)) (base_way a.base))
-found_from a (places.Below s i) mode = last a.seen.scope.tree s.dir s.used (part_of (get_or (letters_of a) i [])) mode
+found_from a (places.Below s i) mode = last a.seen.tree s.dir s.used (part_of (get_or (letters_of a) i [])) mode
 
 -- one of two, by whether a last part is followed
 abbrev pub by_last : {A : Type 0} → Last → A → A → A
@@ -73,14 +73,14 @@ pub record IsState (t : Tree) (s : State) : Type 0 where
 
 -- the tree is one, the process stands for its history, and the letters are parts
 pub record IsSound (a : Terms) : Type 0 where
-  pub tree : WellFormed a.seen.scope.tree
+  pub tree : WellFormed a.seen.tree
   pub stands : StandsFor a.process (history_of a.process)
   pub parts : AllByRecursion (λ p. part_of (part_bytes p) ≡ p) a.letters.items
 
 -- a place whose directory lives
 abbrev pub IsAt : Terms → at.Place → Type 0
-IsAt a places.Start = IsTrue (is_dir a.seen.scope.tree (base_dir a.base (history_of a.process)))
-IsAt a (places.Below s i) = IsState a.seen.scope.tree s × (i < length a.letters.items)
+IsAt a places.Start = IsTrue (is_dir a.seen.tree (base_dir a.base (history_of a.process)))
+IsAt a (places.Below s i) = IsState a.seen.tree s × (i < length a.letters.items)
 
 abbrev pub word_in : Walk → Word
 word_in a = word_of (letters_of a.terms) a.word.items
@@ -129,7 +129,7 @@ lent Cwd [] = codes "."
 lent Cwd (b ∷ bs) = bs
 
 abbrev pub Frames : Terms → List Frame → Type 0
-Frames a frames = AllByRecursion (λ f. IsState a.seen.scope.tree f.state) frames
+Frames a frames = AllByRecursion (λ f. IsState a.seen.tree f.state) frames
 
 -- each letter of the word has its frame
 pub record IsReady (a : Walk) : Type 0 where
@@ -168,7 +168,7 @@ pub record IsBetween (a : Walk) : Type 0 where
 abbrev pub IsEntered : Walk → Option State → Type 0
 IsEntered a result =
     MatchOption result ((lines_of (trail a) ≡ lines_of (left_over a a.frames.items)) × (length (left_over a a.frames.items) ≤ length (trail a)))
-    (λ s. (length a.word.items < a.terms.limit) × (IsState a.terms.seen.scope.tree s) × (trail a ≡ None ∷ left_over a (a.frames.items ++ record { state = s; next = 0 } ∷ [])))
+    (λ s. (length a.word.items < a.terms.limit) × (IsState a.terms.seen.tree s) × (trail a ≡ None ∷ left_over a (a.frames.items ++ record { state = s; next = 0 } ∷ [])))
 
 -- a call gives the first line, and leaves what is behind it
 abbrev pub IsNextCall : Walk → Option Call → Walk → Type 0

@@ -3,7 +3,7 @@ use Rattle.std.specs.Prelude.{ℕ, zero, suc, ◌-◌, Bool, true, false, cond, 
 use Rattle.pua_policy.specs.Calls.{calls}
 use Rattle.pua_policy.specs.declared.call.Call.{Call}
 use Rattle.pua_audit.specs.Reach.{Word, Pair}
-use Rattle.pua_audit.specs.World.{Place, Start, Below, World}
+use Rattle.pua_audit.specs.World.{Place, Below, World}
 use Rattle.pua_audit.specs.declared.frame.Frame.{Frame}
 use Rattle.pua_audit.specs.declared.state.State.{State}
 

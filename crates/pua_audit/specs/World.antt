@@ -1,5 +1,5 @@
 -- What a walk asks, letter by letter: where a word leads, and which calls are allowed on it.
-use Rattle.std.specs.Prelude.{ℕ, Bool, true, false, not, ◌&&◌, ◌||◌, ◌==◌, if◌then◌else◌, List, [], ◌∷◌, Option, Some, None, Result, Ok, Err, IsTrue, filter, codes}
+use Rattle.std.specs.Prelude.{ℕ, Bool, false, not, ◌&&◌, ◌||◌, List, [], ◌∷◌, Option, Some, None, Result, Ok, Err, filter, codes}
 use Rattle.pua_tree.specs.Tree.{Tree, is_dir}
 use Rattle.pua_tree.specs.Names.{is_name, same_bytes}
 use Rattle.pua_path.specs.Paths.{part_of}
@@ -54,7 +54,7 @@ state_behind t base h (Below s letter) = state_of (step t s.dir s.used (part_of 
 abbrev pub world_of : Tree → CallTable → Base → History → World
 world_of t table base h = record {
   step = state_behind t base h;
-  own = λ place call. is_allowed (verdict_of t table h call (found_at t base h place call))
+  own = λ place call. is_allowed (verdict_of t table h call (found_at t base h place call));
 }
 
 abbrev pub world : Scope → World

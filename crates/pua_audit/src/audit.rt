@@ -7,12 +7,6 @@ ghost use Rattle.pua_policy.specs.History.{History, StandsFor};
 ghost use Rattle.pua_audit.specs.Begin.{Beginning, beginning, still_to_come};
 ghost use Rattle.pua_audit.specs.Lent.{LendsLine};
 
-use std::alloc::Global;
-use std::marker::Model;
-
-use pua_path::Probe;
-use pua_policy::Process;
-
 use crate::base::Base;
 use crate::beginning::{self, Begun};
 use crate::fault::AuditFault;
@@ -20,6 +14,10 @@ use crate::line::Line;
 use crate::path::lent_path;
 use crate::terms::Terms;
 use crate::walk::Walk;
+use pua_path::Probe;
+use pua_policy::Process;
+use std::alloc::Global;
+use std::marker::Model;
 
 /// What a process is allowed in a tree, line by line in order. Contracts see what it is of, and the
 /// pairs that are still to come.
@@ -36,7 +34,7 @@ impl Model for Audit {
     ghost use Rattle.pua_audit.specs.Ready.{trail, IsReady};
     ghost use Rattle.pua_audit.specs.Trail.{lines_of};
 
-    ghost view = { λ a. record { tree = a.walk.terms.seen.scope.tree; base = a.walk.terms.base; left = lines_of (trail a.walk) } };
+    ghost view = { λ a. record { tree = a.walk.terms.seen.tree; base = a.walk.terms.base; left = lines_of (trail a.walk) } };
 
     ghost invariant = { λ a. IsReady a.walk };
 }
@@ -68,8 +66,9 @@ impl Audit {
             beginning (P.tree probe.old) standard_table h base (map (λ s. s.now) candidates.now) limit (option_map (λ s. s.now) after.entry) ≡ Err fault) }
         ensures tree { P.tree probe.new ≡ P.tree probe.old }
     {
-        let Begun { letters, after } =
-            beginning::begin(alloc, probe, base, candidates, limit, after)?;
+        let Begun { letters, after } = beginning::begin(
+            alloc, probe, base, candidates, limit, after,
+        )?;
         let Ok(terms) = Terms::new(alloc, &*probe, process, base, limit, letters) else {
             return Err(AuditFault::OutOfMemory);
         };

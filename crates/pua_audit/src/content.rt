@@ -1,7 +1,7 @@
 //! What contracts alone see of an audit.
 
 ghost use Rattle.std.specs.Prelude.{◌≡◌};
-ghost use Rattle.pua_audit.specs.Seen.{Seen};
+ghost use Rattle.pua_tree.specs.Tree.{Tree};
 ghost use base.Fml.{ftrue};
 
 use std::marker::{Model, PhantomData};
@@ -9,7 +9,7 @@ use std::marker::{Model, PhantomData};
 /// The content of a tree, which contracts alone see. It has no bytes.
 pub struct Content {
     marker: PhantomData<()>,
-    pub ghost scope: { Seen },
+    pub ghost tree: { Tree },
 }
 
 impl Model for Content {
@@ -19,11 +19,13 @@ impl Model for Content {
 impl Content {
     /// What the caller's proof picks.
     pub fn of<T>(x: &T) -> Content
-        ghost scope: { Seen }
-        ensures { result.scope ≡ scope }
+        ghost tree: { Tree }
+        ensures { result.tree ≡ tree }
     {
         let _ = x;
-        Content { marker: PhantomData }
+        Content {
+            marker: PhantomData,
+        }
     }
 }
 

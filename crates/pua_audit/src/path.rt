@@ -3,10 +3,9 @@
 ghost use Rattle.std.specs.Prelude.{◌≡◌, ◌≤◌, ◌+◌, ◌++◌, ◌∷◌, List, ℕ, suc, length, vec_capacity};
 ghost use Rattle.pua_audit.specs.Ready.{part_bytes, lent};
 
-use pua_path::Part;
-
 use crate::alphabet::part_bytes;
 use crate::base::Base;
+use pua_path::Part;
 
 /// Puts a letter at the end of a path, behind a slash.
 pub fn add_letter(path: &mut Vec<u8>, letter: &Part)

@@ -9,14 +9,12 @@ ghost use Rattle.pua_audit.specs.Trail.{lines_of};
 ghost use Rattle.pua_audit.specs.Ready.{scope_in, IsSound, IsReady, IsFresh, letters_of, trail, along_after};
 ghost use Rattle.pua_audit.specs.Starting.{AreLetters, AreSound, pair_in};
 
-use std::alloc::{AllocError, Global};
-
-use pua_path::Probe;
-use pua_policy::Call;
-
 use crate::resume_text::Resumption;
 use crate::terms::Terms;
 use crate::walk::Walk;
+use pua_path::Probe;
+use pua_policy::Call;
+use std::alloc::{AllocError, Global};
 
 impl Walk {
     /// A walk with all pairs of the reach ahead, or with those behind a pair. Where the process has
@@ -27,7 +25,7 @@ impl Walk {
         terms: Terms,
         after: Option<Resumption>,
     ) -> Result<Walk, AllocError>
-        requires tree { P.tree probe.old ≡ terms.seen.scope.tree }
+        requires tree { P.tree probe.old ≡ terms.seen.tree }
         requires sound { IsSound terms }
         requires letters { AreSound terms.limit terms.letters.items }
         requires word { IfSome after (λ r. AreLetters (letters_of terms) terms.limit r.word.items) }
@@ -53,7 +51,7 @@ impl Walk {
     /// the word's calls that come behind the pair's. It ends where no step leads on, since nothing
     /// is allowed on a word that goes on from there.
     pub fn resume<'t, P: Probe<'t>>(&mut self, probe: &mut P, after: &Resumption)
-        requires tree { P.tree probe.old ≡ self.old.terms.seen.scope.tree }
+        requires tree { P.tree probe.old ≡ self.old.terms.seen.tree }
         requires ready { IsReady self.old }
         requires fresh { IsFresh self.old }
         requires rises { Rises name_cmp (letters_of self.old.terms) }

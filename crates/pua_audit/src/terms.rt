@@ -14,18 +14,16 @@ ghost use Rattle.pua_audit.specs.declared.place.Place.TheVariants as places;
 ghost use Rattle.pua_audit.specs.Ready.{scope_in, IsSound, IsAt, IsState, step_from, found_from, by_last, world_in, letters_of, place_of};
 ghost use Rattle.pua_audit.specs.Trail.{allowed_at};
 
-use std::alloc::Global;
-
-use pua_path::{Errno, Found, Last, Part, Probe, Way};
-use pua_policy::{Call, Process, Verdict, judge, needs};
-use pua_tree::{Kind, NodeId, OutOfMemory};
-
 use crate::alphabet::longest;
 use crate::base::Base;
 use crate::content::Content;
 use crate::named::Named;
 use crate::place::Place;
 use crate::state::State;
+use pua_path::{Errno, Found, Last, Part, Probe, Way};
+use pua_policy::{Call, Process, Verdict, judge, needs};
+use pua_tree::{Kind, NodeId, OutOfMemory};
+use std::alloc::Global;
 
 /// What an audit is of: a process, where paths begin, the most letters of a word, and the letters in
 /// the order of their bytes.
@@ -69,7 +67,7 @@ impl Terms {
     /// Whether something may be allowed: the process has not ended, and the directory at the base
     /// was not removed.
     pub fn is_open<'t, P: Probe<'t>>(&self, probe: &mut P) -> bool
-        requires tree { P.tree probe.old ≡ self.now.seen.scope.tree }
+        requires tree { P.tree probe.old ≡ self.now.seen.tree }
         requires sound { IsSound self.now }
         ensures open { result ≡ is_open (scope_in self.now) }
         ensures tree { P.tree probe.new ≡ P.tree probe.old }
@@ -111,11 +109,11 @@ impl Terms {
 
     /// The directory to which a place leads, if words go on from there.
     pub fn step<'t, P: Probe<'t>>(&self, probe: &mut P, place: Place) -> Option<State>
-        requires tree { P.tree probe.old ≡ self.now.seen.scope.tree }
+        requires tree { P.tree probe.old ≡ self.now.seen.tree }
         requires sound { IsSound self.now }
         requires at { IsAt self.now place }
         ensures value { result ≡ step_from self.now place }
-        ensures state { IfSome result (λ s. IsState self.now.seen.scope.tree s) }
+        ensures state { IfSome result (λ s. IsState self.now.seen.tree s) }
         ensures tree { P.tree probe.new ≡ P.tree probe.old }
     {
         match place {
@@ -133,11 +131,11 @@ impl Terms {
         state: State,
         letter: usize,
     ) -> Option<State>
-        requires tree { P.tree probe.old ≡ self.now.seen.scope.tree }
+        requires tree { P.tree probe.old ≡ self.now.seen.tree }
         requires sound { IsSound self.now }
         requires at { IsAt self.now (places.Below state letter) }
         ensures value { result ≡ step_from self.now (places.Below state letter) }
-        ensures state { IfSome result (λ s. IsState self.now.seen.scope.tree s) }
+        ensures state { IfSome result (λ s. IsState self.now.seen.tree s) }
         ensures tree { P.tree probe.new ≡ P.tree probe.old }
     {
         let part = &self.letters[letter];
@@ -152,11 +150,11 @@ impl Terms {
         place: Place,
         mode: Last,
     ) -> Result<Found, Errno>
-        requires tree { P.tree probe.old ≡ self.now.seen.scope.tree }
+        requires tree { P.tree probe.old ≡ self.now.seen.tree }
         requires sound { IsSound self.now }
         requires at { IsAt self.now place }
         ensures value { result ≡ found_from self.now place mode }
-        ensures fits { FoundsFit self.now.seen.scope.tree result }
+        ensures fits { FoundsFit self.now.seen.tree result }
         ensures tree { P.tree probe.new ≡ P.tree probe.old }
     {
         match place {
@@ -175,11 +173,11 @@ impl Terms {
         letter: usize,
         mode: Last,
     ) -> Result<Found, Errno>
-        requires tree { P.tree probe.old ≡ self.now.seen.scope.tree }
+        requires tree { P.tree probe.old ≡ self.now.seen.tree }
         requires sound { IsSound self.now }
         requires at { IsAt self.now (places.Below state letter) }
         ensures value { result ≡ found_from self.now (places.Below state letter) mode }
-        ensures fits { FoundsFit self.now.seen.scope.tree result }
+        ensures fits { FoundsFit self.now.seen.tree result }
         ensures tree { P.tree probe.new ≡ P.tree probe.old }
     {
         let part = &self.letters[letter];
@@ -189,7 +187,7 @@ impl Terms {
     /// The calls that are allowed on a word, in their order, in a list that has room for all: what
     /// the path names with its last part followed and kept is asked once.
     pub fn decide<'t, P: Probe<'t>>(&self, probe: &mut P, place: &Place, calls: &mut Vec<Call>)
-        requires tree { P.tree probe.old ≡ self.now.seen.scope.tree }
+        requires tree { P.tree probe.old ≡ self.now.seen.tree }
         requires sound { IsSound self.now }
         requires at { IsAt self.now place.now }
         requires room { 14 ≤ vec_capacity calls.old }
@@ -208,13 +206,13 @@ impl Terms {
 
     /// What the path of a word names, with its last part followed and kept.
     fn named<'t, P: Probe<'t>>(&self, probe: &mut P, place: &Place) -> Named
-        requires tree { P.tree probe.old ≡ self.now.seen.scope.tree }
+        requires tree { P.tree probe.old ≡ self.now.seen.tree }
         requires sound { IsSound self.now }
         requires at { IsAt self.now place.now }
         ensures followed { result.followed ≡ found_from self.now place.now Last.Followed }
         ensures kept { result.kept ≡ found_from self.now place.now Last.Kept }
-        ensures followed_fits { FoundsFit self.now.seen.scope.tree result.followed }
-        ensures kept_fits { FoundsFit self.now.seen.scope.tree result.kept }
+        ensures followed_fits { FoundsFit self.now.seen.tree result.followed }
+        ensures kept_fits { FoundsFit self.now.seen.tree result.kept }
         ensures tree { P.tree probe.new ≡ P.tree probe.old }
     {
         let followed = self.found(probe, *place, Last::Followed);
@@ -224,11 +222,11 @@ impl Terms {
 
     /// Whether a call is allowed on a path, by what the path names.
     fn allows<'t, P: Probe<'t>>(&self, probe: &mut P, call: Call, named: &Named) -> bool
-        requires tree { P.tree probe.old ≡ self.now.seen.scope.tree }
+        requires tree { P.tree probe.old ≡ self.now.seen.tree }
         requires sound { IsSound self.now }
-        requires followed { FoundsFit self.now.seen.scope.tree named.now.followed }
-        requires kept { FoundsFit self.now.seen.scope.tree named.now.kept }
-        ensures value { result ≡ is_allowed (verdict_of self.now.seen.scope.tree standard_table (history_of self.now.process) call (by_last (last_of call) named.now.followed named.now.kept)) }
+        requires followed { FoundsFit self.now.seen.tree named.now.followed }
+        requires kept { FoundsFit self.now.seen.tree named.now.kept }
+        ensures value { result ≡ is_allowed (verdict_of self.now.seen.tree standard_table (history_of self.now.process) call (by_last (last_of call) named.now.followed named.now.kept)) }
         ensures tree { P.tree probe.new ≡ P.tree probe.old }
     {
         let found = named.by(needs::need(call).last);

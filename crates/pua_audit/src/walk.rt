@@ -6,16 +6,14 @@ ghost use Rattle.pua_audit.specs.Trail.{lines_of};
 ghost use Rattle.pua_audit.specs.declared.place.Place.TheVariants as places;
 ghost use Rattle.pua_audit.specs.Ready.{IsSound, IsAt, letters_of, IsFresh, allowed_here, IsReady, IsBetween, IsSpelled, HasRoom, trail, left_in, left_over, waiting, IsEntered, IsNextCall};
 
-use std::alloc::{AllocError, Global};
-
-use pua_path::Probe;
-use pua_policy::Call;
-
 use crate::frame::Frame;
 use crate::path::{add_letter, drop_letter};
 use crate::place::Place;
 use crate::state::State;
 use crate::terms::Terms;
+use pua_path::Probe;
+use pua_policy::Call;
+use std::alloc::{AllocError, Global};
 
 /// A walk through the words over an alphabet, in their order. It takes no memory but what was
 /// reserved.
@@ -81,7 +79,7 @@ impl Walk {
 
     /// The state behind the word, if it is to be entered.
     fn entrance<'t, P: Probe<'t>>(&self, probe: &mut P) -> Option<State>
-        requires tree { P.tree probe.old ≡ self.now.terms.seen.scope.tree }
+        requires tree { P.tree probe.old ≡ self.now.terms.seen.tree }
         requires ready { IsReady self.now }
         requires given { left_in self.now ≡ [] }
         requires going { self.now.done ≡ false }
@@ -160,7 +158,7 @@ impl Walk {
 
     /// Goes on to the next word, if there is one.
     fn advance<'t, P: Probe<'t>>(&mut self, probe: &mut P) -> bool
-        requires tree { P.tree probe.old ≡ self.old.terms.seen.scope.tree }
+        requires tree { P.tree probe.old ≡ self.old.terms.seen.tree }
         requires ready { IsReady self.old }
         requires given { left_in self.old ≡ [] }
         requires going { self.old.done ≡ false }
@@ -182,7 +180,7 @@ impl Walk {
     }
     /// Decides the calls of the word.
     pub fn decide<'t, P: Probe<'t>>(&mut self, probe: &mut P)
-        requires tree { P.tree probe.old ≡ self.old.terms.seen.scope.tree }
+        requires tree { P.tree probe.old ≡ self.old.terms.seen.tree }
         requires ready { IsReady self.old }
         requires going { self.old.done ≡ false }
         ensures ready { IsReady self.new }
@@ -197,7 +195,7 @@ impl Walk {
 
     /// The call of the next line: its word is the walk's. None where there is none.
     pub fn next_call<'t, P: Probe<'t>>(&mut self, probe: &mut P) -> Option<Call>
-        requires tree { P.tree probe.old ≡ self.old.terms.seen.scope.tree }
+        requires tree { P.tree probe.old ≡ self.old.terms.seen.tree }
         requires ready { IsReady self.old }
         ensures ready { IsReady self.new }
         ensures terms { self.new.terms ≡ self.old.terms }

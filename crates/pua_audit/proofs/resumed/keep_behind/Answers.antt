@@ -1,4 +1,4 @@
-use Rattle.std.proofs.Common.{rules, ◌≡◌, ap, ◌∙◌, filter, nat_lt}
+use Rattle.std.proofs.Common.{rules, ap, ◌∙◌, filter, nat_lt}
 use Rattle.std.proofs.lemmas.Fn.{filter_same}
 use Rattle.pua_policy.specs.Calls.{call_number}
 use Rattle.pua_audit.proofs.resumed.keep_behind.Goals as goal

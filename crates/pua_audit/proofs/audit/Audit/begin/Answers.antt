@@ -1,4 +1,4 @@
-use Rattle.std.proofs.Common.{◌≡◌, rules, List, refl, sym, ap, ◌∙◌, map}
+use Rattle.std.proofs.Common.{◌≡◌, rules, List, ap, ◌∙◌, map}
 use Rattle.std.specs.Prelude.{option_map}
 use Rattle.pua_tree.specs.Tree.{Tree}
 use Rattle.pua_path.specs.declared.found.Part.{Part}
@@ -29,10 +29,14 @@ returns-clause-begun g c = λ h stands.
     let letters : List Part = c.in_ok-letters.field-0.letters.items in
     let b : Beginning = beginning_with t standard_table h base limit c.in_ok-letters.field-0 in
     let past = stands_for_past p c.requires.stands.0 c.requires.stands.1 in
-    let known : c.in-Ok.terms.letters.items ≡ letters = ap (λ v. v.items) c.in-Ok.ensures.letters.1 in
-    (b, (c.in_ok-letters.ensures.begun standard_table h,
-      c.in-Ok-begin.ensures.left
-      ∙ ap (λ (ls : List Part). rest_after (scope_in c.in-Ok.terms) (option_map (pair_in (map part_bytes ls)) after)) known
-      ∙ ap (λ (s : Scope). rest_after s (option_map (pair_in (map part_bytes letters)) after)) c.in-Ok.ensures.scope
-      ∙ ap (λ (u : Tree). rest_after (scope_with u standard_table (history_of p) base limit letters) (option_map (pair_in (map part_bytes letters)) after)) c.in_ok-letters.ensures.tree
-      ∙ rest_by_process t standard_table base (map part_bytes letters) limit p (history_of p) h past stands (option_map (pair_in (map part_bytes letters)) after)))
+    let known : c.in-Ok.terms.letters.items ≡ letters = ap (λ v. v.items) c.in-Ok.ensures.letters.1 in (
+      b,
+      (
+        c.in_ok-letters.ensures.begun standard_table h,
+        c.in-Ok-begin.ensures.left
+            ∙ ap (λ (ls : List Part). rest_after (scope_in c.in-Ok.terms) (option_map (pair_in (map part_bytes ls)) after)) known
+            ∙ ap (λ (s : Scope). rest_after s (option_map (pair_in (map part_bytes letters)) after)) c.in-Ok.ensures.scope
+            ∙ ap (λ (u : Tree). rest_after (scope_with u standard_table (history_of p) base limit letters) (option_map (pair_in (map part_bytes letters)) after)) c.in_ok-letters.ensures.tree
+            ∙ rest_by_process t standard_table base (map part_bytes letters) limit p (history_of p) h past stands (option_map (pair_in (map part_bytes letters)) after),
+      ),
+    )

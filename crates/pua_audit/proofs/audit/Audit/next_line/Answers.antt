@@ -13,7 +13,7 @@ returns g c =
     let word : Word = word_in b in
     let path : c.lent_path-path.result.now ≡ path_of b.terms.base word =
     c.lent_path-path.ensures ∙ ap (lent b.terms.base) (c.as_slice.ensures.value ∙ c.next_call.ensures.ready.spelled.path) ∙ lent_is b.terms.base word in
-    let tree = ap (λ (t : Terms). t.seen.scope.tree) c.next_call.ensures.terms ∙ ap (λ (s : AuditState). s.tree) c.self.view_is in
+    let tree = ap (λ (t : Terms). t.seen.tree) c.next_call.ensures.terms ∙ ap (λ (s : AuditState). s.tree) c.self.view_is in
     let base : b.terms.base ≡ c.args.self.now.base = ap (λ (t : Terms). t.base) c.next_call.ensures.terms ∙ ap (λ (s : AuditState). s.base) c.self.view_is in
     let left = sym (ap (λ (s : AuditState). s.left) c.self.view_is) ∙ c.in_ok-call.ensures.next.1 in
     ((refl, λ _. tt, (tree, base, (word, (path ∙ ap (λ (y : Base). path_of y word) base, left)))), record { rest = tt; tree = c.next_call.ensures.tree })

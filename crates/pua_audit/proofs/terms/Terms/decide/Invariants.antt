@@ -9,5 +9,5 @@ invariant-loop-call g l = record {
   decided : l.calls.items ≡ filter ((world_in l.self).own (place_of (letters_of l.self) l.place)) (take l.call-index calls);
   short : length l.calls.items ≤ l.call-index;
   room : 14 ≤ vec_capacity l.calls;
-  tree : g.P.Probe.tree l.probe ≡ l.self.seen.scope.tree;
+  tree : g.P.Probe.tree l.probe ≡ l.self.seen.tree;
 }

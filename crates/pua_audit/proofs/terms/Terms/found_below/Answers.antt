@@ -13,10 +13,10 @@ returns-clause-value g c =
     let a = c.args.self.now in
     let part : c.index-part.result.now ≡ get_or a.letters.items c.args.letter Dot = grind (arith, common_steps) in
     c.last.ensures.exact ∙ ap (λ t. last t c.args.state.dir c.args.state.used c.index-part.result.now c.args.mode) c.requires.tree
-    ∙ ap (λ p. last a.seen.scope.tree c.args.state.dir c.args.state.used p c.args.mode) (part ∙ sym (letter_part a.letters.items c.args.letter Dot c.requires.sound.parts c.requires.at.1))
+    ∙ ap (λ p. last a.seen.tree c.args.state.dir c.args.state.used p c.args.mode) (part ∙ sym (letter_part a.letters.items c.args.letter Dot c.requires.sound.parts c.requires.at.1))
 
 pub returns-clause-fits : goal.returns-clause-fits
 returns-clause-fits g c =
     let a = c.args.self.now in
-    subst (FoundsFit a.seen.scope.tree) (sym (c.last.ensures.exact ∙ ap (λ t. last t c.args.state.dir c.args.state.used c.index-part.result.now c.args.mode) c.requires.tree))
-    (last_fits a.seen.scope.tree c.requires.sound.tree c.args.state.dir c.args.state.used c.index-part.result.now c.args.mode c.requires.at.0.dir)
+    subst (FoundsFit a.seen.tree) (sym (c.last.ensures.exact ∙ ap (λ t. last t c.args.state.dir c.args.state.used c.index-part.result.now c.args.mode) c.requires.tree))
+    (last_fits a.seen.tree c.requires.sound.tree c.args.state.dir c.args.state.used c.index-part.result.now c.args.mode c.requires.at.0.dir)

@@ -1,4 +1,4 @@
-use Rattle.std.proofs.Common.{◌≡◌, ℕ, Option, Some, ap, sym, ◌∙◌}
+use Rattle.std.proofs.Common.{ℕ, Option, Some, ap, sym, ◌∙◌}
 use Rattle.pua_audit.specs.Ready.{place_of, step_from}
 use Rattle.pua_audit.specs.declared.state.State.{State}
 use Rattle.pua_audit.proofs.terms.Terms.step.Goals as goal

@@ -1,11 +1,10 @@
 use Rattle.std.proofs.Common.{◌≡◌, get_or, ap, sym, ◌∙◌, arith, subst}
 use Rattle.std.specs.Prelude.{IfSome}
 use Rattle.std.proofs.lemmas.Grind.{common_steps}
-use Rattle.pua_path.specs.Paths.{part_of}
 use Rattle.pua_path.specs.Resolution.{step}
 use Rattle.pua_path.specs.declared.found.Part.TheVariants.{Dot}
 use Rattle.pua_audit.specs.World.{state_of}
-use Rattle.pua_audit.specs.Ready.{place_of, letters_of, IsState}
+use Rattle.pua_audit.specs.Ready.{place_of, IsState}
 use Rattle.pua_audit.proofs.Letters.{letter_part, state_fits}
 use Rattle.pua_audit.proofs.terms.Terms.step_below.Goals as goal
 
@@ -15,10 +14,10 @@ returns-clause-value g c =
     let a = c.args.self.now in
     let part : c.index-part.result.now ≡ get_or a.letters.items c.args.letter Dot = grind (arith, common_steps) in
     c.state_of.ensures ∙ ap state_of (c.step-reached.ensures.exact ∙ ap (λ t. step t c.args.state.dir c.args.state.used c.index-part.result.now) c.requires.tree
-    ∙ ap (step a.seen.scope.tree c.args.state.dir c.args.state.used) (part ∙ sym (letter_part a.letters.items c.args.letter Dot c.requires.sound.parts c.requires.at.1)))
+    ∙ ap (step a.seen.tree c.args.state.dir c.args.state.used) (part ∙ sym (letter_part a.letters.items c.args.letter Dot c.requires.sound.parts c.requires.at.1)))
 
 pub returns-clause-state : goal.returns-clause-state
 returns-clause-state g c =
     let a = c.args.self.now in
     let same = c.step-reached.ensures.exact ∙ ap (λ t. step t c.args.state.dir c.args.state.used c.index-part.result.now) c.requires.tree in
-    subst (λ r. IfSome r (λ s. IsState a.seen.scope.tree s)) (sym (c.state_of.ensures ∙ ap state_of same)) (state_fits a.seen.scope.tree c.requires.sound.tree c.args.state.dir c.args.state.used c.index-part.result.now c.requires.at.0.dir)
+    subst (λ r. IfSome r (λ s. IsState a.seen.tree s)) (sym (c.state_of.ensures ∙ ap state_of same)) (state_fits a.seen.tree c.requires.sound.tree c.args.state.dir c.args.state.used c.index-part.result.now c.requires.at.0.dir)

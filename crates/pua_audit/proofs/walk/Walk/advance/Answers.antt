@@ -1,7 +1,7 @@
-use Rattle.std.proofs.Common.{◌≡◌, ◌≤◌, ◌+◌, ◌++◌, ◌∷◌, [], length, ℕ, false, sym, ap, ◌∙◌, arith, None}
+use Rattle.std.proofs.Common.{◌≡◌, ◌++◌, ◌∷◌, [], length, sym, ap, ◌∙◌, arith, None}
 use Rattle.std.proofs.lemmas.Grind.{common_steps}
 use Rattle.pua_audit.specs.Trail.{lines_of, pending, everywhere}
-use Rattle.pua_audit.specs.Ready.{letters_of, world_in, word_of, word_in, trail, left_over, waiting}
+use Rattle.pua_audit.specs.Ready.{letters_of, world_in, word_of, trail, left_over}
 use Rattle.pua_audit.specs.declared.terms.Terms.{Terms}
 use Rattle.pua_audit.proofs.Moves.{shortened_by}
 use Rattle.pua_audit.proofs.walk.Walk.advance.Given.{Over}

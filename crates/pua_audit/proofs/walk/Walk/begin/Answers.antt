@@ -1,9 +1,9 @@
-use Rattle.std.proofs.Common.{◌≡◌, true, false, not, None, Some, refl, sym, ap, ◌∙◌}
+use Rattle.std.proofs.Common.{◌≡◌, true, not, sym, ap, ◌∙◌}
 use Rattle.std.specs.Prelude.{option_map}
 use Rattle.pua_audit.specs.Reach.{rest_after}
 use Rattle.pua_audit.specs.World.{reach_along}
 use Rattle.pua_audit.specs.Trail.{lines_of}
-use Rattle.pua_audit.specs.Ready.{scope_in, letters_of, world_in, along_after, trail}
+use Rattle.pua_audit.specs.Ready.{scope_in, letters_of, world_in, along_after}
 use Rattle.pua_audit.specs.Starting.{pair_in}
 use Rattle.pua_audit.specs.declared.terms.Terms.{Terms}
 use Rattle.pua_audit.proofs.Moves.{nothing_left}

@@ -1,4 +1,4 @@
-use Rattle.std.proofs.Common.{◌≡◌, ℕ, ◌<◌, ◌≤◌, length, Some, None, refl, sym, ◌∙◌, arith, ap, subst}
+use Rattle.std.proofs.Common.{◌≡◌, ◌<◌, ◌≤◌, length, Some, None, refl, sym, ◌∙◌, arith, ap, subst}
 use Rattle.std.specs.Prelude.{IfSome}
 use Rattle.pua_audit.specs.Trail.{lines_of}
 use Rattle.pua_audit.specs.Ready.{letters_of, world_in, word_in, place_in, left_in, IsState, IsEntered}
@@ -23,8 +23,8 @@ returns-clause-ahead g c =
           let f = no_step_by (world_in a.terms) (letters_of a.terms) a.terms.limit a.done (word_in a) (place_in a) (left_in a) a.frames.items c.requires.going c.requires.given below_word (sym c.step.ensures.value ∙ e) in
           (ap lines_of f, omega (arith, ap length f))
       | Some s ↦ λ e. (
-          below,
-          subst (λ r. IfSome r (λ s. IsState a.terms.seen.scope.tree s)) e c.step.ensures.state,
-          opened_by (world_in a.terms) (letters_of a.terms) a.terms.limit a.done (word_in a) (place_in a) (left_in a) a.frames.items c.requires.going s c.requires.given even below_word (sym c.step.ensures.value ∙ e),
-        )
+        below,
+        subst (λ r. IfSome r (λ s. IsState a.terms.seen.tree s)) e c.step.ensures.state,
+        opened_by (world_in a.terms) (letters_of a.terms) a.terms.limit a.done (word_in a) (place_in a) (left_in a) a.frames.items c.requires.going s c.requires.given even below_word (sym c.step.ensures.value ∙ e),
+      )
     ] refl

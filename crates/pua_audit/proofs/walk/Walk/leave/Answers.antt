@@ -1,4 +1,4 @@
-use Rattle.std.proofs.Common.{◌≡◌, ◌∷◌, ◌++◌, [], ℕ, suc, length, get_or, sym, ap, ◌∙◌, arith, length-append}
+use Rattle.std.proofs.Common.{◌≡◌, ◌∷◌, ◌++◌, [], length, get_or, sym, ap, ◌∙◌, arith, length-append}
 use Rattle.pua_audit.specs.Reach.{from_root}
 use Rattle.pua_audit.specs.Ready.{part_bytes, letters_of, word_of}
 use Rattle.pua_audit.proofs.Spelled.{Ends, spelled_end, letter_at}

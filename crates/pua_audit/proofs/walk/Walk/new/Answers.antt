@@ -1,5 +1,5 @@
-use Rattle.std.proofs.Common.{◌≡◌, ◌≤◌, [], length, refl, sym, ap, ◌∙◌, arith, subst}
-use Rattle.pua_audit.specs.Ready.{Frames, HasRoom}
+use Rattle.std.proofs.Common.{length, sym, ap, ◌∙◌, arith, subst}
+use Rattle.pua_audit.specs.Ready.{Frames}
 use Rattle.pua_audit.proofs.Spelled.{spelled_none}
 use Rattle.pua_audit.proofs.walk.Walk.new.Goals as goal
 

@@ -1,4 +1,4 @@
-use Rattle.std.proofs.Common.{◌≡◌, ◌+◌, ◌∷◌, [], Bool, true, false, refl, sym, ap, ◌∙◌}
+use Rattle.std.proofs.Common.{◌≡◌, ◌∷◌, [], true, false, refl, sym, ap, ◌∙◌}
 use Rattle.pua_audit.specs.Trail.{lines_of, ahead, everywhere}
 use Rattle.pua_audit.specs.Ready.{letters_of, world_in, word_in, place_in, left_in, trail}
 use Rattle.pua_audit.specs.declared.walk.Walk.{Walk}

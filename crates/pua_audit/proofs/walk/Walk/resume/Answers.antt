@@ -1,4 +1,4 @@
-use Rattle.std.proofs.Common.{◌≡◌, ℕ, ◌+◌, ◌<◌, ◌≤◌, List, [], ◌∷◌, ◌++◌, false, length, drop, get_or, Some, None, refl, sym, ap, ◌∙◌, arith, subst, filter, nat_lt}
+use Rattle.std.proofs.Common.{◌≡◌, ℕ, ◌+◌, ◌<◌, ◌≤◌, List, [], length, drop, get_or, Some, None, refl, sym, ap, ◌∙◌, arith, subst, filter, nat_lt}
 use Rattle.std.proofs.lemmas.List.{length_push, length-map}
 use Rattle.pua_tree.specs.Tree.{name_cmp}
 use Rattle.pua_policy.specs.Calls.{call_number}
@@ -6,7 +6,7 @@ use Rattle.pua_policy.specs.declared.call.Call.{Call}
 use Rattle.pua_audit.specs.Laws.{Rises}
 use Rattle.pua_audit.specs.Trail.{lines_of, ahead, everywhere}
 use Rattle.pua_audit.specs.Starting.{pair_in}
-use Rattle.pua_audit.specs.Ready.{part_bytes, letters_of, world_in, word_of, place_of, word_in, place_in, left_in, step_from, along_after, IsState, Frames}
+use Rattle.pua_audit.specs.Ready.{part_bytes, letters_of, world_in, word_of, place_of, word_in, place_in, left_in, step_from, along_after}
 use Rattle.pua_audit.specs.declared.terms.Terms.{Terms}
 use Rattle.pua_audit.specs.declared.walk.Walk.{Walk}
 use Rattle.pua_audit.proofs.Entered.{entered_ready}

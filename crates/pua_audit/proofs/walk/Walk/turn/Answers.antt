@@ -1,12 +1,8 @@
-use Rattle.std.proofs.Common.{rules, ◌≡◌, ℕ, ◌+◌, ◌-◌, length-take, ◌<◌, ◌≤◌, length, [], ◌∷◌, ◌++◌, List, None, false, refl, sym, arith, ◌∙◌, ap, drop, subst}
-use Rattle.std.proofs.lemmas.Grind.{common_steps}
+use Rattle.std.proofs.Common.{◌≡◌, ℕ, ◌+◌, ◌-◌, length-take, ◌<◌, ◌≤◌, length, [], ◌∷◌, ◌++◌, false, sym, arith, ◌∙◌, ap, drop, subst}
 use Rattle.std.proofs.lemmas.List.{length_push, length-map}
-use Rattle.pua_path.specs.declared.found.Part.{Part}
-use Rattle.pua_audit.specs.World.{World}
 use Rattle.pua_audit.specs.Trail.{pending, everywhere}
-use Rattle.pua_audit.specs.Ready.{part_bytes, letters_of, world_in, word_of, place_of, IsState, IsSound, IsAt, Frames, left_over, waiting, left_in}
+use Rattle.pua_audit.specs.Ready.{part_bytes, letters_of, world_in, word_of, IsState, IsSound, Frames, left_in}
 use Rattle.pua_audit.specs.declared.terms.Terms.{Terms}
-use Rattle.pua_audit.specs.declared.place.Place.TheVariants as places
 use Rattle.pua_audit.proofs.Entered.{entered_ready}
 use Rattle.pua_audit.proofs.Moves.{taken_by, left_by, none_left, all_front}
 use Rattle.pua_audit.proofs.walk.Walk.turn.Goals as goal
@@ -30,7 +26,7 @@ returns-then-frame-len-clause-ready c =
     let a = c.loop-frame.self in
     let b = c.enter.new.self in
     let split : a.frames.items ≡ c.pop.new.self.items ++ c.in-Some.frame ∷ [] = c.in-Some.ensures.items in
-    let tree = a.terms.seen.scope.tree in
+    let tree = a.terms.seen.tree in
     let parts = all_front (λ f. IsState tree f.state) c.pop.new.self.items c.in-Some.frame (subst (Frames a.terms) split c.loop-frame.invariant.states) in
     let given : left_in b ≡ [] = ap (λ (n : ℕ). drop n b.calls.items) c.enter.ensures.kept.3 ∙ ap (λ v. drop a.given v.items) c.enter.ensures.kept.2 ∙ c.loop-frame.invariant.given in
     let even : length b.frames.items ≡ length b.word.items =
@@ -46,7 +42,7 @@ loop-frame-preserved c =
     let none : length (letters_of a.terms) ≤ c.in-Some.frame.next = omega (arith, length-map a.terms.letters.items part_bytes) in
     let same : b.terms ≡ a.terms = c.leave.ensures.kept.0 in
     let frames : b.frames.items ≡ c.pop.new.self.items = ap (λ v. v.items) c.leave.ensures.kept.4 in
-    let below : Frames a.terms c.pop.new.self.items = (all_front (λ f. IsState a.terms.seen.scope.tree f.state) c.pop.new.self.items c.in-Some.frame (subst (Frames a.terms) split c.loop-frame.invariant.states)).0 in
+    let below : Frames a.terms c.pop.new.self.items = (all_front (λ f. IsState a.terms.seen.tree f.state) c.pop.new.self.items c.in-Some.frame (subst (Frames a.terms) split c.loop-frame.invariant.states)).0 in
     record {
       terms = same ∙ c.loop-frame.invariant.terms;
       sound = subst IsSound (sym same) c.loop-frame.invariant.sound;
@@ -63,7 +59,7 @@ loop-frame-preserved c =
       going = c.leave.ensures.kept.1 ∙ c.loop-frame.invariant.going;
       so_far = c.loop-frame.invariant.so_far
           ∙ left_by (world_in a.terms) (letters_of a.terms) a.terms.limit a.word.items b.word.items a.frames.items c.pop.new.self.items b.frames.items c.in-Some.frame split even none c.leave.ensures.word frames
-          ∙ ap (λ (t : Terms). pending (world_in t) everywhere (letters_of t) t.limit 0 (word_of (letters_of t) b.word.items) b.frames.items) (sym same)
+          ∙ ap (λ (t : Terms). pending (world_in t) everywhere (letters_of t) t.limit 0 (word_of (letters_of t) b.word.items) b.frames.items) (sym same);
     }
 
 pub returns-clause-none : goal.returns-clause-none
