@@ -1,26 +1,20 @@
 -- What a process does, by the effect of what it asks for.
-use Rattle.std.proofs.Common.{◌≡◌, ℕ, List, [], ◌∷◌, false, cond, Option, Some, None, Result, Ok, Err, IfOk, refl, sym, ap, subst, ◌∙◌}
+use Rattle.std.proofs.Common.{◌≡◌, ℕ, List, ◌∷◌, Option, Some, None, Result, Ok, Err, IfOk, refl, sym, subst}
 use Rattle.pua_tree.specs.Tree.{Tree, WellFormed}
-use Rattle.pua_tree.proofs.Spellings.{Err≢Ok}
-use Rattle.pua_path.specs.Paths.{path_fault}
-use Rattle.pua_path.specs.Resolution.{resolution, resolution_of_text}
+use Rattle.pua_path.specs.Resolution.{resolution}
 use Rattle.pua_path.specs.declared.errno.Errno.{Errno}
-use Rattle.pua_path.specs.declared.errno.Errno.TheVariants.{EPERM}
 use Rattle.pua_path.specs.declared.text.Ending.{Ending}
-use Rattle.pua_path.specs.declared.text.Ending.TheVariants as ending
 use Rattle.pua_path.specs.declared.found.Last.{Last}
-use Rattle.pua_path.specs.declared.found.Last.TheVariants.{Followed}
 use Rattle.pua_path.specs.declared.found.Found.{Found}
-use Rattle.pua_policy.specs.Promises.{unveil}
-use Rattle.pua_policy.specs.Verdict.{FoundsFit, place_of}
+use Rattle.pua_policy.specs.Verdict.{FoundsFit}
 use Rattle.pua_policy.proofs.Fits.{resolutions_fit}
-use Rattle.pua_policy.specs.History.{History, ProcessState, StandsFor, Unveiled, is_locked, may_any, unveil_fault, working_dir}
+use Rattle.pua_policy.specs.History.{History, ProcessState, StandsFor, Unveiled, unveil_fault}
+use Rattle.pua_policy.specs.declared.place.Place.{Place}
 use Rattle.pua_policy.specs.declared.answer.May.{May}
 use Rattle.pua_policy.specs.declared.answer.May.TheVariants as may
-use Rattle.pua_policy.specs.declared.place.Place.{Place}
 use Rattle.pua_script.specs.declared.answer.Answer.{Answer}
 use Rattle.pua_script.specs.declared.fault.WorldFault.{WorldFault}
-use Rattle.pua_script.specs.Replay.{World, Effect, Fails, Kills, Leaves, if_promised, on_found, unless, unveil_errno, unveil_request}
+use Rattle.pua_script.specs.Replay.{World, Effect, Kills, Leaves, if_promised, unless, unveil_errno, unveil_request}
 use Rattle.pua_script.specs.Judged.{unveil_on}
 use Rattle.pua_script.specs.Worlds.{Does, Edits}
 
@@ -37,9 +31,11 @@ module _ (t u : Tree) (h : History) (a : Answer) (q : ProcessState) where
   pub as_edit : (e : Effect) → Edits t h e a u → StandsFor q h → Does t h e a u q
   as_edit e edits stands = record { told = edits.told; left = edits.left; stands = subst (StandsFor q) (sym edits.same) stands; alone = edits.alone }
 
--- an unveil of a path, by the effect that puts the veil
-pub unveil_as_judged : (t : Tree) (h : History) (path : List ℕ) (perms : Option ℕ)
-    → unveil_request t h path perms ≡ unveil_on t h path perms (λ place p. unless (unveil_errno (unveil_fault h place p)) (Leaves t (Unveiled place p ∷ h)))
+-- the effect that puts a veil on a place
+abbrev pub veil_put : Tree → History → Place → ℕ → Effect
+veil_put t h place perms = unless (unveil_errno (unveil_fault h place perms)) (Leaves t (Unveiled place perms ∷ h))
+
+pub unveil_as_judged : (t : Tree) (h : History) (path : List ℕ) (perms : Option ℕ) → unveil_request t h path perms ≡ unveil_on t h path perms (veil_put t h)
 unveil_as_judged t h path None = refl
 unveil_as_judged t h path (Some p) = refl
 
@@ -66,15 +62,6 @@ pub all_at : (t : Tree) (before q : ProcessState) (r : Result Answer WorldFault)
     → IfOk r (λ answer. (h : History) (t : Tree) → StandsFor before h → Does t h (e t h) answer t q) → IfOk r (λ answer. (h : History) → StandsFor before h → Does t h (e t h) answer t q)
 all_at t before q (Ok answer) e does = λ h s. does h t s
 all_at t before q (Err fault) e does = tt
-
--- what a text names is of the tree
-pub text_fits : (t : Tree) → WellFormed t → (from : ℕ) (ending : Ending) (text : List ℕ) (mode : Last) (r : Result Found Errno) → r ≡ resolution_of_text t from ending text mode → FoundsFit t r
-text_fits t well from ending text mode (Err errno) is = tt
-text_fits t well from ending text mode (Ok object) is = by (path_fault text) refl
-  where
-    by : (o : Option Errno) → path_fault text ≡ o → FoundsFit t (Ok object)
-    by None e = ((resolutions_fit t well).whole from ending text mode object (sym (rw e at is))).fits
-    by (Some errno) e = absurd (Err≢Ok errno object (sym (rw e at is)))
 
 -- what a path without fault names is of the tree
 pub found_fit : (t : Tree) → WellFormed t → (from : ℕ) (ending : Ending) (text : List ℕ) (mode : Last) (r : Result Found Errno) → r ≡ resolution t from ending text mode → FoundsFit t r

@@ -1,6 +1,6 @@
 //! A rename: what its two paths name, what is wrong with them, and the row that moves.
 
-ghost use Rattle.std.specs.Prelude.{◌≡◌, ◌∷◌, [], ℕ, ◌==◌, Some, IfOk, OnErr, IsOk, IsTrue, false};
+ghost use Rattle.std.specs.Prelude.{◌≡◌, ◌∷◌, [], ℕ, ◌==◌, Some, IfOk, OnErr, IsOk, IsTrue};
 ghost use Rattle.std.specs.List.{list_any};
 ghost use Rattle.pua_tree.specs.Tree.{Spot, is_dir, climb};
 ghost use Rattle.pua_tree.specs.Edits.{shift, is_same_node};
@@ -40,7 +40,6 @@ pub(crate) fn rename<T: FileTree>(
     old: &[u8],
     new: &[u8],
 ) -> Result<Answer, WorldFault>
-    requires { process.old.ended ≡ false }
     ensures exact { IfOk result (λ answer. (h : History) → StandsFor process.old h →
         Does (T.content tree.old) h (on_two_paths (T.content tree.old) h ending.Dropped old.now new.now
         (λ a b. rename_found (T.content tree.old) h a b (node_named a))) answer (T.content tree.new) process.new) }

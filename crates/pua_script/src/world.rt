@@ -72,8 +72,8 @@ impl<T: FileTree> World<T> {
     }
 
     /// Serves one request, and answers it. A process that has ended or was never made is told
-    /// `Gone`; a request that fails changes nothing. `OutOfMemory` where a growth was refused; the world is
-    /// then as it was.
+    /// `Gone`; a request that fails changes nothing. `OutOfMemory` where a growth was refused; the
+    /// world is then as it was.
     pub fn apply(&mut self, request: &Request) -> Result<Answer, WorldFault>
         ensures served { IfOk result (λ answer. IsServed self.old request.now answer self.new) }
         ensures unchanged { OnErr result (self.new ≡ self.old) }
