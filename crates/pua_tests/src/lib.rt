@@ -11,6 +11,7 @@ mod edits;
 mod example;
 #[cfg(test)]
 mod fields;
+mod lent;
 #[cfg(test)]
 mod lines;
 #[cfg(test)]
