@@ -1,5 +1,5 @@
 -- The reach, cut by places: what the trail's lines are.
-use Rattle.std.proofs.Common.{ℕ, zero, suc, ◌-◌, ◌≡◌, List, [], ◌∷◌, ◌++◌, Option, Some, None, Bool, true, false, cond, refl, ap, arith, sym, ◌∙◌, map}
+use Rattle.std.proofs.Common.{ℕ, zero, suc, ◌-◌, ◌≡◌, List, [], ◌∷◌, ◌++◌, Option, Some, None, Bool, true, false, cond, refl, ap, arith, sym, ◌∙◌, map, append-nil}
 use Rattle.std.proofs.lemmas.List.{map-append}
 use Rattle.std.proofs.lemmas.Grind.{flat_map-append}
 use Rattle.std.proofs.lemmas.List.Elements.{filter-append, filter_map-append}
@@ -225,7 +225,3 @@ lines-fresh w live letters limit prunes =
   where
     all : limit - 0 ≡ limit
     all = omega arith
-
-    append-nil : (ps : List Pair) → ps ++ [] ≡ ps
-    append-nil [] = refl
-    append-nil (p ∷ ps) = ap (λ qs. p ∷ qs) (append-nil ps)

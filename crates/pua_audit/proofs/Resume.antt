@@ -1,5 +1,5 @@
 -- What comes after a pair, step by step along its word.
-use Rattle.std.proofs.Common.{ℕ, zero, suc, ◌+◌, ◌-◌, ◌<◌, ◌≡◌, List, [], ◌∷◌, ◌++◌, Some, None, Bool, true, false, cond, refl, ap, arith, sym, ◌∙◌, length, drop, append_assoc, get_or, add-one, length-append}
+use Rattle.std.proofs.Common.{ℕ, zero, suc, ◌+◌, ◌-◌, ◌<◌, ◌≡◌, List, [], ◌∷◌, ◌++◌, Some, None, Bool, true, false, cond, refl, ap, arith, sym, ◌∙◌, length, drop, append_assoc, get_or, add-one, length-append, append-nil}
 use Rattle.std.proofs.lemmas.List.Elements.{filter-append}
 use Rattle.std.specs.Prelude.{flat_map, filter}
 use Rattle.std.specs.List.{AllByRecursion}
@@ -177,10 +177,6 @@ module _ (w : World) (live : ℕ → State → Bool) (letters : List (List ℕ))
     where
       all : limit - 0 ≡ limit
       all = omega arith
-
-      append-nil : (ps : List Pair) → ps ++ [] ≡ ps
-      append-nil [] = refl
-      append-nil (p ∷ ps) = ap (λ qs. p ∷ qs) (append-nil ps)
 
   pub lines-ahead : (word : Word) (x : Place) (left : List Call) (frames : List Frame)
       → lines_of (ahead w live letters limit false word x left frames)

@@ -1,5 +1,5 @@
 -- One step of each definition, as the code meets it.
-use Rattle.std.proofs.Common.{ℕ, zero, suc, ◌+◌, ◌-◌, ◌<◌, ◌≤◌, ◌≡◌, List, [], ◌∷◌, ◌++◌, Some, None, Bool, true, false, refl, ap, arith, sym, ◌∙◌, length, drop, append_assoc, get_or}
+use Rattle.std.proofs.Common.{ℕ, zero, suc, ◌+◌, ◌-◌, ◌<◌, ◌≤◌, ◌≡◌, List, [], ◌∷◌, ◌++◌, Some, None, Bool, true, false, refl, ap, arith, sym, ◌∙◌, length, drop, append_assoc, get_or, append-nil}
 use Rattle.std.proofs.lemmas.List.{map-append, drop_more}
 use Rattle.pua_audit.specs.World.{Place, Below, World}
 use Rattle.pua_audit.specs.declared.frame.Frame.{Frame}
@@ -7,10 +7,6 @@ use Rattle.pua_policy.specs.declared.call.Call.{Call}
 use Rattle.pua_audit.specs.declared.state.State.{State}
 use Rattle.pua_audit.specs.Reach.{Word}
 use Rattle.pua_audit.specs.Trail.{Event, behind, under, under_all, decide, deeper, branches, pending}
-
-append-nil : {A : Type 0} (xs : List A) → xs ++ [] ≡ xs
-append-nil [] = refl
-append-nil (x ∷ xs) = ap (λ ys. x ∷ ys) (append-nil xs)
 
 -- letters in front
 

@@ -1,5 +1,5 @@
 -- What each turn of the code does to what is still to be done.
-use Rattle.std.proofs.Common.{ℕ, suc, ◌+◌, ◌-◌, ◌<◌, ◌≤◌, ◌≡◌, List, [], ◌∷◌, ◌++◌, Option, Some, None, Bool, true, false, refl, ap, arith, sym, ◌∙◌, length, drop, append_assoc, get_or, length-append}
+use Rattle.std.proofs.Common.{ℕ, suc, ◌+◌, ◌-◌, ◌<◌, ◌≤◌, ◌≡◌, List, [], ◌∷◌, ◌++◌, Option, Some, None, Bool, true, false, refl, ap, arith, sym, ◌∙◌, length, drop, append_assoc, get_or, length-append, append-nil}
 use Rattle.std.specs.Prelude.{option_to_list}
 use Rattle.pua_audit.specs.World.{Place, Below, World}
 use Rattle.pua_audit.specs.declared.frame.Frame.{Frame}
@@ -8,10 +8,6 @@ use Rattle.pua_audit.specs.declared.state.State.{State}
 use Rattle.pua_audit.specs.Reach.{Word}
 use Rattle.pua_audit.specs.Trail.{Event, under, under_all, with_calls, allowed_at, decide, deeper, branches, pending, ahead}
 use Rattle.pua_audit.proofs.Steps.{under_all-append, under_all_more, under_all-nil, under_all-look, under_all-line, deeper_end, deeper_none, deeper_live, branches_more, branches_done, pending_push, pending_back}
-
-append-nil : {A : Type 0} (xs : List A) → xs ++ [] ≡ xs
-append-nil [] = refl
-append-nil (x ∷ xs) = ap (λ ys. x ∷ ys) (append-nil xs)
 
 module _ (w : World) (live : ℕ → State → Bool) (letters : List (List ℕ)) (limit : ℕ) where
   -- the deepest frame takes its next letter

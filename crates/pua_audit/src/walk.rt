@@ -178,6 +178,7 @@ impl Walk {
         self.leave();
         self.turn()
     }
+
     /// Decides the calls of the word.
     pub fn decide<'t, P: Probe<'t>>(&mut self, probe: &mut P)
         requires tree { P.tree probe.old ≡ self.old.terms.seen.tree }
