@@ -1,0 +1,68 @@
+#!/bin/sh
+# What the program does where files and outputs fail, which no test can set up: sh devices.sh PROGRAM
+# It prints a line for each case that is not as it has to be, and at last how many were.
+set -u
+program=$(realpath "$1")
+room=$(mktemp -d)
+trap 'rm -rf "$room"' EXIT
+cd "$room" || exit 2
+printf 'tree 1\n0 dir\n' > tree
+: > script
+truncate -s 67108864 longest
+truncate -s 67108865 longer
+wrong=0
+
+# The name of a case, the status that it has to end with, and its fault line; the case's is in `told`.
+expect() {
+    if [ "$status" != "$2" ] || [ "$(cat told)" != "$3" ]; then
+        echo "$1: status $status, $(cat told)"
+        wrong=$((wrong + 1))
+    fi
+}
+
+run() {
+    "$program" "$@" > written 2> told
+    status=$?
+}
+
+run run tree script
+expect 'nothing to do' 0 ''
+run run missing script
+expect 'no such file' 3 'pua: cannot read missing'
+run run tree missing
+expect 'no such script' 3 'pua: cannot read missing'
+run run . script
+expect 'a directory' 3 'pua: cannot read .'
+run run longer script
+expect 'one byte too long' 3 'pua: cannot read longer'
+run run longest script
+expect 'as long as may be' 1 'pua: listing: bad header'
+run run "$(printf '\377')" script
+expect 'a word that is no text' 2 \
+    'pua: usage: pua run TREE SCRIPT; pua audit --limit N [--process P] [--base root|cwd] [--after CALL:PATH] TREE SCRIPT [NAME...]'
+"$program" audit --limit 1 tree script > /dev/full 2> told
+status=$?
+expect 'a full device' 3 'pua: cannot write'
+"$program" audit --limit 1 tree script >&- 2> told
+status=$?
+expect 'a closed output' 3 'pua: cannot write'
+mkfifo pipe
+# (more lines than a pipe holds)
+"$program" audit --limit 16 tree script $(seq -f name%g 1 200) > pipe 2> told &
+head -n 1 < pipe > written
+wait $!
+status=$?
+expect 'a pipe that ends early' 3 'pua: cannot write'
+"$program" --help > /dev/full 2> told
+status=$?
+expect 'help to a full device' 3 'pua: cannot write'
+"$program" run tree script 2> /dev/full > written
+status=$?
+: > told
+expect 'a fault line that is not asked for' 0 ''
+"$program" 2> /dev/full > written
+status=$?
+: > told
+expect 'a fault line that cannot be written' 2 ''
+echo "$wrong wrong"
+[ "$wrong" = 0 ]
