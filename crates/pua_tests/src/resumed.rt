@@ -61,6 +61,18 @@ fn each_line_of_a_veiled_file_is_resumed_after(rt: HostRuntime) -> Result<(), Fa
         &files,
     )?;
     let pairs = behind(text.as_slice(), b"1 ok\n2 ok\nreach 1\n");
+    expect_rests(&rt, rt.alloc(), &files, Base::Root, pairs)
+}
+
+#[test]
+fn each_relative_line_is_resumed_after(rt: HostRuntime) -> Result<(), Fail> {
+    let files = Files {
+        tree: EXAMPLE,
+        script: b"1 chdir /tmp\n1 unveil /tmp rwxc\n",
+    };
+    let words = ["audit", "--limit", "3", "--base", "cwd", "T", "S"];
+    let text = output(&rt, rt.alloc(), &words, &files)?;
+    let pairs = behind(text.as_slice(), b"1 ok\n2 ok\nreach 1\n");
     expect_rests(&rt, rt.alloc(), &files, Base::Cwd, pairs)
 }
 
