@@ -44,7 +44,7 @@ impl Audit {
     /// `limit` letters, each a name of the tree's rows, `..` or a candidate; from its first line, or
     /// from the one behind the pair that a text `CALL:PATH` names. The process is copied, so what
     /// becomes of it later changes nothing. What is to come is the same for each history that the
-    /// process stands for, and there is one.
+    /// process stands for.
     ///
     /// The errors come in the order of `AuditFault`'s page, but that `OutOfMemory` comes wherever a
     /// growth was refused. The resume text is judged also where nothing is allowed at all. Later
@@ -58,7 +58,6 @@ impl Audit {
         limit: u8,
         after: Option<&[u8]>,
     ) -> Result<Audit, AuditFault>
-        requires stands { (h : History) × StandsFor process.now h }
         ensures begun { IfOk result (λ audit. (h : History) → StandsFor process.now h → (b : Beginning) ×
             ((beginning (P.tree probe.old) standard_table h base (map (λ s. s.now) candidates.now) limit (option_map (λ s. s.now) after.entry) ≡ Ok b) × (audit.left ≡ still_to_come b))) }
         ensures of { IfOk result (λ audit. (audit.tree ≡ P.tree probe.old) × (audit.base ≡ base)) }
@@ -66,6 +65,7 @@ impl Audit {
             beginning (P.tree probe.old) standard_table h base (map (λ s. s.now) candidates.now) limit (option_map (λ s. s.now) after.entry) ≡ Err fault) }
         ensures tree { P.tree probe.new ≡ P.tree probe.old }
     {
+        process.known();
         let Begun { letters, after } = beginning::begin(
             alloc, probe, base, candidates, limit, after,
         )?;

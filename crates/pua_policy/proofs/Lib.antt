@@ -9,3 +9,4 @@ pub mod Narrowing
 pub mod Exec
 pub mod Standing
 pub mod Covers
+pub mod Histories

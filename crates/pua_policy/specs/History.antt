@@ -182,3 +182,8 @@ pub record StandsFor (process : ProcessState) (h : History) : Type 0 where
   pub locked : process.locked ≡ is_locked h
   pub dir : process.dir ≡ working_dir h
   pub ended : process.ended ≡ is_ended h
+
+-- what the process keeps is what some history left
+pub record HasHistory (process : ProcessState) : Type 0 where
+  pub history : History
+  pub stands : StandsFor process history

@@ -29,16 +29,18 @@ pub struct Process {
 }
 
 impl Model for Process {
-    ghost use Rattle.pua_policy.specs.History.{ProcessState};
+    ghost use Rattle.pua_policy.specs.History.{ProcessState, HasHistory};
 
     ghost Value = { ProcessState };
 
     ghost view = { λ a. record { promises = a.promises; execpromises = a.execpromises; veils = a.veils.entries; locked = a.locked; dir = a.dir; ended = a.ended } };
+
+    ghost invariant = { λ a. HasHistory (record { promises = a.promises; execpromises = a.execpromises; veils = a.veils.entries; locked = a.locked; dir = a.dir; ended = a.ended }) };
 }
 
 ghost use Rattle.std.specs.Prelude.{◌≡◌, ◌≢◌, ◌-◌, [], ◌∷◌, length, Option, Some, None, Err, IfOk, OnOk, OnErr, IfErr, IfSome, if◌then◌else◌, false, MatchResult, unwrap_or};
 ghost use Rattle.pua_policy.specs.Promises.{all_promises, error};
-ghost use Rattle.pua_policy.specs.History.{History, StandsFor, Pledged, Unveiled, Locked, Moved, Ended, new_history, after_exec, pledge_fault, unveil_fault, place_fault, is_within, narrowed, may_any, is_locked, is_ended, working_dir, veil_at, has_veil};
+ghost use Rattle.pua_policy.specs.History.{History, StandsFor, Pledged, Unveiled, Locked, Moved, Ended, new_history, HasHistory, after_exec, pledge_fault, unveil_fault, place_fault, is_within, narrowed, may_any, is_locked, is_ended, working_dir, veil_at, has_veil};
 
 impl Process {
     /// A new process, in the root: it holds every promise but `error`, and has no veil.
@@ -183,6 +185,14 @@ impl Process {
         };
         self.promises = Some(promises);
         self.execpromises = None;
+    }
+
+    /// Does nothing: its contract says that some history left what the process keeps, so that
+    /// what is promised for each history it stands for is promised for one at least.
+    pub fn known(&self)
+        ensures { HasHistory self.now }
+    {
+        let _ = &self.ended;
     }
 
     /// Whether it may do what needs all of these promises. One that has ended may do nothing.

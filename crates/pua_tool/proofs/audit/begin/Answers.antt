@@ -10,12 +10,6 @@ use Rattle.pua_tool.proofs.Replays.{begun_is, is_made}
 use Rattle.pua_tool.proofs.Pairs.{begins_fit}
 use Rattle.pua_tool.proofs.audit.begin.Goals as goal
 
-pub begin-audit-requires : goal.begin-audit-requires
-begin-audit-requires c κs =
-    let done = c.in_ok-world.ensures.done in
-    let made = is_made c.in-Some.process.now (history_of done.0.world c.args.job.now.process) (c.in-Some.ensures.history done.0.world done.2.stands) in
-    ((refl, tt), (made.history, made.stands))
-
 pub returns-in-Ok-clause-begun : goal.returns-in-Ok-clause-begun
 returns-in-Ok-clause-begun c =
     let w = wanted c.args.job.now in

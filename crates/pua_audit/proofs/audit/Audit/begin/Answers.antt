@@ -15,7 +15,7 @@ use Rattle.pua_audit.proofs.audit.Audit.begin.Goals as goal
 
 pub new-requires : goal.new-requires
 new-requires g c =
-    let past : StandsFor c.args.process.now (history_of c.args.process.now) = stands_for_past c.args.process.now c.requires.stands.0 c.requires.stands.1 in
+    let past : StandsFor c.args.process.now (history_of c.args.process.now) = stands_for_past c.args.process.now c.known.ensures.history c.known.ensures.stands in
     let parts : AreParts c.in_ok-letters.field-0.letters.items = c.in_ok-letters.ensures.sound.sound.parts in
     search rules
 
@@ -28,7 +28,7 @@ returns-clause-begun g c = λ h stands.
     let after = c.in_ok-letters.field-0.after in
     let letters : List Part = c.in_ok-letters.field-0.letters.items in
     let b : Beginning = beginning_with t standard_table h base limit c.in_ok-letters.field-0 in
-    let past = stands_for_past p c.requires.stands.0 c.requires.stands.1 in
+    let past = stands_for_past p c.known.ensures.history c.known.ensures.stands in
     let known : c.in-Ok.terms.letters.items ≡ letters = ap (λ v. v.items) c.in-Ok.ensures.letters.1 in (
       b,
       (

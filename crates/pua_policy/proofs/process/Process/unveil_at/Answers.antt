@@ -1,9 +1,12 @@
-use Rattle.std.proofs.Common.{◌≡◌, ◌∙◌, sym, ap, refl, true, false}
+use Rattle.std.proofs.Common.{◌≡◌, ◌∙◌, ℕ, List, sym, ap, refl, true, false}
 use Rattle.std.specs.Prelude.{Result, Ok, Err, OnOk, OnErr}
 use Rattle.std.specs.Result.{is_err}
+use Rattle.indexmap.specs.IndexMap.{insert_entry}
+use Rattle.pua_policy.specs.declared.place.Place.{Place}
 use Rattle.pua_policy.specs.History.{with_veil, veil_at}
 use Rattle.pua_policy.specs.declared.answer.UnveilFault.TheVariants.{OutOfMemory}
 use Rattle.pua_policy.proofs.Standing.{unveil_fault_by}
+use Rattle.pua_policy.proofs.Histories.{led_by_veil}
 use Rattle.pua_policy.proofs.Places.{same_place-eq}
 use Rattle.pua_policy.proofs.Veils.{with_veil-insert_entry, veil_at-lookup}
 use Rattle.pua_policy.specs.contracts.place.PlacePartialEq.TheImpl.{ghosts}
@@ -25,14 +28,17 @@ pub returns-then-is_err-clause-err : goal.returns-then-is_err-clause-err
 returns-then-is_err-clause-err c =
     λ h s. (λ no. absurd (no refl), λ _. unveil_fault_by c.args.self.now h s c.args.place c.args.perms ∙ sym c.unveil_fault.ensures.fault ∙ c.in_default.is)
 
+-- the veils after an insert that was not refused
+put : {T E : Type 0} (r : Result T E) → is_err r ≡ false → (place : Place) (perms : ℕ) (old new : List (Place × ℕ)) → OnOk r (new ≡ insert_entry ghosts.eq old place perms) → new ≡ with_veil place perms old
+put r well place perms old new is = if_no_err r well is ∙ with_veil-insert_entry ghosts.eq same_place-eq place perms old
+
 pub returns-clause-ok : goal.returns-clause-ok
 returns-clause-ok c = λ h s. (
   unveil_fault_by c.args.self.now h s c.args.place c.args.perms ∙ sym c.unveil_fault.ensures.fault ∙ c.in_default.is,
   record {
     promises = ap (λ p. p.promises) c.self.view_is ∙ s.promises;
     execpromises = ap (λ p. p.execpromises) c.self.view_is ∙ s.execpromises;
-    veils = if_no_err c.insert.result (sym c.is_err.ensures.value ∙ c.if-is_err.false) c.insert.ensures.entries
-        ∙ with_veil-insert_entry ghosts.eq same_place-eq c.args.place c.args.perms c.self.inside.veils.entries
+    veils = put c.insert.result (sym c.is_err.ensures.value ∙ c.if-is_err.false) c.args.place c.args.perms _ _ c.insert.ensures.entries
         ∙ ap (with_veil c.args.place c.args.perms) (ap (λ p. p.veils) c.self.view_is ∙ s.veils);
     locked = ap (λ p. p.locked) c.self.view_is ∙ s.locked;
     dir = ap (λ p. p.dir) c.self.view_is ∙ s.dir;
@@ -48,3 +54,8 @@ returns-then-is_err-clause-memory c = λ _.
     ap (λ p. veil_at p.veils c.args.place) (sym c.self.view_is)
     ∙ sym (veil_at-lookup ghosts.eq same_place-eq c.args.place c.self.inside.veils.entries)
     ∙ if_err c.insert.result (sym c.is_err.ensures.value ∙ c.if-is_err.true) c.insert.ensures.absent
+
+pub invariant_of-self-2 : goal.invariant_of-self-2
+invariant_of-self-2 c =
+    rw (put c.insert.result (sym c.is_err.ensures.value ∙ c.if-is_err.false) c.args.place c.args.perms _ _ c.insert.ensures.entries)
+    (led_by_veil _ c.self.invariant c.args.place c.args.perms)
