@@ -1,6 +1,6 @@
 -- What is replayed and begun, step by step.
 use Rattle.std.proofs.Common.{◌≡◌, ℕ, List, refl, ◌∙◌}
-use Rattle.std.specs.Prelude.{Option, Some, None, Result, Ok, ok_or}
+use Rattle.std.specs.Prelude.{Option, Some, None, Result, Ok, Err, ok_or}
 use Rattle.pua_tree.specs.Tree.{Tree}
 use Rattle.pua_tree.specs.Listing.{listing}
 use Rattle.pua_tree.specs.Steps.{◌>>=◌}
@@ -21,7 +21,22 @@ module _ (table : CallTable) (tree_bytes script_bytes : List ℕ) where
 
   pub replayed_is : (t : Tree) (asks : List Asked) → as_listing (listing tree_bytes) ≡ Ok t → as_script (script script_bytes) ≡ Ok asks
       → replayed table tree_bytes script_bytes ≡ Ok (record { told = answers table (new_world t) asks; world = world_after table (new_world t) asks })
+  unfolding replayed
   replayed_is t asks l s = λ i. l i >>= λ t. s i >>= λ asks. Ok (left_by t asks)
+
+  abbrev served : Tree → Result (List Asked) ToolFault → Result Replayed ToolFault
+  served t requests = requests >>= λ asks. Ok (left_by t asks)
+
+  -- a listing's fault comes first
+  pub listing_refuses : (fault : ToolFault) → as_listing (listing tree_bytes) ≡ Err fault → replayed table tree_bytes script_bytes ≡ Err fault
+  unfolding replayed
+  listing_refuses fault l = λ i. l i >>= λ t. served t (as_script (script script_bytes))
+
+  -- a script's fault comes where the listing has none
+  pub script_refuses : (t : Tree) (fault : ToolFault) → as_listing (listing tree_bytes) ≡ Ok t → as_script (script script_bytes) ≡ Err fault
+      → replayed table tree_bytes script_bytes ≡ Err fault
+  unfolding replayed
+  script_refuses t fault l s = (λ i. l i >>= λ t. served t (as_script (script script_bytes))) ∙ (λ i. served t (s i))
 
   module _ (wanted : Wanted) where
     abbrev begun_with : Replayed → Result Beginning ToolFault → Result Begun ToolFault

@@ -69,7 +69,7 @@ pub record Replayed : Type 0 where
   pub world : World
 
 -- the replay of a script over a listing, or the first fault: the listing's, or the script's
-abbrev pub replayed : CallTable → List ℕ → List ℕ → Result Replayed ToolFault
+unfoldable pub replayed : CallTable → List ℕ → List ℕ → Result Replayed ToolFault
 replayed table tree_bytes script_bytes = do
   t ← as_listing (listing tree_bytes)
   asks ← as_script (script script_bytes)

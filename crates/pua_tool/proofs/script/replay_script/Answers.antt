@@ -1,7 +1,27 @@
+use Rattle.std.proofs.Common.{◌≡◌, ◌≢◌, Err}
+use Rattle.std.proofs.lemmas.Result.{err_from_is_err_and}
 use Rattle.pua_policy.specs.Calls.{standard_table}
 use Rattle.pua_script.specs.Replay.{new_world, answers, world_after}
-use Rattle.pua_tool.proofs.Replays.{replayed_is}
+use Rattle.pua_tool.specs.Texts.{replayed}
+use Rattle.pua_tool.specs.declared.fault.ToolFault.TheVariants.{OutOfMemory}
+use Rattle.pua_tool.proofs.Replays.{replayed_is, listing_refuses, script_refuses}
 use Rattle.pua_tool.proofs.script.replay_script.Goals as goal
+
+pub returns-in_err-tree-clause-refused : goal.returns-in_err-tree-clause-refused
+returns-in_err-tree-clause-refused c =
+    let fault = c.in_err-tree.field-0.0 in
+    let refuses : fault ≢ OutOfMemory → replayed standard_table c.args.tree_bytes.now c.args.script_bytes.now ≡ Err fault = λ other.
+    listing_refuses standard_table c.args.tree_bytes.now c.args.script_bytes.now fault (c.in_err-tree.ensures.refused other) in
+    let p = err_from_is_err_and c.from_residual.result c.from_residual.ensures.1 in
+    rw (p.1, p.2) refuses
+
+pub returns-in_err-script-clause-refused : goal.returns-in_err-script-clause-refused
+returns-in_err-script-clause-refused c =
+    let fault = c.in_err-script.field-0.0 in
+    let refuses : fault ≢ OutOfMemory → replayed standard_table c.args.tree_bytes.now c.args.script_bytes.now ≡ Err fault = λ other.
+    script_refuses standard_table c.args.tree_bytes.now c.args.script_bytes.now c.in_ok-tree.tree fault c.in_ok-tree.ensures.read (c.in_err-script.ensures.refused other) in
+    let p = err_from_is_err_and c.from_residual-in_err-script.result c.from_residual-in_err-script.ensures.1 in
+    rw (p.1, p.2) refuses
 
 pub returns-clause-done : goal.returns-clause-done
 returns-clause-done c =
