@@ -1,10 +1,8 @@
-//! What commands write: help, the forms that words may take, and outputs that fail.
+//! What commands write: help, and outputs that fail.
 
-use crate::told::{Files, ROOT, expect, output};
+use crate::told::{Files, ROOT, output};
 use pua_tool::{MemoryInputs, MemorySink, command};
 use std::test::Fail;
-
-const ROOT_LINES: &[u8] = b"reach 1\n/ stat\n/ lstat\n/ open-r\n/ chmod\n/ chdir\n";
 
 const NO_SCRIPT: Files<'static> = Files {
     tree: ROOT,
@@ -36,22 +34,6 @@ fn help_that_cannot_be_written_is_told(rt: HostRuntime) -> Result<(), Fail> {
     let status = command(rt.alloc(), &["--help"], &mut inputs, &mut out, &mut err);
     assert_eq!(rt; status, 3);
     assert_eq!(rt; err.bytes(), b"pua: cannot write\n".as_slice());
-    Ok(())
-}
-
-#[test]
-fn words_may_take_these_forms(rt: HostRuntime) -> Result<(), Fail> {
-    let forms: [&[&str]; 6] = [
-        &["audit", "--limit=0", "T", "S"],
-        &["audit", "--limit", "+0", "T", "S"],
-        &["audit", "--limit", "00", "T", "S"],
-        &["audit", "T", "--limit", "0", "S"],
-        &["audit", "T", "S", "--limit", "0"],
-        &["audit", "--limit", "0", "--", "T", "S"],
-    ];
-    for words in &forms {
-        expect(&rt, rt.alloc(), words, &NO_SCRIPT, 0, ROOT_LINES, b"")?;
-    }
     Ok(())
 }
 

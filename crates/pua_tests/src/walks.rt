@@ -45,13 +45,13 @@ impl Filter<'_> {
 }
 
 /// A path with one letter more.
-fn extended(alloc: Global, base: Base, path: &[u8], letter: &[u8]) -> Result<Vec<u8>, Fail> {
-    let mut longer = Vec::from_slice(alloc, path)?;
-    if base == Base::Root || !path.is_empty() {
-        longer.push(b'/')?;
-    }
-    longer.extend_from_slice(letter)?;
-    Ok(longer)
+fn extended(alloc: Global, base: Base, path: &str, letter: &str) -> Result<String, Fail> {
+    let slash = if base == Base::Root || !path.is_empty() {
+        "/"
+    } else {
+        ""
+    };
+    Ok(format!(in alloc; "{path}{slash}{letter}")?)
 }
 
 /// The lines of all paths of at most two letters, each path judged by itself.
@@ -60,7 +60,7 @@ fn filtered(
     tree: &ListTree,
     process: &Process,
     base: Base,
-    letters: &[&[u8]],
+    letters: &[&str],
 ) -> Result<Vec<u8>, Fail> {
     let mut filter = Filter {
         tree,
@@ -73,9 +73,9 @@ fn filtered(
         Base::Cwd => b".",
     })?;
     for first in letters {
-        let path = extended(alloc, base, b"", first)?;
-        filter.judge(path.as_slice())?;
-        judge_behind(alloc, &mut filter, base, path.as_slice(), letters)?;
+        let path = extended(alloc, base, "", first)?;
+        filter.judge(path.as_bytes())?;
+        judge_behind(alloc, &mut filter, base, path.as_str(), letters)?;
     }
     Ok(filter.lines)
 }
@@ -84,12 +84,12 @@ fn judge_behind(
     alloc: Global,
     filter: &mut Filter<'_>,
     base: Base,
-    path: &[u8],
-    letters: &[&[u8]],
+    path: &str,
+    letters: &[&str],
 ) -> Result<(), Fail> {
     for letter in letters {
         let longer = extended(alloc, base, path, letter)?;
-        filter.judge(longer.as_slice())?;
+        filter.judge(longer.as_bytes())?;
     }
     Ok(())
 }
@@ -100,7 +100,7 @@ fn expect_same(
     alloc: Global,
     files: &Files<'_>,
     base: Base,
-    letters: &[&[u8]],
+    letters: &[&str],
 ) -> Result<(), Fail> {
     let script = read_script(alloc, files.script)?;
     let mut world = World::new(alloc, read_listing(alloc, files.tree)?)?;
@@ -128,9 +128,7 @@ fn expect_same(
     Ok(())
 }
 
-const EXAMPLE_LETTERS: [&[u8]; 9] = [
-    b"..", b"etc", b"new", b"passwd", b"self", b"sh", b"t", b"tmp", b"up",
-];
+const EXAMPLE_LETTERS: [&str; 9] = ["..", "etc", "new", "passwd", "self", "sh", "t", "tmp", "up"];
 
 #[test]
 fn walks_the_example_as_a_filter_does(rt: HostRuntime) -> Result<(), Fail> {
@@ -153,7 +151,7 @@ fn walks_the_example_as_a_filter_does(rt: HostRuntime) -> Result<(), Fail> {
     Ok(())
 }
 
-const NET_LETTERS: [&[u8]; 6] = [b"..", b"a", b"b", b"c", b"d", b"new"];
+const NET_LETTERS: [&str; 6] = ["..", "a", "", "c", "d", "new"];
 
 #[test]
 fn walks_nets_of_links_as_a_filter_does(rt: HostRuntime) -> Result<(), Fail> {
