@@ -151,7 +151,7 @@ fn walks_the_example_as_a_filter_does(rt: HostRuntime) -> Result<(), Fail> {
     Ok(())
 }
 
-const NET_LETTERS: [&str; 6] = ["..", "a", "", "c", "d", "new"];
+const NET_LETTERS: [&str; 6] = ["..", "a", "b", "c", "d", "new"];
 
 #[test]
 fn walks_nets_of_links_as_a_filter_does(rt: HostRuntime) -> Result<(), Fail> {
