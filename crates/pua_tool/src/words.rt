@@ -79,8 +79,8 @@ fn run_command<'a>(alloc: Global) -> Result<Command<'a>, AllocError> {
     Command::new(alloc, "run")
         .about(help::RUN)
         .after_help(help::RUN_OUTPUT)
-        .arg(operand(alloc, "tree", "TREE", help::TREE))?
-        .arg(operand(alloc, "script", "SCRIPT", help::SCRIPT))
+        .arg(tree(alloc))?
+        .arg(script(alloc))
 }
 
 fn audit_command<'a>(alloc: Global) -> Result<Command<'a>, AllocError> {
@@ -95,43 +95,62 @@ fn audit_command<'a>(alloc: Global) -> Result<Command<'a>, AllocError> {
         .arg(limit(alloc))?
         .arg(process(alloc))?
         .arg(base(alloc))?
-        .arg(option(alloc, "after", "CALL:PATH", help::AFTER))?
-        .arg(operand(alloc, "tree", "TREE", help::TREE))?
-        .arg(operand(alloc, "script", "SCRIPT", help::SCRIPT))?
+        .arg(after(alloc))?
+        .arg(tree(alloc))?
+        .arg(script(alloc))?
         .arg(names)
 }
 
 fn limit<'a>(alloc: Global) -> Arg<'a> {
-    option(alloc, "limit", "N", help::LIMIT)
+    Arg::new(alloc, "limit")
         .required(true)
+        .long("limit")
+        .action(ArgAction::Set)
+        .value_name("N")
+        .help(help::LIMIT)
         .value_parser(value_parser!(u8))
 }
 
 fn process<'a>(alloc: Global) -> Arg<'a> {
-    option(alloc, "process", "P", help::PROCESS)
+    Arg::new(alloc, "process")
+        .long("process")
+        .action(ArgAction::Set)
+        .value_name("P")
+        .help(help::PROCESS)
         .default_value("1")
         .value_parser(value_parser!(u32).range(1..=999_999))
 }
 
 fn base<'a>(alloc: Global) -> Arg<'a> {
-    option(alloc, "base", "BASE", help::BASE)
+    Arg::new(alloc, "base")
+        .long("base")
+        .action(ArgAction::Set)
+        .value_name("BASE")
+        .help(help::BASE)
         .default_value("root")
         .value_parser(["root", "cwd"].as_slice())
 }
 
-fn option<'a>(alloc: Global, name: &'a str, value: &'a str, text: &'a str) -> Arg<'a> {
-    Arg::new(alloc, name)
-        .long(name)
+fn after<'a>(alloc: Global) -> Arg<'a> {
+    Arg::new(alloc, "after")
+        .long("after")
         .action(ArgAction::Set)
-        .value_name(value)
-        .help(text)
+        .value_name("CALL:PATH")
+        .help(help::AFTER)
 }
 
-fn operand<'a>(alloc: Global, name: &'a str, value: &'a str, text: &'a str) -> Arg<'a> {
-    Arg::new(alloc, name)
+fn tree<'a>(alloc: Global) -> Arg<'a> {
+    Arg::new(alloc, "tree")
         .required(true)
-        .value_name(value)
-        .help(text)
+        .value_name("TREE")
+        .help(help::TREE)
+}
+
+fn script<'a>(alloc: Global) -> Arg<'a> {
+    Arg::new(alloc, "script")
+        .required(true)
+        .value_name("SCRIPT")
+        .help(help::SCRIPT)
 }
 
 fn stop_of(alloc: Global, error: &Error) -> Stop {

@@ -1,16 +1,12 @@
-//! Runs a table of commands: each row has the words of one, a listing and a script, and what it
-//! writes on both outputs, with its status. A line is printed for each row that is told otherwise,
-//! and at the end how many there are.
-#![tactic(auto)]
+//! The table of rows: each has the words of a command, a listing and a script, and what it writes on
+//! both outputs, with its status.
 
+use crate::MOST_OUTPUT;
 use anyhow::{Result, anyhow};
 use pua_tool::{MemoryInputs, MemorySink, command};
 use serde::Deserialize;
 use std::alloc::Global;
 use std::fs;
-
-/// How many bytes a command may write.
-const MOST_OUTPUT: usize = 65_536;
 
 /// The rows, in the order of the file.
 #[derive(Drop, Deserialize)]
@@ -30,8 +26,9 @@ struct Row {
     fault: String,
 }
 
-fn main(rt: HostRuntime) -> Result<()> {
-    let text = fs::read_to_string(&rt, "rows.toml")?;
+/// Prints a line for each row that is told otherwise, and then how many rows there are.
+pub(crate) fn run(rt: &HostRuntime) -> Result<()> {
+    let text = fs::read_to_string(rt, "rows.toml")?;
     let table: Table = toml::from_str(rt.alloc(), text.as_str())?;
     for row in &table.row {
         if !is_told(rt.alloc(), row)? {
