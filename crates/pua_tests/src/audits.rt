@@ -1,30 +1,20 @@
 //! Audits of which some lines are known, or how many there are.
 
 use crate::example::EXAMPLE;
-use crate::told::{Files, ROOT, behind, output};
+use crate::paths::chains;
+use crate::told::{Files, ROOT, behind, expect_fault, output};
+use std::alloc::Global;
+use std::process::Abort;
 use std::test::Fail;
 
-#[test]
-fn the_longest_name_fits_three_times(rt: HostRuntime) -> Result<(), Fail> {
-    let alloc = rt.alloc();
-    let mut name = String::new(alloc);
-    for _ in 0..255 {
-        name.push('a')?;
-    }
-    let words = ["audit", "--limit", "3", "T", "S", name.as_str()];
-    let files = Files {
-        tree: ROOT,
-        script: b"1 pledge stdio,cpath -\n",
-    };
-    let text = output(&rt, alloc, &words, &files)?;
-    let words = ["audit", "--limit", "3", "T", "S", "a"];
-    let short = output(&rt, alloc, &words, &files)?;
-    assert_eq!(rt; lines_of(text.as_slice()), lines_of(short.as_slice()));
-    Ok(())
-}
+/// A script over the root, that leaves links and directories to be made.
+const MAKES: Files<'static> = Files {
+    tree: ROOT,
+    script: b"1 pledge stdio,cpath -\n",
+};
 
 #[test]
-fn audits_take_1024_candidates(rt: HostRuntime) -> Result<(), Fail> {
+fn audits_take_1024_candidates_and_no_more(rt: HostRuntime) -> Result<(), Fail> {
     let alloc = rt.alloc();
     let mut names = Vec::new(alloc);
     for number in 0..1024 {
@@ -37,69 +27,85 @@ fn audits_take_1024_candidates(rt: HostRuntime) -> Result<(), Fail> {
     for name in &names {
         words.push(name.as_str())?;
     }
-    let files = Files {
-        tree: ROOT,
-        script: b"1 pledge stdio,cpath -\n",
-    };
-    let text = output(&rt, alloc, words.as_slice(), &files)?;
+    let text = output(&rt, alloc, words.as_slice(), &MAKES)?;
     assert!(rt; text.starts_with(b"1 ok\nreach 1\n/n0000 mkdir\n/n0000 symlink\n/n0001 mkdir\n"));
     assert!(rt; text.ends_with(b"/n1023 mkdir\n/n1023 symlink\n"));
     assert_eq!(rt; lines_of(text.as_slice()), 2 + 2 * 1024);
-    Ok(())
+    expect_too_many(&rt, alloc)
+}
+
+/// Audits with a candidate more.
+fn expect_too_many(rt: &impl Abort, alloc: Global) -> Result<(), Fail> {
+    let mut words = Vec::new(alloc);
+    for word in ["audit", "--limit", "1", "T", "S"] {
+        words.push(word)?;
+    }
+    for _ in 0..1025 {
+        words.push("a")?;
+    }
+    let files = Files {
+        tree: ROOT,
+        script: b"",
+    };
+    let line = b"pua: audit: too many names\n";
+    expect_fault(rt, alloc, words.as_slice(), &files, 65_536, 1, line)
 }
 
 /// How many lines a text has.
 fn lines_of(text: &[u8]) -> usize {
-    text.iter().filter(|byte| **byte == b'\n').count()
+    let mut lines = 0usize;
+    for byte in text {
+        if *byte == b'\n' {
+            lines = lines.saturating_add(1);
+        }
+    }
+    lines
+}
+
+/// How many lines a command writes that tells no fault.
+fn output_lines(
+    rt: &impl Abort,
+    alloc: Global,
+    words: &[&str],
+    files: &Files<'_>,
+) -> Result<usize, Fail> {
+    let text = output(rt, alloc, words, files)?;
+    Ok(lines_of(text.as_slice()))
 }
 
 #[test]
-fn links_used_on_the_way_count(rt: HostRuntime) -> Result<(), Fail> {
+fn lines_are_as_many_as_names_and_links_let(rt: HostRuntime) -> Result<(), Fail> {
     let alloc = rt.alloc();
-    let mut tree = String::new(alloc);
-    tree.push_str("tree 1\n0 dir\n1 dir 0 d\n2 link 0 d1 d\n")?;
-    let mut above = 1;
-    for (row, number) in (3..=21).zip(2..=20) {
-        let line = format!(in alloc; "{row} link 0 d{number} d{above}\n")?;
-        above = number;
-        tree.push_str(line.as_str())?;
+    let mut name = String::new(alloc);
+    for _ in 0..255 {
+        name.push('a')?;
     }
-    above = 1;
-    tree.push_str("22 file 1 f\n23 link 1 g1 f\n")?;
-    for (row, number) in (24..=35).zip(2..=13) {
-        let line = format!(in alloc; "{row} link 1 g{number} g{above}\n")?;
-        above = number;
-        tree.push_str(line.as_str())?;
-    }
+    let words = ["audit", "--limit", "3", "T", "S", name.as_str()];
+    let long = output_lines(&rt, alloc, &words, &MAKES)?;
+    let words = ["audit", "--limit", "3", "T", "S", "a"];
+    assert_eq!(rt; long, output_lines(&rt, alloc, &words, &MAKES)?);
+    let net = Files {
+        tree: b"tree 1\n0 dir\n1 link 0 a b/b\n2 link 0 b a/a\n",
+        script: b"",
+    };
+    let words = ["audit", "--limit", "16", "T", "S"];
+    assert_eq!(rt; output_lines(&rt, alloc, &words, &net)?, 1 + 181);
+    expect_chains(&rt, alloc)
+}
+
+/// Audits chains of links that lead into one another.
+fn expect_chains(rt: &impl Abort, alloc: Global) -> Result<(), Fail> {
+    let tree = chains(alloc)?;
     let files = Files {
         tree: tree.as_bytes(),
         script: b"1 unveil /d/f r\n1 unveil - -\n",
     };
-    let text = output(&rt, alloc, &["audit", "--limit", "2", "T", "S"], &files)?;
-    let heading = b"1 ok\n2 ok\nreach 1\n".as_slice();
-    assert!(rt; text.starts_with(heading));
+    let text = output(rt, alloc, &["audit", "--limit", "2", "T", "S"], &files)?;
+    assert!(rt; text.starts_with(b"1 ok\n2 ok\nreach 1\n"));
     assert_eq!(rt; lines_of(text.as_slice()), 3 + 607);
-    assert!(rt;
-        text.windows(15)
-            .any(|part| part == b"\n/d20/g12 stat\n".as_slice())
-    );
+    let last = b"\n/d20/g12 stat\n".as_slice();
+    assert!(rt; text.windows(15).any(|part| part == last));
     assert!(rt; !text.windows(9).any(|part| part == b"/d20/g13 ".as_slice()));
-    Ok(())
-}
-
-#[test]
-fn nets_of_links_have_few_lines(rt: HostRuntime) -> Result<(), Fail> {
-    let files = Files {
-        tree: b"tree 1\n0 dir\n1 link 0 a b/b\n2 link 0 b a/a\n",
-        script: b"",
-    };
-    let text = output(
-        &rt,
-        rt.alloc(),
-        &["audit", "--limit", "16", "T", "S"],
-        &files,
-    )?;
-    assert_eq!(rt; lines_of(text.as_slice()), 1 + 181);
     Ok(())
 }
 

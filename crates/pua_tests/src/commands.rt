@@ -1,16 +1,19 @@
-//! What commands write: help, and outputs that fail.
+//! What commands write: help, what a sink has room for, and the answers of long scripts.
 
-use crate::told::{Files, ROOT, output};
-use pua_tool::{MemoryInputs, MemorySink, command};
+use crate::told::{Files, ROOT, expect_fault, output};
+use pua_tool::{MemoryInputs, MemorySink, command, run_to};
+use std::alloc::Global;
+use std::process::Abort;
 use std::test::Fail;
 
+/// A root with no script.
 const NO_SCRIPT: Files<'static> = Files {
     tree: ROOT,
     script: b"",
 };
 
 #[test]
-fn helps(rt: HostRuntime) -> Result<(), Fail> {
+fn help_is_written_or_told_of(rt: HostRuntime) -> Result<(), Fail> {
     let asked: [&[&str]; 6] = [
         &["help"],
         &["--help"],
@@ -21,24 +24,14 @@ fn helps(rt: HostRuntime) -> Result<(), Fail> {
     ];
     for words in &asked {
         let text = output(&rt, rt.alloc(), words, &NO_SCRIPT)?;
-        assert!(rt; text.starts_with(b"") && !text.is_empty());
+        assert!(rt; !text.is_empty());
     }
-    Ok(())
+    let line = b"pua: cannot write\n";
+    expect_fault(&rt, rt.alloc(), &["--help"], &NO_SCRIPT, 0, 3, line)
 }
 
 #[test]
-fn help_that_cannot_be_written_is_told(rt: HostRuntime) -> Result<(), Fail> {
-    let mut inputs = MemoryInputs::new(&[]);
-    let mut out = MemorySink::new(rt.alloc(), 0)?;
-    let mut err = MemorySink::new(rt.alloc(), 1024)?;
-    let status = command(rt.alloc(), &["--help"], &mut inputs, &mut out, &mut err);
-    assert_eq!(rt; status, 3);
-    assert_eq!(rt; err.bytes(), b"pua: cannot write\n".as_slice());
-    Ok(())
-}
-
-#[test]
-fn a_full_sink_holds_the_front_of_the_text(rt: HostRuntime) -> Result<(), Fail> {
+fn sinks_hold_the_front_of_the_text(rt: HostRuntime) -> Result<(), Fail> {
     let alloc = rt.alloc();
     let words = ["audit", "--limit", "2", "T", "S", "a"];
     let entries = [("T", ROOT), ("S", b"1 pledge stdio,cpath -\n")];
@@ -53,5 +46,50 @@ fn a_full_sink_holds_the_front_of_the_text(rt: HostRuntime) -> Result<(), Fail> 
         assert_eq!(rt; out.bytes(), &text[..room]);
         assert_eq!(rt; err.bytes().is_empty(), is_whole);
     }
+    expect_behind(&rt, rt.alloc())
+}
+
+/// Runs a script twice into one sink: the answers stand behind what was there.
+fn expect_behind(rt: &impl Abort, alloc: Global) -> Result<(), Fail> {
+    let mut sink = MemorySink::new(alloc, 64)?;
+    for _ in 0..2 {
+        run_to(alloc, ROOT, b"1 stat /\n1 stat /a\n", &mut sink)?;
+    }
+    let text = b"1 ok\n2 ENOENT\n1 ok\n2 ENOENT\n".as_slice();
+    assert_eq!(rt; sink.bytes(), text);
     Ok(())
+}
+
+/// A script of so many times the same line.
+fn repeated(alloc: Global, line: &[u8], times: usize) -> Result<Vec<u8>, Fail> {
+    let mut script = Vec::new(alloc);
+    for _ in 0..times {
+        script.extend_from_slice(line)?;
+    }
+    Ok(script)
+}
+
+#[test]
+fn scripts_of_60000_lines_and_no_more_are_answered(rt: HostRuntime) -> Result<(), Fail> {
+    let alloc = rt.alloc();
+    let script = repeated(alloc, b"1 stat /\n", 60_000)?;
+    let files = Files {
+        tree: ROOT,
+        script: script.as_slice(),
+    };
+    let text = output(&rt, alloc, &["run", "T", "S"], &files)?;
+    assert!(rt; text.starts_with(b"1 ok\n2 ok\n"));
+    assert!(rt; text.ends_with(b"\n59999 ok\n60000 ok\n"));
+    expect_too_long(&rt, alloc)
+}
+
+/// Runs a script of a line more.
+fn expect_too_long(rt: &impl Abort, alloc: Global) -> Result<(), Fail> {
+    let script = repeated(alloc, b"1 exit\n", 60_001)?;
+    let files = Files {
+        tree: ROOT,
+        script: script.as_slice(),
+    };
+    let line = b"pua: script: too many lines\n";
+    expect_fault(rt, alloc, &["run", "T", "S"], &files, 65_536, 1, line)
 }

@@ -2,6 +2,8 @@
 
 use crate::example::EXAMPLE;
 use pua_tree::{FileTree, Kind, ListTree, Name, NodeId, TreeFault, read_listing};
+use std::alloc::Global;
+use std::process::Abort;
 use std::test::Fail;
 
 /// What adding a file under a name answers; None where it is no name.
@@ -36,7 +38,7 @@ fn node(tree: &ListTree, dir: u32, name: &[u8]) -> Option<u32> {
 }
 
 #[test]
-fn numbers_are_given_once(rt: HostRuntime) -> Result<(), Fail> {
+fn numbers_are_given_once_and_targets_kept(rt: HostRuntime) -> Result<(), Fail> {
     let mut tree = read_listing(rt.alloc(), EXAMPLE)?;
     for number in 8..10 {
         assert_eq!(rt; added(&mut tree, 0, b"new"), Some(Ok(NodeId::new(number))));
@@ -44,12 +46,12 @@ fn numbers_are_given_once(rt: HostRuntime) -> Result<(), Fail> {
         assert_eq!(rt; tree.kind(NodeId::new(number)), None);
         assert_eq!(rt; node(&tree, 0, b"new"), None);
     }
-    Ok(())
+    expect_target(&rt, rt.alloc())
 }
 
-#[test]
-fn links_keep_their_targets(rt: HostRuntime) -> Result<(), Fail> {
-    let mut tree = read_listing(rt.alloc(), EXAMPLE)?;
+/// Adds a link, and looks for its target.
+fn expect_target(rt: &impl Abort, alloc: Global) -> Result<(), Fail> {
+    let mut tree = read_listing(alloc, EXAMPLE)?;
     let name = Name::read(b"new")?;
     let node = tree.add(NodeId::new(3), name, Kind::Link, Some(b"sh"))?;
     assert_eq!(rt; node, NodeId::new(8));
@@ -58,13 +60,21 @@ fn links_keep_their_targets(rt: HostRuntime) -> Result<(), Fail> {
 }
 
 #[test]
-fn directories_are_moved(rt: HostRuntime) -> Result<(), Fail> {
+fn nodes_are_moved_and_displace_others(rt: HostRuntime) -> Result<(), Fail> {
     let mut tree = read_listing(rt.alloc(), EXAMPLE)?;
+    assert_eq!(rt; shifted(&mut tree, 3, b"sh", 1, b"passwd"), Some(Ok(())));
+    assert_eq!(rt; node(&tree, 1, b"passwd"), Some(7));
+    assert_eq!(rt; node(&tree, 3, b"sh"), None);
+    assert_eq!(rt; tree.kind(NodeId::new(2)), None);
+    expect_moved_dir(&rt, rt.alloc())
+}
+
+/// Moves a directory to where a link stands.
+fn expect_moved_dir(rt: &impl Abort, alloc: Global) -> Result<(), Fail> {
+    let mut tree = read_listing(alloc, EXAMPLE)?;
     let name = Name::read(b"new")?;
-    assert_eq!(rt;
-        tree.add(NodeId::new(1), name, Kind::Dir, None),
-        Ok(NodeId::new(8))
-    );
+    let dir = tree.add(NodeId::new(1), name, Kind::Dir, None)?;
+    assert_eq!(rt; dir, NodeId::new(8));
     assert_eq!(rt; shifted(&mut tree, 1, b"new", 3, b"up"), Some(Ok(())));
     assert_eq!(rt; node(&tree, 3, b"up"), Some(8));
     assert_eq!(rt; tree.parent(NodeId::new(8)), Some(NodeId::new(3)));
@@ -73,17 +83,7 @@ fn directories_are_moved(rt: HostRuntime) -> Result<(), Fail> {
 }
 
 #[test]
-fn a_moved_file_displaces_another(rt: HostRuntime) -> Result<(), Fail> {
-    let mut tree = read_listing(rt.alloc(), EXAMPLE)?;
-    assert_eq!(rt; shifted(&mut tree, 3, b"sh", 1, b"passwd"), Some(Ok(())));
-    assert_eq!(rt; node(&tree, 1, b"passwd"), Some(7));
-    assert_eq!(rt; node(&tree, 3, b"sh"), None);
-    assert_eq!(rt; tree.kind(NodeId::new(2)), None);
-    Ok(())
-}
-
-#[test]
-fn additions_are_refused(rt: HostRuntime) -> Result<(), Fail> {
+fn edits_are_refused(rt: HostRuntime) -> Result<(), Fail> {
     let mut tree = read_listing(rt.alloc(), EXAMPLE)?;
     for (dir, name, fault) in [
         (2, b"new".as_slice(), TreeFault::NotDir),
@@ -91,12 +91,6 @@ fn additions_are_refused(rt: HostRuntime) -> Result<(), Fail> {
     ] {
         assert_eq!(rt; added(&mut tree, dir, name), Some(Err(fault)), "{name:?}");
     }
-    Ok(())
-}
-
-#[test]
-fn cuts_are_refused(rt: HostRuntime) -> Result<(), Fail> {
-    let mut tree = read_listing(rt.alloc(), EXAMPLE)?;
     for (dir, name, fault) in [
         (2, b"new".as_slice(), TreeFault::NotDir),
         (0, b"new", TreeFault::Missing),
@@ -105,12 +99,12 @@ fn cuts_are_refused(rt: HostRuntime) -> Result<(), Fail> {
         assert_eq!(rt; cut(&mut tree, dir, name), Some(Err(fault)), "{name:?}");
     }
     assert_eq!(rt; node(&tree, 0, b"tmp"), Some(3));
-    Ok(())
+    expect_moves_refused(&rt, rt.alloc())
 }
 
-#[test]
-fn moves_are_refused(rt: HostRuntime) -> Result<(), Fail> {
-    let mut tree = read_listing(rt.alloc(), EXAMPLE)?;
+/// Moves what cannot be moved, and what stands there already.
+fn expect_moves_refused(rt: &impl Abort, alloc: Global) -> Result<(), Fail> {
+    let mut tree = read_listing(alloc, EXAMPLE)?;
     for (name, to, new_name, answer) in [
         (
             b"tmp".as_slice(),

@@ -3,7 +3,7 @@
 use pua_tree::{Fields, is_field, number_within, split_field};
 
 #[test]
-fn lines_are_read_as_their_fields(rt: HostRuntime) {
+fn fields_stand_between_single_spaces(rt: HostRuntime) {
     let fields = Fields::read(b"4 link 0 t ../tmp");
     assert!(rt; fields.is_some());
     if let Some(fields) = fields {
@@ -16,20 +16,12 @@ fn lines_are_read_as_their_fields(rt: HostRuntime) {
             assert_eq!(rt; *field, want);
         }
     }
-}
-
-#[test]
-fn fields_stand_between_single_spaces(rt: HostRuntime) {
     for line in [b"".as_slice(), b"1 dir  0 a", b" 1", b"1 ", b"1\t2"] {
         assert!(rt; Fields::read(line).is_none(), "{line:?}");
     }
     assert!(rt; is_field(b"a!~"));
     assert!(rt; !is_field(b""));
     assert!(rt; !is_field(b"\x7f"));
-}
-
-#[test]
-fn the_first_field_ends_at_the_first_space(rt: HostRuntime) {
     let (first, rest) = split_field(b"1 dir 0");
     assert_eq!(rt; first, b"1".as_slice());
     assert!(rt; rest == Some(b"dir 0".as_slice()));

@@ -27,11 +27,7 @@ mod processes;
 #[cfg(test)]
 mod readings;
 #[cfg(test)]
-mod refusals;
-#[cfg(test)]
 mod resumed;
-#[cfg(test)]
-mod runs;
 #[cfg(test)]
 mod steps;
 #[cfg(test)]

@@ -3,32 +3,46 @@
 use crate::lent::{begun, lines_of};
 use crate::told::ROOT;
 use pua_audit::{AuditFault, Base};
-use pua_tree::read_listing;
+use pua_tree::{ListTree, read_listing};
+use std::alloc::Global;
+use std::process::Abort;
 use std::test::Fail;
 
-#[test]
-fn lines_are_lent_in_order(rt: HostRuntime) -> Result<(), Fail> {
-    let tree = read_listing(rt.alloc(), ROOT)?;
-    let mut audit = begun(rt.alloc(), &tree, Base::Root, 1, Some(b"stat:/.."))?;
-    let lines = lines_of(rt.alloc(), &tree, &mut audit)?;
-    assert_eq!(rt;
-        lines.as_slice(),
-        b"/.. lstat\n/.. open-r\n/.. chmod\n/.. chdir\n/a b create\n/a b mkdir\n/a b symlink\n".as_slice()
-    );
-    // none is left, and none comes again
-    assert!(rt; lines_of(rt.alloc(), &tree, &mut audit)?.is_empty());
-    Ok(())
+/// All lines of an audit, of which none comes again.
+fn lent(
+    rt: &impl Abort,
+    alloc: Global,
+    tree: &ListTree,
+    base: Base,
+    limit: u8,
+    after: Option<&[u8]>,
+) -> Result<Vec<u8>, Fail> {
+    let mut audit = begun(alloc, tree, base, limit, after)?;
+    let lines = lines_of(alloc, tree, &mut audit)?;
+    assert!(rt; lines_of(alloc, tree, &mut audit)?.is_empty());
+    Ok(lines)
 }
 
 #[test]
-fn relative_lines_begin_with_a_dot(rt: HostRuntime) -> Result<(), Fail> {
+fn lines_are_lent_in_order_and_once(rt: HostRuntime) -> Result<(), Fail> {
     let tree = read_listing(rt.alloc(), ROOT)?;
-    let mut audit = begun(rt.alloc(), &tree, Base::Cwd, 0, None)?;
-    let lines = lines_of(rt.alloc(), &tree, &mut audit)?;
-    assert_eq!(rt;
-        lines.as_slice(),
-        b". stat\n. lstat\n. open-r\n. chmod\n. chdir\n".as_slice()
-    );
+    for (base, limit, after, want) in [
+        (
+            Base::Root,
+            1,
+            Some(b"stat:/..".as_slice()),
+            b"/.. lstat\n/.. open-r\n/.. chmod\n/.. chdir\n/a b create\n/a b mkdir\n/a b symlink\n".as_slice(),
+        ),
+        (
+            Base::Cwd,
+            0,
+            None,
+            b". stat\n. lstat\n. open-r\n. chmod\n. chdir\n",
+        ),
+    ] {
+        let lines = lent(&rt, rt.alloc(), &tree, base, limit, after)?;
+        assert_eq!(rt; lines.as_slice(), want);
+    }
     Ok(())
 }
 

@@ -3,49 +3,38 @@
 use crate::example::{EXAMPLE, found, slot, whole};
 use pua_path::{Counted, Ending, Errno, Last, PathText, Way, resolve};
 use pua_tree::{ListTree, Name, NodeId, read_listing};
+use std::alloc::Global;
 use std::test::Fail;
 
 #[test]
-fn finds_directories(rt: HostRuntime) -> Result<(), Fail> {
+fn paths_name_directories_and_slots_or_nothing(rt: HostRuntime) -> Result<(), Fail> {
     let tree = read_listing(rt.alloc(), EXAMPLE)?;
-    let named_tmp = Way::Named {
-        parent: NodeId::ROOT,
-        name: Name::read(b"tmp")?,
-    };
-    for (text, mode, dir, way) in [
-        (b"/".as_slice(), Last::Followed, 0, Way::Top),
-        (b"/t", Last::Followed, 3, named_tmp),
-        (b"/t/", Last::Kept, 3, Way::Dot),
-        (b"/tmp/up/..", Last::Followed, 0, Way::DotDot),
+    let parent = NodeId::ROOT;
+    let name = Name::read(b"tmp")?;
+    let tmp = whole(3, Way::Named { parent, name });
+    let passwd = slot(1, b"passwd", Some(2));
+    for (text, ending, mode, want) in [
+        (
+            b"/".as_slice(),
+            Ending::Dot,
+            Last::Followed,
+            whole(0, Way::Top),
+        ),
+        (b"/t", Ending::Dot, Last::Followed, tmp),
+        (b"/t/", Ending::Dot, Last::Kept, whole(3, Way::Dot)),
+        (
+            b"/tmp/up/..",
+            Ending::Dot,
+            Last::Followed,
+            whole(0, Way::DotDot),
+        ),
+        (b"/t", Ending::Dot, Last::Kept, slot(0, b"t", Some(4))),
+        (b"/t/", Ending::Dropped, Last::Kept, slot(0, b"t", Some(4))),
+        (b"/etc/passwd", Ending::Dot, Last::Kept, passwd),
+        (b"/tmp/up/x", Ending::Dot, Last::Kept, slot(1, b"x", None)),
     ] {
-        assert!(rt;
-            Some(found(&tree, text, Ending::Dot, mode)) == whole(dir, way),
-            "{text:?}"
-        );
+        assert!(rt; Some(found(&tree, text, ending, mode)) == want, "{text:?}");
     }
-    Ok(())
-}
-
-#[test]
-fn finds_names(rt: HostRuntime) -> Result<(), Fail> {
-    let tree = read_listing(rt.alloc(), EXAMPLE)?;
-    for (text, ending, want) in [
-        (b"/t".as_slice(), Ending::Dot, slot(0, b"t", Some(4))),
-        (b"/t/", Ending::Dropped, slot(0, b"t", Some(4))),
-        (b"/etc/passwd", Ending::Dot, slot(1, b"passwd", Some(2))),
-        (b"/tmp/up/x", Ending::Dot, slot(1, b"x", None)),
-    ] {
-        assert!(rt;
-            Some(found(&tree, text, ending, Last::Kept)) == want,
-            "{text:?}"
-        );
-    }
-    Ok(())
-}
-
-#[test]
-fn tells_why_nothing_is_named(rt: HostRuntime) -> Result<(), Fail> {
-    let tree = read_listing(rt.alloc(), EXAMPLE)?;
     for (text, errno) in [
         (b"/etc/passwd/x".as_slice(), Errno::ENOTDIR),
         (b"/no/x", Errno::ENOENT),
@@ -58,7 +47,7 @@ fn tells_why_nothing_is_named(rt: HostRuntime) -> Result<(), Fail> {
 }
 
 #[test]
-fn needs_a_directory_for_a_relative_path_alone(rt: HostRuntime) -> Result<(), Fail> {
+fn relative_paths_alone_need_a_directory(rt: HostRuntime) -> Result<(), Fail> {
     let tree = read_listing(rt.alloc(), EXAMPLE)?;
     let relative = PathText::read(b"tmp", Ending::Dot)?;
     let absolute = PathText::read(b"/..", Ending::Dot)?;
@@ -81,22 +70,10 @@ fn refusal(tree: &ListTree, text: &[u8], mode: Last) -> Option<Errno> {
     }
 }
 
-#[test]
-fn follows_32_links_and_no_more(rt: HostRuntime) -> Result<(), Fail> {
-    let mut text = String::from_str(rt.alloc(), "tree 1\n0 dir\n1 file 0 f\n2 link 0 a1 f\n")?;
-    for number in 2u32..34 {
-        writeln!(text, "{} link 0 a{number} a{}", number + 1, number - 1)?;
-    }
-    let tree = read_listing(rt.alloc(), text.as_bytes())?;
-    for (path, fault) in [(b"/a32".as_slice(), None), (b"/a33", Some(Errno::ELOOP))] {
-        assert_eq!(rt; refusal(&tree, path, Last::Followed), fault, "{path:?}");
-    }
-    Ok(())
-}
-
-#[test]
-fn counts_the_links_of_a_whole_path(rt: HostRuntime) -> Result<(), Fail> {
-    let mut text = String::from_str(rt.alloc(), "tree 1\n0 dir\n1 dir 0 d\n2 link 0 d1 d\n")?;
+/// A listing of a directory with 20 links to it, and in it a file with 13 links to it: each link
+/// leads to the one before.
+pub(crate) fn chains(alloc: Global) -> Result<String, Fail> {
+    let mut text = String::from_str(alloc, "tree 1\n0 dir\n1 dir 0 d\n2 link 0 d1 d\n")?;
     for number in 2u32..21 {
         writeln!(text, "{} link 0 d{number} d{}", number + 1, number - 1)?;
     }
@@ -104,7 +81,25 @@ fn counts_the_links_of_a_whole_path(rt: HostRuntime) -> Result<(), Fail> {
     for number in 2u32..14 {
         writeln!(text, "{} link 1 g{number} g{}", number + 22, number - 1)?;
     }
-    let tree = read_listing(rt.alloc(), text.as_bytes())?;
+    Ok(text)
+}
+
+/// A listing of a file with 33 links to it, each of which leads to the one before.
+fn chain(alloc: Global) -> Result<String, Fail> {
+    let mut text = String::from_str(alloc, "tree 1\n0 dir\n1 file 0 f\n2 link 0 a1 f\n")?;
+    for number in 2u32..34 {
+        writeln!(text, "{} link 0 a{number} a{}", number + 1, number - 1)?;
+    }
+    Ok(text)
+}
+
+#[test]
+fn paths_follow_32_links_and_no_more(rt: HostRuntime) -> Result<(), Fail> {
+    let tree = read_listing(rt.alloc(), chain(rt.alloc())?.as_bytes())?;
+    for (path, fault) in [(b"/a32".as_slice(), None), (b"/a33", Some(Errno::ELOOP))] {
+        assert_eq!(rt; refusal(&tree, path, Last::Followed), fault, "{path:?}");
+    }
+    let tree = read_listing(rt.alloc(), chains(rt.alloc())?.as_bytes())?;
     for (path, mode, fault) in [
         (b"/d20/g13".as_slice(), Last::Followed, Some(Errno::ELOOP)),
         (b"/d/g13", Last::Followed, None),
@@ -117,7 +112,7 @@ fn counts_the_links_of_a_whole_path(rt: HostRuntime) -> Result<(), Fail> {
 }
 
 #[test]
-fn resolves_long_targets_and_their_last_slash(rt: HostRuntime) -> Result<(), Fail> {
+fn long_targets_and_their_last_slash_are_resolved(rt: HostRuntime) -> Result<(), Fail> {
     let mut text = String::from_str(
         rt.alloc(),
         "tree 1\n0 dir\n1 file 0 f\n2 link 0 g f/\n3 link 0 l .",
@@ -134,22 +129,24 @@ fn resolves_long_targets_and_their_last_slash(rt: HostRuntime) -> Result<(), Fai
     Ok(())
 }
 
-fn fault(text: &[u8]) -> Option<Errno> {
-    PathText::read(text, Ending::Dot).err()
-}
-
 #[test]
-fn refuses_what_is_no_path(rt: HostRuntime) {
-    let long = [b'a'; 256];
-    assert_eq!(rt; fault(&long), Some(Errno::ENAMETOOLONG));
-    assert_eq!(rt; fault(&long[1..]), None);
-    assert_eq!(rt; fault(b""), Some(Errno::ENOENT));
-    assert_eq!(rt; fault(b"a\0b"), Some(Errno::EINVAL));
-}
-
-#[test]
-fn paths_have_at_most_1023_bytes(rt: HostRuntime) {
+fn path_texts_are_bounded_and_kept(rt: HostRuntime) -> Result<(), Fail> {
+    let letters = [b'a'; 256];
     let slashes = [b'/'; 1024];
-    assert_eq!(rt; fault(&slashes[..1023]), None);
-    assert_eq!(rt; fault(&slashes), Some(Errno::ENAMETOOLONG));
+    for (text, fault) in [
+        (letters.as_slice(), Some(Errno::ENAMETOOLONG)),
+        (&letters[1..], None),
+        (b"", Some(Errno::ENOENT)),
+        (b"a\0b", Some(Errno::EINVAL)),
+        (&slashes[..1023], None),
+        (&slashes, Some(Errno::ENAMETOOLONG)),
+    ] {
+        assert_eq!(rt; PathText::read(text, Ending::Dot).err(), fault);
+    }
+    for ending in [Ending::Dot, Ending::Dropped] {
+        let text = PathText::read(b"a//b/", ending)?;
+        assert_eq!(rt; text.bytes(), b"a//b/".as_slice());
+        assert_eq!(rt; text.ending(), ending);
+    }
+    Ok(())
 }

@@ -3,10 +3,12 @@
 use pua_path::Errno;
 use pua_policy::{May, Perms, Place, Process, Promises, UnveilFault};
 use pua_tree::NodeId;
+use std::alloc::Global;
+use std::process::Abort;
 use std::test::Fail;
 
 #[test]
-fn narrows_under_error(rt: HostRuntime) -> Result<(), Fail> {
+fn promises_narrow_and_are_missed(rt: HostRuntime) -> Result<(), Fail> {
     let mut process = Process::new(rt.alloc())?;
     let more = Promises::RPATH.union(Promises::WPATH);
     let with_error = Promises::RPATH.union(Promises::ERROR);
@@ -20,12 +22,12 @@ fn narrows_under_error(rt: HostRuntime) -> Result<(), Fail> {
     }
     assert_eq!(rt; process.may(Promises::WPATH), May::Death);
     assert_eq!(rt; process.may(Promises::RPATH), May::Yes);
-    Ok(())
+    expect_missed(&rt, rt.alloc())
 }
 
-#[test]
-fn fails_or_dies_for_want_of_promises(rt: HostRuntime) -> Result<(), Fail> {
-    let mut process = Process::new(rt.alloc())?;
+/// Asks a new process for what it may do, with all promises and with `error` alone.
+fn expect_missed(rt: &impl Abort, alloc: Global) -> Result<(), Fail> {
+    let mut process = Process::new(alloc)?;
     assert_eq!(rt; process.may(Promises::ERROR), May::Death);
     process.pledge(Some(Promises::ERROR), None)?;
     assert_eq!(rt; process.may(Promises::WPATH), May::Enosys);
@@ -38,7 +40,7 @@ fn place(number: u32) -> Place {
 }
 
 #[test]
-fn keeps_128_places(rt: HostRuntime) -> Result<(), Fail> {
+fn veils_are_at_most_128_and_none_once_locked(rt: HostRuntime) -> Result<(), Fail> {
     let mut process = Process::new(rt.alloc())?;
     for number in 1..=128 {
         assert_eq!(rt; process.unveil_at(place(number), Perms::READ), Ok(()));
@@ -50,12 +52,12 @@ fn keeps_128_places(rt: HostRuntime) -> Result<(), Fail> {
     ] {
         assert_eq!(rt; process.unveil_at(place(number), perms), want);
     }
-    Ok(())
+    expect_locked(&rt, rt.alloc())
 }
 
-#[test]
-fn takes_no_veil_once_locked(rt: HostRuntime) -> Result<(), Fail> {
-    let mut process = Process::new(rt.alloc())?;
+/// Locks the veils of a new process.
+fn expect_locked(rt: &impl Abort, alloc: Global) -> Result<(), Fail> {
+    let mut process = Process::new(alloc)?;
     assert!(rt; !process.locked());
     process.lock();
     assert!(rt; process.locked());
@@ -66,8 +68,8 @@ fn takes_no_veil_once_locked(rt: HostRuntime) -> Result<(), Fail> {
 
 /// A process that may read, has no promise but `error` for a next program, reads from the root on,
 /// takes no further veil, and stands in directory 7.
-fn confined(rt: &HostRuntime) -> Result<Process, Fail> {
-    let mut process = Process::new(rt.alloc())?;
+fn confined(alloc: Global) -> Result<Process, Fail> {
+    let mut process = Process::new(alloc)?;
     process.pledge(Some(Promises::RPATH), Some(Promises::ERROR))?;
     process.unveil_at(Place::Dir(NodeId::ROOT), Perms::READ)?;
     process.lock();
@@ -76,8 +78,8 @@ fn confined(rt: &HostRuntime) -> Result<Process, Fail> {
 }
 
 #[test]
-fn forks_and_ends(rt: HostRuntime) -> Result<(), Fail> {
-    let process = confined(&rt)?;
+fn processes_fork_and_end_and_become_other_programs(rt: HostRuntime) -> Result<(), Fail> {
+    let process = confined(rt.alloc())?;
     let mut copy = process.fork(rt.alloc())?;
     assert!(rt; copy.locked());
     assert_eq!(rt; copy.dir(), NodeId::new(7));
@@ -86,12 +88,12 @@ fn forks_and_ends(rt: HostRuntime) -> Result<(), Fail> {
     assert!(rt; copy.ended());
     assert_eq!(rt; copy.may(Promises::NONE), May::Death);
     assert!(rt; !process.ended());
-    Ok(())
+    expect_next_program(&rt, rt.alloc())
 }
 
-#[test]
-fn becomes_another_program(rt: HostRuntime) -> Result<(), Fail> {
-    let mut process = confined(&rt)?;
+/// Runs another program, and a next one.
+fn expect_next_program(rt: &impl Abort, alloc: Global) -> Result<(), Fail> {
+    let mut process = confined(alloc)?;
     assert!(rt; !process.ended());
     process.exec_into();
     assert!(rt; process.locked());

@@ -22,7 +22,7 @@ fn stepped(
 }
 
 #[test]
-fn steps_through_links(rt: HostRuntime) -> Result<(), Fail> {
+fn steps_lead_through_links_to_last_parts(rt: HostRuntime) -> Result<(), Fail> {
     let tree = read_listing(rt.alloc(), EXAMPLE)?;
     for (dir, used, name, want) in [
         (0, 0, b"t".as_slice(), Ok((NodeId::new(3), 1))),
@@ -33,12 +33,6 @@ fn steps_through_links(rt: HostRuntime) -> Result<(), Fail> {
     ] {
         assert_eq!(rt; stepped(&tree, dir, used, name), Some(want), "{name:?}");
     }
-    Ok(())
-}
-
-#[test]
-fn finds_last_parts(rt: HostRuntime) -> Result<(), Fail> {
-    let tree = read_listing(rt.alloc(), EXAMPLE)?;
     let part = Part::Name(Name::read(b"passwd")?);
     let dir = NodeId::new(1);
     assert_eq!(rt; tree.kind(dir), Some(Kind::Dir));

@@ -1,8 +1,8 @@
-//! What errors are displayed as, and what path texts keep.
+//! What errors and answers are displayed as.
 
-use pua_path::{Ending, Errno, PathText};
-use pua_policy::judge::cover_fault;
-use pua_policy::{Cover, Perms, UnveilFault};
+use pua_path::Errno;
+use pua_policy::UnveilFault;
+use pua_script::{Answer, WorldFault};
 use pua_tree::{NameFault, OutOfMemory, TreeFault};
 use std::test::Fail;
 
@@ -31,7 +31,7 @@ fn errnos_are_displayed_as_their_names(rt: HostRuntime) -> Result<(), Fail> {
 }
 
 #[test]
-fn faults_are_displayed(rt: HostRuntime) -> Result<(), Fail> {
+fn faults_and_answers_are_displayed(rt: HostRuntime) -> Result<(), Fail> {
     let alloc = rt.alloc();
     for (text, line) in [
         (format!(in alloc; "{}", NameFault::NotAName)?, "not a name"),
@@ -44,30 +44,20 @@ fn faults_are_displayed(rt: HostRuntime) -> Result<(), Fail> {
             "too many places",
         ),
         (format!(in alloc; "{OutOfMemory}")?, "out of memory"),
+        (
+            format!(in alloc; "{}", WorldFault::OutOfMemory)?,
+            "out of memory",
+        ),
     ] {
         assert_eq!(rt; text.as_str(), line);
     }
-    Ok(())
-}
-
-#[test]
-fn texts_keep_their_bytes_and_endings(rt: HostRuntime) -> Result<(), Fail> {
-    for ending in [Ending::Dot, Ending::Dropped] {
-        let text = PathText::read(b"a//b/", ending)?;
-        assert_eq!(rt; text.bytes(), b"a//b/".as_slice());
-        assert_eq!(rt; text.ending(), ending);
-    }
-    Ok(())
-}
-
-#[test]
-fn covers_lack_letters(rt: HostRuntime) {
-    for (cover, fault) in [
-        (Cover::All, None),
-        (Cover::Nothing, Some(Errno::ENOENT)),
-        (Cover::Only(Perms::READ), Some(Errno::EACCES)),
-        (Cover::Only(Perms::READ.union(Perms::CREATE)), None),
+    for (answer, text) in [
+        (Answer::Okay, "ok"),
+        (Answer::Failed(Errno::ENAMETOOLONG), "ENAMETOOLONG"),
+        (Answer::Killed, "killed"),
+        (Answer::Gone, "gone"),
     ] {
-        assert_eq!(rt; cover_fault(cover, Perms::CREATE), fault);
+        assert_eq!(rt; format!(in alloc; "{answer}")?.as_str(), text);
     }
+    Ok(())
 }

@@ -15,25 +15,26 @@ pub(crate) struct Files<'a> {
     pub(crate) script: &'a [u8],
 }
 
-/// Runs a command, and compares its status, its output and its fault line.
-pub(crate) fn expect(
+/// Runs a command that writes nothing, with room for so many bytes, and compares its status and its
+/// fault line.
+pub(crate) fn expect_fault(
     rt: &impl Abort,
     alloc: Global,
     words: &[&str],
     files: &Files<'_>,
+    room: usize,
     status: u8,
-    text: &[u8],
     line: &[u8],
 ) -> Result<(), Fail> {
     let entries = [("T", files.tree), ("S", files.script)];
     let mut inputs = MemoryInputs::new(&entries);
-    let mut out = MemorySink::new(alloc, 65_536)?;
+    let mut out = MemorySink::new(alloc, room)?;
     let mut err = MemorySink::new(alloc, 1024)?;
     assert_eq!(rt;
         command(alloc, words, &mut inputs, &mut out, &mut err),
         status
     );
-    assert_eq!(rt; out.bytes(), text);
+    assert_eq!(rt; out.bytes(), b"".as_slice());
     assert_eq!(rt; err.bytes(), line);
     Ok(())
 }

@@ -5,6 +5,8 @@ use pua_path::{Counted, Ending, Errno, Last};
 use pua_policy::judge::{verdict, verdict_of};
 use pua_policy::{Call, Cover, Perms, Place, Process, Promises, Verdict, needs};
 use pua_tree::{ListTree, Name, NodeId, read_listing};
+use std::alloc::Global;
+use std::process::Abort;
 use std::test::Fail;
 
 /// An empty directory, and one in which a file, a link to it and a program stand.
@@ -107,9 +109,9 @@ fn judges_by_kind(rt: HostRuntime) -> Result<(), Fail> {
 }
 
 #[test]
-fn judges_removed_directories_by_their_way(rt: HostRuntime) -> Result<(), Fail> {
+fn judges_the_way_and_promises_before_the_path(rt: HostRuntime) -> Result<(), Fail> {
     let tree = read_listing(rt.alloc(), KINDS)?;
-    let process = Process::new(rt.alloc())?;
+    let mut process = Process::new(rt.alloc())?;
     for (text, errno) in [
         (b"/d/.".as_slice(), Errno::EINVAL),
         (b"/d/..", Errno::EINVAL),
@@ -119,27 +121,15 @@ fn judges_removed_directories_by_their_way(rt: HostRuntime) -> Result<(), Fail> 
         let verdict = judged(&tree, &process, Call::Rmdir, text);
         assert_eq!(rt; verdict, Verdict::Failed(errno), "{text:?}");
     }
-    Ok(())
-}
-
-#[test]
-fn judges_promises_before_paths(rt: HostRuntime) -> Result<(), Fail> {
-    let tree = read_listing(rt.alloc(), KINDS)?;
-    let mut process = Process::new(rt.alloc())?;
-    process.pledge(Some(Promises::RPATH.union(Promises::ERROR)), None)?;
-    assert_eq!(rt;
-        judged(&tree, &process, Call::Mkdir, b"/no/x"),
-        Verdict::Failed(Errno::ENOSYS)
-    );
-    process.pledge(Some(Promises::RPATH), None)?;
-    assert_eq!(rt;
-        judged(&tree, &process, Call::Mkdir, b"/no/x"),
-        Verdict::Death
-    );
-    assert_eq!(rt;
-        judged(&tree, &process, Call::Stat, b"/no/x"),
-        Verdict::Failed(Errno::ENOENT)
-    );
+    let with_error = Promises::RPATH.union(Promises::ERROR);
+    for (promises, call, want) in [
+        (with_error, Call::Mkdir, Verdict::Failed(Errno::ENOSYS)),
+        (Promises::RPATH, Call::Mkdir, Verdict::Death),
+        (Promises::RPATH, Call::Stat, Verdict::Failed(Errno::ENOENT)),
+    ] {
+        process.pledge(Some(promises), None)?;
+        assert_eq!(rt; judged(&tree, &process, call, b"/no/x"), want);
+    }
     Ok(())
 }
 
@@ -151,38 +141,8 @@ fn covered(tree: &ListTree, process: &Process, text: &[u8]) -> Option<Cover> {
     Some(process.cover(&mut Counted::new(tree), &found))
 }
 
-/// A process with veils on the root, on a directory and on a file in it.
-fn veiled(rt: &HostRuntime) -> Result<Process, Fail> {
-    let mut process = Process::new(rt.alloc())?;
-    let file = Name::read(b"f")?;
-    process.unveil_at(Place::Dir(NodeId::ROOT), Perms::READ)?;
-    process.unveil_at(Place::Dir(NodeId::new(2)), Perms::NONE)?;
-    process.unveil_at(Place::Slot(NodeId::new(2), file), Perms::WRITE)?;
-    Ok(process)
-}
-
 #[test]
-fn covers_by_the_nearest_veil(rt: HostRuntime) -> Result<(), Fail> {
-    let tree = read_listing(rt.alloc(), KINDS)?;
-    let process = veiled(&rt)?;
-    for (text, perms) in [
-        (b"/d/x".as_slice(), Perms::READ),
-        (b"/e/p", Perms::NONE),
-        (b"/e/f", Perms::WRITE),
-        (b"/e", Perms::NONE),
-        (b"/", Perms::READ),
-    ] {
-        assert_eq!(rt;
-            covered(&tree, &process, text),
-            Some(Cover::Only(perms)),
-            "{text:?}"
-        );
-    }
-    Ok(())
-}
-
-#[test]
-fn covers_beneath_a_veil_alone(rt: HostRuntime) -> Result<(), Fail> {
+fn covers_by_the_nearest_veil_alone(rt: HostRuntime) -> Result<(), Fail> {
     let tree = read_listing(rt.alloc(), EXAMPLE)?;
     let mut process = Process::new(rt.alloc())?;
     assert_eq!(rt; covered(&tree, &process, b"/tmp"), Some(Cover::All));
@@ -196,13 +156,48 @@ fn covers_beneath_a_veil_alone(rt: HostRuntime) -> Result<(), Fail> {
     ] {
         assert_eq!(rt; covered(&tree, &process, text), Some(cover), "{text:?}");
     }
+    expect_nearest(&rt, rt.alloc())
+}
+
+/// Veils the root, a directory and a file in it, and compares what each leaves.
+fn expect_nearest(rt: &impl Abort, alloc: Global) -> Result<(), Fail> {
+    let tree = read_listing(alloc, KINDS)?;
+    let mut process = Process::new(alloc)?;
+    let file = Name::read(b"f")?;
+    for (place, perms) in [
+        (Place::Dir(NodeId::ROOT), Perms::READ),
+        (Place::Dir(NodeId::new(2)), Perms::NONE),
+        (Place::Slot(NodeId::new(2), file), Perms::WRITE),
+    ] {
+        process.unveil_at(place, perms)?;
+    }
+    for (text, perms) in [
+        (b"/d/x".as_slice(), Perms::READ),
+        (b"/e/p", Perms::NONE),
+        (b"/e/f", Perms::WRITE),
+        (b"/e", Perms::NONE),
+        (b"/", Perms::READ),
+    ] {
+        let cover = Some(Cover::Only(perms));
+        assert_eq!(rt; covered(&tree, &process, text), cover, "{text:?}");
+    }
     Ok(())
 }
 
+/// The verdict on what a path names, a last link followed; None where nothing is found.
+fn judged_if_found(tree: &ListTree, process: &Process, call: Call, text: &[u8]) -> Option<Verdict> {
+    let Ok(found) = found(tree, text, Ending::Dot, Last::Followed) else {
+        return None;
+    };
+    Some(verdict(&mut Counted::new(tree), process, call, &found))
+}
+
 #[test]
-fn a_file_veil_is_at_its_name(rt: HostRuntime) -> Result<(), Fail> {
+fn judges_what_was_found_by_its_veil(rt: HostRuntime) -> Result<(), Fail> {
     let tree = read_listing(rt.alloc(), EXAMPLE)?;
     let mut process = Process::new(rt.alloc())?;
+    let run = judged_if_found(&tree, &process, Call::Exec, b"/tmp/sh");
+    assert_eq!(rt; run, Some(Verdict::Allowed));
     let passwd = Name::read(b"passwd")?;
     process.unveil_at(Place::Slot(NodeId::new(1), passwd), Perms::READ)?;
     for (call, text, want) in [
@@ -216,19 +211,6 @@ fn a_file_veil_is_at_its_name(rt: HostRuntime) -> Result<(), Fail> {
         (Call::Stat, b"/tmp/sh", Verdict::Failed(Errno::ENOENT)),
     ] {
         assert_eq!(rt; judged(&tree, &process, call, text), want, "{text:?}");
-    }
-    Ok(())
-}
-
-#[test]
-fn judges_what_was_found(rt: HostRuntime) -> Result<(), Fail> {
-    let tree = read_listing(rt.alloc(), EXAMPLE)?;
-    let process = Process::new(rt.alloc())?;
-    let found = found(&tree, b"/tmp/sh", Ending::Dot, Last::Followed);
-    assert!(rt; found.is_ok());
-    if let Ok(found) = found {
-        let verdict = verdict(&mut Counted::new(&tree), &process, Call::Exec, &found);
-        assert_eq!(rt; verdict, Verdict::Allowed);
     }
     Ok(())
 }

@@ -128,10 +128,23 @@ fn expect_same(
     Ok(())
 }
 
+/// Compares them from the root and from the working directory.
+fn expect_same_twice(
+    rt: &impl Abort,
+    alloc: Global,
+    files: &Files<'_>,
+    letters: &[&str],
+) -> Result<(), Fail> {
+    expect_same(rt, alloc, files, Base::Root, letters)?;
+    expect_same(rt, alloc, files, Base::Cwd, letters)
+}
+
 const EXAMPLE_LETTERS: [&str; 9] = ["..", "etc", "new", "passwd", "self", "sh", "t", "tmp", "up"];
 
+const NET_LETTERS: [&str; 6] = ["..", "a", "b", "c", "d", "new"];
+
 #[test]
-fn walks_the_example_as_a_filter_does(rt: HostRuntime) -> Result<(), Fail> {
+fn the_walk_lends_what_a_filter_allows(rt: HostRuntime) -> Result<(), Fail> {
     let scripts: [&[u8]; 6] = [
         b"",
         b"1 chdir /tmp\n",
@@ -145,27 +158,18 @@ fn walks_the_example_as_a_filter_does(rt: HostRuntime) -> Result<(), Fail> {
             tree: EXAMPLE,
             script,
         };
-        expect_same(&rt, rt.alloc(), &files, Base::Root, &EXAMPLE_LETTERS)?;
-        expect_same(&rt, rt.alloc(), &files, Base::Cwd, &EXAMPLE_LETTERS)?;
+        expect_same_twice(&rt, rt.alloc(), &files, &EXAMPLE_LETTERS)?;
     }
-    Ok(())
-}
-
-const NET_LETTERS: [&str; 6] = ["..", "a", "b", "c", "d", "new"];
-
-#[test]
-fn walks_nets_of_links_as_a_filter_does(rt: HostRuntime) -> Result<(), Fail> {
-    let trees: [&[u8]; 4] = [
+    let nets: [&[u8]; 4] = [
         b"tree 1\n0 dir\n1 link 0 a b/b\n2 link 0 b a/a\n3 link 0 c .\n4 link 0 d /\n",
         b"tree 1\n0 dir\n1 dir 0 a\n2 dir 1 b\n3 link 2 c ../../d\n4 link 0 d a/b/\n",
         b"tree 1\n0 dir\n1 dir 0 a\n2 link 1 a ../a/c\n3 link 1 b ..\n4 prog 1 c\n5 file 0 d\n",
         b"tree 1\n0 dir\n1 dir 0 d\n2 dir 1 c\n3 link 2 b new\n4 link 0 a d/c/b\n",
     ];
     let script = b"1 unveil /a rwxc\n1 unveil /d/c rc\n1 unveil /new rwc\n1 chdir /a\n";
-    for tree in &trees {
+    for tree in &nets {
         let files = Files { tree, script };
-        expect_same(&rt, rt.alloc(), &files, Base::Root, &NET_LETTERS)?;
-        expect_same(&rt, rt.alloc(), &files, Base::Cwd, &NET_LETTERS)?;
+        expect_same_twice(&rt, rt.alloc(), &files, &NET_LETTERS)?;
     }
     Ok(())
 }

@@ -1,21 +1,17 @@
 //! Keywords, letters and calls, and what calls need.
 
 use pua_path::{Ending, Errno, Last};
-use pua_policy::{Call, Perms, Promises, needs};
+use pua_policy::judge::cover_fault;
+use pua_policy::{Call, Cover, Perms, Promises, needs};
 
 #[test]
-fn reads_all_keywords(rt: HostRuntime) {
+fn keywords_and_letters_are_read_and_missed(rt: HostRuntime) {
     let most =
-        b"audio,bpf,chown,cpath,disklabel,dns,dpath,drm,exec,fattr,flock,getpw,id,inet,mcast,pf,proc,prot_exec,ps,recvfd,route,rpath,sendfd,settime,stdio,tape,tmppath,tty,unix,unveil,video,vminfo,vmm,wpath,wroute";
-    assert_eq!(rt; Promises::read(most), Ok(Promises::ALL_BUT_ERROR));
-    assert!(rt; !Promises::ALL_BUT_ERROR.contains(Promises::ERROR));
-}
-
-#[test]
-fn reads_keywords(rt: HostRuntime) {
+        b"audio,bpf,chown,cpath,disklabel,dns,dpath,drm,exec,fattr,flock,getpw,id,inet,mcast,pf,proc,prot_exec,ps,recvfd,route,rpath,sendfd,settime,stdio,tape,tmppath,tty,unix,unveil,video,vminfo,vmm,wpath,wroute".as_slice();
     let both = Promises::RPATH.union(Promises::WPATH);
     for (text, want) in [
-        (b"error".as_slice(), Ok(Promises::ERROR)),
+        (most, Ok(Promises::ALL_BUT_ERROR)),
+        (b"error", Ok(Promises::ERROR)),
         (b"", Ok(Promises::NONE)),
         (b"wpath,rpath,wpath", Ok(both)),
         (b"stdio,zpath", Err(Errno::EINVAL)),
@@ -24,11 +20,8 @@ fn reads_keywords(rt: HostRuntime) {
     ] {
         assert_eq!(rt; Promises::read(text), want, "{text:?}");
     }
+    assert!(rt; !Promises::ALL_BUT_ERROR.contains(Promises::ERROR));
     assert_eq!(rt; both.intersection(Promises::WPATH), Promises::WPATH);
-}
-
-#[test]
-fn reads_letters(rt: HostRuntime) {
     for (text, want) in [
         (b"wrr".as_slice(), Ok(Perms::READ.union(Perms::WRITE))),
         (b"xc", Ok(Perms::EXEC.union(Perms::CREATE))),
@@ -38,10 +31,18 @@ fn reads_letters(rt: HostRuntime) {
         assert_eq!(rt; Perms::read(text), want, "{text:?}");
     }
     assert!(rt; !Perms::READ.contains(Perms::WRITE));
+    for (cover, fault) in [
+        (Cover::All, None),
+        (Cover::Nothing, Some(Errno::ENOENT)),
+        (Cover::Only(Perms::READ), Some(Errno::EACCES)),
+        (Cover::Only(Perms::READ.union(Perms::CREATE)), None),
+    ] {
+        assert_eq!(rt; cover_fault(cover, Perms::CREATE), fault);
+    }
 }
 
 #[test]
-fn names_calls(rt: HostRuntime) {
+fn calls_are_named_and_have_needs(rt: HostRuntime) {
     let names = [
         "stat", "lstat", "readlink", "open-r", "open-w", "open-rw", "create", "mkdir", "rmdir",
         "unlink", "symlink", "chmod", "chdir", "exec",
@@ -55,10 +56,6 @@ fn names_calls(rt: HostRuntime) {
     }
     assert_eq!(rt; Call::read(b"rename"), None);
     assert_eq!(rt; Call::read(b""), None);
-}
-
-#[test]
-fn tells_needs(rt: HostRuntime) {
     let open = needs::need(Call::OpenBoth);
     assert_eq!(rt; open.promises, Promises::RPATH.union(Promises::WPATH));
     assert_eq!(rt; open.perms, Perms::READ.union(Perms::WRITE));

@@ -1,12 +1,13 @@
-//! Worlds that serve requests, by direct calls, and what answers are displayed as.
+//! Worlds that serve requests, by direct calls.
 
 use crate::example::EXAMPLE;
 use crate::told::ROOT;
 use pua_path::Errno;
 use pua_policy::{Call, May, Promises};
-use pua_script::{Action, Answer, Request, ScriptFault, World, WorldFault, read_script};
+use pua_script::{Action, Answer, Request, ScriptFault, World, read_script};
 use pua_tree::{FileTree, Kind, ListTree, Name, NodeId, read_listing};
 use std::alloc::Global;
+use std::process::Abort;
 use std::test::Fail;
 
 /// A world over a listing.
@@ -27,15 +28,6 @@ fn has_ended(world: &World<ListTree>, number: u32) -> Option<bool> {
 /// What a process may do with this promise.
 fn may(world: &World<ListTree>, number: u32, promise: Promises) -> Option<May> {
     Some(world.process(number)?.may(promise))
-}
-
-#[test]
-fn a_new_world_has_one_process(rt: HostRuntime) -> Result<(), Fail> {
-    let world = world(rt.alloc(), EXAMPLE)?;
-    assert!(rt; world.process(2).is_none());
-    assert_eq!(rt; dir_of(&world, 1), Some(NodeId::ROOT));
-    assert_eq!(rt; world.tree().kind(NodeId::new(7)), Some(Kind::Prog));
-    Ok(())
 }
 
 #[test]
@@ -64,13 +56,21 @@ fn requests_are_served_one_by_one(rt: HostRuntime) -> Result<(), Fail> {
     Ok(())
 }
 
+/// Compares a world over the example with what stands in a new one.
+fn expect_new(rt: &impl Abort, world: &World<ListTree>) {
+    assert!(rt; world.process(2).is_none());
+    assert_eq!(rt; dir_of(world, 1), Some(NodeId::ROOT));
+    assert_eq!(rt; world.tree().kind(NodeId::new(7)), Some(Kind::Prog));
+}
+
 #[test]
-fn processes_are_told_by_their_numbers(rt: HostRuntime) -> Result<(), Fail> {
+fn processes_are_known_by_their_numbers(rt: HostRuntime) -> Result<(), Fail> {
     let script = read_script(
         rt.alloc(),
         b"1 chdir /tmp\n1 fork 9\n9 pledge stdio,rpath -\n9 chdir /etc\n9 exit\n",
     )?;
     let mut world = world(rt.alloc(), EXAMPLE)?;
+    expect_new(&rt, &world);
     let answers = world.run(rt.alloc(), &script)?;
     assert_eq!(rt; answers.as_slice(), [Answer::Okay; 5].as_slice());
     for (number, dir, ended, answer) in [(1, 3, false, May::Yes), (9, 1, true, May::Death)] {
@@ -82,14 +82,19 @@ fn processes_are_told_by_their_numbers(rt: HostRuntime) -> Result<(), Fail> {
     Ok(())
 }
 
-#[test]
-fn a_full_tree_has_no_space(rt: HostRuntime) -> Result<(), Fail> {
-    let mut tree = read_listing(rt.alloc(), ROOT)?;
+/// A tree that takes no further node.
+fn full_tree(alloc: Global) -> Result<ListTree, Fail> {
+    let mut tree = read_listing(alloc, ROOT)?;
     for number in 1..65_535 {
-        let name = Name::read(format!(in rt.alloc(); "{number:05}")?.as_bytes())?;
+        let name = Name::read(format!(in alloc; "{number:05}")?.as_bytes())?;
         let _ = tree.add(NodeId::ROOT, name, Kind::File, None)?;
     }
-    let mut world = World::new(rt.alloc(), tree)?;
+    Ok(tree)
+}
+
+#[test]
+fn a_full_tree_has_no_space(rt: HostRuntime) -> Result<(), Fail> {
+    let mut world = World::new(rt.alloc(), full_tree(rt.alloc())?)?;
     let script = read_script(
         rt.alloc(),
         b"1 mkdir /x\n1 symlink a /x\n1 create /x\n1 create /00001\n1 unlink /00001\n1 create /x\n",
@@ -133,22 +138,5 @@ fn scripts_are_read(rt: HostRuntime) -> Result<(), Fail> {
     );
     let fault = read_script(rt.alloc(), b"1 stat /\n1000000 exit\n").err();
     assert_eq!(rt; fault, Some(ScriptFault::BadLine(2)));
-    Ok(())
-}
-
-#[test]
-fn answers_are_displayed(rt: HostRuntime) -> Result<(), Fail> {
-    for (answer, text) in [
-        (Answer::Okay, "ok"),
-        (Answer::Failed(Errno::ENAMETOOLONG), "ENAMETOOLONG"),
-        (Answer::Killed, "killed"),
-        (Answer::Gone, "gone"),
-    ] {
-        assert_eq!(rt; format!(in rt.alloc(); "{answer}")?.as_str(), text);
-    }
-    assert_eq!(rt;
-        format!(in rt.alloc(); "{}", WorldFault::OutOfMemory)?.as_str(),
-        "out of memory"
-    );
     Ok(())
 }
