@@ -8,9 +8,11 @@ mod audits;
 mod commands;
 #[cfg(test)]
 mod edits;
+#[cfg(test)]
 mod example;
 #[cfg(test)]
 mod fields;
+#[cfg(test)]
 mod lent;
 #[cfg(test)]
 mod lines;
