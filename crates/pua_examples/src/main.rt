@@ -1,6 +1,7 @@
 //! Runs what the examples tell: the story of each folder, and the table of rows. A line is printed
 //! for each folder, which tells whether its command writes what it says; then one for each row that
-//! is told otherwise, and how many rows there are.
+//! is told otherwise, or whose audit goes on otherwise where it is resumed; and at the end how many
+//! rows there are, and after how many lines an audit was resumed.
 #![tactic(auto)]
 
 mod rows;

@@ -143,24 +143,3 @@ impl<'t, T: FileTree> Probe<'t> for Counted<'t, T> {
         self.tree.names(alloc)
     }
 }
-
-#[cfg(test)]
-mod tests {
-    use super::*;
-    use pua_tree::read_listing;
-    use std::test::Fail;
-
-    #[test]
-    fn counts_up_to_the_greatest_value(rt: HostRuntime) -> Result<(), Fail> {
-        let tree = read_listing(rt.alloc(), b"tree 1\n0 dir\n")?;
-        let mut probe = Counted {
-            tree: &tree,
-            count: u64::MAX - 1,
-        };
-        for _ in 0..2 {
-            assert!(rt; probe.is_empty(NodeId::ROOT));
-            assert_eq!(rt; probe.probes(), u64::MAX);
-        }
-        Ok(())
-    }
-}

@@ -1,6 +1,7 @@
 //! Audits of which some lines are known, or how many there are.
 
 use crate::example::EXAMPLE;
+use crate::expect::expect;
 use crate::paths::chains;
 use crate::told::{Files, ROOT, behind, expect_fault, output};
 use std::alloc::Global;
@@ -13,42 +14,50 @@ const MAKES: Files<'static> = Files {
     script: b"1 pledge stdio,cpath -\n",
 };
 
-#[test]
-fn audits_take_1024_candidates_and_no_more(rt: HostRuntime) -> Result<(), Fail> {
-    let alloc = rt.alloc();
+/// So many names of one length.
+fn numbered(alloc: Global, count: u32) -> Result<Vec<String>, Fail> {
     let mut names = Vec::new(alloc);
-    for number in 0..1024 {
+    for number in 0..count {
         names.push(format!(in alloc; "n{number:04}")?)?;
     }
-    let mut words = Vec::new(alloc);
-    for word in ["audit", "--limit", "1", "T", "S"] {
-        words.push(word)?;
-    }
-    for name in &names {
-        words.push(name.as_str())?;
-    }
-    let text = output(&rt, alloc, words.as_slice(), &MAKES)?;
-    assert!(rt; text.starts_with(b"1 ok\nreach 1\n/n0000 mkdir\n/n0000 symlink\n/n0001 mkdir\n"));
-    assert!(rt; text.ends_with(b"/n1023 mkdir\n/n1023 symlink\n"));
-    assert_eq!(rt; lines_of(text.as_slice()), 2 + 2 * 1024);
-    expect_too_many(&rt, alloc)
+    Ok(names)
 }
 
-/// Audits with a candidate more.
-fn expect_too_many(rt: &impl Abort, alloc: Global) -> Result<(), Fail> {
+/// The words of an audit of one letter with these candidates.
+fn words_with<'a>(alloc: Global, names: &'a [String]) -> Result<Vec<&'a str>, Fail> {
     let mut words = Vec::new(alloc);
-    for word in ["audit", "--limit", "1", "T", "S"] {
-        words.push(word)?;
+    words.extend_from_slice(&["audit", "--limit", "1", "T", "S"])?;
+    for name in names {
+        words.push(name.as_str())?;
     }
-    for _ in 0..1025 {
-        words.push("a")?;
-    }
+    Ok(words)
+}
+
+#[test]
+fn audits_take_1024_candidates(rt: HostRuntime) -> Result<(), Fail> {
+    let names = numbered(rt.alloc(), 1024)?;
+    let words = words_with(rt.alloc(), names.as_slice())?;
+    let text = output(&rt, rt.alloc(), words.as_slice(), &MAKES)?;
+    let front = b"1 ok\nreach 1\n/n0000 mkdir\n/n0000 symlink\n/n0001 mkdir\n";
+    expect(&rt, "the first lines", text.starts_with(front));
+    let end = b"/n1023 mkdir\n/n1023 symlink\n";
+    expect(&rt, "the last lines", text.ends_with(end));
+    let lines = lines_of(text.as_slice());
+    expect(&rt, "two lines a name", lines == 2 + 2 * 1024);
+    Ok(())
+}
+
+#[test]
+fn audits_refuse_1025_candidates(rt: HostRuntime) -> Result<(), Fail> {
+    let names = numbered(rt.alloc(), 1025)?;
+    let words = words_with(rt.alloc(), names.as_slice())?;
     let files = Files {
         tree: ROOT,
         script: b"",
     };
     let line = b"pua: audit: too many names\n";
-    expect_fault(rt, alloc, words.as_slice(), &files, 65_536, 1, line)
+    let alloc = rt.alloc();
+    expect_fault(&rt, alloc, words.as_slice(), &files, 65_536, 1, line)
 }
 
 /// How many lines a text has.
@@ -74,7 +83,7 @@ fn output_lines(
 }
 
 #[test]
-fn lines_are_as_many_as_names_and_links_let(rt: HostRuntime) -> Result<(), Fail> {
+fn lines_are_as_many_as_names_let(rt: HostRuntime) -> Result<(), Fail> {
     let alloc = rt.alloc();
     let mut name = String::new(alloc);
     for _ in 0..255 {
@@ -83,48 +92,73 @@ fn lines_are_as_many_as_names_and_links_let(rt: HostRuntime) -> Result<(), Fail>
     let words = ["audit", "--limit", "3", "T", "S", name.as_str()];
     let long = output_lines(&rt, alloc, &words, &MAKES)?;
     let words = ["audit", "--limit", "3", "T", "S", "a"];
-    assert_eq!(rt; long, output_lines(&rt, alloc, &words, &MAKES)?);
+    let short = output_lines(&rt, alloc, &words, &MAKES)?;
+    expect(&rt, "a long name's lines", long == short);
+    Ok(())
+}
+
+#[test]
+fn lines_are_as_many_as_links_let(rt: HostRuntime) -> Result<(), Fail> {
     let net = Files {
         tree: b"tree 1\n0 dir\n1 link 0 a b/b\n2 link 0 b a/a\n",
         script: b"",
     };
     let words = ["audit", "--limit", "16", "T", "S"];
-    assert_eq!(rt; output_lines(&rt, alloc, &words, &net)?, 1 + 181);
-    expect_chains(&rt, alloc)
-}
-
-/// Audits chains of links that lead into one another.
-fn expect_chains(rt: &impl Abort, alloc: Global) -> Result<(), Fail> {
-    let tree = chains(alloc)?;
-    let files = Files {
-        tree: tree.as_bytes(),
-        script: b"1 unveil /d/f r\n1 unveil - -\n",
-    };
-    let text = output(rt, alloc, &["audit", "--limit", "2", "T", "S"], &files)?;
-    assert!(rt; text.starts_with(b"1 ok\n2 ok\nreach 1\n"));
-    assert_eq!(rt; lines_of(text.as_slice()), 3 + 607);
-    let last = b"\n/d20/g12 stat\n".as_slice();
-    assert!(rt; text.windows(15).any(|part| part == last));
-    assert!(rt; !text.windows(9).any(|part| part == b"/d20/g13 ".as_slice()));
+    let lines = output_lines(&rt, rt.alloc(), &words, &net)?;
+    expect(&rt, "a net of links", lines == 1 + 181);
     Ok(())
 }
 
 #[test]
+fn chains_of_links_lead_into_one_another(rt: HostRuntime) -> Result<(), Fail> {
+    let tree = chains(rt.alloc())?;
+    let files = Files {
+        tree: tree.as_bytes(),
+        script: b"1 unveil /d/f r\n1 unveil - -\n",
+    };
+    let words = ["audit", "--limit", "2", "T", "S"];
+    let text = output(&rt, rt.alloc(), &words, &files)?;
+    let pairs = behind(text.as_slice(), b"1 ok\n2 ok\nreach 1\n");
+    expect(&rt, "its pairs", lines_of(pairs) == 607);
+    let last = b"\n/d20/g12 stat\n".as_slice();
+    expect(&rt, "32 links", pairs.windows(15).any(|part| part == last));
+    let next = b"/d20/g13 ".as_slice();
+    expect(&rt, "33 links", !pairs.windows(9).any(|part| part == next));
+    Ok(())
+}
+
+/// The first lines of a script that locks a family of two processes, and asks the rest of both.
+const FAMILY: &[u8] =
+    b"1 unveil /etc r\n1 unveil - -\n1 fork 2\n2 unveil /tmp r\n1 unveil /tmp r\n2 pledge stdio -\n1 stat /etc\n2 stat /etc\n";
+
+/// The pairs that an audit of three letters writes behind a heading.
+fn pairs_of(
+    rt: &impl Abort,
+    alloc: Global,
+    process: &str,
+    script: &[u8],
+    heading: &[u8],
+) -> Result<Vec<u8>, Fail> {
+    let words = ["audit", "--limit", "3", "--process", process, "T", "S"];
+    let text = output(rt, alloc, &words, &served(script))?;
+    Ok(Vec::from_slice(alloc, behind(text.as_slice(), heading))?)
+}
+
+#[test]
 fn a_locked_family_reaches_the_same(rt: HostRuntime) -> Result<(), Fail> {
-    let alloc = rt.alloc();
-    let script =
-        b"1 unveil /etc r\n1 unveil - -\n1 fork 2\n2 unveil /tmp r\n1 unveil /tmp r\n2 pledge stdio -\n1 stat /etc\n2 stat /etc\n";
-    let words = ["audit", "--limit", "3", "T", "S"];
-    let first = output(&rt, alloc, &words, &served(&script[..29]))?;
-    let pairs = behind(first.as_slice(), b"1 ok\n2 ok\nreach 1\n");
-    assert!(rt; !pairs.is_empty());
-    let last = output(&rt, alloc, &words, &served(script))?;
+    let heading = b"1 ok\n2 ok\nreach 1\n";
+    let alone = pairs_of(&rt, rt.alloc(), "1", &FAMILY[..29], heading)?;
+    expect(&rt, "it reaches something", !alone.is_empty());
     let heading = b"1 ok\n2 ok\n3 ok\n4 EPERM\n5 EPERM\n6 ok\n7 ok\n8 killed\nreach 1\n";
-    assert_eq!(rt; behind(last.as_slice(), heading), pairs);
-    let words = ["audit", "--limit", "3", "--process", "2", "T", "S"];
-    let child = output(&rt, alloc, &words, &served(&script[..38]))?;
+    let last = pairs_of(&rt, rt.alloc(), "1", FAMILY, heading)?;
+    expect(
+        &rt,
+        "after a child's end",
+        last.as_slice() == alone.as_slice(),
+    );
     let heading = b"1 ok\n2 ok\n3 ok\nreach 2\n";
-    assert_eq!(rt; behind(child.as_slice(), heading), pairs);
+    let child = pairs_of(&rt, rt.alloc(), "2", &FAMILY[..38], heading)?;
+    expect(&rt, "the child's", child.as_slice() == alone.as_slice());
     Ok(())
 }
 

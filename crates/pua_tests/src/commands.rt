@@ -1,9 +1,9 @@
 //! What commands write: help, what a sink has room for, and the answers of long scripts.
 
+use crate::expect::{expect, expect_at};
 use crate::told::{Files, ROOT, expect_fault, output};
 use pua_tool::{MemoryInputs, MemorySink, command, run_to};
 use std::alloc::Global;
-use std::process::Abort;
 use std::test::Fail;
 
 /// A root with no script.
@@ -24,7 +24,7 @@ fn help_is_written_or_told_of(rt: HostRuntime) -> Result<(), Fail> {
     ];
     for words in &asked {
         let text = output(&rt, rt.alloc(), words, &NO_SCRIPT)?;
-        assert!(rt; !text.is_empty());
+        expect(&rt, "help is a text", !text.is_empty());
     }
     let line = b"pua: cannot write\n";
     expect_fault(&rt, rt.alloc(), &["--help"], &NO_SCRIPT, 0, 3, line)
@@ -42,21 +42,21 @@ fn sinks_hold_the_front_of_the_text(rt: HostRuntime) -> Result<(), Fail> {
         let mut err = MemorySink::new(alloc, 1024)?;
         let status = command(alloc, &words, &mut inputs, &mut out, &mut err);
         let is_whole = room == text.len();
-        assert_eq!(rt; status, if is_whole { 0 } else { 3 });
-        assert_eq!(rt; out.bytes(), &text[..room]);
-        assert_eq!(rt; err.bytes().is_empty(), is_whole);
+        expect_at(&rt, room, status == if is_whole { 0 } else { 3 });
+        expect_at(&rt, room, out.bytes() == &text[..room]);
+        expect_at(&rt, room, err.bytes().is_empty() == is_whole);
     }
-    expect_behind(&rt, rt.alloc())
+    Ok(())
 }
 
-/// Runs a script twice into one sink: the answers stand behind what was there.
-fn expect_behind(rt: &impl Abort, alloc: Global) -> Result<(), Fail> {
-    let mut sink = MemorySink::new(alloc, 64)?;
+#[test]
+fn answers_stand_behind_what_was_there(rt: HostRuntime) -> Result<(), Fail> {
+    let mut sink = MemorySink::new(rt.alloc(), 64)?;
     for _ in 0..2 {
-        run_to(alloc, ROOT, b"1 stat /\n1 stat /a\n", &mut sink)?;
+        run_to(rt.alloc(), ROOT, b"1 stat /\n1 stat /a\n", &mut sink)?;
     }
     let text = b"1 ok\n2 ENOENT\n1 ok\n2 ENOENT\n".as_slice();
-    assert_eq!(rt; sink.bytes(), text);
+    expect(&rt, "both runs' answers", sink.bytes() == text);
     Ok(())
 }
 
@@ -70,7 +70,7 @@ fn repeated(alloc: Global, line: &[u8], times: usize) -> Result<Vec<u8>, Fail> {
 }
 
 #[test]
-fn scripts_of_60000_lines_and_no_more_are_answered(rt: HostRuntime) -> Result<(), Fail> {
+fn scripts_of_60000_lines_are_answered(rt: HostRuntime) -> Result<(), Fail> {
     let alloc = rt.alloc();
     let script = repeated(alloc, b"1 stat /\n", 60_000)?;
     let files = Files {
@@ -78,18 +78,19 @@ fn scripts_of_60000_lines_and_no_more_are_answered(rt: HostRuntime) -> Result<()
         script: script.as_slice(),
     };
     let text = output(&rt, alloc, &["run", "T", "S"], &files)?;
-    assert!(rt; text.starts_with(b"1 ok\n2 ok\n"));
-    assert!(rt; text.ends_with(b"\n59999 ok\n60000 ok\n"));
-    expect_too_long(&rt, alloc)
+    let is_whole = text.starts_with(b"1 ok\n2 ok\n") && text.ends_with(b"\n59999 ok\n60000 ok\n");
+    expect(&rt, "60,000 answers", is_whole);
+    Ok(())
 }
 
-/// Runs a script of a line more.
-fn expect_too_long(rt: &impl Abort, alloc: Global) -> Result<(), Fail> {
+#[test]
+fn scripts_of_60001_lines_are_refused(rt: HostRuntime) -> Result<(), Fail> {
+    let alloc = rt.alloc();
     let script = repeated(alloc, b"1 exit\n", 60_001)?;
     let files = Files {
         tree: ROOT,
         script: script.as_slice(),
     };
     let line = b"pua: script: too many lines\n";
-    expect_fault(rt, alloc, &["run", "T", "S"], &files, 65_536, 1, line)
+    expect_fault(&rt, alloc, &["run", "T", "S"], &files, 65_536, 1, line)
 }

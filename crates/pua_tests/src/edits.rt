@@ -1,126 +1,168 @@
 //! Edits of a tree.
 
 use crate::example::EXAMPLE;
+use crate::expect::{expect, expect_at};
 use pua_tree::{FileTree, Kind, ListTree, Name, NodeId, TreeFault, read_listing};
 use std::alloc::Global;
 use std::process::Abort;
 use std::test::Fail;
 
-/// What adding a file under a name answers; None where it is no name.
-fn added(tree: &mut ListTree, dir: u32, name: &[u8]) -> Option<Result<NodeId, TreeFault>> {
-    let name = Name::from_bytes(name)?;
-    Some(tree.add(NodeId::new(dir), name, Kind::File, None))
+/// A change of a tree, or a question about it, by the numbers of nodes and by names.
+#[derive(Clone, Copy)]
+enum Step {
+    /// Adds a node of a kind that has no target.
+    Add(Kind, u32, &'static [u8]),
+    /// Takes a name away.
+    Cut(u32, &'static [u8]),
+    /// Moves a name to another directory and name.
+    Shift(u32, &'static [u8], u32, &'static [u8]),
+    /// Asks what stands under a name.
+    Look(u32, &'static [u8]),
+    /// Asks for the directory of a directory.
+    Parent(u32),
+    /// Asks for a node itself.
+    Stands(u32),
 }
 
-/// What cutting a name answers; None where it is no name.
-fn cut(tree: &mut ListTree, dir: u32, name: &[u8]) -> Option<Result<NodeId, TreeFault>> {
-    let name = Name::from_bytes(name)?;
-    Some(tree.cut(NodeId::new(dir), &name))
+/// The number of the node that a step leads to, or why it is refused.
+type Answer = Result<Option<u32>, TreeFault>;
+
+/// What a step answers; None where one of its names is none.
+fn answer(tree: &mut ListTree, step: Step) -> Option<Answer> {
+    match step {
+        Step::Add(kind, dir, name) => added(tree, kind, dir, name),
+        Step::Cut(dir, name) => cut(tree, dir, name),
+        Step::Shift(from, name, to, new_name) => shifted(tree, from, name, to, new_name),
+        Step::Look(dir, name) => looked(tree, dir, name),
+        Step::Parent(dir) => Some(Ok(numbered(tree.parent(NodeId::new(dir))))),
+        Step::Stands(node) => Some(Ok(standing(tree, node))),
+    }
 }
 
-/// What moving a name to another directory and name answers; None where one is no name.
+fn added(tree: &mut ListTree, kind: Kind, dir: u32, name: &[u8]) -> Option<Answer> {
+    let name = Name::from_bytes(name)?;
+    match kind {
+        Kind::Link => None,
+        kind => Some(found(tree.add(NodeId::new(dir), name, kind, None))),
+    }
+}
+
+fn cut(tree: &mut ListTree, dir: u32, name: &[u8]) -> Option<Answer> {
+    let name = Name::from_bytes(name)?;
+    Some(found(tree.cut(NodeId::new(dir), &name)))
+}
+
 fn shifted(
     tree: &mut ListTree,
     from: u32,
     name: &[u8],
     to: u32,
     new_name: &[u8],
-) -> Option<Result<(), TreeFault>> {
+) -> Option<Answer> {
     let name = Name::from_bytes(name)?;
     let new_name = Name::from_bytes(new_name)?;
-    Some(tree.shift(NodeId::new(from), &name, NodeId::new(to), new_name))
-}
-
-/// The node of a name.
-fn node(tree: &ListTree, dir: u32, name: &[u8]) -> Option<u32> {
-    let name = Name::from_bytes(name)?;
-    Some(tree.look(NodeId::new(dir), &name)?.number())
-}
-
-#[test]
-fn numbers_are_given_once_and_targets_kept(rt: HostRuntime) -> Result<(), Fail> {
-    let mut tree = read_listing(rt.alloc(), EXAMPLE)?;
-    for number in 8..10 {
-        assert_eq!(rt; added(&mut tree, 0, b"new"), Some(Ok(NodeId::new(number))));
-        assert_eq!(rt; cut(&mut tree, 0, b"new"), Some(Ok(NodeId::new(number))));
-        assert_eq!(rt; tree.kind(NodeId::new(number)), None);
-        assert_eq!(rt; node(&tree, 0, b"new"), None);
+    match tree.shift(NodeId::new(from), &name, NodeId::new(to), new_name) {
+        Ok(()) => Some(Ok(None)),
+        Err(fault) => Some(Err(fault)),
     }
-    expect_target(&rt, rt.alloc())
 }
 
-/// Adds a link, and looks for its target.
-fn expect_target(rt: &impl Abort, alloc: Global) -> Result<(), Fail> {
+fn looked(tree: &ListTree, dir: u32, name: &[u8]) -> Option<Answer> {
+    let name = Name::from_bytes(name)?;
+    Some(Ok(numbered(tree.look(NodeId::new(dir), &name))))
+}
+
+fn standing(tree: &ListTree, node: u32) -> Option<u32> {
+    match tree.kind(NodeId::new(node)) {
+        Some(_) => Some(node),
+        None => None,
+    }
+}
+
+fn numbered(node: Option<NodeId>) -> Option<u32> {
+    match node {
+        Some(node) => Some(node.number()),
+        None => None,
+    }
+}
+
+fn found(node: Result<NodeId, TreeFault>) -> Answer {
+    match node {
+        Ok(node) => Ok(Some(node.number())),
+        Err(fault) => Err(fault),
+    }
+}
+
+/// Takes steps one after the other, from the example on, and compares their answers.
+fn expect_steps(rt: &impl Abort, alloc: Global, steps: &[(Step, Answer)]) -> Result<(), Fail> {
     let mut tree = read_listing(alloc, EXAMPLE)?;
-    let name = Name::read(b"new")?;
-    let node = tree.add(NodeId::new(3), name, Kind::Link, Some(b"sh"))?;
-    assert_eq!(rt; node, NodeId::new(8));
-    assert_eq!(rt; tree.target(node), Some(b"sh".as_slice()));
+    for (number, (step, want)) in steps.iter().enumerate() {
+        expect_at(rt, number, answer(&mut tree, *step) == Some(*want));
+    }
     Ok(())
 }
+
+const GIVEN_ONCE: [(Step, Answer); 8] = [
+    (Step::Add(Kind::File, 0, b"new"), Ok(Some(8))),
+    (Step::Cut(0, b"new"), Ok(Some(8))),
+    (Step::Stands(8), Ok(None)),
+    (Step::Look(0, b"new"), Ok(None)),
+    (Step::Add(Kind::Prog, 0, b"new"), Ok(Some(9))),
+    (Step::Cut(0, b"new"), Ok(Some(9))),
+    (Step::Stands(9), Ok(None)),
+    (Step::Look(0, b"new"), Ok(None)),
+];
+
+#[test]
+fn numbers_are_given_once(rt: HostRuntime) -> Result<(), Fail> {
+    expect_steps(&rt, rt.alloc(), &GIVEN_ONCE)
+}
+
+const MOVED: [(Step, Answer); 10] = [
+    (Step::Shift(3, b"sh", 1, b"passwd"), Ok(None)),
+    (Step::Look(1, b"passwd"), Ok(Some(7))),
+    (Step::Look(3, b"sh"), Ok(None)),
+    (Step::Stands(2), Ok(None)),
+    (Step::Add(Kind::Dir, 1, b"new"), Ok(Some(8))),
+    (Step::Shift(1, b"new", 3, b"up"), Ok(None)),
+    (Step::Look(3, b"up"), Ok(Some(8))),
+    (Step::Look(1, b"new"), Ok(None)),
+    (Step::Parent(8), Ok(Some(3))),
+    (Step::Stands(5), Ok(None)),
+];
 
 #[test]
 fn nodes_are_moved_and_displace_others(rt: HostRuntime) -> Result<(), Fail> {
-    let mut tree = read_listing(rt.alloc(), EXAMPLE)?;
-    assert_eq!(rt; shifted(&mut tree, 3, b"sh", 1, b"passwd"), Some(Ok(())));
-    assert_eq!(rt; node(&tree, 1, b"passwd"), Some(7));
-    assert_eq!(rt; node(&tree, 3, b"sh"), None);
-    assert_eq!(rt; tree.kind(NodeId::new(2)), None);
-    expect_moved_dir(&rt, rt.alloc())
+    expect_steps(&rt, rt.alloc(), &MOVED)
 }
 
-/// Moves a directory to where a link stands.
-fn expect_moved_dir(rt: &impl Abort, alloc: Global) -> Result<(), Fail> {
-    let mut tree = read_listing(alloc, EXAMPLE)?;
-    let name = Name::read(b"new")?;
-    let dir = tree.add(NodeId::new(1), name, Kind::Dir, None)?;
-    assert_eq!(rt; dir, NodeId::new(8));
-    assert_eq!(rt; shifted(&mut tree, 1, b"new", 3, b"up"), Some(Ok(())));
-    assert_eq!(rt; node(&tree, 3, b"up"), Some(8));
-    assert_eq!(rt; tree.parent(NodeId::new(8)), Some(NodeId::new(3)));
-    assert_eq!(rt; tree.kind(NodeId::new(5)), None);
-    Ok(())
-}
+const REFUSED: [(Step, Answer); 12] = [
+    (Step::Add(Kind::File, 2, b"new"), Err(TreeFault::NotDir)),
+    (Step::Add(Kind::File, 0, b"tmp"), Err(TreeFault::Taken)),
+    (Step::Cut(2, b"new"), Err(TreeFault::NotDir)),
+    (Step::Cut(0, b"new"), Err(TreeFault::Missing)),
+    (Step::Cut(0, b"tmp"), Err(TreeFault::NotEmpty)),
+    (Step::Shift(0, b"tmp", 2, b"new"), Err(TreeFault::NotDir)),
+    (Step::Shift(0, b"new", 0, b"tmp"), Err(TreeFault::Missing)),
+    (Step::Shift(0, b"tmp", 3, b"new"), Err(TreeFault::Inside)),
+    (Step::Shift(0, b"etc", 0, b"tmp"), Err(TreeFault::NotEmpty)),
+    (Step::Shift(0, b"tmp", 0, b"tmp"), Ok(None)),
+    (Step::Look(0, b"etc"), Ok(Some(1))),
+    (Step::Look(0, b"tmp"), Ok(Some(3))),
+];
 
 #[test]
 fn edits_are_refused(rt: HostRuntime) -> Result<(), Fail> {
-    let mut tree = read_listing(rt.alloc(), EXAMPLE)?;
-    for (dir, name, fault) in [
-        (2, b"new".as_slice(), TreeFault::NotDir),
-        (0, b"tmp", TreeFault::Taken),
-    ] {
-        assert_eq!(rt; added(&mut tree, dir, name), Some(Err(fault)), "{name:?}");
-    }
-    for (dir, name, fault) in [
-        (2, b"new".as_slice(), TreeFault::NotDir),
-        (0, b"new", TreeFault::Missing),
-        (0, b"tmp", TreeFault::NotEmpty),
-    ] {
-        assert_eq!(rt; cut(&mut tree, dir, name), Some(Err(fault)), "{name:?}");
-    }
-    assert_eq!(rt; node(&tree, 0, b"tmp"), Some(3));
-    expect_moves_refused(&rt, rt.alloc())
+    expect_steps(&rt, rt.alloc(), &REFUSED)
 }
 
-/// Moves what cannot be moved, and what stands there already.
-fn expect_moves_refused(rt: &impl Abort, alloc: Global) -> Result<(), Fail> {
-    let mut tree = read_listing(alloc, EXAMPLE)?;
-    for (name, to, new_name, answer) in [
-        (
-            b"tmp".as_slice(),
-            2,
-            b"new".as_slice(),
-            Err(TreeFault::NotDir),
-        ),
-        (b"new", 0, b"tmp", Err(TreeFault::Missing)),
-        (b"tmp", 3, b"new", Err(TreeFault::Inside)),
-        (b"etc", 0, b"tmp", Err(TreeFault::NotEmpty)),
-        (b"tmp", 0, b"tmp", Ok(())),
-    ] {
-        assert_eq!(rt; shifted(&mut tree, 0, name, to, new_name), Some(answer));
-    }
-    assert_eq!(rt; node(&tree, 0, b"etc"), Some(1));
-    assert_eq!(rt; node(&tree, 0, b"tmp"), Some(3));
+#[test]
+fn targets_are_kept(rt: HostRuntime) -> Result<(), Fail> {
+    let mut tree = read_listing(rt.alloc(), EXAMPLE)?;
+    let name = Name::read(b"new")?;
+    let node = tree.add(NodeId::new(3), name, Kind::Link, Some(b"sh"))?;
+    let is_kept = tree.target(node) == Some(b"sh".as_slice());
+    expect(&rt, "node 8 is a link to sh", is_kept && node.number() == 8);
     Ok(())
 }
 
@@ -129,13 +171,15 @@ fn takes_65535_nodes_and_no_more(rt: HostRuntime) -> Result<(), Fail> {
     let mut tree = read_listing(rt.alloc(), b"tree 1\n0 dir\n")?;
     for number in 1..65_535 {
         let name = format!(in rt.alloc(); "{number:05}")?;
-        assert_eq!(rt;
-            added(&mut tree, 0, name.as_bytes()),
-            Some(Ok(NodeId::new(number)))
-        );
+        let node = added(&mut tree, Kind::File, 0, name.as_bytes());
+        expect(&rt, "each node is added", node == Some(Ok(Some(number))));
     }
-    assert_eq!(rt; added(&mut tree, 0, b"more"), Some(Err(TreeFault::Full)));
-    assert_eq!(rt; cut(&mut tree, 0, b"65534"), Some(Ok(NodeId::new(65_534))));
-    assert_eq!(rt; added(&mut tree, 0, b"more"), Some(Ok(NodeId::new(65_535))));
+    for (step, want) in [
+        (Step::Add(Kind::File, 0, b"more"), Err(TreeFault::Full)),
+        (Step::Cut(0, b"65534"), Ok(Some(65_534))),
+        (Step::Add(Kind::File, 0, b"more"), Ok(Some(65_535))),
+    ] {
+        expect(&rt, "a full tree", answer(&mut tree, step) == Some(want));
+    }
     Ok(())
 }

@@ -1,30 +1,49 @@
 //! Fields of lines, and the numbers in them.
 
+use crate::expect::{expect, expect_of};
 use pua_tree::{Fields, is_field, number_within, split_field};
+
+/// Whether a line is of fields, and this one stands at a place among them.
+fn has_field(line: &[u8], at: usize, field: &[u8]) -> bool {
+    match Fields::read(line) {
+        Some(fields) => fields.as_slice().get(at) == Some(&field),
+        None => false,
+    }
+}
+
+/// How many fields a line has; None where it is not of fields.
+fn fields_of(line: &[u8]) -> Option<usize> {
+    Some(Fields::read(line)?.as_slice().len())
+}
 
 #[test]
 fn fields_stand_between_single_spaces(rt: HostRuntime) {
-    let fields = Fields::read(b"4 link 0 t ../tmp");
-    assert!(rt; fields.is_some());
-    if let Some(fields) = fields {
-        assert_eq!(rt; fields.as_slice().len(), 5);
-        for (field, want) in fields
-            .as_slice()
-            .iter()
-            .zip([b"4".as_slice(), b"link", b"0", b"t", b"../tmp"])
-        {
-            assert_eq!(rt; *field, want);
-        }
+    let line = b"4 link 0 t ../tmp".as_slice();
+    for (at, field) in [b"4".as_slice(), b"link", b"0", b"t", b"../tmp"]
+        .iter()
+        .enumerate()
+    {
+        expect_of(&rt, *field, has_field(line, at, *field));
     }
-    for line in [b"".as_slice(), b"1 dir  0 a", b" 1", b"1 ", b"1\t2"] {
-        assert!(rt; Fields::read(line).is_none(), "{line:?}");
+    for (line, want) in [
+        (line, Some(5)),
+        (b"", None),
+        (b"1 dir  0 a", None),
+        (b" 1", None),
+        (b"1 ", None),
+        (b"1\t2", None),
+    ] {
+        expect_of(&rt, line, fields_of(line) == want);
     }
-    assert!(rt; is_field(b"a!~"));
-    assert!(rt; !is_field(b""));
-    assert!(rt; !is_field(b"\x7f"));
-    let (first, rest) = split_field(b"1 dir 0");
-    assert_eq!(rt; first, b"1".as_slice());
-    assert!(rt; rest == Some(b"dir 0".as_slice()));
+    for (text, want) in [(b"a!~".as_slice(), true), (b"", false), (b"\x7f", false)] {
+        expect_of(&rt, text, is_field(text) == want);
+    }
+    let split = (b"1".as_slice(), Some(b"dir 0".as_slice()));
+    expect(
+        &rt,
+        "a field and its rest",
+        split_field(b"1 dir 0") == split,
+    );
 }
 
 #[test]
@@ -38,6 +57,6 @@ fn numbers_have_one_spelling(rt: HostRuntime) {
         (1, b"1000000", None),
         (1, b"", None),
     ] {
-        assert_eq!(rt; number_within(low, 999_999, text), want, "{text:?}");
+        expect_of(&rt, text, number_within(low, 999_999, text) == want);
     }
 }

@@ -11,6 +11,8 @@ mod edits;
 #[cfg(test)]
 mod example;
 #[cfg(test)]
+mod expect;
+#[cfg(test)]
 mod fields;
 #[cfg(test)]
 mod lent;

@@ -1,26 +1,25 @@
 //! Audits by direct calls: the lines that a walk lends, one by one.
 
+use crate::expect::{expect, expect_at};
 use crate::lent::{begun, lines_of};
 use crate::told::ROOT;
 use pua_audit::{AuditFault, Base};
 use pua_tree::{ListTree, read_listing};
 use std::alloc::Global;
-use std::process::Abort;
 use std::test::Fail;
 
-/// All lines of an audit, of which none comes again.
+/// All lines of an audit, and those that it lends once more.
 fn lent(
-    rt: &impl Abort,
     alloc: Global,
     tree: &ListTree,
     base: Base,
     limit: u8,
     after: Option<&[u8]>,
-) -> Result<Vec<u8>, Fail> {
+) -> Result<(Vec<u8>, Vec<u8>), Fail> {
     let mut audit = begun(alloc, tree, base, limit, after)?;
     let lines = lines_of(alloc, tree, &mut audit)?;
-    assert!(rt; lines_of(alloc, tree, &mut audit)?.is_empty());
-    Ok(lines)
+    let again = lines_of(alloc, tree, &mut audit)?;
+    Ok((lines, again))
 }
 
 #[test]
@@ -40,8 +39,9 @@ fn lines_are_lent_in_order_and_once(rt: HostRuntime) -> Result<(), Fail> {
             b". stat\n. lstat\n. open-r\n. chmod\n. chdir\n",
         ),
     ] {
-        let lines = lent(&rt, rt.alloc(), &tree, base, limit, after)?;
-        assert_eq!(rt; lines.as_slice(), want);
+        let (lines, again) = lent(rt.alloc(), &tree, base, limit, after)?;
+        expect(&rt, "all lines", lines.as_slice() == want);
+        expect(&rt, "no line more", again.is_empty());
     }
     Ok(())
 }
@@ -49,13 +49,16 @@ fn lines_are_lent_in_order_and_once(rt: HostRuntime) -> Result<(), Fail> {
 #[test]
 fn audits_are_refused(rt: HostRuntime) -> Result<(), Fail> {
     let tree = read_listing(rt.alloc(), ROOT)?;
-    for (limit, after, fault) in [
+    for (row, (limit, after, fault)) in [
         (17, None, AuditFault::LimitTooLarge),
         (1, Some(b"stat:a".as_slice()), AuditFault::BadResume),
         (0, Some(b"stat:/a\\040b"), AuditFault::BadResume),
-    ] {
-        let refused = begun(rt.alloc(), &tree, Base::Root, limit, after);
-        assert!(rt; matches!(refused, Err(told) if told == fault));
+    ]
+    .iter()
+    .enumerate()
+    {
+        let refused = begun(rt.alloc(), &tree, Base::Root, *limit, *after);
+        expect_at(&rt, row, matches!(refused, Err(told) if told == *fault));
     }
     Ok(())
 }

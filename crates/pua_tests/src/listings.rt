@@ -1,6 +1,7 @@
 //! The reader of listings.
 
 use crate::example::EXAMPLE;
+use crate::expect::{expect, expect_at, expect_of};
 use crate::told::{Files, ROOT, expect_fault};
 use pua_tree::{FileTree, Kind, ListingFault as Fault, Name, NodeId, read_listing};
 use std::alloc::Global;
@@ -41,38 +42,32 @@ fn refuses_what_is_no_listing(rt: HostRuntime) {
         (cut(63), Fault::BadLine(6)),
     ] {
         let fault = read_listing(rt.alloc(), text).err();
-        assert_eq!(rt; fault, Some(want), "{text:?}");
+        expect_of(&rt, text, fault == Some(want));
     }
-    assert_eq!(rt; EXAMPLE.len(), 118);
 }
 
 #[test]
 fn reads_nodes(rt: HostRuntime) -> Result<(), Fail> {
     let tree = read_listing(rt.alloc(), EXAMPLE)?;
-    for (number, kind) in [
-        (0, Some(Kind::Dir)),
-        (2, Some(Kind::File)),
-        (4, Some(Kind::Link)),
-        (7, Some(Kind::Prog)),
-        (8, None),
-    ] {
-        assert_eq!(rt; tree.kind(NodeId::new(number)), kind, "{number}");
-    }
-    for (number, parent) in [
-        (0, Some(0)),
-        (1, Some(0)),
-        (2, None),
-        (3, Some(0)),
-        (8, None),
+    let target = Some(b"../etc".as_slice());
+    for (number, kind, parent, target) in [
+        (0, Some(Kind::Dir), Some(0), None),
+        (1, Some(Kind::Dir), Some(0), None),
+        (2, Some(Kind::File), None, None),
+        (3, Some(Kind::Dir), Some(0), None),
+        (5, Some(Kind::Link), None, target),
+        (7, Some(Kind::Prog), None, None),
+        (8, None, None, None),
     ] {
         let node = NodeId::new(number);
-        assert_eq!(rt; tree.parent(node), parent.map(NodeId::new), "{number}");
-        assert!(rt; !tree.is_empty(node), "{number}");
+        let label = "a node of the example";
+        expect(&rt, label, tree.kind(node) == kind);
+        expect(&rt, label, tree.parent(node) == parent.map(NodeId::new));
+        expect(&rt, label, tree.target(node) == target);
+        expect(&rt, label, !tree.is_empty(node));
     }
-    assert_eq!(rt; tree.target(NodeId::new(5)), Some(b"../etc".as_slice()));
-    assert_eq!(rt; tree.target(NodeId::new(3)), None);
     let empty = read_listing(rt.alloc(), ROOT)?;
-    assert!(rt; empty.is_empty(NodeId::ROOT));
+    expect(&rt, "an empty root", empty.is_empty(NodeId::ROOT));
     Ok(())
 }
 
@@ -84,24 +79,16 @@ fn in_root(alloc: Global, text: &[u8], name: &[u8]) -> Result<Option<NodeId>, Fa
 }
 
 #[test]
-fn reads_names(rt: HostRuntime) -> Result<(), Fail> {
+fn finds_names(rt: HostRuntime) -> Result<(), Fail> {
     let tree = read_listing(rt.alloc(), EXAMPLE)?;
     let name = Name::read(b"tmp")?;
-    assert_eq!(rt; tree.look(NodeId::ROOT, &name), Some(NodeId::new(3)));
-    assert_eq!(rt; tree.look(NodeId::new(3), &name), None);
-    assert_eq!(rt; tree.look(NodeId::new(4), &name), None);
-    let names = tree.names(rt.alloc())?;
-    assert_eq!(rt; names.len(), 7);
-    for (name, want) in names.iter().zip([
-        b"etc".as_slice(),
-        b"passwd",
-        b"self",
-        b"sh",
-        b"t",
-        b"tmp",
-        b"up",
-    ]) {
-        assert_eq!(rt; name.bytes(), want);
+    for (dir, want) in [(0, Some(3)), (3, None), (4, None)] {
+        let found = tree.look(NodeId::new(dir), &name);
+        expect(
+            &rt,
+            "a name in one directory",
+            found == want.map(NodeId::new),
+        );
     }
     for (text, name, node) in [
         (cut(50), b"t".as_slice(), 3),
@@ -109,10 +96,22 @@ fn reads_names(rt: HostRuntime) -> Result<(), Fail> {
         (b"tree 1\r\n0 dir\r\n1 dir 0 a\r\n", b"a", 1),
     ] {
         let found = in_root(rt.alloc(), text, name)?;
-        assert_eq!(rt; found, Some(NodeId::new(node)));
+        expect_of(&rt, text, found == Some(NodeId::new(node)));
     }
     let tree = read_listing(rt.alloc(), cut(65))?;
-    assert_eq!(rt; tree.target(NodeId::new(4)), Some(b"t".as_slice()));
+    let target = tree.target(NodeId::new(4));
+    expect(&rt, "a target that is cut", target == Some(b"t".as_slice()));
+    Ok(())
+}
+
+#[test]
+fn lists_names_in_their_order(rt: HostRuntime) -> Result<(), Fail> {
+    let names = read_listing(rt.alloc(), EXAMPLE)?.names(rt.alloc())?;
+    let wanted: [&[u8]; 7] = [b"etc", b"passwd", b"self", b"sh", b"t", b"tmp", b"up"];
+    expect(&rt, "seven names", names.len() == wanted.len());
+    for (row, (name, want)) in names.iter().zip(wanted.iter()).enumerate() {
+        expect_at(&rt, row, name.bytes() == *want);
+    }
     Ok(())
 }
 
@@ -127,12 +126,11 @@ fn takes_4096_nodes_and_no_more(rt: HostRuntime) -> Result<(), Fail> {
             4096u32.saturating_sub(number)
         )?;
     }
-    let full = read_listing(alloc, text.as_bytes())?;
-    let name = Name::read(b"0001")?;
-    assert_eq!(rt; full.look(NodeId::ROOT, &name), Some(NodeId::new(4095)));
+    let last = in_root(alloc, text.as_bytes(), b"0001")?;
+    expect(&rt, "the last node", last == Some(NodeId::new(4095)));
     text.push_str("4096 file 0 more\n")?;
     let fault = read_listing(alloc, text.as_bytes()).err();
-    assert_eq!(rt; fault, Some(Fault::TooMany(4098)));
+    expect(&rt, "a node more", fault == Some(Fault::TooMany(4098)));
     let files = Files {
         tree: text.as_bytes(),
         script: b"0",

@@ -1,6 +1,8 @@
 //! Names, targets and how bytes are spelled.
 
+use crate::expect::{expect, expect_of};
 use pua_tree::{Name, NameFault, byte_spelling, has_short_components, is_target, unspelled};
+use std::alloc::Global;
 use std::test::Fail;
 
 fn named(bytes: &[u8]) -> Result<Name, NameFault> {
@@ -14,7 +16,7 @@ fn names_and_bytes_have_one_spelling(rt: HostRuntime) -> Result<(), Fail> {
         (b"\\134", b"\\"),
         (b"\\377", b"\xff"),
     ] {
-        assert_eq!(rt; Name::read(spelling), named(bytes), "{spelling:?}");
+        expect_of(&rt, spelling, Name::read(spelling) == named(bytes));
     }
     for (spelling, fault) in [
         (b"\\141".as_slice(), NameFault::BadSpelling),
@@ -24,28 +26,41 @@ fn names_and_bytes_have_one_spelling(rt: HostRuntime) -> Result<(), Fail> {
         (b"..", NameFault::NotAName),
         (b"", NameFault::Empty),
     ] {
-        assert_eq!(rt; Name::read(spelling), Err(fault), "{spelling:?}");
+        expect_of(&rt, spelling, Name::read(spelling) == Err(fault));
     }
     for (byte, spelling) in [(b'a', b"a".as_slice()), (b' ', b"\\040"), (255, b"\\377")] {
-        assert_eq!(rt; byte_spelling(byte).as_bytes(), spelling);
+        expect_of(&rt, spelling, byte_spelling(byte).as_bytes() == spelling);
     }
-    let read = unspelled(rt.alloc(), b"/a\\040b/c")?;
-    assert!(rt; read.is_some());
-    if let Some(bytes) = read {
-        assert_eq!(rt; bytes.as_slice(), b"/a b/c".as_slice());
-    }
+    let is_read = is_spelling_of(rt.alloc(), b"/a\\040b/c", b"/a b/c")?;
+    expect(&rt, "a path is read from its spelling", is_read);
     Ok(())
+}
+
+/// Whether a spelling stands for these bytes.
+fn is_spelling_of(alloc: Global, spelling: &[u8], bytes: &[u8]) -> Result<bool, Fail> {
+    Ok(match unspelled(alloc, spelling)? {
+        Some(read) => read.as_slice() == bytes,
+        None => false,
+    })
 }
 
 #[test]
 fn names_and_targets_are_bounded(rt: HostRuntime) {
     let letters = [b'n'; 256];
     let longest = &letters[..255];
-    assert_eq!(rt; Name::read(longest), named(longest));
-    assert!(rt; Name::from_bytes(longest).is_some());
-    assert_eq!(rt; Name::read(&letters), Err(NameFault::TooLong));
-    assert!(rt; Name::from_bytes(&letters).is_none());
-    assert!(rt; !has_short_components(&letters));
+    for (name, want) in [
+        (longest, named(longest)),
+        (&letters, Err(NameFault::TooLong)),
+    ] {
+        expect(&rt, "a name of 255 bytes", Name::read(name) == want);
+        let is_name = Name::from_bytes(name).is_some();
+        expect(&rt, "a name of plain bytes", is_name == want.is_ok());
+        expect(
+            &rt,
+            "a component",
+            has_short_components(name) == want.is_ok(),
+        );
+    }
     let slashes = [b'/'; 1024];
     for (target, want) in [
         (&slashes[..1023], true),
@@ -55,6 +70,6 @@ fn names_and_targets_are_bounded(rt: HostRuntime) {
         (b"", false),
         (b"a\0b", false),
     ] {
-        assert_eq!(rt; is_target(target), want);
+        expect_of(&rt, target, is_target(target) == want);
     }
 }

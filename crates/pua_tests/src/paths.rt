@@ -1,13 +1,14 @@
 //! Path texts, and what they name in a tree.
 
 use crate::example::{EXAMPLE, found, slot, whole};
+use crate::expect::{expect, expect_at, expect_of};
 use pua_path::{Counted, Ending, Errno, Last, PathText, Way, resolve};
 use pua_tree::{ListTree, Name, NodeId, read_listing};
 use std::alloc::Global;
 use std::test::Fail;
 
 #[test]
-fn paths_name_directories_and_slots_or_nothing(rt: HostRuntime) -> Result<(), Fail> {
+fn paths_name_directories_and_slots(rt: HostRuntime) -> Result<(), Fail> {
     let tree = read_listing(rt.alloc(), EXAMPLE)?;
     let parent = NodeId::ROOT;
     let name = Name::read(b"tmp")?;
@@ -33,15 +34,21 @@ fn paths_name_directories_and_slots_or_nothing(rt: HostRuntime) -> Result<(), Fa
         (b"/etc/passwd", Ending::Dot, Last::Kept, passwd),
         (b"/tmp/up/x", Ending::Dot, Last::Kept, slot(1, b"x", None)),
     ] {
-        assert!(rt; Some(found(&tree, text, ending, mode)) == want, "{text:?}");
+        expect_of(&rt, text, Some(found(&tree, text, ending, mode)) == want);
     }
+    Ok(())
+}
+
+#[test]
+fn paths_name_nothing_behind_what_is_no_directory(rt: HostRuntime) -> Result<(), Fail> {
+    let tree = read_listing(rt.alloc(), EXAMPLE)?;
     for (text, errno) in [
         (b"/etc/passwd/x".as_slice(), Errno::ENOTDIR),
         (b"/no/x", Errno::ENOENT),
         (b"/tmp/self", Errno::ELOOP),
     ] {
         let found = found(&tree, text, Ending::Dot, Last::Followed);
-        assert!(rt; found == Err(errno), "{text:?}");
+        expect_of(&rt, text, found == Err(errno));
     }
     Ok(())
 }
@@ -55,9 +62,13 @@ fn relative_paths_alone_need_a_directory(rt: HostRuntime) -> Result<(), Fail> {
     for number in [2, 4, 99] {
         let from = NodeId::new(number);
         let missing = resolve(&mut probe, from, &relative, Last::Followed);
-        assert!(rt; missing == Err(Errno::ENOENT), "{number}");
+        expect(&rt, "a relative path", missing == Err(Errno::ENOENT));
         let found = resolve(&mut probe, from, &absolute, Last::Followed);
-        assert!(rt; Some(found) == whole(0, Way::DotDot), "{number}");
+        expect(
+            &rt,
+            "an absolute path",
+            Some(found) == whole(0, Way::DotDot),
+        );
     }
     Ok(())
 }
@@ -97,8 +108,13 @@ fn chain(alloc: Global) -> Result<String, Fail> {
 fn paths_follow_32_links_and_no_more(rt: HostRuntime) -> Result<(), Fail> {
     let tree = read_listing(rt.alloc(), chain(rt.alloc())?.as_bytes())?;
     for (path, fault) in [(b"/a32".as_slice(), None), (b"/a33", Some(Errno::ELOOP))] {
-        assert_eq!(rt; refusal(&tree, path, Last::Followed), fault, "{path:?}");
+        expect_of(&rt, path, refusal(&tree, path, Last::Followed) == fault);
     }
+    Ok(())
+}
+
+#[test]
+fn links_are_counted_along_the_whole_path(rt: HostRuntime) -> Result<(), Fail> {
     let tree = read_listing(rt.alloc(), chains(rt.alloc())?.as_bytes())?;
     for (path, mode, fault) in [
         (b"/d20/g13".as_slice(), Last::Followed, Some(Errno::ELOOP)),
@@ -106,7 +122,7 @@ fn paths_follow_32_links_and_no_more(rt: HostRuntime) -> Result<(), Fail> {
         (b"/d20/g12", Last::Followed, None),
         (b"/d20/g13", Last::Kept, None),
     ] {
-        assert_eq!(rt; refusal(&tree, path, mode), fault, "{path:?}");
+        expect_of(&rt, path, refusal(&tree, path, mode) == fault);
     }
     Ok(())
 }
@@ -122,31 +138,43 @@ fn long_targets_and_their_last_slash_are_resolved(rt: HostRuntime) -> Result<(),
     }
     text.push_str("\n")?;
     let tree = read_listing(rt.alloc(), text.as_bytes())?;
-    let here = found(&tree, b"/l", Ending::Dot, Last::Followed);
-    assert!(rt; Some(here) == whole(0, Way::Dot));
-    let file = found(&tree, b"/g", Ending::Dot, Last::Followed);
-    assert!(rt; file == Err(Errno::ENOTDIR));
+    for (path, want) in [
+        (b"/l".as_slice(), whole(0, Way::Dot)),
+        (b"/g", Some(Err(Errno::ENOTDIR))),
+    ] {
+        let found = found(&tree, path, Ending::Dot, Last::Followed);
+        expect_of(&rt, path, Some(found) == want);
+    }
     Ok(())
 }
 
 #[test]
-fn path_texts_are_bounded_and_kept(rt: HostRuntime) -> Result<(), Fail> {
+fn path_texts_are_bounded(rt: HostRuntime) -> Result<(), Fail> {
     let letters = [b'a'; 256];
     let slashes = [b'/'; 1024];
-    for (text, fault) in [
+    for (row, (text, fault)) in [
         (letters.as_slice(), Some(Errno::ENAMETOOLONG)),
         (&letters[1..], None),
         (b"", Some(Errno::ENOENT)),
         (b"a\0b", Some(Errno::EINVAL)),
         (&slashes[..1023], None),
         (&slashes, Some(Errno::ENAMETOOLONG)),
-    ] {
-        assert_eq!(rt; PathText::read(text, Ending::Dot).err(), fault);
+    ]
+    .iter()
+    .enumerate()
+    {
+        let read = PathText::read(*text, Ending::Dot);
+        expect_at(&rt, row, read.err() == *fault);
     }
+    Ok(())
+}
+
+#[test]
+fn path_texts_are_kept(rt: HostRuntime) -> Result<(), Fail> {
     for ending in [Ending::Dot, Ending::Dropped] {
         let text = PathText::read(b"a//b/", ending)?;
-        assert_eq!(rt; text.bytes(), b"a//b/".as_slice());
-        assert_eq!(rt; text.ending(), ending);
+        expect(&rt, "its bytes", text.bytes() == b"a//b/".as_slice());
+        expect(&rt, "its ending", text.ending() == ending);
     }
     Ok(())
 }

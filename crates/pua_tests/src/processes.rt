@@ -1,10 +1,10 @@
 //! What processes keep of what happened to them.
 
+use crate::expect::{expect, expect_at};
 use pua_path::Errno;
 use pua_policy::{May, Perms, Place, Process, Promises, UnveilFault};
 use pua_tree::NodeId;
 use std::alloc::Global;
-use std::process::Abort;
 use std::test::Fail;
 
 #[test]
@@ -12,25 +12,45 @@ fn promises_narrow_and_are_missed(rt: HostRuntime) -> Result<(), Fail> {
     let mut process = Process::new(rt.alloc())?;
     let more = Promises::RPATH.union(Promises::WPATH);
     let with_error = Promises::RPATH.union(Promises::ERROR);
-    for (promises, execpromises, want) in [
+    for (row, (promises, execpromises, want)) in [
         (None, Some(Promises::RPATH), Ok(())),
         (None, Some(more), Err(Errno::EPERM)),
         (Some(with_error), None, Ok(())),
         (Some(more), Some(Promises::WPATH), Ok(())),
-    ] {
-        assert_eq!(rt; process.pledge(promises, execpromises), want);
+    ]
+    .iter()
+    .enumerate()
+    {
+        let pledged = process.pledge(*promises, *execpromises);
+        expect_at(&rt, row, pledged == *want);
     }
-    assert_eq!(rt; process.may(Promises::WPATH), May::Death);
-    assert_eq!(rt; process.may(Promises::RPATH), May::Yes);
-    expect_missed(&rt, rt.alloc())
+    expect(
+        &rt,
+        "wpath is missed",
+        process.may(Promises::WPATH) == May::Death,
+    );
+    expect(
+        &rt,
+        "rpath is kept",
+        process.may(Promises::RPATH) == May::Yes,
+    );
+    Ok(())
 }
 
-/// Asks a new process for what it may do, with all promises and with `error` alone.
-fn expect_missed(rt: &impl Abort, alloc: Global) -> Result<(), Fail> {
-    let mut process = Process::new(alloc)?;
-    assert_eq!(rt; process.may(Promises::ERROR), May::Death);
+#[test]
+fn a_promise_is_missed_with_error_alone(rt: HostRuntime) -> Result<(), Fail> {
+    let mut process = Process::new(rt.alloc())?;
+    expect(
+        &rt,
+        "error is promised by none",
+        process.may(Promises::ERROR) == May::Death,
+    );
     process.pledge(Some(Promises::ERROR), None)?;
-    assert_eq!(rt; process.may(Promises::WPATH), May::Enosys);
+    expect(
+        &rt,
+        "wpath fails",
+        process.may(Promises::WPATH) == May::Enosys,
+    );
     Ok(())
 }
 
@@ -40,29 +60,33 @@ fn place(number: u32) -> Place {
 }
 
 #[test]
-fn veils_are_at_most_128_and_none_once_locked(rt: HostRuntime) -> Result<(), Fail> {
+fn veils_are_at_most_128(rt: HostRuntime) -> Result<(), Fail> {
     let mut process = Process::new(rt.alloc())?;
     for number in 1..=128 {
-        assert_eq!(rt; process.unveil_at(place(number), Perms::READ), Ok(()));
+        let unveiled = process.unveil_at(place(number), Perms::READ);
+        expect(&rt, "128 veils", unveiled == Ok(()));
     }
-    for (number, perms, want) in [
+    for (row, (number, perms, want)) in [
         (129, Perms::READ, Err(UnveilFault::TooManyPlaces)),
         (1, Perms::WRITE, Err(UnveilFault::NotPermitted)),
         (1, Perms::NONE, Ok(())),
-    ] {
-        assert_eq!(rt; process.unveil_at(place(number), perms), want);
+    ]
+    .iter()
+    .enumerate()
+    {
+        let unveiled = process.unveil_at(place(*number), *perms);
+        expect_at(&rt, row, unveiled == *want);
     }
-    expect_locked(&rt, rt.alloc())
+    Ok(())
 }
 
-/// Locks the veils of a new process.
-fn expect_locked(rt: &impl Abort, alloc: Global) -> Result<(), Fail> {
-    let mut process = Process::new(alloc)?;
-    assert!(rt; !process.locked());
+#[test]
+fn no_veil_is_taken_once_locked(rt: HostRuntime) -> Result<(), Fail> {
+    let mut process = Process::new(rt.alloc())?;
+    expect(&rt, "a new process is not locked", !process.locked());
     process.lock();
-    assert!(rt; process.locked());
-    let fault = process.unveil_at(place(1), Perms::NONE);
-    assert_eq!(rt; fault, Err(UnveilFault::NotPermitted));
+    let refused = process.unveil_at(place(1), Perms::NONE) == Err(UnveilFault::NotPermitted);
+    expect(&rt, "it is locked now", process.locked() && refused);
     Ok(())
 }
 
@@ -77,31 +101,49 @@ fn confined(alloc: Global) -> Result<Process, Fail> {
     Ok(process)
 }
 
-#[test]
-fn processes_fork_and_end_and_become_other_programs(rt: HostRuntime) -> Result<(), Fail> {
-    let process = confined(rt.alloc())?;
-    let mut copy = process.fork(rt.alloc())?;
-    assert!(rt; copy.locked());
-    assert_eq!(rt; copy.dir(), NodeId::new(7));
-    assert_eq!(rt; copy.may(Promises::WPATH), May::Death);
-    copy.end();
-    assert!(rt; copy.ended());
-    assert_eq!(rt; copy.may(Promises::NONE), May::Death);
-    assert!(rt; !process.ended());
-    expect_next_program(&rt, rt.alloc())
+/// Whether a process is locked or not, stands in directory 7, has not ended, and may do this with
+/// a promise.
+fn stands(process: &Process, is_locked: bool, promise: Promises, answer: May) -> bool {
+    process.locked() == is_locked
+        && process.dir() == NodeId::new(7)
+        && !process.ended()
+        && process.may(promise) == answer
 }
 
-/// Runs another program, and a next one.
-fn expect_next_program(rt: &impl Abort, alloc: Global) -> Result<(), Fail> {
-    let mut process = confined(alloc)?;
-    assert!(rt; !process.ended());
+#[test]
+fn processes_fork_and_end(rt: HostRuntime) -> Result<(), Fail> {
+    let process = confined(rt.alloc())?;
+    let mut copy = process.fork(rt.alloc())?;
+    expect(
+        &rt,
+        "a copy",
+        stands(&copy, true, Promises::WPATH, May::Death),
+    );
+    copy.end();
+    let is_over = copy.ended() && copy.may(Promises::NONE) == May::Death;
+    expect(&rt, "the copy alone has ended", is_over && !process.ended());
+    Ok(())
+}
+
+/// Runs another program, and tells whether there was still a process to run it.
+fn is_replaced(process: &mut Process) -> bool {
+    if process.ended() {
+        return false;
+    }
     process.exec_into();
-    assert!(rt; process.locked());
-    assert_eq!(rt; process.may(Promises::RPATH), May::Enosys);
-    assert!(rt; !process.ended());
-    process.exec_into();
-    assert!(rt; !process.locked());
-    assert_eq!(rt; process.dir(), NodeId::new(7));
-    assert_eq!(rt; process.may(Promises::RPATH), May::Yes);
+    true
+}
+
+#[test]
+fn processes_become_other_programs(rt: HostRuntime) -> Result<(), Fail> {
+    let mut process = confined(rt.alloc())?;
+    for (what, is_locked, promise, answer) in [
+        ("its first program", true, Promises::WPATH, May::Death),
+        ("its next", true, Promises::RPATH, May::Enosys),
+        ("its last", false, Promises::RPATH, May::Yes),
+    ] {
+        expect(&rt, what, stands(&process, is_locked, promise, answer));
+        expect(&rt, what, is_replaced(&mut process));
+    }
     Ok(())
 }

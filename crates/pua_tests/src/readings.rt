@@ -1,5 +1,6 @@
 //! Readings that give little at a time, and fail.
 
+use crate::expect::expect;
 use pua_tool::{InputFault, ReadSource, read_bytes};
 use std::io::{self, Read};
 use std::test::Fail;
@@ -36,16 +37,11 @@ fn a_read_that_fails_is_told(rt: HostRuntime) -> Result<(), Fail> {
             reads: 0,
             fails_at,
         });
-        match read_bytes(rt.alloc(), &mut source) {
-            Ok(all) => {
-                assert_eq!(rt; fails_at, 15);
-                assert_eq!(rt; all.as_slice(), bytes);
-            }
-            Err(fault) => {
-                assert!(rt; fails_at < 15);
-                assert_eq!(rt; fault, InputFault::Unreadable);
-            }
-        }
+        let is_told = match read_bytes(rt.alloc(), &mut source) {
+            Ok(all) => fails_at == 15 && all.as_slice() == bytes,
+            Err(fault) => fails_at < 15 && fault == InputFault::Unreadable,
+        };
+        expect(&rt, "a failure at each read, and at none", is_told);
     }
     Ok(())
 }

@@ -1,6 +1,7 @@
 //! Audits that are resumed: each cut is followed by what was still to come.
 
 use crate::example::EXAMPLE;
+use crate::expect::{expect, expect_of};
 use crate::told::{Files, behind, output};
 use pua_audit::Base;
 use pua_tool::{Job, MemorySink, audit_to};
@@ -18,7 +19,7 @@ fn expect_rests(
     pairs: &[u8],
 ) -> Result<(), Fail> {
     let mut rest = pairs;
-    assert!(rt; !pairs.is_empty());
+    expect(rt, "there are pairs", !pairs.is_empty());
     for line in pairs.split_inclusive(|byte| *byte == b'\n') {
         rest = behind(rest, line);
         let after = resume_text(alloc, line)?;
@@ -31,7 +32,7 @@ fn expect_rests(
         };
         let mut sink = MemorySink::new(alloc, pairs.len())?;
         audit_to(alloc, files.tree, files.script, &job, &mut sink)?;
-        assert_eq!(rt; sink.bytes(), rest);
+        expect_of(rt, line, sink.bytes() == rest);
     }
     Ok(())
 }
@@ -49,7 +50,7 @@ fn resume_text(alloc: Global, line: &[u8]) -> Result<Vec<u8>, Fail> {
 }
 
 #[test]
-fn each_line_is_resumed_after(rt: HostRuntime) -> Result<(), Fail> {
+fn each_line_from_a_directory_is_resumed_after(rt: HostRuntime) -> Result<(), Fail> {
     let words = ["audit", "--limit", "3", "--base", "cwd", "T", "S"];
     let files = Files {
         tree: EXAMPLE,
@@ -57,7 +58,11 @@ fn each_line_is_resumed_after(rt: HostRuntime) -> Result<(), Fail> {
     };
     let text = output(&rt, rt.alloc(), &words, &files)?;
     let pairs = behind(text.as_slice(), b"1 ok\n2 ok\nreach 1\n");
-    expect_rests(&rt, rt.alloc(), &files, Base::Cwd, pairs)?;
+    expect_rests(&rt, rt.alloc(), &files, Base::Cwd, pairs)
+}
+
+#[test]
+fn each_line_from_the_root_is_resumed_after(rt: HostRuntime) -> Result<(), Fail> {
     let words = ["audit", "--limit", "3", "T", "S"];
     let files = Files {
         tree: EXAMPLE,
@@ -83,9 +88,8 @@ fn pairs_of_the_alphabet_are_resumed_after(rt: HostRuntime) -> Result<(), Fail> 
     for after in ["stat:/", "exec:/etc/self", "exec:/t/passwd/.."] {
         let words = ["audit", "--limit", "3", "--after", after, "T", "S"];
         let rest = output(&rt, rt.alloc(), &words, &files)?;
-        assert!(rt; !rest.is_empty());
-        assert!(rt; rest.len() < whole.len());
-        assert!(rt; whole.ends_with(rest.as_slice()));
+        let is_part = !rest.is_empty() && rest.len() < whole.len();
+        expect(&rt, after, is_part && whole.ends_with(rest.as_slice()));
     }
     Ok(())
 }

@@ -1,6 +1,7 @@
 //! Paths that are taken part by part.
 
 use crate::example::{EXAMPLE, slot};
+use crate::expect::{expect, expect_of};
 use pua_path::{Counted, Errno, Last, Part, last, step};
 use pua_tree::{FileTree, Kind, ListTree, Name, NodeId, read_listing};
 use std::test::Fail;
@@ -21,6 +22,17 @@ fn stepped(
     Some(step(&mut Counted::new(tree), dir, used, &part))
 }
 
+/// Whether a last part `passwd` names the file of that name; None where its directory is none.
+fn ends_at_passwd(tree: &ListTree) -> Option<bool> {
+    let part = Part::Name(Name::from_bytes(b"passwd")?);
+    let dir = NodeId::new(1);
+    if tree.kind(dir) != Some(Kind::Dir) {
+        return None;
+    }
+    let found = last(&mut Counted::new(tree), dir, 2, &part, Last::Followed);
+    Some(Some(found) == slot(1, b"passwd", Some(2)))
+}
+
 #[test]
 fn steps_lead_through_links_to_last_parts(rt: HostRuntime) -> Result<(), Fail> {
     let tree = read_listing(rt.alloc(), EXAMPLE)?;
@@ -31,12 +43,8 @@ fn steps_lead_through_links_to_last_parts(rt: HostRuntime) -> Result<(), Fail> {
         (1, 2, b"passwd", Err(Errno::ENOTDIR)),
         (1, 2, b"t", Err(Errno::ENOENT)),
     ] {
-        assert_eq!(rt; stepped(&tree, dir, used, name), Some(want), "{name:?}");
+        expect_of(&rt, name, stepped(&tree, dir, used, name) == Some(want));
     }
-    let part = Part::Name(Name::read(b"passwd")?);
-    let dir = NodeId::new(1);
-    assert_eq!(rt; tree.kind(dir), Some(Kind::Dir));
-    let found = last(&mut Counted::new(&tree), dir, 2, &part, Last::Followed);
-    assert!(rt; Some(found) == slot(1, b"passwd", Some(2)));
+    expect(&rt, "the last part", ends_at_passwd(&tree) == Some(true));
     Ok(())
 }

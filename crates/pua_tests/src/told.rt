@@ -1,5 +1,6 @@
 //! Commands over files in memory, and what they tell.
 
+use crate::expect::expect;
 use pua_tool::{MemoryInputs, MemorySink, command};
 use std::alloc::Global;
 use std::process::Abort;
@@ -30,12 +31,10 @@ pub(crate) fn expect_fault(
     let mut inputs = MemoryInputs::new(&entries);
     let mut out = MemorySink::new(alloc, room)?;
     let mut err = MemorySink::new(alloc, 1024)?;
-    assert_eq!(rt;
-        command(alloc, words, &mut inputs, &mut out, &mut err),
-        status
-    );
-    assert_eq!(rt; out.bytes(), b"".as_slice());
-    assert_eq!(rt; err.bytes(), line);
+    let ended = command(alloc, words, &mut inputs, &mut out, &mut err);
+    expect(rt, "the status of a fault", ended == status);
+    expect(rt, "no output before a fault", out.bytes().is_empty());
+    expect(rt, "the line of a fault", err.bytes() == line);
     Ok(())
 }
 
@@ -50,8 +49,8 @@ pub(crate) fn output(
     let mut inputs = MemoryInputs::new(&entries);
     let mut out = MemorySink::new(alloc, 1_048_576)?;
     let mut err = MemorySink::new(alloc, 1024)?;
-    assert_eq!(rt; command(alloc, words, &mut inputs, &mut out, &mut err), 0);
-    assert_eq!(rt; err.bytes(), b"".as_slice());
+    let ended = command(alloc, words, &mut inputs, &mut out, &mut err);
+    expect(rt, "no fault", ended == 0 && err.bytes().is_empty());
     Ok(Vec::from_slice(alloc, out.bytes())?)
 }
 

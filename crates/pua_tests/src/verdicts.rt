@@ -1,12 +1,11 @@
 //! What veils leave of a tree, and the verdicts on calls.
 
 use crate::example::{EXAMPLE, found};
+use crate::expect::{expect, expect_of};
 use pua_path::{Counted, Ending, Errno, Last};
 use pua_policy::judge::{verdict, verdict_of};
 use pua_policy::{Call, Cover, Perms, Place, Process, Promises, Verdict, needs};
 use pua_tree::{ListTree, Name, NodeId, read_listing};
-use std::alloc::Global;
-use std::process::Abort;
 use std::test::Fail;
 
 /// An empty directory, and one in which a file, a link to it and a program stand.
@@ -58,60 +57,63 @@ fn unlike(
     None
 }
 
+/// What each call answers on a directory that is not empty, an empty one, a file, a program, a link
+/// and a name that is free.
+const BY_KIND: [(&[u8], [Option<Errno>; 14]); 6] = [
+    (
+        b"/e",
+        [
+            OK, OK, EINVAL, OK, EISDIR, EISDIR, EISDIR, EEXIST, ENOTEMPTY, EPERM, EEXIST, OK, OK,
+            EACCES,
+        ],
+    ),
+    (
+        b"/d",
+        [
+            OK, OK, EINVAL, OK, EISDIR, EISDIR, EISDIR, EEXIST, OK, EPERM, EEXIST, OK, OK, EACCES,
+        ],
+    ),
+    (
+        b"/e/f",
+        [
+            OK, OK, EINVAL, OK, OK, OK, OK, EEXIST, ENOTDIR, OK, EEXIST, OK, ENOTDIR, EACCES,
+        ],
+    ),
+    (
+        b"/e/p",
+        [
+            OK, OK, EINVAL, OK, OK, OK, OK, EEXIST, ENOTDIR, OK, EEXIST, OK, ENOTDIR, OK,
+        ],
+    ),
+    (
+        b"/e/l",
+        [
+            OK, OK, OK, OK, OK, OK, OK, EEXIST, ENOTDIR, OK, EEXIST, OK, ENOTDIR, EACCES,
+        ],
+    ),
+    (
+        b"/e/x",
+        [
+            ENOENT, ENOENT, ENOENT, ENOENT, ENOENT, ENOENT, OK, OK, ENOENT, ENOENT, OK, ENOENT,
+            ENOENT, ENOENT,
+        ],
+    ),
+];
+
 #[test]
 fn judges_by_kind(rt: HostRuntime) -> Result<(), Fail> {
     let tree = read_listing(rt.alloc(), KINDS)?;
     let process = Process::new(rt.alloc())?;
-    for (text, answers) in [
-        (
-            b"/e".as_slice(),
-            [
-                OK, OK, EINVAL, OK, EISDIR, EISDIR, EISDIR, EEXIST, ENOTEMPTY, EPERM, EEXIST, OK,
-                OK, EACCES,
-            ],
-        ),
-        (
-            b"/d",
-            [
-                OK, OK, EINVAL, OK, EISDIR, EISDIR, EISDIR, EEXIST, OK, EPERM, EEXIST, OK, OK,
-                EACCES,
-            ],
-        ),
-        (
-            b"/e/f",
-            [
-                OK, OK, EINVAL, OK, OK, OK, OK, EEXIST, ENOTDIR, OK, EEXIST, OK, ENOTDIR, EACCES,
-            ],
-        ),
-        (
-            b"/e/p",
-            [
-                OK, OK, EINVAL, OK, OK, OK, OK, EEXIST, ENOTDIR, OK, EEXIST, OK, ENOTDIR, OK,
-            ],
-        ),
-        (
-            b"/e/l",
-            [
-                OK, OK, OK, OK, OK, OK, OK, EEXIST, ENOTDIR, OK, EEXIST, OK, ENOTDIR, EACCES,
-            ],
-        ),
-        (
-            b"/e/x",
-            [
-                ENOENT, ENOENT, ENOENT, ENOENT, ENOENT, ENOENT, OK, OK, ENOENT, ENOENT, OK, ENOENT,
-                ENOENT, ENOENT,
-            ],
-        ),
-    ] {
-        assert_eq!(rt; unlike(&tree, &process, text, &answers), None, "{text:?}");
+    for (text, answers) in &BY_KIND {
+        expect_of(&rt, *text, unlike(&tree, &process, *text, answers) == None);
     }
     Ok(())
 }
 
 #[test]
-fn judges_the_way_and_promises_before_the_path(rt: HostRuntime) -> Result<(), Fail> {
+fn judges_the_way_before_the_node(rt: HostRuntime) -> Result<(), Fail> {
     let tree = read_listing(rt.alloc(), KINDS)?;
-    let mut process = Process::new(rt.alloc())?;
+    let process = Process::new(rt.alloc())?;
     for (text, errno) in [
         (b"/d/.".as_slice(), Errno::EINVAL),
         (b"/d/..", Errno::EINVAL),
@@ -119,8 +121,15 @@ fn judges_the_way_and_promises_before_the_path(rt: HostRuntime) -> Result<(), Fa
         (b"/e/l/", Errno::ENOTDIR),
     ] {
         let verdict = judged(&tree, &process, Call::Rmdir, text);
-        assert_eq!(rt; verdict, Verdict::Failed(errno), "{text:?}");
+        expect_of(&rt, text, verdict == Verdict::Failed(errno));
     }
+    Ok(())
+}
+
+#[test]
+fn judges_promises_before_the_path(rt: HostRuntime) -> Result<(), Fail> {
+    let tree = read_listing(rt.alloc(), KINDS)?;
+    let mut process = Process::new(rt.alloc())?;
     let with_error = Promises::RPATH.union(Promises::ERROR);
     for (promises, call, want) in [
         (with_error, Call::Mkdir, Verdict::Failed(Errno::ENOSYS)),
@@ -128,7 +137,8 @@ fn judges_the_way_and_promises_before_the_path(rt: HostRuntime) -> Result<(), Fa
         (Promises::RPATH, Call::Stat, Verdict::Failed(Errno::ENOENT)),
     ] {
         process.pledge(Some(promises), None)?;
-        assert_eq!(rt; judged(&tree, &process, call, b"/no/x"), want);
+        let verdict = judged(&tree, &process, call, b"/no/x");
+        expect(&rt, call.name(), verdict == want);
     }
     Ok(())
 }
@@ -142,10 +152,14 @@ fn covered(tree: &ListTree, process: &Process, text: &[u8]) -> Option<Cover> {
 }
 
 #[test]
-fn covers_by_the_nearest_veil_alone(rt: HostRuntime) -> Result<(), Fail> {
+fn covers_what_is_beneath_a_veil(rt: HostRuntime) -> Result<(), Fail> {
     let tree = read_listing(rt.alloc(), EXAMPLE)?;
     let mut process = Process::new(rt.alloc())?;
-    assert_eq!(rt; covered(&tree, &process, b"/tmp"), Some(Cover::All));
+    expect(
+        &rt,
+        "no veil",
+        covered(&tree, &process, b"/tmp") == Some(Cover::All),
+    );
     process.unveil_at(Place::Dir(NodeId::new(3)), Perms::READ)?;
     for (text, cover) in [
         (b"/tmp/sh".as_slice(), Cover::Only(Perms::READ)),
@@ -154,15 +168,15 @@ fn covers_by_the_nearest_veil_alone(rt: HostRuntime) -> Result<(), Fail> {
         (b"/etc/passwd", Cover::Nothing),
         (b"/", Cover::Nothing),
     ] {
-        assert_eq!(rt; covered(&tree, &process, text), Some(cover), "{text:?}");
+        expect_of(&rt, text, covered(&tree, &process, text) == Some(cover));
     }
-    expect_nearest(&rt, rt.alloc())
+    Ok(())
 }
 
-/// Veils the root, a directory and a file in it, and compares what each leaves.
-fn expect_nearest(rt: &impl Abort, alloc: Global) -> Result<(), Fail> {
-    let tree = read_listing(alloc, KINDS)?;
-    let mut process = Process::new(alloc)?;
+#[test]
+fn covers_by_the_nearest_of_nested_veils(rt: HostRuntime) -> Result<(), Fail> {
+    let tree = read_listing(rt.alloc(), KINDS)?;
+    let mut process = Process::new(rt.alloc())?;
     let file = Name::read(b"f")?;
     for (place, perms) in [
         (Place::Dir(NodeId::ROOT), Perms::READ),
@@ -178,8 +192,8 @@ fn expect_nearest(rt: &impl Abort, alloc: Global) -> Result<(), Fail> {
         (b"/e", Perms::NONE),
         (b"/", Perms::READ),
     ] {
-        let cover = Some(Cover::Only(perms));
-        assert_eq!(rt; covered(&tree, &process, text), cover, "{text:?}");
+        let cover = covered(&tree, &process, text);
+        expect_of(&rt, text, cover == Some(Cover::Only(perms)));
     }
     Ok(())
 }
@@ -197,7 +211,7 @@ fn judges_what_was_found_by_its_veil(rt: HostRuntime) -> Result<(), Fail> {
     let tree = read_listing(rt.alloc(), EXAMPLE)?;
     let mut process = Process::new(rt.alloc())?;
     let run = judged_if_found(&tree, &process, Call::Exec, b"/tmp/sh");
-    assert_eq!(rt; run, Some(Verdict::Allowed));
+    expect(&rt, "a program is run", run == Some(Verdict::Allowed));
     let passwd = Name::read(b"passwd")?;
     process.unveil_at(Place::Slot(NodeId::new(1), passwd), Perms::READ)?;
     for (call, text, want) in [
@@ -210,7 +224,7 @@ fn judges_what_was_found_by_its_veil(rt: HostRuntime) -> Result<(), Fail> {
         (Call::Stat, b"/etc", Verdict::Failed(Errno::ENOENT)),
         (Call::Stat, b"/tmp/sh", Verdict::Failed(Errno::ENOENT)),
     ] {
-        assert_eq!(rt; judged(&tree, &process, call, text), want, "{text:?}");
+        expect_of(&rt, text, judged(&tree, &process, call, text) == want);
     }
     Ok(())
 }

@@ -1,11 +1,12 @@
 //! Keywords, letters and calls, and what calls need.
 
+use crate::expect::{expect, expect_at, expect_of};
 use pua_path::{Ending, Errno, Last};
 use pua_policy::judge::cover_fault;
 use pua_policy::{Call, Cover, Perms, Promises, needs};
 
 #[test]
-fn keywords_and_letters_are_read_and_missed(rt: HostRuntime) {
+fn keywords_are_read(rt: HostRuntime) {
     let most =
         b"audio,bpf,chown,cpath,disklabel,dns,dpath,drm,exec,fattr,flock,getpw,id,inet,mcast,pf,proc,prot_exec,ps,recvfd,route,rpath,sendfd,settime,stdio,tape,tmppath,tty,unix,unveil,video,vminfo,vmm,wpath,wroute".as_slice();
     let both = Promises::RPATH.union(Promises::WPATH);
@@ -18,31 +19,46 @@ fn keywords_and_letters_are_read_and_missed(rt: HostRuntime) {
         (b"stdio,", Err(Errno::EINVAL)),
         (b"stdio rpath", Err(Errno::EINVAL)),
     ] {
-        assert_eq!(rt; Promises::read(text), want, "{text:?}");
+        expect_of(&rt, text, Promises::read(text) == want);
     }
-    assert!(rt; !Promises::ALL_BUT_ERROR.contains(Promises::ERROR));
-    assert_eq!(rt; both.intersection(Promises::WPATH), Promises::WPATH);
+    expect(
+        &rt,
+        "of sets of promises",
+        !Promises::ALL_BUT_ERROR.contains(Promises::ERROR)
+            && both.intersection(Promises::WPATH) == Promises::WPATH,
+    );
+}
+
+#[test]
+fn letters_are_read_and_asked_for(rt: HostRuntime) {
     for (text, want) in [
         (b"wrr".as_slice(), Ok(Perms::READ.union(Perms::WRITE))),
         (b"xc", Ok(Perms::EXEC.union(Perms::CREATE))),
         (b"", Ok(Perms::NONE)),
         (b"rq", Err(Errno::EINVAL)),
     ] {
-        assert_eq!(rt; Perms::read(text), want, "{text:?}");
+        expect_of(&rt, text, Perms::read(text) == want);
     }
-    assert!(rt; !Perms::READ.contains(Perms::WRITE));
-    for (cover, fault) in [
+    expect(
+        &rt,
+        "r lets nothing be written",
+        !Perms::READ.contains(Perms::WRITE),
+    );
+    for (row, (cover, fault)) in [
         (Cover::All, None),
         (Cover::Nothing, Some(Errno::ENOENT)),
         (Cover::Only(Perms::READ), Some(Errno::EACCES)),
         (Cover::Only(Perms::READ.union(Perms::CREATE)), None),
-    ] {
-        assert_eq!(rt; cover_fault(cover, Perms::CREATE), fault);
+    ]
+    .iter()
+    .enumerate()
+    {
+        expect_at(&rt, row, cover_fault(*cover, Perms::CREATE) == *fault);
     }
 }
 
 #[test]
-fn calls_are_named_and_have_needs(rt: HostRuntime) {
+fn calls_are_named(rt: HostRuntime) {
     let names = [
         "stat", "lstat", "readlink", "open-r", "open-w", "open-rw", "create", "mkdir", "rmdir",
         "unlink", "symlink", "chmod", "chdir", "exec",
@@ -50,17 +66,33 @@ fn calls_are_named_and_have_needs(rt: HostRuntime) {
     let mut number = 0u8;
     for (call, name) in Call::ALL.iter().zip(names.iter()) {
         number = number.saturating_add(1);
-        assert_eq!(rt; call.number(), number);
-        assert_eq!(rt; call.name(), *name);
-        assert_eq!(rt; Call::read(name.as_bytes()), Some(*call));
+        expect(&rt, *name, call.number() == number);
+        expect(&rt, *name, call.name() == *name);
+        expect(&rt, *name, Call::read(name.as_bytes()) == Some(*call));
     }
-    assert_eq!(rt; Call::read(b"rename"), None);
-    assert_eq!(rt; Call::read(b""), None);
+    let others = (Call::read(b"rename"), Call::read(b""));
+    expect(
+        &rt,
+        "no call is read from another word",
+        others == (None, None),
+    );
+}
+
+#[test]
+fn calls_have_needs(rt: HostRuntime) {
     let open = needs::need(Call::OpenBoth);
-    assert_eq!(rt; open.promises, Promises::RPATH.union(Promises::WPATH));
-    assert_eq!(rt; open.perms, Perms::READ.union(Perms::WRITE));
-    assert_eq!(rt; open.last, Last::Followed);
-    assert_eq!(rt; needs::need(Call::Unlink).last, Last::Kept);
-    assert_eq!(rt; needs::ending(Call::Rmdir), Ending::Dropped);
-    assert_eq!(rt; needs::ending(Call::Symlink), Ending::Dot);
+    expect(
+        &rt,
+        "open-rw needs both promises and letters, and follows links",
+        open.promises == Promises::RPATH.union(Promises::WPATH)
+            && open.perms == Perms::READ.union(Perms::WRITE)
+            && open.last == Last::Followed,
+    );
+    expect(
+        &rt,
+        "unlink follows no last link, and rmdir alone drops a last slash",
+        needs::need(Call::Unlink).last == Last::Kept
+            && needs::ending(Call::Rmdir) == Ending::Dropped
+            && needs::ending(Call::Symlink) == Ending::Dot,
+    );
 }

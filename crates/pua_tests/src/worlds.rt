@@ -1,13 +1,13 @@
 //! Worlds that serve requests, by direct calls.
 
 use crate::example::EXAMPLE;
+use crate::expect::{expect, expect_at};
 use crate::told::ROOT;
 use pua_path::Errno;
 use pua_policy::{Call, May, Promises};
 use pua_script::{Action, Answer, Request, ScriptFault, World, read_script};
 use pua_tree::{FileTree, Kind, ListTree, Name, NodeId, read_listing};
 use std::alloc::Global;
-use std::process::Abort;
 use std::test::Fail;
 
 /// A world over a listing.
@@ -46,21 +46,19 @@ fn requests_are_served_one_by_one(rt: HostRuntime) -> Result<(), Fail> {
         Answer::Gone,
     ];
     let mut world = world(rt.alloc(), ROOT)?;
-    for (request, answer) in script.requests().iter().zip(answers.iter()) {
-        assert_eq!(rt; world.apply(request), Ok(*answer));
+    for (row, (request, answer)) in script.requests().iter().zip(answers.iter()).enumerate() {
+        expect_at(&rt, row, world.apply(request) == Ok(*answer));
     }
-    assert_eq!(rt;
-        world.tree().look(NodeId::ROOT, &Name::read(b"a")?),
-        Some(NodeId::new(1))
-    );
+    let made = world.tree().look(NodeId::ROOT, &Name::read(b"a")?);
+    expect(&rt, "a directory is made", made == Some(NodeId::new(1)));
     Ok(())
 }
 
-/// Compares a world over the example with what stands in a new one.
-fn expect_new(rt: &impl Abort, world: &World<ListTree>) {
-    assert!(rt; world.process(2).is_none());
-    assert_eq!(rt; dir_of(world, 1), Some(NodeId::ROOT));
-    assert_eq!(rt; world.tree().kind(NodeId::new(7)), Some(Kind::Prog));
+/// Whether a world over the example is as a new one.
+fn is_new(world: &World<ListTree>) -> bool {
+    world.process(2).is_none()
+        && dir_of(world, 1) == Some(NodeId::ROOT)
+        && world.tree().kind(NodeId::new(7)) == Some(Kind::Prog)
 }
 
 #[test]
@@ -70,15 +68,18 @@ fn processes_are_known_by_their_numbers(rt: HostRuntime) -> Result<(), Fail> {
         b"1 chdir /tmp\n1 fork 9\n9 pledge stdio,rpath -\n9 chdir /etc\n9 exit\n",
     )?;
     let mut world = world(rt.alloc(), EXAMPLE)?;
-    expect_new(&rt, &world);
+    expect(&rt, "a new world", is_new(&world));
     let answers = world.run(rt.alloc(), &script)?;
-    assert_eq!(rt; answers.as_slice(), [Answer::Okay; 5].as_slice());
+    let are_okay = answers.as_slice() == [Answer::Okay; 5].as_slice();
+    expect(&rt, "five answers", are_okay);
     for (number, dir, ended, answer) in [(1, 3, false, May::Yes), (9, 1, true, May::Death)] {
-        assert_eq!(rt; dir_of(&world, number), Some(NodeId::new(dir)));
-        assert_eq!(rt; has_ended(&world, number), Some(ended));
-        assert_eq!(rt; may(&world, number, Promises::WPATH), Some(answer));
+        let dir = NodeId::new(dir);
+        expect(&rt, "its directory", dir_of(&world, number) == Some(dir));
+        expect(&rt, "its end", has_ended(&world, number) == Some(ended));
+        let may = may(&world, number, Promises::WPATH);
+        expect(&rt, "its promises", may == Some(answer));
     }
-    assert_eq!(rt; dir_of(&world, 2), None);
+    expect(&rt, "no other process", dir_of(&world, 2) == None);
     Ok(())
 }
 
@@ -101,10 +102,8 @@ fn a_full_tree_has_no_space(rt: HostRuntime) -> Result<(), Fail> {
     )?;
     let answers = world.run(rt.alloc(), &script)?;
     let full = Answer::Failed(Errno::ENOSPC);
-    assert_eq!(rt;
-        answers.as_slice(),
-        [full, full, full, Answer::Okay, Answer::Okay, Answer::Okay].as_slice()
-    );
+    let wanted = [full, full, full, Answer::Okay, Answer::Okay, Answer::Okay];
+    expect(&rt, "no space", answers.as_slice() == wanted.as_slice());
     Ok(())
 }
 
@@ -116,27 +115,22 @@ fn is_stat_of(request: &Request, path: &[u8]) -> bool {
     }
 }
 
+/// Whether this ends its process.
+fn is_exit(request: &Request) -> bool {
+    matches!(request.action(), Action::Exit)
+}
+
 #[test]
 fn scripts_are_read(rt: HostRuntime) -> Result<(), Fail> {
     let script = read_script(rt.alloc(), b"1 stat /a\\040b\r\n999999 exit")?;
-    let numbers: [u32; 2] = [1, 999_999];
-    assert_eq!(rt; script.requests().len(), 2);
-    for (request, number) in script.requests().iter().zip(numbers.iter()) {
-        assert_eq!(rt; request.process(), *number);
+    let requests = script.requests();
+    expect(&rt, "two requests", requests.len() == 2);
+    for (row, (request, number)) in requests.iter().zip([1, 999_999]).enumerate() {
+        expect_at(&rt, row, request.process() == number);
     }
-    assert!(rt;
-        script
-            .requests()
-            .iter()
-            .any(|request| is_stat_of(request, b"/a b"))
-    );
-    assert!(rt;
-        script
-            .requests()
-            .iter()
-            .any(|request| matches!(request.action(), Action::Exit))
-    );
+    let is_asked = requests.iter().any(|request| is_stat_of(request, b"/a b"));
+    expect(&rt, "stat /a b", is_asked && requests.iter().any(is_exit));
     let fault = read_script(rt.alloc(), b"1 stat /\n1000000 exit\n").err();
-    assert_eq!(rt; fault, Some(ScriptFault::BadLine(2)));
+    expect(&rt, "its line", fault == Some(ScriptFault::BadLine(2)));
     Ok(())
 }

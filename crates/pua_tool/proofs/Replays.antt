@@ -11,9 +11,10 @@ use Rattle.pua_script.specs.Scripts.{script}
 use Rattle.pua_script.specs.Replay.{new_world, history_of, answers, world_after}
 use Rattle.pua_script.specs.Worlds.{StandsAt}
 use Rattle.pua_audit.specs.Begin.{Beginning, beginning}
+use Rattle.pua_audit.specs.declared.fault.AuditFault.{AuditFault}
 use Rattle.pua_tool.specs.Texts.{Wanted, Replayed, Begun, as_listing, as_script, as_audit, replayed, begun}
 use Rattle.pua_tool.specs.declared.fault.ToolFault.{ToolFault}
-use Rattle.pua_tool.specs.declared.fault.ToolFault.TheVariants.{NoProcess}
+use Rattle.pua_tool.specs.declared.fault.ToolFault.TheVariants.{NoProcess, Audit}
 
 module _ (table : CallTable) (tree_bytes script_bytes : List ℕ) where
   abbrev left_by : Tree → List Asked → Replayed
@@ -49,7 +50,30 @@ module _ (table : CallTable) (tree_bytes script_bytes : List ℕ) where
     pub begun_is : (done : Replayed) (h : History) (b : Beginning) → replayed table tree_bytes script_bytes ≡ Ok done → history_of done.world wanted.process ≡ Some h
         → beginning done.world.tree table h wanted.base wanted.candidates wanted.limit wanted.after ≡ Ok b
         → begun table tree_bytes script_bytes wanted ≡ Ok (record { told = done.told; beginning = b })
+    unfolding begun
     begun_is done h b r m e =
+        (λ i. r i >>= λ done. begun_by done (history_of done.world wanted.process))
+        ∙ (λ i. begun_by done (m i))
+        ∙ (λ i. begun_with done (as_audit (e i)))
+
+    -- what refuses the replay comes first
+    pub replay_refuses : (fault : ToolFault) → replayed table tree_bytes script_bytes ≡ Err fault → begun table tree_bytes script_bytes wanted ≡ Err fault
+    unfolding begun
+    replay_refuses fault r = λ i. r i >>= λ done. begun_by done (history_of done.world wanted.process)
+
+    -- a process never made comes where the replay is not refused
+    pub process_refuses : (done : Replayed) → replayed table tree_bytes script_bytes ≡ Ok done → history_of done.world wanted.process ≡ None
+        → begun table tree_bytes script_bytes wanted ≡ Err NoProcess
+    unfolding begun
+    process_refuses done r m = (λ i. r i >>= λ done. begun_by done (history_of done.world wanted.process)) ∙ (λ i. begun_by done (m i))
+
+    -- what no audit begins with comes last
+    pub audit_refuses : (done : Replayed) (h : History) (fault : AuditFault) → replayed table tree_bytes script_bytes ≡ Ok done
+        → history_of done.world wanted.process ≡ Some h
+        → beginning done.world.tree table h wanted.base wanted.candidates wanted.limit wanted.after ≡ Err fault
+        → begun table tree_bytes script_bytes wanted ≡ Err (Audit fault)
+    unfolding begun
+    audit_refuses done h fault r m e =
         (λ i. r i >>= λ done. begun_by done (history_of done.world wanted.process))
         ∙ (λ i. begun_by done (m i))
         ∙ (λ i. begun_with done (as_audit (e i)))
@@ -63,3 +87,8 @@ pub record IsMade (p : ProcessState) (made : Option History) : Type 0 where
 pub is_made : (p : ProcessState) (made : Option History) → StandsAt (Some p) made → IsMade p made
 is_made p None none = absurd none
 is_made p (Some h) stands = record { history = h; is = refl; stands = stands }
+
+-- what stands for no process was never made
+pub none_made : (made : Option History) → StandsAt None made → made ≡ None
+none_made None none = refl
+none_made (Some h) none = absurd none

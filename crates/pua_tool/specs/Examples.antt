@@ -7,7 +7,7 @@ use Rattle.pua_policy.specs.Calls.{standard_table}
 use Rattle.pua_script.specs.declared.fault.ScriptFault.TheVariants.{BadCall}
 use Rattle.pua_audit.specs.declared.base.Base.TheVariants.{Root, Cwd}
 use Rattle.pua_audit.specs.declared.fault.AuditFault.TheVariants.{BadResume}
-use Rattle.pua_tool.specs.Texts.{Wanted, replayed, run_text, audit_text}
+use Rattle.pua_tool.specs.Texts.{Wanted, replayed, begun, run_text, audit_text}
 use Rattle.pua_tool.specs.declared.fault.ToolFault.TheVariants.{Listing, Script, NoProcess, Audit}
 
 abbrev pub root_alone : List ℕ
@@ -44,7 +44,7 @@ pub record TextRows : Type 0 where
   pub bad_resume : audit_text standard_table root_alone [] (record plain_job { after = Some (codes "stat:/nope") }) ≡ Err (Audit BadResume)
 
 pub text_rows : TextRows
-unfolding digits replayed
+unfolding digits replayed begun
 text_rows = record {
   run = refl;
   run_of_no_lines = refl;

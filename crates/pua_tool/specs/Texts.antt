@@ -87,7 +87,7 @@ pub record Begun : Type 0 where
   pub beginning : Beginning
 
 -- the audit of a process at the end of a script over a listing, or the first fault: the listing's, the script's, a process never made, or what no audit begins with
-abbrev pub begun : CallTable → List ℕ → List ℕ → Wanted → Result Begun ToolFault
+unfoldable pub begun : CallTable → List ℕ → List ℕ → Wanted → Result Begun ToolFault
 begun table tree_bytes script_bytes wanted = do
   done ← replayed table tree_bytes script_bytes
   h ← ok_or (history_of done.world wanted.process) NoProcess

@@ -115,7 +115,18 @@ fn begin(
     );
     match audit {
         Ok(audit) => Ok(Audited { told, world, audit }),
-        Err(AuditFault::OutOfMemory) => Err(ToolFault::OutOfMemory),
-        Err(fault) => Err(ToolFault::Audit(fault)),
+        Err(fault) => Err(of_audit(fault)),
+    }
+}
+
+/// The fault with which an audit does not begin, as the tool tells it.
+fn of_audit(fault: AuditFault) -> ToolFault
+    ensures memory { fault ≡ AuditFault.OutOfMemory → result ≡ ToolFault.OutOfMemory }
+    ensures audit { fault ≢ AuditFault.OutOfMemory → result ≡ ToolFault.Audit fault }
+    ensures unwritten { result ≢ ToolFault.Write }
+{
+    match fault {
+        AuditFault::OutOfMemory => ToolFault::OutOfMemory,
+        fault => ToolFault::Audit(fault),
     }
 }
