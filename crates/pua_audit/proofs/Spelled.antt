@@ -34,6 +34,21 @@ all_short a (i ∷ word) all =
     let within : i < length (letters_of a) = omega (arith, length-map a.letters.items part_bytes, all.0) in
     (all_at_index (λ b. length b ≤ longest (letters_of a)) (letters_of a) [] (no_longer 0 (letters_of a)) i within, all_short a word all.1)
 
+-- what is lent has no more bytes than any path may
+pub lent_short : (base : Base) (a : Terms) (word path : List ℕ) → IsSpelled a word path → length word ≤ a.limit → a.limit * suc (longest (letters_of a)) ≤ 1023 → length (lent base path) ≤ 1023
+lent_short base a word path is within room =
+    let most : ℕ = longest (letters_of a) in
+    let before : length (from_root (word_of (letters_of a) word)) ≤ length (word_of (letters_of a) word) * suc most = length_from_root most (word_of (letters_of a) word) (all_short a word is.known) in
+    let few : length word * suc most ≤ a.limit * suc most = mul-le-mul_right (suc most) within in
+    let same : length (word_of (letters_of a) word) * suc most ≡ length word * suc most = ap (λ n. n * suc most) (length-word_of (letters_of a) word) in
+    no_longer_lent base path (omega (arith, ap length is.path, before, few, same, room))
+  where
+    no_longer_lent : (base : Base) (path : List ℕ) → length path ≤ 1023 → length (lent base path) ≤ 1023
+    no_longer_lent Root [] h = omega arith
+    no_longer_lent Root (b ∷ bs) h = h
+    no_longer_lent Cwd [] h = omega arith
+    no_longer_lent Cwd (b ∷ bs) h = omega (arith, h)
+
 -- one letter more fits the longest path
 pub room_for : (a : Terms) (word path : List ℕ) (i capacity : ℕ) → IsSpelled a word path → i < length a.letters.items → length word < a.limit
     → a.limit * suc (longest (letters_of a)) ≤ capacity → length path + suc (length (get_or (letters_of a) i [])) ≤ capacity

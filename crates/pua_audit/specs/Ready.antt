@@ -71,11 +71,12 @@ pub record IsState (t : Tree) (s : State) : Type 0 where
   pub dir : IsTrue (is_dir t s.dir)
   pub used : s.used ≤ 32
 
--- the tree is one, the process stands for its history, and the letters are parts
+-- the tree is one, the process stands for its history, the letters are parts, and no path of a word is too long
 pub record IsSound (a : Terms) : Type 0 where
   pub tree : WellFormed a.seen.tree
   pub stands : StandsFor a.process (history_of a.process)
   pub parts : AllByRecursion (λ p. part_of (part_bytes p) ≡ p) a.letters.items
+  pub short : a.limit * suc (longest (letters_of a)) ≤ 1023
 
 -- a place whose directory lives
 abbrev pub IsAt : Terms → at.Place → Type 0

@@ -1,6 +1,6 @@
 //! The audit of a process: its reach, pair by pair.
 
-ghost use Rattle.std.specs.Prelude.{◌≡◌, ◌≢◌, Ok, Err, IfOk, IfErr, map, option_map};
+ghost use Rattle.std.specs.Prelude.{◌≡◌, ◌≢◌, ◌≤◌, Ok, Err, IfOk, IfErr, IfSome, length, map, option_map};
 ghost use Rattle.std.specs.Borrow.{sem};
 ghost use Rattle.pua_policy.specs.Calls.{standard_table};
 ghost use Rattle.pua_policy.specs.History.{History, StandsFor};
@@ -59,7 +59,7 @@ impl Audit {
         after: Option<&[u8]>,
     ) -> Result<Audit, AuditFault>
         ensures begun { IfOk result (λ audit. (h : History) → StandsFor process.now h → (b : Beginning) ×
-            ((beginning (P.tree probe.old) standard_table h base (map (λ s. s.now) candidates.now) limit (option_map (λ s. s.now) after.entry) ≡ Ok b) × (audit.left ≡ still_to_come b))) }
+            ((beginning (P.tree probe.old) standard_table h base (map (λ s. s.now) candidates.now) limit (option_map (λ s. s.now) after.entry) ≡ Ok b) × (audit.left ≡ still_to_come b) × (b.scope.base ≡ base))) }
         ensures of { IfOk result (λ audit. (audit.tree ≡ P.tree probe.old) × (audit.base ≡ base)) }
         ensures refused { IfErr result (λ fault. fault ≢ AuditFault.OutOfMemory → (h : History) →
             beginning (P.tree probe.old) standard_table h base (map (λ s. s.now) candidates.now) limit (option_map (λ s. s.now) after.entry) ≡ Err fault) }
@@ -83,6 +83,7 @@ impl Audit {
     pub fn next_line<'t, P: Probe<'t>>(&mut self, probe: &mut P) -> Option<Line<'_>>
         requires { P.tree probe.old ≡ self.old.tree }
         ensures* rest { sem 𝓛 (LendsLine self.entry result) }
+        ensures short { IfSome result (λ line. length line.path.now ≤ 1023) }
         ensures tree { P.tree probe.new ≡ P.tree probe.old }
     {
         let call = self.walk.next_call(probe)?;

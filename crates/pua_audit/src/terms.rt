@@ -1,6 +1,6 @@
 //! What an audit is of.
 
-ghost use Rattle.std.specs.Prelude.{◌≡◌, ◌≤◌, ◌<◌, ◌*◌, suc, length, IsTrue, IfOk, IfSome, vec_capacity};
+ghost use Rattle.std.specs.Prelude.{◌≡◌, ◌≤◌, ◌<◌, ◌*◌, suc, length, map, IsTrue, IfOk, IfSome, vec_capacity};
 ghost use Rattle.pua_tree.specs.Tree.{is_dir};
 ghost use Rattle.pua_policy.specs.Calls.{standard_table, last_of};
 ghost use Rattle.pua_policy.specs.History.{StandsFor};
@@ -11,7 +11,7 @@ ghost use Rattle.pua_audit.specs.Past.{history_of};
 ghost use Rattle.pua_audit.specs.Starting.{scope_with};
 ghost use Rattle.pua_audit.specs.World.{base_dir, base_way, state_of, is_open};
 ghost use Rattle.pua_audit.specs.declared.place.Place.TheVariants as places;
-ghost use Rattle.pua_audit.specs.Ready.{scope_in, IsSound, IsAt, IsState, step_from, found_from, by_last, world_in, letters_of, place_of};
+ghost use Rattle.pua_audit.specs.Ready.{part_bytes, scope_in, IsSound, IsAt, IsState, step_from, found_from, by_last, world_in, letters_of, place_of};
 ghost use Rattle.pua_audit.specs.Trail.{allowed_at};
 
 use crate::alphabet::longest;
@@ -49,6 +49,7 @@ impl Terms {
     ) -> Result<Terms, OutOfMemory>
         requires stands { StandsFor process.now (history_of process.now) }
         requires parts { AreParts letters.items }
+        requires short { limit * suc (longest (map part_bytes letters.items)) ≤ 1023 }
         ensures sound { IfOk result (λ terms. IsSound terms) }
         ensures scope { IfOk result (λ terms. scope_in terms ≡ scope_with (P.tree probe.now) standard_table (history_of process.now) base limit letters.items) }
         ensures letters { IfOk result (λ terms. (terms.limit ≡ limit) × (terms.letters ≡ letters)) }

@@ -41,7 +41,6 @@ impl Walk {
     /// It reserves all that it will need. The error is that a growth was refused.
     pub fn new(alloc: Global, terms: Terms, done: bool) -> Result<Walk, AllocError>
         requires sound { IsSound terms }
-        requires short { terms.limit * suc (longest (letters_of terms)) ≤ 1023 }
         requires open { done ≡ false → IsAt terms places.Start }
         ensures ready { IfOk result (λ walk. IsReady walk) }
         ensures terms { IfOk result (λ walk. walk.terms ≡ terms) }

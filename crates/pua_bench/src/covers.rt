@@ -1,10 +1,10 @@
 //! Covers of a file in a deep directory.
 
-ghost use Rattle.pua_policy.specs.Verdict.{FoundFits, FoundsFit};
+ghost use Rattle.pua_policy.specs.Verdict.{FoundFits};
 
-use pua_path::{Counted, Ending, Errno, Found, Last, PathText, Probe, resolve};
+use pua_path::{Counted, Ending, Found, Last, PathText, Probe, resolve};
 use pua_policy::{Perms, Place, Process};
-use pua_tree::{FileTree, ListTree, NodeId};
+use pua_tree::{ListTree, NodeId};
 use std::alloc::Global;
 
 /// A process with so many veils: one on the root, and the others on nodes that no tree has.
@@ -28,18 +28,10 @@ pub(crate) fn probes_of(tree: &ListTree, from: NodeId, process: &Process, turns:
     let Ok(text) = PathText::read(b"f", Ending::Dot) else {
         return 0;
     };
-    match found_in(tree, from, &text) {
+    match resolve(&mut Counted::new(tree), from, &text, Last::Followed) {
         Ok(found) => probes_of_covers(tree, process, &found, turns),
         Err(_) => 0,
     }
-}
-
-fn found_in(tree: &ListTree, from: NodeId, text: &PathText<'_>) -> Result<Found, Errno>
-    ensures { FoundsFit tree.now result }
-{
-    tree.known();
-    let mut probe = Counted::new(tree);
-    resolve(&mut probe, from, text, Last::Followed)
 }
 
 fn probes_of_covers(tree: &ListTree, process: &Process, found: &Found, turns: u32) -> u64

@@ -69,17 +69,8 @@ taken_off_last top (x ∷ xs) part depth below text e n p l = absurd (omega (ari
 taken_off_last top [] part depth below text e n p l = taken_off top [] part (take depth below) e ∙ ap (λ parts. part ∷ parts) (pending_popped depth below text p l)
 
 -- one text lower
-pub stack_popped : (top : List ℕ) (depth : ℕ) (below : List (Bor (List ℕ))) (text : Bor (List ℕ)) → is_stack top (take depth below) ≡ true → 0 < depth → depth ≤ length below → is_stack (get_or below (depth - 1) text).now (take (depth - 1) below) ≡ true
-stack_popped top depth below text h p l =
-    let waits : (list_all can_wait (take (depth - 1) below) && (can_wait (get_or below (depth - 1) text) && true)) ≡ true = sym (waiting_popped depth below text p l) ∙ (stack_facts top (take depth below) h).waits in
-    let two = both (list_all can_wait (take (depth - 1) below)) (can_wait (get_or below (depth - 1) text) && true) waits in
-    let here = both (can_wait (get_or below (depth - 1) text)) true two.1 in
-    let text_waits = both (nat_lt 0 (length (get_or below (depth - 1) text).now)) (is_readable (get_or below (depth - 1) text).now) here.0 in
-    stack_of (get_or below (depth - 1) text).now (take (depth - 1) below) text_waits.1 two.0 (rw text_waits.0 refl)
 
 -- what is left of the text on top
-pub stack_less : (top rest : List ℕ) (waiting : List (Bor (List ℕ))) → is_stack top waiting ≡ true → is_readable rest ≡ true → (nat_lt 0 (length rest) || (length waiting == 0)) ≡ true → is_stack rest waiting ≡ true
-stack_less top rest waiting h r e = stack_of rest waiting r (stack_facts top waiting h).waits e
 
 -- one text more, and the one that was on top waits
 pub stack_pushed : (top : Bor (List ℕ)) (text : List ℕ) (depth : ℕ) (below : List (Bor (List ℕ))) → is_stack top.now (take depth below) ≡ true → nat_lt 0 (length top.now) ≡ true → depth < length below → is_readable text ≡ true → nat_lt 0 (length text) ≡ true → is_stack text (take (depth + 1) (set below depth top)) ≡ true

@@ -7,4 +7,5 @@ pub mod Resolution
 pub mod Bounds
 pub mod Walks
 pub mod Laws
+pub mod Fits
 pub mod Examples

@@ -6,6 +6,7 @@ ghost use Rattle.pua_path.specs.Resolution.{resolution, resolve_parts, standing_
 ghost use Rattle.pua_path.specs.Paths.{is_absolute, parts_of};
 ghost use Rattle.pua_path.specs.Walks.{standing_seen, StandsIn, CanGoOn, goes_on, potential};
 ghost use Rattle.pua_path.specs.Bounds.{part_cost};
+ghost use Rattle.pua_path.specs.Fits.{FoundFits, FoundsFit};
 ghost use Rattle.pua_path.specs.Remaining.{Remaining, is_done, is_readable};
 ghost use Rattle.pua_path.specs.declared.errno.Errno.TheVariants.{ELOOP, ENOENT, ENOTDIR};
 ghost use Rattle.pua_path.specs.declared.found.Way.TheVariants as ways;
@@ -34,8 +35,10 @@ pub fn resolve<'t, P: Probe<'t>>(
     mode: Last,
 ) -> Result<Found, Errno>
     ensures exact { result ≡ resolution (P.tree probe.old) from text.now.ending text.now.bytes mode }
+    ensures fits { FoundsFit (P.tree probe.old) result }
     ensures tree { P.tree probe.new ≡ P.tree probe.old }
 {
+    probe.known();
     let Some(start) = start_of(probe, from, text.bytes()) else {
         return Err(Errno::ENOENT);
     };
@@ -57,6 +60,7 @@ pub fn step<'t, P: Probe<'t>>(
     requires dir { IsTrue (is_dir (P.tree probe.old) dir) }
     requires used { used ≤ 32 }
     ensures exact { result ≡ step (P.tree probe.old) dir used part.now }
+    ensures lives { IfOk result (λ next. IsTrue (is_dir (P.tree probe.old) next.0)) }
     ensures tree { P.tree probe.new ≡ P.tree probe.old }
     ensures cost { P.count probe.new ≤ P.count probe.old + part_cost (P.tree probe.old) }
 {
@@ -91,6 +95,7 @@ pub fn last<'t, P: Probe<'t>>(
     requires dir { IsTrue (is_dir (P.tree probe.old) dir) }
     requires used { used ≤ 32 }
     ensures exact { result ≡ last (P.tree probe.old) dir used part.now mode }
+    ensures fits { FoundsFit (P.tree probe.old) result }
     ensures tree { P.tree probe.new ≡ P.tree probe.old }
     ensures cost { P.count probe.new ≤ P.count probe.old + part_cost (P.tree probe.old) }
 {
@@ -108,6 +113,7 @@ fn resolve_part<'t, P: Probe<'t>>(
     requires dir { IsTrue (is_dir (P.tree probe.old) dir) }
     requires left { left ≤ 32 }
     ensures exact { result ≡ resolve_parts left (P.tree probe.old) mode dir ways.Top (part.now ∷ []) }
+    ensures fits { IfOk result (λ found. FoundFits (P.tree probe.old) found.0) }
     ensures left { IfOk result (λ found. found.1 ≤ left) }
     ensures tree { P.tree probe.new ≡ P.tree probe.old }
     ensures cost { P.count probe.new ≤ P.count probe.old + part_cost (P.tree probe.old) }

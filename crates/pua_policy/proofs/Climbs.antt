@@ -1,12 +1,11 @@
 -- Climbing in a tree, one directory after another.
-use Rattle.std.proofs.Common.{◌≡◌, ℕ, zero, suc, ◌+◌, ◌-◌, ◌≤◌, ◌≢◌, add-one, List, [], ◌∷◌, length, Bool, true, false, cond, map, refl, sym, ap, ◌∙◌, arith, subst}
+use Rattle.std.proofs.Common.{◌≡◌, ℕ, zero, suc, ◌+◌, ◌≤◌, ◌≢◌, add-one, List, [], ◌∷◌, length, Bool, true, false, map, refl, sym, ap, ◌∙◌, arith}
 use Rattle.std.proofs.lemmas.Bool.{false≢true, eqb-true}
 use Rattle.std.specs.Ordering.{nat_cmp}
 use Rattle.std.specs.FinMap.{nat_cmp-IsAntisymmetric}
-use Rattle.std.specs.List.{list_all, list_any, find}
-use Rattle.std.specs.Prelude.{Option, Some, None, option_map, ◌&&◌, ◌||◌, ◌==◌, unwrap_or, nat_lt}
-use Rattle.pua_tree.specs.Tree.{Tree, Node, WellFormed, is_dir, is_dir_kind, above, climb, climb_within, node_at, kind_at, node_fits, row_fits, rows_fit_kind, rows_of, target_fits, is_living, Spot}
-use Rattle.pua_tree.specs.Names.{is_name}
+use Rattle.std.specs.List.{list_any, find}
+use Rattle.std.specs.Prelude.{Option, Some, None, option_map, ◌||◌, ◌==◌, unwrap_or, nat_lt}
+use Rattle.pua_tree.specs.Tree.{Tree, Node, WellFormed, is_dir, is_dir_kind, above, climb, climb_within, node_at, node_fits, row_fits, rows_fit_kind, rows_of, target_fits, Spot}
 use Rattle.pua_tree.specs.declared.node.Kind.{Kind}
 use Rattle.pua_tree.specs.declared.node.Kind.TheVariants.{Dir}
 use Rattle.pua_policy.specs.Verdict.{nearest}

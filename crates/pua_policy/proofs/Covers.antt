@@ -1,7 +1,7 @@
 -- What the veils of a process leave, by where it looks.
-use Rattle.std.proofs.Common.{◌≡◌, ℕ, List, ◌∷◌, map, true, false, sym, ap, ◌∙◌}
+use Rattle.std.proofs.Common.{◌≡◌, ℕ, List, ◌∷◌, map, true, false, ap, ◌∙◌}
 use Rattle.std.specs.Prelude.{Option, Some, None}
-use Rattle.pua_tree.specs.Tree.{Tree, WellFormed, is_dir, climb, above}
+use Rattle.pua_tree.specs.Tree.{Tree, WellFormed, is_dir, climb}
 use Rattle.pua_path.specs.declared.found.Way.{Way}
 use Rattle.pua_path.specs.declared.found.Found.{Found}
 use Rattle.pua_path.specs.declared.found.Found.TheVariants.{Whole, Slot}

@@ -1,15 +1,14 @@
 -- What a process stands for after a successful exec.
-use Rattle.std.proofs.Common.{◌≡◌, ℕ, List, [], ◌∷◌, false, refl, sym, ap, ◌∙◌}
-use Rattle.std.specs.Prelude.{Option, Some, None, not, filter, filter_map}
-use Rattle.std.specs.List.{list_any}
-use Rattle.pua_policy.specs.History.{History, ProcessState, StandsFor, Pledged, Unveiled, Locked, Moved, Ended, promises_in, execpromises_in, common, meet, is_pledge, held_for_exec, after_exec, veils, with_veil, is_lock, is_locked, is_end, is_ended, dir_in, working_dir, first}
-use Rattle.std.specs.Prelude.{unwrap_or, ◌||◌}
+use Rattle.std.proofs.Common.{◌≡◌, ℕ, [], ◌∷◌, false, refl, sym, ap, ◌∙◌}
+use Rattle.std.specs.Prelude.{Some, None, not, filter, filter_map}
+use Rattle.pua_policy.specs.History.{History, ProcessState, StandsFor, Pledged, Unveiled, Locked, Moved, Ended, promises_in, execpromises_in, common, meet, is_pledge, held_for_exec, after_exec, veils, with_veil, is_locked, is_ended, dir_in, first}
+use Rattle.std.specs.Prelude.{unwrap_or}
 
 -- the events that are no pledges
-abbrev others : History → History
+abbrev pub others : History → History
 others = filter (λ event. not (is_pledge event))
 
-no_promises : (h : History) → filter_map promises_in (others h) ≡ []
+pub no_promises : (h : History) → filter_map promises_in (others h) ≡ []
 no_promises [] = refl
 no_promises (Pledged p e ∷ h) = no_promises h
 no_promises (Unveiled place perms ∷ h) = no_promises h
@@ -17,7 +16,7 @@ no_promises (Locked ∷ h) = no_promises h
 no_promises (Moved d ∷ h) = no_promises h
 no_promises (Ended ∷ h) = no_promises h
 
-no_execpromises : (h : History) → filter_map execpromises_in (others h) ≡ []
+pub no_execpromises : (h : History) → filter_map execpromises_in (others h) ≡ []
 no_execpromises [] = refl
 no_execpromises (Pledged p e ∷ h) = no_execpromises h
 no_execpromises (Unveiled place perms ∷ h) = no_execpromises h
@@ -25,7 +24,7 @@ no_execpromises (Locked ∷ h) = no_execpromises h
 no_execpromises (Moved d ∷ h) = no_execpromises h
 no_execpromises (Ended ∷ h) = no_execpromises h
 
-same_veils : (h : History) → veils (others h) ≡ veils h
+pub same_veils : (h : History) → veils (others h) ≡ veils h
 same_veils [] = refl
 same_veils (Pledged p e ∷ h) = same_veils h
 same_veils (Unveiled place perms ∷ h) = ap (with_veil place perms) (same_veils h)
@@ -33,7 +32,7 @@ same_veils (Locked ∷ h) = same_veils h
 same_veils (Moved d ∷ h) = same_veils h
 same_veils (Ended ∷ h) = same_veils h
 
-same_lock : (h : History) → is_locked (others h) ≡ is_locked h
+pub same_lock : (h : History) → is_locked (others h) ≡ is_locked h
 same_lock [] = refl
 same_lock (Pledged p e ∷ h) = same_lock h
 same_lock (Unveiled place perms ∷ h) = same_lock h
@@ -41,7 +40,7 @@ same_lock (Locked ∷ h) = refl
 same_lock (Moved d ∷ h) = same_lock h
 same_lock (Ended ∷ h) = same_lock h
 
-same_dirs : (h : History) → filter_map dir_in (others h) ≡ filter_map dir_in h
+pub same_dirs : (h : History) → filter_map dir_in (others h) ≡ filter_map dir_in h
 same_dirs [] = refl
 same_dirs (Pledged p e ∷ h) = same_dirs h
 same_dirs (Unveiled place perms ∷ h) = same_dirs h
@@ -49,7 +48,7 @@ same_dirs (Locked ∷ h) = same_dirs h
 same_dirs (Moved d ∷ h) = ap (λ ds. d ∷ ds) (same_dirs h)
 same_dirs (Ended ∷ h) = same_dirs h
 
-same_end : (h : History) → is_ended (others h) ≡ is_ended h
+pub same_end : (h : History) → is_ended (others h) ≡ is_ended h
 same_end [] = refl
 same_end (Pledged p e ∷ h) = same_end h
 same_end (Unveiled place perms ∷ h) = same_end h

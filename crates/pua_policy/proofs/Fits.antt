@@ -10,7 +10,7 @@ use Rattle.pua_tree.proofs.Content.{exact_spots}
 use Rattle.pua_tree.specs.declared.node.Kind.{Kind}
 use Rattle.pua_tree.specs.declared.node.Kind.TheVariants as kinds
 use Rattle.pua_path.specs.Paths.{parts_of, is_absolute}
-use Rattle.pua_path.specs.Resolution.{Resolved, Standing, Directory, Linked, Plain, Nothing, standing_of, standing_at, is_followed, slot_or, walk, start_of, resolve_parts, reached, resolution, step, last, link_limit}
+use Rattle.pua_path.specs.Resolution.{Resolved, Standing, Directory, Linked, Plain, Nothing, standing_of, standing_at, is_followed, slot_or, walk, start_of, resolve_parts, reached, resolution, last, link_limit}
 use Rattle.pua_path.specs.declared.errno.Errno.{Errno}
 use Rattle.pua_path.specs.declared.errno.Errno.TheVariants.{ENOENT, ENOTDIR, ELOOP}
 use Rattle.pua_path.specs.declared.text.Ending.{Ending}
@@ -18,13 +18,13 @@ use Rattle.pua_path.specs.declared.text.Ending.TheVariants as ending
 use Rattle.pua_path.specs.declared.found.Part.{Part}
 use Rattle.pua_path.specs.declared.found.Part.TheVariants as parts
 use Rattle.pua_path.specs.declared.found.Last.{Last}
-use Rattle.pua_path.specs.declared.found.Last.TheVariants.{Followed, Kept}
+use Rattle.pua_path.specs.declared.found.Last.TheVariants.{Followed}
 use Rattle.pua_path.specs.declared.found.Way.{Way}
 use Rattle.pua_path.specs.declared.found.Way.TheVariants.{Named, Dot, DotDot, Top}
 use Rattle.pua_path.specs.declared.found.Found.{Found}
 use Rattle.pua_path.specs.declared.found.Found.TheVariants.{Whole, Slot}
-use Rattle.pua_policy.specs.Verdict.{FoundFits, FoundsFit, is_link, is_link_kind}
-use Rattle.pua_policy.specs.Laws.{IsOf, ResolutionFits, ResolutionsFit}
+use Rattle.pua_policy.specs.Verdict.{FoundFits, FoundsFit, is_link_kind}
+use Rattle.pua_policy.specs.Laws.{IsOf, ResolutionsFit}
 use Rattle.pua_policy.proofs.Finding.{both_true, list_all-find_key}
 use Rattle.pua_policy.proofs.Climbs.{is_dir_above}
 

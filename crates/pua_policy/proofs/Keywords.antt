@@ -1,7 +1,7 @@
 -- The keywords' flags are the rows of the definition.
-use Rattle.std.proofs.Common.{◌≡◌, ℕ, ◌<◌, ◌^◌, List, Bool, true, map, refl, sym, ap, ◌∙◌, arith}
+use Rattle.std.proofs.Common.{◌≡◌, ℕ, ◌<◌, ◌^◌, List, true, map, refl, sym, ap, ◌∙◌, arith}
 use Rattle.std.proofs.lemmas.Bool.Decides.{nat_tests}
-use Rattle.std.specs.List.{find, list_all}
+use Rattle.std.specs.List.{find}
 use Rattle.std.specs.Prelude.{Option, Some, None, option_map, nat_lt}
 use Rattle.pua_tree.specs.Names.{same_bytes}
 use Rattle.pua_policy.specs.Promises.{keyword_rows, promise_of}

@@ -1,5 +1,5 @@
 -- The test on places that maps use is the definition's.
-use Rattle.std.proofs.Common.{◌≡◌, Bool, refl}
+use Rattle.std.proofs.Common.{◌≡◌, refl}
 use Rattle.pua_policy.specs.contracts.place.PlacePartialEq.TheImpl.{ghosts}
 use Rattle.pua_policy.specs.declared.place.Place.{Place}
 use Rattle.pua_policy.specs.declared.place.Place.TheVariants.{Dir, Slot}

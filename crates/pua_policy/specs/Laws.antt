@@ -1,5 +1,5 @@
 -- What is true of histories and of covers.
-use Rattle.std.specs.Prelude.{◌≡◌, ℕ, List, [], ◌∷◌, ◌++◌, map, Option, Some, None, is_none, false, Ok, IsTrue, IsFalse, bit_and, ◌<◌, ◌^◌}
+use Rattle.std.specs.Prelude.{◌≡◌, ℕ, List, ◌∷◌, ◌++◌, map, Option, Some, None, is_none, false, Ok, IsTrue, IsFalse, bit_and, ◌<◌, ◌^◌}
 use Rattle.std.specs.List.{list_all}
 use Rattle.pua_tree.specs.Tree.{Tree, WellFormed, is_dir}
 use Rattle.pua_path.specs.Resolution.{resolution, step, last}

@@ -1,9 +1,9 @@
 -- What the veils leave of an object, and whether a call is allowed.
-use Rattle.std.specs.Prelude.{ℕ, Bool, true, false, not, if◌then◌else◌, List, [], ◌∷◌, map, Option, Some, None, Result, Ok, Err, is_none, ◌&&◌, ◌==◌, IsTrue}
+use Rattle.std.specs.Prelude.{ℕ, Bool, true, false, if◌then◌else◌, List, [], ◌∷◌, map, Option, Some, None, Result, Ok, Err}
 use Rattle.std.specs.List.{list_any}
-use Rattle.std.specs.Option.{option_eq}
-use Rattle.pua_tree.specs.Tree.{Tree, kind_at, above, climb, is_empty, is_dir, look}
+use Rattle.pua_tree.specs.Tree.{Tree, kind_at, above, climb, is_empty}
 use Rattle.pua_path.specs.Resolution.{resolution_of_text}
+pub use Rattle.pua_path.specs.Fits.{found_fits, FoundFits, FoundsFit}
 use Rattle.pua_policy.specs.Promises.{holds}
 use Rattle.pua_policy.specs.Calls.{CallTable, rule_of, last_of, ending_of}
 use Rattle.pua_policy.specs.History.{History, Event, Unveiled, kept, may_any, working_dir}
@@ -41,20 +41,6 @@ abbrev pub nearest : List (Option ℕ) → Cover
 nearest [] = Nothing
 nearest (None ∷ more) = nearest more
 nearest (Some perms ∷ more) = Only perms
-
--- what was found is of the tree: its directory lives, and its row is as the tree has it, with no directory in it
-abbrev pub found_fits : Tree → Found → Bool
-found_fits t (found.Whole dir _) = is_dir t dir
-found_fits t (found.Slot dir name None) = is_dir t dir && is_none (look t dir name)
-found_fits t (found.Slot dir name (Some x)) = is_dir t dir && (option_eq ◌==◌ (look t dir name) (Some x) && not (is_dir t x))
-
-abbrev pub FoundFits : Tree → Found → Type 0
-FoundFits t object = IsTrue (found_fits t object)
-
--- the same, where something was found
-abbrev pub FoundsFit : Tree → Result Found Errno → Type 0
-FoundsFit t (Ok object) = FoundFits t object
-FoundsFit t (Err errno) = Unit {0}
 
 -- what was found is a link
 abbrev pub is_link_kind : Option Kind → Bool

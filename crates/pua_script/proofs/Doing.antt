@@ -1,13 +1,6 @@
 -- What a process does, by the effect of what it asks for.
 use Rattle.std.proofs.Common.{◌≡◌, ℕ, List, ◌∷◌, Option, Some, None, Result, Ok, Err, IfOk, refl, sym, subst}
-use Rattle.pua_tree.specs.Tree.{Tree, WellFormed}
-use Rattle.pua_path.specs.Resolution.{resolution}
-use Rattle.pua_path.specs.declared.errno.Errno.{Errno}
-use Rattle.pua_path.specs.declared.text.Ending.{Ending}
-use Rattle.pua_path.specs.declared.found.Last.{Last}
-use Rattle.pua_path.specs.declared.found.Found.{Found}
-use Rattle.pua_policy.specs.Verdict.{FoundsFit}
-use Rattle.pua_policy.proofs.Fits.{resolutions_fit}
+use Rattle.pua_tree.specs.Tree.{Tree}
 use Rattle.pua_policy.specs.History.{History, ProcessState, StandsFor, Unveiled, unveil_fault}
 use Rattle.pua_policy.specs.declared.place.Place.{Place}
 use Rattle.pua_policy.specs.declared.answer.May.{May}
@@ -62,8 +55,3 @@ pub all_at : (t : Tree) (before q : ProcessState) (r : Result Answer WorldFault)
     → IfOk r (λ answer. (h : History) (t : Tree) → StandsFor before h → Does t h (e t h) answer t q) → IfOk r (λ answer. (h : History) → StandsFor before h → Does t h (e t h) answer t q)
 all_at t before q (Ok answer) e does = λ h s. does h t s
 all_at t before q (Err fault) e does = tt
-
--- what a path without fault names is of the tree
-pub found_fit : (t : Tree) → WellFormed t → (from : ℕ) (ending : Ending) (text : List ℕ) (mode : Last) (r : Result Found Errno) → r ≡ resolution t from ending text mode → FoundsFit t r
-found_fit t well from ending text mode (Err errno) is = tt
-found_fit t well from ending text mode (Ok object) is = ((resolutions_fit t well).whole from ending text mode object (sym is)).fits

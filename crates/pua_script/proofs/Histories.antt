@@ -1,7 +1,8 @@
 -- Histories that one process stands for go on to be such.
-use Rattle.std.proofs.Common.{◌≡◌, ℕ, [], ◌∷◌, not, refl, sym, ap, subst, ◌∙◌}
-use Rattle.std.specs.Prelude.{Option, Some, None, filter, filter_map}
-use Rattle.pua_policy.specs.History.{History, Event, Pledged, Unveiled, Locked, Moved, Ended, ProcessState, StandsFor, pledged, held_for_exec, veils, with_veil, is_locked, is_ended, working_dir, meet, common, promises_in, execpromises_in, is_pledge, after_exec}
+use Rattle.std.proofs.Common.{◌≡◌, ℕ, [], ◌∷◌, refl, sym, ap, subst, ◌∙◌}
+use Rattle.std.specs.Prelude.{Option, Some, None, unwrap_or}
+use Rattle.pua_policy.specs.History.{History, Event, Pledged, Unveiled, Locked, Moved, Ended, ProcessState, StandsFor, pledged, held_for_exec, veils, with_veil, is_locked, is_ended, working_dir, meet, common, after_exec, first}
+use Rattle.pua_policy.proofs.Exec.{others, no_promises, no_execpromises, same_veils, same_lock, same_dirs, same_end}
 
 -- what a process that stands for a history keeps
 abbrev pub state_of : History → ProcessState
@@ -47,60 +48,12 @@ same_more Locked h k a = record { promises = a.promises; execpromises = a.execpr
 same_more (Moved dir) h k a = record { promises = a.promises; execpromises = a.execpromises; veils = a.veils; locked = a.locked; dir = refl; ended = a.ended }
 same_more Ended h k a = record { promises = a.promises; execpromises = a.execpromises; veils = a.veils; locked = a.locked; dir = a.dir; ended = refl }
 
-abbrev without_pledges : History → History
-without_pledges h = filter (λ event. not (is_pledge event)) h
-
-no_promises_left : (h : History) → filter_map promises_in (without_pledges h) ≡ []
-no_promises_left [] = refl
-no_promises_left (Pledged p e ∷ h) = no_promises_left h
-no_promises_left (Unveiled place perms ∷ h) = no_promises_left h
-no_promises_left (Locked ∷ h) = no_promises_left h
-no_promises_left (Moved dir ∷ h) = no_promises_left h
-no_promises_left (Ended ∷ h) = no_promises_left h
-
-no_execpromises_left : (h : History) → filter_map execpromises_in (without_pledges h) ≡ []
-no_execpromises_left [] = refl
-no_execpromises_left (Pledged p e ∷ h) = no_execpromises_left h
-no_execpromises_left (Unveiled place perms ∷ h) = no_execpromises_left h
-no_execpromises_left (Locked ∷ h) = no_execpromises_left h
-no_execpromises_left (Moved dir ∷ h) = no_execpromises_left h
-no_execpromises_left (Ended ∷ h) = no_execpromises_left h
-
-veils_left : (h : History) → veils (without_pledges h) ≡ veils h
-veils_left [] = refl
-veils_left (Pledged p e ∷ h) = veils_left h
-veils_left (Unveiled place perms ∷ h) = ap (with_veil place perms) (veils_left h)
-veils_left (Locked ∷ h) = veils_left h
-veils_left (Moved dir ∷ h) = veils_left h
-veils_left (Ended ∷ h) = veils_left h
-
-lock_left : (h : History) → is_locked (without_pledges h) ≡ is_locked h
-lock_left [] = refl
-lock_left (Pledged p e ∷ h) = lock_left h
-lock_left (Unveiled place perms ∷ h) = lock_left h
-lock_left (Locked ∷ h) = refl
-lock_left (Moved dir ∷ h) = lock_left h
-lock_left (Ended ∷ h) = lock_left h
-
-dir_left : (h : History) → working_dir (without_pledges h) ≡ working_dir h
-dir_left [] = refl
-dir_left (Pledged p e ∷ h) = dir_left h
-dir_left (Unveiled place perms ∷ h) = dir_left h
-dir_left (Locked ∷ h) = dir_left h
-dir_left (Moved dir ∷ h) = refl
-dir_left (Ended ∷ h) = dir_left h
-
-end_left : (h : History) → is_ended (without_pledges h) ≡ is_ended h
-end_left [] = refl
-end_left (Pledged p e ∷ h) = end_left h
-end_left (Unveiled place perms ∷ h) = end_left h
-end_left (Locked ∷ h) = end_left h
-end_left (Moved dir ∷ h) = end_left h
-end_left (Ended ∷ h) = refl
+dir_left : (h : History) → working_dir (others h) ≡ working_dir h
+dir_left h = ap (λ ds. unwrap_or (first ds) 0) (same_dirs h)
 
 -- the history after an exec, by the execpromises
 abbrev exec_left : Option ℕ → History → History
-exec_left (Some promises) h = Pledged (Some promises) None ∷ without_pledges h
+exec_left (Some promises) h = Pledged (Some promises) None ∷ others h
 exec_left None h = Moved (working_dir h) ∷ []
 
 exec_by : (o : Option ℕ) (h : History) → held_for_exec h ≡ o → after_exec h ≡ exec_left o h
@@ -110,12 +63,12 @@ exec_by (Some promises) h is = rw is refl
 same_exec_left : (o : Option ℕ) (h k : History) → Same h k → Same (exec_left o h) (exec_left o k)
 same_exec_left None h k a = record { promises = refl; execpromises = refl; veils = refl; locked = refl; dir = a.dir; ended = refl }
 same_exec_left (Some p) h k a = record {
-  promises = ap (λ sets. Some (meet p (common sets))) (no_promises_left h ∙ sym (no_promises_left k));
-  execpromises = ap common (no_execpromises_left h ∙ sym (no_execpromises_left k));
-  veils = veils_left h ∙ a.veils ∙ sym (veils_left k);
-  locked = lock_left h ∙ a.locked ∙ sym (lock_left k);
+  promises = ap (λ sets. Some (meet p (common sets))) (no_promises h ∙ sym (no_promises k));
+  execpromises = ap common (no_execpromises h ∙ sym (no_execpromises k));
+  veils = same_veils h ∙ a.veils ∙ sym (same_veils k);
+  locked = same_lock h ∙ a.locked ∙ sym (same_lock k);
   dir = dir_left h ∙ a.dir ∙ sym (dir_left k);
-  ended = end_left h ∙ a.ended ∙ sym (end_left k);
+  ended = same_end h ∙ a.ended ∙ sym (same_end k);
 }
 
 pub same_after_exec : (h k : History) → Same h k → Same (after_exec h) (after_exec k)

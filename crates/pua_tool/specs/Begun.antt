@@ -1,10 +1,7 @@
 -- What the code keeps of a replay and of an audit, as the definitions see it.
-use Rattle.std.specs.Prelude.{◌≡◌, ◌≤◌, length, List}
-use Rattle.std.specs.List.{AllByRecursion}
+use Rattle.std.specs.Prelude.{◌≡◌}
 use Rattle.pua_script.specs.Worlds.{StandsForWorld}
-use Rattle.pua_audit.specs.Reach.{Pair, path_of}
 use Rattle.pua_audit.specs.Begin.{still_to_come}
-use Rattle.pua_audit.specs.declared.base.Base.{Base}
 use Rattle.pua_tool.specs.Texts.{Replayed, Begun}
 use Rattle.pua_tool.specs.declared.script.Replay.{Replay}
 use Rattle.pua_tool.specs.declared.audit.Audited.{Audited}
@@ -14,14 +11,9 @@ pub record IsReplay (replay : Replay) (done : Replayed) : Type 0 where
   pub told : replay.told.items ≡ done.told
   pub stands : StandsForWorld replay.world done.world
 
--- the paths of pairs have at most 1,023 bytes
-abbrev pub AreShort : Base → List Pair → Type 0
-AreShort base pairs = AllByRecursion (λ pair. length (path_of base pair.0) ≤ 1023) pairs
-
 -- the answers, the tree and the audit are those that were begun
 pub record IsBegun (audited : Audited) (b : Begun) : Type 0 where
   pub told : audited.told.items ≡ b.told
   pub tree : audited.world.tree ≡ audited.audit.tree
   pub base : audited.audit.base ≡ b.beginning.scope.base
   pub left : audited.audit.left ≡ still_to_come b.beginning
-  pub short : AreShort audited.audit.base audited.audit.left

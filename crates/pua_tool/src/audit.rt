@@ -3,7 +3,7 @@
 ghost use Rattle.std.specs.Prelude.{◌≡◌, ◌≢◌, ◌≤◌, ◌++◌, ℕ, List, Ok, Err, IfOk, IfErr, OnOk, vec_capacity};
 ghost use Rattle.pua_policy.specs.Calls.{standard_table};
 ghost use Rattle.pua_tool.specs.Texts.{Begun, wanted, begun, audit_text, pair_lines};
-ghost use Rattle.pua_tool.specs.Begun.{IsBegun, AreShort};
+ghost use Rattle.pua_tool.specs.Begun.{IsBegun};
 ghost use Rattle.pua_tool.specs.Sinks.{Adds, AddsFront, HasFailed, Writes};
 
 use crate::answers::front_text;
@@ -72,7 +72,6 @@ fn write_text<'t, P: Probe<'t>, S: Sink>(
     sink: &mut S,
 ) -> Result<(), PutFault>
     requires tree { P.tree probe.old ≡ audit.old.tree }
-    requires short { AreShort audit.old.base audit.old.left }
     requires room { MOST_LINE ≤ vec_capacity line.old }
     ensures { Writes (front.now ++ pair_lines audit.old.base audit.old.left) result (S.written sink.old) (S.written sink.new) (S.failed sink.old) (S.failed sink.new) }
 {

@@ -1,6 +1,10 @@
 //! The whole program, as a function over its inputs and outputs.
 
-ghost use Rattle.std.specs.Prelude.{◌≡◌, ◌≢◌, ◌≤◌, OnOk, IfErr};
+ghost use Rattle.std.specs.Prelude.{◌≡◌, ◌≢◌, ◌≤◌, ℕ, List, Ok, OnOk, IfErr, map, option_map};
+ghost use Rattle.pua_policy.specs.Calls.{standard_table};
+ghost use Rattle.pua_tool.specs.Texts.{audit_text, run_text};
+ghost use Rattle.pua_tool.specs.Sinks.{Adds};
+ghost use Rattle.pua_tool.specs.declared.words.AuditWords.{AuditWords as Asked};
 ghost use Rattle.pua_tool.specs.Statuses.{status_of};
 
 use crate::audit::audit_to;
@@ -96,6 +100,10 @@ fn write_text<O: Sink>(
 ) -> Result<(), ToolFault>
     ensures unfailed { OnOk result (O.failed out.new ≡ O.failed out.old) }
     ensures unwritten { IfErr result (λ fault. fault ≢ ToolFault.Write → O.written out.new ≡ O.written out.old) }
+    ensures run { text.now ≡ Text.Run → OnOk result ((t : List ℕ) × (run_text standard_table tree.now script.now ≡ Ok t) × Adds t (O.written out.old) (O.written out.new)) }
+    ensures audit { (words : Asked) → text.now ≡ Text.Audit words → OnOk result ((t : List ℕ)
+        × (audit_text standard_table tree.now script.now (record { limit = words.limit; process = words.process; base = words.base; after = option_map (λ s. s.now) words.after; candidates = map (λ s. s.now) words.names.items }) ≡ Ok t)
+        × Adds t (O.written out.old) (O.written out.new)) }
 {
     match text {
         Text::Run => run_to(alloc, tree, script, out),

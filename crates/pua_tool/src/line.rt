@@ -4,7 +4,6 @@ ghost use Rattle.std.specs.Prelude.{◌≡◌, ◌≤◌, ◌+◌, ◌*◌, ◌+
 ghost use Rattle.pua_tree.specs.Spelling.{spelling};
 ghost use Rattle.pua_policy.specs.Calls.{call_name};
 ghost use Rattle.pua_tool.specs.Texts.{ended, pair_lines};
-ghost use Rattle.pua_tool.specs.Begun.{AreShort};
 ghost use Rattle.pua_tool.specs.Sinks.{Writes};
 
 use crate::sink::{PutFault, Sink, put_all};
@@ -28,7 +27,6 @@ pub(crate) fn write_lines<'t, P: Probe<'t>, S: Sink>(
     sink: &mut S,
 ) -> Result<(), PutFault>
     requires tree { P.tree probe.old ≡ audit.old.tree }
-    requires short { AreShort audit.old.base audit.old.left }
     requires room { MOST_LINE ≤ vec_capacity line.old }
     ensures { Writes (pair_lines audit.old.base audit.old.left) result (S.written sink.old) (S.written sink.new) (S.failed sink.old) (S.failed sink.new) }
 {

@@ -1,6 +1,7 @@
 use Rattle.std.proofs.Common.{Ok, Err, refl}
 use Rattle.std.proofs.lemmas.Result.{err_from_is_err_and}
 use Rattle.pua_path.proofs.Arrival.{resolution_starts}
+use Rattle.pua_path.proofs.Fitting.{founds_fit}
 use Rattle.pua_path.proofs.resolver.resolve.Goals as goal
 
 pub finish-requires : goal.finish-requires
@@ -18,3 +19,8 @@ returns-clause-exact g c =
     let start = rw c.bytes.ensures.bytes at c.in-Some.ensures.start in
     let found = rw (c.new-walk.ensures, c.start_of.ensures.tree, c.of_text.ensures.parts) at c.in_ok-found.ensures.exact in
     resolution_starts (g.P.Probe.tree c.args.probe.now) c.args.from c.args.text.now.ending c.args.text.now.bytes c.args.mode c.in-Some.start (Ok (c.in_ok-found.found, c.in_ok-found.field-0-1)) start found
+
+pub returns-clause-fits : goal.returns-clause-fits
+returns-clause-fits g c =
+    let text = c.args.text.now in
+    founds_fit (g.P.Probe.tree c.args.probe.now) c.known.ensures c.args.from text.ending text.bytes c.args.mode (Ok c.in_ok-found.found) (returns-clause-exact g c)

@@ -4,13 +4,10 @@ use Rattle.pua_tree.specs.Tree.{Tree}
 use Rattle.pua_policy.specs.Calls.{standard_table}
 use Rattle.pua_script.specs.Replay.{history_of}
 use Rattle.pua_audit.specs.Begin.{beginning}
-use Rattle.pua_audit.specs.declared.base.Base.{Base}
 use Rattle.pua_audit.specs.declared.fault.AuditFault.TheVariants as audit_fault
 use Rattle.pua_tool.specs.Texts.{wanted, begun}
-use Rattle.pua_tool.specs.Begun.{AreShort}
 use Rattle.pua_tool.specs.declared.fault.ToolFault.TheVariants.{OutOfMemory}
 use Rattle.pua_tool.proofs.Replays.{begun_is, replay_refuses, process_refuses, audit_refuses, is_made, none_made}
-use Rattle.pua_tool.proofs.Pairs.{begins_fit}
 use Rattle.pua_tool.proofs.audit.begin.Goals as goal
 
 pub returns-in-Ok-clause-begun : goal.returns-in-Ok-clause-begun
@@ -23,15 +20,14 @@ returns-in-Ok-clause-begun c =
     let tree : c.new-probe.result.tree ≡ done.0.world.tree = c.new-probe.ensures.tree ∙ c.tree.ensures ∙ done.2.stands.tree in
     let same : beginning done.0.world.tree standard_table made.history w.base w.candidates w.limit w.after ≡ Ok begins.0 =
     subst (λ (t : Tree). beginning t standard_table made.history w.base w.candidates w.limit w.after ≡ Ok begins.0) tree begins.1.0 in
-    let fits = begins_fit done.0.world.tree standard_table made.history w.base w.candidates w.limit w.after begins.0 same in (
+    (
       record { told = done.0.told; beginning = begins.0 },
       begun_is standard_table c.args.tree_bytes.now c.args.script_bytes.now w done.0 made.history begins.0 done.1 made.is same,
       record {
         told = done.2.told;
         tree = sym (of.0 ∙ c.new-probe.ensures.tree ∙ c.tree.ensures);
-        base = of.1 ∙ sym fits.0;
+        base = of.1 ∙ sym begins.1.2;
         left = begins.1.1;
-        short = subst (λ (base : Base). AreShort base c.in-Ok.audit.left) (fits.0 ∙ sym of.1) (subst (λ (left : List _). AreShort begins.0.scope.base left) (sym begins.1.1) fits.1);
       },
     )
 

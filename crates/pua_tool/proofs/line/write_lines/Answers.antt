@@ -6,7 +6,7 @@ use Rattle.pua_audit.specs.Lent.{IsNextLine}
 use Rattle.pua_audit.specs.declared.line.Line.{Line}
 use Rattle.pua_tool.specs.Texts.{pair_lines}
 use Rattle.pua_tool.proofs.Putting.{HasPut, has_put_next, has_put_fails}
-use Rattle.pua_tool.proofs.Pairs.{first_line, others_short}
+use Rattle.pua_tool.proofs.Pairs.{first_line}
 use Rattle.pua_tool.proofs.line.write_lines.Goals as goal
 
 pub loop-pair-preserved : goal.loop-pair-preserved
@@ -20,7 +20,6 @@ loop-pair-preserved g c =
     record {
       tree = c.in-Some.ensures.tree ∙ c.loop-pair.invariant.tree ∙ sym next.0;
       base = next.1 ∙ c.loop-pair.invariant.base;
-      short = others_short c.loop-pair.audit.base c.next_line.follows.lender-at-none.base (next.2.0, c.in-Some.pair.call) left more (next.1) next.2.1.1 c.loop-pair.invariant.short;
       room = c.in_ok-write_pair.ensures.room;
       put = has_put_next _ _ (pair_lines base more) _ _ _
           (subst (λ (rest : List ℕ). HasPut (pair_lines base c.args.audit.now.left) rest (g.S.Sink.written c.args.sink.now) (g.S.Sink.written c.loop-pair.sink)) lines c.loop-pair.invariant.put)

@@ -1,6 +1,5 @@
 use Rattle.std.proofs.Common.{◌≡◌, ◌≤◌, length, vec_capacity}
 use Rattle.pua_tool.specs.Texts.{pair_lines}
-use Rattle.pua_tool.specs.Begun.{AreShort}
 use Rattle.pua_tool.proofs.Putting.{HasPut}
 use Rattle.pua_tool.proofs.line.write_lines.Given as goal
 
@@ -9,7 +8,6 @@ abbrev pub invariant-loop-pair : goal.invariant-loop-pair
 invariant-loop-pair g l = record {
   tree : g.P.Probe.tree l.probe ≡ l.audit.tree;
   base : l.audit.base ≡ l.fn.audit.base;
-  short : AreShort l.audit.base l.audit.left;
   room : 4102 ≤ vec_capacity l.line;
   put : HasPut (pair_lines l.fn.audit.base l.fn.audit.left) (pair_lines l.fn.audit.base l.audit.left) (g.S.Sink.written l.fn.sink) (g.S.Sink.written l.sink);
   unfailed : g.S.Sink.failed l.sink ≡ g.S.Sink.failed l.fn.sink;

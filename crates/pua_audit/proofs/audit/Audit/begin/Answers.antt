@@ -1,4 +1,4 @@
-use Rattle.std.proofs.Common.{◌≡◌, rules, List, ap, ◌∙◌, map}
+use Rattle.std.proofs.Common.{◌≡◌, refl, rules, List, ap, ◌∙◌, map}
 use Rattle.std.specs.Prelude.{option_map}
 use Rattle.pua_tree.specs.Tree.{Tree}
 use Rattle.pua_path.specs.declared.found.Part.{Part}
@@ -17,6 +17,7 @@ pub new-requires : goal.new-requires
 new-requires g c =
     let past : StandsFor c.args.process.now (history_of c.args.process.now) = stands_for_past c.args.process.now c.known.ensures.history c.known.ensures.stands in
     let parts : AreParts c.in_ok-letters.field-0.letters.items = c.in_ok-letters.ensures.sound.sound.parts in
+    let short = c.in_ok-letters.ensures.sound.sound.short in
     search rules
 
 pub returns-clause-begun : goal.returns-clause-begun
@@ -38,5 +39,6 @@ returns-clause-begun g c = λ h stands.
             ∙ ap (λ (s : Scope). rest_after s (option_map (pair_in (map part_bytes letters)) after)) c.in-Ok.ensures.scope
             ∙ ap (λ (u : Tree). rest_after (scope_with u standard_table (history_of p) base limit letters) (option_map (pair_in (map part_bytes letters)) after)) c.in_ok-letters.ensures.tree
             ∙ rest_by_process t standard_table base (map part_bytes letters) limit p (history_of p) h past stands (option_map (pair_in (map part_bytes letters)) after),
+        refl,
       ),
     )

@@ -1,7 +1,7 @@
-use Rattle.std.proofs.Common.{◌≡◌, ◌∙◌, ◌<◌, get_or, sym, ap, refl, rules, arith}
-use Rattle.std.specs.Prelude.{Some, None, bit_or}
+use Rattle.std.proofs.Common.{◌≡◌, ◌∙◌, get_or, sym, refl, arith}
+use Rattle.std.specs.Prelude.{Some}
 use Rattle.pua_policy.specs.Promises.{letter_of}
-use Rattle.pua_policy.proofs.Sets.{with_rest, with_rest-known, with_rest-end}
+use Rattle.pua_policy.proofs.Sets.{with_rest-known, with_rest-end}
 use Rattle.pua_policy.proofs.perms.Perms.read.Goals as goal
 
 pub loop-byte-preserved : goal.loop-byte-preserved

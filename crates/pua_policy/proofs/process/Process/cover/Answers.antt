@@ -1,4 +1,4 @@
-use Rattle.std.proofs.Common.{◌≡◌, ◌∙◌, sym, ap}
+use Rattle.std.proofs.Common.{◌∙◌, sym, ap}
 use Rattle.pua_policy.specs.Verdict.{cover}
 use Rattle.pua_policy.proofs.Covers.{cover-unveiled, cover-whole, cover-own, cover-beneath}
 use Rattle.pua_policy.proofs.process.Process.cover.Goals as goal
