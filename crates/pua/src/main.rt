@@ -2,7 +2,7 @@
 //! of files.
 #![tactic(auto)]
 
-use pua_tool::{DiskInputs, StreamSink, ToolFault, USAGE_LINE, command};
+use pua_tool::{DONE, DiskInputs, StreamSink, ToolFault, USAGE, USAGE_LINE, command};
 use std::alloc::{AllocError, Global};
 use std::io::BufWriter;
 use std::process::ExitCode;
@@ -13,13 +13,13 @@ fn main(rt: HostRuntime) -> ExitCode {
         Ok(Some(args)) => ExitCode::from(run(&rt, args.as_slice())),
         Ok(None) => {
             let _ = eprintln!(rt; "{USAGE_LINE}");
-            ExitCode::from(2)
+            ExitCode::from(USAGE)
         }
-        Err(AllocError) => ExitCode::from(tell(&rt, ToolFault::OutOfMemory)),
+        Err(AllocError) => ExitCode::from(report(&rt, ToolFault::OutOfMemory)),
     }
 }
 
-/// The words behind the program's name; None where one is no text.
+/// The words after the program's name; None where one is no text.
 fn words_given(rt: &HostRuntime) -> Result<Option<Vec<String>>, AllocError> {
     match env::args(rt) {
         Ok(args) => Ok(Some(args.skip(1).collect(rt.alloc())?)),
@@ -34,7 +34,7 @@ fn run(rt: &HostRuntime, args: &[String]) -> u8 {
         lent(rt.alloc(), args),
         BufWriter::new(rt.alloc(), io::writer(rt)),
     ) else {
-        return tell(rt, ToolFault::OutOfMemory);
+        return report(rt, ToolFault::OutOfMemory);
     };
     let mut inputs = DiskInputs::new(rt);
     let mut out = StreamSink::new(writer);
@@ -46,8 +46,8 @@ fn run(rt: &HostRuntime, args: &[String]) -> u8 {
         &mut out,
         &mut err,
     );
-    if out.flush().is_err() && status == 0 {
-        return tell(rt, ToolFault::Write);
+    if out.flush().is_err() && status == DONE {
+        return report(rt, ToolFault::Write);
     }
     status
 }
@@ -56,11 +56,8 @@ fn lent<'a>(alloc: Global, args: &'a [String]) -> Result<Vec<&'a str>, AllocErro
     args.iter().map(|arg| arg.as_str()).collect(alloc)
 }
 
-/// Tells a fault outside the command, and answers the status.
-fn tell(rt: &HostRuntime, fault: ToolFault) -> u8 {
+/// Reports a fault outside the command, and answers the status.
+fn report(rt: &HostRuntime, fault: ToolFault) -> u8 {
     let _ = eprintln!(rt; "{fault}");
-    match fault {
-        ToolFault::Write => 3,
-        _ => 4,
-    }
+    fault.status()
 }

@@ -6,8 +6,8 @@ use Rattle.pua_tree.specs.Tree.{Tree, WellFormed, is_dir}
 use Rattle.pua_tree.specs.Steps.{◌>>=◌}
 use Rattle.pua_path.specs.Paths.{part_of, is_absolute}
 use Rattle.pua_path.specs.Resolution.{Resolved, resolve_parts, resolution_of_text, reached}
-use Rattle.pua_path.specs.Laws.{onwards}
-use Rattle.pua_path.proofs.Composition.{composes}
+use Rattle.pua_path.specs.Laws.{Lands, onwards}
+use Rattle.pua_path.proofs.ForCallers.{composes, resolutions_fit}
 use Rattle.pua_path.specs.declared.errno.Errno.{Errno}
 use Rattle.pua_path.specs.declared.errno.Errno.TheVariants.{ENOENT, ENOTDIR}
 use Rattle.pua_path.specs.declared.text.Ending.{Ending}
@@ -24,10 +24,9 @@ use Rattle.pua_policy.specs.declared.answer.May.TheVariants.{Yes, Enosys, Death}
 use Rattle.pua_policy.specs.declared.answer.Verdict.TheVariants.{Failed}
 use Rattle.pua_policy.specs.declared.call.Call.{Call}
 use Rattle.pua_audit.specs.Reach.{Word, Pair, Scope, words, pairs, from_root, path_of, is_reached, reach}
-use Rattle.pua_audit.specs.World.{Start, Below, World, base_dir, base_way, state_of, world_of, world, if_some, is_allowed_along, reach_along}
+use Rattle.pua_audit.specs.Judge.{Start, Below, Judge, base_dir, base_way, state_of, judge_of, judge_for, if_some, is_allowed_along, reach_along}
 use Rattle.pua_audit.specs.declared.base.Base.{Base}
 use Rattle.pua_audit.specs.declared.base.Base.TheVariants.{Root, Cwd}
-use Rattle.pua_audit.proofs.Landing.{Lands, lands}
 use Rattle.pua_audit.specs.Begin.{longest}
 use Rattle.pua_audit.proofs.Paths.{IsPiece, IsPath, path_is, length_from_root}
 use Rattle.pua_audit.proofs.Rising.{all_mapped, all_flat, all_of}
@@ -44,8 +43,8 @@ ended t table h call (Ok found) e = rw e refl
 ended t table h call (Err errno) e = rw e refl
 
 module _ (t : Tree) (fits : WellFormed t) (table : CallTable) (base : Base) (h : History) where
-  abbrev w : World
-  w = world_of t table base h
+  abbrev w : Judge
+  w = judge_of t table base h
 
   -- the verdict on what was resolved
   abbrev judged : Call → Resolved → Bool
@@ -60,13 +59,13 @@ module _ (t : Tree) (fits : WellFormed t) (table : CallTable) (base : Base) (h :
   along c links dir a [] le lives = ap (λ n. judged c (resolve_parts n t (last_of c) dir Top (part_of a ∷ []))) (sym (left_again links le))
   along c links dir a (b ∷ word) le lives =
       ap (judged c) (composes t (last_of c) links dir Top (part_of a ∷ []) (part_of b) (map part_of word))
-      ∙ by (λ left next le here. along c left next b word le here) (resolve_parts links t Followed dir Top (part_of a ∷ parts.Dot ∷ [])) (lands t fits links Followed dir Top (part_of a ∷ parts.Dot ∷ []) lives)
+      ∙ by (λ left next le here. along c left next b word le here) (resolve_parts links t Followed dir Top (part_of a ∷ parts.Dot ∷ [])) ((resolutions_fit t fits).parts links dir Followed (part_of a ∷ parts.Dot ∷ []) lives)
       ∙ ap (λ n. if_some (state_of (resolve_parts n t Followed dir Top (part_of a ∷ parts.Dot ∷ []) >>= reached)) (λ s. is_allowed_along w (Below s b) word c)) (sym (left_again links le))
     where
       by : ((left next : ℕ) → left ≤ 32 → is_dir t next ≡ true → judged c (resolve_parts left t (last_of c) next Top (map part_of (b ∷ word))) ≡ is_allowed_along w (Below (record { dir = next; used = 32 - left }) b) word c)
-          → (r : Resolved) → Lands t fits links r
+          → (r : Resolved) → Lands t Followed links r
           → judged c (r >>= onwards t (last_of c) (map part_of (b ∷ word))) ≡ if_some (state_of (r >>= reached)) (λ s. is_allowed_along w (Below s b) word c)
-      by on (Ok (Whole next way, left)) is = on left next (omega (arith, is.1, le)) is.0
+      by on (Ok (Whole next way, left)) is = on left next (omega (arith, is.1, le)) is.0.fits
       by on (Ok (Slot at name _, left)) is = refused (may_any h (rule_of table c).alternatives) ENOTDIR
       by on (Err errno) is = refused (may_any h (rule_of table c).alternatives) errno
 
@@ -108,7 +107,7 @@ filter_none : {A : Type 0} (f : A → Bool) (xs : List A) → AllByRecursion (λ
 filter_none f [] all = refl
 filter_none f (x ∷ xs) all = ap (λ b. cond b (x ∷ filter f xs) (filter f xs)) all.0 ∙ filter_none f xs all.1
 
-all_to : {A : Type 0} (P Q : A → Type 0) → ((x : A) → P x → Q x) → (xs : List A) → AllByRecursion P xs → AllByRecursion Q xs
+pub all_to : {A : Type 0} (P Q : A → Type 0) → ((x : A) → P x → Q x) → (xs : List A) → AllByRecursion P xs → AllByRecursion Q xs
 all_to P Q leads [] all = tt
 all_to P Q leads (x ∷ xs) all = (leads x all.0, all_to P Q leads xs all.1)
 
@@ -126,7 +125,7 @@ words_are P alphabet all (suc l) = (
       alphabet all,
 )
 
-pairs_are : (P : List ℕ → Type 0) (alphabet : List (List ℕ)) (limit : ℕ) → AllByRecursion P alphabet → AllByRecursion (λ pair. IsWord P limit pair.0) (pairs alphabet limit)
+pub pairs_are : (P : List ℕ → Type 0) (alphabet : List (List ℕ)) (limit : ℕ) → AllByRecursion P alphabet → AllByRecursion (λ pair. IsWord P limit pair.0) (pairs alphabet limit)
 pairs_are P alphabet limit all =
     all_flat (IsWord P limit) (λ (pair : Pair). IsWord P limit pair.0) (λ word. map (λ c. (word, c)) calls)
     (λ word is. all_mapped {B = Pair} (λ _. Unit {0}) (λ pair. IsWord P limit pair.0) (λ c. (word, c)) (λ _ _. is) calls (all_of (λ _. Unit {0}) (λ _. tt) calls))
@@ -160,10 +159,10 @@ module _ (s : Scope) (fits : WellFormed s.tree) (readable : IsReadable s.alphabe
       omega (arith, times (length (from_root word)) (length word) (suc (longest s.alphabet)) s.limit long is.within, readable.fits)
 
   -- the reach is what is allowed letter by letter
-  pub reach_is_along : is_dir s.tree (base_dir s.base s.history) ≡ true → reach s ≡ reach_along (world s) s.alphabet s.limit
+  pub reach_is_along : is_dir s.tree (base_dir s.base s.history) ≡ true → reach s ≡ reach_along (judge_for s) s.alphabet s.limit
   reach_is_along lives =
-      filter_alike (is_reached s) (λ pair. is_allowed_along (world s) Start pair.0 pair.1) (pairs s.alphabet s.limit)
-      (all_to (λ pair. IsWord (λ a. IsPiece a × (length a ≤ longest s.alphabet)) s.limit pair.0) (λ pair. is_reached s pair ≡ is_allowed_along (world s) Start pair.0 pair.1)
+      filter_alike (is_reached s) (λ pair. is_allowed_along (judge_for s) Start pair.0 pair.1) (pairs s.alphabet s.limit)
+      (all_to (λ pair. IsWord (λ a. IsPiece a × (length a ≤ longest s.alphabet)) s.limit pair.0) (λ pair. is_reached s pair ≡ is_allowed_along (judge_for s) Start pair.0 pair.1)
       (λ pair is. judged_along s.tree fits s.table s.base s.history lives pair.1 pair.0 (all_to (λ a. IsPiece a × (length a ≤ longest s.alphabet)) IsPiece (λ _ a. a.0) pair.0 is.letters)
       (short pair.0 is))
       (pairs s.alphabet s.limit)

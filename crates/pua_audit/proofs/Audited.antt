@@ -3,9 +3,9 @@ use Rattle.std.proofs.Common.{◌≡◌, ℕ, Bool, true, false, not, ◌&&◌, 
 use Rattle.std.specs.List.{AllByRecursion, list_all}
 use Rattle.pua_tree.specs.Tree.{is_dir}
 use Rattle.pua_policy.specs.History.{is_ended}
-use Rattle.pua_policy.proofs.Finding.{both_true}
+use Rattle.std.proofs.lemmas.Bool.{and_parts}
 use Rattle.pua_audit.specs.Reach.{Scope, reach}
-use Rattle.pua_audit.specs.World.{base_dir, is_letter}
+use Rattle.pua_audit.specs.Judge.{base_dir, is_letter}
 use Rattle.pua_audit.specs.Trail.{everywhere}
 use Rattle.pua_audit.specs.Laws.{IsAudited, ReachIsAlong, ClosedReaches, TrailsReach}
 use Rattle.pua_audit.proofs.Paths.{IsPiece, letter_is_piece}
@@ -14,7 +14,7 @@ use Rattle.pua_audit.proofs.Lines.{lines-fresh, prunes_none}
 
 pieces : (letters : List (List ℕ)) → list_all is_letter letters ≡ true → AllByRecursion IsPiece letters
 pieces [] h = tt
-pieces (a ∷ letters) h = let is = both_true (is_letter a) (list_all is_letter letters) h in (letter_is_piece a is.0, pieces letters is.1)
+pieces (a ∷ letters) h = let is = and_parts (is_letter a) (list_all is_letter letters) h in (letter_is_piece a is.0, pieces letters is.1)
 
 readable : (s : Scope) → IsAudited s → IsReadable s.alphabet s.limit
 readable s is = record { letters = pieces s.alphabet is.letters; fits = is.short }

@@ -9,12 +9,12 @@ use Rattle.pua_tree.specs.Spelling.{name_of}
 use Rattle.pua_tree.specs.Steps.{◌>>=◌}
 use Rattle.pua_tree.specs.Tree.{Tree, Spot, WellFormed, row_fits, is_dir, distinct_names}
 use Rattle.pua_tree.specs.declared.fault.NameFault.{NameFault}
-use Rattle.pua_tree.proofs.Spellings.{name_read, Err≢Ok, same_Ok}
+use Rattle.pua_tree.proofs.ForCallers.{name_read, Err≢Ok, same_Ok}
 use Rattle.pua_policy.specs.Calls.{CallTable}
 use Rattle.pua_policy.specs.History.{History}
 use Rattle.pua_audit.specs.Reach.{Scope, alphabet_of}
 use Rattle.pua_audit.specs.Begin.{Beginning, candidates_from, longest, fault_unless, beginning}
-use Rattle.pua_audit.specs.World.{is_letter}
+use Rattle.pua_audit.specs.Judge.{is_letter}
 use Rattle.pua_audit.specs.Starting.{begun_in}
 use Rattle.pua_audit.specs.declared.base.Base.{Base}
 use Rattle.pua_audit.specs.declared.fault.AuditFault.{AuditFault}

@@ -1,29 +1,24 @@
 -- What the walk's questions answer, in words of the alphabet.
-use Rattle.std.proofs.Common.{Bool, true, false, cond, ◌+◌, ◌++◌, take, filter, append-nil, ℕ, ◌<◌, ◌≤◌, ◌-◌, ◌≡◌, List, [], ◌∷◌, length, map, get_or, refl, sym, ap, ◌∙◌, arith}
-use Rattle.std.specs.Prelude.{Result, Ok, Err, IfSome, IsTrue}
+use Rattle.std.proofs.Common.{Bool, true, false, cond, ◌+◌, ◌++◌, take, filter, append-nil, ℕ, ◌<◌, ◌≤◌, ◌≡◌, List, [], ◌∷◌, length, map, get_or, refl, sym, ap, ◌∙◌, arith}
+use Rattle.std.specs.Prelude.{Result, Ok, Err, IfOk, IfSome, IsTrue}
 use Rattle.std.specs.List.{AllByRecursion}
 use Rattle.std.proofs.lemmas.List.{get_or-map, take_more, take_all}
 use Rattle.std.proofs.lemmas.List.Elements.{filter-append}
-use Rattle.pua_tree.specs.Tree.{Tree, WellFormed, is_dir}
-use Rattle.pua_tree.specs.Steps.{◌>>=◌}
+use Rattle.pua_tree.specs.Tree.{Tree, is_dir}
 use Rattle.pua_path.specs.Paths.{part_of}
-use Rattle.pua_path.specs.Resolution.{Resolved, resolve_parts, reached, link_limit, step, last}
+use Rattle.pua_path.specs.Limits.{link_limit}
 use Rattle.pua_path.specs.declared.errno.Errno.{Errno}
 use Rattle.pua_path.specs.declared.found.Part.{Part}
-use Rattle.pua_path.specs.declared.found.Part.TheVariants as parts
 use Rattle.pua_path.specs.declared.found.Last.{Last}
 use Rattle.pua_path.specs.declared.found.Last.TheVariants.{Followed, Kept}
-use Rattle.pua_path.specs.declared.found.Way.TheVariants.{Top}
 use Rattle.pua_path.specs.declared.found.Found.{Found}
-use Rattle.pua_path.specs.declared.found.Found.TheVariants.{Whole, Slot}
 use Rattle.pua_policy.specs.Calls.{calls, last_of, standard_table}
-use Rattle.pua_policy.specs.Verdict.{FoundsFit, verdict_of, is_allowed}
+use Rattle.pua_policy.specs.Verdict.{verdict_of, is_allowed}
 use Rattle.pua_policy.specs.declared.call.Call.{Call}
-use Rattle.pua_policy.proofs.Fits.{resolutions_fit}
 use Rattle.pua_audit.specs.Past.{history_of}
 use Rattle.pua_audit.specs.Trail.{allowed_at}
-use Rattle.pua_audit.specs.World.{Place, World, state_of, found_at}
-use Rattle.pua_audit.specs.Ready.{part_bytes, letters_of, world_in, place_of, found_from, by_last, IsState}
+use Rattle.pua_audit.specs.Judge.{Place, Judge, state_of, found_at}
+use Rattle.pua_audit.specs.Ready.{part_bytes, letters_of, judge_in, place_of, found_from, by_last, IsState}
 use Rattle.pua_audit.specs.declared.terms.Terms.{Terms}
 use Rattle.pua_audit.specs.declared.place.Place as at
 use Rattle.pua_audit.specs.declared.place.Place.TheVariants as places
@@ -32,26 +27,10 @@ use Rattle.pua_audit.proofs.Moves.{all_at_index}
 pub letter_part : (xs : List Part) (i : ℕ) (d : Part) → AllByRecursion (λ p. part_of (part_bytes p) ≡ p) xs → i < length xs → part_of (get_or (map part_bytes xs) i []) ≡ get_or xs i d
 letter_part xs i d faithful h = ap part_of (get_or-map part_bytes xs i d [] h) ∙ all_at_index (λ p. part_of (part_bytes p) ≡ p) xs d faithful i h
 
-step_used : (r : Resolved) (next : ℕ × ℕ) → (r >>= reached) ≡ Ok next → next.1 ≤ 32
-step_used (Ok (Whole dir way, links)) next e = let same : (dir, link_limit - links) ≡ next = cc in omega (arith, ap (λ (n : ℕ × ℕ). n.1) same)
-step_used (Ok (Slot dir name _, links)) next e = cc
-step_used (Err errno) next e = cc
-
--- a step leads to a living directory
-pub state_fits : (t : Tree) → WellFormed t → (dir used : ℕ) (p : Part) → IsTrue (is_dir t dir) → IfSome (state_of (step t dir used p)) (λ s. IsState t s)
-state_fits t fits dir used p lives = by (step t dir used p) refl
-  where
-    by : (r : Result (ℕ × ℕ) Errno) → step t dir used p ≡ r → IfSome (state_of r) (λ s. IsState t s)
-    by (Ok next) e = record { dir = (resolutions_fit t fits).step dir used p next lives e; used = step_used (resolve_parts (link_limit - used) t Followed dir Top (p ∷ parts.Dot ∷ [])) next e }
-    by (Err errno) e = tt
-
--- what a last part names is of the tree
-pub last_fits : (t : Tree) → WellFormed t → (dir used : ℕ) (p : Part) (mode : Last) → IsTrue (is_dir t dir) → FoundsFit t (last t dir used p mode)
-last_fits t fits dir used p mode lives = by (last t dir used p mode) refl
-  where
-    by : (r : Result Found Errno) → last t dir used p mode ≡ r → FoundsFit t r
-    by (Ok object) e = ((resolutions_fit t fits).last dir used p mode object lives e).fits
-    by (Err errno) e = tt
+-- a step leads to a living directory, and follows no more links than it may
+pub state_is : (t : Tree) (r : Result (ℕ × ℕ) Errno) → IfOk r (λ next. IsTrue (is_dir t next.0)) → IfOk r (λ next. next.1 ≤ link_limit) → IfSome (state_of r) (λ s. IsState t s)
+state_is t (Ok next) lives used = record { dir = lives; used = used }
+state_is t (Err errno) lives used = tt
 
 -- a call finds what its rule for the last part says
 pub found_at_is : (a : Terms) (x : at.Place) (c : Call) → found_at a.seen.tree a.base (history_of a.process) (place_of (letters_of a) x) c ≡ found_from a x (last_of c)
@@ -69,7 +48,7 @@ by_last-keeps P Kept followed kept f k = k
 
 -- a call is allowed on a word by what its path names with the last part followed and kept
 pub allows_own : (a : Terms) (x : at.Place) (c : Call) (followed kept : Result Found Errno) → followed ≡ found_from a x Followed → kept ≡ found_from a x Kept
-    → is_allowed (verdict_of a.seen.tree standard_table (history_of a.process) c (by_last (last_of c) followed kept)) ≡ (world_in a).own (place_of (letters_of a) x) c
+    → is_allowed (verdict_of a.seen.tree standard_table (history_of a.process) c (by_last (last_of c) followed kept)) ≡ (judge_in a).own (place_of (letters_of a) x) c
 allows_own a x c followed kept f k =
     ap (λ r. is_allowed (verdict_of a.seen.tree standard_table (history_of a.process) c r)) (found_by a x (last_of c) followed kept f k ∙ sym (found_at_is a x c))
 
@@ -84,6 +63,6 @@ module _ (f : Call → Bool) (i : ℕ) (d : Call) (h : i < length calls) where
   pub call_dropped : f (get_or calls i d) ≡ false → filter f (take (i + 1) calls) ≡ filter f (take i calls)
   call_dropped e = one_more ∙ ap (λ b. filter f (take i calls) ++ cond b (get_or calls i d ∷ []) []) e ∙ append-nil (filter f (take i calls))
 
-pub calls_decided : (w : World) (x : Place) (i : ℕ) → 14 ≤ i → filter (w.own x) (take i calls) ≡ allowed_at w x
+pub calls_decided : (w : Judge) (x : Place) (i : ℕ) → 14 ≤ i → filter (w.own x) (take i calls) ≡ allowed_at w x
 unfolding allowed_at
 calls_decided w x i h = ap (filter (w.own x)) (take_all i calls (omega arith))

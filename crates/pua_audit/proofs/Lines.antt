@@ -4,12 +4,12 @@ use Rattle.std.proofs.lemmas.List.{map-append}
 use Rattle.std.proofs.lemmas.Grind.{flat_map-append}
 use Rattle.std.proofs.lemmas.List.Elements.{filter-append, filter_map-append}
 use Rattle.std.specs.Prelude.{flat_map, filter}
-use Rattle.pua_audit.specs.World.{Place, Start, Below, World}
+use Rattle.pua_audit.specs.Judge.{Place, Start, Below, Judge}
 use Rattle.pua_policy.specs.Calls.{calls}
 use Rattle.pua_policy.specs.declared.call.Call.{Call}
 use Rattle.pua_audit.specs.declared.state.State.{State}
 use Rattle.pua_audit.specs.Reach.{Word, Pair, words, pairs}
-use Rattle.pua_audit.specs.World.{if_some, is_allowed_along, reach_along}
+use Rattle.pua_audit.specs.Judge.{if_some, is_allowed_along, reach_along}
 use Rattle.pua_audit.specs.Trail.{Event, lines_of, under, under_all, with_calls, allowed_at, decide, entered, deeper, branches, pending, ahead}
 
 -- lists
@@ -98,21 +98,21 @@ pairs_end letters = refl
 
 -- the lines at a place, and those that go on from it by at most l letters
 
-abbrev pub here : World → Place → List Pair
+abbrev pub here : Judge → Place → List Pair
 here w x = alone (allowed_at w x)
 
 abbrev pub from_state : Option State → (State → List Pair) → List Pair
 from_state None go = []
 from_state (Some s) go = go s
 
-unfoldable pub below : World → List (List ℕ) → ℕ → Place → List Pair
+unfoldable pub below : Judge → List (List ℕ) → ℕ → Place → List Pair
 below w letters zero x = []
 below w letters (suc l) x = from_state (w.step x) (λ s. flat_map (λ a. cons a (here w (Below s a) ++ below w letters l (Below s a))) letters)
 
-unfoldable pub rows : World → List (List ℕ) → ℕ → State → List (List ℕ) → List Pair
+unfoldable pub rows : Judge → List (List ℕ) → ℕ → State → List (List ℕ) → List Pair
 rows w letters l s some = flat_map (λ a. cons a (here w (Below s a) ++ below w letters l (Below s a))) some
 
-module _ (w : World) (letters : List (List ℕ)) where
+module _ (w : Judge) (letters : List (List ℕ)) where
   pub below_some : (l : ℕ) (s : State) (x : Place) → w.step x ≡ Some s → below w letters (suc l) x ≡ rows w letters l s letters
   unfolding below rows
   below_some l s x step = rw step refl
@@ -148,7 +148,7 @@ module _ (w : World) (letters : List (List ℕ)) where
       ∙ flat_map-cong _ (λ a. cons a (filter (λ p. test (longer a p)) (pairs letters l))) (λ a. filter-cons test a (pairs letters l)) letters
       ∙ behind_filtered l (filtered l) (w.step x))
 
-pub reach_is : (w : World) (letters : List (List ℕ)) (limit : ℕ) → reach_along w letters limit ≡ here w Start ++ below w letters limit Start
+pub reach_is : (w : Judge) (letters : List (List ℕ)) (limit : ℕ) → reach_along w letters limit ≡ here w Start ++ below w letters limit Start
 reach_is w letters limit = filtered w letters limit Start
 
 -- the lines of a trail
@@ -167,18 +167,18 @@ unfolding with_calls alone
 lines-with_calls [] = refl
 lines-with_calls (c ∷ cs) = ap (λ ps. ([], c) ∷ ps) (lines-with_calls cs)
 
-pub lines-decide : (w : World) (x : Place) → lines_of (decide w x) ≡ here w x
+pub lines-decide : (w : Judge) (x : Place) → lines_of (decide w x) ≡ here w x
 unfolding decide
 lines-decide w x = lines-with_calls (allowed_at w x)
 
 -- a test of states that drops only what has no line
-abbrev pub Prunes : World → (ℕ → State → Bool) → List (List ℕ) → Type 0
+abbrev pub Prunes : Judge → (ℕ → State → Bool) → List (List ℕ) → Type 0
 Prunes w live letters = (l : ℕ) (s : State) → live (suc l) s ≡ false → rows w letters l s letters ≡ []
 
-pub prunes_none : (w : World) (letters : List (List ℕ)) → Prunes w (λ _ _. true) letters
+pub prunes_none : (w : Judge) (letters : List (List ℕ)) → Prunes w (λ _ _. true) letters
 prunes_none w letters l s h = absurd cc
 
-module _ (w : World) (live : ℕ → State → Bool) (letters : List (List ℕ)) (prunes : Prunes w live letters) where
+module _ (w : Judge) (live : ℕ → State → Bool) (letters : List (List ℕ)) (prunes : Prunes w live letters) where
   lines-flat : (l : ℕ) → ((x : Place) → lines_of (deeper w live letters l x) ≡ below w letters l x) → (s : State) (some : List (List ℕ))
       → lines_of (flat_map (λ a. under a (decide w (Below s a) ++ deeper w live letters l (Below s a))) some) ≡ rows w letters l s some
   unfolding rows
@@ -212,7 +212,7 @@ module _ (w : World) (live : ℕ → State → Bool) (letters : List (List ℕ))
   lines-branches l s some = lines-flat l (lines-deeper l) s some
 
 -- before its first look a walk has the reach before it
-pub lines-fresh : (w : World) (live : ℕ → State → Bool) (letters : List (List ℕ)) (limit : ℕ) → Prunes w live letters
+pub lines-fresh : (w : Judge) (live : ℕ → State → Bool) (letters : List (List ℕ)) (limit : ℕ) → Prunes w live letters
     → lines_of (ahead w live letters limit false [] Start (allowed_at w Start) []) ≡ reach_along w letters limit
 unfolding ahead under_all pending
 lines-fresh w live letters limit prunes =

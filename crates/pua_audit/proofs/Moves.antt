@@ -5,9 +5,9 @@ use Rattle.std.specs.Prelude.{option_to_list, option_map}
 use Rattle.std.specs.List.{AllByRecursion}
 use Rattle.pua_policy.specs.declared.call.Call.{Call}
 use Rattle.pua_audit.specs.Reach.{Word}
-use Rattle.pua_audit.specs.World.{Place, Below, World}
+use Rattle.pua_audit.specs.Judge.{Place, Below, Judge}
 use Rattle.pua_audit.specs.Trail.{allowed_at, pending, ahead, everywhere}
-use Rattle.pua_audit.specs.Ready.{letters_of, world_in, word_of, place_of, word_in, place_in, left_in, trail}
+use Rattle.pua_audit.specs.Ready.{letters_of, judge_in, word_of, place_of, word_in, place_in, left_in, trail}
 use Rattle.pua_audit.specs.declared.frame.Frame.{Frame}
 use Rattle.pua_audit.specs.declared.state.State.{State}
 use Rattle.pua_audit.specs.declared.walk.Walk.{Walk}
@@ -50,7 +50,7 @@ module _ (letters : List (List ℕ)) where
   word_of-split word front None e = ap (map (λ i. get_or letters i [])) e ∙ map-append (λ i. get_or letters i []) front []
   word_of-split word front (Some i) e = ap (map (λ i. get_or letters i [])) e ∙ map-append (λ i. get_or letters i []) front (i ∷ [])
 
-module _ (w : World) (letters : List (List ℕ)) (limit : ℕ) where
+module _ (w : Judge) (letters : List (List ℕ)) (limit : ℕ) where
   -- the deepest frame takes its next letter
   pub taken_by : (done : Bool) (word word-after : List ℕ) (frames frames-left frames-after : List Frame) (f : Frame) (place : at.Place)
       → done ≡ false → frames ≡ frames-left ++ f ∷ [] → length frames-left ≡ length word → f.next < length letters
@@ -118,4 +118,4 @@ module _ (w : World) (letters : List (List ℕ)) (limit : ℕ) where
 
 -- nothing is ahead of a walk that is done
 pub nothing_left : (a : Walk) → a.done ≡ true → trail a ≡ []
-nothing_left a e = over_by (world_in a.terms) (letters_of a.terms) a.terms.limit a.done (word_in a) (place_in a) (left_in a) a.frames.items e
+nothing_left a e = over_by (judge_in a.terms) (letters_of a.terms) a.terms.limit a.done (word_in a) (place_in a) (left_in a) a.frames.items e

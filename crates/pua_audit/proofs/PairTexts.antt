@@ -3,7 +3,7 @@ use Rattle.std.proofs.Common.{◌≡◌, ◌≢◌, ℕ, ◌+◌, ◌/◌, ◌%�
 use Rattle.std.specs.Prelude.{find, option_map, option_and_then, IsTrue, nat_le, ◌==◌, ◌||◌}
 use Rattle.std.specs.List.{AllByRecursion, list_all, list_any, slice_split, join_with_byte, position_or_len, before_first, after_first}
 use Rattle.std.proofs.Math.Seq.{take-append_seam, drop-append-add}
-use Rattle.std.proofs.lemmas.Bool.{and_parts, or_right, cases_lt, false≢true}
+use Rattle.std.proofs.lemmas.Bool.{and_parts, or_right, cases_lt, false≢true, or_parts}
 use Rattle.std.proofs.lemmas.Grind.{flat_map-append}
 use Rattle.std.proofs.lemmas.List.{drop_all}
 use Rattle.std.proofs.lemmas.List.Folds.{list_any-append}
@@ -12,13 +12,13 @@ use Rattle.std.proofs.lemmas.List.Sums.{split_at_first, passes_at_first}
 use Rattle.std.proofs.lemmas.Slice.Eq.{bytes_eq-Decides}
 use Rattle.pua_tree.specs.Names.{same_bytes}
 use Rattle.pua_tree.specs.Spelling.{is_plain, byte_spelling, spelling}
-use Rattle.pua_tree.proofs.Spellings.{is_byte, spelling_tells, same_Some, None≢Some}
+use Rattle.pua_tree.proofs.ForCallers.{is_byte, spelling_tells, same_Some, None≢Some}
 use Rattle.pua_policy.specs.Calls.{calls, call_name, call_named}
 use Rattle.pua_policy.specs.declared.call.Call.{Call}
 use Rattle.pua_policy.specs.declared.call.Call.TheVariants.{Stat, Lstat, Readlink, OpenRead, OpenWrite, OpenBoth, Create, Mkdir, Rmdir, Unlink, Symlink, Chmod, Chdir, Exec}
 use Rattle.pua_audit.specs.Reach.{Word, Pair, Scope, from_root, printed_path}
 use Rattle.pua_audit.specs.Begin.{word_of_pieces, word_of_pieces_between, word_of_path, word_within, resume_pair}
-use Rattle.pua_audit.specs.World.{is_letter}
+use Rattle.pua_audit.specs.Judge.{is_letter}
 use Rattle.pua_audit.specs.PairTexts.{pair_text, is_among, IsWord, ResumeTextsName}
 use Rattle.pua_audit.specs.declared.base.Base.{Base}
 use Rattle.pua_audit.specs.declared.base.Base.TheVariants.{Root, Cwd}
@@ -31,10 +31,6 @@ slash b = b == 47
 
 abbrev colon : ℕ → Bool
 colon b = b == 58
-
-both_false : (v w : Bool) → (v || w) ≡ false → (v ≡ false) × (w ≡ false)
-both_false true w h = cc
-both_false false w h = (refl, h)
 
 neither : (v w : Bool) → v ≡ false → w ≡ false → (v || w) ≡ false
 neither v w e f = (λ i. e i || f i)
@@ -54,7 +50,7 @@ no_slash_byte b e =
 no_slash_spelled : (a : List ℕ) → list_any slash a ≡ false → list_any slash (spelling a) ≡ false
 no_slash_spelled [] h = refl
 no_slash_spelled (b ∷ a) h =
-    let parts = both_false (slash b) (list_any slash a) h in
+    let parts = or_parts (slash b) (list_any slash a) h in
     list_any-append slash (byte_spelling b) (spelling a) ∙ neither (list_any slash (byte_spelling b)) _ (no_slash_byte b parts.0) (no_slash_spelled a parts.1)
 
 -- the pieces of letters behind one another
@@ -226,7 +222,7 @@ call_read Exec = (refl, refl)
 first_colon : (x z : List ℕ) → list_any colon x ≡ false → position_or_len colon (x ++ 58 ∷ z) ≡ length x
 first_colon [] z h = refl
 first_colon (b ∷ x) z h =
-    let parts = both_false (colon b) (list_any colon x) h in
+    let parts = or_parts (colon b) (list_any colon x) h in
     ap (λ v. cond (not v) (1 + position_or_len colon (x ++ 58 ∷ z)) 0) parts.0 ∙ ap (λ n. 1 + n) (first_colon x z parts.1) ∙ one-add (length x)
 
 cut : (x z : List ℕ) → list_any colon x ≡ false → (before_first colon (x ++ 58 ∷ z) ≡ x) × (after_first colon (x ++ 58 ∷ z) ≡ z)

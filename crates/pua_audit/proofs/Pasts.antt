@@ -11,7 +11,7 @@ use Rattle.pua_policy.specs.History.{Event, History, Pledged, Unveiled, Locked, 
 use Rattle.pua_policy.specs.Laws.{AllowAlike}
 use Rattle.pua_policy.specs.Verdict.{is_allowed}
 use Rattle.pua_policy.specs.declared.place.Place.{Place}
-use Rattle.pua_policy.proofs.Standing.{processes_decide}
+use Rattle.pua_policy.proofs.ForCallers.{processes_decide}
 use Rattle.pua_audit.specs.Past.{unveiled, locked_if, ended_if, history_of}
 use Rattle.pua_audit.specs.Reach.{Pair, Scope, path_of, pair_cmp, pairs, is_reached, reach, rest_after}
 use Rattle.pua_audit.specs.declared.base.Base.{Base}

@@ -1,6 +1,6 @@
 -- The path of a word: its parts are the word's letters, and it has no fault.
 use Rattle.std.proofs.Common.{subst, ◌≡◌, ℕ, suc, Bool, true, false, not, ◌&&◌, ◌||◌, List, [], ◌∷◌, ◌++◌, length, map, refl, sym, ap, ◌∙◌, arith, lt-ltb, ◌+◌, ◌*◌, ◌≤◌, append-nil, length-append, None, ◌==◌, codes, nat_lt, nat_le}
-use Rattle.std.proofs.lemmas.Bool.{false≢true}
+use Rattle.std.proofs.lemmas.Bool.{false≢true, and_parts}
 use Rattle.std.proofs.lemmas.Bool.Decides.{nat_tests}
 use Rattle.std.specs.List.{All, AllByRecursion, list_any, list_all}
 use Rattle.std.proofs.lemmas.List.Splits.{slice_split_none, slice_split_at}
@@ -10,9 +10,8 @@ use Rattle.pua_tree.specs.Names.{is_name, is_name_byte, same_bytes, has_byte, co
 use Rattle.pua_path.specs.Paths.{part_of, ends_in_slash, ending_parts, parts_of, path_fault, is_absolute}
 use Rattle.pua_path.specs.declared.text.Ending.{Ending}
 use Rattle.pua_path.specs.declared.text.Ending.TheVariants as ending
-use Rattle.pua_policy.proofs.Finding.{both_true}
 use Rattle.pua_audit.specs.Reach.{Word, from_root, path_of}
-use Rattle.pua_audit.specs.World.{is_letter}
+use Rattle.pua_audit.specs.Judge.{is_letter}
 use Rattle.pua_audit.specs.declared.base.Base.{Base}
 use Rattle.pua_audit.specs.declared.base.Base.TheVariants.{Root, Cwd}
 
@@ -29,7 +28,7 @@ pub record IsPiece (letter : List ℕ) : Type 0 where
 no_slash_in : (bs : List ℕ) → list_all is_name_byte bs ≡ true → list_any slash bs ≡ false
 no_slash_in [] h = refl
 no_slash_in (b ∷ bs) h =
-    let here = both_true (is_name_byte b) (list_all is_name_byte bs) h in
+    let here = and_parts (is_name_byte b) (list_all is_name_byte bs) h in
     by (b == 47) refl here.0 (no_slash_in bs here.1)
   where
     by : (v : Bool) → (b == 47) ≡ v → is_name_byte b ≡ true → list_any slash bs ≡ false → (v || list_any slash bs) ≡ false
@@ -44,16 +43,16 @@ no_slash_in (b ∷ bs) h =
 no_nul_in : (bs : List ℕ) → list_all is_name_byte bs ≡ true → has_byte 0 bs ≡ false
 no_nul_in [] h = refl
 no_nul_in (b ∷ bs) h =
-    let here = both_true (is_name_byte b) (list_all is_name_byte bs) h in
-    let some : nat_lt 0 b ≡ true = (both_true (nat_lt 0 b) _ here.0).0 in
+    let here = and_parts (is_name_byte b) (list_all is_name_byte bs) h in
+    let some : nat_lt 0 b ≡ true = (and_parts (nat_lt 0 b) _ here.0).0 in
     let other : (b == 0) ≡ false = grind (arith, nat_tests) in
     ap (λ v. v || has_byte 0 bs) other ∙ no_nul_in bs here.1
 
 name_is_piece : (n : List ℕ) → is_name n ≡ true → IsPiece n
 name_is_piece n h =
-    let a = both_true (nat_lt 0 (length n)) _ h in
-    let b = both_true (nat_le (length n) 255) _ a.1 in
-    let c = both_true (list_all is_name_byte n) _ b.1 in
+    let a = and_parts (nat_lt 0 (length n)) _ h in
+    let b = and_parts (nat_le (length n) 255) _ a.1 in
+    let c = and_parts (list_all is_name_byte n) _ b.1 in
     record { some = a.0; short = b.0; no_slash = no_slash_in n c.0; no_nul = no_nul_in n c.0 }
 
 dots_are_piece : IsPiece (codes "..")
@@ -65,7 +64,7 @@ same_is [] [] h = refl
 same_is [] (y ∷ ys) h = cc
 same_is (x ∷ xs) [] h = cc
 same_is (x ∷ xs) (y ∷ ys) h =
-    let a = both_true (x == y) (same_bytes xs ys) h in
+    let a = and_parts (x == y) (same_bytes xs ys) h in
     let first : x ≡ y = grind (arith, nat_tests) in
     (λ i. first i ∷ same_is xs ys a.1 i)
 

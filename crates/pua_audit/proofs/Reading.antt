@@ -4,7 +4,6 @@ use Rattle.std.specs.Prelude.{Result, Ok, Err, ok_or}
 use Rattle.std.specs.Result.{result_ok}
 use Rattle.pua_tree.specs.Spelling.{name_of}
 use Rattle.pua_tree.specs.Steps.{◌>>=◌}
-use Rattle.pua_tree.specs.declared.fault.NameFault.{NameFault}
 use Rattle.pua_audit.specs.Begin.{candidates_from}
 use Rattle.pua_audit.specs.declared.fault.AuditFault.{AuditFault}
 use Rattle.pua_audit.specs.declared.fault.AuditFault.TheVariants.{BadCandidate}
@@ -24,9 +23,3 @@ pub candidate_read : (n : ℕ) (text : List ℕ) (texts done : List (List ℕ)) 
 candidate_read n text texts done name e =
     ap (λ r. with_read done (ok_or (result_ok r) (BadCandidate n) >>= λ m. candidates_from (suc n) texts >>= λ names. Ok (m ∷ names))) e
     ∙ with_read-more done name (candidates_from (suc n) texts)
-
--- the next candidate spells none
-pub candidate_refused : (n : ℕ) (text : List ℕ) (texts done : List (List ℕ)) (fault : NameFault) → name_of text ≡ Err fault
-    → with_read done (candidates_from n (text ∷ texts)) ≡ Err (BadCandidate n)
-candidate_refused n text texts done fault e =
-    ap (λ r. with_read done (ok_or (result_ok r) (BadCandidate n) >>= λ m. candidates_from (suc n) texts >>= λ names. Ok (m ∷ names))) e

@@ -7,14 +7,14 @@ use Rattle.std.specs.declared.cmp.Ordering.TheVariants.{Less, Greater}
 use Rattle.std.specs.Ordering.{nat_cmp, ordering_then, ordering_reverse, is_lt}
 use Rattle.std.specs.Cmp.{tied_itself}
 use Rattle.std.specs.Cmp.Lexicographic.{slice_cmp, nat_list_cmp_total}
-use Rattle.pua_audit.specs.World.{Place, Start, Below, World}
+use Rattle.pua_audit.specs.Judge.{Place, Start, Below, Judge}
 use Rattle.pua_audit.specs.declared.frame.Frame.{Frame}
 use Rattle.pua_policy.specs.Calls.{call_number}
 use Rattle.pua_policy.specs.declared.call.Call.{Call}
 use Rattle.pua_audit.specs.declared.state.State.{State}
 use Rattle.pua_audit.specs.Reach.{Word, Pair, pair_cmp}
 use Rattle.pua_audit.specs.Laws.{Rises}
-use Rattle.pua_audit.specs.World.{reach_along}
+use Rattle.pua_audit.specs.Judge.{reach_along}
 use Rattle.pua_tree.specs.Tree.{name_cmp}
 use Rattle.pua_audit.specs.Trail.{Event, lines_of, under_all, with_calls, allowed_at, deeper, branches, pending, ahead}
 use Rattle.pua_audit.proofs.Steps.{pending_push, pending_back}
@@ -98,7 +98,7 @@ flat_longer c F (b ∷ xs) =
 unfoldable pub calls_after : Call → List Call → List Call
 calls_after c cs = filter (λ e. is_lt (nat_cmp (call_number c) (call_number e))) cs
 
-module _ (w : World) (letters : List (List ℕ)) where
+module _ (w : Judge) (letters : List (List ℕ)) where
   below_longer : (c : Call) (l : ℕ) (x : Place) → filter (comes_after [] c) (below w letters l x) ≡ below w letters l x
   unfolding below
   below_longer c zero x = refl
@@ -164,11 +164,11 @@ lines-under_all [] es = refl
 lines-under_all (a ∷ word) es = lines-under a (under_all word es) ∙ ap (cons a) (lines-under_all word es)
 
 -- what a walk has to give that stands at a place on the way to a pair, with the letters v of the pair's word before it
-unfoldable pub to_give : World → (ℕ → State → Bool) → List (List ℕ) → ℕ → Word → Place → List Frame → Word → Call → List Pair
+unfoldable pub to_give : Judge → (ℕ → State → Bool) → List (List ℕ) → ℕ → Word → Place → List Frame → Word → Call → List Pair
 to_give w live letters limit word x frames v c =
     cons_all word (filter (comes_after v c) (here w x ++ below w letters (limit - length word) x)) ++ lines_of (pending w live letters limit 0 word frames)
 
-module _ (w : World) (live : ℕ → State → Bool) (letters : List (List ℕ)) (limit : ℕ) (prunes : Prunes w live letters) where
+module _ (w : Judge) (live : ℕ → State → Bool) (letters : List (List ℕ)) (limit : ℕ) (prunes : Prunes w live letters) where
   pub give_start : (v : Word) (c : Call) → to_give w live letters limit [] Start [] v c ≡ filter (comes_after v c) (reach_along w letters limit)
   unfolding to_give cons_all pending
   give_start v c =

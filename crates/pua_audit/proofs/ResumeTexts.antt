@@ -10,10 +10,10 @@ use Rattle.std.proofs.lemmas.Slice.Eq.{bytes_eq-Decides}
 use Rattle.pua_tree.specs.Names.{is_name, same_bytes}
 use Rattle.pua_tree.specs.Spelling.{spelling, name_of}
 use Rattle.pua_tree.specs.declared.fault.NameFault.{NameFault}
-use Rattle.pua_tree.proofs.Spellings.{is_byte, name_is_bytes, spelling_tells, name_of-spelling, Err≢Ok}
+use Rattle.pua_tree.proofs.ForCallers.{is_byte, name_is_bytes, spelling_tells, name_of-spelling, Err≢Ok}
 use Rattle.pua_audit.specs.Reach.{Word}
 use Rattle.pua_audit.specs.Begin.{word_of_pieces, word_of_path, word_within}
-use Rattle.pua_audit.specs.World.{is_letter}
+use Rattle.pua_audit.specs.Judge.{is_letter}
 use Rattle.pua_audit.specs.Ready.{word_of}
 use Rattle.pua_audit.specs.Alphabets.{IsPlaced}
 use Rattle.pua_audit.specs.Starting.{AreLetters}

@@ -9,7 +9,7 @@ use Rattle.pua_policy.specs.Calls.{call_number}
 use Rattle.pua_policy.specs.declared.call.Call.{Call}
 use Rattle.pua_audit.specs.Reach.{Word, Pair}
 use Rattle.pua_audit.specs.Laws.{Rises}
-use Rattle.pua_audit.specs.World.{Start, Below, World, reach_along}
+use Rattle.pua_audit.specs.Judge.{Start, Below, Judge, reach_along}
 use Rattle.pua_audit.specs.Trail.{lines_of, allowed_at, ahead, everywhere}
 use Rattle.pua_audit.specs.Ready.{word_of, place_of}
 use Rattle.pua_audit.specs.declared.frame.Frame.{Frame}
@@ -32,7 +32,7 @@ calls_behind : (c : Call) (cs : List Call) → calls_after c cs ≡ filter (λ o
 unfolding calls_after
 calls_behind c cs = filter-cong (λ e. is_lt (nat_cmp (call_number c) (call_number e))) (λ e. nat_lt (call_number c) (call_number e)) (λ e. lt_is (call_number c) (call_number e)) cs
 
-module _ (w : World) (letters : List (List ℕ)) (limit : ℕ) where
+module _ (w : Judge) (letters : List (List ℕ)) (limit : ℕ) where
   -- before its first letter
   pub start_by : (word : List ℕ) (x : at.Place) (frames : List Frame) (v : Word) (c : Call) → word ≡ [] → x ≡ places.Start → frames ≡ []
       → to_give w everywhere letters limit (word_of letters word) (place_of letters x) frames v c ≡ filter (comes_after v c) (reach_along w letters limit)

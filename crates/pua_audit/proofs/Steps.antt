@@ -1,7 +1,7 @@
 -- One step of each definition, as the code meets it.
 use Rattle.std.proofs.Common.{ℕ, zero, suc, ◌+◌, ◌-◌, ◌<◌, ◌≤◌, ◌≡◌, List, [], ◌∷◌, ◌++◌, Some, None, Bool, true, false, refl, ap, arith, sym, ◌∙◌, length, drop, append_assoc, get_or, append-nil}
 use Rattle.std.proofs.lemmas.List.{map-append, drop_more}
-use Rattle.pua_audit.specs.World.{Place, Below, World}
+use Rattle.pua_audit.specs.Judge.{Place, Below, Judge}
 use Rattle.pua_audit.specs.declared.frame.Frame.{Frame}
 use Rattle.pua_policy.specs.declared.call.Call.{Call}
 use Rattle.pua_audit.specs.declared.state.State.{State}
@@ -39,7 +39,7 @@ unfolding under_all under
 under_all-line [] rest call es = refl
 under_all-line (a ∷ word) rest call es = ap (under a) (under_all-line word rest call es)
 
-module _ (w : World) (live : ℕ → State → Bool) (letters : List (List ℕ)) (limit : ℕ) where
+module _ (w : Judge) (live : ℕ → State → Bool) (letters : List (List ℕ)) (limit : ℕ) where
   left_more : (n : ℕ) → n < limit → limit - n ≡ suc (limit - suc n)
   left_more n h = omega (arith, h)
 

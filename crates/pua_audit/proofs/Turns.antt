@@ -1,7 +1,7 @@
 -- What each turn of the code does to what is still to be done.
 use Rattle.std.proofs.Common.{ℕ, suc, ◌+◌, ◌-◌, ◌<◌, ◌≤◌, ◌≡◌, List, [], ◌∷◌, ◌++◌, Option, Some, None, Bool, true, false, refl, ap, arith, sym, ◌∙◌, length, drop, append_assoc, get_or, length-append, append-nil}
 use Rattle.std.specs.Prelude.{option_to_list}
-use Rattle.pua_audit.specs.World.{Place, Below, World}
+use Rattle.pua_audit.specs.Judge.{Place, Below, Judge}
 use Rattle.pua_audit.specs.declared.frame.Frame.{Frame}
 use Rattle.pua_policy.specs.declared.call.Call.{Call}
 use Rattle.pua_audit.specs.declared.state.State.{State}
@@ -9,7 +9,7 @@ use Rattle.pua_audit.specs.Reach.{Word}
 use Rattle.pua_audit.specs.Trail.{Event, under, under_all, with_calls, allowed_at, decide, deeper, branches, pending, ahead}
 use Rattle.pua_audit.proofs.Steps.{under_all-append, under_all_more, under_all-nil, under_all-look, under_all-line, deeper_end, deeper_none, deeper_live, branches_more, branches_done, pending_push, pending_back}
 
-module _ (w : World) (live : ℕ → State → Bool) (letters : List (List ℕ)) (limit : ℕ) where
+module _ (w : Judge) (live : ℕ → State → Bool) (letters : List (List ℕ)) (limit : ℕ) where
   -- the deepest frame takes its next letter
   pub taken : (word : Word) (frames : List Frame) (f : Frame) → length frames ≡ length word → f.next < length letters
       → pending w live letters limit 0 word (frames ++ f ∷ [])

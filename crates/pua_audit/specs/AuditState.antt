@@ -1,5 +1,5 @@
--- What contracts see of an audit: the tree, where paths begin, and the pairs that are still to come.
-use Rattle.std.specs.Prelude.{List}
+-- What contracts see of an audit: the tree, where paths begin, the letters of its words, and the pairs that are still to come.
+use Rattle.std.specs.Prelude.{ℕ, List}
 use Rattle.pua_tree.specs.Tree.{Tree}
 use Rattle.pua_audit.specs.Reach.{Pair}
 use Rattle.pua_audit.specs.declared.base.Base.{Base}
@@ -7,4 +7,5 @@ use Rattle.pua_audit.specs.declared.base.Base.{Base}
 pub record AuditState : Type 0 where
   pub tree : Tree
   pub base : Base
+  pub alphabet : List (List ℕ)
   pub left : List Pair

@@ -1,11 +1,13 @@
+pub mod Limits
 pub mod Reach
 pub mod Begin
-pub mod World
+pub mod Judge
 pub mod Trail
 pub mod Laws
 pub mod Examples
 pub mod Past
 pub mod Ready
+pub mod Plain
 pub mod AuditState
 pub mod Lent
 pub mod Alphabets

@@ -5,7 +5,7 @@ use Rattle.pua_tree.specs.Names.{same_bytes}
 use Rattle.pua_policy.specs.Calls.{call_name}
 use Rattle.pua_audit.specs.Reach.{Word, Pair, Scope, printed_path}
 use Rattle.pua_audit.specs.Begin.{resume_pair}
-use Rattle.pua_audit.specs.World.{is_letter}
+use Rattle.pua_audit.specs.Judge.{is_letter}
 use Rattle.pua_audit.specs.declared.base.Base.{Base}
 
 -- the call's name, a colon, and the path as it is printed

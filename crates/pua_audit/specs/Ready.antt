@@ -16,11 +16,12 @@ use Rattle.pua_policy.specs.Calls.{standard_table}
 use Rattle.pua_policy.specs.History.{StandsFor}
 use Rattle.pua_policy.specs.declared.call.Call.{Call}
 use Rattle.pua_audit.specs.Past.{history_of}
+use Rattle.pua_audit.specs.Limits.{path_limit}
 use Rattle.pua_audit.specs.Reach.{Word, Pair, Scope, from_root, pair_cmp}
 use Rattle.pua_audit.specs.Begin.{longest}
 use Rattle.pua_audit.specs.declared.base.Base.{Base}
 use Rattle.pua_audit.specs.declared.base.Base.TheVariants.{Root, Cwd}
-use Rattle.pua_audit.specs.World.{Place, Start, Below, World, base_dir, base_way, world_of, reach_along}
+use Rattle.pua_audit.specs.Judge.{Place, Start, Below, Judge, base_dir, base_way, judge_of, reach_along}
 use Rattle.pua_audit.specs.Trail.{Event, allowed_at, pending, ahead, everywhere, lines_of}
 use Rattle.pua_audit.specs.declared.frame.Frame.{Frame}
 use Rattle.pua_audit.specs.declared.state.State.{State}
@@ -38,8 +39,8 @@ part_bytes (part.Name name) = name
 abbrev pub letters_of : Terms → List (List ℕ)
 letters_of a = map part_bytes a.letters.items
 
-abbrev pub world_in : Terms → World
-world_in a = world_of a.seen.tree standard_table a.base (history_of a.process)
+abbrev pub judge_in : Terms → Judge
+judge_in a = judge_of a.seen.tree standard_table a.base (history_of a.process)
 
 -- what is audited
 abbrev pub scope_in : Terms → Scope
@@ -55,7 +56,7 @@ place_of letters (places.Below s i) = Below s (get_or letters i [])
 
 -- the state behind a place, and what its last letter names
 abbrev pub step_from : Terms → at.Place → Option State
-step_from a x = (world_in a).step (place_of (letters_of a) x)
+step_from a x = (judge_in a).step (place_of (letters_of a) x)
 
 unfoldable pub found_from : Terms → at.Place → Last → Result Found Errno
 found_from a places.Start mode = Ok (Whole (base_dir a.base (history_of a.process)) (base_way a.base))
@@ -76,7 +77,7 @@ pub record IsSound (a : Terms) : Type 0 where
   pub tree : WellFormed a.seen.tree
   pub stands : StandsFor a.process (history_of a.process)
   pub parts : AllByRecursion (λ p. part_of (part_bytes p) ≡ p) a.letters.items
-  pub short : a.limit * suc (longest (letters_of a)) ≤ 1023
+  pub short : a.limit * suc (longest (letters_of a)) ≤ path_limit
 
 -- a place whose directory lives
 abbrev pub IsAt : Terms → at.Place → Type 0
@@ -95,19 +96,19 @@ left_in a = drop a.given a.calls.items
 
 -- the calls that are allowed on the word
 abbrev pub allowed_here : Walk → List Call
-allowed_here a = allowed_at (world_in a.terms) (place_in a)
+allowed_here a = allowed_at (judge_in a.terms) (place_in a)
 
 -- what is still to be done
 abbrev pub trail : Walk → List Event
-trail a = ahead (world_in a.terms) everywhere (letters_of a.terms) a.terms.limit a.done (word_in a) (place_in a) (left_in a) a.frames.items
+trail a = ahead (judge_in a.terms) everywhere (letters_of a.terms) a.terms.limit a.done (word_in a) (place_in a) (left_in a) a.frames.items
 
 -- what is still to be done before a word's calls are decided
 abbrev pub waiting : Walk → List Event
-waiting a = None ∷ ahead (world_in a.terms) everywhere (letters_of a.terms) a.terms.limit a.done (word_in a) (place_in a) (allowed_here a) a.frames.items
+waiting a = None ∷ ahead (judge_in a.terms) everywhere (letters_of a.terms) a.terms.limit a.done (word_in a) (place_in a) (allowed_here a) a.frames.items
 
 -- what frames leave
 abbrev pub left_over : Walk → List Frame → List Event
-left_over a frames = pending (world_in a.terms) everywhere (letters_of a.terms) a.terms.limit 0 (word_in a) frames
+left_over a frames = pending (judge_in a.terms) everywhere (letters_of a.terms) a.terms.limit 0 (word_in a) frames
 
 -- there is room for as many letters and frames as a word may have, for all calls, and for the longest path
 pub record HasRoom (a : Walk) : Type 0 where
@@ -152,7 +153,7 @@ pub record IsFresh (a : Walk) : Type 0 where
 
 -- the pairs that come after one, judged letter by letter
 abbrev pub along_after : Terms → Pair → List Pair
-along_after a pair = filter (λ other. is_lt (pair_cmp pair other)) (reach_along (world_in a) (letters_of a) a.limit)
+along_after a pair = filter (λ other. is_lt (pair_cmp pair other)) (reach_along (judge_in a) (letters_of a) a.limit)
 
 -- the deepest frame waits for a letter
 pub record IsBetween (a : Walk) : Type 0 where

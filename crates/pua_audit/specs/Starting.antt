@@ -7,14 +7,15 @@ use Rattle.pua_path.specs.declared.found.Part.{Part}
 use Rattle.pua_policy.specs.Calls.{CallTable}
 use Rattle.pua_policy.specs.History.{History}
 use Rattle.pua_audit.specs.Reach.{Word, Pair, Scope}
+use Rattle.pua_audit.specs.Limits.{letter_limit, path_limit}
 use Rattle.pua_audit.specs.Begin.{Beginning, longest, resume_in, word_within}
-use Rattle.pua_audit.specs.World.{is_letter}
+use Rattle.pua_audit.specs.Judge.{is_letter}
 use Rattle.pua_audit.specs.Laws.{Rises}
 use Rattle.pua_audit.specs.Ready.{part_bytes, word_of}
 use Rattle.pua_audit.specs.Alphabets.{AreParts}
 use Rattle.pua_audit.specs.declared.base.Base.{Base}
 use Rattle.pua_audit.specs.declared.fault.AuditFault.{AuditFault}
-use Rattle.pua_audit.specs.declared.beginning.Begun.{Begun}
+use Rattle.pua_audit.specs.declared.beginning.Checked.{Checked}
 use Rattle.pua_audit.specs.declared.resume_text.Resumption.{Resumption}
 
 -- places of the alphabet that are a word of at most so many letters
@@ -33,11 +34,11 @@ pair_in letters r = (word_of letters r.word.items, r.call)
 
 -- letters in the order of their bytes, each of them a part of a path, and no path of a word is too long
 pub record AreSound (limit : ℕ) (letters : List Part) : Type 0 where
-  pub few : limit ≤ 16
+  pub few : limit ≤ letter_limit
   pub parts : AreParts letters
   pub known : IsTrue (list_all is_letter (map part_bytes letters))
   pub rises : Rises name_cmp (map part_bytes letters)
-  pub short : limit * suc (longest (map part_bytes letters)) ≤ 1023
+  pub short : limit * suc (longest (map part_bytes letters)) ≤ path_limit
 
 -- what is audited by words of these letters
 abbrev pub scope_with : Tree → CallTable → History → Base → ℕ → List Part → Scope
@@ -48,12 +49,12 @@ abbrev pub begun_in : Scope → Option (List ℕ) → Result Beginning AuditFaul
 begun_in s after = resume_in s after >>= λ pair. Ok (record { scope = s; after = pair })
 
 -- the beginning that letters and a pair are
-abbrev pub beginning_with : Tree → CallTable → History → Base → ℕ → Begun → Beginning
+abbrev pub beginning_with : Tree → CallTable → History → Base → ℕ → Checked → Beginning
 beginning_with t table h base limit b =
     record { scope = scope_with t table h base limit b.letters.items; after = option_map (pair_in (map part_bytes b.letters.items)) b.after }
 
 -- its letters are sound, and its word is one of them
-pub record IsBegun (t : Tree) (limit : ℕ) (b : Begun) : Type 0 where
+pub record IsChecked (t : Tree) (limit : ℕ) (b : Checked) : Type 0 where
   pub tree : WellFormed t
   pub sound : AreSound limit b.letters.items
   pub after : IfSome b.after (λ r. AreLetters (map part_bytes b.letters.items) limit r.word.items)

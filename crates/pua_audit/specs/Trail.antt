@@ -3,7 +3,7 @@ use Rattle.std.specs.Prelude.{ℕ, zero, suc, ◌-◌, Bool, true, false, cond, 
 use Rattle.pua_policy.specs.Calls.{calls}
 use Rattle.pua_policy.specs.declared.call.Call.{Call}
 use Rattle.pua_audit.specs.Reach.{Word, Pair}
-use Rattle.pua_audit.specs.World.{Place, Below, World}
+use Rattle.pua_audit.specs.Judge.{Place, Below, Judge}
 use Rattle.pua_audit.specs.declared.frame.Frame.{Frame}
 use Rattle.pua_audit.specs.declared.state.State.{State}
 
@@ -31,11 +31,11 @@ with_calls [] = []
 with_calls (call ∷ more) = Some ([], call) ∷ with_calls more
 
 -- the calls that are allowed at a place
-unfoldable pub allowed_at : World → Place → List Call
+unfoldable pub allowed_at : Judge → Place → List Call
 allowed_at w x = filter (w.own x) calls
 
 -- the calls of a word are decided at once: one look, and a line for each that is allowed
-unfoldable pub decide : World → Place → List Event
+unfoldable pub decide : Judge → Place → List Event
 decide w x = None ∷ with_calls (allowed_at w x)
 
 -- what stands behind a state that is entered
@@ -44,24 +44,24 @@ entered None live go = []
 entered (Some s) live go = cond (live s) (go s) []
 
 -- the words that go on from a place by at most l letters: one look for the step, and then letter by letter
-unfoldable pub deeper : World → (ℕ → State → Bool) → List (List ℕ) → ℕ → Place → List Event
+unfoldable pub deeper : Judge → (ℕ → State → Bool) → List (List ℕ) → ℕ → Place → List Event
 deeper w live letters zero x = []
 deeper w live letters (suc l) x =
     None ∷ entered (w.step x) (live (suc l)) (λ s. flat_map (λ a. under a (decide w (Below s a) ++ deeper w live letters l (Below s a))) letters)
 
 -- the words behind a state by one of some letters, and at most l more
-unfoldable pub branches : World → (ℕ → State → Bool) → List (List ℕ) → ℕ → State → List (List ℕ) → List Event
+unfoldable pub branches : Judge → (ℕ → State → Bool) → List (List ℕ) → ℕ → State → List (List ℕ) → List Event
 branches w live letters l s some = flat_map (λ a. under a (decide w (Below s a) ++ deeper w live letters l (Below s a))) some
 
 -- what open frames leave: the deepest first. Each frame but the deepest has its letter in the word
-unfoldable pub pending : World → (ℕ → State → Bool) → List (List ℕ) → ℕ → ℕ → Word → List Frame → List Event
+unfoldable pub pending : Judge → (ℕ → State → Bool) → List (List ℕ) → ℕ → ℕ → Word → List Frame → List Event
 pending w live letters limit depth word [] = []
 pending w live letters limit depth [] (f ∷ frames) = branches w live letters (limit - suc depth) f.state (drop f.next letters)
 pending w live letters limit depth (a ∷ word) (f ∷ frames) =
     under a (pending w live letters limit (suc depth) word frames) ++ branches w live letters (limit - suc depth) f.state (drop f.next letters)
 
 -- what is still to be done: the calls of the word that are left, the words behind it, and what the frames leave
-unfoldable pub ahead : World → (ℕ → State → Bool) → List (List ℕ) → ℕ → Bool → Word → Place → List Call → List Frame → List Event
+unfoldable pub ahead : Judge → (ℕ → State → Bool) → List (List ℕ) → ℕ → Bool → Word → Place → List Call → List Frame → List Event
 ahead w live letters limit true word x left frames = []
 ahead w live letters limit false word x left frames =
     under_all word (with_calls left ++ deeper w live letters (limit - length word) x) ++ pending w live letters limit 0 word frames

@@ -1,21 +1,24 @@
 //! The alphabet of an audit: its letters in the order of their bytes.
 
 ghost use Rattle.std.specs.Prelude.{◌≡◌, ◌≤◌, Ok, Err, IfOk, map, length};
+ghost use Rattle.std.specs.List.{list_all};
+ghost use Rattle.pua_tree.specs.Spelling.{is_plain};
 ghost use Rattle.pua_tree.specs.Tree.{name_cmp, with_name};
 ghost use Rattle.pua_path.specs.Paths.{part_of};
 ghost use Rattle.pua_audit.specs.Reach.{alphabet_of};
 ghost use Rattle.pua_audit.specs.Begin.{longest};
 ghost use Rattle.pua_audit.specs.Laws.{Rises};
 ghost use Rattle.pua_audit.specs.Ready.{part_bytes};
+ghost use Rattle.pua_audit.specs.Plain.{is_plain_alphabet};
 ghost use Rattle.pua_audit.specs.Alphabets.{with_names, IsPlaced, AreParts};
 
 use pua_path::{Part, Probe};
-use pua_tree::{Name, OutOfMemory};
+use pua_tree::{Name, OutOfMemory, byte_spelling};
 use std::alloc::Global;
 
 /// The names in a tree's rows, `..` and the candidates: distinct, in the order of their bytes. The
 /// only error is that a growth was refused.
-pub fn alphabet<'t, P: Probe<'t>>(
+pub(crate) fn alphabet<'t, P: Probe<'t>>(
     alloc: Global,
     probe: &mut P,
     candidates: &[Name],
@@ -69,7 +72,7 @@ fn add_letter(letters: &mut Vec<Part>, letter: Part) -> Result<(), OutOfMemory>
 }
 
 /// Where a letter of these bytes stands among letters, or else where it would stand.
-pub fn place_of(letters: &[Part], bytes: &[u8]) -> Result<usize, usize>
+pub(crate) fn place_of(letters: &[Part], bytes: &[u8]) -> Result<usize, usize>
     requires { Rises name_cmp (map part_bytes letters.now) }
     ensures { IsPlaced (map part_bytes letters.now) bytes.now result }
 {
@@ -77,7 +80,7 @@ pub fn place_of(letters: &[Part], bytes: &[u8]) -> Result<usize, usize>
 }
 
 /// The bytes of a part.
-pub fn part_bytes(part: &Part) -> &[u8]
+pub(crate) fn part_bytes(part: &Part) -> &[u8]
     ensures bytes { result.now ≡ part_bytes part.now }
     ensures part { part_of (part_bytes part.now) ≡ part.now }
     ensures short { length (part_bytes part.now) ≤ 255 }
@@ -90,7 +93,7 @@ pub fn part_bytes(part: &Part) -> &[u8]
 }
 
 /// The bytes of the longest letter.
-pub fn longest(letters: &[Part]) -> usize
+pub(crate) fn longest(letters: &[Part]) -> usize
     ensures longest { result ≡ longest (map part_bytes letters.now) }
     ensures parts { AreParts letters.now }
     ensures short { result ≤ 255 }
@@ -100,4 +103,27 @@ pub fn longest(letters: &[Part]) -> usize
         most = part_bytes(letter).len().max(most);
     }
     most
+}
+
+/// Whether each byte of each letter stands for itself.
+pub(crate) fn are_plain(letters: &[Part]) -> bool
+    ensures { result ≡ is_plain_alphabet (map part_bytes letters.now) }
+{
+    letters.iter().all(|letter| is_plain(letter))
+}
+
+/// Whether each byte of a letter stands for itself.
+fn is_plain(letter: &Part) -> bool
+    ensures { result ≡ list_all is_plain (part_bytes letter.now) }
+{
+    are_own_spelling(part_bytes(letter))
+}
+
+/// Whether each of some bytes is spelled by one byte: itself.
+fn are_own_spelling(bytes: &[u8]) -> bool
+    ensures { result ≡ list_all is_plain bytes.now }
+{
+    bytes
+        .iter()
+        .all(|byte| byte_spelling(*byte).as_bytes().len() == 1)
 }

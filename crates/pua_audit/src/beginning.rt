@@ -1,53 +1,45 @@
 //! What an audit begins with, or why it can't begin.
 
-ghost use Rattle.std.specs.Prelude.{◌≡◌, ◌≢◌, ◌≤◌, ℕ, List, Option, Ok, Err, IfOk, IfErr, map, option_map, length};
+ghost use Rattle.std.specs.Prelude.{◌≡◌, ◌≢◌, ℕ, List, Option, Ok, Err, IfOk, IfErr, map, option_map};
 ghost use Rattle.pua_tree.specs.Tree.{WellFormed};
 ghost use Rattle.pua_policy.specs.Calls.{CallTable};
 ghost use Rattle.pua_policy.specs.History.{History};
 ghost use Rattle.pua_audit.specs.Begin.{beginning};
 ghost use Rattle.pua_audit.specs.declared.base.Base as bases;
-ghost use Rattle.pua_audit.specs.Starting.{AreSound, IsBegun, scope_with, begun_in, beginning_with};
+ghost use Rattle.pua_audit.specs.Starting.{AreSound, IsChecked, scope_with, begun_in, beginning_with};
 
 use crate::alphabet::{alphabet, longest};
 use crate::base::Base;
 use crate::candidates::read_candidates;
 use crate::fault::AuditFault;
+use crate::limits::{CANDIDATE_LIMIT, LETTER_LIMIT};
 use crate::resume_text::{Resumption, read_pair};
-use pua_path::{Part, Probe};
+use pua_path::{PATH_LIMIT, Part, Probe};
 use std::alloc::Global;
-
-/// The most letters of a word.
-const MOST_LETTERS: u8 = 16;
-
-/// The most candidates.
-const MOST_CANDIDATES: usize = 1024;
-
-/// The most bytes of a path.
-const MOST_PATH: usize = 1023;
 
 /// What an audit begins with: its letters in the order of their bytes, and the pair that it resumes
 /// after, if there is one.
 #[derive(Drop)]
-pub struct Begun {
-    pub letters: Vec<Part>,
-    pub after: Option<Resumption>,
+pub(crate) struct Checked {
+    pub(crate) letters: Vec<Part>,
+    pub(crate) after: Option<Resumption>,
 }
 
 /// What an audit begins with, by its base, candidates, limit and resume text, or the first fault;
 /// `OutOfMemory` comes wherever a growth was refused.
-pub fn begin<'t, P: Probe<'t>>(
+pub(crate) fn check<'t, P: Probe<'t>>(
     alloc: Global,
     probe: &mut P,
     base: Base,
     candidates: &[&[u8]],
     limit: u8,
     after: Option<&[u8]>,
-) -> Result<Begun, AuditFault>
+) -> Result<Checked, AuditFault>
     ensures begun { IfOk result (λ b. (table : CallTable) (h : History) →
         beginning (P.tree probe.old) table h base (map (λ s. s.now) candidates.now) limit (option_map (λ s. s.now) after.entry) ≡ Ok (beginning_with (P.tree probe.old) table h base limit b)) }
     ensures refused { IfErr result (λ fault. fault ≢ AuditFault.OutOfMemory → (table : CallTable) (h : History) →
         beginning (P.tree probe.old) table h base (map (λ s. s.now) candidates.now) limit (option_map (λ s. s.now) after.entry) ≡ Err fault) }
-    ensures sound { IfOk result (λ b. IsBegun (P.tree probe.old) limit b) }
+    ensures sound { IfOk result (λ b. IsChecked (P.tree probe.old) limit b) }
     ensures tree { P.tree probe.new ≡ P.tree probe.old }
 {
     let letters = letters_within(alloc, probe, candidates, limit)?;
@@ -55,7 +47,7 @@ pub fn begin<'t, P: Probe<'t>>(
         None => None,
         Some(text) => Some(read_pair(alloc, base, letters.as_slice(), usize::from(limit), text)?),
     };
-    Ok(Begun { letters, after })
+    Ok(Checked { letters, after })
 }
 
 /// The letters of an audit, or the first fault but that of its resume text.
@@ -73,10 +65,10 @@ fn letters_within<'t, P: Probe<'t>>(
     ensures sound { IfOk result (λ letters. AreSound limit letters.items) }
     ensures tree { P.tree probe.new ≡ P.tree probe.old }
 {
-    if limit > MOST_LETTERS {
+    if limit > LETTER_LIMIT {
         return Err(AuditFault::LimitTooLarge);
     }
-    if candidates.len() > MOST_CANDIDATES {
+    if candidates.len() > CANDIDATE_LIMIT {
         return Err(AuditFault::TooManyNames);
     }
     let names = read_candidates(alloc, candidates)?;
@@ -84,7 +76,7 @@ fn letters_within<'t, P: Probe<'t>>(
     let Ok(letters) = alphabet(alloc, probe, names.as_slice()) else {
         return Err(AuditFault::OutOfMemory);
     };
-    if usize::from(limit) * (longest(letters.as_slice()) + 1) > MOST_PATH {
+    if usize::from(limit) * (longest(letters.as_slice()) + 1) > PATH_LIMIT {
         return Err(AuditFault::TooLong);
     }
     Ok(letters)

@@ -7,7 +7,7 @@ ghost use base.Fml.{ftrue};
 use std::marker::{Model, PhantomData};
 
 /// The content of a tree, which contracts alone see. It has no bytes.
-pub struct Content {
+pub(crate) struct Content {
     marker: PhantomData<()>,
     pub ghost tree: { Tree },
 }
@@ -18,7 +18,7 @@ impl Model for Content {
 
 impl Content {
     /// What the caller's proof picks.
-    pub fn of<T>(x: &T) -> Content
+    pub(crate) fn of<T>(x: &T) -> Content
         ghost tree: { Tree }
         ensures { result.tree ≡ tree }
     {

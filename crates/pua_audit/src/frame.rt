@@ -4,7 +4,7 @@ use crate::state::State;
 
 /// A state whose letters from `next` on are still to be tried.
 #[derive(Clone, Copy, Debug, PartialEq, Eq)]
-pub struct Frame {
-    pub state: State,
-    pub next: usize,
+pub(crate) struct Frame {
+    pub(crate) state: State,
+    pub(crate) next: usize,
 }

@@ -1,8 +1,18 @@
 //! Laws and worked examples of reaches, each the contract of a function that does nothing.
 
+ghost use Rattle.std.specs.Prelude.{◌≡◌};
+ghost use Rattle.pua_audit.specs.Limits.{candidate_limit, letter_limit};
 ghost use Rattle.pua_audit.specs.Laws.{AlphabetRises, ClosedReaches, ReachIsAlong, ReachRises, TrailsReach};
 ghost use Rattle.pua_audit.specs.PairTexts.{ResumeTextsName};
 ghost use Rattle.pua_audit.specs.Examples.{ReachRows};
+
+use crate::limits::{CANDIDATE_LIMIT, LETTER_LIMIT};
+
+/// The limits are those of the definitions.
+pub fn limits_law()
+    ensures letters { LETTER_LIMIT ≡ letter_limit }
+    ensures candidates { CANDIDATE_LIMIT ≡ candidate_limit }
+{}
 
 /// Examples of small reaches.
 pub fn reach_examples()
@@ -16,8 +26,10 @@ pub fn reach_laws()
     ensures reach { ReachRises }
 {}
 
-/// The reach is what is allowed letter by letter, and nothing where the process has ended or its
-/// base was removed; a walk through the words gives the pairs that are allowed letter by letter.
+/// Of what an audit begins with (a tree, letters that are names or two dots, and words with paths
+/// that are not too long) the reach is what is allowed letter by letter, and nothing where the
+/// process has ended or its base was removed. A walk through the words gives the pairs that are
+/// allowed letter by letter.
 #[tactic(auto, using(crate::proofs::Audited::reaches_along, crate::proofs::Audited::closed_reaches, crate::proofs::Audited::trails_reach))]
 pub fn walk_laws()
     ensures along { ReachIsAlong }

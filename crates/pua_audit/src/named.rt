@@ -7,14 +7,14 @@ use pua_path::{Errno, Found, Last};
 
 /// What a path names, where a link at its end is followed and where it is kept.
 #[derive(Drop)]
-pub struct Named {
-    pub followed: Result<Found, Errno>,
-    pub kept: Result<Found, Errno>,
+pub(crate) struct Named {
+    pub(crate) followed: Result<Found, Errno>,
+    pub(crate) kept: Result<Found, Errno>,
 }
 
 impl Named {
     /// What it names to a call, by whether the call follows a link at the end.
-    pub fn by(&self, last: Last) -> Result<Found, Errno>
+    pub(crate) fn by(&self, last: Last) -> Result<Found, Errno>
         ensures { result ≡ by_last last self.now.followed self.now.kept }
     {
         match last {

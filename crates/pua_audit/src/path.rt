@@ -8,7 +8,7 @@ use crate::base::Base;
 use pua_path::Part;
 
 /// Puts a letter at the end of a path, behind a slash.
-pub fn add_letter(path: &mut Vec<u8>, letter: &Part)
+pub(crate) fn add_letter(path: &mut Vec<u8>, letter: &Part)
     requires { length path.old.items + suc (length (part_bytes letter.now)) ≤ vec_capacity path.old }
     ensures path { path.new.items ≡ path.old.items ++ 47 ∷ part_bytes letter.now }
     ensures room { vec_capacity path.old ≤ vec_capacity path.new }
@@ -18,7 +18,7 @@ pub fn add_letter(path: &mut Vec<u8>, letter: &Part)
 }
 
 /// Takes the last letter off a path, and the slash before it.
-pub fn drop_letter(path: &mut Vec<u8>, letter: &Part)
+pub(crate) fn drop_letter(path: &mut Vec<u8>, letter: &Part)
     requires { suc (length (part_bytes letter.now)) ≤ length path.old.items }
     ensures path { (front : List ℕ) → path.old.items ≡ front ++ 47 ∷ part_bytes letter.now → path.new.items ≡ front }
     ensures room { vec_capacity path.new ≡ vec_capacity path.old }
@@ -30,7 +30,7 @@ pub fn drop_letter(path: &mut Vec<u8>, letter: &Part)
 
 /// The path as it is lent: the base itself for no letter, and from the working directory no slash
 /// before the first.
-pub fn lent_path(base: Base, path: &[u8]) -> &[u8]
+pub(crate) fn lent_path(base: Base, path: &[u8]) -> &[u8]
     ensures { result.now ≡ lent base path.now }
 {
     match (base, path) {

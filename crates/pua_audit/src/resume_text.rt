@@ -6,7 +6,7 @@ ghost use Rattle.pua_tree.specs.Names.{same_bytes};
 ghost use Rattle.pua_tree.specs.Spelling.{spelling};
 ghost use Rattle.pua_tree.specs.Tree.{name_cmp};
 ghost use Rattle.pua_audit.specs.Begin.{pair_named, word_of_path, word_of_pieces_between};
-ghost use Rattle.pua_audit.specs.World.{is_letter};
+ghost use Rattle.pua_audit.specs.Judge.{is_letter};
 ghost use Rattle.pua_audit.specs.Laws.{Rises};
 ghost use Rattle.pua_audit.specs.Ready.{part_bytes};
 ghost use Rattle.pua_audit.specs.Starting.{AreLetters, IsRead, pair_in};
@@ -23,15 +23,15 @@ use std::alloc::Global;
 /// The pair that an audit resumes after: a word, by the places of its letters in the alphabet, and
 /// a call.
 #[derive(Drop)]
-pub struct Resumption {
-    pub word: Vec<usize>,
-    pub call: Call,
+pub(crate) struct Resumption {
+    pub(crate) word: Vec<usize>,
+    pub(crate) call: Call,
 }
 
 /// The pair that a text names, its path beginning at this base and having at most so many letters.
 /// The errors are `BadResume` where it names none, and `OutOfMemory` where the growth for the
 /// word was refused.
-pub fn read_pair(
+pub(crate) fn read_pair(
     alloc: Global,
     base: Base,
     letters: &[Part],

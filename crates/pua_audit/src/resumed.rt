@@ -19,7 +19,7 @@ use std::alloc::{AllocError, Global};
 impl Walk {
     /// A walk with all pairs of the reach ahead, or with those behind a pair. Where the process has
     /// ended, or its base was removed, nothing is ahead. The error is that a growth was refused.
-    pub fn begin<'t, P: Probe<'t>>(
+    pub(crate) fn begin<'t, P: Probe<'t>>(
         alloc: Global,
         probe: &mut P,
         terms: Terms,
@@ -50,7 +50,7 @@ impl Walk {
     /// Goes to the place behind a pair: along the pair's word by one look a letter, and to those of
     /// the word's calls that come behind the pair's. It ends where no step leads on, since nothing
     /// is allowed on a word that goes on from there.
-    pub fn resume<'t, P: Probe<'t>>(&mut self, probe: &mut P, after: &Resumption)
+    pub(crate) fn resume<'t, P: Probe<'t>>(&mut self, probe: &mut P, after: &Resumption)
         requires tree { P.tree probe.old ≡ self.old.terms.seen.tree }
         requires ready { IsReady self.old }
         requires fresh { IsFresh self.old }

@@ -1,17 +1,17 @@
 //! What an audit is of.
 
-ghost use Rattle.std.specs.Prelude.{◌≡◌, ◌≤◌, ◌<◌, ◌*◌, suc, length, map, IsTrue, IfOk, IfSome, vec_capacity};
-ghost use Rattle.pua_tree.specs.Tree.{is_dir};
+ghost use Rattle.std.specs.Prelude.{◌≡◌, ◌≤◌, ◌<◌, ◌*◌, suc, map, IfOk, IfSome, vec_capacity};
 ghost use Rattle.pua_policy.specs.Calls.{standard_table, last_of};
 ghost use Rattle.pua_policy.specs.History.{StandsFor};
 ghost use Rattle.pua_policy.specs.Verdict.{FoundsFit, verdict_of, is_allowed};
 ghost use Rattle.pua_audit.specs.Alphabets.{AreParts};
+ghost use Rattle.pua_audit.specs.Limits.{path_limit};
 ghost use Rattle.pua_audit.specs.Begin.{longest};
 ghost use Rattle.pua_audit.specs.Past.{history_of};
 ghost use Rattle.pua_audit.specs.Starting.{scope_with};
-ghost use Rattle.pua_audit.specs.World.{base_dir, base_way, state_of, is_open};
+ghost use Rattle.pua_audit.specs.Judge.{base_dir, base_way, state_of, is_open};
 ghost use Rattle.pua_audit.specs.declared.place.Place.TheVariants as places;
-ghost use Rattle.pua_audit.specs.Ready.{part_bytes, scope_in, IsSound, IsAt, IsState, step_from, found_from, by_last, world_in, letters_of, place_of};
+ghost use Rattle.pua_audit.specs.Ready.{part_bytes, scope_in, IsSound, IsAt, IsState, step_from, found_from, by_last, judge_in, letters_of, place_of};
 ghost use Rattle.pua_audit.specs.Trail.{allowed_at};
 
 use crate::alphabet::longest;
@@ -28,18 +28,18 @@ use std::alloc::Global;
 /// What an audit is of: a process, where paths begin, the most letters of a word, and the letters in
 /// the order of their bytes.
 #[derive(Drop)]
-pub struct Terms {
-    pub seen: Content,
-    pub process: Process,
-    pub base: Base,
-    pub limit: usize,
-    pub letters: Vec<Part>,
+pub(crate) struct Terms {
+    pub(crate) seen: Content,
+    pub(crate) process: Process,
+    pub(crate) base: Base,
+    pub(crate) limit: usize,
+    pub(crate) letters: Vec<Part>,
 }
 
 impl Terms {
     /// What an audit of a copy of a process is of, over the tree of a probe, by words of at most so
     /// many of these letters. `OutOfMemory` where the growth for the copy was refused.
-    pub fn new<'t, P: Probe<'t>>(
+    pub(crate) fn new<'t, P: Probe<'t>>(
         alloc: Global,
         probe: &P,
         process: &Process,
@@ -49,7 +49,7 @@ impl Terms {
     ) -> Result<Terms, OutOfMemory>
         requires stands { StandsFor process.now (history_of process.now) }
         requires parts { AreParts letters.items }
-        requires short { limit * suc (longest (map part_bytes letters.items)) ≤ 1023 }
+        requires short { limit * suc (longest (map part_bytes letters.items)) ≤ path_limit }
         ensures sound { IfOk result (λ terms. IsSound terms) }
         ensures scope { IfOk result (λ terms. scope_in terms ≡ scope_with (P.tree probe.now) standard_table (history_of process.now) base limit letters.items) }
         ensures letters { IfOk result (λ terms. (terms.limit ≡ limit) × (terms.letters ≡ letters)) }
@@ -67,7 +67,7 @@ impl Terms {
 
     /// Whether something may be allowed: the process has not ended, and the directory at the base
     /// was not removed.
-    pub fn is_open<'t, P: Probe<'t>>(&self, probe: &mut P) -> bool
+    pub(crate) fn is_open<'t, P: Probe<'t>>(&self, probe: &mut P) -> bool
         requires tree { P.tree probe.old ≡ self.now.seen.tree }
         requires sound { IsSound self.now }
         ensures open { result ≡ is_open (scope_in self.now) }
@@ -80,15 +80,15 @@ impl Terms {
     }
 
     /// How many bytes the letters of a word and their slashes have at most.
-    pub fn most_bytes(&self) -> usize
-        requires { self.now.limit * suc (longest (letters_of self.now)) ≤ 1023 }
+    pub(crate) fn most_bytes(&self) -> usize
+        requires { self.now.limit * suc (longest (letters_of self.now)) ≤ path_limit }
         ensures { result ≡ self.now.limit * suc (longest (letters_of self.now)) }
     {
         self.limit * (longest(self.letters.as_slice()) + 1)
     }
 
     /// The directory in which the first letter stands.
-    pub fn base_dir(&self) -> NodeId
+    pub(crate) fn base_dir(&self) -> NodeId
         requires { IsSound self.now }
         ensures { result ≡ base_dir self.now.base (history_of self.now.process) }
     {
@@ -109,7 +109,7 @@ impl Terms {
     }
 
     /// The directory to which a place leads, if words go on from there.
-    pub fn step<'t, P: Probe<'t>>(&self, probe: &mut P, place: Place) -> Option<State>
+    pub(crate) fn step<'t, P: Probe<'t>>(&self, probe: &mut P, place: Place) -> Option<State>
         requires tree { P.tree probe.old ≡ self.now.seen.tree }
         requires sound { IsSound self.now }
         requires at { IsAt self.now place }
@@ -145,7 +145,7 @@ impl Terms {
     }
 
     /// What the path of a word names by its last letter.
-    pub fn found<'t, P: Probe<'t>>(
+    pub(crate) fn found<'t, P: Probe<'t>>(
         &self,
         probe: &mut P,
         place: Place,
@@ -187,12 +187,17 @@ impl Terms {
 
     /// The calls that are allowed on a word, in their order, in a list that has room for all: what
     /// the path names with its last part followed and kept is asked once.
-    pub fn decide<'t, P: Probe<'t>>(&self, probe: &mut P, place: &Place, calls: &mut Vec<Call>)
+    pub(crate) fn decide<'t, P: Probe<'t>>(
+        &self,
+        probe: &mut P,
+        place: &Place,
+        calls: &mut Vec<Call>,
+    )
         requires tree { P.tree probe.old ≡ self.now.seen.tree }
         requires sound { IsSound self.now }
         requires at { IsAt self.now place.now }
         requires room { 14 ≤ vec_capacity calls.old }
-        ensures calls { calls.new.items ≡ allowed_at (world_in self.now) (place_of (letters_of self.now) place.now) }
+        ensures calls { calls.new.items ≡ allowed_at (judge_in self.now) (place_of (letters_of self.now) place.now) }
         ensures room { 14 ≤ vec_capacity calls.new }
         ensures tree { P.tree probe.new ≡ P.tree probe.old }
     {

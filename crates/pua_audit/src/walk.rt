@@ -1,10 +1,9 @@
 //! The walk through the words over an alphabet.
 
-ghost use Rattle.std.specs.Prelude.{◌≡◌, ◌≤◌, ◌<◌, ◌+◌, ◌-◌, ◌++◌, ◌∷◌, [], ◌*◌, suc, length, take, None, IfOk, IsTrue, false, true, MatchOption};
-ghost use Rattle.pua_audit.specs.Begin.{longest};
+ghost use Rattle.std.specs.Prelude.{◌≡◌, ◌≤◌, ◌<◌, ◌+◌, ◌-◌, ◌++◌, ◌∷◌, [], length, take, None, IfOk, IsTrue, false, true, MatchOption};
 ghost use Rattle.pua_audit.specs.Trail.{lines_of};
 ghost use Rattle.pua_audit.specs.declared.place.Place.TheVariants as places;
-ghost use Rattle.pua_audit.specs.Ready.{IsSound, IsAt, letters_of, IsFresh, allowed_here, IsReady, IsBetween, IsSpelled, HasRoom, trail, left_in, left_over, waiting, IsEntered, IsNextCall};
+ghost use Rattle.pua_audit.specs.Ready.{IsSound, IsAt, IsFresh, allowed_here, IsReady, IsBetween, IsSpelled, HasRoom, trail, left_in, left_over, waiting, IsEntered, IsNextCall};
 
 use crate::frame::Frame;
 use crate::path::{add_letter, drop_letter};
@@ -18,28 +17,28 @@ use std::alloc::{AllocError, Global};
 /// A walk through the words over an alphabet, in their order. It takes no memory but what was
 /// reserved.
 #[derive(Drop)]
-pub struct Walk {
-    pub terms: Terms,
+pub(crate) struct Walk {
+    pub(crate) terms: Terms,
     /// Nothing is ahead.
-    pub done: bool,
+    pub(crate) done: bool,
     /// The word, by the places of its letters in the alphabet.
-    pub word: Vec<usize>,
+    pub(crate) word: Vec<usize>,
     /// Where the word ends.
-    pub place: Place,
+    pub(crate) place: Place,
     /// The directories that are open, one for each letter: a word's letter stands in its frame's.
-    pub frames: Vec<Frame>,
+    pub(crate) frames: Vec<Frame>,
     /// The calls that are allowed on the word.
-    pub calls: Vec<Call>,
+    pub(crate) calls: Vec<Call>,
     /// How many of the calls were given.
-    pub given: usize,
+    pub(crate) given: usize,
     /// The letters of the word, each behind a slash.
-    pub path: Vec<u8>,
+    pub(crate) path: Vec<u8>,
 }
 
 impl Walk {
     /// A walk that stands at the empty word and has none of its calls, or one with nothing ahead.
     /// It reserves all that it will need. The error is that a growth was refused.
-    pub fn new(alloc: Global, terms: Terms, done: bool) -> Result<Walk, AllocError>
+    pub(crate) fn new(alloc: Global, terms: Terms, done: bool) -> Result<Walk, AllocError>
         requires sound { IsSound terms }
         requires open { done ≡ false → IsAt terms places.Start }
         ensures ready { IfOk result (λ walk. IsReady walk) }
@@ -113,7 +112,7 @@ impl Walk {
     }
 
     /// Goes from a state to the word with one letter more.
-    pub fn enter(&mut self, state: State, letter: usize)
+    pub(crate) fn enter(&mut self, state: State, letter: usize)
         requires room { HasRoom self.old }
         requires spelled { IsSpelled self.old.terms self.old.word.items self.old.path.items }
         requires frames { length self.old.frames.items < self.old.terms.limit }
@@ -179,7 +178,7 @@ impl Walk {
     }
 
     /// Decides the calls of the word.
-    pub fn decide<'t, P: Probe<'t>>(&mut self, probe: &mut P)
+    pub(crate) fn decide<'t, P: Probe<'t>>(&mut self, probe: &mut P)
         requires tree { P.tree probe.old ≡ self.old.terms.seen.tree }
         requires ready { IsReady self.old }
         requires going { self.old.done ≡ false }
@@ -194,7 +193,7 @@ impl Walk {
     }
 
     /// The call of the next line: its word is the walk's. None where there is none.
-    pub fn next_call<'t, P: Probe<'t>>(&mut self, probe: &mut P) -> Option<Call>
+    pub(crate) fn next_call<'t, P: Probe<'t>>(&mut self, probe: &mut P) -> Option<Call>
         requires tree { P.tree probe.old ≡ self.old.terms.seen.tree }
         requires ready { IsReady self.old }
         ensures ready { IsReady self.new }

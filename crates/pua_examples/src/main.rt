@@ -1,18 +1,23 @@
-//! Runs what the examples tell: the story of each folder, and the table of rows. A line is printed
-//! for each folder, which tells whether its command writes what it says; then one for each row that
-//! is told otherwise, or whose audit goes on otherwise where it is resumed; and at the end how many
-//! rows there are, and after how many lines an audit was resumed.
+//! Runs the examples: the story of each folder, the table of rows, the limits, and random cases by a
+//! fixed seed. A line is printed for each folder and each limit, which says whether what is written
+//! is what was expected; then one for each row and each case of which that isn't so, with their
+//! counts.
 #![tactic(auto)]
 
+mod case;
+mod generator;
+mod limits;
+mod random;
 mod rows;
 mod stories;
+mod table;
+mod written;
 
 use anyhow::Result;
 
-/// How many bytes a command may write.
-const MOST_OUTPUT: usize = 65_536;
-
 fn main(rt: HostRuntime) -> Result<()> {
     stories::run(&rt)?;
-    rows::run(&rt)
+    rows::run(&rt)?;
+    limits::run(&rt)?;
+    random::run(&rt)
 }

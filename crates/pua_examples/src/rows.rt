@@ -1,123 +1,161 @@
-//! The table of rows: each has the words of a command, a listing and a script, and what it writes on
-//! both outputs, with its status. Each audit that a row tells whole is also cut after each of its
-//! lines and resumed there.
+//! The table of rows: what commands over small listings and scripts write. Each audit that a row has
+//! whole is also cut after each of its lines and resumed there.
 
-use crate::MOST_OUTPUT;
+use crate::table::{Misused, Refused, Row, Table, ended};
+use crate::written::{Files, SMALL};
 use anyhow::{Result, anyhow};
-use pua_tool::{MemoryInputs, MemorySink, command};
-use serde::Deserialize;
 use std::alloc::Global;
 use std::fs;
 
-/// The rows, in the order of the file.
-#[derive(Drop, Deserialize)]
-struct Table {
-    row: Vec<Row>,
-}
+/// The words before the operands of the commands that refuse an input. The last one's limit is
+/// refused too, though later.
+const REFUSING: [&[&str]; 3] = [
+    &["run", "TREE", "SCRIPT"],
+    &["audit", "--limit", "1", "TREE", "SCRIPT"],
+    &["audit", "--limit", "17", "TREE", "SCRIPT"],
+];
 
-/// A command over the files TREE and SCRIPT, and what it tells.
-#[derive(Drop, Deserialize)]
-struct Row {
-    name: String,
-    words: Vec<String>,
-    listing: String,
-    script: String,
-    status: u8,
-    output: String,
-    fault: String,
-}
+/// The listing beside a script with a fault.
+const ROOT: &str = "tree 1\n0 dir\n";
 
-/// Prints a line for each row that is told otherwise, or whose audit goes on otherwise where it is
-/// resumed; then how many rows there are, and after how many lines an audit was resumed.
+/// The script beside a listing with a fault: it has one too.
+const NO_SCRIPT: &str = "0";
+
+/// Prints a line for each part of the table that is not as expected, or whose audit goes on in
+/// another way where it is resumed; then how many there are, and after how many lines an audit was
+/// resumed.
 pub(crate) fn run(rt: &HostRuntime) -> Result<()> {
     let alloc = rt.alloc();
     let text = fs::read_to_string(rt, "rows.toml")?;
     let table: Table = toml::from_str(alloc, text.as_str())?;
+    for misused in &table.misused {
+        if !is_misused(alloc, misused, table.usage.as_str())? {
+            println!(rt; "not as expected: {}", misused.name)?;
+        }
+    }
+    for refused in &table.refused {
+        if !is_refused(alloc, refused)? {
+            println!(rt; "not as expected ({}): {}", refused.from, refused.name)?;
+        }
+    }
+    run_rows(rt, &table)?;
+    println!(rt;
+        "{} misuses, {} refusals",
+        table.misused.len(),
+        table.refused.len()
+    )?;
+    Ok(())
+}
+
+/// Judges each row with its answers and pairs.
+fn run_rows(rt: &HostRuntime, table: &Table) -> Result<()> {
+    let alloc = rt.alloc();
     let mut resumed = 0usize;
     for row in &table.row {
-        if !is_told(alloc, row)? {
-            println!(rt; "not as told: {}", row.name)?;
-        }
-        match lines_resumed(alloc, row)? {
+        let Some(tree) = table.tree.get(row.tree.as_str()) else {
+            return Err(anyhow!("{}: there is no tree {}", row.name, row.tree));
+        };
+        let files = Files {
+            tree: tree.listing.as_bytes(),
+            script: row.script.as_bytes(),
+        };
+        match judged(alloc, row, &files)? {
             Some(lines) => resumed = resumed.saturating_add(lines),
-            None => println!(rt; "not resumed as told: {}", row.name)?,
+            None => println!(rt; "not as expected ({}): {}", row.from, row.name)?,
         }
     }
     println!(rt; "{} rows, resumed after {resumed} lines", table.row.len())?;
     Ok(())
 }
 
-/// Whether a row's command writes what the row says.
-fn is_told(alloc: Global, row: &Row) -> Result<bool> {
-    let words: Vec<&str> = row.words.iter().map(String::as_str).collect(alloc)?;
-    let status = command_status(
-        alloc,
-        row,
-        words.as_slice(),
-        row.output.as_bytes(),
-        &row.fault,
-    )?;
-    Ok(status == Some(row.status))
+/// Whether words are answered as no command.
+fn is_misused(alloc: Global, misused: &Misused, usage: &str) -> Result<bool> {
+    let words: Vec<&str> = misused.command.as_str().split_whitespace().collect(alloc)?;
+    let files = Files {
+        tree: ROOT.as_bytes(),
+        script: b"",
+    };
+    let usage = ended(alloc, usage)?;
+    let written = files.written(alloc, words.as_slice(), SMALL)?;
+    Ok(written.is(2, b"", usage.as_bytes()))
 }
 
-/// After how many lines a row's audit was resumed: none where the row tells no whole audit. None
-/// where it did not go on with the lines behind one.
-fn lines_resumed(alloc: Global, row: &Row) -> Result<Option<usize>> {
-    if row.status != 0 || row.words.iter().any(|word| word.as_str() == "--after") {
+/// Whether a listing or a script is refused by each command.
+fn is_refused(alloc: Global, refused: &Refused) -> Result<bool> {
+    let tree = refused.listing.as_ref().map_or(ROOT, String::as_str);
+    let script = refused.script.as_ref().map_or(NO_SCRIPT, String::as_str);
+    let files = Files {
+        tree: tree.as_bytes(),
+        script: script.as_bytes(),
+    };
+    let fault = ended(alloc, refused.fault.as_str())?;
+    for words in &REFUSING {
+        let written = files.written(alloc, words, SMALL)?;
+        if !written.is(1, b"", fault.as_bytes()) {
+            return Ok(false);
+        }
+    }
+    Ok(true)
+}
+
+/// After how many lines a row's audit was resumed: none where the row has no whole audit. None
+/// where the row's command wrote something else, or the audit went on in another way.
+fn judged(alloc: Global, row: &Row, files: &Files<'_>) -> Result<Option<usize>> {
+    let words: Vec<&str> = row.command.as_str().split_whitespace().collect(alloc)?;
+    let output = row.output(alloc)?;
+    let fault = ended(alloc, row.fault.as_str())?;
+    let written = files.written(alloc, words.as_slice(), SMALL)?;
+    if !written.is(row.status, output.as_bytes(), fault.as_bytes()) {
+        return Ok(None);
+    }
+    if row.reach.is_none() {
         return Ok(Some(0));
     }
-    let mut lines = 0usize;
+    let front = row.answers.as_str().split_whitespace().count();
+    let front = front.saturating_add(1);
+    lines_resumed(alloc, row.command.as_str(), files, output.as_str(), front)
+}
+
+/// After how many lines of its output an audit was resumed, the first so many aside; None where it
+/// did not go on with the lines after one.
+fn lines_resumed(
+    alloc: Global,
+    command: &str,
+    files: &Files<'_>,
+    output: &str,
+    front: usize,
+) -> Result<Option<usize>> {
+    let mut resumed = 0usize;
     let mut end = 0usize;
-    for line in row.output.as_str().lines() {
+    for (place, line) in output.lines().enumerate() {
         end = end.saturating_add(line.len()).saturating_add(1);
-        let behind = row.output.as_bytes().get(end..).unwrap_or(&[]);
-        if line.starts_with('/') || line.starts_with('.') {
-            lines = lines.saturating_add(1);
-            if !goes_on(alloc, row, line, behind)? {
+        let rest = output.as_bytes().get(end..).unwrap_or(&[]);
+        if place >= front {
+            resumed = resumed.saturating_add(1);
+            if !goes_on(alloc, command, files, line, rest)? {
                 return Ok(None);
             }
         }
     }
-    Ok(Some(lines))
+    Ok(Some(resumed))
 }
 
-/// Whether a row's audit, resumed after the pair of a line, writes what stood behind that line.
-fn goes_on(alloc: Global, row: &Row, line: &str, behind: &[u8]) -> Result<bool> {
+/// Whether an audit, resumed after the pair of a line, writes what stood after that line.
+fn goes_on(
+    alloc: Global,
+    command: &str,
+    files: &Files<'_>,
+    line: &str,
+    rest: &[u8],
+) -> Result<bool> {
     let Some((path, call)) = line.rsplit_once(' ') else {
         return Ok(false);
     };
-    let pair = format!(in alloc; "{call}:{path}")?;
-    let mut words = Vec::new(alloc);
-    words.push("audit")?;
-    words.push("--after")?;
-    words.push(pair.as_str())?;
-    for word in row.words.iter().skip(1) {
-        words.push(word.as_str())?;
-    }
-    let status = command_status(alloc, row, words.as_slice(), behind, "")?;
-    Ok(status == Some(0))
-}
-
-/// The status of a command over a row's files; None where it writes something else than this.
-fn command_status(
-    alloc: Global,
-    row: &Row,
-    words: &[&str],
-    output: &[u8],
-    fault: &str,
-) -> Result<Option<u8>> {
-    let entries = [
-        ("TREE", row.listing.as_bytes()),
-        ("SCRIPT", row.script.as_bytes()),
-    ];
-    let mut inputs = MemoryInputs::new(&entries);
-    let (Ok(mut out), Ok(mut err)) = (
-        MemorySink::new(alloc, MOST_OUTPUT),
-        MemorySink::new(alloc, MOST_OUTPUT),
-    ) else {
-        return Err(anyhow!("out of memory"));
+    let Some((_, operands)) = command.split_once(' ') else {
+        return Ok(false);
     };
-    let status = command(alloc, words, &mut inputs, &mut out, &mut err);
-    let is_so = out.bytes() == output && err.bytes() == fault.as_bytes();
-    Ok(if is_so { Some(status) } else { None })
+    let resuming = format!(in alloc; "audit --after {call}:{path} {operands}")?;
+    let words: Vec<&str> = resuming.as_str().split_whitespace().collect(alloc)?;
+    let written = files.written(alloc, words.as_slice(), SMALL)?;
+    Ok(written.is(0, rest, b""))
 }

@@ -1,14 +1,14 @@
 //! The stories: each folder has a listing, a script, the words of a command over them, and what it
 //! writes.
 
-use crate::MOST_OUTPUT;
-use anyhow::{Result, anyhow};
-use pua_tool::{DiskInputs, MemorySink, command};
+use crate::written::{SMALL, as_expected, run_command};
+use anyhow::Result;
+use pua_tool::DiskInputs;
 use std::fs;
 use std::rt::Files;
 
 /// The folders of the stories.
-const STORIES: [&str; 7] = [
+const STORIES: [&str; 10] = [
     "first-run",
     "links",
     "wide-veil",
@@ -16,34 +16,38 @@ const STORIES: [&str; 7] = [
     "link-out",
     "made-again",
     "separated-pair",
+    "web-logger",
+    "dhcp-client",
+    "patch",
 ];
 
-/// Prints a line for each folder, which tells whether its command writes what it says.
+/// Prints a line for each folder, which says whether its command writes what the folder has; and one
+/// for a command whose listing isn't there.
 pub(crate) fn run(rt: &HostRuntime) -> Result<()> {
     for story in &STORIES {
-        let told = if is_told(rt, story)? {
-            "as told"
-        } else {
-            "not as told"
-        };
-        println!(rt; "{story}: {told}")?;
+        let seen = as_expected(is_so(rt, story)?);
+        println!(rt; "{story}: {seen}")?;
     }
+    let seen = as_expected(is_missed(rt)?);
+    println!(rt; "a listing that is not there: {seen}")?;
     Ok(())
 }
 
-/// Whether a story's command writes what its folder says.
-fn is_told<R: AllocGlobal + Files>(rt: &R, story: &str) -> Result<bool> {
+/// Whether a story's command writes what its folder has.
+fn is_so<R: AllocGlobal + Files>(rt: &R, story: &str) -> Result<bool> {
     let alloc = rt.alloc();
     let line = fs::read_to_string(rt, format!(in alloc; "{story}/command")?.as_str())?;
     let output = fs::read(rt, format!(in alloc; "{story}/output")?.as_str())?;
     let words: Vec<&str> = line.as_str().split_whitespace().skip(1).collect(alloc)?;
-    let (Ok(mut out), Ok(mut err)) = (
-        MemorySink::new(alloc, MOST_OUTPUT),
-        MemorySink::new(alloc, MOST_OUTPUT),
-    ) else {
-        return Err(anyhow!("out of memory"));
-    };
     let mut inputs = DiskInputs::new(rt);
-    let status = command(alloc, words.as_slice(), &mut inputs, &mut out, &mut err);
-    Ok(status == 0 && err.bytes().is_empty() && out.bytes() == output.as_slice())
+    let written = run_command(alloc, words.as_slice(), &mut inputs, SMALL)?;
+    Ok(written.is(0, output.as_slice(), b""))
+}
+
+/// Whether a command whose listing isn't there reports that, and writes nothing.
+fn is_missed<R: AllocGlobal + Files>(rt: &R) -> Result<bool> {
+    let words = ["run", "first-run/no-listing", "first-run/script"];
+    let mut inputs = DiskInputs::new(rt);
+    let written = run_command(rt.alloc(), &words, &mut inputs, SMALL)?;
+    Ok(written.is(3, b"", b"pua: cannot read first-run/no-listing\n"))
 }

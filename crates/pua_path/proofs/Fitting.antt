@@ -1,16 +1,18 @@
 -- What resolution finds is of the tree.
-use Rattle.std.proofs.Common.{◌≡◌, ℕ, zero, suc, List, [], ◌∷◌, ◌++◌, Bool, true, false, refl, sym, ap, ◌∙◌, subst}
-use Rattle.std.specs.Prelude.{Option, Some, None, Result, Ok, Err, option_map, is_none, is_some, if◌then◌else◌, ◌&&◌, not, ◌-◌, ◌==◌, IsTrue, IfOk}
+use Rattle.std.proofs.Common.{◌≡◌, ◌≤◌, ℕ, zero, suc, List, [], ◌∷◌, ◌++◌, Bool, true, false, refl, sym, ap, ◌∙◌, subst, arith}
+use Rattle.std.specs.Prelude.{Option, Some, None, Result, Ok, Err, option_map, is_none, is_some, if◌then◌else◌, ◌&&◌, not, ◌-◌, ◌==◌, IfOk}
 use Rattle.std.specs.Option.{option_eq}
-use Rattle.std.proofs.lemmas.Bool.{eq-eqb}
-use Rattle.pua_tree.specs.Tree.{Tree, Node, WellFormed, look, node_at, is_dir, is_dir_kind, is_living, row_fits, spot_cmp}
+use Rattle.std.proofs.lemmas.Bool.{eq-eqb, and_parts, and_from}
+use Rattle.pua_tree.specs.Tree.{Tree, Node, WellFormed, look, node_at, is_dir, is_dir_kind, is_living, above, row_fits, spot_cmp}
 use Rattle.pua_tree.specs.Names.{is_name}
 use Rattle.pua_tree.specs.Steps.{◌>>=◌}
-use Rattle.pua_tree.proofs.Content.{exact_spots}
+use Rattle.pua_tree.proofs.ForCallers.{exact_spots}
 use Rattle.pua_tree.specs.declared.node.Kind.{Kind}
 use Rattle.pua_tree.specs.declared.node.Kind.TheVariants as kinds
 use Rattle.pua_path.specs.Paths.{parts_of, is_absolute}
-use Rattle.pua_path.specs.Resolution.{Resolved, Standing, Directory, Linked, Plain, Nothing, standing_of, standing_at, is_followed, slot_or, walk, start_of, resolve_parts, reached, resolution, step, last, link_limit}
+use Rattle.pua_path.specs.Resolution.{Resolved, Standing, Directory, Linked, Plain, Nothing, standing_of, standing_at, is_followed, slot_or, walk, start_of, resolve_parts, reached, resolution, link_limit}
+use Rattle.pua_path.specs.Fits.{FoundFits, FoundsFit, StandsAsNamed, IsOf, is_link_kind}
+use Rattle.pua_path.specs.Laws.{Lands, ResolutionsFit}
 use Rattle.pua_path.specs.declared.errno.Errno.{Errno}
 use Rattle.pua_path.specs.declared.errno.Errno.TheVariants.{ENOENT, ENOTDIR, ELOOP}
 use Rattle.pua_path.specs.declared.text.Ending.{Ending}
@@ -18,44 +20,21 @@ use Rattle.pua_path.specs.declared.text.Ending.TheVariants as ending
 use Rattle.pua_path.specs.declared.found.Part.{Part}
 use Rattle.pua_path.specs.declared.found.Part.TheVariants as parts
 use Rattle.pua_path.specs.declared.found.Last.{Last}
-use Rattle.pua_path.specs.declared.found.Last.TheVariants.{Followed, Kept}
+use Rattle.pua_path.specs.declared.found.Last.TheVariants.{Followed}
 use Rattle.pua_path.specs.declared.found.Way.{Way}
 use Rattle.pua_path.specs.declared.found.Way.TheVariants.{Named, Dot, DotDot, Top}
 use Rattle.pua_path.specs.declared.found.Found.{Found}
 use Rattle.pua_path.specs.declared.found.Found.TheVariants.{Whole, Slot}
-use Rattle.pua_path.specs.Fits.{FoundFits, FoundsFit}
-use Rattle.std.proofs.lemmas.Bool.{and_parts}
-use Rattle.std.proofs.Common.{cond}
-use Rattle.std.specs.List.{list_all}
-use Rattle.std.specs.declared.cmp.Ordering.{Ordering}
-use Rattle.std.specs.declared.cmp.Ordering.TheVariants.{Equal}
-use Rattle.std.specs.Ordering.{is_eq}
-use Rattle.std.specs.Cmp.{Equal-is}
-use Rattle.std.specs.FinMap.{find as find_key}
-use Rattle.pua_path.proofs.Living.{above_lives}
-
--- what is true of each entry is true of the one found by its key
-list_all-find_key : {K X : Type 0} (R : K → K → Ordering) → ((a b : K) → R a b ≡ Equal → a ≡ b) →
-    (q : (K × X) → Bool) (k : K) (es : List (K × X)) (x : X) → list_all q es ≡ true → find_key R k es ≡ Some x → q (k, x) ≡ true
-list_all-find_key R exact q k [] x all e = cc
-list_all-find_key R exact q k (y ∷ ys) x all e =
-    elim (is_eq (R k y.0)) as (λ b. is_eq (R k y.0) ≡ b → cond b (Some y.1) (find_key R k ys) ≡ Some x → q (k, x) ≡ true) [
-      | true ↦ λ same is.
-          let key : k ≡ y.0 = exact k y.0 ((Equal-is (R k y.0)).0 same) in
-          let value : y.1 ≡ x = cc in
-          (λ i. q (key i, sym value i)) ∙ (and_parts (q y) (list_all q ys) all).0
-      | false ↦ λ other is. list_all-find_key R exact q k ys x (and_parts (q y) (list_all q ys) all).1 is
-    ] refl e
-
-both : (a b : Bool) → a ≡ true → b ≡ true → (a && b) ≡ true
-both a b p q = ap (λ x. x && b) p ∙ q
+use Rattle.pua_path.proofs.Living.{list_all-find_key, above_lives, start_lives}
+use Rattle.pua_path.proofs.Steps.{met, walk_name}
+use Rattle.pua_path.proofs.StepsLaw.{Shrinks, shrinks}
 
 module _ (t : Tree) (fits : WellFormed t) where
   -- what stands at a name is as its row and its node say
   abbrev StandsRight : Option ℕ → Standing → Type 0
-  StandsRight o (Directory x) = is_dir t x ≡ true
+  StandsRight o (Directory x) = (o ≡ Some x) × (is_dir t x ≡ true)
   StandsRight o (Linked x target) = (o ≡ Some x) × (is_dir t x ≡ false)
-  StandsRight o (Plain x) = (o ≡ Some x) × (is_dir t x ≡ false)
+  StandsRight o (Plain x) = (o ≡ Some x) × (is_dir t x ≡ false) × (is_link_kind (option_map (λ n. n.kind) (node_at t x)) ≡ false)
   StandsRight o Nothing = o ≡ None
 
   -- the node in a row lives
@@ -67,12 +46,12 @@ module _ (t : Tree) (fits : WellFormed t) where
       (and_parts (is_living t x) _ two.1).0
 
   of_kind : (x : ℕ) (node : Node) (kind : Kind) → node_at t x ≡ Some node → node.kind ≡ kind → StandsRight (Some x) (standing_of x (Some node))
-  of_kind x node kinds.Dir e is = rw is (ap is_dir_kind (ap (option_map (λ n. n.kind)) e ∙ ap Some is))
+  of_kind x node kinds.Dir e is = rw is (refl, ap is_dir_kind (ap (option_map (λ n. n.kind)) e ∙ ap Some is))
   of_kind x node kinds.Link e is = rw is (refl, ap is_dir_kind (ap (option_map (λ n. n.kind)) e ∙ ap Some is))
   of_kind x node kinds.File e is =
-      rw is (refl, ap is_dir_kind (ap (option_map (λ n. n.kind)) e ∙ ap Some is))
+      rw is (refl, ap is_dir_kind (ap (option_map (λ n. n.kind)) e ∙ ap Some is), ap is_link_kind (ap (option_map (λ n. n.kind)) e ∙ ap Some is))
   of_kind x node kinds.Prog e is =
-      rw is (refl, ap is_dir_kind (ap (option_map (λ n. n.kind)) e ∙ ap Some is))
+      rw is (refl, ap is_dir_kind (ap (option_map (λ n. n.kind)) e ∙ ap Some is), ap is_link_kind (ap (option_map (λ n. n.kind)) e ∙ ap Some is))
 
   of_node : (x : ℕ) (o : Option Node) → node_at t x ≡ o → is_some o ≡ true → StandsRight (Some x) (standing_of x o)
   of_node x None e lives = cc
@@ -87,78 +66,106 @@ module _ (t : Tree) (fits : WellFormed t) where
 
   module _ (mode : Last) where
     abbrev IsFitting : Resolved → Type 0
-    IsFitting (Ok found) = FoundFits t found.0
+    IsFitting (Ok found) = IsOf t mode found.0
     IsFitting (Err errno) = Unit {0}
 
     slot_fits : (dir : ℕ) (name : List ℕ) (x : ℕ) → is_dir t dir ≡ true → look t dir name ≡ Some x → is_dir t x ≡ false → FoundFits t (Slot dir name (Some x))
     slot_fits dir name x living at other =
-        both _ _ living (both _ _ (ap (λ o. option_eq ◌==◌ o (Some x)) at ∙ eq-eqb x x refl) (ap not other))
+        and_from _ _ living (and_from _ _ (ap (λ o. option_eq ◌==◌ o (Some x)) at ∙ eq-eqb x x refl) (ap not other))
 
-    plain_fits : (dir : ℕ) (name : List ℕ) (x links : ℕ) (errno : Errno) (rest : List Part) → is_dir t dir ≡ true →
-        StandsRight (look t dir name) (Plain x) → IsFitting (slot_or rest (Slot dir name (Some x)) errno links)
-    plain_fits dir name x links errno [] living right = slot_fits dir name x living right.0 right.1
-    plain_fits dir name x links errno (part ∷ rest) living right = tt
-
-    nothing_fits : (dir : ℕ) (name : List ℕ) (links : ℕ) (errno : Errno) (rest : List Part) → is_dir t dir ≡ true →
-        look t dir name ≡ None → IsFitting (slot_or rest (Slot dir name None) errno links)
-    nothing_fits dir name links errno [] living right = both _ _ living (ap is_none right)
-    nothing_fits dir name links errno (part ∷ rest) living right = tt
+    slot_or_fits : (found : Found) (links : ℕ) (errno : Errno) (rest : List Part) → IsOf t mode found → IsFitting (slot_or rest found errno links)
+    slot_or_fits found links errno [] is = is
+    slot_or_fits found links errno (part ∷ rest) is = tt
 
     module _ (links : ℕ) (follow : ℕ → List ℕ → List Part → Resolved)
         (follows : (from : ℕ) (target : List ℕ) (rest : List Part) → is_dir t from ≡ true → IsFitting (follow from target rest)) where
       linked_fits : (dir : ℕ) (name : List ℕ) (x : ℕ) (target : List ℕ) (rest : List Part) → is_dir t dir ≡ true → StandsRight (look t dir name) (Linked x target) →
           (b : Bool) → is_followed mode rest ≡ b → IsFitting (if b then follow dir target rest else Ok (Slot dir name (Some x), links))
       linked_fits dir name x target rest living right true e = follows dir target rest living
-      linked_fits dir name x target rest living right false e = slot_fits dir name x living right.0 right.1
+      linked_fits dir name x target rest living right false e = record {
+        fits = slot_fits dir name x living right.0 right.1;
+        named = (living, right.0);
+        followed = λ is. let always : is_followed mode rest ≡ true = ap (λ m. is_followed m rest) is in cc;
+      }
 
-      walk_fits : (ps : List Part) (dir : ℕ) (way : Way) → is_dir t dir ≡ true → IsFitting (walk t mode links follow dir way ps)
-      walk_fits [] dir way living = living
-      walk_fits (parts.Dot ∷ ps) dir way living = walk_fits ps dir Dot living
-      walk_fits (parts.DotDot ∷ ps) dir way living = walk_fits ps _ DotDot (above_lives t dir fits)
-      walk_fits (parts.Name name ∷ ps) dir way living =
-          elim (standing_at t dir name) as (λ s. StandsRight (look t dir name) s → IsFitting (elim s [
-            | Directory x ↦ walk t mode links follow x (Named dir name) ps
-            | Linked x target ↦ if is_followed mode ps then follow dir target ps else Ok (Slot dir name (Some x), links)
-            | Plain x ↦ slot_or ps (Slot dir name (Some x)) ENOTDIR links
-            | Nothing ↦ slot_or ps (Slot dir name None) ENOENT links
-          ])) [
-            | Directory x ↦ λ right. walk_fits ps x (Named dir name) right
-            | Linked x target ↦ λ right. linked_fits dir name x target ps living right (is_followed mode ps) refl
-            | Plain x ↦ λ right. plain_fits dir name x links ENOTDIR ps living right
-            | Nothing ↦ λ right. nothing_fits dir name links ENOENT ps living right
-          ] (stands_right dir name)
+      met_fits : (ps : List Part) (dir : ℕ) (name : List ℕ) (s : Standing) → is_dir t dir ≡ true → StandsRight (look t dir name) s →
+          ((x : ℕ) → is_dir t x ≡ true → look t dir name ≡ Some x → IsFitting (walk t mode links follow x (Named dir name) ps)) →
+          IsFitting (met t mode links follow dir name ps s)
+      met_fits ps dir name (Directory x) living right further = further x right.1 right.0
+      met_fits ps dir name (Linked x target) living right further = linked_fits dir name x target ps living right (is_followed mode ps) refl
+      met_fits ps dir name (Plain x) living right further =
+          slot_or_fits (Slot dir name (Some x)) links ENOTDIR ps (record { fits = slot_fits dir name x living right.0 right.1; named = (living, right.0); followed = λ _. right.2 })
+      met_fits ps dir name Nothing living right further =
+          slot_or_fits (Slot dir name None) links ENOENT ps (record { fits = and_from _ _ living (ap is_none right); named = (living, right); followed = λ _. refl })
 
-    start_is_dir : (text : List ℕ) (dir : ℕ) → is_dir t dir ≡ true → is_dir t (start_of text dir) ≡ true
-    start_is_dir text dir living = elim (is_absolute text) as (λ b. is_dir t (if b then 0 else dir) ≡ true) [ true ↦ fits.root | false ↦ living ]
+      walk_fits : (ps : List Part) (dir : ℕ) (way : Way) → is_dir t dir ≡ true → StandsAsNamed t (Whole dir way) → IsFitting (walk t mode links follow dir way ps)
+      walk_fits [] dir way living named = record { fits = living; named = named; followed = λ _. refl }
+      walk_fits (parts.Dot ∷ ps) dir way living named = walk_fits ps dir Dot living tt
+      walk_fits (parts.DotDot ∷ ps) dir way living named = walk_fits ps (above t dir) DotDot (above_lives t dir fits) tt
+      walk_fits (parts.Name name ∷ ps) dir way living named =
+          rw (walk_name t mode links follow dir way name ps)
+          (met_fits ps dir name (standing_at t dir name) living (stands_right dir name) (λ x lives at. walk_fits ps x (Named dir name) lives (living, at)))
 
-    resolve_fits : (links : ℕ) (ps : List Part) (dir : ℕ) (way : Way) → is_dir t dir ≡ true → IsFitting (resolve_parts links t mode dir way ps)
-    resolve_fits zero ps dir way living = walk_fits 0 (λ _ _ _. Err ELOOP) (λ _ _ _ _. tt) ps dir way living
-    resolve_fits (suc links) ps dir way living =
-        walk_fits (suc links) _ (λ from target rest here. resolve_fits links (parts_of ending.Dot target ++ rest) (start_of target from) Top (start_is_dir target from here)) ps dir way living
+    resolve_fits : (links : ℕ) (ps : List Part) (dir : ℕ) → is_dir t dir ≡ true → IsFitting (resolve_parts links t mode dir Top ps)
+    resolve_fits zero ps dir living = walk_fits 0 (λ _ _ _. Err ELOOP) (λ _ _ _ _. tt) ps dir Top living tt
+    resolve_fits (suc links) ps dir living =
+        walk_fits (suc links) _ (λ from target rest here. resolve_fits links (parts_of ending.Dot target ++ rest) (start_of target from) (start_lives t from target fits here)) ps dir Top living tt
 
-    found_fits : (r : Resolved) (object : Found) → IsFitting r → (r >>= λ found. Ok found.0) ≡ Ok object → FoundFits t object
-    found_fits (Ok found) object right e = let same : found.0 ≡ object = cc in subst (FoundFits t) same right
+    found_fits : (r : Resolved) (object : Found) → IsFitting r → (r >>= λ found. Ok found.0) ≡ Ok object → IsOf t mode object
+    found_fits (Ok found) object right e = let same : found.0 ≡ object = cc in subst (IsOf t mode) same right
     found_fits (Err errno) object right e = cc
 
-  whole_fits : (from : ℕ) (ending : Ending) (text : List ℕ) (mode : Last) (object : Found) → resolution t from ending text mode ≡ Ok object → FoundFits t object
+    landed : (links : ℕ) (r : Resolved) → IsFitting r → Shrinks links r → Lands t mode links r
+    landed links (Ok found) right fewer = (right, fewer)
+    landed links (Err errno) right fewer = tt
+
+    -- what parts name is of the tree
+    lands : (links : ℕ) (ps : List Part) (dir : ℕ) → is_dir t dir ≡ true → Lands t mode links (resolve_parts links t mode dir Top ps)
+    lands links ps dir living = landed links (resolve_parts links t mode dir Top ps) (resolve_fits links ps dir living) (shrinks t mode links dir Top ps)
+
+  reached_is_dir : (r : Resolved) (next : ℕ × ℕ) → IsFitting Followed r → (r >>= reached) ≡ Ok next → is_dir t next.0 ≡ true
+  reached_is_dir (Ok (Whole dir way, links)) next right e = let same : dir ≡ next.0 = cc in ap (is_dir t) (sym same) ∙ right.fits
+  reached_is_dir (Ok (Slot dir name _, links)) next right e = cc
+  reached_is_dir (Err errno) next right e = cc
+
+  whole_fits : (from : ℕ) (ending : Ending) (text : List ℕ) (mode : Last) (object : Found) → resolution t from ending text mode ≡ Ok object → IsOf t mode object
   whole_fits from ending text mode object = by (is_absolute text) (is_dir t from) refl
     where
-      go : (start : ℕ) → is_dir t start ≡ true → (resolve_parts link_limit t mode start Top (parts_of ending text) >>= λ found. Ok found.0) ≡ Ok object → FoundFits t object
-      go start living e = found_fits mode (resolve_parts link_limit t mode start Top (parts_of ending text)) object (resolve_fits mode link_limit (parts_of ending text) start Top living) e
+      go : (start : ℕ) → is_dir t start ≡ true → (resolve_parts link_limit t mode start Top (parts_of ending text) >>= λ found. Ok found.0) ≡ Ok object → IsOf t mode object
+      go start living e = found_fits mode (resolve_parts link_limit t mode start Top (parts_of ending text)) object (resolve_fits mode link_limit (parts_of ending text) start living) e
 
       by : (absolute living : Bool) → is_dir t from ≡ living →
-          (if not absolute && not living then Err ENOENT else (resolve_parts link_limit t mode (if absolute then 0 else from) Top (parts_of ending text) >>= λ found. Ok found.0)) ≡ Ok object → FoundFits t object
+          (if not absolute && not living then Err ENOENT else (resolve_parts link_limit t mode (if absolute then 0 else from) Top (parts_of ending text) >>= λ found. Ok found.0)) ≡ Ok object → IsOf t mode object
       by true true is e = go 0 fits.root e
       by true false is e = go 0 fits.root e
       by false true is e = go from is e
       by false false is e = cc
 
--- what a path names is of the tree
-pub founds_fit : (t : Tree) → WellFormed t → (from : ℕ) (ending : Ending) (text : List ℕ) (mode : Last) (found : Result Found Errno) → found ≡ resolution t from ending text mode → FoundsFit t found
-founds_fit t fits from ending text mode (Ok object) e = whole_fits t fits from ending text mode object (sym e)
-founds_fit t fits from ending text mode (Err errno) e = tt
+-- a step uses no more links than may be followed
+reached_used : (r : Resolved) (next : ℕ × ℕ) → (r >>= reached) ≡ Ok next → next.1 ≤ link_limit
+reached_used (Ok (Whole dir way, links)) next e = let same : (dir, link_limit - links) ≡ next = cc in omega (arith, ap (λ (n : ℕ × ℕ). n.1) same)
+reached_used (Ok (Slot dir name _, links)) next e = cc
+reached_used (Err errno) next e = cc
 
--- what parts name is of the tree
-pub parts_fit : (t : Tree) → WellFormed t → (links : ℕ) (mode : Last) (dir : ℕ) (ps : List Part) (r : Resolved) → is_dir t dir ≡ true → r ≡ resolve_parts links t mode dir Top ps → IfOk r (λ found. FoundFits t found.0)
-parts_fit t fits links mode dir ps (Ok found) living e = subst (IsFitting t fits mode) (sym e) (resolve_fits t fits mode links ps dir Top living)
-parts_fit t fits links mode dir ps (Err errno) living e = tt
+pub resolutions_fit : ResolutionsFit
+resolutions_fit t fits = record {
+  parts = λ links dir mode ps living. lands t fits mode links ps dir living;
+  whole = whole_fits t fits;
+  last = λ dir used part mode object living e. found_fits t fits mode (resolve_parts (link_limit - used) t mode dir Top (part ∷ [])) object (resolve_fits t fits mode (link_limit - used) (part ∷ []) dir living) e;
+  step = λ dir used part next living e. reached_is_dir t fits (resolve_parts (link_limit - used) t Followed dir Top (part ∷ parts.Dot ∷ [])) next (resolve_fits t fits Followed (link_limit - used) (part ∷ parts.Dot ∷ []) dir living) e;
+  used = λ dir used part next e. reached_used (resolve_parts (link_limit - used) t Followed dir Top (part ∷ parts.Dot ∷ [])) next e;
+}
+
+-- what parts name is of the tree, and stands at the name by which it was found
+pub parts_fit : (t : Tree) (links : ℕ) (mode : Last) (r : Resolved) → Lands t mode links r → IfOk r (λ found. FoundFits t found.0)
+parts_fit t links mode (Ok found) is = is.0.fits
+parts_fit t links mode (Err errno) is = tt
+
+pub parts_named : (t : Tree) (links : ℕ) (mode : Last) (r : Resolved) → Lands t mode links r → IfOk r (λ found. StandsAsNamed t found.0)
+parts_named t links mode (Ok found) is = is.0.named
+parts_named t links mode (Err errno) is = tt
+
+-- the same of what a path names
+pub founds_fit : (t : Tree) → WellFormed t → (from : ℕ) (ending : Ending) (text : List ℕ) (mode : Last) (found : Result Found Errno) → found ≡ resolution t from ending text mode → FoundsFit t found
+founds_fit t fits from ending text mode (Ok object) e = (whole_fits t fits from ending text mode object (sym e)).fits
+founds_fit t fits from ending text mode (Err errno) e = tt

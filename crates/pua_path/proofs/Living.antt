@@ -1,9 +1,13 @@
 -- What is true of the nodes of every tree.
 use Rattle.std.proofs.Common.{◌≡◌, ℕ, zero, suc, Bool, true, false, ◌&&◌, List, [], ◌∷◌, Option, Some, None, length, refl, sym, ap, ◌∙◌, arith, ◌≤◌, max, cond, fold, find, option_map, option_and_then, option_copied, ◌++◌, ◌+◌, ◌-◌, ◌<◌, length-append, sub-one}
 use Rattle.std.specs.Prelude.{◌==◌, if◌then◌else◌, nat_lt, nat_le, not, unwrap_or}
+use Rattle.std.proofs.lemmas.Bool.{and_parts}
 use Rattle.std.specs.List.{list_all}
-use Rattle.std.specs.Ordering.{nat_cmp, eq_by_cmp}
-use Rattle.std.specs.FinMap.{find as find_key}
+use Rattle.std.specs.Ordering.{nat_cmp, eq_by_cmp, is_eq}
+use Rattle.std.specs.Cmp.{Equal-is}
+use Rattle.std.specs.FinMap.{find as find_key, nat_cmp-IsAntisymmetric}
+use Rattle.std.specs.declared.cmp.Ordering.{Ordering}
+use Rattle.std.specs.declared.cmp.Ordering.TheVariants.{Equal}
 use Rattle.std.specs.Borrow.{Bor}
 use Rattle.pua_tree.specs.Names.{has_byte, has_short_components, is_target}
 use Rattle.pua_tree.specs.Tree.{Tree, Node, Spot, WellFormed, node_at, target_at, is_dir, above, parent, row_fits, node_fits, target_fits, rows_fit_kind}
@@ -15,16 +19,28 @@ use Rattle.pua_path.specs.Remaining.{Remaining, is_readable}
 use Rattle.pua_path.specs.Resolution.{start_of}
 use Rattle.pua_path.specs.Walks.{potential}
 use Rattle.pua_path.specs.declared.text.Ending.TheVariants as ending
-use Rattle.pua_path.proofs.Pieces.{both}
 
 -- what is found passes a test that all pass
-find_passes : {A : Type 0} (p test : A → Bool) (xs : List A) (x : A) → list_all p xs ≡ true → find test xs ≡ Some x → p x ≡ true
+pub find_passes : {A : Type 0} (p test : A → Bool) (xs : List A) (x : A) → list_all p xs ≡ true → find test xs ≡ Some x → p x ≡ true
 find_passes p test [] x h e = cc
-find_passes p test (y ∷ ys) x h e = by (find_passes p test ys x (both (p y) (list_all p ys) h).1) (test y) e
+find_passes p test (y ∷ ys) x h e = by (find_passes p test ys x (and_parts (p y) (list_all p ys) h).1) (test y) e
   where
     by : (find test ys ≡ Some x → p x ≡ true) → (v : Bool) → cond v (Some y) (find test ys) ≡ Some x → p x ≡ true
-    by more true e = let same : y ≡ x = cc in ap p (sym same) ∙ (both (p y) (list_all p ys) h).0
+    by more true e = let same : y ≡ x = cc in ap p (sym same) ∙ (and_parts (p y) (list_all p ys) h).0
     by more false e = more e
+
+-- what is true of each entry is true of the one found by its key
+pub list_all-find_key : {K X : Type 0} (R : K → K → Ordering) → ((a b : K) → R a b ≡ Equal → a ≡ b) →
+    (q : (K × X) → Bool) (k : K) (es : List (K × X)) (x : X) → list_all q es ≡ true → find_key R k es ≡ Some x → q (k, x) ≡ true
+list_all-find_key R exact q k [] x all e = cc
+list_all-find_key R exact q k (y ∷ ys) x all e =
+    elim (is_eq (R k y.0)) as (λ b. is_eq (R k y.0) ≡ b → cond b (Some y.1) (find_key R k ys) ≡ Some x → q (k, x) ≡ true) [
+      | true ↦ λ same is.
+          let key : k ≡ y.0 = exact k y.0 ((Equal-is (R k y.0)).0 same) in
+          let value : y.1 ≡ x = cc in
+          (λ i. q (key i, sym value i)) ∙ (and_parts (q y) (list_all q ys) all).0
+      | false ↦ λ other is. list_all-find_key R exact q k ys x (and_parts (q y) (list_all q ys) all).1 is
+    ] refl e
 
 -- the directory above a directory lives
 pub above_lives : (t : Tree) (d : ℕ) → WellFormed t → is_dir t (above t d) ≡ true
@@ -33,16 +49,7 @@ above_lives t (suc d) w = by (find (λ row. row.1 == suc d) t.rows) refl
   where
     by : (r : Option (Spot × ℕ)) → find (λ row. row.1 == suc d) t.rows ≡ r → is_dir t (unwrap_or (option_map (λ spot. spot.0) (option_map (λ row. row.0) r)) 0) ≡ true
     by None e = w.root
-    by (Some row) e = (both (is_dir t row.0.0) _ (find_passes (row_fits t) (λ row. row.1 == suc d) t.rows row w.rows_fit e)).0
-
--- a living node is as its kind wants
-found_fits : (p : ℕ × Node → Bool) (x : ℕ) (node : Node) (es : List (ℕ × Node)) → list_all p es ≡ true → find_key nat_cmp x es ≡ Some node → (y : ℕ) × (p (y, node) ≡ true)
-found_fits p x node [] h e = cc
-found_fits p x node (entry ∷ es) h e = by (found_fits p x node es (both (p entry) (list_all p es) h).1) (eq_by_cmp nat_cmp x entry.0) e
-  where
-    by : (find_key nat_cmp x es ≡ Some node → (y : ℕ) × (p (y, node) ≡ true)) → (v : Bool) → cond v (Some entry.1) (find_key nat_cmp x es) ≡ Some node → (y : ℕ) × (p (y, node) ≡ true)
-    by more true e = let same : entry.1 ≡ node = cc in (entry.0, ap (λ n. p (entry.0, n)) (sym same) ∙ (both (p entry) (list_all p es) h).0)
-    by more false e = more e
+    by (Some row) e = (and_parts (is_dir t row.0.0) _ (find_passes (row_fits t) (λ row. row.1 == suc d) t.rows row w.rows_fit e)).0
 
 max_kept : (a : ℕ) (es : List (ℕ × Node)) → a ≤ fold (λ most entry. max most (target_parts entry.1.target)) a es
 max_kept a [] = omega arith
@@ -67,8 +74,8 @@ fits_target Link target h = h
 
 target_readable : (target : List ℕ) → is_target target ≡ true → is_readable target ≡ true
 target_readable target h =
-    let a = both (nat_lt 0 (length target)) (nat_le (length target) 1023 && (not (has_byte 0 target) && has_short_components target)) h in
-    (both (nat_le (length target) 1023) (not (has_byte 0 target) && has_short_components target) a.1).1
+    let a = and_parts (nat_lt 0 (length target)) (nat_le (length target) 1023 && (not (has_byte 0 target) && has_short_components target)) h in
+    (and_parts (nat_le (length target) 1023) (not (has_byte 0 target) && has_short_components target) a.1).1
 
 -- the parts of a target can be read, and are few
 pub target_stands : (t : Tree) (x : ℕ) (target : Option (List ℕ)) → WellFormed t → target ≡ target_at t x → (is_readable (unwrap_or target []) ≡ true) × (length (parts_of ending.Dot (unwrap_or target [])) ≤ most_parts t)
@@ -78,8 +85,8 @@ target_stands t x (Some target) w e = by (node_at t x) refl e
     by : (n : Option Node) → node_at t x ≡ n → Some target ≡ option_and_then (λ node. node.target) n → (is_readable target ≡ true) × (length (parts_of ending.Dot target) ≤ most_parts t)
     by None f e = cc
     by (Some node) f e =
-        let fits = found_fits (node_fits t) x node t.nodes w.nodes_fit f in
-        let kind_fits = (both (target_fits node.kind node.target) (rows_fit_kind t fits.0 node.kind) (both (nat_lt fits.0 t.next) (target_fits node.kind node.target && rows_fit_kind t fits.0 node.kind) fits.1).1).0 in
+        let fits = list_all-find_key nat_cmp nat_cmp-IsAntisymmetric (node_fits t) x t.nodes node w.nodes_fit f in
+        let kind_fits = (and_parts (target_fits node.kind node.target) (rows_fit_kind t x node.kind) (and_parts (nat_lt x t.next) (target_fits node.kind node.target && rows_fit_kind t x node.kind) fits).1).0 in
         let is : target_fits node.kind (Some target) ≡ true = ap (target_fits node.kind) e ∙ kind_fits in
         let counted : target_parts (Some target) ≤ most_parts t = rw (← e) at (most_counts x node 1 t.nodes f) in
         (target_readable target (fits_target node.kind target is), counted)

@@ -9,9 +9,12 @@ use Rattle.std.proofs.lemmas.List.{take-append-drop}
 use Rattle.std.specs.List.{position_or_len}
 use Rattle.std.proofs.lemmas.List.Sums.{fails_before_first}
 use Rattle.std.proofs.lemmas.List.Quantifiers.{position-Some}
+use Rattle.std.proofs.lemmas.Bool.{and_parts, or_parts}
 use Rattle.std.proofs.lemmas.Bool.Decides.{nat_tests}
+use Rattle.std.proofs.Math.Bool.{or-false}
 use Rattle.pua_tree.specs.Names.{is_name, is_name_byte, same_bytes, has_byte, components, has_short_components}
 use Rattle.pua_path.specs.Paths.{part_of, ends_in_slash, ending_parts, parts_of, path_fault}
+use Rattle.pua_path.specs.Limits.{path_limit}
 use Rattle.pua_path.specs.Pieces.{begins_slash, IsCutAtSlash}
 use Rattle.pua_path.specs.Remaining.{slash_part, rest_parts, is_readable, is_piece, is_done, after_slashes}
 use Rattle.pua_path.specs.declared.errno.Errno.TheVariants.{ENAMETOOLONG, EINVAL}
@@ -174,14 +177,6 @@ all_four false false false s h = cc
 all_four false false true false h = cc
 all_four false false true true h = (refl, refl, refl, refl)
 
-neither : (a c : Bool) → (a || c) ≡ false → (a ≡ false) × (c ≡ false)
-neither true c h = cc
-neither false c h = (refl, h)
-
-pub both : (x y : Bool) → (x && y) ≡ true → (x ≡ true) × (y ≡ true)
-both true y h = (refl, h)
-both false y h = cc
-
 above_zero : (n : ℕ) → (n == 0) ≡ false → 0 < n
 above_zero zero h = cc
 above_zero (suc n) h = omega arith
@@ -195,7 +190,7 @@ all_small (b ∷ bs) f = let low : small b ≡ true = lt-ltb b 256 (omega (arith
 
 small-after_slashes : (xs : List ℕ) → list_all small xs ≡ true → list_all small (after_slashes xs) ≡ true
 small-after_slashes [] h = refl
-small-after_slashes (b ∷ bs) h = by (small-after_slashes bs (both (small b) (list_all small bs) h).1) (b == 47)
+small-after_slashes (b ∷ bs) h = by (small-after_slashes bs (and_parts (small b) (list_all small bs) h).1) (b == 47)
   where
     by : list_all small (after_slashes bs) ≡ true → (v : Bool) → list_all small (if v then after_slashes bs else (b ∷ bs)) ≡ true
     by more true = more
@@ -204,9 +199,9 @@ small-after_slashes (b ∷ bs) h = by (small-after_slashes bs (both (small b) (l
 name_bytes : (bs : List ℕ) → has_byte 0 bs ≡ false → has_byte 47 bs ≡ false → list_all small bs ≡ true → list_all is_name_byte bs ≡ true
 name_bytes [] z s f = refl
 name_bytes (b ∷ bs) z s f =
-    let zs = neither (b == 0) (has_byte 0 bs) z in
-    let ss = neither (b == 47) (has_byte 47 bs) s in
-    let fs = both (small b) (list_all small bs) f in
+    let zs = or_parts (b == 0) (has_byte 0 bs) z in
+    let ss = or_parts (b == 47) (has_byte 47 bs) s in
+    let fs = and_parts (small b) (list_all small bs) f in
     let low : nat_lt 0 b ≡ true = lt-ltb 0 b (above_zero b zs.0) in
     rw (low, fs.0, ss.0, name_bytes bs zs.1 ss.1 fs.1) refl
 
@@ -221,7 +216,7 @@ readable-cut text (y ∷ ys) piece rest f r e n h =
     ∙ ap (λ pieces. not (has_byte 0 piece || has_byte 0 rest) && list_all (λ piece. nat_le (length piece) 255) pieces) (components-cut piece rest full h.no_slash h.at_slash)) ∙ whole in
     let four = all_four (has_byte 0 piece) (has_byte 0 rest) (nat_le (length piece) 255) (has_short_components rest) apart in
     let smalls : list_all small (piece ++ rest) ≡ true = sym (ap (list_all small) (e ∙ h.whole)) ∙ small-after_slashes text f in
-    let piece_small = both (list_all small piece) (list_all small rest) (sym (list_all-append small piece rest) ∙ smalls) in
+    let piece_small = and_parts (list_all small piece) (list_all small rest) (sym (list_all-append small piece rest) ∙ smalls) in
     let names : list_all is_name_byte piece ≡ true = name_bytes piece four.0 h.no_slash piece_small.0 in
     (rw (full, four.2, names) refl, rw (four.1, four.3) refl)
 
@@ -259,11 +254,7 @@ ends_in_slash-last (x ∷ []) b = refl
 ends_in_slash-last (x ∷ y ∷ xs) b = ends_in_slash-last (y ∷ xs) b
 
 pub has_nul-last : (xs : List ℕ) → has_byte 0 (xs ++ 47 ∷ []) ≡ has_byte 0 xs
-has_nul-last xs = list_any-append (λ b. b == 0) xs (47 ∷ []) ∙ or_false (has_byte 0 xs)
-  where
-    or_false : (v : Bool) → (v || false) ≡ v
-    or_false true = refl
-    or_false false = refl
+has_nul-last xs = list_any-append (λ b. b == 0) xs (47 ∷ []) ∙ or-false (has_byte 0 xs)
 
 -- no slash before the first one
 no_slash_before : (xs : List ℕ) (i : ℕ) → ((k : ℕ) → k < i → slash (get_or xs k 0) ≡ false) → list_any slash (take i xs) ≡ false
@@ -346,7 +337,7 @@ fault_free false true false h = refl
 
 pub path_readable : (text : List ℕ) → path_fault text ≡ None → is_readable text ≡ true
 path_readable [] h = cc
-path_readable (b ∷ more) h = fault_free (nat_lt 1023 (length (b ∷ more))) (has_short_components (b ∷ more)) (has_byte 0 (b ∷ more)) h
+path_readable (b ∷ more) h = fault_free (nat_lt path_limit (length (b ∷ more))) (has_short_components (b ∷ more)) (has_byte 0 (b ∷ more)) h
 
 pub begin_readable : (path text : List ℕ) → path_fault path ≡ None → text ≡ after_slashes path → is_readable text ≡ true
 begin_readable path text h e = ap is_readable e ∙ is_readable-after_slashes path ∙ path_readable path h
@@ -361,8 +352,8 @@ trimmed_readable path trimmed text h same nul e =
 -- a piece that is neither one dot nor two is a name
 pub piece_is_name : (piece : List ℕ) (name : Option (List ℕ)) → name ≡ (if is_name piece then Some piece else None) → is_piece piece ≡ true → same_bytes piece (46 ∷ []) ≡ false → same_bytes piece (46 ∷ 46 ∷ []) ≡ false → IsSome name
 piece_is_name piece name e h one two =
-    let a = both (nat_lt 0 (length piece)) (nat_le (length piece) 255 && list_all is_name_byte piece) h in
-    let b = both (nat_le (length piece) 255) (list_all is_name_byte piece) a.1 in
+    let a = and_parts (nat_lt 0 (length piece)) (nat_le (length piece) 255 && list_all is_name_byte piece) h in
+    let b = and_parts (nat_le (length piece) 255) (list_all is_name_byte piece) a.1 in
     let named : is_name piece ≡ true = rw (a.0, b.0, b.1, one, two) refl in
     let is : name ≡ Some piece = e ∙ ap (λ v. if v then Some piece else None) named in
     rw is refl

@@ -8,7 +8,8 @@ use Rattle.std.proofs.lemmas.List.{take_more_set}
 use Rattle.std.proofs.lemmas.List.Folds.{list_all-append}
 use Rattle.pua_path.specs.Paths.{parts_of}
 use Rattle.pua_path.specs.Remaining.{rest_parts, pending, is_readable, can_wait, is_stack, is_done, after_slashes}
-use Rattle.pua_path.proofs.Pieces.{both, rest_parts-some, parts_of-begin}
+use Rattle.std.proofs.lemmas.Bool.{and_parts}
+use Rattle.pua_path.proofs.Pieces.{rest_parts-some, parts_of-begin}
 use Rattle.pua_path.specs.declared.text.Ending.TheVariants as ending
 use Rattle.pua_path.specs.declared.found.Part.{Part}
 
@@ -36,8 +37,8 @@ pub record IsStack (top : List ℕ) (waiting : List (Bor (List ℕ))) : Type 0 w
 
 pub stack_facts : (top : List ℕ) (waiting : List (Bor (List ℕ))) → is_stack top waiting ≡ true → IsStack top waiting
 stack_facts top waiting h =
-    let two = both (is_readable top) (list_all can_wait waiting && (nat_lt 0 (length top) || (length waiting == 0))) h in
-    let more = both (list_all can_wait waiting) (nat_lt 0 (length top) || (length waiting == 0)) two.1 in
+    let two = and_parts (is_readable top) (list_all can_wait waiting && (nat_lt 0 (length top) || (length waiting == 0))) h in
+    let more = and_parts (list_all can_wait waiting) (nat_lt 0 (length top) || (length waiting == 0)) two.1 in
     record { readable = two.0; waits = more.0; reached = more.1 }
 
 pub stack_of : (top : List ℕ) (waiting : List (Bor (List ℕ))) → is_readable top ≡ true → list_all can_wait waiting ≡ true → (nat_lt 0 (length top) || (length waiting == 0)) ≡ true → is_stack top waiting ≡ true
@@ -67,10 +68,6 @@ pub taken_off_last : (top rest : List ℕ) (part : Part) (depth : ℕ) (below : 
     rest_parts top ++ pending (take depth below) ≡ part ∷ (rest_parts (get_or below (depth - 1) text).now ++ pending (take (depth - 1) below))
 taken_off_last top (x ∷ xs) part depth below text e n p l = absurd (omega (arith, eqb-true (length (x ∷ xs)) 0 n))
 taken_off_last top [] part depth below text e n p l = taken_off top [] part (take depth below) e ∙ ap (λ parts. part ∷ parts) (pending_popped depth below text p l)
-
--- one text lower
-
--- what is left of the text on top
 
 -- one text more, and the one that was on top waits
 pub stack_pushed : (top : Bor (List ℕ)) (text : List ℕ) (depth : ℕ) (below : List (Bor (List ℕ))) → is_stack top.now (take depth below) ≡ true → nat_lt 0 (length top.now) ≡ true → depth < length below → is_readable text ≡ true → nat_lt 0 (length text) ≡ true → is_stack text (take (depth + 1) (set below depth top)) ≡ true

@@ -1,5 +1,5 @@
 -- What one part does to a resolution.
-use Rattle.std.proofs.Common.{◌≡◌, ℕ, zero, suc, true, false, List, [], ◌∷◌, ◌++◌, Some, None, refl, sym, ap, ◌∙◌, arith, ◌-◌, ◌<◌, sub-one, Ok, Err}
+use Rattle.std.proofs.Common.{◌≡◌, ℕ, zero, suc, true, false, List, [], ◌∷◌, ◌++◌, Option, Some, None, refl, sym, ap, ◌∙◌, arith, ◌-◌, ◌<◌, sub-one, Result, Ok, Err}
 use Rattle.std.specs.Prelude.{if◌then◌else◌}
 use Rattle.pua_tree.specs.Tree.{Tree, above}
 use Rattle.pua_path.specs.Paths.{parts_of}
@@ -44,6 +44,12 @@ walk_name t mode links follow dir way name rest = elim (standing_at t dir name) 
       | Nothing ↦ refl
     ]
 
+-- what is no directory, as the answer of one part
+ends : (ps : List Part) (found : Found) (errno : Errno) (links : ℕ) (further : Resolved) →
+    goes_on (if is_done ps then Ok (Some found) else Err errno) links further ≡ slot_or ps found errno links
+ends [] found errno links further = refl
+ends (p ∷ ps) found errno links further = refl
+
 module _ (t : Tree) (mode : Last) where
   pub resolve_walks : (links dir : ℕ) (way : Way) (ps : List Part) → resolve_parts links t mode dir way ps ≡ walk t mode links (followed links t mode) dir way ps
   resolve_walks zero dir way ps = refl
@@ -81,6 +87,16 @@ module _ (t : Tree) (mode : Last) where
   resolve_linked links dir way name rest x target e k =
       resolve_name links dir way name rest (Linked x target) e ∙ ap (λ v. if v then followed links t mode dir target rest else Ok (Slot dir name (Some x), links)) k
 
+  pub resolve_plain : (links dir : ℕ) (way : Way) (name : List ℕ) (rest : List Part) (x : ℕ) (r : Result (Option Found) Errno) (further : Resolved) → Plain x ≡ standing_at t dir name →
+      r ≡ (if is_done rest then Ok (Some (Slot dir name (Some x))) else Err ENOTDIR) → resolve_parts links t mode dir way (parts.Name name ∷ rest) ≡ goes_on r links further
+  resolve_plain links dir way name rest x r further e k =
+      resolve_name links dir way name rest (Plain x) e ∙ sym (ap (λ a. goes_on a links further) k ∙ ends rest (Slot dir name (Some x)) ENOTDIR links further)
+
+  pub resolve_nothing : (links dir : ℕ) (way : Way) (name : List ℕ) (rest : List Part) (r : Result (Option Found) Errno) (further : Resolved) → Nothing ≡ standing_at t dir name →
+      r ≡ (if is_done rest then Ok (Some (Slot dir name None)) else Err ENOENT) → resolve_parts links t mode dir way (parts.Name name ∷ rest) ≡ goes_on r links further
+  resolve_nothing links dir way name rest r further e k =
+      resolve_name links dir way name rest Nothing e ∙ sym (ap (λ a. goes_on a links further) k ∙ ends rest (Slot dir name None) ENOENT links further)
+
   pub followed_no_more : (links from : ℕ) (target : List ℕ) (rest : List Part) → links ≡ 0 → followed links t mode from target rest ≡ Err ELOOP
   followed_no_more links from target rest e = ap (λ n. followed n t mode from target rest) e
 
@@ -88,9 +104,3 @@ module _ (t : Tree) (mode : Last) where
       followed links t mode from target rest ≡ resolve_parts (links - 1) t mode (start_of target from) ways.Top (parts_of ending.Dot target ++ rest)
   followed_further zero from target rest l = absurd (omega (arith, l))
   followed_further (suc links) from target rest l = rw sub-one refl
-
--- what is no directory, as the answer of one part
-pub ends : (ps : List Part) (found : Found) (errno : Errno) (links : ℕ) (further : Resolved) →
-    goes_on (if is_done ps then Ok (Some found) else Err errno) links further ≡ slot_or ps found errno links
-ends [] found errno links further = refl
-ends (p ∷ ps) found errno links further = refl

@@ -21,7 +21,7 @@ use Rattle.pua_path.proofs.Steps.{met, walk_name}
 use Rattle.pua_path.proofs.Composition.{composes}
 
 -- the links left are no more than before
-abbrev Shrinks : ℕ → Resolved → Type 0
+abbrev pub Shrinks : ℕ → Resolved → Type 0
 Shrinks links (Ok found) = found.1 ≤ links
 Shrinks links (Err errno) = Unit {0}
 

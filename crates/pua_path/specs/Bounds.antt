@@ -1,6 +1,7 @@
 -- How many probes a part of a path may cost.
 use Rattle.std.specs.Prelude.{ℕ, ◌+◌, ◌*◌, max, fold, length, List, Option, Some, None}
 use Rattle.pua_tree.specs.Tree.{Tree}
+use Rattle.pua_path.specs.Limits.{link_limit}
 use Rattle.pua_path.specs.Paths.{parts_of}
 use Rattle.pua_path.specs.declared.text.Ending.TheVariants.{Dot}
 
@@ -13,6 +14,6 @@ target_parts (Some target) = length (parts_of Dot target)
 abbrev pub most_parts : Tree → ℕ
 most_parts t = fold (λ most entry. max most (target_parts entry.1.target)) 1 t.nodes
 
--- at most 3 probes a part, and a part with the 32 links that it may follow
+-- at most 3 probes a part, and a part with the links that it may follow
 abbrev pub part_cost : Tree → ℕ
-part_cost t = 3 * (1 + 32 * most_parts t)
+part_cost t = 3 * (1 + link_limit * most_parts t)

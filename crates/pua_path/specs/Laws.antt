@@ -1,10 +1,12 @@
 -- What is true of resolution.
-use Rattle.std.specs.Prelude.{◌≡◌, ℕ, ◌+◌, ◌-◌, ◌<◌, ◌≤◌, ◌⊎◌, List, [], ◌∷◌, ◌++◌, Result, Ok, Err}
-use Rattle.pua_tree.specs.Tree.{Tree}
+use Rattle.std.specs.Prelude.{◌≡◌, ℕ, ◌+◌, ◌-◌, ◌<◌, ◌≤◌, ◌⊎◌, List, [], ◌∷◌, ◌++◌, Result, Ok, Err, IsTrue}
+use Rattle.pua_tree.specs.Tree.{Tree, WellFormed, is_dir}
 use Rattle.pua_tree.specs.Steps.{◌>>=◌}
-use Rattle.pua_path.specs.Resolution.{Resolved, resolve_parts, link_limit, step, last}
+use Rattle.pua_path.specs.Resolution.{Resolved, resolve_parts, resolution, link_limit, step, last}
+use Rattle.pua_path.specs.Fits.{IsOf}
 use Rattle.pua_path.specs.declared.errno.Errno.{Errno}
 use Rattle.pua_path.specs.declared.errno.Errno.TheVariants.{ENOTDIR, ELOOP}
+use Rattle.pua_path.specs.declared.text.Ending.{Ending}
 use Rattle.pua_path.specs.declared.found.Part.{Part}
 use Rattle.pua_path.specs.declared.found.Part.TheVariants as parts
 use Rattle.pua_path.specs.declared.found.Last.{Last}
@@ -69,3 +71,19 @@ pub record LastFollows (t : Tree) (dir : ℕ) (part : Part) (mode : Last) (count
 abbrev pub LastsFollow : Type 0
 LastsFollow = (t : Tree) (dir : ℕ) (part : Part) (mode : Last) →
     ((used : ℕ) → used ≤ link_limit → last t dir used part mode ≡ Err ELOOP) ⊎ ((count : ℕ) × ((outcome : Result Found Errno) × LastFollows t dir part mode count outcome))
+
+-- what parts name is of the tree, and no more links are left than there were
+abbrev pub Lands : Tree → Last → ℕ → Resolved → Type 0
+Lands t mode links (Ok found) = IsOf t mode found.0 × (found.1 ≤ links)
+Lands t mode links (Err errno) = Unit {0}
+
+-- what a path names is of the tree, and so is what parts name from a living directory; a step leads to one, with no more links used than may be followed
+pub record ResolutionFits (t : Tree) : Type 0 where
+  pub parts : (links dir : ℕ) (mode : Last) (parts : List Part) → IsTrue (is_dir t dir) → Lands t mode links (resolve_parts links t mode dir Top parts)
+  pub whole : (from : ℕ) (ending : Ending) (text : List ℕ) (mode : Last) (object : Found) → resolution t from ending text mode ≡ Ok object → IsOf t mode object
+  pub last : (dir used : ℕ) (part : Part) (mode : Last) (object : Found) → IsTrue (is_dir t dir) → last t dir used part mode ≡ Ok object → IsOf t mode object
+  pub used : (dir used : ℕ) (part : Part) (next : ℕ × ℕ) → step t dir used part ≡ Ok next → next.1 ≤ link_limit
+  pub step : (dir used : ℕ) (part : Part) (next : ℕ × ℕ) → IsTrue (is_dir t dir) → step t dir used part ≡ Ok next → IsTrue (is_dir t next.0)
+
+abbrev pub ResolutionsFit : Type 0
+ResolutionsFit = (t : Tree) → WellFormed t → ResolutionFits t

@@ -1,3 +1,4 @@
+pub mod Limits
 pub mod Counts
 pub mod ErrnoNames
 pub mod Paths
@@ -6,6 +7,6 @@ pub mod Pieces
 pub mod Resolution
 pub mod Bounds
 pub mod Walks
-pub mod Laws
 pub mod Fits
+pub mod Laws
 pub mod Examples

@@ -3,6 +3,7 @@ use Rattle.std.specs.Prelude.{ℕ, Bool, true, false, not, ◌&&◌, ◌||◌, i
 use Rattle.std.specs.List.{list_all}
 use Rattle.std.specs.Borrow.{Bor}
 use Rattle.pua_tree.specs.Names.{is_name_byte, has_byte, components, has_short_components}
+use Rattle.pua_path.specs.Limits.{name_limit}
 use Rattle.pua_path.specs.Paths.{part_of, ends_in_slash}
 use Rattle.pua_path.specs.declared.found.Part.{Part}
 use Rattle.pua_path.specs.declared.found.Part.TheVariants.{Dot}
@@ -37,9 +38,9 @@ can_wait text = nat_lt 0 (length text.now) && is_readable text.now
 abbrev pub is_stack : List ℕ → List (Bor (List ℕ)) → Bool
 is_stack top waiting = is_readable top && (list_all can_wait waiting && (nat_lt 0 (length top) || (length waiting == 0)))
 
--- a piece between slashes that is a part: 1 to 255 bytes that may stand in a name
+-- a piece between slashes that is a part: bytes that may stand in a name, at least one and no more than a name has
 abbrev pub is_piece : List ℕ → Bool
-is_piece piece = nat_lt 0 (length piece) && (nat_le (length piece) 255 && list_all is_name_byte piece)
+is_piece piece = nat_lt 0 (length piece) && (nat_le (length piece) name_limit && list_all is_name_byte piece)
 
 -- no part is left
 abbrev pub is_done : List Part → Bool

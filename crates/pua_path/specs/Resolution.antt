@@ -2,6 +2,7 @@
 use Rattle.std.specs.Prelude.{ℕ, zero, suc, ◌-◌, Bool, true, false, not, ◌&&◌, if◌then◌else◌, List, [], ◌∷◌, ◌++◌, Option, Some, None, Result, Ok, Err, unwrap_or}
 use Rattle.pua_tree.specs.Tree.{Tree, Node, look, node_at, is_dir, above}
 use Rattle.pua_tree.specs.Steps.{◌>>=◌}
+pub use Rattle.pua_path.specs.Limits.{link_limit}
 use Rattle.pua_path.specs.Paths.{parts_of, is_absolute, path_fault}
 use Rattle.pua_tree.specs.declared.node.Kind.{Kind}
 use Rattle.pua_tree.specs.declared.node.Kind.TheVariants as kinds
@@ -77,10 +78,6 @@ abbrev pub resolve_parts : ℕ → Tree → Last → ℕ → Way → List Part �
 resolve_parts zero t mode dir way parts = walk t mode 0 (λ from target rest. Err ELOOP) dir way parts
 resolve_parts (suc links) t mode dir way parts =
     walk t mode (suc links) (λ from target rest. resolve_parts links t mode (start_of target from) Top (parts_of ending.Dot target ++ rest)) dir way parts
-
--- at most 32 links are followed in one resolution
-abbrev pub link_limit : ℕ
-link_limit = 32
 
 -- what a text without fault names from a directory, which a relative text needs to be there
 abbrev pub resolution : Tree → ℕ → Ending → List ℕ → Last → Result Found Errno

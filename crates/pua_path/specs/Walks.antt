@@ -1,6 +1,7 @@
 -- A resolution on its way: what stands at a name, and how one part leads on to the next.
 use Rattle.std.specs.Prelude.{ℕ, ◌+◌, ◌*◌, ◌≤◌, length, Option, Some, None, Result, Ok, Err, IsTrue}
 use Rattle.pua_tree.specs.Tree.{Tree, WellFormed, is_dir}
+use Rattle.pua_path.specs.Limits.{link_limit}
 use Rattle.pua_path.specs.Paths.{parts_of}
 use Rattle.pua_path.specs.Remaining.{Remaining, is_readable}
 use Rattle.pua_path.specs.Resolution.{Resolved, Standing, Directory, Linked, Plain, Nothing}
@@ -39,4 +40,4 @@ potential t left rest = length rest.parts + most_parts t * left
 pub record CanGoOn (t : Tree) (here left : ℕ) (rest : Remaining) : Type 0 where
   pub tree : WellFormed t
   pub dir : IsTrue (is_dir t here)
-  pub room : rest.depth + left ≤ 32
+  pub room : rest.depth + left ≤ link_limit

@@ -1,12 +1,22 @@
 //! Laws and worked examples of resolution, each the contract of a function that does nothing.
 
+ghost use Rattle.std.specs.Prelude.{◌≡◌};
+ghost use Rattle.pua_path.specs.Limits.{link_limit, path_limit};
 ghost use Rattle.pua_path.specs.Examples.{ResolutionRows, StepRows};
-ghost use Rattle.pua_path.specs.Laws.{LastsFollow, LinksDecide, ResolutionComposes, StepsCompose, StepsFollow};
+ghost use Rattle.pua_path.specs.Laws.{LastsFollow, LinksDecide, ResolutionComposes, ResolutionsFit, StepsCompose, StepsFollow};
+
+use crate::limits::{LINK_LIMIT, PATH_LIMIT};
 
 /// Examples of what texts and parts name.
 pub fn resolution_examples()
     ensures texts { ResolutionRows }
     ensures steps { StepRows }
+{}
+
+/// The limits are those of the definitions.
+pub fn limits_law()
+    ensures links { LINK_LIMIT ≡ link_limit }
+    ensures path { PATH_LIMIT ≡ path_limit }
 {}
 
 /// Resolution may be cut before any part.
@@ -24,4 +34,12 @@ pub fn links_law()
     ensures parts { LinksDecide }
     ensures steps { StepsFollow }
     ensures lasts { LastsFollow }
+{}
+
+/// What a path names is of the tree: its directory lives, and its row is as the tree has it; what
+/// was found by a name stands at that name; and it is no link where the last part is followed. The
+/// same is true of what a last part names in a living directory. A step leads to a living
+/// directory, and no more links are used than may be followed.
+pub fn fitting_law()
+    ensures { ResolutionsFit }
 {}

@@ -4,6 +4,7 @@
 mod errno;
 mod found;
 mod laws;
+mod limits;
 mod piece;
 mod probe;
 mod resolver;
@@ -12,7 +13,10 @@ mod text;
 
 pub use errno::Errno;
 pub use found::{Found, Last, Part, Way};
-pub use laws::{links_law, resolution_examples, resolution_law, steps_law};
+pub use laws::{
+    fitting_law, limits_law, links_law, resolution_examples, resolution_law, steps_law,
+};
+pub use limits::{LINK_LIMIT, PATH_LIMIT};
 pub use probe::{Counted, Probe};
 pub use resolver::{last, resolve, step};
 pub use text::{Ending, PathText};

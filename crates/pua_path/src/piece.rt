@@ -10,7 +10,7 @@ use crate::found::Part;
 use pua_tree::Name;
 
 /// The text from its first byte other than a slash on.
-pub fn after_slashes(text: &[u8]) -> &[u8]
+pub(crate) fn after_slashes(text: &[u8]) -> &[u8]
     ensures { result.now ≡ after_slashes text.now }
 {
     let mut rest = text;
@@ -21,7 +21,7 @@ pub fn after_slashes(text: &[u8]) -> &[u8]
 }
 
 /// The text without the slashes at its end.
-pub fn before_slashes(text: &[u8]) -> &[u8]
+pub(crate) fn before_slashes(text: &[u8]) -> &[u8]
     ensures components { components result.now ≡ components text.now }
     ensures end { ends_in_slash result.now ≡ false }
     ensures nul { has_byte 0 result.now ≡ has_byte 0 text.now }
@@ -44,7 +44,7 @@ fn first_slash(text: &[u8]) -> Option<usize>
 }
 
 /// The bytes before the first slash, and the text from that slash on.
-pub fn cut_at_slash(text: &[u8]) -> (&[u8], &[u8])
+fn cut_at_slash(text: &[u8]) -> (&[u8], &[u8])
     ensures { IsCutAtSlash text.now result.0.now result.1.now }
 {
     match first_slash(text) {
@@ -54,7 +54,7 @@ pub fn cut_at_slash(text: &[u8]) -> (&[u8], &[u8])
 }
 
 /// The part that a piece between slashes is.
-pub fn read_part(piece: &[u8]) -> Part
+fn read_part(piece: &[u8]) -> Part
     requires { IsTrue (is_piece piece.now) }
     ensures { result ≡ part_of piece.now }
 {
@@ -68,7 +68,7 @@ pub fn read_part(piece: &[u8]) -> Part
 }
 
 /// The first part of what is left of a text, and what is left behind it.
-pub fn next_part(text: &[u8]) -> (Part, &[u8])
+pub(crate) fn next_part(text: &[u8]) -> (Part, &[u8])
     requires some { 0 < length text.now }
     requires readable { IsTrue (is_readable text.now) }
     ensures parts { rest_parts text.now ≡ result.0 ∷ rest_parts result.1.now }

@@ -7,7 +7,7 @@ use std::marker::Model;
 /// A tree that is asked one thing at a time, and counts what it was asked. Targets live as long as
 /// the tree.
 pub trait Probe<'t> {
-    ghost use Rattle.std.specs.Prelude.{◌≡◌, ℕ, ◌+◌, ◌-◌, ◌^◌, min, IfOk, IfErr, option_copied};
+    ghost use Rattle.std.specs.Prelude.{◌≡◌, ℕ, IfOk, IfErr, option_copied};
     ghost use Rattle.pua_tree.specs.Tree.{Tree, WellFormed, kind_at, look, parent, target_at, is_empty, names};
     ghost use Rattle.pua_path.specs.Counts.{one_more};
 

@@ -1,12 +1,13 @@
 //! Resolution: what parts name in a tree.
 
-ghost use Rattle.std.specs.Prelude.{◌≡◌, ◌≤◌, ◌<◌, ◌+◌, ◌-◌, ◌*◌, ◌∷◌, ◌++◌, IsTrue, IfOk, IfErr, IfSome, OnOk, is_some, not, ◌&&◌, ◌==◌, Ok, Err, Some, None, [], zero, suc, if◌then◌else◌};
+ghost use Rattle.std.specs.Prelude.{◌≡◌, ◌≤◌, ◌<◌, ◌+◌, ◌-◌, ◌*◌, ◌∷◌, ◌++◌, IsTrue, IfOk, IfErr, IfSome, OnOk, is_some, not, ◌&&◌, ◌==◌, Ok, Err, Some, None, [], if◌then◌else◌};
 ghost use Rattle.pua_tree.specs.Tree.{is_dir};
 ghost use Rattle.pua_path.specs.Resolution.{resolution, resolve_parts, standing_at, is_followed, start_of, step, last};
+ghost use Rattle.pua_path.specs.Limits.{link_limit};
 ghost use Rattle.pua_path.specs.Paths.{is_absolute, parts_of};
 ghost use Rattle.pua_path.specs.Walks.{standing_seen, StandsIn, CanGoOn, goes_on, potential};
 ghost use Rattle.pua_path.specs.Bounds.{part_cost};
-ghost use Rattle.pua_path.specs.Fits.{FoundFits, FoundsFit};
+ghost use Rattle.pua_path.specs.Fits.{FoundFits, FoundsFit, StandsAsNamed};
 ghost use Rattle.pua_path.specs.Remaining.{Remaining, is_done, is_readable};
 ghost use Rattle.pua_path.specs.declared.errno.Errno.TheVariants.{ELOOP, ENOENT, ENOTDIR};
 ghost use Rattle.pua_path.specs.declared.found.Way.TheVariants as ways;
@@ -16,18 +17,17 @@ ghost use Rattle.pua_path.specs.declared.text.Ending.TheVariants as ending;
 
 use crate::errno::Errno;
 use crate::found::{Found, Last, Part, Way};
+use crate::limits::LINK_LIMIT;
 use crate::probe::Probe;
 use crate::rest::Rest;
 use crate::text::PathText;
 use pua_tree::{Kind, Name, NodeId};
 
-/// At most so many links are followed in one resolution.
-const LINK_LIMIT: u8 = 32;
-
 /// What a path names from a directory, by the rules of path resolution: 32 links are followed at
 /// most. A relative path needs `from` to be a living directory. Errors: `ENOENT` where `from` is
 /// none, or a part before the last one is missing; `ENOTDIR` where such a part is no directory;
-/// `ELOOP` where a 33rd link would be followed. Takes no memory.
+/// `ELOOP` where a 33rd link would be followed. What is found is of the tree as it stands: its
+/// directory lives, and what was found by a name stands at that name. Takes no memory.
 pub fn resolve<'t, P: Probe<'t>>(
     probe: &mut P,
     from: NodeId,
@@ -36,6 +36,7 @@ pub fn resolve<'t, P: Probe<'t>>(
 ) -> Result<Found, Errno>
     ensures exact { result ≡ resolution (P.tree probe.old) from text.now.ending text.now.bytes mode }
     ensures fits { FoundsFit (P.tree probe.old) result }
+    ensures named { IfOk result (StandsAsNamed (P.tree probe.old)) }
     ensures tree { P.tree probe.new ≡ P.tree probe.old }
 {
     probe.known();
@@ -48,9 +49,10 @@ pub fn resolve<'t, P: Probe<'t>>(
 }
 
 /// What one part that another follows leads to, `used` links having been followed before it: the
-/// directory, and the links followed by then. Needs `dir` to be a living directory. Errors:
-/// `ENOENT` where nothing has that name, `ENOTDIR` where it is no directory, `ELOOP` where a 33rd
-/// link would be followed. Takes no memory, and a bounded number of probes.
+/// directory, which lives, and the links followed by then, 32 at most; so both may be handed to the
+/// next `step`, and to `last`. Needs `dir` to be a living directory. Errors: `ENOENT` where nothing
+/// has that name, `ENOTDIR` where it is no directory, `ELOOP` where a 33rd link would be followed.
+/// Takes no memory, and a bounded number of probes.
 pub fn step<'t, P: Probe<'t>>(
     probe: &mut P,
     dir: NodeId,
@@ -58,9 +60,10 @@ pub fn step<'t, P: Probe<'t>>(
     part: &Part,
 ) -> Result<(NodeId, u8), Errno>
     requires dir { IsTrue (is_dir (P.tree probe.old) dir) }
-    requires used { used ≤ 32 }
+    requires used { used ≤ link_limit }
     ensures exact { result ≡ step (P.tree probe.old) dir used part.now }
     ensures lives { IfOk result (λ next. IsTrue (is_dir (P.tree probe.old) next.0)) }
+    ensures used { IfOk result (λ next. next.1 ≤ link_limit) }
     ensures tree { P.tree probe.new ≡ P.tree probe.old }
     ensures cost { P.count probe.new ≤ P.count probe.old + part_cost (P.tree probe.old) }
 {
@@ -84,7 +87,8 @@ fn not_entered(node: Option<NodeId>) -> Errno
 
 /// What the last part names, `used` links having been followed before it. Needs `dir` to be a
 /// living directory. Errors are those of `step`, for the parts of a link's target; a last part that
-/// names nothing, or no directory, is found. Takes no memory.
+/// names nothing, or no directory, is found. What is found is of the tree as it stands, as with
+/// `resolve`. Takes no memory.
 pub fn last<'t, P: Probe<'t>>(
     probe: &mut P,
     dir: NodeId,
@@ -93,9 +97,10 @@ pub fn last<'t, P: Probe<'t>>(
     mode: Last,
 ) -> Result<Found, Errno>
     requires dir { IsTrue (is_dir (P.tree probe.old) dir) }
-    requires used { used ≤ 32 }
+    requires used { used ≤ link_limit }
     ensures exact { result ≡ last (P.tree probe.old) dir used part.now mode }
     ensures fits { FoundsFit (P.tree probe.old) result }
+    ensures named { IfOk result (StandsAsNamed (P.tree probe.old)) }
     ensures tree { P.tree probe.new ≡ P.tree probe.old }
     ensures cost { P.count probe.new ≤ P.count probe.old + part_cost (P.tree probe.old) }
 {
@@ -111,9 +116,10 @@ fn resolve_part<'t, P: Probe<'t>>(
     mode: Last,
 ) -> Result<(Found, u8), Errno>
     requires dir { IsTrue (is_dir (P.tree probe.old) dir) }
-    requires left { left ≤ 32 }
+    requires left { left ≤ link_limit }
     ensures exact { result ≡ resolve_parts left (P.tree probe.old) mode dir ways.Top (part.now ∷ []) }
     ensures fits { IfOk result (λ found. FoundFits (P.tree probe.old) found.0) }
+    ensures named { IfOk result (λ found. StandsAsNamed (P.tree probe.old) found.0) }
     ensures left { IfOk result (λ found. found.1 ≤ left) }
     ensures tree { P.tree probe.new ≡ P.tree probe.old }
     ensures cost { P.count probe.new ≤ P.count probe.old + part_cost (P.tree probe.old) }
@@ -129,7 +135,7 @@ fn resolve_part<'t, P: Probe<'t>>(
 /// Where a path starts; None where that is no living directory.
 fn start_of<'t, P: Probe<'t>>(probe: &mut P, from: NodeId, text: &[u8]) -> Option<NodeId>
     ensures start { result ≡ (if not (is_absolute text.now) && not (is_dir (P.tree probe.old) from) then None else Some (start_of text.now from)) }
-    ensures ready { IfSome result (λ start. (rest : Remaining) → rest.depth ≡ 0 → CanGoOn (P.tree probe.old) start 32 rest) }
+    ensures ready { IfSome result (λ start. (rest : Remaining) → rest.depth ≡ 0 → CanGoOn (P.tree probe.old) start link_limit rest) }
     ensures tree { P.tree probe.new ≡ P.tree probe.old }
 {
     probe.known();
@@ -324,7 +330,7 @@ impl<'a> Walk<'a> {
     /// Follows a link: its target comes before the parts that are left.
     fn follow(&mut self, target: &'a [u8]) -> Result<(), Errno>
         requires readable { IsTrue (is_readable target.now) }
-        requires room { self.old.rest.depth + self.old.left ≤ 32 }
+        requires room { self.old.rest.depth + self.old.left ≤ link_limit }
         ensures ok { OnOk result (0 < self.old.left) }
         ensures err { IfErr result (λ errno. (errno ≡ ELOOP) × (self.old.left ≡ 0)) }
         ensures left { self.new.left ≡ self.old.left - 1 }
@@ -332,7 +338,7 @@ impl<'a> Walk<'a> {
         ensures here { 0 < self.old.left → self.new.here ≡ start_of target.now self.old.here }
         ensures way { 0 < self.old.left → self.new.way ≡ ways.Top }
         ensures parts { 0 < self.old.left → self.new.rest.parts ≡ parts_of ending.Dot target.now ++ self.old.rest.parts }
-        ensures room { self.new.rest.depth + self.new.left ≤ 32 }
+        ensures room { self.new.rest.depth + self.new.left ≤ link_limit }
     {
         if self.left == 0 {
             return Err(Errno::ELOOP);

@@ -1,39 +1,45 @@
 //! What is left of a path while it is resolved.
 
 use crate::found::Part;
+use crate::limits::LINK_LIMIT;
 use crate::piece::{after_slashes, before_slashes, next_part};
 use crate::text::{Ending, PathText};
 use std::marker::Model;
+
+/// How many texts may lie below the one that is read: one for each link that may be followed.
+const WAITING: usize = LINK_LIMIT as usize;
 
 /// The parts still to be resolved, as texts that lie one on another: what is left of a path, and of
 /// the target of each link on the way. The one on top is read first. It takes no memory. Contracts
 /// see the parts, and the number of texts below the top.
 #[derive(Drop)]
-pub struct Rest<'a> {
+pub(crate) struct Rest<'a> {
     top: &'a [u8],
-    below: [&'a [u8]; 32],
+    below: [&'a [u8]; WAITING],
     depth: usize,
 }
 
 impl<'a> Model for Rest<'a> {
     ghost use Rattle.std.specs.Prelude.{◌≤◌, ◌++◌, IsTrue, take};
+    ghost use Rattle.pua_path.specs.Limits.{link_limit};
     ghost use Rattle.pua_path.specs.Remaining.{Remaining, rest_parts, pending, is_stack};
 
     ghost Value = { Remaining };
 
     ghost view = { λ a. record { parts = rest_parts a.top.now ++ pending (take a.depth a.below); depth = a.depth } };
 
-    ghost invariant = { λ a. (a.depth ≤ 32) × IsTrue (is_stack a.top.now (take a.depth a.below)) };
+    ghost invariant = { λ a. (a.depth ≤ link_limit) × IsTrue (is_stack a.top.now (take a.depth a.below)) };
 }
 
-ghost use Rattle.std.specs.Prelude.{◌≡◌, ◌≤◌, ◌<◌, ◌+◌, ◌∷◌, ◌++◌, [], IsTrue, MatchOption, zero};
+ghost use Rattle.std.specs.Prelude.{◌≡◌, ◌≤◌, ◌<◌, ◌+◌, ◌∷◌, ◌++◌, [], IsTrue, MatchOption};
+ghost use Rattle.pua_path.specs.Limits.{link_limit};
 ghost use Rattle.pua_path.specs.Paths.{parts_of};
 ghost use Rattle.pua_path.specs.Remaining.{is_done, is_readable, rest_parts};
 ghost use Rattle.pua_path.specs.declared.text.Ending.TheVariants as ending;
 
 impl<'a> Rest<'a> {
     /// No part.
-    pub fn none() -> Rest<'a>
+    pub(crate) fn none() -> Rest<'a>
         ensures parts { result.parts ≡ [] }
         ensures depth { result.depth ≡ 0 }
     {
@@ -41,7 +47,7 @@ impl<'a> Rest<'a> {
     }
 
     /// The parts of a path.
-    pub fn of_text(text: &PathText<'a>) -> Rest<'a>
+    pub(crate) fn of_text(text: &PathText<'a>) -> Rest<'a>
         ensures parts { result.parts ≡ parts_of text.now.ending text.now.bytes }
         ensures depth { result.depth ≡ 0 }
     {
@@ -59,20 +65,20 @@ impl<'a> Rest<'a> {
     {
         Rest {
             top,
-            below: [top; 32],
+            below: [top; WAITING],
             depth: 0,
         }
     }
 
     /// Whether no part is left.
-    pub fn is_done(&self) -> bool
+    pub(crate) fn is_done(&self) -> bool
         ensures { result ≡ is_done self.now.parts }
     {
         self.top.is_empty()
     }
 
     /// Takes the first part off; None where no part is left.
-    pub fn next(&mut self) -> Option<Part>
+    pub(crate) fn next(&mut self) -> Option<Part>
         ensures parts { MatchOption result ((self.old.parts ≡ []) × (self.new.parts ≡ [])) (λ part. self.old.parts ≡ part ∷ self.new.parts) }
         ensures depth { self.new.depth ≤ self.old.depth }
     {
@@ -90,9 +96,9 @@ impl<'a> Rest<'a> {
     }
 
     /// Puts the parts of a link's target in front of the others.
-    pub fn put(&mut self, target: &'a [u8])
+    pub(crate) fn put(&mut self, target: &'a [u8])
         requires readable { IsTrue (is_readable target.now) }
-        requires room { self.old.depth < 32 }
+        requires room { self.old.depth < link_limit }
         ensures parts { self.new.parts ≡ parts_of ending.Dot target.now ++ self.old.parts }
         ensures depth { self.new.depth ≤ self.old.depth + 1 }
     {

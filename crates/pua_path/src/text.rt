@@ -1,11 +1,8 @@
 //! Path texts.
 
 use crate::errno::Errno;
+use crate::limits::PATH_LIMIT;
 use pua_tree::has_short_components;
-
-/// The most bytes that a path has.
-const MOST_BYTES: usize = 1023;
-
 use std::marker::Model;
 
 /// What a slash at the end of a path adds.
@@ -77,7 +74,7 @@ fn fault_of(bytes: &[u8]) -> Option<Errno>
     if bytes.is_empty() {
         return Some(Errno::ENOENT);
     }
-    if bytes.len() > MOST_BYTES || !has_short_components(bytes) {
+    if bytes.len() > PATH_LIMIT || !has_short_components(bytes) {
         return Some(Errno::ENAMETOOLONG);
     }
     if bytes.contains(&0) {

@@ -3,14 +3,15 @@ use Rattle.std.proofs.Common.{◌≡◌, ℕ, zero, suc, ◌+◌, ◌≤◌, ◌
 use Rattle.std.proofs.lemmas.Bool.{false≢true, eqb-true}
 use Rattle.std.specs.Ordering.{nat_cmp}
 use Rattle.std.specs.FinMap.{nat_cmp-IsAntisymmetric}
-use Rattle.std.specs.List.{list_any, find}
-use Rattle.std.specs.Prelude.{Option, Some, None, option_map, ◌||◌, ◌==◌, unwrap_or, nat_lt}
-use Rattle.pua_tree.specs.Tree.{Tree, Node, WellFormed, is_dir, is_dir_kind, above, climb, climb_within, node_at, node_fits, row_fits, rows_fit_kind, rows_of, target_fits, Spot}
+use Rattle.std.specs.List.{list_any}
+use Rattle.std.specs.Prelude.{Option, Some, None, option_map, ◌||◌, ◌==◌, nat_lt}
+use Rattle.pua_tree.specs.Tree.{Tree, Node, WellFormed, is_dir, is_dir_kind, above, climb, climb_within, node_at, node_fits, rows_fit_kind, rows_of, target_fits}
 use Rattle.pua_tree.specs.declared.node.Kind.{Kind}
 use Rattle.pua_tree.specs.declared.node.Kind.TheVariants.{Dir}
 use Rattle.pua_policy.specs.Verdict.{nearest}
 use Rattle.pua_policy.specs.declared.answer.Cover.TheVariants.{Nothing, Only}
-use Rattle.pua_policy.proofs.Finding.{both_true, list_all-find, list_all-find_key}
+use Rattle.std.proofs.lemmas.Bool.{and_parts}
+use Rattle.pua_path.proofs.ForCallers.{above_lives, list_all-find_key}
 
 -- a climb gets to the root
 abbrev pub has_root : List ℕ → Bool
@@ -72,13 +73,7 @@ module _ (t : Tree) where
   module _ (fits : WellFormed t) where
     -- what is above a directory is one
     pub is_dir_above : (d : ℕ) → is_dir t (above t d) ≡ true
-    is_dir_above zero = fits.root
-    is_dir_above (suc d) = by (find (λ row. row.1 == suc d) t.rows) refl
-      where
-        by : (o : Option (Spot × ℕ)) → find (λ row. row.1 == suc d) t.rows ≡ o → is_dir t (unwrap_or (option_map (λ spot. spot.0) (option_map (λ row. row.0) o)) 0) ≡ true
-        by None e = fits.root
-        by (Some row) e =
-            (both_true (is_dir t row.0.0) _ (list_all-find (row_fits t) (λ row. row.1 == suc d) t.rows row fits.rows_fit e)).0
+    is_dir_above d = above_lives t d fits
 
     -- from each directory the climb gets to the root
     pub climb_gets_to_root : (d : ℕ) → is_dir t d ≡ true → has_root (climb t d) ≡ true
@@ -86,15 +81,15 @@ module _ (t : Tree) where
     climb_gets_to_root (suc d) e = by (node_at t (suc d)) refl e
       where
         of_kind : (node : Node) (kind : Kind) → is_dir_kind (Some kind) ≡ true → rows_fit_kind t (suc d) kind ≡ true → has_root (climb t (suc d)) ≡ true
-        of_kind node Dir is fit = (both_true (rows_of t (suc d) == 1) (has_root (climb t (suc d))) fit).1
+        of_kind node Dir is fit = (and_parts (rows_of t (suc d) == 1) (has_root (climb t (suc d))) fit).1
         of_kind node _ is fit = cc
 
         by : (o : Option Node) → node_at t (suc d) ≡ o → is_dir_kind (option_map (λ n. n.kind) o) ≡ true → has_root (climb t (suc d)) ≡ true
         by None found is = cc
         by (Some node) found is =
             let all = list_all-find_key nat_cmp nat_cmp-IsAntisymmetric (node_fits t) (suc d) t.nodes node fits.nodes_fit found in
-            let two = both_true (nat_lt (suc d) t.next) _ all in
-            let three = both_true (target_fits node.kind node.target) (rows_fit_kind t (suc d) node.kind) two.1 in
+            let two = and_parts (nat_lt (suc d) t.next) _ all in
+            let three = and_parts (target_fits node.kind node.target) (rows_fit_kind t (suc d) node.kind) two.1 in
             of_kind node node.kind is three.1
 
     -- a climb goes on with the climb from the directory above

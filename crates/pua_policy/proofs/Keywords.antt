@@ -1,11 +1,16 @@
 -- The keywords' flags are the rows of the definition.
-use Rattle.std.proofs.Common.{◌≡◌, ℕ, ◌<◌, ◌^◌, List, true, map, refl, sym, ap, ◌∙◌, arith}
+use Rattle.std.proofs.Common.{◌≡◌, ℕ, ◌<◌, ◌^◌, List, [], ◌∷◌, Bool, true, false, cond, map, refl, sym, ap, ◌∙◌, arith}
 use Rattle.std.proofs.lemmas.Bool.Decides.{nat_tests}
 use Rattle.std.specs.List.{find}
 use Rattle.std.specs.Prelude.{Option, Some, None, option_map, nat_lt}
 use Rattle.pua_tree.specs.Names.{same_bytes}
 use Rattle.pua_policy.specs.Promises.{keyword_rows, promise_of}
-use Rattle.pua_policy.proofs.Finding.{list_all-find, find-map}
+use Rattle.pua_path.proofs.ForCallers.{find_passes}
+
+-- finding after a map is a map after finding
+find-map : {X Y : Type 0} (f : X → Y) (p : Y → Bool) (xs : List X) → find p (map f xs) ≡ option_map f (find (λ x. p (f x)) xs)
+find-map f p [] = refl
+find-map f p (x ∷ xs) = elim (p (f x)) as (λ b. cond b (Some (f x)) (find p (map f xs)) ≡ option_map f (cond b (Some x) (find (λ x. p (f x)) xs))) [ true ↦ refl | false ↦ find-map f p xs ]
 
 -- a keyword found among flags is that of the rows
 pub promise_of-find : {F : Type 0} (row : F → (List ℕ × ℕ)) (flags : List F) (word : List ℕ) → map row flags ≡ keyword_rows →
@@ -26,6 +31,6 @@ promise_of-below word bits e = by (find (λ row. same_bytes row.0 word) keyword_
     by : (o : Option (List ℕ × ℕ)) → find (λ row. same_bytes row.0 word) keyword_rows ≡ o → option_map (λ row. row.1) o ≡ Some bits → bits < 2 ^ 36
     by None found is = cc
     by (Some row) found is =
-        let low : nat_lt row.1 (2 ^ 36) ≡ true = list_all-find (λ row. nat_lt row.1 (2 ^ 36)) (λ row. same_bytes row.0 word) keyword_rows row refl found in
+        let low : nat_lt row.1 (2 ^ 36) ≡ true = find_passes (λ row. nat_lt row.1 (2 ^ 36)) (λ row. same_bytes row.0 word) keyword_rows row refl found in
         let same : row.1 ≡ bits = cc in
         grind (arith, nat_tests)

@@ -1,8 +1,6 @@
 pub mod Sets
-pub mod Finding
 pub mod Keywords
 pub mod Climbs
-pub mod Fits
 pub mod Veils
 pub mod Places
 pub mod Narrowing
@@ -10,3 +8,4 @@ pub mod Exec
 pub mod Standing
 pub mod Covers
 pub mod Histories
+pub mod ForCallers

@@ -9,7 +9,7 @@ use Rattle.pua_tree.specs.Names.{same_bytes}
 use Rattle.pua_policy.specs.declared.place.Place.{Place}
 use Rattle.pua_policy.specs.declared.place.Place.TheVariants.{Dir, Slot}
 use Rattle.pua_policy.specs.History.{History, Pledged, Unveiled, Locked, Moved, Ended, veils, kept, is_locked, place_fault, with_veil, veil_at, same_place}
-use Rattle.pua_policy.proofs.Finding.{both_true}
+use Rattle.std.proofs.lemmas.Bool.{and_parts}
 use Rattle.std.proofs.lemmas.List.{map-append}
 use Rattle.std.proofs.lemmas.List.Folds.{list_all-map}
 use Rattle.std.proofs.lemmas.Nat.{and_comm}
@@ -29,7 +29,7 @@ use Rattle.pua_policy.specs.Laws.{VeilsAreKept, CoverNeedsUnveil, NearestCounts,
 pub same_place_is : (a b : Place) → same_place a b ≡ true → a ≡ b
 same_place_is (Dir a) (Dir b) e = ap Dir (eqb-true a b e)
 same_place_is (Slot a n) (Slot b m) e =
-    let parts = both_true (a == b) (same_bytes n m) e in
+    let parts = and_parts (a == b) (same_bytes n m) e in
     λ i. Slot (eqb-true a b parts.0 i) ((bytes_decides n m).0 parts.1 i)
 same_place_is (Dir a) (Slot b m) e = cc
 same_place_is (Slot a n) (Dir b) e = cc

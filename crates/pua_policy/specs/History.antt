@@ -2,6 +2,7 @@
 use Rattle.std.specs.Prelude.{◌≡◌, ℕ, ◌-◌, Bool, true, false, not, ◌&&◌, ◌||◌, if◌then◌else◌, List, [], ◌∷◌, length, nat_le, ◌==◌, Option, Some, None, bit_and, unwrap_or, filter, filter_map}
 use Rattle.std.specs.List.{list_any}
 use Rattle.pua_tree.specs.Names.{same_bytes}
+pub use Rattle.pua_policy.specs.Limits.{place_limit}
 use Rattle.pua_policy.specs.Promises.{holds, all_promises, error}
 use Rattle.pua_path.specs.declared.errno.Errno.{Errno}
 use Rattle.pua_path.specs.declared.errno.Errno.TheVariants.{EPERM}
@@ -134,11 +135,7 @@ dir_in _ = None
 abbrev pub working_dir : History → ℕ
 working_dir h = unwrap_or (first (filter_map dir_in h)) 0
 
--- permissions at a place may only be reduced, and there are at most 128 places
-abbrev pub place_limit : ℕ
-place_limit = 128
-
--- why permissions may not be kept at a place, by what is kept there and by the number of places
+-- why permissions may not be kept at a place, by what is kept there and by the number of places: they may only be reduced, and there is a limit of places
 abbrev pub place_fault : Option ℕ → ℕ → ℕ → Option UnveilFault
 place_fault (Some old) places perms = if holds old perms then None else Some NotPermitted
 place_fault None places perms = if nat_le place_limit places then Some TooManyPlaces else None

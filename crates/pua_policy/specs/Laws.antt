@@ -1,12 +1,7 @@
 -- What is true of histories and of covers.
-use Rattle.std.specs.Prelude.{◌≡◌, ℕ, List, ◌∷◌, ◌++◌, map, Option, Some, None, is_none, false, Ok, IsTrue, IsFalse, bit_and, ◌<◌, ◌^◌}
+use Rattle.std.specs.Prelude.{◌≡◌, ℕ, List, ◌∷◌, ◌++◌, map, Option, Some, None, is_none, IsTrue, IsFalse, bit_and, ◌<◌, ◌^◌}
 use Rattle.std.specs.List.{list_all}
-use Rattle.pua_tree.specs.Tree.{Tree, WellFormed, is_dir}
-use Rattle.pua_path.specs.Resolution.{resolution, step, last}
-use Rattle.pua_path.specs.declared.text.Ending.{Ending}
-use Rattle.pua_path.specs.declared.found.Part.{Part}
-use Rattle.pua_path.specs.declared.found.Last.{Last}
-use Rattle.pua_path.specs.declared.found.Last.TheVariants.{Followed}
+use Rattle.pua_tree.specs.Tree.{Tree}
 use Rattle.pua_path.specs.declared.found.Found.{Found}
 use Rattle.pua_policy.specs.declared.place.Place.{Place}
 use Rattle.pua_policy.specs.declared.place.Place.TheVariants.{Dir}
@@ -14,7 +9,7 @@ use Rattle.pua_policy.specs.declared.answer.Cover.TheVariants.{Only}
 use Rattle.pua_policy.specs.declared.answer.Verdict.TheVariants.{Allowed}
 use Rattle.pua_policy.specs.Promises.{holds, error}
 use Rattle.pua_policy.specs.History.{History, Event, Pledged, Unveiled, kept, veils, held, veil_at, pledge_fault, unveil_fault, may_any, ProcessState, StandsFor}
-use Rattle.pua_policy.specs.Verdict.{FoundFits, is_link, place_of, directories_over, cover, cover_fault, is_unveil, verdict, verdict_on}
+use Rattle.pua_policy.specs.Verdict.{place_of, directories_over, cover, cover_fault, is_unveil, verdict, verdict_on}
 use Rattle.pua_policy.specs.Calls.{CallTable, standard_table}
 use Rattle.pua_policy.specs.declared.call.Call.{Call}
 
@@ -22,7 +17,7 @@ use Rattle.pua_policy.specs.declared.call.Call.{Call}
 abbrev pub VeilsAreKept : Type 0
 VeilsAreKept = (h : History) (place : Place) → veil_at (veils h) place ≡ kept h place
 
--- only an unveil changes a cover
+-- of all events only an unveil changes a cover; an exec, which is no event, may drop all veils
 abbrev pub CoverNeedsUnveil : Type 0
 CoverNeedsUnveil = (event : Event) → IsFalse (is_unveil event) → (t : Tree) (h : History) (found : Found) → cover t (event ∷ h) found ≡ cover t h found
 
@@ -56,20 +51,6 @@ KeptPlacesNarrow = (h : History) (place : Place) (old perms : ℕ) → kept h pl
 abbrev pub PledgesNarrow : Type 0
 PledgesNarrow = (promises execpromises : Option ℕ) (h : History) (t : Tree) (call : Call) (object : Found) →
     verdict t standard_table (Pledged promises execpromises ∷ h) call object ≡ Allowed → verdict t standard_table h call object ≡ Allowed
-
--- what was found is of the tree, and is no link where the last part is followed
-pub record IsOf (t : Tree) (mode : Last) (object : Found) : Type 0 where
-  pub fits : FoundFits t object
-  pub followed : mode ≡ Followed → is_link t object ≡ false
-
--- what a path names is of the tree, and so is what its last part names in a directory
-pub record ResolutionFits (t : Tree) : Type 0 where
-  pub whole : (from : ℕ) (ending : Ending) (text : List ℕ) (mode : Last) (object : Found) → resolution t from ending text mode ≡ Ok object → IsOf t mode object
-  pub last : (dir used : ℕ) (part : Part) (mode : Last) (object : Found) → IsTrue (is_dir t dir) → last t dir used part mode ≡ Ok object → IsOf t mode object
-  pub step : (dir used : ℕ) (part : Part) (next : ℕ × ℕ) → IsTrue (is_dir t dir) → step t dir used part ≡ Ok next → IsTrue (is_dir t next.0)
-
-abbrev pub ResolutionsFit : Type 0
-ResolutionsFit = (t : Tree) → WellFormed t → ResolutionFits t
 
 -- what a process keeps decides what it may do, whichever history it stands for
 abbrev pub ProcessesDecide : Type 0

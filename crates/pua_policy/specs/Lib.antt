@@ -1,3 +1,4 @@
+pub mod Limits
 pub mod Promises
 pub mod Calls
 pub mod History

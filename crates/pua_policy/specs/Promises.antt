@@ -1,5 +1,5 @@
 -- Sets of promises and of permissions as numbers, a bit for each member, and how they are read.
-use Rattle.std.specs.Prelude.{ℕ, map, ◌*◌, ◌-◌, ◌^◌, Bool, List, [], ◌∷◌, ◌==◌, Option, Some, None, Result, Ok, Err, codes, bit_and, bit_or, find, position, option_map}
+use Rattle.std.specs.Prelude.{ℕ, map, ◌*◌, ◌-◌, ◌^◌, Bool, List, [], ◌∷◌, ◌==◌, Option, Some, None, Result, Ok, Err, codes, bit_and, bit_or, filter, find, not, position, option_map}
 use Rattle.std.specs.List.{slice_split}
 use Rattle.pua_tree.specs.Names.{same_bytes}
 use Rattle.pua_path.specs.declared.errno.Errno.{Errno}
@@ -73,6 +73,10 @@ union_of (Some bits ∷ words) = joined bits (union_of words)
 abbrev pub promises_of : List ℕ → Result ℕ Errno
 promises_of [] = Ok no_promises
 promises_of (b ∷ more) = union_of (map promise_of (slice_split (λ b. b == 44) (b ∷ more)))
+
+-- every keyword but one
+abbrev pub other_promises : List ℕ → Result ℕ Errno
+other_promises word = union_of (map (λ row. Some row.1) (filter (λ row. not (same_bytes row.0 word)) keyword_rows))
 
 -- the letters of permissions
 abbrev pub letter_of : ℕ → Option ℕ

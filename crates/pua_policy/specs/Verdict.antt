@@ -3,7 +3,7 @@ use Rattle.std.specs.Prelude.{ℕ, Bool, true, false, if◌then◌else◌, List,
 use Rattle.std.specs.List.{list_any}
 use Rattle.pua_tree.specs.Tree.{Tree, kind_at, above, climb, is_empty}
 use Rattle.pua_path.specs.Resolution.{resolution_of_text}
-pub use Rattle.pua_path.specs.Fits.{found_fits, FoundFits, FoundsFit}
+pub use Rattle.pua_path.specs.Fits.{found_fits, FoundFits, FoundsFit, is_link_kind, is_link}
 use Rattle.pua_policy.specs.Promises.{holds}
 use Rattle.pua_policy.specs.Calls.{CallTable, rule_of, last_of, ending_of}
 use Rattle.pua_policy.specs.History.{History, Event, Unveiled, kept, may_any, working_dir}
@@ -23,6 +23,8 @@ use Rattle.pua_policy.specs.declared.answer.Cover.{Cover}
 use Rattle.pua_policy.specs.declared.answer.Cover.TheVariants.{All, Nothing, Only}
 use Rattle.pua_policy.specs.declared.answer.May.{May}
 use Rattle.pua_policy.specs.declared.answer.May.TheVariants as may
+use Rattle.pua_policy.specs.declared.answer.Refusal.{Refusal}
+use Rattle.pua_policy.specs.declared.answer.Refusal.TheVariants as refusal
 use Rattle.pua_policy.specs.declared.answer.Verdict.{Verdict}
 use Rattle.pua_policy.specs.declared.answer.Verdict.TheVariants.{Allowed, Failed, Death}
 
@@ -41,15 +43,6 @@ abbrev pub nearest : List (Option ℕ) → Cover
 nearest [] = Nothing
 nearest (None ∷ more) = nearest more
 nearest (Some perms ∷ more) = Only perms
-
--- what was found is a link
-abbrev pub is_link_kind : Option Kind → Bool
-is_link_kind (Some kind.Link) = true
-is_link_kind _ = false
-
-abbrev pub is_link : Tree → Found → Bool
-is_link t (found.Slot dir name (Some x)) = is_link_kind (kind_at t x)
-is_link t _ = false
 
 abbrev pub is_unveil : Event → Bool
 is_unveil (Unveiled place perms) = true
@@ -122,6 +115,17 @@ cover_fault (Only given) perms = if holds given perms then None else Some EACCES
 abbrev pub or_fault : Option Errno → Option Errno → Option Errno
 or_fault None next = next
 or_fault (Some errno) next = Some errno
+
+-- what becomes of a call without its promises; None where it has them
+abbrev pub refusal_of : May → Option Refusal
+refusal_of may.Yes = None
+refusal_of may.Enosys = Some (refusal.Failed ENOSYS)
+refusal_of may.Death = Some refusal.Killed
+
+-- a refusal as a verdict
+abbrev pub refused : Refusal → Verdict
+refused (refusal.Failed errno) = Failed errno
+refused refusal.Killed = Death
 
 -- promises before everything else: without them the call fails or the process ends
 abbrev pub if_promised : May → Verdict → Verdict

@@ -1,5 +1,8 @@
 //! What a process and the verdict on its calls answer.
 
+ghost use Rattle.std.specs.Prelude.{◌≡◌};
+ghost use Rattle.pua_policy.specs.Verdict.{refused};
+
 use crate::perms::Perms;
 use pua_path::Errno;
 use thiserror::Error;
@@ -35,6 +38,27 @@ pub enum Verdict {
     Failed(Errno),
     /// The process is killed, or has ended before.
     Death,
+}
+
+/// Why a process does not get what it asks for.
+#[derive(Clone, Copy, Debug, PartialEq, Eq)]
+pub enum Refusal {
+    /// The call fails with this error, and the process lives.
+    Failed(Errno),
+    /// The process is killed, or has ended before.
+    Killed,
+}
+
+impl Refusal {
+    /// The verdict on a call that is refused so.
+    pub fn verdict(self) -> Verdict
+        ensures { result ≡ refused self }
+    {
+        match self {
+            Refusal::Failed(errno) => Verdict::Failed(errno),
+            Refusal::Killed => Verdict::Death,
+        }
+    }
 }
 
 /// Why an unveil was refused.

@@ -1,6 +1,6 @@
 //! What the veils of a process leave of an object.
 
-ghost use Rattle.std.specs.Prelude.{◌≡◌, ℕ, ◌+◌, ◌≤◌, length, map, IsTrue};
+ghost use Rattle.std.specs.Prelude.{◌≡◌, ◌+◌, ◌≤◌, length, map, IsTrue};
 ghost use Rattle.pua_tree.specs.Tree.{WellFormed, is_dir, climb};
 ghost use Rattle.pua_policy.specs.History.{History, StandsFor, veil_at};
 ghost use Rattle.pua_policy.specs.Verdict.{FoundFits, cover, nearest};

@@ -1,18 +1,34 @@
 //! The verdict on a call.
 
-ghost use Rattle.std.specs.Prelude.{◌≡◌, ◌+◌, ◌≤◌, length};
+ghost use Rattle.std.specs.Prelude.{◌≡◌, ◌+◌, ◌≤◌, [], ◌∷◌, length, Some, None, MatchResult};
 ghost use Rattle.pua_tree.specs.Tree.{Tree};
 ghost use Rattle.pua_policy.specs.Calls.{standard_table};
-ghost use Rattle.pua_policy.specs.History.{History, StandsFor};
-ghost use Rattle.pua_policy.specs.Verdict.{FoundFits, FoundsFit, verdict, verdict_of, cover, or_fault, cover_fault, object_fault, rmdir_fault, object_of, object_of_kind, IsDir};
+ghost use Rattle.pua_policy.specs.History.{History, StandsFor, may_any};
+ghost use Rattle.pua_policy.specs.Verdict.{FoundFits, FoundsFit, verdict, verdict_of, refusal_of, found_fault, cover_fault, object_fault, rmdir_fault, object_of, object_of_kind, IsDir};
 
-use crate::answer::{Cover, May, Verdict};
+use crate::answer::{Cover, May, Refusal, Verdict};
 use crate::call::Call;
 use crate::needs;
 use crate::perms::Perms;
 use crate::process::Process;
+use crate::promises::Promises;
 use pua_path::{Errno, Found, Probe, Way};
 use pua_tree::{Kind, NodeId};
+
+/// Whether a process may do what needs all of these promises. Promises are asked here and nowhere
+/// else. Without them the call fails with `ENOSYS` where `error` is held, and else the process is
+/// killed; one that has ended may do nothing.
+pub fn promised(process: &Process, promises: Promises) -> Result<(), Refusal>
+    ensures exact { (h : History) → StandsFor process.now h → MatchResult result
+        (λ _. may_any h (promises ∷ []) ≡ May.Yes)
+        (λ refusal. refusal_of (may_any h (promises ∷ [])) ≡ Some refusal) }
+{
+    match process.may(promises) {
+        May::Yes => Ok(()),
+        May::Enosys => Err(Refusal::Failed(Errno::ENOSYS)),
+        May::Death => Err(Refusal::Killed),
+    }
+}
 
 /// The verdict on a call, on what its path names: first the promises, then the cover, the
 /// permissions that it lacks, and what was found. Whether there is room for a new node is not
@@ -29,14 +45,12 @@ pub fn verdict<'t, P: Probe<'t>>(
     ensures tree { P.tree probe.new ≡ P.tree probe.old }
     ensures cost { P.count probe.new ≤ P.count probe.old + length (P.tree probe.old).nodes + 4 }
 {
-    let need = needs::need(call);
-    match process.may(need.promises) {
-        May::Yes => match found_fault(probe, process, call, need.perms, found) {
-            None => Verdict::Allowed,
-            Some(errno) => Verdict::Failed(errno),
-        },
-        May::Enosys => Verdict::Failed(Errno::ENOSYS),
-        May::Death => Verdict::Death,
+    if let Err(refusal) = promised(process, needs::need(call).promises) {
+        return refusal.verdict();
+    }
+    match object_verdict(probe, process, call, found) {
+        Ok(()) => Verdict::Allowed,
+        Err(errno) => Verdict::Failed(errno),
     }
 }
 
@@ -57,31 +71,36 @@ pub fn verdict_of<'t, P: Probe<'t>>(
         Ok(found) => return verdict(probe, process, call, &found),
         Err(errno) => errno,
     };
-    match process.may(needs::need(call).promises) {
-        May::Yes => Verdict::Failed(errno),
-        May::Enosys => Verdict::Failed(Errno::ENOSYS),
-        May::Death => Verdict::Death,
+    match promised(process, needs::need(call).promises) {
+        Ok(()) => Verdict::Failed(errno),
+        Err(refusal) => refusal.verdict(),
     }
 }
 
-/// What is wrong with what was found: its cover, its permissions, its kind.
-fn found_fault<'t, P: Probe<'t>>(
+/// Whether a call whose promises are held is allowed on what its path names. The first of these
+/// faults is the error: nothing is left of it by the veils (`ENOENT`), they lack a permission that
+/// the call needs (`EACCES`), and what is wrong with an object of this kind. What was found is of
+/// the probe's tree as it stands. At most four more looks at the tree than it has nodes.
+pub fn object_verdict<'t, P: Probe<'t>>(
     probe: &mut P,
     process: &Process,
     call: Call,
-    perms: Perms,
     found: &Found,
-) -> Option<Errno>
+) -> Result<(), Errno>
     requires { FoundFits (P.tree probe.old) found.now }
-    ensures exact { (h : History) → StandsFor process.now h →
-        result ≡ or_fault (cover_fault (cover (P.tree probe.old) h found.now) perms) (object_fault (P.tree probe.old) call (object_of (P.tree probe.old) found.now)) }
+    ensures exact { (h : History) → StandsFor process.now h → MatchResult result
+        (λ _. found_fault (P.tree probe.old) standard_table h call found.now ≡ None)
+        (λ errno. found_fault (P.tree probe.old) standard_table h call found.now ≡ Some errno) }
     ensures tree { P.tree probe.new ≡ P.tree probe.old }
     ensures cost { P.count probe.new ≤ P.count probe.old + length (P.tree probe.old).nodes + 4 }
 {
     let cover = process.cover(probe, found);
-    match cover_fault(cover, perms) {
-        Some(errno) => Some(errno),
-        None => object_fault(probe, call, found),
+    if let Some(errno) = cover_fault(cover, needs::need(call).perms) {
+        return Err(errno);
+    }
+    match object_fault(probe, call, found) {
+        Some(errno) => Err(errno),
+        None => Ok(()),
     }
 }
 

@@ -1,8 +1,64 @@
 //! Laws and worked examples of what processes may do, each the contract of a function that does
-//! nothing.
+//! nothing, or that hands out the constants of which it speaks.
 
-ghost use Rattle.pua_policy.specs.Laws.{VeilsAreKept, CoverNeedsUnveil, NearestCounts, KeptPlacesNarrow, HeldNeverGrows, PledgesNarrow, ProcessesDecide, ResolutionsFit};
+ghost use Rattle.std.specs.Prelude.{◌≡◌, [], ◌∷◌, Ok, codes, map};
+ghost use Rattle.pua_policy.specs.Laws.{VeilsAreKept, CoverNeedsUnveil, NearestCounts, KeptPlacesNarrow, HeldNeverGrows, PledgesNarrow, ProcessesDecide};
+ghost use Rattle.pua_policy.specs.Calls.{calls};
+ghost use Rattle.pua_policy.specs.Limits.{place_limit};
+ghost use Rattle.pua_policy.specs.Promises.{promises_of, other_promises, perms_of};
 ghost use Rattle.pua_policy.specs.Examples.{CoverRows, VerdictRows, LastCheckRows};
+
+use crate::call::Call;
+use crate::perms::Perms;
+use crate::process::PLACE_LIMIT;
+use crate::promises::Promises;
+
+/// The constants of `Promises` that are one promise, in the order of their keywords: each is what
+/// its keyword names.
+pub fn promise_constants() -> [Promises; 8]
+    ensures { map Ok result ≡ map promises_of (codes "cpath" ∷ codes "error" ∷ codes "exec"
+        ∷ codes "fattr" ∷ codes "proc" ∷ codes "rpath" ∷ codes "unveil" ∷ codes "wpath" ∷ []) }
+{
+    [
+        Promises::CPATH,
+        Promises::ERROR,
+        Promises::EXEC,
+        Promises::FATTR,
+        Promises::PROC,
+        Promises::RPATH,
+        Promises::UNVEIL,
+        Promises::WPATH,
+    ]
+}
+
+/// The constants of `Promises` that are more or less than one promise: none, and what every keyword
+/// but `error` names.
+pub fn promise_bounds() -> (Promises, Promises)
+    ensures none { promises_of [] ≡ Ok result.0 }
+    ensures all_but_error { other_promises (codes "error") ≡ Ok result.1 }
+{
+    (Promises::NONE, Promises::ALL_BUT_ERROR)
+}
+
+/// The constants of `Perms`: none, and what each letter names.
+pub fn permission_constants() -> [Perms; 5]
+    ensures { map Ok result ≡ map perms_of ([] ∷ codes "r" ∷ codes "w" ∷ codes "x" ∷ codes "c" ∷ []) }
+{
+    [
+        Perms::NONE,
+        Perms::READ,
+        Perms::WRITE,
+        Perms::EXEC,
+        Perms::CREATE,
+    ]
+}
+
+/// Every call is listed, in the order of their numbers, and there may be as many places as the
+/// definition says.
+pub fn limits_law()
+    ensures calls { Call.ALL ≡ calls }
+    ensures places { PLACE_LIMIT ≡ place_limit }
+{}
 
 /// Examples of what veils leave.
 pub fn cover_examples()
@@ -17,9 +73,9 @@ pub fn verdict_examples()
     ensures checks { LastCheckRows }
 {}
 
-/// The veils of a process are exactly the places with their last permissions. Only an unveil
-/// changes what they leave, the nearest alone counts, and an unveil at a kept place leaves no
-/// object more than it had.
+/// The veils of a process are exactly the places with their last permissions. Of all events only
+/// an unveil changes what they leave; a successful exec is no event, and may drop them all. The
+/// nearest veil alone counts, and an unveil at a kept place leaves no object more than it had.
 pub fn cover_laws()
     ensures kept { VeilsAreKept }
     ensures unveils { CoverNeedsUnveil }
@@ -36,10 +92,4 @@ pub fn promise_laws()
 /// What a process keeps decides what it may do, whichever history it stands for.
 pub fn standing_law()
     ensures { ProcessesDecide }
-{}
-
-/// What a path names is of the tree: its directory lives, and its row is as the tree has it. It is
-/// no link where the last part is followed.
-pub fn resolution_law()
-    ensures { ResolutionsFit }
 {}

@@ -12,12 +12,13 @@ mod place;
 mod process;
 mod promises;
 
-pub use answer::{Cover, May, UnveilFault, Verdict};
+pub use answer::{Cover, May, Refusal, UnveilFault, Verdict};
 pub use call::{Call, Need};
 pub use laws::{
-    cover_examples, cover_laws, promise_laws, resolution_law, standing_law, verdict_examples,
+    cover_examples, cover_laws, limits_law, permission_constants, promise_bounds,
+    promise_constants, promise_laws, standing_law, verdict_examples,
 };
 pub use perms::Perms;
 pub use place::Place;
-pub use process::Process;
+pub use process::{PLACE_LIMIT, Process};
 pub use promises::Promises;

@@ -26,7 +26,7 @@ impl Model for Perms {
     ghost inverse = { λ n. record { letters = record { 0 = n } } };
 }
 
-ghost use Rattle.std.specs.Prelude.{⊤, ◌≡◌, [], ◌∷◌, codes, bit_and, bit_or};
+ghost use Rattle.std.specs.Prelude.{⊤, ◌≡◌, [], ◌∷◌, codes, bit_or};
 ghost use Rattle.pua_policy.specs.Promises.{holds, perms_of, letter_of, reading, writing, executing, creating};
 
 use pua_path::Errno;

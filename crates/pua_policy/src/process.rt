@@ -10,8 +10,8 @@ use pua_tree::{NodeId, OutOfMemory};
 use std::alloc::Global;
 use std::marker::Model;
 
-/// How many places one process may keep veils at.
-const PLACE_LIMIT: usize = 128;
+/// A process keeps veils at no more places than so many.
+pub const PLACE_LIMIT: usize = 128;
 
 /// How many places a new process has room for.
 const FIRST_PLACES: usize = 8;

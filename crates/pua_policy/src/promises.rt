@@ -26,11 +26,30 @@ impl Model for Promises {
     ghost inverse = { λ n. record { keywords = record { 0 = n } } };
 }
 
-ghost use Rattle.std.specs.Prelude.{⊤, ◌≡◌, [], ◌∷◌, ◌==◌, bit_and, bit_or, map, option_map};
+ghost use Rattle.std.specs.Prelude.{⊤, ◌≡◌, ◌==◌, bit_and, bit_or, map, option_map};
 ghost use Rattle.pua_policy.specs.Promises.{holds, promises_of, promise_of, union_of, keyword_rows};
 ghost use Rattle.std.specs.List.{slice_split};
 
 use pua_path::Errno;
+
+/// The keywords that a call needs, or that decide what a call without its promises gets.
+impl Keywords {
+    const CPATH: Keywords = Keywords(1 << 3);
+
+    const ERROR: Keywords = Keywords(1 << 8);
+
+    const EXEC: Keywords = Keywords(1 << 9);
+
+    const FATTR: Keywords = Keywords(1 << 10);
+
+    const PROC: Keywords = Keywords(1 << 17);
+
+    const RPATH: Keywords = Keywords(1 << 22);
+
+    const UNVEIL: Keywords = Keywords(1 << 30);
+
+    const WPATH: Keywords = Keywords(1 << 34);
+}
 
 static KEYWORDS: [Flag<Keywords>; 36] = [
     Flag {
@@ -47,7 +66,7 @@ static KEYWORDS: [Flag<Keywords>; 36] = [
     },
     Flag {
         name: "cpath",
-        value: Keywords(1 << 3),
+        value: Keywords::CPATH,
     },
     Flag {
         name: "disklabel",
@@ -67,15 +86,15 @@ static KEYWORDS: [Flag<Keywords>; 36] = [
     },
     Flag {
         name: "error",
-        value: Keywords(1 << 8),
+        value: Keywords::ERROR,
     },
     Flag {
         name: "exec",
-        value: Keywords(1 << 9),
+        value: Keywords::EXEC,
     },
     Flag {
         name: "fattr",
-        value: Keywords(1 << 10),
+        value: Keywords::FATTR,
     },
     Flag {
         name: "flock",
@@ -103,7 +122,7 @@ static KEYWORDS: [Flag<Keywords>; 36] = [
     },
     Flag {
         name: "proc",
-        value: Keywords(1 << 17),
+        value: Keywords::PROC,
     },
     Flag {
         name: "prot_exec",
@@ -123,7 +142,7 @@ static KEYWORDS: [Flag<Keywords>; 36] = [
     },
     Flag {
         name: "rpath",
-        value: Keywords(1 << 22),
+        value: Keywords::RPATH,
     },
     Flag {
         name: "sendfd",
@@ -155,7 +174,7 @@ static KEYWORDS: [Flag<Keywords>; 36] = [
     },
     Flag {
         name: "unveil",
-        value: Keywords(1 << 30),
+        value: Keywords::UNVEIL,
     },
     Flag {
         name: "video",
@@ -171,7 +190,7 @@ static KEYWORDS: [Flag<Keywords>; 36] = [
     },
     Flag {
         name: "wpath",
-        value: Keywords(1 << 34),
+        value: Keywords::WPATH,
     },
     Flag {
         name: "wroute",
@@ -214,42 +233,42 @@ impl Promises {
 
     /// To create and to remove files.
     pub const CPATH: Promises = Promises {
-        keywords: Keywords(1 << 3),
+        keywords: Keywords::CPATH,
     };
 
     /// Calls that lack a promise fail with ENOSYS, and the process lives.
     pub const ERROR: Promises = Promises {
-        keywords: Keywords(1 << 8),
+        keywords: Keywords::ERROR,
     };
 
     /// To execute files.
     pub const EXEC: Promises = Promises {
-        keywords: Keywords(1 << 9),
+        keywords: Keywords::EXEC,
     };
 
     /// To change the modes of files.
     pub const FATTR: Promises = Promises {
-        keywords: Keywords(1 << 10),
+        keywords: Keywords::FATTR,
     };
 
     /// To make processes.
     pub const PROC: Promises = Promises {
-        keywords: Keywords(1 << 17),
+        keywords: Keywords::PROC,
     };
 
     /// To read files, and to look at them.
     pub const RPATH: Promises = Promises {
-        keywords: Keywords(1 << 22),
+        keywords: Keywords::RPATH,
     };
 
     /// To put veils on places.
     pub const UNVEIL: Promises = Promises {
-        keywords: Keywords(1 << 30),
+        keywords: Keywords::UNVEIL,
     };
 
     /// To write files.
     pub const WPATH: Promises = Promises {
-        keywords: Keywords(1 << 34),
+        keywords: Keywords::WPATH,
     };
 
     /// The promises that keywords name, with a comma between each two, in any order and with repeats;

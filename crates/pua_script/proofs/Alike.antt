@@ -10,6 +10,7 @@ use Rattle.pua_tree.specs.Tree.{Tree, Node, Spot}
 use Rattle.pua_tree.specs.declared.fault.TreeFault.{TreeFault}
 use Rattle.pua_path.specs.Paths.{path_fault}
 use Rattle.pua_path.specs.Resolution.{resolution_of_text}
+use Rattle.pua_path.specs.Fits.{node_named}
 use Rattle.pua_path.specs.declared.errno.Errno.{Errno}
 use Rattle.pua_path.specs.declared.errno.Errno.TheVariants.{EPERM, EINVAL, EAGAIN}
 use Rattle.pua_path.specs.declared.text.Ending.{Ending}
@@ -24,7 +25,7 @@ use Rattle.pua_policy.specs.History.{History, Pledged, Unveiled, Locked, Moved, 
 use Rattle.pua_policy.specs.Verdict.{place_of, cover, cover_fault, or_fault, object_fault, object_of, object_named, allowed_unless, verdict_of}
 use Rattle.pua_policy.specs.Verdict.{if_promised as verdict_if}
 use Rattle.pua_policy.specs.Laws.{AllowAlike}
-use Rattle.pua_policy.proofs.Standing.{processes_decide}
+use Rattle.pua_policy.proofs.ForCallers.{processes_decide}
 use Rattle.pua_policy.specs.declared.call.Call.{Call}
 use Rattle.pua_policy.specs.declared.call.Call.TheVariants as call
 use Rattle.pua_policy.specs.declared.answer.May.{May}
@@ -37,7 +38,8 @@ use Rattle.pua_script.specs.declared.answer.Answer.TheVariants.{Gone}
 use Rattle.pua_script.specs.declared.request.Given.{Given}
 use Rattle.pua_script.specs.declared.request.Action.{Action}
 use Rattle.pua_script.specs.declared.request.Action.TheVariants.{OnPath, Symlink, Rename, Pledge, Unveil, Lock, Fork, Exit}
-use Rattle.pua_script.specs.Replay.{World, Effect, Fails, Kills, Leaves, Copies, history_of, effect, if_promised, unless, edited, edited_tree, added, removed, moved_to, change, by_verdict, on_found, path_call, symlink_effect, link_node, on_two_paths, rename_found, shifted, node_named, unveil_errno, unveil_effect, given_set, is_unknown, pledge_effect, process_limit, fork_effect, answer_to, left_by, served, apply, answers, world_after}
+use Rattle.pua_script.specs.Replay.{World, Effect, Fails, Kills, Leaves, Copies, history_of, effect, if_promised, unless, edited, edited_tree, added, removed, moved_to, change, by_verdict, on_found, path_call, symlink_effect, link_node, on_two_paths, rename_found, shifted, unveil_errno, veil_on, veil_put, given_set, is_unknown, pledge_effect, fork_effect, answer_to, left_by, served, apply, answers, world_after}
+use Rattle.pua_script.specs.Limits.{process_limit}
 use Rattle.pua_script.specs.Worlds.{WorldState, StandsAt, StandsForWorld, WorldsAnswerAlike, process_at}
 use Rattle.pua_script.proofs.StoodFor.{nat_tie, nat_turned, true_from_T, T_from_true}
 use Rattle.pua_script.proofs.Histories.{Same, state_of, same_self, same_from_standing, stands_from_same, same_more, same_after_exec}
@@ -177,20 +179,20 @@ module _ (h k : History) (a : Same h k) where
       (λ i. cond (is_unknown p || is_unknown e) (Fails EINVAL) (unless (allow.pledges (given_set p) (given_set e) i) (Leaves t (Pledged (given_set p) (given_set e) ∷ h))))
       (same_if (is_unknown p || is_unknown e) _ _ _ _ fails (same_unless _ _ _ (leaves (same_more (Pledged (given_set p) (given_set e)) h k a))))
 
-  same_unveil_effect : (t : Tree) (path : List ℕ) (perms : Option ℕ) → SameEffect (unveil_effect t h path perms) (unveil_effect t k path perms)
-  same_unveil_effect t path None = fails
-  same_unveil_effect t path (Some perms) =
+  same_veil_on : (t : Tree) (path : List ℕ) (perms : Option ℕ) → SameEffect (veil_on t h path perms (veil_put t h)) (veil_on t k path perms (veil_put t k))
+  same_veil_on t path None = fails
+  same_veil_on t path (Some perms) =
       turned _ (on_found (resolution_of_text t (working_dir k) ending.Dot path Followed) λ object. unless (unveil_errno (unveil_fault k (place_of object) perms)) (Leaves t (Unveiled (place_of object) perms ∷ h))) _
       (λ i. on_found (resolution_of_text t (a.dir i) ending.Dot path Followed) λ object. unless (unveil_errno (allow.unveils (place_of object) perms i)) (Leaves t (Unveiled (place_of object) perms ∷ h)))
       (same_found (resolution_of_text t (working_dir k) ending.Dot path Followed) _ _ λ object.
       same_unless (unveil_errno (unveil_fault k (place_of object) perms)) _ _ (leaves {t = t} (same_more (Unveiled (place_of object) perms) h k a)))
 
   same_unveil : (t : Tree) (path : List ℕ) (perms : Option ℕ)
-      → SameEffect (if_promised (may_any h (unveil ∷ [])) (cond (is_locked h) (Fails EPERM) (unveil_effect t h path perms))) (if_promised (may_any k (unveil ∷ [])) (cond (is_locked k) (Fails EPERM) (unveil_effect t k path perms)))
+      → SameEffect (if_promised (may_any h (unveil ∷ [])) (cond (is_locked h) (Fails EPERM) (veil_on t h path perms (veil_put t h)))) (if_promised (may_any k (unveil ∷ [])) (cond (is_locked k) (Fails EPERM) (veil_on t k path perms (veil_put t k))))
   same_unveil t path perms =
-      turned _ (if_promised (may_any k (unveil ∷ [])) (cond (is_locked k) (Fails EPERM) (unveil_effect t h path perms))) _
-      (λ i. if_promised (allow.promises (unveil ∷ []) i) (cond (a.locked i) (Fails EPERM) (unveil_effect t h path perms)))
-      (same_promised _ _ _ (same_if (is_locked k) _ _ _ _ (fails_alike EPERM) (same_unveil_effect t path perms)))
+      turned _ (if_promised (may_any k (unveil ∷ [])) (cond (is_locked k) (Fails EPERM) (veil_on t h path perms (veil_put t h)))) _
+      (λ i. if_promised (allow.promises (unveil ∷ []) i) (cond (a.locked i) (Fails EPERM) (veil_on t h path perms (veil_put t h))))
+      (same_promised _ _ _ (same_if (is_locked k) _ _ _ _ (fails_alike EPERM) (same_veil_on t path perms)))
 
   same_lock : (t : Tree) → SameEffect (if_promised (may_any h (unveil ∷ [])) (Leaves t (Locked ∷ h))) (if_promised (may_any k (unveil ∷ [])) (Leaves t (Locked ∷ k)))
   same_lock t = turned _ (if_promised (may_any k (unveil ∷ [])) (Leaves t (Locked ∷ h))) _
@@ -249,7 +251,7 @@ module _ (v w : World) (same : SameWorlds v w) where
   same_effect h k a (Rename old new) = subst (λ t. SameEffect (effect standard_table v h (Rename old new)) (on_two_paths t k ending.Dropped old new (λ x y. rename_found t k x y (node_named x)))) same.tree
       (same_two_paths h k a v.tree ending.Dropped old new _ _ (λ x y. same_rename h k a v.tree x y (node_named x)))
   same_effect h k a (Pledge p e) = subst (λ t. SameEffect (effect standard_table v h (Pledge p e)) (pledge_effect t k p e)) same.tree (same_pledge h k a v.tree p e)
-  same_effect h k a (Unveil path perms) = subst (λ t. SameEffect (effect standard_table v h (Unveil path perms)) (if_promised (may_any k (unveil ∷ [])) (cond (is_locked k) (Fails EPERM) (unveil_effect t k path perms)))) same.tree (same_unveil h k a v.tree path perms)
+  same_effect h k a (Unveil path perms) = subst (λ t. SameEffect (effect standard_table v h (Unveil path perms)) (if_promised (may_any k (unveil ∷ [])) (cond (is_locked k) (Fails EPERM) (veil_on t k path perms (veil_put t k))))) same.tree (same_unveil h k a v.tree path perms)
   same_effect h k a Lock = subst (λ t. SameEffect (effect standard_table v h Lock) (if_promised (may_any k (unveil ∷ [])) (Leaves t (Locked ∷ k)))) same.tree (same_lock h k a v.tree)
   same_effect h k a (Fork new) = same_fork new h k a
   same_effect h k a Exit = subst (λ t. SameEffect (Leaves v.tree (Ended ∷ h)) (Leaves t (Ended ∷ k))) same.tree (leaves (same_more Ended h k a))

@@ -11,7 +11,7 @@ use Rattle.pua_tree.specs.Names.{same_bytes}
 use Rattle.pua_tree.specs.Spelling.{unspelled, fields, is_field, number_within}
 use Rattle.pua_tree.specs.Steps.{◌>>=◌}
 use Rattle.pua_tree.specs.Listing.{only_if}
-use Rattle.pua_tree.proofs.Spellings.{same_Some, None≢Some, guarded, Err≢Ok, same_Ok, unspelled-spelling, spelling-unspelled, bytes_unspelled, decimal_within, number_read}
+use Rattle.pua_tree.proofs.ForCallers.{same_Some, None≢Some, guarded, Err≢Ok, same_Ok, unspelled-spelling, spelling-unspelled, bytes_unspelled, decimal_within, number_read}
 use Rattle.pua_path.specs.declared.errno.Errno.{Errno}
 use Rattle.pua_policy.specs.Promises.{promises_of, perms_of}
 use Rattle.pua_policy.specs.Calls.{calls, call_name, call_named}

@@ -12,7 +12,7 @@ use Rattle.pua_policy.specs.Promises.{unveil}
 use Rattle.pua_policy.specs.Calls.{CallTable}
 use Rattle.pua_policy.specs.History.{History, Event, Pledged, Unveiled, Locked, Moved, Ended, kept, is_locked, is_ended, has_error, may_any}
 use Rattle.pua_policy.specs.Verdict.{is_unveil}
-use Rattle.pua_policy.proofs.Narrowing.{held_never_grows}
+use Rattle.pua_policy.proofs.ForCallers.{held_never_grows}
 use Rattle.pua_policy.specs.declared.call.Call.{Call}
 use Rattle.pua_policy.specs.declared.call.Call.TheVariants as call
 use Rattle.pua_policy.specs.declared.answer.May.{May}
@@ -22,7 +22,7 @@ use Rattle.pua_policy.specs.declared.answer.Verdict.TheVariants as verdicts
 use Rattle.pua_policy.specs.declared.place.Place.{Place}
 use Rattle.pua_script.specs.declared.request.Action.{Action}
 use Rattle.pua_script.specs.declared.request.Action.TheVariants.{OnPath, Symlink, Rename, Pledge, Unveil, Lock, Fork, Exit}
-use Rattle.pua_script.specs.Replay.{World, Effect, Fails, Kills, Leaves, Copies, effect, if_promised, unless, edited, edited_tree, added, removed, moved_to, change, by_verdict, on_found, rename_found, shifted, unveil_effect}
+use Rattle.pua_script.specs.Replay.{World, Effect, Fails, Kills, Leaves, Copies, effect, if_promised, unless, edited, edited_tree, added, removed, moved_to, change, by_verdict, on_found, rename_found, shifted, veil_on, veil_put}
 use Rattle.pua_script.specs.Laws.{IsConfined, Narrows, IsExec, RequestsNarrow}
 
 -- the history as it was, or with one event that is no unveil
@@ -166,7 +166,7 @@ fine_effect table w h (OnPath c path) confined other = let each : (x : Found) �
 fine_effect table w h (Symlink target path) confined other = search (fine_promised h, fine_unless h, fine_verdict h, fine_found h, fine_added h) depth 9
 fine_effect table w h (Rename old new) confined other = search (fine_promised h, fine_found h, fine_unless h, fine_rename h) depth 9
 fine_effect table w h (Pledge promises execpromises) confined other = search (fine_if h, fine_unless h, fails, pledges h) depth 9
-fine_effect table w h (Unveil path perms) confined other = no_unveil h confined (unveil_effect w.tree h path perms)
+fine_effect table w h (Unveil path perms) confined other = no_unveil h confined (veil_on w.tree h path perms (veil_put w.tree h))
 fine_effect table w h Lock confined other = fine_promised h (may_any h (unveil ∷ [])) (Leaves w.tree (Locked ∷ h)) (adds h Locked refl)
 fine_effect table w h (Fork new) confined other = search (fine_promised h, fine_if h, fails, copies) depth 9
 fine_effect table w h Exit confined other = adds h Ended refl

@@ -6,7 +6,7 @@ use Rattle.std.specs.List.{list_all}
 use Rattle.std.proofs.lemmas.Bool.{and_from, le-leb, not_from_false}
 use Rattle.pua_tree.specs.Spelling.{fields, is_field, number_within}
 use Rattle.pua_tree.specs.Fields.{first_fields}
-use Rattle.pua_tree.proofs.Spellings.{guarded, number_read}
+use Rattle.pua_tree.proofs.ForCallers.{guarded, number_read}
 use Rattle.pua_script.specs.Requests.{has_no_nul, is_asked, is_askable}
 use Rattle.pua_script.specs.declared.request.Action.{Action}
 use Rattle.pua_script.specs.declared.fault.ScriptFault.TheVariants.{BadLine, BadCall}

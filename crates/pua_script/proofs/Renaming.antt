@@ -1,4 +1,4 @@
--- Steps in the proof of a rename.
+-- Steps in the proofs of edits.
 use Rattle.std.proofs.Common.{◌≡◌, ◌≢◌, ℕ, true, false, refl, ap, ◌∙◌}
 use Rattle.std.specs.Prelude.{Option, Some, None, ◌==◌, ◌||◌}
 use Rattle.std.specs.Option.{option_or}
@@ -6,7 +6,7 @@ use Rattle.std.specs.List.{list_any}
 use Rattle.pua_tree.specs.Tree.{Tree, WellFormed, is_dir, above, climb}
 use Rattle.pua_path.specs.declared.errno.Errno.{Errno}
 use Rattle.pua_policy.specs.Verdict.{or_fault}
-use Rattle.pua_policy.proofs.Climbs.{climb_step}
+use Rattle.pua_policy.proofs.ForCallers.{climb_step}
 
 -- the first of two faults
 pub first_fault : (a b : Option Errno) → option_or a b ≡ or_fault a b

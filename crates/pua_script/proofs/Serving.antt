@@ -16,8 +16,9 @@ use Rattle.pua_script.specs.declared.answer.Answer.{Answer}
 use Rattle.pua_script.specs.declared.fault.WorldFault.{WorldFault}
 use Rattle.pua_script.specs.declared.answer.Answer.TheVariants.{Okay, Gone}
 use Rattle.pua_script.specs.declared.request.Action.TheVariants.{Fork}
-use Rattle.pua_script.specs.Replay.{World, Effect, Fails, Kills, Leaves, Copies, if_promised, process_limit, history_of, effect, answer_to, left_by, served, world_after}
-use Rattle.pua_script.specs.Worlds.{WorldState, StandsAt, StandsForWorld, process_at, IsServed, AreServed, AreServedInPart, Does, Acts}
+use Rattle.pua_script.specs.Replay.{World, Effect, Fails, Kills, Leaves, Copies, if_promised, history_of, effect, answer_to, left_by, served, apply, world_after}
+use Rattle.pua_script.specs.Limits.{process_limit}
+use Rattle.pua_script.specs.Worlds.{WorldState, StandsAt, StandsForWorld, HasReplay, process_at, IsOkay, IsServed, AreServed, AreServedInPart, Does, Acts}
 use Rattle.pua_script.proofs.Composition.{replay_composes}
 use Rattle.pua_script.proofs.StoodFor.{same_numbers, stands_changed, stands_made}
 
@@ -69,6 +70,22 @@ module _ (s : WorldState) (ask : Asked) (answer : Answer) (t : Tree) (p q : Proc
       by (Some h) known at =
           let own : StandsFor p h = subst (λ o. StandsAt o (Some h)) there at in
           lives h (is_ended h) _ (sym own.ended ∙ living) (left w stands h known (effect standard_table w h ask.action) (acts w h stands own))
+
+-- a living process that would be told `ok` is answered so
+module _ (s : WorldState) (ask : Asked) (p : ProcessState) (there : process_at s ask.process ≡ Some p) (living : p.ended ≡ false)
+    (okay : (w : World) (h : History) → StandsForWorld s w → StandsFor p h → answer_to (effect standard_table w h ask.action) ≡ Okay) where
+  pub is_okay : IsOkay s ask
+  is_okay w stands = by (history_of w ask.process) (stands.processes ask.process)
+    where
+      lives : (b : Bool) (d : Answer × World) → b ≡ false → d.0 ≡ Okay → (cond b (Gone, w) d).0 ≡ Okay
+      lives true d e done = absurd (true≢false e)
+      lives false d e done = done
+
+      by : (g : Option History) → StandsAt (process_at s ask.process) g → (served standard_table w ask g).0 ≡ Okay
+      by None at = absurd (subst (λ o. StandsAt o None) there at)
+      by (Some h) at =
+          let own : StandsFor p h = subst (λ o. StandsAt o (Some h)) there at in
+          lives (is_ended h) _ (sym own.ended ∙ living) (okay w h stands own)
 
 -- where a fork is refused, so it is in the replay
 pub refused_alike : (s : WorldState) (w : World) → StandsForWorld s w → (h : History) (new : ℕ) (b : Bool) → b ≡ (is_some (process_at s new) || nat_le process_limit (length s.processes))
@@ -144,9 +161,20 @@ served_before before mid after asks own i told is same first = (
 -- where a growth may have been refused
 pub all_serve : (s : WorldState) (ask : Asked) (r : Result Answer WorldFault) (t : Tree) (p q : ProcessState) (more : List (ℕ × ProcessState)) → Some p ≡ process_at s ask.process → p.ended ≡ false
     → ((n : ℕ) → lookup (nat_eq n) more ≡ cond (nat_eq ask.process n) (Some q) (process_at s n)) → length more ≡ length s.processes
-    → IfOk r (λ answer. Acts s.tree p ask.action answer t q) → IfOk r (λ answer. IsServed s ask answer (record { tree = t; processes = more }))
+    → Acts s.tree p ask.action r t q → IfOk r (λ answer. IsServed s ask answer (record { tree = t; processes = more }))
 all_serve s ask (Ok answer) t p q more there living changed counted acts = serves s ask answer t p q more (sym there) living changed counted (λ w h stands own. acts w h (sym stands.tree) own)
 all_serve s ask (Err fault) t p q more there living changed counted acts = tt
+
+-- where a growth was refused, the replay answers `ok`
+pub all_okay : (s : WorldState) (ask : Asked) (r : Result Answer WorldFault) (t : Tree) (p q : ProcessState) → Some p ≡ process_at s ask.process → p.ended ≡ false
+    → Acts s.tree p ask.action r t q → OnErr r (IsOkay s ask)
+all_okay s ask (Ok answer) t p q there living acts = tt
+all_okay s ask (Err fault) t p q there living acts = is_okay s ask p (sym there) living (λ w h stands own. acts w h (sym stands.tree) own)
+
+-- where it was not, the replay goes on
+pub goes_on : (r : Result Answer WorldFault) (s after : WorldState) (ask : Asked) → HasReplay s → IfOk r (λ answer. IsServed s ask answer after) → OnErr r (after ≡ s) → HasReplay after
+goes_on (Ok answer) s after ask has done same = record { world = (apply standard_table has.world ask).1; stands = (done has.world has.stands).1 }
+goes_on (Err fault) s after ask has done same = subst HasReplay (sym same) has
 
 pub all_fork : (r : Result Answer WorldFault) (s : WorldState) (t : Tree) (before after : List (ℕ × ProcessState)) (ask asked : Asked) → record { tree = t; processes = before } ≡ s → ask ≡ asked
     → IfOk r (λ answer. (t : Tree) → IsServed (record { tree = t; processes = before }) ask answer (record { tree = t; processes = after }))
@@ -154,6 +182,11 @@ pub all_fork : (r : Result Answer WorldFault) (s : WorldState) (t : Tree) (befor
 all_fork (Ok answer) s t before after ask asked is same served = subst (λ s. IsServed s asked answer (record { tree = t; processes = after })) is
     (subst (λ a. IsServed (record { tree = t; processes = before }) a answer (record { tree = t; processes = after })) same (served t))
 all_fork (Err fault) s t before after ask asked is same served = tt
+
+pub all_fork_okay : (r : Result Answer WorldFault) (s : WorldState) (t : Tree) (before : List (ℕ × ProcessState)) (ask asked : Asked) → record { tree = t; processes = before } ≡ s → ask ≡ asked
+    → OnErr r ((t : Tree) → IsOkay (record { tree = t; processes = before }) ask) → OnErr r (IsOkay s asked)
+all_fork_okay (Ok answer) s t before ask asked is same okay = tt
+all_fork_okay (Err fault) s t before ask asked is same okay = subst (λ s. IsOkay s asked) is (subst (IsOkay (record { tree = t; processes = before })) same (okay t))
 
 -- a process written back as it was
 pub same_entries : (n : ℕ) (p q : ProcessState) (entries more : List (ℕ × ProcessState)) → Some p ≡ lookup (nat_eq n) entries → more ≡ set_value (nat_eq n) entries q → q ≡ p → more ≡ entries

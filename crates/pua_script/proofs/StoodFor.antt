@@ -1,5 +1,5 @@
 -- A world that stands for one of the replay still does after a process was changed or made on both sides.
-use Rattle.std.proofs.Common.{◌≡◌, ℕ, ◌+◌, T, eqb, Bool, true, false, cond, nat_eq, List, length, Option, Some, None, is_some, refl, sym, subst, ap, ◌∙◌}
+use Rattle.std.proofs.Common.{◌≡◌, ℕ, ◌+◌, T, eqb, Bool, true, false, cond, nat_eq, List, [], ◌∷◌, length, Option, Some, None, is_some, refl, sym, subst, ap, ◌∙◌}
 use Rattle.std.specs.Prelude.{IsTrue}
 use Rattle.std.proofs.lemmas.Bool.{eqb-true, eq-eqb}
 use Rattle.std.proofs.lemmas.Bool.Decides.{same_from_decides}
@@ -12,8 +12,8 @@ use Rattle.std.specs.FinMap.{put, find as find_key, is_sorted}
 use Rattle.std.specs.FinMap.Entries.{find-put, is_sorted-put, length-put}
 use Rattle.std.specs.Map.{lookup}
 use Rattle.pua_tree.specs.Tree.{Tree}
-use Rattle.pua_policy.specs.History.{History, ProcessState, StandsFor}
-use Rattle.pua_script.specs.Replay.{World, history_of}
+use Rattle.pua_policy.specs.History.{History, ProcessState, StandsFor, new_history}
+use Rattle.pua_script.specs.Replay.{World, history_of, new_world}
 use Rattle.pua_script.specs.Worlds.{WorldState, StandsAt, StandsForWorld, process_at}
 
 pub true_from_T : (b : Bool) → T b → b ≡ true
@@ -35,6 +35,17 @@ nat_turned p n = same_from_decides {P = p ≡ n} _ _ (eqb-true p n, eq-eqb p n) 
 stands_chosen : (b : Bool) (p : ProcessState) (h : History) (o : Option ProcessState) (g : Option History) → StandsFor p h → StandsAt o g → StandsAt (cond b (Some p) o) (cond b (Some h) g)
 stands_chosen true p h o g new old = new
 stands_chosen false p h o g new old = old
+
+-- process 1 alone
+pub stands_new : (t : Tree) (p : ProcessState) (entries : List (ℕ × ProcessState)) → entries ≡ (1, p) ∷ [] → StandsFor p new_history
+    → StandsForWorld (record { tree = t; processes = entries }) (new_world t)
+stands_new t p entries is own = rw is (record {
+  tree = refl;
+  processes = λ n. subst (λ b. StandsAt (cond b (Some p) None) (history_of (new_world t) n)) (sym (nat_turned n 1 ∙ sym (nat_tie n 1)))
+      (stands_chosen (eq_by_cmp nat_cmp n 1) p new_history None None own tt);
+  count = refl;
+  in_order = refl;
+})
 
 -- the same numbers are known on both sides
 pub same_numbers : (o : Option ProcessState) (g : Option History) → StandsAt o g → is_some o ≡ is_some g

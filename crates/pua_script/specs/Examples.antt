@@ -8,7 +8,7 @@ use Rattle.pua_script.specs.Requests.{Asked}
 use Rattle.pua_script.specs.Scripts.{script}
 use Rattle.pua_script.specs.Replay.{answers, new_world}
 use Rattle.pua_tree.specs.declared.fault.ListingFault.{ListingFault}
-use Rattle.pua_path.specs.declared.errno.Errno.TheVariants.{EPERM, ENOENT, EACCES, EAGAIN, EBUSY, EEXIST, ENOTDIR, EINVAL, ELOOP, ENAMETOOLONG, ENOTEMPTY, ENOSYS}
+use Rattle.pua_path.specs.declared.errno.Errno.TheVariants.{EPERM, ENOENT, EACCES, EAGAIN, EBUSY, EEXIST, ENOTDIR, EISDIR, EINVAL, ELOOP, ENAMETOOLONG, ENOTEMPTY, ENOSYS}
 use Rattle.pua_script.specs.declared.answer.Answer.{Answer}
 use Rattle.pua_script.specs.declared.answer.Answer.TheVariants.{Okay, Failed, Killed, Gone}
 use Rattle.pua_script.specs.declared.fault.ScriptFault.{ScriptFault}
@@ -28,6 +28,39 @@ root_alone = codes "tree 1" ∷ codes "0 dir" ∷ []
 
 abbrev pub example : List (List ℕ)
 example = codes "tree 1" ∷ codes "0 dir" ∷ codes "1 dir 0 etc" ∷ codes "2 file 1 passwd" ∷ codes "3 dir 0 tmp" ∷ codes "4 link 0 t tmp" ∷ codes "5 link 3 up ../etc" ∷ codes "6 link 3 self self" ∷ codes "7 prog 3 sh" ∷ []
+
+-- a directory with files and a directory in which something stands, and a file
+abbrev pub ordered : List (List ℕ)
+ordered = root_alone ++ codes "1 dir 0 d" ∷ codes "2 file 1 f" ∷ codes "3 file 1 g" ∷ codes "4 file 0 f" ∷ codes "5 dir 1 e" ∷ codes "6 file 5 x" ∷ []
+
+-- what is checked first of two things that are wrong with a rename, for each two that follow on one another
+pub record RenameRows : Type 0 where
+  pub promise_before_old_path : answers_of ordered (codes "1 pledge stdio,error -" ∷ codes "1 rename /no/x /y" ∷ []) ≡ Okay ∷ Failed ENOSYS ∷ []
+  pub old_path_before_new_path : answers_of ordered (codes "1 rename /f/x /no/x" ∷ []) ≡ Failed ENOTDIR ∷ []
+  pub new_path_before_old_cover : answers_of ordered (codes "1 unveil /d rwc" ∷ codes "1 rename /f /d/f/x" ∷ []) ≡ Okay ∷ Failed ENOTDIR ∷ []
+  pub old_cover_before_new_cover : answers_of ordered (codes "1 unveil /d rwc" ∷ codes "1 unveil /d/f r" ∷ codes "1 rename /d/f /x" ∷ []) ≡ Okay ∷ Okay ∷ Failed EACCES ∷ []
+  pub new_cover_before_missing : answers_of ordered (codes "1 unveil /d rwc" ∷ codes "1 unveil /d/g r" ∷ codes "1 rename /d/no /d/g" ∷ []) ≡ Okay ∷ Okay ∷ Failed EACCES ∷ []
+  pub missing_before_dots : answers_of ordered (codes "1 rename /no /d/." ∷ []) ≡ Failed ENOENT ∷ []
+  pub dots_before_top : answers_of ordered (codes "1 rename / /d/." ∷ codes "1 rename /d/.. /" ∷ []) ≡ Failed EINVAL ∷ Failed EINVAL ∷ []
+  pub top_before_same : answers_of ordered (codes "1 rename / /" ∷ []) ≡ Failed EBUSY ∷ []
+  pub same_before_kinds : answers_of ordered (codes "1 rename /d /d" ∷ []) ≡ Okay ∷ []
+  pub inside_before_kinds : answers_of ordered (codes "1 rename /d /d/e" ∷ codes "1 rename /d /d/f" ∷ []) ≡ Failed EINVAL ∷ Failed EINVAL ∷ []
+  pub not_directory_before_empty : answers_of ordered (codes "1 rename /f /d" ∷ codes "1 rename /d/e /f" ∷ []) ≡ Failed EISDIR ∷ Failed ENOTDIR ∷ []
+
+pub rename_rows : RenameRows
+rename_rows = record {
+  promise_before_old_path = refl;
+  old_path_before_new_path = refl;
+  new_path_before_old_cover = refl;
+  old_cover_before_new_cover = refl;
+  new_cover_before_missing = refl;
+  missing_before_dots = refl;
+  dots_before_top = refl;
+  top_before_same = refl;
+  same_before_kinds = refl;
+  inside_before_kinds = refl;
+  not_directory_before_empty = refl;
+}
 
 pub record ReplayRows : Type 0 where
   -- a link to itself is not followed without end
@@ -54,6 +87,10 @@ pub record ReplayRows : Type 0 where
   pub working_directory_removed : answers_of (root_alone ++ codes "1 dir 0 d" ∷ []) (codes "1 chdir /d" ∷ codes "1 rmdir /d" ∷ codes "1 stat ." ∷ codes "1 stat .." ∷ codes "1 stat /" ∷ []) ≡ Okay ∷ Okay ∷ Failed ENOENT ∷ Failed ENOENT ∷ Okay ∷ []
   -- create goes through a dangling link, and mkdir does not
   pub dangling_link : answers_of (root_alone ++ codes "1 link 0 l x" ∷ []) (codes "1 mkdir /l" ∷ codes "1 create /l" ∷ codes "1 lstat /x" ∷ codes "1 unlink /l" ∷ codes "1 stat /x" ∷ []) ≡ Failed EEXIST ∷ Okay ∷ Okay ∷ Okay ∷ Okay ∷ []
+  -- the lock before the letters
+  pub lock_before_letters : answers_of root_alone (codes "1 unveil - -" ∷ codes "1 unveil / q" ∷ []) ≡ Okay ∷ Failed EPERM ∷ []
+  -- an unknown keyword in either argument before a promise that is not held
+  pub unknown_before_increase : answers_of root_alone (codes "1 pledge stdio,rpath -" ∷ codes "1 pledge stdio,wpath zpath" ∷ []) ≡ Okay ∷ Failed EINVAL ∷ []
   -- unveil's checks in their order
   pub unveils : answers_of example (codes "1 unveil /etc r" ∷ codes "1 unveil /etc rw" ∷ codes "1 unveil /etc/passwd rw" ∷ codes "1 unveil /etc q" ∷ codes "1 unveil /no/x r" ∷ codes "1 unveil - -" ∷ codes "1 unveil /tmp r" ∷ codes "1 unveil - -" ∷ []) ≡ Okay ∷ Failed EPERM ∷ Okay ∷ Failed EINVAL ∷ Failed ENOENT ∷ Okay ∷ Failed EPERM ∷ Okay ∷ []
   -- a directory's veil goes with its node
@@ -85,6 +122,8 @@ replay_rows = record {
   exec_without_promises = refl;
   working_directory_removed = refl;
   dangling_link = refl;
+  lock_before_letters = refl;
+  unknown_before_increase = refl;
   unveils = refl;
   veil_moves = refl;
   name_becomes_directory = refl;

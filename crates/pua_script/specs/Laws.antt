@@ -1,15 +1,21 @@
 -- What is true of replays.
-use Rattle.std.specs.Prelude.{◌≡◌, ℕ, true, false, ◌⊎◌, List, ◌++◌, IsTrue, bit_and, ◌<◌, ◌^◌}
-use Rattle.pua_tree.specs.Tree.{Tree}
+use Rattle.std.specs.Prelude.{◌≡◌, ◌↔◌, ℕ, Bool, true, false, ◌⊎◌, None, List, ◌++◌, IsTrue, bit_and, ◌<◌, ◌^◌}
+use Rattle.pua_tree.specs.Tree.{Tree, Node}
+use Rattle.pua_tree.specs.Edits.{has_room}
+use Rattle.pua_path.specs.Fits.{node_named}
+use Rattle.pua_path.specs.declared.errno.Errno.TheVariants.{ENOSPC}
+use Rattle.pua_path.specs.declared.found.Found.{Found}
 use Rattle.pua_policy.specs.Promises.{holds, error, unveil}
 use Rattle.pua_policy.specs.History.{History, held, kept, is_locked}
 use Rattle.pua_policy.specs.Calls.{CallTable}
 use Rattle.pua_policy.specs.declared.place.Place.{Place}
 use Rattle.pua_script.specs.declared.request.Action.{Action}
 use Rattle.pua_script.specs.declared.request.Action.TheVariants.{OnPath}
+use Rattle.pua_policy.specs.declared.call.Call.{Call}
 use Rattle.pua_policy.specs.declared.call.Call.TheVariants as call
 use Rattle.pua_script.specs.Requests.{Asked}
-use Rattle.pua_script.specs.Replay.{World, Leaves, effect, answers, world_after}
+use Rattle.pua_script.specs.Replay.{World, Fails, Leaves, added, change, effect, answers, world_after}
+use Rattle.pua_script.specs.Judged.{NameFits, IsFor}
 
 -- a list of requests may be cut anywhere
 abbrev pub ReplayComposes : Type 0
@@ -35,3 +41,21 @@ IsExec _ = ⊥
 abbrev pub RequestsNarrow : Type 0
 RequestsNarrow = (table : CallTable) (w : World) (h : History) (action : Action) (t : Tree) (after : History) →
     IsConfined h → (IsExec action → ⊥) → effect table w h action ≡ Leaves t after → Narrows h after
+
+-- nothing stands there, and a further node has no room
+abbrev pub LacksRoom : Tree → Found → Type 0
+LacksRoom t object = (node_named object ≡ None) × (has_room t ≡ false)
+
+-- the calls that add a node
+abbrev pub adds_node : Call → Bool
+adds_node call.Create = true
+adds_node call.Mkdir = true
+adds_node _ = false
+
+-- what a path named is of the tree: then a node is not added exactly where it lacks room
+abbrev pub AddsLackRoom : Tree → History → Type 0
+AddsLackRoom t h = (node : Node) (object : Found) → NameFits t object → (added t h node object ≡ Fails ENOSPC) ↔ LacksRoom t object
+
+-- and nothing is wrong with it for a call: then an edit fails exactly where it adds a node that lacks room, and no other fault of a tree comes
+abbrev pub CallsLackRoom : Tree → History → Type 0
+CallsLackRoom t h = (c : Call) (object : Found) → IsFor t c object → (change t h c object ≡ Fails ENOSPC) ↔ (IsTrue (adds_node c) × LacksRoom t object)

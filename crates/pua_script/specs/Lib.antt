@@ -1,10 +1,10 @@
 pub mod AnswerTexts
+pub mod Limits
 pub mod Requests
 pub mod Scripts
 pub mod ScriptGrammar
 pub mod Replay
 pub mod Judged
-pub mod Renames
 pub mod Worlds
 pub mod Laws
 pub mod Examples

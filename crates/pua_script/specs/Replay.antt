@@ -6,11 +6,13 @@ use Rattle.pua_tree.specs.Tree.{Tree, Node, Spot, is_empty}
 use Rattle.pua_tree.specs.Edits.{add, cut, shift, is_inside, is_same_node}
 use Rattle.pua_path.specs.Paths.{path_fault}
 use Rattle.pua_path.specs.Resolution.{resolution_of_text}
+use Rattle.pua_path.specs.Fits.{spot_named, node_named}
 use Rattle.pua_policy.specs.Promises.{cpath, proc, unveil, creating}
 use Rattle.pua_policy.specs.Calls.{CallTable, rule_of}
 use Rattle.pua_policy.specs.History.{History, Pledged, Unveiled, Locked, Moved, Ended, new_history, working_dir, is_ended, is_locked, pledge_fault, unveil_fault, after_exec, may_any}
 use Rattle.pua_policy.specs.Verdict.{place_of, cover, cover_fault, or_fault, object_named, verdict_of}
 use Rattle.pua_script.specs.Requests.{Asked}
+use Rattle.pua_script.specs.Limits.{process_limit}
 use Rattle.pua_tree.specs.declared.node.Kind.{Kind}
 use Rattle.pua_tree.specs.declared.node.Kind.TheVariants as kind
 use Rattle.pua_tree.specs.declared.fault.TreeFault.{TreeFault}
@@ -22,6 +24,7 @@ use Rattle.pua_path.specs.declared.found.Last.TheVariants.{Followed, Kept}
 use Rattle.pua_path.specs.declared.found.Way.TheVariants as way
 use Rattle.pua_path.specs.declared.found.Found.{Found}
 use Rattle.pua_path.specs.declared.found.Found.TheVariants.{Whole, Slot}
+use Rattle.pua_policy.specs.declared.place.Place.{Place}
 use Rattle.pua_policy.specs.declared.call.Call.{Call}
 use Rattle.pua_policy.specs.declared.call.Call.TheVariants as call
 use Rattle.pua_policy.specs.declared.answer.UnveilFault.{UnveilFault}
@@ -138,16 +141,6 @@ symlink_effect table t h target path =
     (unless (path_fault target)
     (by_verdict (verdict_of t table h call.Symlink object) (on_found object (added t h (link_node target)))))
 
--- where a name is, and the node that has it
-abbrev pub spot_named : Found → Option Spot
-spot_named (Whole dir (way.Named parent name)) = Some (parent, name)
-spot_named (Whole dir _) = None
-spot_named (Slot dir name _) = Some (dir, name)
-
-abbrev pub node_named : Found → Option ℕ
-node_named (Whole dir way) = Some dir
-node_named (Slot dir name node) = node
-
 abbrev pub dots_fault : Found → Option Errno
 dots_fault (Whole dir way.Dot) = Some EINVAL
 dots_fault (Whole dir way.DotDot) = Some EINVAL
@@ -201,16 +194,21 @@ unveil_errno (Some NotPermitted) = Some EPERM
 unveil_errno (Some TooManyPlaces) = Some E2BIG
 unveil_errno (Some unveil_faults.OutOfMemory) = None
 
--- after the promise and the lock: the letters, the path, and the veils kept so far
-abbrev pub unveil_effect : Tree → History → List ℕ → Option ℕ → Effect
-unveil_effect t h path None = Fails EINVAL
-unveil_effect t h path (Some perms) =
-    on_found (resolution_of_text t (working_dir h) ending.Dot path Followed) λ object.
-    unless (unveil_errno (unveil_fault h (place_of object) perms)) (Leaves t (Unveiled (place_of object) perms ∷ h))
+-- the letters of an unveil and then its path, where the place and the permissions have this effect
+abbrev pub veil_on : Tree → History → List ℕ → Option ℕ → (Place → ℕ → Effect) → Effect
+veil_on t h path None f = Fails EINVAL
+veil_on t h path (Some perms) f = on_found (resolution_of_text t (working_dir h) ending.Dot path Followed) λ object. f (place_of object) perms
 
 -- an unveil of a path: the promise and the lock first
+abbrev pub unveil_on : Tree → History → List ℕ → Option ℕ → (Place → ℕ → Effect) → Effect
+unveil_on t h path perms f = if_promised (may_any h (unveil ∷ [])) (if is_locked h then Fails EPERM else veil_on t h path perms f)
+
+-- a veil put on a place, after the veils kept so far
+abbrev pub veil_put : Tree → History → Place → ℕ → Effect
+veil_put t h place perms = unless (unveil_errno (unveil_fault h place perms)) (Leaves t (Unveiled place perms ∷ h))
+
 abbrev pub unveil_request : Tree → History → List ℕ → Option ℕ → Effect
-unveil_request t h path perms = if_promised (may_any h (unveil ∷ [])) (if is_locked h then Fails EPERM else unveil_effect t h path perms)
+unveil_request t h path perms = unveil_on t h path perms (veil_put t h)
 
 abbrev pub given_set : Given → Option ℕ
 given_set (Good set) = Some set
@@ -225,10 +223,7 @@ pledge_effect t h promises execpromises =
     if is_unknown promises || is_unknown execpromises then Fails EINVAL
     else unless (pledge_fault h (given_set promises) (given_set execpromises)) (Leaves t (Pledged (given_set promises) (given_set execpromises) ∷ h))
 
--- 256 processes at most, and no number twice
-abbrev pub process_limit : ℕ
-process_limit = 256
-
+-- so many processes at most, and no number twice
 abbrev pub fork_effect : World → History → ℕ → Effect
 fork_effect w h new = if is_some (history_of w new) || nat_le process_limit (length w.histories) then Fails EAGAIN else Copies new
 

@@ -9,6 +9,7 @@ use Rattle.pua_tree.specs.Steps.{◌>>=◌}
 use Rattle.pua_tree.specs.Listing.{only_if}
 use Rattle.pua_policy.specs.Promises.{promises_of, perms_of}
 use Rattle.pua_policy.specs.Calls.{call_named}
+use Rattle.pua_script.specs.Limits.{line_limit, number_limit}
 use Rattle.pua_script.specs.Requests.{Asked, is_symlink, has_no_nul}
 use Rattle.pua_path.specs.declared.errno.Errno.{Errno}
 use Rattle.pua_policy.specs.declared.call.Call.{Call}
@@ -62,7 +63,7 @@ pub data Form : Type 0 where
 abbrev pub form_of : List ℕ → List (List ℕ) → Option Form
 form_of word [] = if same_bytes word (codes "exit") then Some ExitForm else None
 form_of word (a ∷ []) =
-    if same_bytes word (codes "fork") then option_map ForkForm (number_within 1 999999 a)
+    if same_bytes word (codes "fork") then option_map ForkForm (number_within 1 number_limit a)
     else option_map (λ call. PathForm call a) (only_if (λ call. not (is_symlink call)) (call_named word))
 form_of word (a ∷ b ∷ []) =
     if same_bytes word (codes "symlink") then Some (SymlinkForm a b)
@@ -108,7 +109,7 @@ action_in n more = ok_or (form_in more) (BadCall n) >>= action_of n
 abbrev pub request_of_fields : ℕ → List (List ℕ) → Result Asked ScriptFault
 request_of_fields n [] = Err (BadLine n)
 request_of_fields n (process ∷ more) = do
-  number ← ok_or (number_within 1 999999 process) (BadLine n)
+  number ← ok_or (number_within 1 number_limit process) (BadLine n)
   action ← action_in n more
   Ok (record { process = number; action = action })
 
@@ -120,9 +121,6 @@ request_of n text = if list_all is_field (fields text) then request_of_fields n 
 abbrev pub requests_of : ℕ → List (List ℕ) → Result (List Asked) ScriptFault
 requests_of n [] = Ok []
 requests_of n (text ∷ texts) = request_of n text >>= λ request. requests_of (suc n) texts >>= λ requests. Ok (request ∷ requests)
-
-abbrev pub line_limit : ℕ
-line_limit = 60000
 
 -- the requests of which the bytes are a script, or their first fault
 abbrev pub script : List ℕ → Result (List Asked) ScriptFault

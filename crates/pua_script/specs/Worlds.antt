@@ -1,5 +1,5 @@
 -- What a world keeps, and for which worlds of the replay it stands.
-use Rattle.std.specs.Prelude.{◌≡◌, ℕ, Bool, true, false, List, ◌∷◌, length, take, nat_eq, Option, Some, None, IsTrue}
+use Rattle.std.specs.Prelude.{◌≡◌, ℕ, Bool, true, false, List, ◌∷◌, length, take, nat_eq, Option, Some, None, Result, Ok, Err, IsTrue}
 use Rattle.std.specs.Ordering.{nat_cmp}
 use Rattle.std.specs.FinMap.{is_sorted}
 use Rattle.std.specs.Map.{lookup}
@@ -10,6 +10,8 @@ use Rattle.pua_script.specs.Requests.{Asked}
 use Rattle.pua_script.specs.Replay.{World, Effect, Kills, Leaves, Copies, history_of, apply, effect, answers, world_after, answer_to}
 use Rattle.pua_policy.specs.History.{Ended}
 use Rattle.pua_script.specs.declared.answer.Answer.{Answer}
+use Rattle.pua_script.specs.declared.answer.Answer.TheVariants.{Okay}
+use Rattle.pua_script.specs.declared.fault.WorldFault.{WorldFault}
 use Rattle.pua_script.specs.declared.request.Action.{Action}
 use Rattle.pua_script.specs.declared.request.Action.TheVariants.{Fork}
 
@@ -34,6 +36,15 @@ pub record StandsForWorld (s : WorldState) (w : World) : Type 0 where
   pub processes : (process : ℕ) → StandsAt (process_at s process) (history_of w process)
   pub count : length s.processes ≡ length w.histories
   pub in_order : IsTrue (is_sorted nat_cmp w.histories)
+
+-- what the world keeps is what some world of the replay has
+pub record HasReplay (s : WorldState) : Type 0 where
+  pub world : World
+  pub stands : StandsForWorld s world
+
+-- the replay's answer is `ok`, whichever world it stands for
+abbrev pub IsOkay : WorldState → Asked → Type 0
+IsOkay s ask = (w : World) → StandsForWorld s w → (apply standard_table w ask).0 ≡ Okay
 
 -- the answer is the replay's, and the world afterwards stands for the replay's, whichever world it stood for
 abbrev pub IsServed : WorldState → Asked → Answer → WorldState → Type 0
@@ -86,10 +97,20 @@ pub record Edits (t : Tree) (h : History) (effect : Effect) (answer : Answer) (t
   pub same : history_left h effect ≡ h
   pub alone : is_copy effect ≡ false
 
+-- a process was told of an effect and left with it, or a growth was refused, where it would be told `ok`
+abbrev pub Attempts : Tree → History → Effect → Result Answer WorldFault → Tree → ProcessState → Type 0
+Attempts t h effect (Ok answer) tree process = Does t h effect answer tree process
+Attempts t h effect (Err fault) tree process = answer_to effect ≡ Okay
+
+-- the same of an effect on the tree alone
+abbrev pub AttemptsEdit : Tree → History → Effect → Result Answer WorldFault → Tree → Type 0
+AttemptsEdit t h effect (Ok answer) tree = Edits t h effect answer tree
+AttemptsEdit t h effect (Err fault) tree = answer_to effect ≡ Okay
+
 -- a living process did what it asked for, whichever history it stands for
-abbrev pub Acts : Tree → ProcessState → Action → Answer → Tree → ProcessState → Type 0
-Acts t before action answer tree after =
-    (w : World) (h : History) → w.tree ≡ t → StandsFor before h → Does t h (effect standard_table w h action) answer tree after
+abbrev pub Acts : Tree → ProcessState → Action → Result Answer WorldFault → Tree → ProcessState → Type 0
+Acts t before action result tree after =
+    (w : World) (h : History) → w.tree ≡ t → StandsFor before h → Attempts t h (effect standard_table w h action) result tree after
 
 -- two worlds of the replay for which one world stands answer alike, and one world stands for both afterwards
 pub record AnswerAlike (v w : World) (asks : List Asked) : Type 0 where

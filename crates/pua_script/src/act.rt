@@ -1,14 +1,14 @@
 //! What a living process's request does, where it makes no process.
 
-ghost use Rattle.std.specs.Prelude.{◌≡◌, IfOk, OnErr, IsFalse, false};
+ghost use Rattle.std.specs.Prelude.{◌≡◌, OnErr, IsFalse, false};
 ghost use Rattle.pua_script.specs.Worlds.{Acts, is_fork};
 
 use crate::answer::Answer;
 use crate::fault::WorldFault;
+use crate::on_path::{on_path, symlink, unveil};
 use crate::process::{exit, lock, pledge};
 use crate::rename::rename;
 use crate::request::Action;
-use crate::serve::{on_path, symlink, unveil};
 use pua_policy::Process;
 use pua_tree::FileTree;
 
@@ -20,7 +20,7 @@ pub(crate) fn act<T: FileTree>(
 ) -> Result<Answer, WorldFault>
     requires living { process.old.ended ≡ false }
     requires other { IsFalse (is_fork action.now) }
-    ensures exact { IfOk result (λ answer. Acts (T.content tree.old) process.old action.now answer (T.content tree.new) process.new) }
+    ensures exact { Acts (T.content tree.old) process.old action.now result (T.content tree.new) process.new }
     ensures unchanged { OnErr result ((T.content tree.new ≡ T.content tree.old) × (process.new ≡ process.old)) }
 {
     match action {

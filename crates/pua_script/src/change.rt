@@ -1,11 +1,12 @@
 //! What allowed calls change.
 
-ghost use Rattle.std.specs.Prelude.{◌≡◌, IfOk, OnErr, IsTrue, false, option_copied};
+ghost use Rattle.std.specs.Prelude.{◌≡◌, OnErr, IsTrue, false, option_copied};
 ghost use Rattle.pua_tree.specs.Tree.{Tree, target_fits};
 ghost use Rattle.pua_tree.specs.Edits.{cut};
 ghost use Rattle.pua_policy.specs.History.{History, StandsFor};
+ghost use Rattle.pua_script.specs.Judged.{NameFits, IsFor};
 ghost use Rattle.pua_script.specs.Replay.{added, edited, removed, moved_to, change};
-ghost use Rattle.pua_script.specs.Worlds.{Does, Edits};
+ghost use Rattle.pua_script.specs.Worlds.{Attempts, AttemptsEdit, Does, Edits};
 
 use crate::answer::Answer;
 use crate::fault::WorldFault;
@@ -13,16 +14,19 @@ use pua_path::{Errno, Found, Way};
 use pua_policy::{Call, Process};
 use pua_tree::{FileTree, Kind, Name, NodeId, TreeFault};
 
-/// Adds a node where nothing stands. What was checked before leaves want of room as the only fault.
+/// Adds a node where nothing stands. `ENOSPC` exactly where the tree has no room: what was checked
+/// before leaves no other fault.
 pub(crate) fn add<T: FileTree>(
     tree: &mut T,
     found: &Found,
     kind: Kind,
     target: Option<&[u8]>,
 ) -> Result<Answer, WorldFault>
-    requires { IsTrue (target_fits kind (option_copied target)) }
-    ensures exact { IfOk result (λ answer. (h : History) →
-        Edits (T.content tree.old) h (added (T.content tree.old) h (record { kind = kind; target = option_copied target.entry }) found.now) answer (T.content tree.new)) }
+    requires target { IsTrue (target_fits kind (option_copied target)) }
+    requires found { NameFits (T.content tree.old) found.now }
+    ensures exact { (h : History) → AttemptsEdit (T.content tree.old) h
+        (added (T.content tree.old) h (record { kind = kind; target = option_copied target.entry }) found.now)
+        result (T.content tree.new) }
     ensures unchanged { OnErr result (T.content tree.new ≡ T.content tree.old) }
 {
     match *found {
@@ -32,15 +36,16 @@ pub(crate) fn add<T: FileTree>(
             node: None,
         } => match tree.add(dir, name, kind, target) {
             Ok(_number) => Ok(Answer::Okay),
+            Err(TreeFault::Full) => Ok(Answer::Failed(Errno::ENOSPC)),
             Err(TreeFault::OutOfMemory) => Err(WorldFault::OutOfMemory),
-            Err(_full) => Ok(Answer::Failed(Errno::ENOSPC)),
+            Err(_) => unreachable!(),
         },
         _ => Ok(Answer::Okay),
     }
 }
 
 /// Takes away what has a name.
-pub(crate) fn remove<T: FileTree>(tree: &mut T, found: &Found) -> Answer
+fn remove<T: FileTree>(tree: &mut T, found: &Found) -> Answer
     ensures { (h : History) → Edits (T.content tree.old) h (removed (T.content tree.old) h found.now) result (T.content tree.new) }
 {
     match *found {
@@ -84,9 +89,11 @@ pub(crate) fn change<T: FileTree>(
     call: Call,
     found: &Found,
 ) -> Result<Answer, WorldFault>
-    requires { process.old.ended ≡ false }
-    ensures exact { IfOk result (λ answer. (h : History) → StandsFor process.old h →
-        Does (T.content tree.old) h (change (T.content tree.old) h call found.now) answer (T.content tree.new) process.new) }
+    requires living { process.old.ended ≡ false }
+    requires found { IsFor (T.content tree.old) call found.now }
+    ensures exact { (h : History) → StandsFor process.old h →
+        Attempts (T.content tree.old) h (change (T.content tree.old) h call found.now)
+        result (T.content tree.new) process.new }
     ensures unchanged { OnErr result ((T.content tree.new ≡ T.content tree.old) × (process.new ≡ process.old)) }
 {
     match call {

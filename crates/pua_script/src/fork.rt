@@ -1,26 +1,27 @@
 //! How a process makes another one.
 
-ghost use Rattle.std.specs.Prelude.{◌≡◌, ◌∷◌, [], ◌||◌, ℕ, IfOk, OnErr, IfSome, None, false, if◌then◌else◌, is_some, length, nat_eq, nat_le};
+ghost use Rattle.std.specs.Prelude.{◌≡◌, ◌∷◌, [], ◌||◌, IfOk, OnOk, OnErr, false, if◌then◌else◌, is_some, length, nat_eq, nat_le};
 ghost use Rattle.std.specs.Map.{lookup};
 ghost use Rattle.pua_tree.specs.Tree.{Tree};
 ghost use Rattle.pua_policy.specs.History.{History, StandsFor, may_any};
 ghost use Rattle.pua_policy.specs.Promises.{proc};
 ghost use Rattle.pua_policy.specs.declared.answer.May.TheVariants as may;
 ghost use Rattle.pua_path.specs.declared.errno.Errno.TheVariants as errnos;
-ghost use Rattle.pua_script.specs.Replay.{Fails, Copies, if_promised, process_limit};
-ghost use Rattle.pua_script.specs.Worlds.{Does, IsServed};
+ghost use Rattle.pua_script.specs.Replay.{Effect, Fails, if_promised};
+ghost use Rattle.pua_script.specs.Worlds.{IsServed, IsOkay};
+ghost use Rattle.pua_script.specs.Judged.{effect_on};
+ghost use Rattle.pua_script.specs.Limits.{process_limit};
 ghost use Rattle.pua_script.specs.declared.request.Action.TheVariants as actions;
 
 use crate::answer::Answer;
 use crate::fault::WorldFault;
-use crate::serve::kill;
+use crate::limits::PROCESS_LIMIT;
+use crate::process::refuse;
 use indexmap::IndexMap;
 use pua_path::Errno;
-use pua_policy::{May, Process, Promises};
+use pua_policy::judge::promised;
+use pua_policy::{Process, Promises, Refusal};
 use std::alloc::Global;
-
-/// The most processes that may ever be made.
-const MOST_PROCESSES: usize = 256;
 
 /// Serves a fork: the new process is a copy of the one that asks. A refused growth leaves all
 /// processes as they were.
@@ -32,6 +33,8 @@ pub(crate) fn fork(
 ) -> Result<Answer, WorldFault>
     ensures served { IfOk result (λ answer. (t : Tree) → IsServed (record { tree = t; processes = processes.old.entries })
         (record { process = number; action = actions.Fork new }) answer (record { tree = t; processes = processes.new.entries })) }
+    ensures memory { OnErr result ((t : Tree) → IsOkay (record { tree = t; processes = processes.old.entries })
+        (record { process = number; action = actions.Fork new })) }
     ensures unchanged { OnErr result (processes.new.entries ≡ processes.old.entries) }
 {
     let is_refused = is_refused(processes, new);
@@ -41,8 +44,9 @@ pub(crate) fn fork(
     if process.ended() {
         return Ok(Answer::Gone);
     }
-    if let Some(answer) = judge_fork(process, is_refused) {
-        return Ok(answer);
+    match judge_fork(process, is_refused) {
+        Ok(()) => {}
+        Err(refusal) => return Ok(refuse(process, refusal)),
     }
     let Ok(copy) = process.fork(alloc) else {
         return Err(WorldFault::OutOfMemory);
@@ -53,23 +57,25 @@ pub(crate) fn fork(
     Ok(Answer::Okay)
 }
 
-/// Whether no process may be made with this number: one was made with it before, or 256 were made.
+/// Whether no process may be made with this number: one was made with it before, or no more
+/// are made.
 fn is_refused(processes: &IndexMap<u32, Process>, new: u32) -> bool
     ensures { result ≡ (is_some (lookup (nat_eq new) processes.now.entries) || nat_le process_limit (length processes.now.entries)) }
 {
-    processes.contains_key(&new) || processes.len() >= MOST_PROCESSES
+    processes.contains_key(&new) || processes.len() >= PROCESS_LIMIT
 }
 
-/// What a fork is told where it makes no process; None where it makes one.
-fn judge_fork(process: &mut Process, is_refused: bool) -> Option<Answer>
-    ensures told { IfSome result (λ answer. (h : History) (t : Tree) (new : ℕ) → StandsFor process.old h →
-        Does t h (if_promised (may_any h (proc ∷ [])) (if is_refused then Fails errnos.EAGAIN else Copies new)) answer t process.new) }
-    ensures copies { result ≡ None → (process.new ≡ process.old) × (is_refused ≡ false) × ((h : History) → StandsFor process.old h → may_any h (proc ∷ []) ≡ may.Yes) }
+/// What becomes of a fork, before the process is made: the promise, and then its number.
+fn judge_fork(process: &Process, is_refused: bool) -> Result<(), Refusal>
+    ensures exact { (h : History) → StandsFor process.now h → (e : Effect) →
+        if_promised (may_any h (proc ∷ [])) (if is_refused then Fails errnos.EAGAIN else e)
+        ≡ effect_on result (λ _. e) }
+    ensures number { OnOk result (is_refused ≡ false) }
+    ensures promise { OnOk result ((h : History) → StandsFor process.now h → may_any h (proc ∷ []) ≡ may.Yes) }
 {
-    match process.may(Promises::PROC) {
-        May::Yes if is_refused => Some(Answer::Failed(Errno::EAGAIN)),
-        May::Yes => None,
-        May::Enosys => Some(Answer::Failed(Errno::ENOSYS)),
-        May::Death => Some(kill(process)),
+    promised(process, Promises::PROC)?;
+    if is_refused {
+        return Err(Refusal::Failed(Errno::EAGAIN));
     }
+    Ok(())
 }

@@ -1,19 +1,33 @@
 //! Laws and worked examples of scripts and of what they are answered, each the contract of a
 //! function that does nothing.
 
-ghost use Rattle.pua_script.specs.Examples.{ReplayRows, ScriptRows};
-ghost use Rattle.pua_script.specs.Laws.{ReplayComposes, RequestsNarrow};
+ghost use Rattle.std.specs.Prelude.{◌≡◌};
+ghost use Rattle.pua_tree.specs.Tree.{Tree};
+ghost use Rattle.pua_policy.specs.History.{History};
+ghost use Rattle.pua_script.specs.Examples.{RenameRows, ReplayRows, ScriptRows};
+ghost use Rattle.pua_script.specs.Limits.{line_limit, number_limit, process_limit};
+ghost use Rattle.pua_script.specs.Laws.{AddsLackRoom, CallsLackRoom, ReplayComposes, RequestsNarrow};
 ghost use Rattle.pua_script.specs.ScriptGrammar.{ScriptsAreRead};
 ghost use Rattle.pua_script.specs.Worlds.{WorldsAnswerAlike};
+
+use crate::limits::{LINE_LIMIT, NUMBER_LIMIT, PROCESS_LIMIT};
+
+/// The constants are the limits that the definitions speak of.
+pub fn limits_law()
+    ensures lines { LINE_LIMIT ≡ line_limit }
+    ensures numbers { NUMBER_LIMIT ≡ number_limit }
+    ensures processes { PROCESS_LIMIT ≡ process_limit }
+{}
 
 /// Examples of what is no script.
 pub fn script_examples()
     ensures { ScriptRows }
 {}
 
-/// Examples of scripts and their answers.
+/// Examples of scripts and their answers, and of what a rename checks first.
 pub fn replay_examples()
-    ensures { ReplayRows }
+    ensures replays { ReplayRows }
+    ensures renames { RenameRows }
 {}
 
 /// A list of requests may be cut anywhere.
@@ -34,4 +48,11 @@ pub fn standing_law()
 /// Bytes are read as a list of requests exactly where their lines spell it.
 pub fn script_law()
     ensures { ScriptsAreRead }
+{}
+
+/// An edit is answered `ENOSPC` exactly where it adds a node and the tree has no room: after what is
+/// checked before it, no other fault of a tree comes.
+pub fn room_law()
+    ensures adds { (t : Tree) (h : History) → AddsLackRoom t h }
+    ensures calls { (t : Tree) (h : History) → CallsLackRoom t h }
 {}

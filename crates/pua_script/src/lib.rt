@@ -6,21 +6,24 @@ mod answer;
 mod change;
 mod fault;
 mod fork;
+mod judged;
 mod laws;
+mod limits;
 mod line;
-mod look;
+mod on_path;
 mod process;
 mod rename;
 mod request;
 mod script;
-mod serve;
 mod world;
 
 pub use answer::Answer;
 pub use fault::{ScriptFault, WorldFault};
 pub use laws::{
-    narrowing_law, replay_examples, replay_law, script_examples, script_law, standing_law,
+    limits_law, narrowing_law, replay_examples, replay_law, room_law, script_examples, script_law,
+    standing_law,
 };
+pub use limits::{LINE_LIMIT, NUMBER_LIMIT, PROCESS_LIMIT};
 pub use request::{Action, Given, PathBytes, Request};
 pub use script::{Script, read_script};
 pub use world::World;

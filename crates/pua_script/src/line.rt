@@ -1,17 +1,15 @@
 //! One line of a script.
 
 ghost use Rattle.std.specs.Prelude.{◌≡◌, ◌∷◌, [], map, ok_or};
-ghost use Rattle.pua_script.specs.Scripts.{IsReadAs, is_dash, is_equals, has_empty_word, path_in, given_in, perms_in, form_of, action_of, unveil_of, action_in, request_of, request_of_fields};
+ghost use Rattle.pua_script.specs.Scripts.{IsReadAs, is_dash, is_equals, has_empty_word, path_in, given_in, perms_in, unveil_of, action_in, request_of, request_of_fields};
 ghost use Rattle.pua_script.specs.declared.fault.ScriptFault.TheVariants.{BadCall, BadList, BadPath};
 
 use crate::fault::ScriptFault;
+use crate::limits::NUMBER_LIMIT;
 use crate::request::{Action, Given, PathBytes, Request};
 use pua_policy::{Call, Perms, Promises};
 use pua_tree::{Fields, number_within, unspelled};
 use std::alloc::Global;
-
-/// The most that the number of a process may be.
-const MOST_PROCESS: u32 = 999_999;
 
 /// The request of a line with this number.
 pub(crate) fn read_request(alloc: Global, number: u32, line: &[u8]) -> Result<Request, ScriptFault>
@@ -30,7 +28,7 @@ fn read_fields(alloc: Global, number: u32, fields: &[&[u8]]) -> Result<Request, 
     let Some((process, more)) = fields.split_first() else {
         return Err(ScriptFault::BadLine(number));
     };
-    let Some(process) = number_within(1, MOST_PROCESS, process) else {
+    let Some(process) = number_within(1, NUMBER_LIMIT, process) else {
         return Err(ScriptFault::BadLine(number));
     };
     let action = read_action(alloc, number, more)?;
@@ -66,7 +64,7 @@ fn read_one(alloc: Global, number: u32, word: &[u8], a: &[u8]) -> Result<Action,
     ensures { IsReadAs (action_in number (word.now ∷ a.now ∷ [])) result }
 {
     if word == b"fork".as_slice() {
-        return match number_within(1, MOST_PROCESS, a) {
+        return match number_within(1, NUMBER_LIMIT, a) {
             Some(new) => Ok(Action::Fork(new)),
             None => Err(ScriptFault::BadCall(number)),
         };

@@ -4,14 +4,29 @@ ghost use Rattle.std.specs.Prelude.{◌≡◌, ◌∷◌, []};
 ghost use Rattle.pua_tree.specs.Tree.{Tree};
 ghost use Rattle.pua_policy.specs.History.{History, StandsFor, Locked, Ended, may_any};
 ghost use Rattle.pua_policy.specs.Promises.{unveil as unveiling};
-ghost use Rattle.pua_script.specs.Replay.{Kills, Leaves, if_promised, pledge_effect, given_set, is_unknown};
+ghost use Rattle.pua_script.specs.Replay.{Leaves, if_promised, pledge_effect, given_set, is_unknown};
+ghost use Rattle.pua_script.specs.Judged.{refused};
 ghost use Rattle.pua_script.specs.Worlds.{Does};
 
 use crate::answer::Answer;
 use crate::request::Given;
-use crate::serve::kill;
 use pua_path::Errno;
-use pua_policy::{May, Process, Promises};
+use pua_policy::judge::promised;
+use pua_policy::{Process, Promises, Refusal};
+
+/// What a process is told that does not get what it asks for. It ends where it did what it did not
+/// promise, and else lives on as it was.
+pub(crate) fn refuse(process: &mut Process, refusal: Refusal) -> Answer
+    ensures { (h : History) (t : Tree) → StandsFor process.old h → Does t h (refused refusal) result t process.new }
+{
+    match refusal {
+        Refusal::Failed(errno) => Answer::Failed(errno),
+        Refusal::Killed => {
+            process.end();
+            Answer::Killed
+        }
+    }
+}
 
 /// A pledge. An unknown keyword in either argument is judged before what is held.
 pub(crate) fn pledge(process: &mut Process, promises: &Given, execpromises: &Given) -> Answer
@@ -46,13 +61,12 @@ pub(crate) fn lock(process: &mut Process) -> Answer
     ensures { (h : History) (t : Tree) → StandsFor process.old h →
         Does t h (if_promised (may_any h (unveiling ∷ [])) (Leaves t (Locked ∷ h))) result t process.new }
 {
-    match process.may(Promises::UNVEIL) {
-        May::Yes => {
+    match promised(process, Promises::UNVEIL) {
+        Ok(()) => {
             process.lock();
             Answer::Okay
         }
-        May::Enosys => Answer::Failed(Errno::ENOSYS),
-        May::Death => kill(process),
+        Err(refusal) => refuse(process, refusal),
     }
 }
 

@@ -4,25 +4,24 @@ ghost use Rattle.std.specs.Prelude.{◌≡◌, ◌∷◌, [], ℕ, ◌==◌, Som
 ghost use Rattle.std.specs.List.{list_any};
 ghost use Rattle.pua_tree.specs.Tree.{Spot, is_dir, climb};
 ghost use Rattle.pua_tree.specs.Edits.{shift, is_same_node};
-ghost use Rattle.pua_path.specs.Resolution.{resolution_of_text};
+ghost use Rattle.pua_path.specs.Fits.{spot_named, node_named};
 ghost use Rattle.pua_path.specs.declared.found.Found as found;
-ghost use Rattle.pua_path.specs.declared.found.Last.TheVariants.{Kept};
 ghost use Rattle.pua_path.specs.declared.text.Ending.TheVariants as ending;
 ghost use Rattle.pua_policy.specs.Promises.{cpath, creating};
-ghost use Rattle.pua_policy.specs.History.{History, StandsFor, may_any, working_dir};
+ghost use Rattle.pua_policy.specs.History.{History, StandsFor, may_any};
 ghost use Rattle.pua_policy.specs.Verdict.{FoundFits, cover, cover_fault, or_fault};
 ghost use Rattle.pua_policy.specs.declared.answer.May.TheVariants as may;
-ghost use Rattle.pua_script.specs.Replay.{Effect, on_two_paths, rename_found, spot_named, node_named, dots_fault, top_fault, is_whole, kinds_fault, inside_fault, shifted};
-ghost use Rattle.pua_script.specs.Renames.{NameFits, on_pair};
-ghost use Rattle.pua_script.specs.Worlds.{Does, Edits};
+ghost use Rattle.pua_script.specs.Replay.{Effect, on_two_paths, rename_found, dots_fault, top_fault, is_whole, kinds_fault, inside_fault, shifted};
+ghost use Rattle.pua_script.specs.Judged.{NameFits, effect_on, on_pair};
+ghost use Rattle.pua_script.specs.Worlds.{Attempts, AttemptsEdit};
 
 use crate::answer::Answer;
 use crate::fault::WorldFault;
-use crate::look::named;
-use crate::serve::kill;
+use crate::judged::named;
+use crate::process::refuse;
 use pua_path::{Counted, Ending, Errno, Found, Last, Probe, Way};
-use pua_policy::judge::cover_fault;
-use pua_policy::{May, Perms, Process, Promises};
+use pua_policy::judge::{cover_fault, promised};
+use pua_policy::{Perms, Process, Promises, Refusal};
 use pua_tree::{FileTree, Kind, Name, NodeId, TreeFault};
 
 /// What the two paths of a rename name.
@@ -40,50 +39,59 @@ pub(crate) fn rename<T: FileTree>(
     old: &[u8],
     new: &[u8],
 ) -> Result<Answer, WorldFault>
-    ensures exact { IfOk result (λ answer. (h : History) → StandsFor process.old h →
-        Does (T.content tree.old) h (on_two_paths (T.content tree.old) h ending.Dropped old.now new.now
-        (λ a b. rename_found (T.content tree.old) h a b (node_named a))) answer (T.content tree.new) process.new) }
+    ensures exact { (h : History) → StandsFor process.old h →
+        Attempts (T.content tree.old) h (on_two_paths (T.content tree.old) h ending.Dropped old.now new.now
+        (λ a b. rename_found (T.content tree.old) h a b (node_named a)))
+        result (T.content tree.new) process.new }
     ensures unchanged { OnErr result ((T.content tree.new ≡ T.content tree.old) × (process.new ≡ process.old)) }
 {
-    match process.may(Promises::CPATH) {
-        May::Yes => {}
-        May::Enosys => return Ok(Answer::Failed(Errno::ENOSYS)),
-        May::Death => return Ok(kill(process)),
-    }
-    match pair_named(tree, process, old, new) {
+    match judge_pair(tree, process, Ending::Dropped, old, new) {
         Ok(pair) => rename_found(tree, &pair.from, &pair.to),
-        Err(errno) => Ok(Answer::Failed(errno)),
+        Err(refusal) => Ok(refuse(process, refusal)),
     }
 }
 
-/// What both paths name, where both are covered with the permission to create and remove.
+/// What becomes of a call that gives a node of one path the name of another: the promise, then what
+/// the paths name, where both are covered.
+fn judge_pair<T: FileTree>(
+    tree: &T,
+    process: &Process,
+    ending: Ending,
+    old: &[u8],
+    new: &[u8],
+) -> Result<Pair, Refusal>
+    ensures exact { (h : History) → StandsFor process.now h → (effect : found.Found → found.Found → Effect) →
+        on_two_paths (T.content tree.now) h ending old.now new.now effect
+        ≡ effect_on result (λ pair. effect pair.from pair.to) }
+    ensures fit { IfOk result (λ pair. NameFits (T.content tree.now) pair.from × NameFits (T.content tree.now) pair.to) }
+{
+    promised(process, Promises::CPATH)?;
+    match pair_named(tree, process, ending, old, new) {
+        Ok(pair) => Ok(pair),
+        Err(errno) => Err(Refusal::Failed(errno)),
+    }
+}
+
+/// What both paths name, where both are covered with the permission to create and remove. A link
+/// that a last part names is kept.
 fn pair_named<T: FileTree>(
     tree: &T,
     process: &Process,
+    ending: Ending,
     old: &[u8],
     new: &[u8],
 ) -> Result<Pair, Errno>
     ensures exact { (h : History) → StandsFor process.now h → may_any h (cpath ∷ []) ≡ may.Yes → (effect : found.Found → found.Found → Effect) →
-        on_two_paths (T.content tree.now) h ending.Dropped old.now new.now effect ≡ on_pair result effect }
+        on_two_paths (T.content tree.now) h ending old.now new.now effect ≡ on_pair result effect }
     ensures fit { IfOk result (λ pair. NameFits (T.content tree.now) pair.from × NameFits (T.content tree.now) pair.to) }
 {
     let mut probe = Counted::new(tree);
-    let from = name_at(&mut probe, process, old)?;
-    let to = name_at(&mut probe, process, new)?;
+    let from = named(&mut probe, process.dir(), old, ending, Last::Kept)?;
+    let to = named(&mut probe, process.dir(), new, ending, Last::Kept)?;
     match covers_fault(&mut probe, process, &from, &to) {
         None => Ok(Pair { from, to }),
         Some(errno) => Err(errno),
     }
-}
-
-/// What one path names. A link that its last part names is kept.
-fn name_at<'t, P: Probe<'t>>(probe: &mut P, process: &Process, path: &[u8]) -> Result<Found, Errno>
-    ensures exact { (h : History) → StandsFor process.now h → result ≡ resolution_of_text (P.tree probe.old) (working_dir h) ending.Dropped path.now Kept }
-    ensures fit { IfOk result (λ found. NameFits (P.tree probe.old) found) }
-    ensures tree { P.tree probe.new ≡ P.tree probe.old }
-{
-    probe.known();
-    named(probe, process.dir(), path, Ending::Dropped, Last::Kept)
 }
 
 /// What is wrong with the two covers, the first one first.
@@ -110,8 +118,8 @@ fn covers_fault<'t, P: Probe<'t>>(
 fn rename_found<T: FileTree>(tree: &mut T, from: &Found, to: &Found) -> Result<Answer, WorldFault>
     requires from { NameFits (T.content tree.old) from.now }
     requires to { NameFits (T.content tree.old) to.now }
-    ensures exact { IfOk result (λ answer. (h : History) →
-        Edits (T.content tree.old) h (rename_found (T.content tree.old) h from.now to.now (node_named from.now)) answer (T.content tree.new)) }
+    ensures exact { (h : History) → let effect = rename_found (T.content tree.old) h from.now to.now (node_named from.now) in
+        AttemptsEdit (T.content tree.old) h effect result (T.content tree.new) }
     ensures unchanged { OnErr result (T.content tree.new ≡ T.content tree.old) }
 {
     let Some(node) = node_named(from) else {
@@ -275,8 +283,8 @@ fn kinds_fault<T: FileTree>(tree: &T, from: &Found, to: &Found) -> Option<Errno>
 fn shift<T: FileTree>(tree: &mut T, from: &Found, to: &Found) -> Result<Answer, WorldFault>
     requires { (from_spot : Spot) (to_spot : Spot) → spot_named from.now ≡ Some from_spot → spot_named to.now ≡ Some to_spot →
         IsOk (shift (T.content tree.old) from_spot.0 from_spot.1 to_spot.0 to_spot.1) }
-    ensures exact { IfOk result (λ answer. (h : History) →
-        Edits (T.content tree.old) h (shifted (T.content tree.old) h (spot_named from.now) (spot_named to.now)) answer (T.content tree.new)) }
+    ensures exact { (h : History) → let effect = shifted (T.content tree.old) h (spot_named from.now) (spot_named to.now) in
+        AttemptsEdit (T.content tree.old) h effect result (T.content tree.new) }
     ensures unchanged { OnErr result (T.content tree.new ≡ T.content tree.old) }
 {
     let Some((dir, name)) = spot_named(from) else {

@@ -1,14 +1,12 @@
 //! Scripts, and how they are read.
 
 use crate::fault::ScriptFault;
+use crate::limits::LINE_LIMIT;
 use crate::line::read_request;
 use crate::request::Request;
 use bstr::ByteSlice;
 use std::alloc::Global;
 use std::marker::Model;
-
-/// The most lines that a script may have.
-const MOST_LINES: u32 = 60_000;
 
 /// The requests of a script, in the order of its lines. Contracts see the list of them.
 #[derive(Drop)]
@@ -50,7 +48,7 @@ pub fn read_script(alloc: Global, bytes: &[u8]) -> Result<Script, ScriptFault>
     let mut requests = Vec::new(alloc);
     let mut number = 0;
     for line in bytes.lines() {
-        if number == MOST_LINES {
+        if number == LINE_LIMIT {
             return Err(ScriptFault::TooMany);
         }
         number += 1;

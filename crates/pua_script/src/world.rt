@@ -25,16 +25,18 @@ pub struct World<T: FileTree> {
 }
 
 impl<T: FileTree> Model for World<T> {
-    ghost use Rattle.pua_script.specs.Worlds.{WorldState};
+    ghost use Rattle.pua_script.specs.Worlds.{WorldState, HasReplay};
 
     ghost Value = { WorldState };
 
     ghost view = { λ a. record { tree = T.content a.tree; processes = a.processes.entries } };
+
+    ghost invariant = { λ a. HasReplay (record { tree = T.content a.tree; processes = a.processes.entries }) };
 }
 
 ghost use Rattle.std.specs.Prelude.{◌≡◌, IfOk, OnErr, MatchResult, IsFalse, option_copied};
 ghost use Rattle.pua_script.specs.Replay.{new_world};
-ghost use Rattle.pua_script.specs.Worlds.{StandsForWorld, IsProcessOf, IsServed, AreServed, AreServedInPart, is_fork, process_at};
+ghost use Rattle.pua_script.specs.Worlds.{HasReplay, StandsForWorld, IsProcessOf, IsOkay, IsServed, AreServed, AreServedInPart, is_fork, process_at};
 
 impl<T: FileTree> World<T> {
     /// A world over this tree with process 1 alone, which is new. `OutOfMemory` where a growth was
@@ -56,6 +58,14 @@ impl<T: FileTree> World<T> {
         })
     }
 
+    /// Does nothing: its contract says that some world of the replay left what the world keeps, so
+    /// that what is promised for each world it stands for is promised for one at least.
+    pub fn known(&self)
+        ensures { HasReplay self.now }
+    {
+        let _ = &self.alloc;
+    }
+
     /// The tree as it is now.
     pub fn tree(&self) -> &T
         ensures { T.content result.now ≡ self.now.tree }
@@ -72,10 +82,11 @@ impl<T: FileTree> World<T> {
     }
 
     /// Serves one request, and answers it. A process that has ended or was never made is told
-    /// `Gone`; a request that fails changes nothing. `OutOfMemory` where a growth was refused; the
-    /// world is then as it was.
+    /// `Gone`; a request that fails changes nothing. `OutOfMemory` where a growth was refused, which
+    /// only a request can meet that would be answered `Okay`; the world is then as it was.
     pub fn apply(&mut self, request: &Request) -> Result<Answer, WorldFault>
         ensures served { IfOk result (λ answer. IsServed self.old request.now answer self.new) }
+        ensures memory { OnErr result (IsOkay self.old request.now) }
         ensures unchanged { OnErr result (self.new ≡ self.old) }
     {
         let number = request.process();
@@ -115,6 +126,8 @@ fn serve<T: FileTree>(
     requires { IsFalse (is_fork action.now) }
     ensures served { IfOk result (λ answer. IsServed (record { tree = T.content tree.old; processes = processes.old.entries })
         (record { process = number; action = action.now }) answer (record { tree = T.content tree.new; processes = processes.new.entries })) }
+    ensures memory { OnErr result (IsOkay (record { tree = T.content tree.old; processes = processes.old.entries })
+        (record { process = number; action = action.now })) }
     ensures unchanged { OnErr result ((T.content tree.new ≡ T.content tree.old) × (processes.new.entries ≡ processes.old.entries)) }
 {
     match processes.get_mut(&number) {

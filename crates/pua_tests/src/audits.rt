@@ -1,7 +1,7 @@
 //! Audits of which some lines are known, or how many there are.
 
 use crate::example::EXAMPLE;
-use crate::expect::expect;
+use crate::expect::{expect, expect_bytes, expect_eq};
 use crate::paths::chains;
 use crate::told::{Files, ROOT, behind, expect_fault, output};
 use std::alloc::Global;
@@ -43,7 +43,7 @@ fn audits_take_1024_candidates(rt: HostRuntime) -> Result<(), Fail> {
     let end = b"/n1023 mkdir\n/n1023 symlink\n";
     expect(&rt, "the last lines", text.ends_with(end));
     let lines = lines_of(text.as_slice());
-    expect(&rt, "two lines a name", lines == 2 + 2 * 1024);
+    expect_eq(&rt, "two lines a name", &lines, &(2 + 2 * 1024));
     Ok(())
 }
 
@@ -93,7 +93,7 @@ fn lines_are_as_many_as_names_let(rt: HostRuntime) -> Result<(), Fail> {
     let long = output_lines(&rt, alloc, &words, &MAKES)?;
     let words = ["audit", "--limit", "3", "T", "S", "a"];
     let short = output_lines(&rt, alloc, &words, &MAKES)?;
-    expect(&rt, "a long name's lines", long == short);
+    expect_eq(&rt, "a long name's lines", &long, &short);
     Ok(())
 }
 
@@ -105,7 +105,7 @@ fn lines_are_as_many_as_links_let(rt: HostRuntime) -> Result<(), Fail> {
     };
     let words = ["audit", "--limit", "16", "T", "S"];
     let lines = output_lines(&rt, rt.alloc(), &words, &net)?;
-    expect(&rt, "a net of links", lines == 1 + 181);
+    expect_eq(&rt, "a net of links", &lines, &(1 + 181));
     Ok(())
 }
 
@@ -119,7 +119,7 @@ fn chains_of_links_lead_into_one_another(rt: HostRuntime) -> Result<(), Fail> {
     let words = ["audit", "--limit", "2", "T", "S"];
     let text = output(&rt, rt.alloc(), &words, &files)?;
     let pairs = behind(text.as_slice(), b"1 ok\n2 ok\nreach 1\n");
-    expect(&rt, "its pairs", lines_of(pairs) == 607);
+    expect_eq(&rt, "its pairs", &lines_of(pairs), &607);
     let last = b"\n/d20/g12 stat\n".as_slice();
     expect(&rt, "32 links", pairs.windows(15).any(|part| part == last));
     let next = b"/d20/g13 ".as_slice();
@@ -151,14 +151,15 @@ fn a_locked_family_reaches_the_same(rt: HostRuntime) -> Result<(), Fail> {
     expect(&rt, "it reaches something", !alone.is_empty());
     let heading = b"1 ok\n2 ok\n3 ok\n4 EPERM\n5 EPERM\n6 ok\n7 ok\n8 killed\nreach 1\n";
     let last = pairs_of(&rt, rt.alloc(), "1", FAMILY, heading)?;
-    expect(
+    expect_bytes(
         &rt,
         "after a child's end",
-        last.as_slice() == alone.as_slice(),
+        last.as_slice(),
+        alone.as_slice(),
     );
     let heading = b"1 ok\n2 ok\n3 ok\nreach 2\n";
     let child = pairs_of(&rt, rt.alloc(), "2", &FAMILY[..38], heading)?;
-    expect(&rt, "the child's", child.as_slice() == alone.as_slice());
+    expect_bytes(&rt, "the child's", child.as_slice(), alone.as_slice());
     Ok(())
 }
 

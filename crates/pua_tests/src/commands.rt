@@ -1,6 +1,6 @@
 //! What commands write: help, what a sink has room for, and the answers of long scripts.
 
-use crate::expect::{expect, expect_at};
+use crate::expect::{expect, expect_bytes, expect_row};
 use crate::told::{Files, ROOT, expect_fault, output};
 use pua_tool::{MemoryInputs, MemorySink, command, run_to};
 use std::alloc::Global;
@@ -42,9 +42,9 @@ fn sinks_hold_the_front_of_the_text(rt: HostRuntime) -> Result<(), Fail> {
         let mut err = MemorySink::new(alloc, 1024)?;
         let status = command(alloc, &words, &mut inputs, &mut out, &mut err);
         let is_whole = room == text.len();
-        expect_at(&rt, room, status == if is_whole { 0 } else { 3 });
-        expect_at(&rt, room, out.bytes() == &text[..room]);
-        expect_at(&rt, room, err.bytes().is_empty() == is_whole);
+        expect_row(&rt, room, &status, if is_whole { &0 } else { &3 });
+        expect_bytes(&rt, "the front of the text", out.bytes(), &text[..room]);
+        expect_row(&rt, room, &err.bytes().is_empty(), &is_whole);
     }
     Ok(())
 }
@@ -56,7 +56,7 @@ fn answers_stand_behind_what_was_there(rt: HostRuntime) -> Result<(), Fail> {
         run_to(rt.alloc(), ROOT, b"1 stat /\n1 stat /a\n", &mut sink)?;
     }
     let text = b"1 ok\n2 ENOENT\n1 ok\n2 ENOENT\n".as_slice();
-    expect(&rt, "both runs' answers", sink.bytes() == text);
+    expect_bytes(&rt, "both runs' answers", sink.bytes(), text);
     Ok(())
 }
 

@@ -1,7 +1,7 @@
 //! Edits of a tree.
 
 use crate::example::EXAMPLE;
-use crate::expect::{expect, expect_at};
+use crate::expect::{expect, expect_eq, expect_row};
 use pua_tree::{FileTree, Kind, ListTree, Name, NodeId, TreeFault, read_listing};
 use std::alloc::Global;
 use std::process::Abort;
@@ -97,7 +97,7 @@ fn found(node: Result<NodeId, TreeFault>) -> Answer {
 fn expect_steps(rt: &impl Abort, alloc: Global, steps: &[(Step, Answer)]) -> Result<(), Fail> {
     let mut tree = read_listing(alloc, EXAMPLE)?;
     for (number, (step, want)) in steps.iter().enumerate() {
-        expect_at(rt, number, answer(&mut tree, *step) == Some(*want));
+        expect_row(rt, number, &answer(&mut tree, *step), &Some(*want));
     }
     Ok(())
 }
@@ -172,14 +172,14 @@ fn takes_65535_nodes_and_no_more(rt: HostRuntime) -> Result<(), Fail> {
     for number in 1..65_535 {
         let name = format!(in rt.alloc(); "{number:05}")?;
         let node = added(&mut tree, Kind::File, 0, name.as_bytes());
-        expect(&rt, "each node is added", node == Some(Ok(Some(number))));
+        expect_eq(&rt, "each node is added", &node, &Some(Ok(Some(number))));
     }
     for (step, want) in [
         (Step::Add(Kind::File, 0, b"more"), Err(TreeFault::Full)),
         (Step::Cut(0, b"65534"), Ok(Some(65_534))),
         (Step::Add(Kind::File, 0, b"more"), Ok(Some(65_535))),
     ] {
-        expect(&rt, "a full tree", answer(&mut tree, step) == Some(want));
+        expect_eq(&rt, "a full tree", &answer(&mut tree, step), &Some(want));
     }
     Ok(())
 }

@@ -1,6 +1,6 @@
 //! Fields of lines, and the numbers in them.
 
-use crate::expect::{expect, expect_of};
+use crate::expect::{expect_eq, expect_of, expect_text};
 use pua_tree::{Fields, is_field, number_within, split_field};
 
 /// Whether a line is of fields, and this one stands at a place among them.
@@ -33,16 +33,17 @@ fn fields_stand_between_single_spaces(rt: HostRuntime) {
         (b"1 ", None),
         (b"1\t2", None),
     ] {
-        expect_of(&rt, line, fields_of(line) == want);
+        expect_text(&rt, line, &fields_of(line), &want);
     }
     for (text, want) in [(b"a!~".as_slice(), true), (b"", false), (b"\x7f", false)] {
-        expect_of(&rt, text, is_field(text) == want);
+        expect_text(&rt, text, &is_field(text), &want);
     }
     let split = (b"1".as_slice(), Some(b"dir 0".as_slice()));
-    expect(
+    expect_eq(
         &rt,
         "a field and its rest",
-        split_field(b"1 dir 0") == split,
+        &split_field(b"1 dir 0"),
+        &split,
     );
 }
 
@@ -57,6 +58,6 @@ fn numbers_have_one_spelling(rt: HostRuntime) {
         (1, b"1000000", None),
         (1, b"", None),
     ] {
-        expect_of(&rt, text, number_within(low, 999_999, text) == want);
+        expect_text(&rt, text, &number_within(low, 999_999, text), &want);
     }
 }

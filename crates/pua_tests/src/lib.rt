@@ -15,6 +15,8 @@ mod expect;
 #[cfg(test)]
 mod fields;
 #[cfg(test)]
+mod flushes;
+#[cfg(test)]
 mod lent;
 #[cfg(test)]
 mod lines;
@@ -31,11 +33,7 @@ mod processes;
 #[cfg(test)]
 mod readings;
 #[cfg(test)]
-mod resumed;
-#[cfg(test)]
 mod steps;
-#[cfg(test)]
-mod texts;
 #[cfg(test)]
 mod told;
 #[cfg(test)]

@@ -1,6 +1,6 @@
 //! Audits by direct calls: the lines that a walk lends, one by one.
 
-use crate::expect::{expect, expect_at};
+use crate::expect::{expect, expect_at, expect_eq};
 use crate::lent::{begun, lines_of};
 use crate::told::ROOT;
 use pua_audit::{AuditFault, Base};
@@ -40,7 +40,7 @@ fn lines_are_lent_in_order_and_once(rt: HostRuntime) -> Result<(), Fail> {
         ),
     ] {
         let (lines, again) = lent(rt.alloc(), &tree, base, limit, after)?;
-        expect(&rt, "all lines", lines.as_slice() == want);
+        expect_eq(&rt, "all lines", &lines.as_slice(), &want);
         expect(&rt, "no line more", again.is_empty());
     }
     Ok(())

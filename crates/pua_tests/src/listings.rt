@@ -1,7 +1,7 @@
 //! The reader of listings.
 
 use crate::example::EXAMPLE;
-use crate::expect::{expect, expect_at, expect_of};
+use crate::expect::{expect, expect_bytes, expect_eq, expect_text};
 use crate::told::{Files, ROOT, expect_fault};
 use pua_tree::{FileTree, Kind, ListingFault as Fault, Name, NodeId, read_listing};
 use std::alloc::Global;
@@ -42,7 +42,7 @@ fn refuses_what_is_no_listing(rt: HostRuntime) {
         (cut(63), Fault::BadLine(6)),
     ] {
         let fault = read_listing(rt.alloc(), text).err();
-        expect_of(&rt, text, fault == Some(want));
+        expect_text(&rt, text, &fault, &Some(want));
     }
 }
 
@@ -50,20 +50,19 @@ fn refuses_what_is_no_listing(rt: HostRuntime) {
 fn reads_nodes(rt: HostRuntime) -> Result<(), Fail> {
     let tree = read_listing(rt.alloc(), EXAMPLE)?;
     let target = Some(b"../etc".as_slice());
-    for (number, kind, parent, target) in [
-        (0, Some(Kind::Dir), Some(0), None),
-        (1, Some(Kind::Dir), Some(0), None),
-        (2, Some(Kind::File), None, None),
-        (3, Some(Kind::Dir), Some(0), None),
-        (5, Some(Kind::Link), None, target),
-        (7, Some(Kind::Prog), None, None),
-        (8, None, None, None),
+    for (label, number, kind, parent, target) in [
+        ("the root", 0, Some(Kind::Dir), Some(0), None),
+        ("etc", 1, Some(Kind::Dir), Some(0), None),
+        ("passwd", 2, Some(Kind::File), None, None),
+        ("tmp", 3, Some(Kind::Dir), Some(0), None),
+        ("up", 5, Some(Kind::Link), None, target),
+        ("sh", 7, Some(Kind::Prog), None, None),
+        ("no node", 8, None, None, None),
     ] {
         let node = NodeId::new(number);
-        let label = "a node of the example";
-        expect(&rt, label, tree.kind(node) == kind);
-        expect(&rt, label, tree.parent(node) == parent.map(NodeId::new));
-        expect(&rt, label, tree.target(node) == target);
+        expect_eq(&rt, label, &tree.kind(node), &kind);
+        expect_eq(&rt, label, &tree.parent(node), &parent.map(NodeId::new));
+        expect_eq(&rt, label, &tree.target(node), &target);
         expect(&rt, label, !tree.is_empty(node));
     }
     let empty = read_listing(rt.alloc(), ROOT)?;
@@ -84,10 +83,11 @@ fn finds_names(rt: HostRuntime) -> Result<(), Fail> {
     let name = Name::read(b"tmp")?;
     for (dir, want) in [(0, Some(3)), (3, None), (4, None)] {
         let found = tree.look(NodeId::new(dir), &name);
-        expect(
+        expect_eq(
             &rt,
             "a name in one directory",
-            found == want.map(NodeId::new),
+            &found,
+            &want.map(NodeId::new),
         );
     }
     for (text, name, node) in [
@@ -96,11 +96,11 @@ fn finds_names(rt: HostRuntime) -> Result<(), Fail> {
         (b"tree 1\r\n0 dir\r\n1 dir 0 a\r\n", b"a", 1),
     ] {
         let found = in_root(rt.alloc(), text, name)?;
-        expect_of(&rt, text, found == Some(NodeId::new(node)));
+        expect_text(&rt, text, &found, &Some(NodeId::new(node)));
     }
     let tree = read_listing(rt.alloc(), cut(65))?;
     let target = tree.target(NodeId::new(4));
-    expect(&rt, "a target that is cut", target == Some(b"t".as_slice()));
+    expect_eq(&rt, "a target that is cut", &target, &Some(b"t".as_slice()));
     Ok(())
 }
 
@@ -108,9 +108,9 @@ fn finds_names(rt: HostRuntime) -> Result<(), Fail> {
 fn lists_names_in_their_order(rt: HostRuntime) -> Result<(), Fail> {
     let names = read_listing(rt.alloc(), EXAMPLE)?.names(rt.alloc())?;
     let wanted: [&[u8]; 7] = [b"etc", b"passwd", b"self", b"sh", b"t", b"tmp", b"up"];
-    expect(&rt, "seven names", names.len() == wanted.len());
+    expect_eq(&rt, "seven names", &names.len(), &wanted.len());
     for (row, (name, want)) in names.iter().zip(wanted.iter()).enumerate() {
-        expect_at(&rt, row, name.bytes() == *want);
+        expect_bytes(&rt, "a name in its order", name.bytes(), want);
     }
     Ok(())
 }
@@ -127,10 +127,10 @@ fn takes_4096_nodes_and_no_more(rt: HostRuntime) -> Result<(), Fail> {
         )?;
     }
     let last = in_root(alloc, text.as_bytes(), b"0001")?;
-    expect(&rt, "the last node", last == Some(NodeId::new(4095)));
+    expect_eq(&rt, "the last node", &last, &Some(NodeId::new(4095)));
     text.push_str("4096 file 0 more\n")?;
     let fault = read_listing(alloc, text.as_bytes()).err();
-    expect(&rt, "a node more", fault == Some(Fault::TooMany(4098)));
+    expect_eq(&rt, "a node more", &fault, &Some(Fault::TooMany(4098)));
     let files = Files {
         tree: text.as_bytes(),
         script: b"0",

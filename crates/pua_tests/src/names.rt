@@ -1,6 +1,6 @@
 //! Names, targets and how bytes are spelled.
 
-use crate::expect::{expect, expect_of};
+use crate::expect::{expect, expect_bytes, expect_eq, expect_text};
 use pua_tree::{Name, NameFault, byte_spelling, has_short_components, is_target, unspelled};
 use std::alloc::Global;
 use std::test::Fail;
@@ -16,7 +16,7 @@ fn names_and_bytes_have_one_spelling(rt: HostRuntime) -> Result<(), Fail> {
         (b"\\134", b"\\"),
         (b"\\377", b"\xff"),
     ] {
-        expect_of(&rt, spelling, Name::read(spelling) == named(bytes));
+        expect_text(&rt, spelling, &Name::read(spelling), &named(bytes));
     }
     for (spelling, fault) in [
         (b"\\141".as_slice(), NameFault::BadSpelling),
@@ -26,10 +26,15 @@ fn names_and_bytes_have_one_spelling(rt: HostRuntime) -> Result<(), Fail> {
         (b"..", NameFault::NotAName),
         (b"", NameFault::Empty),
     ] {
-        expect_of(&rt, spelling, Name::read(spelling) == Err(fault));
+        expect_text(&rt, spelling, &Name::read(spelling), &Err(fault));
     }
     for (byte, spelling) in [(b'a', b"a".as_slice()), (b' ', b"\\040"), (255, b"\\377")] {
-        expect_of(&rt, spelling, byte_spelling(byte).as_bytes() == spelling);
+        expect_bytes(
+            &rt,
+            "a byte's spelling",
+            byte_spelling(byte).as_bytes(),
+            spelling,
+        );
     }
     let is_read = is_spelling_of(rt.alloc(), b"/a\\040b/c", b"/a b/c")?;
     expect(&rt, "a path is read from its spelling", is_read);
@@ -52,13 +57,14 @@ fn names_and_targets_are_bounded(rt: HostRuntime) {
         (longest, named(longest)),
         (&letters, Err(NameFault::TooLong)),
     ] {
-        expect(&rt, "a name of 255 bytes", Name::read(name) == want);
+        expect_eq(&rt, "a name of 255 bytes", &Name::read(name), &want);
         let is_name = Name::from_bytes(name).is_some();
-        expect(&rt, "a name of plain bytes", is_name == want.is_ok());
-        expect(
+        expect_eq(&rt, "a name of plain bytes", &is_name, &want.is_ok());
+        expect_eq(
             &rt,
             "a component",
-            has_short_components(name) == want.is_ok(),
+            &has_short_components(name),
+            &want.is_ok(),
         );
     }
     let slashes = [b'/'; 1024];
@@ -70,6 +76,6 @@ fn names_and_targets_are_bounded(rt: HostRuntime) {
         (b"", false),
         (b"a\0b", false),
     ] {
-        expect_of(&rt, target, is_target(target) == want);
+        expect_text(&rt, target, &is_target(target), &want);
     }
 }

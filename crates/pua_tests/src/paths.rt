@@ -1,7 +1,7 @@
 //! Path texts, and what they name in a tree.
 
 use crate::example::{EXAMPLE, found, slot, whole};
-use crate::expect::{expect, expect_at, expect_of};
+use crate::expect::{expect_bytes, expect_eq, expect_row, expect_text};
 use pua_path::{Counted, Ending, Errno, Last, PathText, Way, resolve};
 use pua_tree::{ListTree, Name, NodeId, read_listing};
 use std::alloc::Global;
@@ -34,7 +34,7 @@ fn paths_name_directories_and_slots(rt: HostRuntime) -> Result<(), Fail> {
         (b"/etc/passwd", Ending::Dot, Last::Kept, passwd),
         (b"/tmp/up/x", Ending::Dot, Last::Kept, slot(1, b"x", None)),
     ] {
-        expect_of(&rt, text, Some(found(&tree, text, ending, mode)) == want);
+        expect_text(&rt, text, &Some(found(&tree, text, ending, mode)), &want);
     }
     Ok(())
 }
@@ -48,7 +48,7 @@ fn paths_name_nothing_behind_what_is_no_directory(rt: HostRuntime) -> Result<(),
         (b"/tmp/self", Errno::ELOOP),
     ] {
         let found = found(&tree, text, Ending::Dot, Last::Followed);
-        expect_of(&rt, text, found == Err(errno));
+        expect_text(&rt, text, &found, &Err(errno));
     }
     Ok(())
 }
@@ -62,12 +62,13 @@ fn relative_paths_alone_need_a_directory(rt: HostRuntime) -> Result<(), Fail> {
     for number in [2, 4, 99] {
         let from = NodeId::new(number);
         let missing = resolve(&mut probe, from, &relative, Last::Followed);
-        expect(&rt, "a relative path", missing == Err(Errno::ENOENT));
+        expect_eq(&rt, "a relative path", &missing, &Err(Errno::ENOENT));
         let found = resolve(&mut probe, from, &absolute, Last::Followed);
-        expect(
+        expect_eq(
             &rt,
             "an absolute path",
-            Some(found) == whole(0, Way::DotDot),
+            &Some(found),
+            &whole(0, Way::DotDot),
         );
     }
     Ok(())
@@ -108,7 +109,7 @@ fn chain(alloc: Global) -> Result<String, Fail> {
 fn paths_follow_32_links_and_no_more(rt: HostRuntime) -> Result<(), Fail> {
     let tree = read_listing(rt.alloc(), chain(rt.alloc())?.as_bytes())?;
     for (path, fault) in [(b"/a32".as_slice(), None), (b"/a33", Some(Errno::ELOOP))] {
-        expect_of(&rt, path, refusal(&tree, path, Last::Followed) == fault);
+        expect_text(&rt, path, &refusal(&tree, path, Last::Followed), &fault);
     }
     Ok(())
 }
@@ -122,7 +123,7 @@ fn links_are_counted_along_the_whole_path(rt: HostRuntime) -> Result<(), Fail> {
         (b"/d20/g12", Last::Followed, None),
         (b"/d20/g13", Last::Kept, None),
     ] {
-        expect_of(&rt, path, refusal(&tree, path, mode) == fault);
+        expect_text(&rt, path, &refusal(&tree, path, mode), &fault);
     }
     Ok(())
 }
@@ -143,7 +144,7 @@ fn long_targets_and_their_last_slash_are_resolved(rt: HostRuntime) -> Result<(),
         (b"/g", Some(Err(Errno::ENOTDIR))),
     ] {
         let found = found(&tree, path, Ending::Dot, Last::Followed);
-        expect_of(&rt, path, Some(found) == want);
+        expect_text(&rt, path, &Some(found), &want);
     }
     Ok(())
 }
@@ -164,7 +165,7 @@ fn path_texts_are_bounded(rt: HostRuntime) -> Result<(), Fail> {
     .enumerate()
     {
         let read = PathText::read(*text, Ending::Dot);
-        expect_at(&rt, row, read.err() == *fault);
+        expect_row(&rt, row, &read.err(), fault);
     }
     Ok(())
 }
@@ -173,8 +174,8 @@ fn path_texts_are_bounded(rt: HostRuntime) -> Result<(), Fail> {
 fn path_texts_are_kept(rt: HostRuntime) -> Result<(), Fail> {
     for ending in [Ending::Dot, Ending::Dropped] {
         let text = PathText::read(b"a//b/", ending)?;
-        expect(&rt, "its bytes", text.bytes() == b"a//b/".as_slice());
-        expect(&rt, "its ending", text.ending() == ending);
+        expect_bytes(&rt, "its bytes", text.bytes(), b"a//b/");
+        expect_eq(&rt, "its ending", &text.ending(), &ending);
     }
     Ok(())
 }

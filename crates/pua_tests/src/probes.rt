@@ -1,6 +1,6 @@
 //! Counted looks at a tree.
 
-use crate::expect::expect;
+use crate::expect::expect_eq;
 use pua_path::{Counted, Probe};
 use pua_tree::{Kind, ListTree, Name, NodeId, read_listing};
 use std::alloc::Global;
@@ -9,9 +9,9 @@ use std::test::Fail;
 #[test]
 fn probes_answer_as_their_tree_and_are_counted(rt: HostRuntime) -> Result<(), Fail> {
     let tree = read_listing(rt.alloc(), b"tree 1\n0 dir\n1 link 0 l to\n")?;
-    expect(&rt, "four looks at nodes", asks_of_nodes(&tree) == 4);
+    expect_eq(&rt, "four looks at nodes", &asks_of_nodes(&tree), &4);
     let named = asks_for_names(rt.alloc(), &tree)?;
-    expect(&rt, "two looks for names", named == 2);
+    expect_eq(&rt, "two looks for names", &named, &2);
     Ok(())
 }
 

@@ -1,6 +1,6 @@
 //! What processes keep of what happened to them.
 
-use crate::expect::{expect, expect_at};
+use crate::expect::{expect, expect_eq, expect_row};
 use pua_path::Errno;
 use pua_policy::{May, Perms, Place, Process, Promises, UnveilFault};
 use pua_tree::NodeId;
@@ -22,17 +22,19 @@ fn promises_narrow_and_are_missed(rt: HostRuntime) -> Result<(), Fail> {
     .enumerate()
     {
         let pledged = process.pledge(*promises, *execpromises);
-        expect_at(&rt, row, pledged == *want);
+        expect_row(&rt, row, &pledged, want);
     }
-    expect(
+    expect_eq(
         &rt,
         "wpath is missed",
-        process.may(Promises::WPATH) == May::Death,
+        &process.may(Promises::WPATH),
+        &May::Death,
     );
-    expect(
+    expect_eq(
         &rt,
         "rpath is kept",
-        process.may(Promises::RPATH) == May::Yes,
+        &process.may(Promises::RPATH),
+        &May::Yes,
     );
     Ok(())
 }
@@ -40,16 +42,18 @@ fn promises_narrow_and_are_missed(rt: HostRuntime) -> Result<(), Fail> {
 #[test]
 fn a_promise_is_missed_with_error_alone(rt: HostRuntime) -> Result<(), Fail> {
     let mut process = Process::new(rt.alloc())?;
-    expect(
+    expect_eq(
         &rt,
         "error is promised by none",
-        process.may(Promises::ERROR) == May::Death,
+        &process.may(Promises::ERROR),
+        &May::Death,
     );
     process.pledge(Some(Promises::ERROR), None)?;
-    expect(
+    expect_eq(
         &rt,
         "wpath fails",
-        process.may(Promises::WPATH) == May::Enosys,
+        &process.may(Promises::WPATH),
+        &May::Enosys,
     );
     Ok(())
 }
@@ -64,7 +68,7 @@ fn veils_are_at_most_128(rt: HostRuntime) -> Result<(), Fail> {
     let mut process = Process::new(rt.alloc())?;
     for number in 1..=128 {
         let unveiled = process.unveil_at(place(number), Perms::READ);
-        expect(&rt, "128 veils", unveiled == Ok(()));
+        expect_eq(&rt, "128 veils", &unveiled, &Ok(()));
     }
     for (row, (number, perms, want)) in [
         (129, Perms::READ, Err(UnveilFault::TooManyPlaces)),
@@ -75,7 +79,7 @@ fn veils_are_at_most_128(rt: HostRuntime) -> Result<(), Fail> {
     .enumerate()
     {
         let unveiled = process.unveil_at(place(*number), *perms);
-        expect_at(&rt, row, unveiled == *want);
+        expect_row(&rt, row, &unveiled, want);
     }
     Ok(())
 }

@@ -1,7 +1,7 @@
 //! Paths that are taken part by part.
 
 use crate::example::{EXAMPLE, slot};
-use crate::expect::{expect, expect_of};
+use crate::expect::{expect_eq, expect_text};
 use pua_path::{Counted, Errno, Last, Part, last, step};
 use pua_tree::{FileTree, Kind, ListTree, Name, NodeId, read_listing};
 use std::test::Fail;
@@ -43,8 +43,8 @@ fn steps_lead_through_links_to_last_parts(rt: HostRuntime) -> Result<(), Fail> {
         (1, 2, b"passwd", Err(Errno::ENOTDIR)),
         (1, 2, b"t", Err(Errno::ENOENT)),
     ] {
-        expect_of(&rt, name, stepped(&tree, dir, used, name) == Some(want));
+        expect_text(&rt, name, &stepped(&tree, dir, used, name), &Some(want));
     }
-    expect(&rt, "the last part", ends_at_passwd(&tree) == Some(true));
+    expect_eq(&rt, "the last part", &ends_at_passwd(&tree), &Some(true));
     Ok(())
 }

@@ -1,6 +1,6 @@
 //! Commands over files in memory, and what they tell.
 
-use crate::expect::expect;
+use crate::expect::{expect_bytes, expect_eq};
 use pua_tool::{MemoryInputs, MemorySink, command};
 use std::alloc::Global;
 use std::process::Abort;
@@ -32,9 +32,9 @@ pub(crate) fn expect_fault(
     let mut out = MemorySink::new(alloc, room)?;
     let mut err = MemorySink::new(alloc, 1024)?;
     let ended = command(alloc, words, &mut inputs, &mut out, &mut err);
-    expect(rt, "the status of a fault", ended == status);
-    expect(rt, "no output before a fault", out.bytes().is_empty());
-    expect(rt, "the line of a fault", err.bytes() == line);
+    expect_eq(rt, "the status of a fault", &ended, &status);
+    expect_bytes(rt, "no output before a fault", out.bytes(), b"");
+    expect_bytes(rt, "the line of a fault", err.bytes(), line);
     Ok(())
 }
 
@@ -50,7 +50,8 @@ pub(crate) fn output(
     let mut out = MemorySink::new(alloc, 1_048_576)?;
     let mut err = MemorySink::new(alloc, 1024)?;
     let ended = command(alloc, words, &mut inputs, &mut out, &mut err);
-    expect(rt, "no fault", ended == 0 && err.bytes().is_empty());
+    expect_bytes(rt, "no fault", err.bytes(), b"");
+    expect_eq(rt, "the status of no fault", &ended, &0);
     Ok(Vec::from_slice(alloc, out.bytes())?)
 }
 

@@ -1,7 +1,7 @@
 //! What veils leave of a tree, and the verdicts on calls.
 
 use crate::example::{EXAMPLE, found};
-use crate::expect::{expect, expect_of};
+use crate::expect::{expect_eq, expect_text};
 use pua_path::{Counted, Ending, Errno, Last};
 use pua_policy::judge::{verdict, verdict_of};
 use pua_policy::{Call, Cover, Perms, Place, Process, Promises, Verdict, needs};
@@ -105,7 +105,7 @@ fn judges_by_kind(rt: HostRuntime) -> Result<(), Fail> {
     let tree = read_listing(rt.alloc(), KINDS)?;
     let process = Process::new(rt.alloc())?;
     for (text, answers) in &BY_KIND {
-        expect_of(&rt, *text, unlike(&tree, &process, *text, answers) == None);
+        expect_text(&rt, *text, &unlike(&tree, &process, *text, answers), &None);
     }
     Ok(())
 }
@@ -121,7 +121,7 @@ fn judges_the_way_before_the_node(rt: HostRuntime) -> Result<(), Fail> {
         (b"/e/l/", Errno::ENOTDIR),
     ] {
         let verdict = judged(&tree, &process, Call::Rmdir, text);
-        expect_of(&rt, text, verdict == Verdict::Failed(errno));
+        expect_text(&rt, text, &verdict, &Verdict::Failed(errno));
     }
     Ok(())
 }
@@ -138,7 +138,7 @@ fn judges_promises_before_the_path(rt: HostRuntime) -> Result<(), Fail> {
     ] {
         process.pledge(Some(promises), None)?;
         let verdict = judged(&tree, &process, call, b"/no/x");
-        expect(&rt, call.name(), verdict == want);
+        expect_eq(&rt, call.name(), &verdict, &want);
     }
     Ok(())
 }
@@ -155,10 +155,11 @@ fn covered(tree: &ListTree, process: &Process, text: &[u8]) -> Option<Cover> {
 fn covers_what_is_beneath_a_veil(rt: HostRuntime) -> Result<(), Fail> {
     let tree = read_listing(rt.alloc(), EXAMPLE)?;
     let mut process = Process::new(rt.alloc())?;
-    expect(
+    expect_eq(
         &rt,
         "no veil",
-        covered(&tree, &process, b"/tmp") == Some(Cover::All),
+        &covered(&tree, &process, b"/tmp"),
+        &Some(Cover::All),
     );
     process.unveil_at(Place::Dir(NodeId::new(3)), Perms::READ)?;
     for (text, cover) in [
@@ -168,7 +169,7 @@ fn covers_what_is_beneath_a_veil(rt: HostRuntime) -> Result<(), Fail> {
         (b"/etc/passwd", Cover::Nothing),
         (b"/", Cover::Nothing),
     ] {
-        expect_of(&rt, text, covered(&tree, &process, text) == Some(cover));
+        expect_text(&rt, text, &covered(&tree, &process, text), &Some(cover));
     }
     Ok(())
 }
@@ -193,7 +194,7 @@ fn covers_by_the_nearest_of_nested_veils(rt: HostRuntime) -> Result<(), Fail> {
         (b"/", Perms::READ),
     ] {
         let cover = covered(&tree, &process, text);
-        expect_of(&rt, text, cover == Some(Cover::Only(perms)));
+        expect_text(&rt, text, &cover, &Some(Cover::Only(perms)));
     }
     Ok(())
 }
@@ -211,7 +212,7 @@ fn judges_what_was_found_by_its_veil(rt: HostRuntime) -> Result<(), Fail> {
     let tree = read_listing(rt.alloc(), EXAMPLE)?;
     let mut process = Process::new(rt.alloc())?;
     let run = judged_if_found(&tree, &process, Call::Exec, b"/tmp/sh");
-    expect(&rt, "a program is run", run == Some(Verdict::Allowed));
+    expect_eq(&rt, "a program is run", &run, &Some(Verdict::Allowed));
     let passwd = Name::read(b"passwd")?;
     process.unveil_at(Place::Slot(NodeId::new(1), passwd), Perms::READ)?;
     for (call, text, want) in [
@@ -224,7 +225,7 @@ fn judges_what_was_found_by_its_veil(rt: HostRuntime) -> Result<(), Fail> {
         (Call::Stat, b"/etc", Verdict::Failed(Errno::ENOENT)),
         (Call::Stat, b"/tmp/sh", Verdict::Failed(Errno::ENOENT)),
     ] {
-        expect_of(&rt, text, judged(&tree, &process, call, text) == want);
+        expect_text(&rt, text, &judged(&tree, &process, call, text), &want);
     }
     Ok(())
 }

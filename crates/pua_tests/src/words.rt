@@ -1,6 +1,6 @@
 //! Keywords, letters and calls, and what calls need.
 
-use crate::expect::{expect, expect_at, expect_of};
+use crate::expect::{expect, expect_eq, expect_row, expect_text};
 use pua_path::{Ending, Errno, Last};
 use pua_policy::judge::cover_fault;
 use pua_policy::{Call, Cover, Perms, Promises, needs};
@@ -19,7 +19,7 @@ fn keywords_are_read(rt: HostRuntime) {
         (b"stdio,", Err(Errno::EINVAL)),
         (b"stdio rpath", Err(Errno::EINVAL)),
     ] {
-        expect_of(&rt, text, Promises::read(text) == want);
+        expect_text(&rt, text, &Promises::read(text), &want);
     }
     expect(
         &rt,
@@ -37,7 +37,7 @@ fn letters_are_read_and_asked_for(rt: HostRuntime) {
         (b"", Ok(Perms::NONE)),
         (b"rq", Err(Errno::EINVAL)),
     ] {
-        expect_of(&rt, text, Perms::read(text) == want);
+        expect_text(&rt, text, &Perms::read(text), &want);
     }
     expect(
         &rt,
@@ -53,7 +53,7 @@ fn letters_are_read_and_asked_for(rt: HostRuntime) {
     .iter()
     .enumerate()
     {
-        expect_at(&rt, row, cover_fault(*cover, Perms::CREATE) == *fault);
+        expect_row(&rt, row, &cover_fault(*cover, Perms::CREATE), fault);
     }
 }
 
@@ -66,15 +66,16 @@ fn calls_are_named(rt: HostRuntime) {
     let mut number = 0u8;
     for (call, name) in Call::ALL.iter().zip(names.iter()) {
         number = number.saturating_add(1);
-        expect(&rt, *name, call.number() == number);
-        expect(&rt, *name, call.name() == *name);
-        expect(&rt, *name, Call::read(name.as_bytes()) == Some(*call));
+        expect_eq(&rt, *name, &call.number(), &number);
+        expect_eq(&rt, *name, &call.name(), name);
+        expect_eq(&rt, *name, &Call::read(name.as_bytes()), &Some(*call));
     }
     let others = (Call::read(b"rename"), Call::read(b""));
-    expect(
+    expect_eq(
         &rt,
         "no call is read from another word",
-        others == (None, None),
+        &others,
+        &(None, None),
     );
 }
 

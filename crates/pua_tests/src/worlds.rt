@@ -1,7 +1,7 @@
 //! Worlds that serve requests, by direct calls.
 
 use crate::example::EXAMPLE;
-use crate::expect::{expect, expect_at};
+use crate::expect::{expect, expect_eq, expect_row};
 use crate::told::ROOT;
 use pua_path::Errno;
 use pua_policy::{Call, May, Promises};
@@ -47,10 +47,10 @@ fn requests_are_served_one_by_one(rt: HostRuntime) -> Result<(), Fail> {
     ];
     let mut world = world(rt.alloc(), ROOT)?;
     for (row, (request, answer)) in script.requests().iter().zip(answers.iter()).enumerate() {
-        expect_at(&rt, row, world.apply(request) == Ok(*answer));
+        expect_row(&rt, row, &world.apply(request), &Ok(*answer));
     }
     let made = world.tree().look(NodeId::ROOT, &Name::read(b"a")?);
-    expect(&rt, "a directory is made", made == Some(NodeId::new(1)));
+    expect_eq(&rt, "a directory is made", &made, &Some(NodeId::new(1)));
     Ok(())
 }
 
@@ -74,12 +74,12 @@ fn processes_are_known_by_their_numbers(rt: HostRuntime) -> Result<(), Fail> {
     expect(&rt, "five answers", are_okay);
     for (number, dir, ended, answer) in [(1, 3, false, May::Yes), (9, 1, true, May::Death)] {
         let dir = NodeId::new(dir);
-        expect(&rt, "its directory", dir_of(&world, number) == Some(dir));
-        expect(&rt, "its end", has_ended(&world, number) == Some(ended));
+        expect_eq(&rt, "its directory", &dir_of(&world, number), &Some(dir));
+        expect_eq(&rt, "its end", &has_ended(&world, number), &Some(ended));
         let may = may(&world, number, Promises::WPATH);
-        expect(&rt, "its promises", may == Some(answer));
+        expect_eq(&rt, "its promises", &may, &Some(answer));
     }
-    expect(&rt, "no other process", dir_of(&world, 2) == None);
+    expect_eq(&rt, "no other process", &dir_of(&world, 2), &None);
     Ok(())
 }
 
@@ -103,7 +103,7 @@ fn a_full_tree_has_no_space(rt: HostRuntime) -> Result<(), Fail> {
     let answers = world.run(rt.alloc(), &script)?;
     let full = Answer::Failed(Errno::ENOSPC);
     let wanted = [full, full, full, Answer::Okay, Answer::Okay, Answer::Okay];
-    expect(&rt, "no space", answers.as_slice() == wanted.as_slice());
+    expect_eq(&rt, "no space", &answers.as_slice(), &wanted.as_slice());
     Ok(())
 }
 
@@ -124,13 +124,13 @@ fn is_exit(request: &Request) -> bool {
 fn scripts_are_read(rt: HostRuntime) -> Result<(), Fail> {
     let script = read_script(rt.alloc(), b"1 stat /a\\040b\r\n999999 exit")?;
     let requests = script.requests();
-    expect(&rt, "two requests", requests.len() == 2);
+    expect_eq(&rt, "two requests", &requests.len(), &2);
     for (row, (request, number)) in requests.iter().zip([1, 999_999]).enumerate() {
-        expect_at(&rt, row, request.process() == number);
+        expect_row(&rt, row, &request.process(), &number);
     }
     let is_asked = requests.iter().any(|request| is_stat_of(request, b"/a b"));
     expect(&rt, "stat /a b", is_asked && requests.iter().any(is_exit));
     let fault = read_script(rt.alloc(), b"1 stat /\n1000000 exit\n").err();
-    expect(&rt, "its line", fault == Some(ScriptFault::BadLine(2)));
+    expect_eq(&rt, "its line", &fault, &Some(ScriptFault::BadLine(2)));
     Ok(())
 }

@@ -1,7 +1,10 @@
 pub mod Sinks
+pub mod Blocks
 pub mod Sources
 pub mod Named
+pub mod Held
 pub mod Statuses
 pub mod Texts
 pub mod Begun
+pub mod Performed
 pub mod Examples

@@ -7,7 +7,7 @@ use Rattle.pua_tool.specs.declared.sink.PutFault.{PutFault}
 abbrev pub counted : ℕ → ℕ
 counted n = min (n + 1) (2 ^ 64 - 1)
 
--- known bytes stay known, and these stand behind them
+-- known bytes stay known, and these stand after them
 abbrev pub Adds : List ℕ → Option (List ℕ) → Option (List ℕ) → Type 0
 Adds text old new = Appends old new text
 
@@ -31,7 +31,7 @@ pub record Memory : Type 0 where
   pub room : ℕ
   pub failed : ℕ
 
--- what the writing of a text leaves: all of it, or a front of it behind a put that failed
+-- what the writing of a text leaves: all of it, or a front of it before a put that failed
 abbrev pub Writes : List ℕ → Result (Unit {0}) PutFault → Option (List ℕ) → Option (List ℕ) → ℕ → ℕ → Type 0
 Writes text (Ok done) old new before after = Adds text old new × (after ≡ before)
 Writes text (Err fault) old new before after = AddsFront text old new × HasFailed before after

@@ -1,10 +1,24 @@
 -- With which status the program ends.
-use Rattle.std.specs.Prelude.{ℕ}
+use Rattle.std.specs.Prelude.{ℕ, Result, Ok, Err}
 use Rattle.pua_tool.specs.declared.fault.ToolFault.{ToolFault}
 use Rattle.pua_tool.specs.declared.fault.ToolFault.TheVariants.{Write, OutOfMemory}
+use Rattle.pua_tool.specs.declared.outcome.CommandFault.{CommandFault}
+use Rattle.pua_tool.specs.declared.outcome.CommandFault.TheVariants.{Usage, Unreadable, Tool}
+use Rattle.pua_tool.specs.declared.status.TheConstants.{DONE, REFUSED, USAGE, DEVICE, MEMORY}
 
 -- a device that failed, memory that was refused, or an input that was refused
 abbrev pub status_of : ToolFault → ℕ
-status_of Write = 3
-status_of OutOfMemory = 4
-status_of _ = 1
+status_of Write = DEVICE
+status_of OutOfMemory = MEMORY
+status_of _ = REFUSED
+
+-- words that are no command, an input that can't be read, or what stopped the writing
+abbrev pub fault_status : CommandFault → ℕ
+fault_status Usage = USAGE
+fault_status (Unreadable name) = DEVICE
+fault_status (Tool fault) = status_of fault
+
+-- the status after a command that was done, or that this fault stopped
+abbrev pub status_after : Result (Unit {0}) CommandFault → ℕ
+status_after (Ok done) = DONE
+status_after (Err fault) = fault_status fault

@@ -15,6 +15,7 @@ use Rattle.pua_audit.specs.Reach.{Pair, printed_path}
 use Rattle.pua_audit.specs.Begin.{Beginning, beginning, still_to_come}
 use Rattle.pua_audit.specs.declared.base.Base.{Base}
 use Rattle.pua_audit.specs.declared.fault.AuditFault.{AuditFault}
+use Rattle.pua_words.specs.declared.command.AuditWords.{AuditWords}
 use Rattle.pua_tool.specs.declared.job.Job.{Job}
 use Rattle.pua_tool.specs.declared.fault.ToolFault.{ToolFault}
 use Rattle.pua_tool.specs.declared.fault.ToolFault.TheVariants.{Listing, Script, NoProcess, Audit}
@@ -50,6 +51,10 @@ pub record Wanted : Type 0 where
 
 abbrev pub wanted : Job → Wanted
 wanted job = record { limit = job.limit; process = job.process; base = job.base; after = option_map (λ text. text.now) job.after; candidates = map (λ text. text.now) job.candidates.now }
+
+-- what the words of an audit ask for
+abbrev pub wanted_by : AuditWords → Wanted
+wanted_by words = record { limit = words.limit; process = words.process; base = words.base; after = option_map (λ text. text.now) words.after; candidates = map (λ text. text.now) words.names.items }
 
 abbrev pub as_listing : Result Tree ListingFault → Result Tree ToolFault
 as_listing (Ok t) = Ok t
@@ -94,7 +99,7 @@ begun table tree_bytes script_bytes wanted = do
   b ← as_audit (beginning done.world.tree table h wanted.base wanted.candidates wanted.limit wanted.after)
   Ok (record { told = done.told; beginning = b })
 
--- the answers and the heading, which an audit that is resumed doesn't tell again
+-- the answers and the heading, which an audit that is resumed doesn't write again
 abbrev pub front_of : Option (List ℕ) → ℕ → List Answer → List ℕ
 front_of None process told = answer_lines 1 told ++ reach_line process
 front_of (Some after) process told = []

@@ -1,6 +1,6 @@
-//! The lines that tell what a script was answered.
+//! The lines with what a script was answered.
 
-ghost use Rattle.std.specs.Prelude.{◌≡◌, ◌<◌, ◌^◌, ◌++◌, IfOk, OnOk, string_bytes, length, option_map};
+ghost use Rattle.std.specs.Prelude.{◌≡◌, ◌++◌, IfOk, OnOk, string_bytes, option_map};
 ghost use Rattle.pua_tool.specs.Texts.{answer_line, answer_lines, front_of};
 
 use pua_script::Answer;
@@ -24,8 +24,8 @@ fn push_answer(text: &mut String, number: usize, answer: Answer) -> Result<(), A
     writeln!(text, "{number} {answer}")
 }
 
-/// What stands before the lines of the pairs: the answers and the heading, but for an audit that is
-/// resumed, which doesn't tell them again.
+/// What stands before the lines of the pairs: the answers and the heading, except in an audit that is
+/// resumed, which doesn't write them again.
 pub(crate) fn front_text(
     alloc: Global,
     told: &[Answer],

@@ -1,6 +1,6 @@
 //! The text of an audit.
 
-ghost use Rattle.std.specs.Prelude.{◌≡◌, ◌≢◌, ◌≤◌, ◌++◌, ℕ, List, Ok, Err, IfOk, IfErr, OnOk, vec_capacity};
+ghost use Rattle.std.specs.Prelude.{◌≡◌, ◌≢◌, ◌≤◌, ◌++◌, ℕ, List, [], Ok, Err, IfOk, IfErr, OnOk, vec_capacity};
 ghost use Rattle.pua_policy.specs.Calls.{standard_table};
 ghost use Rattle.pua_tool.specs.Texts.{Begun, wanted, begun, audit_text, pair_lines};
 ghost use Rattle.pua_tool.specs.Begun.{IsBegun};
@@ -9,13 +9,12 @@ ghost use Rattle.pua_tool.specs.Sinks.{Adds, AddsFront, HasFailed, Writes};
 use crate::answers::front_text;
 use crate::fault::ToolFault;
 use crate::job::Job;
-use crate::line::{MOST_LINE, write_lines};
-use crate::script::{Replay, replay_script};
+use crate::line::{BLOCK, write_lines};
+use crate::script::{ProgramTree, Replay, replay_script};
 use crate::sink::{PutFault, Sink, put_all};
 use pua_audit::{Audit, AuditFault};
 use pua_path::{Counted, Probe};
 use pua_script::{Answer, World};
-use pua_tree::ListTree;
 use std::alloc::Global;
 
 /// Writes the text of an audit: for each line of the script its number and what it was answered,
@@ -47,7 +46,7 @@ pub fn audit_to<S: Sink>(
     let Ok(front) = front_text(alloc, told, job.process, job.after) else {
         return Err(ToolFault::OutOfMemory);
     };
-    let Ok(mut line) = Vec::with_capacity(alloc, MOST_LINE) else {
+    let Ok(mut block) = Vec::with_capacity(alloc, BLOCK) else {
         return Err(ToolFault::OutOfMemory);
     };
     let mut probe = Counted::new(audited.world.tree());
@@ -55,7 +54,7 @@ pub fn audit_to<S: Sink>(
         &mut audited.audit,
         &mut probe,
         front.as_str(),
-        &mut line,
+        &mut block,
         sink,
     ) {
         Ok(()) => Ok(()),
@@ -63,27 +62,29 @@ pub fn audit_to<S: Sink>(
     }
 }
 
-/// Writes the front of a text, and then a line for each pair that the audit has still to give.
+/// Writes the front of a text, and then a line for each pair that the audit has still to give. The
+/// front is put before the audit is asked for its first pair.
 fn write_text<'t, P: Probe<'t>, S: Sink>(
     audit: &mut Audit,
     probe: &mut P,
     front: &str,
-    line: &mut Vec<u8>,
+    block: &mut Vec<u8>,
     sink: &mut S,
 ) -> Result<(), PutFault>
     requires tree { P.tree probe.old ≡ audit.old.tree }
-    requires room { MOST_LINE ≤ vec_capacity line.old }
+    requires empty { block.old.items ≡ [] }
+    requires room { BLOCK ≤ vec_capacity block.old }
     ensures { Writes (front.now ++ pair_lines audit.old.base audit.old.left) result (S.written sink.old) (S.written sink.new) (S.failed sink.old) (S.failed sink.new) }
 {
     put_all(sink, front.as_bytes())?;
-    write_lines(audit, probe, line, sink)
+    write_lines(audit, probe, block, sink)
 }
 
 /// A script's answers, the world that it left, and the audit of a process in it.
 #[derive(Drop)]
 pub(crate) struct Audited {
     pub(crate) told: Vec<Answer>,
-    pub(crate) world: World<ListTree>,
+    pub(crate) world: World<ProgramTree>,
     pub(crate) audit: Audit,
 }
 

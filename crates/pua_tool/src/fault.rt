@@ -1,5 +1,9 @@
-//! Why runs and audits are refused, each with the line that tells it.
+//! Why runs and audits are refused, each with the line that reports it.
 
+ghost use Rattle.std.specs.Prelude.{◌≡◌};
+ghost use Rattle.pua_tool.specs.Statuses.{status_of};
+
+use crate::status::{DEVICE, MEMORY, REFUSED};
 use pua_audit::AuditFault;
 use pua_script::ScriptFault;
 use pua_tree::ListingFault;
@@ -27,4 +31,17 @@ pub enum ToolFault {
     /// A growth of memory was refused, and nothing was written.
     #[error("pua: out of memory")]
     OutOfMemory,
+}
+
+impl ToolFault {
+    /// The status with which the program ends after this fault.
+    pub fn status(&self) -> u8
+        ensures { result ≡ status_of self.now }
+    {
+        match self {
+            ToolFault::Write => DEVICE,
+            ToolFault::OutOfMemory => MEMORY,
+            _ => REFUSED,
+        }
+    }
 }

@@ -1,6 +1,7 @@
 //! Inputs by name.
 
-ghost use Rattle.std.specs.Prelude.{◌≡◌, ◌↔◌, None, Some, IfOk, Err, map, option_map};
+ghost use Rattle.std.specs.Prelude.{◌≡◌, ◌↔◌, ℕ, List, Option, None, Some, IfOk, Err, map, option_map};
+ghost use Rattle.pua_tool.specs.Held.{Holds, HoldsNothing};
 ghost use Rattle.pua_tool.specs.Named.{kept_under};
 
 use crate::source::{ReadSource, read_bytes};
@@ -23,8 +24,15 @@ pub enum InputFault {
 
 /// Where inputs are taken from by their names.
 pub trait Inputs {
-    /// All bytes of the input of this name. How far it was read is not said after a fault.
-    fn take(&mut self, alloc: Global, name: &str) -> Result<Vec<u8>, InputFault>;
+    /// The bytes under each name, where they are known.
+    ghost holds: { Self → Option (List ℕ → Option (List ℕ)) };
+
+    /// All bytes of the input of this name; `Unreadable` only where nothing is held under it. How far
+    /// it was read is not said after a fault.
+    fn take(&mut self, alloc: Global, name: &str) -> Result<Vec<u8>, InputFault>
+        ensures held { IfOk result (λ bytes. Holds (holds self.old) name.now bytes.items) }
+        ensures nothing { result ≡ Err InputFault.Unreadable → HoldsNothing (holds self.old) name.now }
+        ensures unchanged { holds self.new ≡ holds self.old };
 }
 
 /// Inputs in memory. Contracts see the names with the bytes kept under them.
@@ -52,11 +60,13 @@ impl<'a> MemoryInputs<'a> {
 }
 
 impl Inputs for MemoryInputs<'_> {
+    ghost holds = { λ inputs. Some (λ name. kept_under name inputs) };
+
     /// A copy of the bytes kept under the name. `Unreadable` is answered exactly where there is no
     /// such name.
     fn take(&mut self, alloc: Global, name: &str) -> Result<Vec<u8>, InputFault>
-        ensures kept { IfOk result (λ bytes. kept_under name.now self.old ≡ Some bytes.items) }
-        ensures unreadable { (result ≡ Err InputFault.Unreadable) ↔ (kept_under name.now self.old ≡ None) }
+        ensures held { IfOk result (λ bytes. kept_under name.now self.old ≡ Some bytes.items) }
+        ensures nothing { (result ≡ Err InputFault.Unreadable) ↔ (kept_under name.now self.old ≡ None) }
         ensures unchanged { self.new ≡ self.old }
     {
         match first_named(self.entries, name) {
@@ -77,7 +87,8 @@ fn first_named<'a>(entries: &'a [(&'a str, &'a [u8])], name: &str) -> Option<&'a
     None
 }
 
-/// The machine's files, by their paths.
+/// The machine's files, by their paths. What they hold is known to no contract, so that a missing file
+/// is `Unreadable`, and not empty, is only tested.
 #[derive(Drop)]
 pub struct DiskInputs<'r, R: Files> {
     rt: &'r R,
@@ -91,6 +102,8 @@ impl<'r, R: Files> DiskInputs<'r, R> {
 }
 
 impl<R: Files> Inputs for DiskInputs<'_, R> {
+    ghost holds = { λ _. None };
+
     fn take(&mut self, alloc: Global, name: &str) -> Result<Vec<u8>, InputFault> {
         let Ok(file) = fs::open(self.rt, name) else {
             return Err(InputFault::Unreadable);

@@ -1,6 +1,10 @@
 //! What an audit is asked for.
 
+ghost use Rattle.std.specs.Prelude.{◌≡◌};
+ghost use Rattle.pua_tool.specs.Texts.{wanted, wanted_by};
+
 use pua_audit::Base;
+use pua_words::AuditWords;
 
 /// What an audit is asked for, besides the tree and the script.
 #[derive(Clone, Copy, Debug)]
@@ -15,4 +19,17 @@ pub struct Job<'a> {
     pub after: Option<&'a [u8]>,
     /// Spellings of names that are letters, whether or not the tree has them; at most 1,024.
     pub candidates: &'a [&'a [u8]],
+}
+
+/// What the words of an audit ask for.
+pub(crate) fn job_of<'w>(words: &'w AuditWords<'_>) -> Job<'w>
+    ensures { wanted result ≡ wanted_by words.now }
+{
+    Job {
+        limit: words.limit,
+        process: words.process,
+        base: words.base,
+        after: words.after,
+        candidates: words.names.as_slice(),
+    }
 }

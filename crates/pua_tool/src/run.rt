@@ -1,9 +1,8 @@
-//! The text of a run, and the replay of a script that a run and an audit share.
+//! The text of a run.
 
-ghost use Rattle.std.specs.Prelude.{◌≡◌, ◌≢◌, ℕ, List, Ok, Err, IfOk, IfErr, OnOk};
+ghost use Rattle.std.specs.Prelude.{◌≡◌, ◌≢◌, ℕ, List, Ok, Err, IfErr, OnOk};
 ghost use Rattle.pua_policy.specs.Calls.{standard_table};
-ghost use Rattle.pua_tool.specs.Texts.{Replayed, replayed, run_text};
-ghost use Rattle.pua_tool.specs.Begun.{IsReplay};
+ghost use Rattle.pua_tool.specs.Texts.{run_text};
 ghost use Rattle.pua_tool.specs.Sinks.{Adds, AddsFront, HasFailed};
 
 use crate::answers::answer_text;

@@ -12,10 +12,13 @@ use pua_script::{Answer, Script, ScriptFault, World, read_script};
 use pua_tree::{ListTree, ListingFault, read_listing};
 use std::alloc::Global;
 
+/// How the program keeps the tree of a listing.
+pub(crate) type ProgramTree = ListTree;
+
 /// The world that a script left, and what its lines were answered.
 #[derive(Drop)]
 pub(crate) struct Replay {
-    pub(crate) world: World<ListTree>,
+    pub(crate) world: World<ProgramTree>,
     pub(crate) told: Vec<Answer>,
 }
 
@@ -41,7 +44,7 @@ pub(crate) fn replay_script(
     Ok(Replay { world, told })
 }
 
-fn read_tree(alloc: Global, bytes: &[u8]) -> Result<ListTree, ToolFault>
+fn read_tree(alloc: Global, bytes: &[u8]) -> Result<ProgramTree, ToolFault>
     ensures read { IfOk result (λ tree. as_listing (listing bytes.now) ≡ Ok tree) }
     ensures refused { IfErr result (λ fault. fault ≢ ToolFault.OutOfMemory → (as_listing (listing bytes.now) ≡ Err fault)) }
     ensures unwritten { IfErr result (λ fault. fault ≢ ToolFault.Write) }

@@ -1,6 +1,6 @@
 //! Where texts are written.
 
-ghost use Rattle.std.specs.Prelude.{◌≡◌, ◌≤◌, ◌-◌, ℕ, List, [], ◌++◌, Option, Some, IfOk, OnOk, OnErr, length, take, min};
+ghost use Rattle.std.specs.Prelude.{◌≡◌, ◌↔◌, ◌<◌, ◌≤◌, ◌-◌, ℕ, List, [], Option, Some, IfOk, IsErr, OnOk, OnErr, length, min};
 ghost use Rattle.std.specs.Io.KnownBytes.{Keeps};
 ghost use Rattle.pua_tool.specs.Sinks.{Adds, AddsFront, HasFailed, Puts, Memory, counted};
 
@@ -95,15 +95,16 @@ impl Sink for MemorySink {
 
     ghost failed = { λ sink. sink.failed };
 
-    /// Adds as many bytes as there is room for. It fails only where no room is left for bytes that
-    /// are there.
+    /// Adds as many bytes as there is room for. It fails exactly where no room is left and there are
+    /// bytes to put.
     fn put(&mut self, bytes: &[u8]) -> Result<usize, PutFault>
         ensures adds { IfOk result (λ n. Puts bytes.now n (Some self.old.bytes) (Some self.new.bytes)) }
         ensures unfailed { OnOk result (self.new.failed ≡ self.old.failed) }
         ensures nothing { OnErr result (Keeps (Some self.old.bytes) (Some self.new.bytes)) }
         ensures rises { OnErr result (self.new.failed ≡ counted self.old.failed) }
         ensures fits { IfOk result (λ n. n ≡ min (self.old.room - length self.old.bytes) (length bytes.now)) }
-        ensures full { OnErr result (length self.old.bytes ≡ self.old.room) }
+        ensures full { IsErr result
+            ↔ ((length self.old.bytes ≡ self.old.room) × (0 < length bytes.now)) }
         ensures room { self.new.room ≡ self.old.room }
     {
         let left = self.room - self.bytes.len();
@@ -117,7 +118,7 @@ impl Sink for MemorySink {
     }
 }
 
-/// A sink over a writer, which tells its bytes where the writer does. A write of no bytes, of a text
+/// A sink over a writer. Its bytes are known where the writer's are. A write of no bytes, of a text
 /// that has some, is a put that failed. Contracts see the writer, and how many puts failed.
 #[derive(Drop)]
 pub struct StreamSink<W: Write + Drop> {

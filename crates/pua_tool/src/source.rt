@@ -1,9 +1,9 @@
 //! Reading to the end.
 
-ghost use Rattle.std.specs.Prelude.{◌≡◌, ◌≢◌, ◌≤◌, ◌+◌, ℕ, List, Option, Err, IfOk, OnOk, OnErr, IfSome, length, take};
-ghost use Rattle.std.specs.Io.KnownBytes.{Keeps, ReadConsumes};
+ghost use Rattle.std.specs.Prelude.{◌≡◌, ◌≢◌, ◌≤◌, ◌+◌, ℕ, List, Option, Err, IfOk, OnOk, OnErr, IfSome, length};
+ghost use Rattle.std.specs.Io.KnownBytes.{ReadConsumes};
 ghost use Rattle.pua_tool.specs.Sinks.{counted};
-ghost use Rattle.pua_tool.specs.Sources.{CantBeRead, most_bytes};
+ghost use Rattle.pua_tool.specs.Sources.{CantBeRead};
 
 use crate::inputs::InputFault;
 use std::alloc::Global;
@@ -14,8 +14,8 @@ use std::marker::Model;
 #[derive(Clone, Copy, Debug, PartialEq, Eq)]
 pub struct ReadFault;
 
-/// A reader that tells how often it was read, and how often that failed: of which
-/// [`std::io::Read`] has no word. [`ReadSource`] makes one of any reader.
+/// A reader that counts how often it was read, and how often that failed, which
+/// [`std::io::Read`] doesn't. [`ReadSource`] makes one of any reader.
 pub trait Source {
     /// The bytes that are left, where they are known.
     ghost remaining: { Self → Option (List ℕ) };
@@ -86,17 +86,17 @@ impl<R: Read + Drop> Source for ReadSource<R> {
 }
 
 /// An input has at most so many bytes.
-pub const MOST_BYTES: usize = 67_108_864;
+pub const MOST_INPUT_BYTES: usize = 67_108_864;
 
 /// All bytes that a source has left, by at most 67,108,865 reads. `Unreadable` is answered where a
 /// read failed, which ends the reading, and where more than 67,108,864 bytes were left; how far it
 /// has read is then not said.
 pub fn read_bytes<R: Source>(alloc: Global, source: &mut R) -> Result<Vec<u8>, InputFault>
     ensures whole { IfOk result (λ all. IfSome (R.remaining source.old) (λ left. all.items ≡ left)) }
-    ensures short { IfOk result (λ all. length all.items ≤ most_bytes) }
+    ensures short { IfOk result (λ all. length all.items ≤ MOST_INPUT_BYTES) }
     ensures unreadable { result ≡ Err InputFault.Unreadable → CantBeRead (R.remaining source.old) (R.failures source.old) (R.failures source.new) }
     ensures readable { result ≢ Err InputFault.Unreadable → R.failures source.new ≡ R.failures source.old }
-    ensures reads { R.reads source.new ≤ R.reads source.old + 67108865 }
+    ensures reads { R.reads source.new ≤ R.reads source.old + (MOST_INPUT_BYTES + 1) }
 {
     let mut all = Vec::new(alloc);
     let mut buffer = [0u8; 65_536];
@@ -107,7 +107,7 @@ pub fn read_bytes<R: Source>(alloc: Global, source: &mut R) -> Result<Vec<u8>, I
         if count == 0 {
             return Ok(all);
         }
-        if count > MOST_BYTES - all.len() {
+        if count > MOST_INPUT_BYTES - all.len() {
             return Err(InputFault::Unreadable);
         }
         if all.extend_from_slice(&buffer[..count]).is_err() {

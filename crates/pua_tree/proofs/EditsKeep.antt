@@ -1,5 +1,5 @@
 -- What an edit leaves is a tree.
-use Rattle.std.proofs.Common.{◌≡◌, ◌≢◌, ◌⊎◌, ℕ, zero, suc, ◌+◌, ◌≤◌, ◌<◌, Bool, true, false, not, ◌&&◌, cond, T, List, length, Option, Some, None, option_map, Result, Ok, Err, is_some, ◌==◌, refl, sym, ap, subst, ◌∙◌, arith, inl, inr, eqb-true, eq-eqb, ne_eqb}
+use Rattle.std.proofs.Common.{◌≡◌, ◌≢◌, ◌⊎◌, ℕ, zero, suc, ◌+◌, ◌≤◌, ◌<◌, Bool, true, false, not, ◌&&◌, cond, T, List, length, Option, Some, None, option_map, Ok, Err, is_some, ◌==◌, refl, sym, ap, subst, ◌∙◌, arith, inl, inr, eqb-true, eq-eqb, ne_eqb}
 use Rattle.std.specs.List.{list_any}
 use Rattle.std.specs.Ordering.{nat_cmp}
 use Rattle.std.specs.Cmp.{nat_cmp_total}
@@ -10,10 +10,10 @@ use Rattle.pua_tree.specs.Names.{is_name}
 use Rattle.pua_tree.specs.Tree.{Node, Spot, Tree, WellFormed, spot_cmp, node_at, is_dir, is_dir_kind, is_living, look, above, climb, climb_within, has_no_row, rows_of, row_fits, target_fits}
 use Rattle.pua_tree.specs.Edits.{with_row, without_row, without_node, without_unnamed, with_new, add, cut, cut_found, shift, shift_found, moved, is_full_dir, is_inside, is_same_node, is_full_dir_there, has_room}
 use Rattle.pua_tree.specs.Laws.{EditsKeepTrees}
-use Rattle.pua_tree.specs.declared.fault.TreeFault.{TreeFault}
 use Rattle.pua_tree.specs.declared.fault.TreeFault.TheVariants.{Taken, NotDir, NotEmpty, Inside, Full}
+use Rattle.pua_tree.proofs.Base.{same_Some, Some≢None, none, same_Ok, past, tested}
 use Rattle.pua_tree.proofs.Content.{spots_total, exact_spots}
-use Rattle.pua_tree.proofs.Tallies.{one, one_at, tally_counts, tally-put, tally-without, is_Some, not_None, same_or_other, put_here, put_elsewhere, without_here, without_elsewhere, found_from_tally, tally_found, none_found}
+use Rattle.pua_tree.proofs.Tallies.{one, one_at, tally_counts, tally-put, tally-without, same_or_other, put_here, put_elsewhere, without_here, without_elsewhere, found_from_tally, tally_found, none_found}
 use Rattle.pua_tree.proofs.Sound.{Sound, Reaches, InRow, rows_with, above_is, row_parts, row_says, row_of, above_dir, climb_ends, sound_from, well_formed_from}
 
 same_spot_or_other : (s r : Spot) → (s ≡ r) ⊎ (s ≢ r)
@@ -100,7 +100,7 @@ module _ (t : Tree) (f : Sound t) (dir : ℕ) (name : List ℕ) (node : Node) (f
   old_row s n = put_elsewhere spot_cmp spots_total exact_spots s (dir, name) t.next t.rows n
 
   kept_row : (s : Spot) (x : ℕ) → InRow t s x → InRow grown s x
-  kept_row s x e = old_row s (λ here. not_None x (sym e ∙ ap (λ r. find_key spot_cmp r t.rows) here ∙ free)) ∙ e
+  kept_row s x e = old_row s (λ here. Some≢None x (sym e ∙ ap (λ r. find_key spot_cmp r t.rows) here ∙ free)) ∙ e
 
   grown_rows : (x : ℕ) → rows_with grown x ≡ rows_with t x + one (λ y. y == x) t.next
   grown_rows x =
@@ -124,14 +124,14 @@ module _ (t : Tree) (f : Sound t) (dir : ℕ) (name : List ℕ) (node : Node) (f
     nodes_sorted = is_sorted-put nat_cmp nat_cmp_total t.next node t.nodes f.nodes_sorted;
     root = old_dir 0 f.root;
     row = λ s x e. elim (same_spot_or_other s (dir, name)) [
-      | inl here ↦ (let number : t.next ≡ x = is_Some t.next x (sym new_row ∙ ap (λ r. find_key spot_cmp r grown.rows) (sym here) ∙ e) in
+      | inl here ↦ (let number : t.next ≡ x = same_Some t.next x (sym new_row ∙ ap (λ r. find_key spot_cmp r grown.rows) (sym here) ∙ e) in
           subst (λ r. row_fits grown (r, x) ≡ true) (sym here) (subst (λ y. row_fits grown ((dir, name), y) ≡ true) number
           (row_made grown (dir, name) t.next (old_dir dir in_dir) is_one (ap is_some new_at) (next_not_root t f))))
       | inr there ↦ (let says = row_says t f s x (sym (old_row s there) ∙ e) in
           row_made grown s x (old_dir s.0 says.0) says.1 (old_living x says.2) says.3)
     ];
     node = λ x n e. elim (same_number_or_other x t.next) [
-      | inl new ↦ (let made : node ≡ n = is_Some node n (sym new_at ∙ ap (node_at grown) (sym new) ∙ e) in
+      | inl new ↦ (let made : node ≡ n = same_Some node n (sym new_at ∙ ap (node_at grown) (sym new) ∙ e) in
           (omega arith, subst (λ m. target_fits m.kind m.target ≡ true) made fits))
       | inr old ↦ (let says = f.node x n (sym (old_at x old) ∙ e) in (omega arith, says.1))
     ];
@@ -151,7 +151,7 @@ module _ (t : Tree) (f : Sound t) (dir : ℕ) (name : List ℕ) (node : Node) (f
     ];
   }
 
--- a tree but for one node, which may stand in no row if nothing stands in it
+-- a tree except one node, which may stand in no row if nothing stands in it
 record Loose (t : Tree) (y : ℕ) : Type 0 where
   rows_sorted : T (is_sorted spot_cmp t.rows)
   nodes_sorted : T (is_sorted nat_cmp t.nodes)
@@ -203,7 +203,7 @@ module _ (t : Tree) (y : ℕ) (l : Loose t y) (none : rows_with t y ≡ 0) where
   left_node : (x : ℕ) (n : Node) → node_at thinned x ≡ Some n → (x ≢ y) × (node_at t x ≡ Some n)
   left_node x n e =
       elim (same_number_or_other x y) [
-        | inl here ↦ absurd (not_None n (sym e ∙ ap (node_at thinned) here ∙ gone_at))
+        | inl here ↦ absurd (Some≢None n (sym e ∙ ap (node_at thinned) here ∙ gone_at))
         | inr other ↦ (other, sym (left_at x other) ∙ e)
       ]
 
@@ -267,13 +267,13 @@ module _ (t : Tree) (f : Sound t) (dir : ℕ) (name : List ℕ) (x : ℕ) (found
   cleared_row : (s : Spot) (z : ℕ) → InRow cleared s z → InRow t s z
   cleared_row s z e =
       elim (same_spot_or_other s (dir, name)) [
-        | inl here ↦ absurd (not_None z (sym e ∙ ap (λ r. find_key spot_cmp r cleared.rows) here ∙ without_here spot_cmp spots_total exact_spots (dir, name) t.rows))
+        | inl here ↦ absurd (Some≢None z (sym e ∙ ap (λ r. find_key spot_cmp r cleared.rows) here ∙ without_here spot_cmp spots_total exact_spots (dir, name) t.rows))
         | inr other ↦ sym (without_elsewhere spot_cmp spots_total exact_spots s (dir, name) t.rows other) ∙ e
       ]
 
   other_row : (s : Spot) (z : ℕ) → z ≢ x → InRow t s z → InRow cleared s z
   other_row s z n e =
-      without_elsewhere spot_cmp spots_total exact_spots s (dir, name) t.rows (λ here. n (is_Some z x (sym e ∙ ap (λ r. find_key spot_cmp r t.rows) here ∙ found))) ∙ e
+      without_elsewhere spot_cmp spots_total exact_spots s (dir, name) t.rows (λ here. n (same_Some z x (sym e ∙ ap (λ r. find_key spot_cmp r t.rows) here ∙ found))) ∙ e
 
   cleared_rows : (z : ℕ) → rows_with cleared z + one (λ y. y == z) x ≡ rows_with t z
   cleared_rows z = subst (λ o. rows_with cleared z + one_at (λ y. y == z) o ≡ rows_with t z) found (tally-without spot_cmp spots_total exact_spots (λ y. y == z) (dir, name) t.rows f.rows_sorted)
@@ -413,7 +413,7 @@ module _ (t : Tree) (f : Sound t) (from : ℕ) (name : List ℕ) (to : ℕ) (new
     nodes_sorted = f.nodes_sorted;
     root = f.root;
     row = λ s z e. elim (same_spot_or_other s (to, new_name)) [
-      | inl here ↦ (let number : x ≡ z = is_Some x z (sym new_place ∙ ap (λ r. find_key spot_cmp r shifted.rows) (sym here) ∙ e) in
+      | inl here ↦ (let number : x ≡ z = same_Some x z (sym new_place ∙ ap (λ r. find_key spot_cmp r shifted.rows) (sym here) ∙ e) in
           subst (λ r. row_fits shifted (r, z) ≡ true) (sym here) (subst (λ v. row_fits shifted ((to, new_name), v) ≡ true) number
           (row_made shifted (to, new_name) x in_dir is_one moving.2 moving.3)))
       | inr other ↦ f.row s z (shifted_row s z other e)
@@ -434,9 +434,6 @@ module _ (t : Tree) (f : Sound t) (from : ℕ) (name : List ℕ) (to : ℕ) (new
         let once = f.once y h not_root in omega arith);
   }
 
-is_Ok : {A : Type 0} (a b : A) → ◌≡◌ {A = Result A TreeFault} (Ok a) (Ok b) → a ≡ b
-is_Ok a b e = cc
-
 module _ (t : Tree) (f : Sound t) (from : ℕ) (name : List ℕ) (to : ℕ) (new_name : List ℕ) (x : ℕ)
     (found : look t from name ≡ Some x) (in_dir : is_dir t to ≡ true) (is_one : is_name new_name ≡ true) (outside : is_inside t x to ≡ false) where
   says : (is_dir t from ≡ true) × (is_name name ≡ true) × (is_living t x ≡ true) × (x ≢ 0)
@@ -444,26 +441,18 @@ module _ (t : Tree) (f : Sound t) (from : ℕ) (name : List ℕ) (to : ℕ) (new
 
   moved_keeps : (there : Option ℕ) → look t to new_name ≡ there → is_same_node x there ≡ false → is_full_dir_there t there ≡ false → Sound (moved t from name to new_name x there)
   moved_keeps None e apart empty =
-      let loose = shift_loosens t f from name to new_name x t.next found (not_next t f x says.2) (λ z h. absurd (not_None z (sym h ∙ e)))
+      let loose = shift_loosens t f from name to new_name x t.next found (not_next t f x says.2) (λ z h. absurd (Some≢None z (sym h ∙ e)))
       in_dir (not_next t f to (is_living_dir t to in_dir)) is_one outside (next_not_root t f)
       (λ s z h. not_next t f s.0 (is_living_dir t s.0 (row_says t f s z h).0))
       (λ h. absurd (false≢true (sym (next_is_new t f) ∙ is_living_dir t t.next h))) in
       sound_where_named _ t.next loose (λ h. absurd (false≢true (sym (next_is_new t f) ∙ h)))
   moved_keeps (Some y) e apart empty =
-      unnamed_goes _ y (shift_loosens t f from name to new_name x y found (eqb-false x y apart) (λ z h. is_Some z y (sym h ∙ e))
+      unnamed_goes _ y (shift_loosens t f from name to new_name x y found (eqb-false x y apart) (λ z h. same_Some z y (sym h ∙ e))
       in_dir (stands_in_none t f y empty (to, new_name) y e) is_one outside (row_says t f (to, new_name) y e).3
       (stands_in_none t f y empty) (λ _. e))
 
 next_stays : (t : Tree) (y : ℕ) → (without_unnamed t y).next ≡ t.next
 next_stays t y = elim (rows_of t y == 0) as (λ b. (cond b (without_node t y) t).next ≡ t.next) [ true ↦ refl | false ↦ refl ]
-
-past : {A : Type 0} (b : Bool) (fault : TreeFault) (rest : Result A TreeFault) (a : A) → cond b (Err fault) rest ≡ Ok a → (b ≡ false) × (rest ≡ Ok a)
-past true fault rest a e = absurd (cc)
-past false fault rest a e = (refl, e)
-
-in_room : {A : Type 0} (b : Bool) (fault : TreeFault) (v a : A) → cond b (Ok v) (Err fault) ≡ Ok a → v ≡ a
-in_room true fault v a e = is_Ok v a e
-in_room false fault v a e = absurd (cc)
 
 abbrev Kept : Tree → Tree → Type 0
 Kept t after = WellFormed after × (t.next ≤ after.next)
@@ -475,12 +464,8 @@ adding t after dir x name node w is_one fits e =
     let a = past (not (is_dir t dir)) NotDir _ (x, after) e in
     let b = past (is_some (look t dir name)) Taken _ (x, after) a.1 in
     let grown = with_new t dir name node in
-    let is : grown ≡ after = ap (λ (p : ℕ × Tree). p.1) (in_room (has_room t) Full (t.next, grown) (x, after) b.1) in
+    let is : grown ≡ after = ap (λ (p : ℕ × Tree). p.1) (tested (has_room t) Full (t.next, grown) (x, after) b.1).1 in
     subst (Kept t) is (well_formed_from grown (add_keeps t f dir name node (none (look t dir name) b.0) (not-false (is_dir t dir) a.0) is_one fits), omega arith)
-  where
-    none : (o : Option ℕ) → is_some o ≡ false → o ≡ None
-    none None h = refl
-    none (Some y) h = absurd (false≢true (sym h))
 
 cutting : (t after : Tree) (dir x : ℕ) (name : List ℕ) → WellFormed t → cut t dir name ≡ Ok (x, after) → Kept t after
 cutting t after dir x name w e = found (look t dir name) refl (past (not (is_dir t dir)) NotDir _ (x, after) e).1
@@ -490,7 +475,7 @@ cutting t after dir x name w e = found (look t dir name) refl (past (not (is_dir
     found (Some y) is h =
         let a = past (is_full_dir t y) NotEmpty _ (x, after) h in
         let left = without_unnamed (without_row t dir name) y in
-        let same : left ≡ after = ap (λ (p : ℕ × Tree). p.1) (is_Ok (y, left) (x, after) a.1) in
+        let same : left ≡ after = ap (λ (p : ℕ × Tree). p.1) (same_Ok (y, left) (x, after) a.1) in
         let next = next_stays (without_row t dir name) y in
         subst (Kept t) same (well_formed_from left (cut_keeps t (sound_from t w) dir name y is a.0), omega arith)
 
@@ -515,12 +500,12 @@ shifting t after from to name new_name w is_one e = found (look t from name) ref
         left = moved t from name to new_name x (look t to new_name)
 
         moves : (b : Bool) → is_same_node x (look t to new_name) ≡ b → cond b (Ok t) (cond (is_inside t x to) (Err Inside) (cond (is_full_dir_there t (look t to new_name)) (Err NotEmpty) (Ok left))) ≡ Ok after → Kept t after
-        moves true same g = subst (Kept t) (is_Ok t after g) (w, omega arith)
+        moves true same g = subst (Kept t) (same_Ok t after g) (w, omega arith)
         moves false other g =
             let a = past (is_inside t x to) Inside _ after g in
             let b = past (is_full_dir_there t (look t to new_name)) NotEmpty _ after a.1 in
             let next = next_moved t from name to new_name x (look t to new_name) in
-            subst (Kept t) (is_Ok left after b.1)
+            subst (Kept t) (same_Ok left after b.1)
             (well_formed_from left (moved_keeps t (sound_from t w) from name to new_name x is both.1 is_one a.0 (look t to new_name) refl other b.0), omega arith)
 
 pub edits_keep_trees : EditsKeepTrees

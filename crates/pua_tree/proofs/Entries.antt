@@ -1,10 +1,10 @@
 -- The rows and nodes of a listing's entries, looked up and added to.
-use Rattle.std.proofs.Common.{◌≡◌, ℕ, suc, ◌+◌, ◌<◌, ◌≤◌, Bool, true, false, cond, not, ◌&&◌, ◌||◌, T, eqb, leb, ltb, List, [], ◌∷◌, ◌++◌, map, length, Option, Some, None, option_map, is_some, refl, sym, ap, subst, ◌∙◌, arith, append-nil, append_assoc, Less, Equal, Greater, is_eq, nat_cmp, true≢false}
+use Rattle.std.proofs.Common.{◌≡◌, ℕ, suc, ◌+◌, ◌<◌, ◌≤◌, Bool, true, false, cond, not, ◌&&◌, ◌||◌, T, eqb, leb, ltb, List, [], ◌∷◌, ◌++◌, map, length, Option, Some, option_map, is_some, refl, sym, ap, subst, ◌∙◌, arith, append-nil, append_assoc, Less, Equal, Greater, is_eq, nat_cmp, true≢false}
 use Rattle.std.specs.Prelude.{IsTrue}
 use Rattle.std.specs.List.{list_all, list_any}
-use Rattle.std.specs.Cmp.{Equal-is, nat_cmp_total, tied_itself}
+use Rattle.std.specs.Cmp.{Equal-is, tied_itself}
 use Rattle.std.specs.Ordering.{eq_by_cmp, is_lt}
-use Rattle.std.specs.FinMap.{put, find, is_sorted, nat_cmp-IsAntisymmetric}
+use Rattle.std.specs.FinMap.{put, find, is_sorted}
 use Rattle.std.specs.FinMap.Entries.{find-put, is_sorted-put, same_entries, find-append, by_order, below_all}
 use Rattle.std.proofs.lemmas.Bool.{lt-ltb, ltb-true, eq-eqb, eqb-true, ne_eqb, le-ltb, and_parts, and_from, not-true, not_from_false, le-leb, leb-true}
 use Rattle.std.proofs.lemmas.Bool.Decides.{same_from_decides, Decides-eqb}
@@ -15,14 +15,8 @@ use Rattle.pua_tree.specs.Names.{same_bytes, is_name}
 use Rattle.pua_tree.specs.Tree.{Node, Spot, spot_cmp, is_dir_kind}
 use Rattle.pua_tree.specs.Listing.{Entry, is_taken, is_earlier_dir, rows_of_entries, root_node, last_number, tree_of}
 use Rattle.pua_tree.specs.Grammar.{entry_fits, entries_fit, target_stands}
+use Rattle.pua_tree.proofs.Base.{none, nat_tie}
 use Rattle.pua_tree.proofs.Content.{spots_total, exact_spots}
-
-pub true_from_T : (b : Bool) → T b → b ≡ true
-true_from_T true h = refl
-true_from_T false h = absurd h
-
-pub T_from_true : (b : Bool) → b ≡ true → T b
-T_from_true b e = subst T (sym e) tt
 
 -- two spots tie where the directories and the names are the same
 pub spots_tie : (p q : ℕ) (n m : List ℕ) → eq_by_cmp spot_cmp (p, n) (q, m) ≡ (eqb q p && same_bytes m n)
@@ -95,11 +89,6 @@ entries_rise earlier (e ∷ es) h =
 abbrev pub node_row : Entry → ℕ × Node
 node_row e = (e.number, e.made)
 
-pub nat_tie : (p n : ℕ) → eq_by_cmp nat_cmp p n ≡ eqb n p
-nat_tie p n = same_from_decides {P = p ≡ n} _ _
-    (λ e. nat_cmp-IsAntisymmetric p n ((Equal-is _).0 e), λ e. subst (λ s. eq_by_cmp nat_cmp p s ≡ true) e (ap is_eq (tied_itself nat_cmp_total p)))
-    (λ e. sym (eqb-true n p e), λ e. eq-eqb n p (sym e))
-
 above_all : (p low : ℕ) (es : List Entry) → p ≤ low → Rising low es → list_any (λ e. eqb e.number p && is_dir_kind (Some e.made.kind)) es ≡ false
 above_all p low [] h r = refl
 above_all p low (e ∷ es) h r =
@@ -142,10 +131,6 @@ pub rows_found : (es : List Entry) (s : Spot) → find spot_cmp s (rows_of_entri
 rows_found [] s = refl
 rows_found (e ∷ es) s = find-put spot_cmp spots_total s (e.parent, e.name) e.number (rows_of_entries es) ∙ ap (cond (eq_by_cmp spot_cmp s (e.parent, e.name)) (Some e.number)) (rows_found es s)
 
-pub none : {X : Type 0} (o : Option X) → is_some o ≡ false → o ≡ None
-none None e = refl
-none (Some x) e = absurd (true≢false e)
-
 pub rows_push : (es : List Entry) (e : Entry) → is_taken es e.parent e.name ≡ false → rows_of_entries (es ++ e ∷ []) ≡ put spot_cmp (e.parent, e.name) e.number (rows_of_entries es)
 rows_push es e free = same_entries spot_cmp spots_total exact_spots _ _ (rows_in_order (es ++ e ∷ [])) (is_sorted-put spot_cmp spots_total (e.parent, e.name) e.number (rows_of_entries es) (rows_in_order es))
     (λ s. rows_found (es ++ e ∷ []) s
@@ -170,9 +155,6 @@ put_last k v (e ∷ es) h =
     let below = ltb-true e.0 k (and_parts _ _ h).0 in
     ap (λ o. by_order o ((k, v) ∷ e ∷ es) ((e.0, v) ∷ es) (e ∷ put nat_cmp k v es)) (greater k e.0 below)
     ∙ ap (λ l. e ∷ l) (put_last k v es (and_parts _ _ h).1)
-
-pub sorted_push : {X : Type 0} (k : ℕ) (v : X) (es : List (ℕ × X)) → T (is_sorted nat_cmp es) → IsTrue (list_all (λ e. ltb e.0 k) es) → T (is_sorted nat_cmp (es ++ (k, v) ∷ []))
-sorted_push k v es s h = subst (λ l. T (is_sorted nat_cmp l)) (put_last k v es h) (is_sorted-put nat_cmp nat_cmp_total k v es s)
 
 pub numbers_below : (low n : ℕ) (es : List Entry) → Rising low es → last_number es < n → IsTrue (list_all (λ e. ltb e.number n) es)
 numbers_below low n [] r h = refl

@@ -1,7 +1,7 @@
 -- Fields are taken off a line one by one, and the first six kept.
-use Rattle.std.proofs.Common.{◌≡◌, ◌≤◌, ◌&&◌, ℕ, Bool, true, false, List, [], ◌∷◌, ◌++◌, length, Option, Some, None, sym, ap, ◌∙◌, cond, take}
+use Rattle.std.proofs.Common.{◌≡◌, ◌≤◌, ◌&&◌, ℕ, Bool, true, List, [], ◌∷◌, ◌++◌, length, Option, Some, None, sym, ap, ◌∙◌, cond, take}
 use Rattle.std.specs.List.{list_all}
-use Rattle.std.proofs.lemmas.List.{append_assoc, append-nil, take_all, take-append-le}
+use Rattle.std.proofs.lemmas.List.{append-nil, take_all, take-append-le}
 use Rattle.pua_tree.specs.Spelling.{is_field}
 
 -- what becomes of fields that were kept, and those that are still to be read
@@ -11,24 +11,11 @@ filled kept rest = cond (list_all is_field rest) (Some (take 6 (kept ++ rest))) 
 passed : (test other : Bool) (x : Option (List (List ℕ))) → test ≡ true → cond (test && other) x None ≡ cond other x None
 passed test other x e = ap (λ t. cond (t && other) x None) e
 
-failed : (test other : Bool) (x : Option (List (List ℕ))) → test ≡ false → cond (test && other) x None ≡ None
-failed test other x e = ap (λ t. cond (t && other) x None) e
-
--- one more field is kept
-pub filled-kept : (kept : List (List ℕ)) (field : List ℕ) (rest : List (List ℕ)) → is_field field ≡ true → filled kept (field ∷ rest) ≡ filled (kept ++ field ∷ []) rest
-filled-kept kept field rest good =
-    passed (is_field field) (list_all is_field rest) (Some (take 6 (kept ++ field ∷ rest))) good
-    ∙ ap (λ fs. cond (list_all is_field rest) (Some (take 6 fs)) None) (sym (append_assoc kept (field ∷ []) rest))
-
 -- one more field, and no room for it
 pub filled-full : (kept : List (List ℕ)) (field : List ℕ) (rest : List (List ℕ)) → is_field field ≡ true → 6 ≤ length kept → filled kept (field ∷ rest) ≡ filled kept rest
 filled-full kept field rest good full =
     passed (is_field field) (list_all is_field rest) (Some (take 6 (kept ++ field ∷ rest))) good
     ∙ ap (λ fs. cond (list_all is_field rest) (Some fs) None) (take-append-le 6 kept (field ∷ rest) full ∙ sym (take-append-le 6 kept rest full))
-
--- one that is no field
-pub filled-bad : (kept : List (List ℕ)) (field : List ℕ) (rest : List (List ℕ)) → is_field field ≡ false → filled kept (field ∷ rest) ≡ None
-filled-bad kept field rest bad = failed (is_field field) (list_all is_field rest) (Some (take 6 (kept ++ field ∷ rest))) bad
 
 -- no field is left
 pub filled-end : (kept : List (List ℕ)) → length kept ≤ 6 → filled kept [] ≡ Some kept

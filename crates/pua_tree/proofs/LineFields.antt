@@ -27,7 +27,7 @@ line_of-first_fields text kept e = by_test (list_all is_field (fields text)) (fi
 
 -- the line of four fields, where they lie in the text
 abbrev pub plain_line : List (Bor (List ℕ)) → Bor (List ℕ) → Kind → Line
-plain_line s d kind = record { number = (get_or s 0 d).now; kind = kind; parent = (get_or s 2 d).now; name = (get_or s 3 d).now; last = [] }
+plain_line s d kind = record { number = (get_or s 0 d).now; kind = kind; parent = (get_or s 2 d).now; name = (get_or s 3 d).now; target = [] }
 
 pub line_of_fields-four : (s : List (Bor (List ℕ))) (d : Bor (List ℕ)) → length s ≡ 4
     → line_of_fields (map (λ f. f.now) s) ≡ option_map (plain_line s d) (plain_kind (get_or s 1 d).now)

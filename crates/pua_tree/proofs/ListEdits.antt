@@ -13,8 +13,8 @@ use Rattle.pua_tree.specs.Edits.{without_row, without_unnamed, without_node, wit
 use Rattle.pua_tree.specs.ListTree.{row_entry, node_entry, held_tree}
 use Rattle.pua_tree.specs.declared.list.Row.{Row}
 use Rattle.pua_tree.specs.declared.list.Node.{Node}
-use Rattle.pua_tree.proofs.Places.{passed}
-use Rattle.pua_tree.proofs.Sound.{holds}
+use Rattle.std.specs.Bool.{passes}
+use Rattle.pua_tree.proofs.Base.{holds}
 use Rattle.pua_tree.proofs.Entries.{put_last}
 
 no_row : (rows : List Row) (x : ℕ) → list_all (λ row. eqb (cond (row.1 == x) 1 0) 0) (map row_entry rows) ≡ not (list_any (λ row. row.node == x) rows)
@@ -45,7 +45,7 @@ named_kept rows nodes x next some =
 
 pub sorted_without : (dir : ℕ) (name : List ℕ) (es : List (tree.Spot × ℕ)) → IsTrue (is_sorted tree.spot_cmp es)
     → IsTrue (is_sorted tree.spot_cmp (where_key tree.spot_cmp (λ spot. not (is_eq (tree.spot_cmp (dir, name) spot))) es))
-sorted_without dir name es h = holds _ (is_sorted-where_key tree.spot_cmp (λ spot. not (is_eq (tree.spot_cmp (dir, name) spot))) es (passed _ h))
+sorted_without dir name es h = holds _ (is_sorted-where_key tree.spot_cmp (λ spot. not (is_eq (tree.spot_cmp (dir, name) spot))) es (passes _ h))
 
 pub row_gone : (rows left : List Row) (nodes : List Node) (next dir : ℕ) (name : List ℕ)
     → map row_entry left ≡ where_key tree.spot_cmp (λ spot. not (is_eq (tree.spot_cmp (dir, name) spot))) (map row_entry rows)

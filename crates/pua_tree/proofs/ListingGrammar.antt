@@ -6,75 +6,45 @@ use Rattle.std.specs.Str.Lines.{lines}
 use Rattle.std.specs.Result.{result_ok}
 use Rattle.std.proofs.lemmas.Bool.{lt-ltb, ltb-true, ltb-false, le-ltb, and_parts, and_from, cond-true, cond-false}
 use Rattle.std.proofs.lemmas.List.{length-append}
-use lib.Pointwise.{bytes_decides}
 use Rattle.pua_tree.specs.Names.{is_name, is_target, has_byte, has_short_components, same_bytes}
 use Rattle.pua_tree.specs.Spelling.{spelling, unspelled, name_of, fields, is_field, number_within}
 use Rattle.pua_tree.specs.Steps.{◌>>=◌}
 use Rattle.pua_tree.specs.Tree.{Node, Tree, WellFormed}
-use Rattle.pua_tree.specs.Listing.{Entry, Line, plain_kind, line_of_fields, line_of, last_number, is_earlier_dir, only_if, number_in, parent_in, target_in, node_of, is_taken, entry_of, entries_of, tree_of, after_header, listing_of_lines, listing}
+use Rattle.pua_tree.specs.Listing.{Entry, Line, plain_kind, line_of_fields, line_of, last_number, is_earlier_dir, only_if, number_in, parent_in, target_in, node_of, is_taken, entry_of, entries_of, tree_of, after_header, listing_of_lines}
 use Rattle.pua_tree.specs.Grammar.{kind_word, target_field, entry_text, target_stands, entry_fits, entries_fit, ListingsAreRead, ListingsListTrees, SpellingsAreRead}
 use Rattle.pua_tree.specs.declared.node.Kind.{Kind}
 use Rattle.pua_tree.specs.declared.node.Kind.TheVariants.{Dir, File, Prog, Link}
 use Rattle.pua_tree.specs.declared.fault.ListingFault.{ListingFault}
 use Rattle.pua_tree.specs.declared.fault.ListingFault.TheVariants.{BadHeader, BadLine, BadNumber, BadParent, BadName, BadTarget, Taken, TooMany}
+use Rattle.pua_tree.proofs.Base.{same_Some, None≢Some, guarded, mapped, Err≢Ok, same_Ok, past, passed, ok_or_read, result_ok_read, same_word, step_read, step_from, only_if_read}
 use Rattle.pua_tree.proofs.Entries.{Fits, fits_parts, fits_from, entries_rise, entries_push}
 use Rattle.pua_tree.proofs.ListingIsTree.{well_formed, parent_below}
-use Rattle.pua_tree.proofs.Spellings.{is_byte, is_visible, same_Some, None≢Some, guarded, unspelled-spelling, spelling-unspelled, bytes_unspelled, name_is_bytes, name_of-spelling, same_Ok, name_read, decimal_within, number_read, fields_cons, fields_one, fields_joined, is_field-decimal, is_field-spelling, Err≢Ok, passed}
+use Rattle.pua_tree.proofs.Spellings.{is_byte, is_visible, unspelled-spelling, spelling-unspelled, bytes_unspelled, name_is_bytes, name_of-spelling, name_read, decimal_within, number_read, fields_cons, fields_one, fields_joined, is_field-decimal, is_field-spelling}
 
-module _ {A B E : Type 0} where
-  -- what a step was given, where all went well
-  pub step_read : (m : Result A E) (f : A → Result B E) (b : B) → (m >>= f) ≡ Ok b → (a : A) × (m ≡ Ok a) × (f a ≡ Ok b)
-  step_read (Ok a) f b e = (a, refl, e)
-  step_read (Err x) f b e = absurd (Err≢Ok x b e)
-
-  pub step_from : (m : Result A E) (f : A → Result B E) (a : A) (b : B) → m ≡ Ok a → f a ≡ Ok b → (m >>= f) ≡ Ok b
-  step_from m f a b e g = ap (λ r. r >>= f) e ∙ g
-
-pub ok_or_read : {A E : Type 0} (o : Option A) (x : E) (a : A) → ok_or o x ≡ Ok a → o ≡ Some a
-ok_or_read (Some y) x a e = ap Some (same_Ok y a e)
-ok_or_read None x a e = absurd (Err≢Ok x a e)
-
-pub result_ok_read : {A E : Type 0} (r : Result A E) (a : A) → result_ok r ≡ Some a → r ≡ Ok a
-result_ok_read (Ok y) a e = ap Ok (same_Some y a e)
-result_ok_read (Err x) a e = absurd (None≢Some a e)
-
-pub only_if_read : {A : Type 0} (test : A → Bool) (o : Option A) (a : A) → only_if test o ≡ Some a → (o ≡ Some a) × IsTrue (test a)
-only_if_read test None a e = absurd (None≢Some a e)
-only_if_read test (Some y) a e =
-    let read = guarded (test y) y a e in
-    (ap Some read.1, subst (λ z. IsTrue (test z)) read.1 read.0)
-
--- the field that a link has behind its name
-abbrev last_text : Kind → List ℕ → List ℕ
-last_text Link last = 32 ∷ last
-last_text Dir last = []
-last_text File last = []
-last_text Prog last = []
+-- the field that a link has after its name
+abbrev target_text : Kind → List ℕ → List ℕ
+target_text Link target = 32 ∷ target
+target_text Dir target = []
+target_text File target = []
+target_text Prog target = []
 
 abbrev line_text : Line → List ℕ
-line_text l = l.number ++ 32 ∷ (kind_word l.kind ++ 32 ∷ (l.parent ++ 32 ∷ (l.name ++ last_text l.kind l.last)))
+line_text l = l.number ++ 32 ∷ (kind_word l.kind ++ 32 ∷ (l.parent ++ 32 ∷ (l.name ++ target_text l.kind l.target)))
 
 regrouped : (a b c d t : List ℕ) → a ++ 32 ∷ b ++ 32 ∷ c ++ 32 ∷ d ++ t ≡ a ++ 32 ∷ (b ++ 32 ∷ (c ++ 32 ∷ (d ++ t)))
 regrouped a b c d t = append_assoc (a ++ 32 ∷ b ++ 32 ∷ c) (32 ∷ d) t ∙ append_assoc (a ++ 32 ∷ b) (32 ∷ c) (32 ∷ (d ++ t)) ∙ append_assoc a (32 ∷ b) (32 ∷ (c ++ 32 ∷ (d ++ t)))
 
-same_word : (word other : List ℕ) → IsTrue (same_bytes word other) → word ≡ other
-same_word word other h = (bytes_decides word other).0 h
-
-plain_kind_read : (word : List ℕ) (kind : Kind) → plain_kind word ≡ Some kind → (word ≡ kind_word kind) × ((last : List ℕ) → last_text kind last ≡ [])
+plain_kind_read : (word : List ℕ) (kind : Kind) → plain_kind word ≡ Some kind → (word ≡ kind_word kind) × ((target : List ℕ) → target_text kind target ≡ [])
 plain_kind_read word kind e = dir (same_bytes word (codes "dir")) (same_bytes word (codes "file")) (same_bytes word (codes "prog")) refl refl refl e
   where
-    is : (k : Kind) → word ≡ kind_word k → ((last : List ℕ) → last_text k last ≡ []) → Some k ≡ Some kind → (word ≡ kind_word kind) × ((last : List ℕ) → last_text kind last ≡ [])
-    is k w l q = subst (λ x. (word ≡ kind_word x) × ((last : List ℕ) → last_text x last ≡ [])) (same_Some k kind q) (w, l)
+    is : (k : Kind) → word ≡ kind_word k → ((target : List ℕ) → target_text k target ≡ []) → Some k ≡ Some kind → (word ≡ kind_word kind) × ((target : List ℕ) → target_text kind target ≡ [])
+    is k w l q = subst (λ x. (word ≡ kind_word x) × ((target : List ℕ) → target_text x target ≡ [])) (same_Some k kind q) (w, l)
 
-    dir : (a b c : Bool) → same_bytes word (codes "dir") ≡ a → same_bytes word (codes "file") ≡ b → same_bytes word (codes "prog") ≡ c → cond a (Some Dir) (cond b (Some File) (cond c (Some Prog) None)) ≡ Some kind → (word ≡ kind_word kind) × ((last : List ℕ) → last_text kind last ≡ [])
-    dir true b c p q r e = is Dir (same_word word _ p) (λ last. refl) e
-    dir false true c p q r e = is File (same_word word _ q) (λ last. refl) e
-    dir false false true p q r e = is Prog (same_word word _ r) (λ last. refl) e
+    dir : (a b c : Bool) → same_bytes word (codes "dir") ≡ a → same_bytes word (codes "file") ≡ b → same_bytes word (codes "prog") ≡ c → cond a (Some Dir) (cond b (Some File) (cond c (Some Prog) None)) ≡ Some kind → (word ≡ kind_word kind) × ((target : List ℕ) → target_text kind target ≡ [])
+    dir true b c p q r e = is Dir (same_word word _ p) (λ target. refl) e
+    dir false true c p q r e = is File (same_word word _ q) (λ target. refl) e
+    dir false false true p q r e = is Prog (same_word word _ r) (λ target. refl) e
     dir false false false p q r e = absurd (None≢Some kind e)
-
-mapped : {A B : Type 0} (f : A → B) (o : Option A) (y : B) → option_map f o ≡ Some y → (x : A) × (o ≡ Some x) × (f x ≡ y)
-mapped f None y e = absurd (None≢Some y e)
-mapped f (Some x) y e = (x, refl, same_Some (f x) y e)
 
 fields_read : (fs : List (List ℕ)) (l : Line) → line_of_fields fs ≡ Some l → join_with_byte 32 fs ≡ line_text l
 fields_read [] l e = absurd (None≢Some l e)
@@ -82,12 +52,12 @@ fields_read (a ∷ []) l e = absurd (None≢Some l e)
 fields_read (a ∷ b ∷ []) l e = absurd (None≢Some l e)
 fields_read (a ∷ b ∷ c ∷ []) l e = absurd (None≢Some l e)
 fields_read (a ∷ b ∷ c ∷ d ∷ []) l e =
-    let kind = mapped (λ kind. record { number = a; kind = kind; parent = c; name = d; last = [] }) (plain_kind b) l e in
+    let kind = mapped (λ kind. record { number = a; kind = kind; parent = c; name = d; target = [] }) (plain_kind b) l e in
     let word = plain_kind_read b kind.0 kind.1 in
     (λ i. a ++ 32 ∷ (word.0 i ++ 32 ∷ (c ++ 32 ∷ (sym (append-nil d) i)))) ∙ ap (λ t. a ++ 32 ∷ (kind_word kind.0 ++ 32 ∷ (c ++ 32 ∷ (d ++ t)))) (sym (word.1 [])) ∙ ap line_text kind.2
-fields_read (a ∷ b ∷ c ∷ d ∷ last ∷ []) l e =
-    let read = guarded (same_bytes b (codes "link")) (record { number = a; kind = Link; parent = c; name = d; last = last }) l e in
-    ap (λ w. a ++ 32 ∷ (w ++ 32 ∷ (c ++ 32 ∷ (d ++ 32 ∷ last)))) (same_word b (codes "link") read.0) ∙ ap line_text read.1
+fields_read (a ∷ b ∷ c ∷ d ∷ target ∷ []) l e =
+    let read = guarded (same_bytes b (codes "link")) (record { number = a; kind = Link; parent = c; name = d; target = target }) l e in
+    ap (λ w. a ++ 32 ∷ (w ++ 32 ∷ (c ++ 32 ∷ (d ++ 32 ∷ target)))) (same_word b (codes "link") read.0) ∙ ap line_text read.1
 fields_read (a ∷ b ∷ c ∷ d ∷ f ∷ g ∷ more) l e = absurd (None≢Some l e)
 
 line_read : (text : List ℕ) (l : Line) → line_of text ≡ Some l → text ≡ line_text l
@@ -97,19 +67,15 @@ line_read text l e = sym (fields_joined text) ∙ fields_read (fields text) l (g
     go true e = e
     go false e = absurd (None≢Some l e)
 
-node_read : (n : ℕ) (l : Line) (kind : Kind) (made : Node) → node_of n l kind ≡ Ok made → (made.kind ≡ kind) × IsTrue (target_stands made.kind made.target) × (last_text kind l.last ≡ target_field made.target)
+node_read : (n : ℕ) (l : Line) (kind : Kind) (made : Node) → node_of n l kind ≡ Ok made → (made.kind ≡ kind) × IsTrue (target_stands made.kind made.target) × (target_text kind l.target ≡ target_field made.target)
 node_read n l Dir made e = subst (λ m. (m.kind ≡ Dir) × IsTrue (target_stands m.kind m.target) × ([] ≡ target_field m.target)) (same_Ok _ made e) (refl, refl, refl)
 node_read n l File made e = subst (λ m. (m.kind ≡ File) × IsTrue (target_stands m.kind m.target) × ([] ≡ target_field m.target)) (same_Ok _ made e) (refl, refl, refl)
 node_read n l Prog made e = subst (λ m. (m.kind ≡ Prog) × IsTrue (target_stands m.kind m.target) × ([] ≡ target_field m.target)) (same_Ok _ made e) (refl, refl, refl)
 node_read n l Link made e =
     let read = step_read (ok_or (target_in l) (BadTarget n)) (λ target. Ok (record { kind = Link; target = Some target })) made e in
-    let target = only_if_read is_target (unspelled l.last) read.0 (ok_or_read (target_in l) (BadTarget n) read.0 read.1) in
-    subst (λ m. (m.kind ≡ Link) × IsTrue (target_stands m.kind m.target) × (32 ∷ l.last ≡ target_field m.target)) (same_Ok _ made read.2)
-    (refl, and_from _ _ target.1 (bytes_unspelled l.last read.0 target.0), ap (λ s. 32 ∷ s) (spelling-unspelled l.last read.0 target.0))
-
-failed : {A E : Type 0} (t : Bool) (f : E) (r : Result A E) (x : A) → cond t (Err f) r ≡ Ok x → t ≡ false
-failed true f r x e = absurd (Err≢Ok f x e)
-failed false f r x e = refl
+    let target = only_if_read is_target (unspelled l.target) read.0 (ok_or_read (target_in l) (BadTarget n) read.0 read.1) in
+    subst (λ m. (m.kind ≡ Link) × IsTrue (target_stands m.kind m.target) × (32 ∷ l.target ≡ target_field m.target)) (same_Ok _ made read.2)
+    (refl, and_from _ _ target.1 (bytes_unspelled l.target read.0 target.0), ap (λ s. 32 ∷ s) (spelling-unspelled l.target read.0 target.0))
 
 -- the parts of a line, put together
 parts_read : (earlier : List Entry) (n : ℕ) (text : List ℕ) (l : Line) (number parent : ℕ) (name : List ℕ) (made : Node) (e : Entry) → n ≡ length earlier + 3
@@ -124,9 +90,9 @@ parts_read earlier n text l number parent name made e place line_is number_is pa
     let d = number_read 0 999999 l.parent parent (omega arith) c.0 in
     let f = name_read l.name name name_is in
     let g = node_read n l l.kind made made_is in
-    let free : is_taken earlier parent name ≡ false = failed (is_taken earlier parent name) (Taken n) _ e whole in
+    let free : is_taken earlier parent name ≡ false = (past (is_taken earlier parent name) (Taken n) _ e whole).0 in
     let rest = passed (is_taken earlier parent name) (Taken n) _ e whole in
-    let small = ltb-false 4097 n (failed (ltb 4097 n) (TooMany n) _ e rest) in
+    let small = ltb-false 4097 n ((past (ltb 4097 n) (TooMany n) _ e rest).0) in
     let same : entry ≡ e = same_Ok entry e (passed (ltb 4097 n) (TooMany n) _ e rest) in
     subst (λ x. (text ≡ entry_text x) × Fits earlier x) same (
       line_read text l line_is
@@ -146,9 +112,9 @@ entry_read earlier n text e place h =
     parts_read earlier n text line.0 number.0 parent.0 name.0 made.0 e place (ok_or_read _ _ _ line.1) (ok_or_read _ _ _ number.1) (ok_or_read _ _ _ parent.1) (result_ok_read _ _ (ok_or_read _ _ _ name.1)) made.1 made.2
 
 -- the fields of an entry's line
-abbrev last_of : Option (List ℕ) → List ℕ
-last_of None = []
-last_of (Some target) = spelling target
+abbrev spelled_target : Option (List ℕ) → List ℕ
+spelled_target None = []
+spelled_target (Some target) = spelling target
 
 visible : (field : List ℕ) → IsTrue (is_field field) → IsTrue (list_all is_visible field)
 visible field h = (and_parts _ (list_all is_visible field) h).1
@@ -166,15 +132,15 @@ word_is_field Prog = refl
 word_is_field Link = refl
 
 plain_line : (a w c d : List ℕ) (kind : Kind) → IsTrue (is_field a) → IsTrue (is_field c) → IsTrue (is_field d) → IsTrue (is_field w) → plain_kind w ≡ Some kind
-    → line_of (a ++ 32 ∷ (w ++ 32 ∷ (c ++ 32 ∷ (d ++ [])))) ≡ Some (record { number = a; kind = kind; parent = c; name = d; last = [] })
-plain_line a w c d kind p q r s e = from_fields (a ++ 32 ∷ (w ++ 32 ∷ (c ++ 32 ∷ (d ++ [])))) (a ∷ w ∷ c ∷ d ∷ []) (record { number = a; kind = kind; parent = c; name = d; last = [] })
+    → line_of (a ++ 32 ∷ (w ++ 32 ∷ (c ++ 32 ∷ (d ++ [])))) ≡ Some (record { number = a; kind = kind; parent = c; name = d; target = [] })
+plain_line a w c d kind p q r s e = from_fields (a ++ 32 ∷ (w ++ 32 ∷ (c ++ 32 ∷ (d ++ [])))) (a ∷ w ∷ c ∷ d ∷ []) (record { number = a; kind = kind; parent = c; name = d; target = [] })
     (four_fields a w c (d ++ []) p s q ∙ ap (λ l. a ∷ w ∷ c ∷ l) (ap fields (append-nil d) ∙ fields_one d (visible d r)))
     (and_from (is_field a) _ p (and_from (is_field w) _ s (and_from (is_field c) _ q (and_from (is_field d) _ r refl))))
-    (ap (λ (o : Option Kind). option_map (λ k. record { number = a; kind = k; parent = c; name = d; last = [] }) o) e)
+    (ap (λ (o : Option Kind). option_map (λ k. record { number = a; kind = k; parent = c; name = d; target = [] }) o) e)
 
 link_line : (a c d f : List ℕ) → IsTrue (is_field a) → IsTrue (is_field c) → IsTrue (is_field d) → IsTrue (is_field f)
-    → line_of (a ++ 32 ∷ (kind_word Link ++ 32 ∷ (c ++ 32 ∷ (d ++ 32 ∷ f)))) ≡ Some (record { number = a; kind = Link; parent = c; name = d; last = f })
-link_line a c d f p q r s = from_fields (a ++ 32 ∷ (kind_word Link ++ 32 ∷ (c ++ 32 ∷ (d ++ 32 ∷ f)))) (a ∷ kind_word Link ∷ c ∷ d ∷ f ∷ []) (record { number = a; kind = Link; parent = c; name = d; last = f })
+    → line_of (a ++ 32 ∷ (kind_word Link ++ 32 ∷ (c ++ 32 ∷ (d ++ 32 ∷ f)))) ≡ Some (record { number = a; kind = Link; parent = c; name = d; target = f })
+link_line a c d f p q r s = from_fields (a ++ 32 ∷ (kind_word Link ++ 32 ∷ (c ++ 32 ∷ (d ++ 32 ∷ f)))) (a ∷ kind_word Link ∷ c ∷ d ∷ f ∷ []) (record { number = a; kind = Link; parent = c; name = d; target = f })
     (four_fields a (kind_word Link) c (d ++ 32 ∷ f) p refl q ∙ ap (λ l. a ∷ kind_word Link ∷ c ∷ l) (fields_cons d f (visible d r) ∙ ap (λ l. d ∷ l) (fields_one f (visible f s))))
     (and_from (is_field a) _ p (and_from (is_field c) _ q (and_from (is_field d) _ r (and_from (is_field f) _ s refl))))
     refl
@@ -185,7 +151,7 @@ target_parts target h =
     (ltb-true 0 (length target) (and_parts (ltb 0 (length target)) (leb (length target) 1023 && (not (has_byte 0 target) && has_short_components target)) parts.0).0, parts.0, parts.1)
 
 line_written : (a c d : List ℕ) (kind : Kind) (target : Option (List ℕ)) → IsTrue (is_field a) → IsTrue (is_field c) → IsTrue (is_field d) → IsTrue (target_stands kind target)
-    → line_of (a ++ 32 ∷ (kind_word kind ++ 32 ∷ (c ++ 32 ∷ (d ++ target_field target)))) ≡ Some (record { number = a; kind = kind; parent = c; name = d; last = last_of target })
+    → line_of (a ++ 32 ∷ (kind_word kind ++ 32 ∷ (c ++ 32 ∷ (d ++ target_field target)))) ≡ Some (record { number = a; kind = kind; parent = c; name = d; target = spelled_target target })
 line_written a c d Dir None p q r h = plain_line a (kind_word Dir) c d Dir p q r refl refl
 line_written a c d File None p q r h = plain_line a (kind_word File) c d File p q r refl refl
 line_written a c d Prog None p q r h = plain_line a (kind_word Prog) c d Prog p q r refl refl
@@ -195,7 +161,7 @@ line_written a c d File (Some t) p q r h = absurd (true≢false (sym h))
 line_written a c d Prog (Some t) p q r h = absurd (true≢false (sym h))
 line_written a c d Link (Some t) p q r h = let parts = target_parts t h in link_line a c d (spelling t) p q r (is_field-spelling t parts.0 parts.2)
 
-node_written : (n : ℕ) (l : Line) (kind : Kind) (target : Option (List ℕ)) → l.last ≡ last_of target → IsTrue (target_stands kind target) → node_of n l kind ≡ Ok (record { kind = kind; target = target })
+node_written : (n : ℕ) (l : Line) (kind : Kind) (target : Option (List ℕ)) → l.target ≡ spelled_target target → IsTrue (target_stands kind target) → node_of n l kind ≡ Ok (record { kind = kind; target = target })
 node_written n l Dir None e h = refl
 node_written n l File None e h = refl
 node_written n l Prog None e h = refl
@@ -216,7 +182,7 @@ name_some (b ∷ n) h = omega arith
 -- an entry that fits is read from its line
 pub entry_written : (earlier : List Entry) (n : ℕ) (e : Entry) → n ≡ length earlier + 3 → IsTrue (entries_fit [] earlier) → Fits earlier e → entry_of earlier n (entry_text e) ≡ Ok e
 entry_written earlier n e place h f =
-    let l : Line = record { number = decimal e.number; kind = e.made.kind; parent = decimal e.parent; name = spelling e.name; last = last_of e.made.target } in
+    let l : Line = record { number = decimal e.number; kind = e.made.kind; parent = decimal e.parent; name = spelling e.name; target = spelled_target e.made.target } in
     let below : e.parent < e.number = parent_below earlier e (entries_rise [] earlier h) f in
     let name_field : IsTrue (is_field (spelling e.name)) = is_field-spelling e.name (name_some e.name f.named) (name_is_bytes e.name f.named) in
     let number_field : IsTrue (is_field (decimal e.number)) = is_field-decimal e.number (omega (arith, f.small)) in
@@ -287,8 +253,5 @@ pub listings_list_trees : ListingsListTrees
 listings_list_trees bytes t l = subst WellFormed (sym l.3) (well_formed l.0 l.1)
 
 -- what was read is a tree
-pub listed_tree : (bytes : List ℕ) (t : Tree) → listing bytes ≡ Ok t → WellFormed t
-listed_tree bytes t h = listings_list_trees bytes t ((listings_are_read bytes t).0 h)
-
 pub spellings_are_read : SpellingsAreRead
 spellings_are_read text bytes = (λ h. (bytes_unspelled text bytes h, spelling-unspelled text bytes h), λ s. ap unspelled s.1 ∙ unspelled-spelling bytes s.0)

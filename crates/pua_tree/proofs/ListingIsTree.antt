@@ -1,5 +1,5 @@
 -- What a listing describes is a tree.
-use Rattle.std.proofs.Common.{◌≡◌, ℕ, zero, suc, ◌+◌, ◌<◌, ◌≤◌, Bool, true, false, cond, not, ◌&&◌, ◌||◌, eqb, leb, ltb, List, [], ◌∷◌, ◌++◌, map, length, Option, Some, None, option_map, unwrap_or, is_some, refl, sym, ap, subst, ◌∙◌, arith, append-nil, append_assoc, Less, Equal, Greater, is_eq, nat_cmp, true≢false, inl, inr, ◌≢◌, ◌⊎◌, count_by, sum_by}
+use Rattle.std.proofs.Common.{◌≡◌, ℕ, zero, suc, ◌+◌, ◌<◌, ◌≤◌, Bool, true, false, cond, not, ◌&&◌, ◌||◌, eqb, leb, ltb, List, [], ◌∷◌, ◌++◌, map, length, Option, Some, None, option_map, unwrap_or, is_some, refl, sym, ap, subst, ◌∙◌, arith, append-nil, append_assoc, Less, Equal, Greater, is_eq, nat_cmp, true≢false, inl, inr, ◌⊎◌, count_by, sum_by}
 use Rattle.std.specs.Prelude.{IsTrue, find as find_first}
 use Rattle.std.specs.List.{list_all, list_any}
 use Rattle.std.specs.FinMap.{put, find}
@@ -14,8 +14,9 @@ use Rattle.pua_tree.specs.Listing.{Entry, is_earlier_dir, rows_of_entries, root_
 use Rattle.pua_tree.specs.Grammar.{entry_fits, entries_fit, target_stands}
 use Rattle.pua_tree.specs.declared.node.Kind.{Kind}
 use Rattle.pua_tree.specs.declared.node.Kind.TheVariants.{Dir, File, Prog, Link}
+use Rattle.pua_tree.proofs.Base.{Some≢None, none, holds, nat_tie}
 use Rattle.pua_tree.proofs.Content.{exact_spots}
-use Rattle.pua_tree.proofs.Entries.{Fits, fits_parts, Rising, entries_rise, entries_push, entry_row, node_row, nat_tie, earlier_dir_is_found, taken_is_found, rows_in_order, nodes_in_order, rows_push, numbers_below, is_some_cond, none, true_from_T}
+use Rattle.pua_tree.proofs.Entries.{Fits, fits_parts, Rising, entries_rise, entries_push, entry_row, node_row, earlier_dir_is_found, taken_is_found, rows_in_order, nodes_in_order, rows_push, numbers_below, is_some_cond}
 
 -- a test that each entry passes, given those before it
 each : (P : Entry → Bool) (pre post : List Entry) → IsTrue (entries_fit [] pre)
@@ -51,15 +52,12 @@ all_rows P (e ∷ es) h =
     let parts = and_parts (P (entry_row e)) (list_all (λ f. P (entry_row f)) es) h in
     all_put P (e.parent, e.name) e.number (rows_of_entries es) parts.0 (all_rows P es parts.1)
 
-not_None : {A : Type 0} (x : A) → Some x ≢ None
-not_None x e = true≢false (ap is_some e)
-
 sum_put : (f : Spot × ℕ → ℕ) (k : Spot) (v : ℕ) (rows : List (Spot × ℕ)) → find spot_cmp k rows ≡ None → sum_by f (put spot_cmp k v rows) ≡ f (k, v) + sum_by f rows
 sum_put f k v [] h = sum_by-cons f (k, v) []
 sum_put f k v (e ∷ es) h =
     elim (spot_cmp k e.0) as (λ o. cond (is_eq o) (Some e.1) (find spot_cmp k es) ≡ None → sum_by f (by_order o ((k, v) ∷ e ∷ es) ((e.0, v) ∷ es) (e ∷ put spot_cmp k v es)) ≡ f (k, v) + sum_by f (e ∷ es)) [
       | Less ↦ λ q. sum_by-cons f (k, v) (e ∷ es)
-      | Equal ↦ λ q. absurd (not_None e.1 q)
+      | Equal ↦ λ q. absurd (Some≢None e.1 q)
       | Greater ↦ λ q. sum_by-cons f e (put spot_cmp k v es) ∙ omega (arith, sum_put f k v es q, sum_by-cons f e es)
     ] h
 
@@ -163,7 +161,7 @@ count_less a d (n ∷ ns) h s = go (eqb n.0 d) refl (sym (is_some_cond (eq_by_cm
     go false q p more = omega (arith, more (subst (λ b. IsTrue (b || is_some (find nat_cmp d ns))) (nat_tie d n.0 ∙ q) p), less_counts n.0 a d (omega arith), sum_by-cons (λ m. cond (leb m.0 a) 1 0) n ns, sum_by-cons (λ m. cond (leb m.0 d) 1 0) n ns)
 
 found : {X : Type 0} (P test : X → Bool) (xs : List X) (r : X) → IsTrue (list_all P xs) → find_first test xs ≡ Some r → IsTrue (P r) × IsTrue (test r)
-found P test [] r a q = absurd (not_None r (sym q))
+found P test [] r a q = absurd (Some≢None r (sym q))
 found P test (x ∷ xs) r a q =
     let parts = and_parts (P x) (list_all P xs) a in
     elim (test x) as (λ b. test x ≡ b → cond b (Some x) (find_first test xs) ≡ Some r → IsTrue (P r) × IsTrue (test r)) [
@@ -193,7 +191,7 @@ module _ (t : Tree) (rows : IsTrue (list_all (row_rises t) t.rows)) (root : (d :
   climbs (suc n) zero h = refl
   climbs (suc n) (suc d) h = or_right (eqb (suc d) 0) _ (up n d _ refl h (climbs n))
 
-target_kept : (kind : Kind) (target : Option (List ℕ)) → IsTrue (target_stands kind target) → IsTrue (target_fits kind target)
+pub target_kept : (kind : Kind) (target : Option (List ℕ)) → IsTrue (target_stands kind target) → IsTrue (target_fits kind target)
 target_kept Dir None h = refl
 target_kept File None h = refl
 target_kept Prog None h = refl
@@ -239,7 +237,7 @@ well_formed es h =
     (kind_kept t e.number e.made.kind (omega (arith, f.above)) (rows_counted e.number es h ∙ count_one 0 e.number es rising own) (up_from e.number))))
     h in
     record {
-      rows_in_order = true_from_T _ (rows_in_order es);
+      rows_in_order = holds _ (rows_in_order es);
       nodes_in_order = nodes_in_order es rising;
       root = refl;
       rows_fit = all_left (row_fits t) (λ row. ltb row.0.0 row.1) t.rows rows;

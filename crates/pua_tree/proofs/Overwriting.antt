@@ -8,13 +8,13 @@ pub length-overwritten : (room : List ℕ) (at : ℕ) (bytes : List ℕ) → len
 length-overwritten room at [] = refl
 length-overwritten room at (b ∷ bytes) = length-overwritten (set room at b) (suc at) bytes ∙ length-set room at b
 
--- behind the room nothing is written
+-- past the room nothing is written
 overwritten-past : (room : List ℕ) (at : ℕ) (bytes : List ℕ) → length room ≤ at → overwritten room at bytes ≡ room
 overwritten-past room at [] h = refl
 overwritten-past room at (b ∷ bytes) h =
     ap (λ r. overwritten r (suc at) bytes) (set_past room at b h) ∙ overwritten-past room (suc at) bytes (omega arith)
 
--- the bytes stand behind what was there before, as far as there is room
+-- the bytes stand after what was there before, as far as there is room
 overwritten-append : (front tail bytes : List ℕ) → overwritten (front ++ tail) (length front) bytes ≡ front ++ (take (length tail) bytes ++ drop (length bytes) tail)
 overwritten-append front [] bytes =
     let none : List ℕ = [] in
@@ -31,7 +31,7 @@ overwritten_whole room bytes same =
     overwritten-append [] room bytes ∙ ap (λ xs. xs ++ drop (length bytes) room) (take_all (length room) bytes (omega arith))
     ∙ ap (λ ys. bytes ++ ys) (drop_all (length bytes) room (omega arith)) ∙ append-nil bytes
 
--- zeros stay behind the bytes of a name
+-- zeros stay after the bytes of a name
 pub overwritten-zeros : (bytes : List ℕ) → length bytes ≤ 255 → overwritten (replicate 255 0) 0 bytes ≡ padded bytes
 overwritten-zeros bytes short =
     let zeros : List ℕ = replicate 255 0 in

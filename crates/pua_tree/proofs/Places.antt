@@ -5,6 +5,7 @@ use Rattle.std.specs.List.{insert, remove, HoldsAt}
 use Rattle.std.specs.List.Sorted.{IsNonDecreasingBy, IsBinarySearchResult, IsSearchInRange}
 use Rattle.std.specs.declared.cmp.Ordering.{Ordering}
 use Rattle.std.specs.declared.cmp.Ordering.TheVariants.{Less, Equal, Greater}
+use Rattle.std.specs.Bool.{passes}
 use Rattle.std.specs.Ordering.{is_eq, is_lt, ordering_reverse, ordering_index}
 use Rattle.std.specs.Cmp.{IsTotalOrder, tied_itself, alike_right}
 use Rattle.std.specs.FinMap.{find, put, is_sorted}
@@ -17,9 +18,6 @@ left false b h = h
 pub right : (a b : Bool) → T (a && b) → T b
 right true b h = h
 right false b h = absurd h
-
-pub passed : (b : Bool) → IsTrue b → T b
-passed b e = subst T (sym e) tt
 
 is_less : (o : Ordering) → T (is_lt o) → o ≡ Less
 is_less Less h = refl
@@ -92,14 +90,14 @@ module _ {X K V : Type 0} {R : K → K → Ordering} (o : IsTotalOrder R) (entry
   -- what a binary search by key answers
   pub found_place : (xs : List X) (q : K) (r : Result ℕ ℕ) → IsTrue (is_sorted R (map entry xs)) → IsSearchInRange r (length xs) → IsBinarySearchResult (key_cmp q) xs r
       → IfOk r (λ i. (i < length xs) × HoldsAt (λ x. find R q (map entry xs) ≡ Some (entry x).1) xs i)
-  found_place xs q (Ok i) h bound p = (bound, λ d. found_at xs q i d (passed _ h) bound (p d))
+  found_place xs q (Ok i) h bound p = (bound, λ d. found_at xs q i d (passes _ h) bound (p d))
   found_place xs q (Err i) h bound p = tt
 
   pub missing_place : (xs : List X) (q : K) (r : Result ℕ ℕ) → IsTrue (is_sorted R (map entry xs)) → IsSearchInRange r (length xs) → IsBinarySearchResult (key_cmp q) xs r
       → IfErr r (λ i. (i ≤ length xs) × (find R q (map entry xs) ≡ None))
   missing_place xs q (Ok i) h bound p = tt
   missing_place xs q (Err i) h bound p =
-      let parts = p (searchable xs q (passed _ h)) in (
+      let parts = p (searchable xs q (passes _ h)) in (
         bound,
         missed xs q (λ k d lt e. elim (cases_lt k i) [
           | inl less ↦ let other : key_cmp q (get_or xs k d) ≡ Less = parts.0 k d (omega arith) less in cc
@@ -111,7 +109,7 @@ module _ {X K V : Type 0} {R : K → K → Ordering} (o : IsTotalOrder R) (entry
       → IfErr r (λ i. (v : V) → put R q v (map entry xs) ≡ insert (map entry xs) i (q, v))
   put_place xs q (Ok i) h bound p = tt
   put_place xs q (Err i) h bound p =
-      let parts = p (searchable xs q (passed _ h)) in
+      let parts = p (searchable xs q (passes _ h)) in
       λ v. put_at xs q v i bound (λ k d lt. parts.0 k d (omega arith) lt) (λ d lt. parts.1 i d (omega arith) lt)
 
   pub key_place : (exact : (a b : K) → R a b ≡ Equal → a ≡ b) (xs : List X) (q : K) (r : Result ℕ ℕ) → IsBinarySearchResult (key_cmp q) xs r → IfOk r (λ i. HoldsAt (λ x. (entry x).0 ≡ q) xs i)

@@ -16,7 +16,8 @@ use Rattle.pua_tree.specs.Names.{is_name}
 use Rattle.pua_tree.specs.ListTree.{row_entry}
 use Rattle.pua_tree.specs.declared.list.Row.{Row}
 use Rattle.pua_tree.proofs.Content.{spots_total}
-use Rattle.pua_tree.proofs.Places.{passed, left, right, rises}
+use Rattle.std.specs.Bool.{passes}
+use Rattle.pua_tree.proofs.Places.{left, right, rises}
 
 dirs_rise : (a b : Spot) → spot_cmp a b ≡ Less → a.0 ≤ b.0
 dirs_rise a b e =
@@ -32,7 +33,7 @@ index_rises a b d le = grind (arith, nat_tests)
 dirs_searchable : (rows : List Row) (d : ℕ) → IsTrue (is_sorted spot_cmp (map row_entry rows)) → IsNonDecreasingBy (λ row. ordering_index (nat_cmp row.dir d)) rows
 dirs_searchable rows d h i j row le lt =
     elim (cases_lt i j) [
-      | inl less ↦ index_rises _ _ d (dirs_rise (row_entry (get_or rows i row)).0 (row_entry (get_or rows j row)).0 (rises spots_total row_entry rows i j row (passed _ h) less lt))
+      | inl less ↦ index_rises _ _ d (dirs_rise (row_entry (get_or rows i row)).0 (row_entry (get_or rows j row)).0 (rises spots_total row_entry rows i j row (passes _ h) less lt))
       | inr more ↦ let same : j ≡ i = omega arith in rw same (omega arith)
     ]
 
@@ -88,7 +89,7 @@ root_missing t (r ∷ rows) h =
 
 -- the directory above is that of the first row of the number
 pub above_row : (t : Tree) (rows : List Row) (d : ℕ) → t.rows ≡ map row_entry rows → IsTrue (list_all (row_fits t) t.rows) → unwrap_or (option_map (λ row. row.dir) (find (λ row. row.node == d) rows)) 0 ≡ above t d
-above_row t rows zero e h = ap (λ o. unwrap_or (option_map (λ row. row.dir) o) 0) (root_missing t rows (passed _ (rw e at h)))
+above_row t rows zero e h = ap (λ o. unwrap_or (option_map (λ row. row.dir) o) 0) (root_missing t rows (passes _ (rw e at h)))
 above_row t rows (suc d) e h = rw e (ap (λ o. unwrap_or o 0) (sym (found_row rows (suc d))))
 
 with_name_is : (n : List ℕ) (ns : List (List ℕ)) → insert_key name_cmp ns n ≡ with_name n ns

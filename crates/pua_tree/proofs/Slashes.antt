@@ -5,7 +5,7 @@ use Rattle.std.proofs.lemmas.Bool.Decides.{nat_tests}
 use Rattle.pua_tree.specs.Names.{has_byte}
 use Rattle.pua_tree.specs.Spelling.{unspelled, unspelled_from, with_front, escaped_byte, is_plain, is_octal}
 
--- a front and what is behind it, where both are spelled
+-- a front and what is after it, where both are spelled
 fronts : (front : Option ℕ) (behind : Option (List ℕ)) (bytes : List ℕ) → with_front front behind ≡ Some bytes
     → (b : ℕ) × (rest : List ℕ) × (front ≡ Some b) × (behind ≡ Some rest) × (b ∷ rest ≡ bytes)
 fronts (Some b) (Some rest) bytes e = let same : b ∷ rest ≡ bytes = cc in (b, rest, refl, refl, same)

@@ -1,5 +1,6 @@
 -- A well-formed tree by its look-ups, and climbing by the number of steps to the root.
-use Rattle.std.proofs.Common.{◌≡◌, ◌≢◌, ℕ, zero, suc, ◌+◌, ◌≤◌, ◌<◌, Bool, true, false, ◌||◌, cond, T, List, length, Option, Some, None, option_map, unwrap_or, is_some, ◌==◌, refl, sym, ap, subst, ◌∙◌, arith, inl, inr, eqb-true, eq-eqb, leb-true, le-leb, ltb-true, lt-ltb}
+use Rattle.std.proofs.Common.{◌≡◌, ◌≢◌, ℕ, zero, suc, ◌+◌, ◌≤◌, ◌<◌, true, false, ◌||◌, cond, T, List, length, Option, Some, None, option_map, unwrap_or, is_some, ◌==◌, refl, sym, ap, subst, ◌∙◌, arith, inl, inr, eqb-true, eq-eqb, leb-true, le-leb, ltb-true, lt-ltb}
+use Rattle.std.specs.Bool.{passes}
 use Rattle.std.specs.List.{list_any}
 use Rattle.std.specs.Ordering.{nat_cmp}
 use Rattle.std.specs.Cmp.{nat_cmp_total}
@@ -10,6 +11,7 @@ use Rattle.pua_tree.specs.Names.{is_name}
 use Rattle.pua_tree.specs.Tree.{Node, Spot, Tree, WellFormed, spot_cmp, node_at, is_dir, is_dir_kind, is_living, above, climb_within, rows_of, row_fits, node_fits, target_fits, rows_fit_kind}
 use Rattle.pua_tree.specs.declared.node.Kind.{Kind}
 use Rattle.pua_tree.specs.declared.node.Kind.TheVariants.{Dir, File, Prog, Link}
+use Rattle.pua_tree.proofs.Base.{holds}
 use Rattle.pua_tree.proofs.Content.{spots_total, exact_spots}
 use Rattle.pua_tree.proofs.Tallies.{tally, tally_counts, without, without_elsewhere, all_found, all_from_found, found_from_tally, only_key}
 
@@ -33,13 +35,6 @@ pub record Sound (t : Tree) : Type 0 where
   pub named : (x : ℕ) → is_living t x ≡ true → x ≢ 0 → 1 ≤ rows_with t x
   pub once : (d : ℕ) → is_dir t d ≡ true → d ≢ 0 → rows_with t d ≡ 1
   pub rooted : (d : ℕ) → is_dir t d ≡ true → d ≢ 0 → (k : ℕ) × Reaches t k d
-
-passed : (b : Bool) → b ≡ true → T b
-passed b e = subst T (sym e) tt
-
-pub holds : (b : Bool) → T b → b ≡ true
-holds true h = refl
-holds false h = absurd h
 
 -- the directory above one that stands in one row is that of the row
 pub above_is : (t : Tree) (d : ℕ) (s : Spot) → d ≢ 0 → rows_with t d ≡ 1 → find_key spot_cmp s t.rows ≡ Some d → above t d ≡ s.0
@@ -191,8 +186,8 @@ node_parts t x n h =
 
 pub sound_from : (t : Tree) → WellFormed t → Sound t
 sound_from t w = record {
-  rows_sorted = passed _ w.rows_in_order;
-  nodes_sorted = passed _ w.nodes_in_order;
+  rows_sorted = passes _ w.rows_in_order;
+  nodes_sorted = passes _ w.nodes_in_order;
   root = w.root;
   row = all_found spot_cmp spots_total exact_spots (row_fits t) t.rows w.rows_fit;
   node = λ x n e. (let parts = node_parts t x n (fits x n e) in (parts.0, parts.1));

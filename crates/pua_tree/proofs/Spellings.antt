@@ -1,5 +1,5 @@
 -- Each byte string has one spelling, each number one decimal, and fields are what stands between spaces.
-use Rattle.std.proofs.Common.{◌≡◌, ℕ, zero, suc, ◌+◌, ◌-◌, ◌*◌, ◌/◌, ◌%◌, ◌^◌, ◌<◌, ◌≤◌, Bool, true, false, cond, not, ◌&&◌, ◌||◌, eqb, leb, ltb, List, [], ◌∷◌, ◌++◌, length, drop, get_or, Option, Some, None, Result, Ok, Err, unwrap_or, is_some, decimal, fold, refl, sym, ap, subst, ◌∙◌, arith, true≢false, ◌≢◌, ◌⊎◌, inl, inr, is_ok, pos_of_ne-zero, rules}
+use Rattle.std.proofs.Common.{◌≡◌, ℕ, zero, suc, ◌+◌, ◌-◌, ◌*◌, ◌/◌, ◌%◌, ◌^◌, ◌<◌, ◌≤◌, Bool, true, false, cond, not, ◌&&◌, ◌||◌, eqb, leb, ltb, List, [], ◌∷◌, ◌++◌, length, drop, get_or, Option, Some, None, Ok, Err, decimal, fold, refl, sym, ap, subst, ◌∙◌, arith, true≢false, ◌⊎◌, inl, inr, pos_of_ne-zero, rules}
 use Rattle.std.specs.Prelude.{IsTrue}
 use Rattle.std.specs.List.{list_all, onto_first, join_with_byte}
 use Rattle.std.proofs.lemmas.Bool.{lt-ltb, le-leb, leb-true, ltb-true, le-ltb, eq-eqb, eqb-true, eqb-false, ne_eqb, and_parts, and_from, not-true, not_from_false, or_cases, or_left, or_right, cases_eq, cond-true, cond-false}
@@ -11,6 +11,7 @@ use Rattle.std.proofs.lemmas.Fmt.{decimal_digit, digits_decimal, digits_value-de
 use Rattle.pua_tree.specs.Names.{is_name, same_bytes, has_byte, is_name_byte}
 use Rattle.pua_tree.specs.Spelling.{is_plain, byte_spelling, spelling, is_octal, escaped_byte, front_byte, with_front, unspelled_from, unspelled, name_of, name_of_bytes, fields, is_field, is_digit, is_decimal, decimal_value, number_within}
 use Rattle.pua_tree.specs.declared.fault.NameFault.TheVariants.{BadSpelling, Empty, TooLong, NotAName}
+pub use Rattle.pua_tree.proofs.Base.{same_Some, None≢Some, guarded, Err≢Ok, same_Ok, passed, tested}
 
 -- a byte is below 256
 abbrev pub is_byte : ℕ → Bool
@@ -19,12 +20,6 @@ is_byte b = ltb b 256
 -- a byte that a field may have
 abbrev pub is_visible : ℕ → Bool
 is_visible b = leb 33 b && leb b 126
-
-pub same_Some : {A : Type 0} (x y : A) → Some x ≡ Some y → x ≡ y
-same_Some x y e = ap (λ o. unwrap_or o x) e
-
-pub None≢Some : {A : Type 0} (x : A) → None ≢ Some x
-None≢Some x e = true≢false (ap is_some (sym e))
 
 no_backslash : (b : ℕ) → IsTrue (is_plain b) → eqb b 92 ≡ false
 no_backslash b h = not-true _ (and_parts (leb b 126) _ (and_parts (leb 33 b) _ h).1).1
@@ -63,10 +58,6 @@ unspelled-spelling [] h = refl
 unspelled-spelling (b ∷ bs) h =
     let parts = and_parts (is_byte b) (list_all is_byte bs) h in
     unspelled_front b (spelling bs) (ltb-true b 256 parts.0) ∙ ap (with_front (Some b)) (unspelled-spelling bs parts.1)
-
-pub guarded : {A : Type 0} (t : Bool) (w v : A) → cond t (Some w) None ≡ Some v → IsTrue t × (w ≡ v)
-guarded true w v e = (refl, same_Some w v e)
-guarded false w v e = absurd (None≢Some v e)
 
 digit_of : (x : ℕ) → IsTrue (is_octal x) → (48 ≤ x) × (x ≤ 55)
 digit_of x h = (leb-true 48 x (and_parts _ _ h).0, leb-true x 55 (and_parts (leb 48 x) (leb x 55) h).1)
@@ -157,25 +148,6 @@ name_of-spelling n h =
     ∙ cond-false (eqb (length n) 0) (Err Empty) _ (ne_eqb (length n) 0 (λ e. omega (arith, e, parts.0)))
     ∙ cond-false (ltb 255 (length n)) (Err TooLong) _ (le-ltb 255 (length n) parts.1)
     ∙ cond-true (is_name n) (Ok n) (Err NotAName) h
-
-pub Err≢Ok : {A E : Type 0} (f : E) (x : A) → ◌≡◌ {A = Result A E} (Err f) (Ok x) → ⊥
-Err≢Ok f x e = true≢false (ap is_ok (sym e))
-
-pub same_Ok : {A E : Type 0} (x y : A) → ◌≡◌ {A = Result A E} (Ok x) (Ok y) → x ≡ y
-same_Ok {A} {E} x y e = ap (ok_part x) e
-  where
-    ok_part : A → Result A E → A
-    ok_part d (Ok z) = z
-    ok_part d (Err f) = d
-
--- the later answer, where a test that gives a fault failed
-pub passed : {A E : Type 0} (t : Bool) (f : E) (r : Result A E) (x : A) → cond t (Err f) r ≡ Ok x → r ≡ Ok x
-passed true f r x e = absurd (Err≢Ok f x e)
-passed false f r x e = e
-
-pub tested : {A E : Type 0} (t : Bool) (f : E) (y x : A) → cond t (Ok y) (Err f) ≡ Ok x → IsTrue t × (y ≡ x)
-tested true f y x e = (refl, same_Ok y x e)
-tested false f y x e = absurd (Err≢Ok f x e)
 
 -- a text that is read as a name is its spelling
 pub name_read : (text n : List ℕ) → name_of text ≡ Ok n → (text ≡ spelling n) × IsTrue (is_name n)

@@ -9,6 +9,7 @@ use Rattle.std.specs.FinMap.{find, put, is_sorted}
 use Rattle.std.specs.FinMap.Entries.{by_order, where_key, below_all, find-put, find-where_key}
 use Rattle.std.proofs.lemmas.Bool.{and_parts, and_from, or_parts, false≢true}
 use Rattle.std.proofs.lemmas.List.Recursion.{is_sum_by}
+use Rattle.pua_tree.proofs.Base.{same_Some, Some≢None}
 
 -- 1 for a value that passes
 abbrev pub one : {X : Type 0} → (X → Bool) → X → ℕ
@@ -25,12 +26,6 @@ tally p (e ∷ es) = one p e.1 + tally p es
 
 pub tally_counts : {K X : Type 0} (p : X → Bool) (es : List (K × X)) → tally p es ≡ count_by (λ e. p e.1) es
 tally_counts p es = is_sum_by (tally p) (λ e. one p e.1) refl (λ _ _. refl) es
-
-pub is_Some : {X : Type 0} (x y : X) → Some x ≡ Some y → x ≡ y
-is_Some x y e = cc
-
-pub not_None : {X : Type 0} (x : X) → Some x ≢ None
-not_None x e = cc
 
 module _ {K : Type 0} (R : K → K → Ordering) (o : IsTotalOrder R) (exact : (x y : K) → R x y ≡ Equal → x ≡ y) where
   -- two keys are one or tie not
@@ -95,17 +90,17 @@ module _ {K : Type 0} (R : K → K → Ordering) (o : IsTotalOrder R) (exact : (
     found_later : (k : K) (v : X) (e : K × X) (es : List (K × X)) → T (is_sorted R (e ∷ es)) → find R k es ≡ Some v → is_eq (R k e.0) ≡ false
     found_later k v e es h f =
         elim (same_or_other k e.0) [
-          | inl s ↦ absurd (not_None v (sym f ∙ ap (λ x. find R x es) s.0 ∙ absent e.0 es (sorted_head e es h)))
+          | inl s ↦ absurd (Some≢None v (sym f ∙ ap (λ x. find R x es) s.0 ∙ absent e.0 es (sorted_head e es h)))
           | inr s ↦ s.1
         ]
 
     -- a test of all entries is one of what is found
     pub all_found : (q : (K × X) → Bool) (es : List (K × X)) → list_all q es ≡ true → (k : K) (v : X) → find R k es ≡ Some v → q (k, v) ≡ true
-    all_found q [] h k v f = absurd (not_None v (sym f))
+    all_found q [] h k v f = absurd (Some≢None v (sym f))
     all_found q (e ∷ es) h k v f =
         let parts = and_parts (q e) (list_all q es) h in
         elim (same_or_other k e.0) [
-          | inl s ↦ (let values : e.1 ≡ v = is_Some e.1 v (sym (ap (λ b. cond b (Some e.1) (find R k es)) s.1) ∙ f) in
+          | inl s ↦ (let values : e.1 ≡ v = same_Some e.1 v (sym (ap (λ b. cond b (Some e.1) (find R k es)) s.1) ∙ f) in
               (λ i. q (s.0 i, sym values i)) ∙ parts.0)
           | inr s ↦ all_found q es parts.1 k v (sym (ap (λ b. cond b (Some e.1) (find R k es)) s.1) ∙ f)
         ]
@@ -118,11 +113,11 @@ module _ {K : Type 0} (R : K → K → Ordering) (o : IsTotalOrder R) (exact : (
         (all_from_found q es (sorted_tail e es h) (λ k v f. each k v (ap (λ b. cond b (Some e.1) (find R k es)) (found_later k v e es h f) ∙ f)))
 
     pub none_found : (q : (K × X) → Bool) (es : List (K × X)) → list_any q es ≡ false → (k : K) (v : X) → find R k es ≡ Some v → q (k, v) ≡ false
-    none_found q [] h k v f = absurd (not_None v (sym f))
+    none_found q [] h k v f = absurd (Some≢None v (sym f))
     none_found q (e ∷ es) h k v f =
         let parts = or_parts (q e) (list_any q es) h in
         elim (same_or_other k e.0) [
-          | inl s ↦ (let values : e.1 ≡ v = is_Some e.1 v (sym (ap (λ b. cond b (Some e.1) (find R k es)) s.1) ∙ f) in
+          | inl s ↦ (let values : e.1 ≡ v = same_Some e.1 v (sym (ap (λ b. cond b (Some e.1) (find R k es)) s.1) ∙ f) in
               (λ i. q (s.0 i, sym values i)) ∙ parts.0)
           | inr s ↦ none_found q es parts.1 k v (sym (ap (λ b. cond b (Some e.1) (find R k es)) s.1) ∙ f)
         ]
@@ -150,10 +145,10 @@ module _ {K : Type 0} (R : K → K → Ordering) (o : IsTotalOrder R) (exact : (
         ]
 
     pub tally_found : (p : X → Bool) (k : K) (v : X) (es : List (K × X)) → find R k es ≡ Some v → p v ≡ true → 1 ≤ tally p es
-    tally_found p k v [] f h = absurd (not_None v (sym f))
+    tally_found p k v [] f h = absurd (Some≢None v (sym f))
     tally_found p k v (e ∷ es) f h =
         elim (same_or_other k e.0) [
-          | inl s ↦ (let values : e.1 ≡ v = is_Some e.1 v (sym (ap (λ b. cond b (Some e.1) (find R k es)) s.1) ∙ f) in
+          | inl s ↦ (let values : e.1 ≡ v = same_Some e.1 v (sym (ap (λ b. cond b (Some e.1) (find R k es)) s.1) ∙ f) in
               let here : one p e.1 ≡ 1 = ap (one p) values ∙ ap (λ b. cond b 1 0) h in omega arith)
           | inr s ↦ (let later = tally_found p k v es (sym (ap (λ b. cond b (Some e.1) (find R k es)) s.1) ∙ f) h in omega arith)
         ]
@@ -169,10 +164,10 @@ module _ {K : Type 0} (R : K → K → Ordering) (o : IsTotalOrder R) (exact : (
 
     -- the one entry that passes is the first that does
     pub only_key : (p : X → Bool) (k : K) (v : X) (es : List (K × X)) → tally p es ≡ 1 → find R k es ≡ Some v → p v ≡ true → option_map (λ e. e.0) (find_where (λ e. p e.1) es) ≡ Some k
-    only_key p k v [] l f h = absurd (not_None v (sym f))
+    only_key p k v [] l f h = absurd (Some≢None v (sym f))
     only_key p k v (e ∷ es) l f h =
         elim (same_or_other k e.0) [
-          | inl s ↦ (let values : e.1 ≡ v = is_Some e.1 v (sym (ap (λ b. cond b (Some e.1) (find R k es)) s.1) ∙ f) in
+          | inl s ↦ (let values : e.1 ≡ v = same_Some e.1 v (sym (ap (λ b. cond b (Some e.1) (find R k es)) s.1) ∙ f) in
               ap (λ b. option_map (λ d. d.0) (cond b (Some e) (find_where (λ d. p d.1) es))) (ap p values ∙ h) ∙ ap Some (sym s.0))
           | inr s ↦ (let later = sym (ap (λ b. cond b (Some e.1) (find R k es)) s.1) ∙ f in
               let some = tally_found p k v es later h in

@@ -4,13 +4,14 @@ use Rattle.std.specs.List.{list_any}
 use Rattle.std.specs.Ordering.{nat_cmp, is_eq}
 use Rattle.std.specs.FinMap.{put}
 use Rattle.std.specs.FinMap.Entries.{where_key}
+use Rattle.pua_tree.specs.Limits.{most_living, number_end}
 use Rattle.pua_tree.specs.Tree.{Node, Tree, spot_cmp, is_dir, look, has_no_row, rows_of, climb}
 use Rattle.pua_tree.specs.declared.fault.TreeFault.{TreeFault}
 use Rattle.pua_tree.specs.declared.fault.TreeFault.TheVariants.{Missing, Taken, NotDir, NotEmpty, Inside, Full, OutOfMemory}
 
--- 65,535 living nodes at most, the root counted, and a further one needs a number below the last
+-- a further node needs room among the living ones, and a number
 abbrev pub has_room : Tree → Bool
-has_room t = nat_lt (length t.nodes) 65535 && nat_lt t.next 4294967295
+has_room t = nat_lt (length t.nodes) most_living && nat_lt t.next number_end
 
 abbrev pub with_row : Tree → ℕ → List ℕ → ℕ → Tree
 with_row t dir name x = record t { rows = put spot_cmp (dir, name) x t.rows }

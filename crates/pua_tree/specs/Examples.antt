@@ -1,10 +1,12 @@
 -- Worked rows on trees and listings.
-use Rattle.std.specs.Prelude.{◌≡◌, ℕ, List, [], ◌∷◌, ◌++◌, Some, None, Ok, Err, codes, flat_map, refl, take, length}
+use Rattle.std.specs.Prelude.{◌≡◌, ℕ, List, [], ◌∷◌, ◌++◌, Some, None, Ok, Err, codes, flat_map, refl, take, length, replicate}
 use Rattle.pua_tree.specs.Tree.{Node, Tree, WellFormed}
 use Rattle.pua_tree.specs.Edits.{add, cut, shift}
-use Rattle.pua_tree.specs.Listing.{listing}
+use Rattle.pua_tree.specs.Spelling.{name_of}
+use Rattle.pua_tree.specs.Listing.{Entry, listing, admitted}
 use Rattle.pua_tree.specs.declared.node.Kind.TheVariants.{Dir, File, Prog, Link}
-use Rattle.pua_tree.specs.declared.fault.ListingFault.TheVariants.{BadHeader, BadLine, BadNumber, BadParent, BadName, BadTarget, Taken}
+use Rattle.pua_tree.specs.declared.fault.ListingFault.TheVariants.{BadHeader, BadLine, BadNumber, BadParent, BadName, BadTarget, Taken, TooMany}
+use Rattle.pua_tree.specs.declared.fault.NameFault.TheVariants.{BadSpelling, Empty, TooLong, NotAName}
 use Rattle.pua_tree.specs.declared.fault.TreeFault.TheVariants.{Missing, NotDir, NotEmpty, Inside, Full, Taken as NameTaken}
 
 -- lines that end in LF
@@ -17,6 +19,9 @@ example_listing = text_of_lines (codes "tree 1" ∷ codes "0 dir" ∷ codes "1 d
 
 abbrev plain : Node
 plain = record { kind = File; target = None }
+
+abbrev example_entry : Entry
+example_entry = record { number = 1; parent = 0; name = codes "a"; made = plain }
 
 abbrev pub example_tree : Tree
 example_tree = record {
@@ -52,6 +57,38 @@ pub record ListingRows : Type 0 where
 
 pub listing_rows : ListingRows
 listing_rows = record { example = refl; returns_and_feeds = refl; no_bytes = refl; header_alone = refl; same_number = refl; parent_is_file = refl; dots = refl; plain_escaped = refl; nul_target = refl; taken = refl; leading_zero = refl; two_spaces = refl; short_line = refl; other_header = refl; unknown_kind = refl; first_0 = refl; first_5 = refl; first_6 = refl; first_48 = refl; first_49 = refl; first_63 = refl; bytes = refl }
+
+-- of two faults of a line the earlier is answered, and of two lines that of the first
+pub record FaultOrderRows : Type 0 where
+  pub header_before_root : listing (text_of_lines (codes "tree 3" ∷ codes "1 dir" ∷ [])) ≡ Err BadHeader
+  pub root_before_entries : listing (text_of_lines (codes "tree 1" ∷ codes "0 file" ∷ codes "x" ∷ [])) ≡ Err (BadLine 2)
+  pub line_before_number : listing (text_of_lines (codes "tree 1" ∷ codes "0 dir" ∷ codes "0 link 0 a" ∷ [])) ≡ Err (BadLine 3)
+  pub number_before_parent : listing (text_of_lines (codes "tree 1" ∷ codes "0 dir" ∷ codes "0 dir 7 a" ∷ [])) ≡ Err (BadNumber 3)
+  pub parent_before_name : listing (text_of_lines (codes "tree 1" ∷ codes "0 dir" ∷ codes "1 dir 7 .." ∷ [])) ≡ Err (BadParent 3)
+  pub name_before_target : listing (text_of_lines (codes "tree 1" ∷ codes "0 dir" ∷ codes "1 link 0 .. \\000" ∷ [])) ≡ Err (BadName 3)
+  pub target_before_taken : listing (text_of_lines (codes "tree 1" ∷ codes "0 dir" ∷ codes "1 dir 0 a" ∷ codes "2 link 0 a \\000" ∷ [])) ≡ Err (BadTarget 4)
+  pub taken_before_room : admitted (example_entry ∷ []) 4098 example_entry ≡ Err (Taken 4098)
+  pub no_room : admitted [] 4098 example_entry ≡ Err (TooMany 4098)
+  pub last_room : admitted [] 4097 example_entry ≡ Ok example_entry
+  pub earlier_line_first : listing (text_of_lines (codes "tree 1" ∷ codes "0 dir" ∷ codes "1 dir 0 .." ∷ codes "x" ∷ [])) ≡ Err (BadName 3)
+
+pub fault_order_rows : FaultOrderRows
+fault_order_rows = record { header_before_root = refl; root_before_entries = refl; line_before_number = refl; number_before_parent = refl; parent_before_name = refl; name_before_target = refl; target_before_taken = refl; taken_before_room = refl; no_room = refl; last_room = refl; earlier_line_first = refl }
+
+-- what is no name, by its first fault
+pub record NameRows : Type 0 where
+  pub slash_before_empty : name_of (codes "/") ≡ Err BadSpelling
+  pub slash_before_length : name_of (replicate 256 47) ≡ Err BadSpelling
+  pub escape_of_plain : name_of (codes "\\141") ≡ Err BadSpelling
+  pub nothing : name_of [] ≡ Err Empty
+  pub length_before_nul : name_of (replicate 255 97 ++ codes "\\000") ≡ Err TooLong
+  pub longest : name_of (replicate 255 97) ≡ Ok (replicate 255 97)
+  pub nul : name_of (codes "a\\000") ≡ Err NotAName
+  pub dot : name_of (codes ".") ≡ Err NotAName
+  pub three_dots : name_of (codes "...") ≡ Ok (codes "...")
+
+pub name_rows : NameRows
+name_rows = record { slash_before_empty = refl; slash_before_length = refl; escape_of_plain = refl; nothing = refl; length_before_nul = refl; longest = refl; nul = refl; dot = refl; three_dots = refl }
 
 -- the example tree is a tree
 abbrev pub ExampleIsTree : Type 0

@@ -2,6 +2,7 @@
 use Rattle.std.specs.Prelude.{◌≡◌, ℕ, ◌+◌, Bool, true, false, not, ◌&&◌, List, [], ◌∷◌, ◌++◌, map, length, Option, Some, None, codes, decimal, IsTrue, nat_lt, nat_le, Ok, ◌↔◌}
 use Rattle.std.specs.List.{list_all}
 use Rattle.std.specs.Str.Lines.{lines}
+use Rattle.pua_tree.specs.Limits.{highest_listed, most_listed}
 use Rattle.pua_tree.specs.Names.{is_name, is_target}
 use Rattle.pua_tree.specs.Spelling.{spelling, unspelled}
 use Rattle.pua_tree.specs.Tree.{Tree, WellFormed}
@@ -31,12 +32,12 @@ target_stands Link None = false
 target_stands _ None = true
 target_stands _ (Some target) = false
 
--- an entry that may follow the earlier ones: its number is above theirs and at most 999,999, its parent is a
--- directory of theirs, its name is one that the parent hasn't yet, and it is at most the 4,096th node with the root
+-- an entry that may follow the earlier ones: its number is above theirs and at most the highest, its parent is a
+-- directory of theirs, its name is one that the parent hasn't yet, and with the root there is room for it
 abbrev pub entry_fits : List Entry → Entry → Bool
 entry_fits earlier e =
-    nat_lt (last_number earlier) e.number && (nat_le e.number 999999 && (is_earlier_dir earlier e.parent && (is_name e.name
-    && (not (is_taken earlier e.parent e.name) && (nat_lt (length earlier + 1) 4096 && target_stands e.made.kind e.made.target)))))
+    nat_lt (last_number earlier) e.number && (nat_le e.number highest_listed && (is_earlier_dir earlier e.parent && (is_name e.name
+    && (not (is_taken earlier e.parent e.name) && (nat_lt (length earlier + 1) most_listed && target_stands e.made.kind e.made.target)))))
 
 abbrev pub entries_fit : List Entry → List Entry → Bool
 entries_fit earlier [] = true

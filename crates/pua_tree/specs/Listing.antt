@@ -3,6 +3,7 @@ use Rattle.std.specs.Prelude.{ℕ, suc, Bool, ◌&&◌, ◌||◌, if◌then◌el
 use Rattle.std.specs.List.{list_all, list_any}
 use Rattle.std.specs.Str.Lines.{lines}
 use Rattle.std.specs.FinMap.{put}
+use Rattle.pua_tree.specs.Limits.{highest_listed, most_lines}
 use Rattle.pua_tree.specs.Names.{same_bytes, is_target}
 use Rattle.pua_tree.specs.Spelling.{unspelled, name_of, fields, is_field, number_within}
 use Rattle.pua_tree.specs.Tree.{Node, Spot, Tree, spot_cmp, is_dir_kind}
@@ -20,13 +21,13 @@ pub record Entry : Type 0 where
   pub name : List ℕ
   pub made : Node
 
--- the fields of a line by what they are for; only a link has a last one
+-- the fields of a line by what they are for; only a link has a target
 pub record Line : Type 0 where
   pub number : List ℕ
   pub kind : Kind
   pub parent : List ℕ
   pub name : List ℕ
-  pub last : List ℕ
+  pub target : List ℕ
 
 abbrev pub plain_kind : List ℕ → Option Kind
 plain_kind word =
@@ -37,9 +38,9 @@ plain_kind word =
 -- four fields for a directory, a file or a program, and five for a link
 abbrev pub line_of_fields : List (List ℕ) → Option Line
 line_of_fields (number ∷ word ∷ parent ∷ name ∷ []) =
-    option_map (λ kind. record { number = number; kind = kind; parent = parent; name = name; last = [] }) (plain_kind word)
-line_of_fields (number ∷ word ∷ parent ∷ name ∷ last ∷ []) =
-    if same_bytes word (codes "link") then Some (record { number = number; kind = Link; parent = parent; name = name; last = last }) else None
+    option_map (λ kind. record { number = number; kind = kind; parent = parent; name = name; target = [] }) (plain_kind word)
+line_of_fields (number ∷ word ∷ parent ∷ name ∷ target ∷ []) =
+    if same_bytes word (codes "link") then Some (record { number = number; kind = Link; parent = parent; name = name; target = target }) else None
 line_of_fields _ = None
 
 abbrev pub line_of : List ℕ → Option Line
@@ -61,13 +62,13 @@ only_if test (Some x) = if test x then Some x else None
 
 -- the parts of a line, read over the earlier lines
 abbrev pub number_in : List Entry → Line → Option ℕ
-number_in earlier line = only_if (λ n. nat_lt (last_number earlier) n) (number_within 1 999999 line.number)
+number_in earlier line = only_if (λ n. nat_lt (last_number earlier) n) (number_within 1 highest_listed line.number)
 
 abbrev pub parent_in : List Entry → Line → Option ℕ
-parent_in earlier line = only_if (is_earlier_dir earlier) (number_within 0 999999 line.parent)
+parent_in earlier line = only_if (is_earlier_dir earlier) (number_within 0 highest_listed line.parent)
 
 abbrev pub target_in : Line → Option (List ℕ)
-target_in line = only_if is_target (unspelled line.last)
+target_in line = only_if is_target (unspelled line.target)
 
 -- the node that line n makes: a link has a target
 abbrev pub node_of : ℕ → Line → Kind → Result Node ListingFault
@@ -77,9 +78,9 @@ node_of n line kind = Ok (record { kind = kind; target = None })
 abbrev pub is_taken : List Entry → ℕ → List ℕ → Bool
 is_taken earlier parent name = list_any (λ e. e.parent == parent && same_bytes e.name name) earlier
 
--- the entry of line n, if its name is free and there is room; line 2 is the first node's, and 4,096 nodes are allowed
+-- the entry of line n, if its name is free and there is room; line 2 is the first node's
 abbrev pub admitted : List Entry → ℕ → Entry → Result Entry ListingFault
-admitted earlier n e = if is_taken earlier e.parent e.name then Err (Taken n) else (if nat_lt 4097 n then Err (TooMany n) else Ok e)
+admitted earlier n e = if is_taken earlier e.parent e.name then Err (Taken n) else (if nat_lt most_lines n then Err (TooMany n) else Ok e)
 
 -- what line n says after the earlier ones, or its first fault
 abbrev pub entry_of : List Entry → ℕ → List ℕ → Result Entry ListingFault

@@ -1,26 +1,36 @@
--- What reading the lines of a listing has gathered so far.
-use Rattle.std.specs.Prelude.{◌≡◌, ◌≤◌, suc, List, [], IsTrue, option_map}
-use Rattle.pua_tree.specs.Tree.{Tree}
+-- What a reader of a listing's lines has gathered so far, and what a further entry makes of it.
+use Rattle.std.specs.Prelude.{◌≡◌, ◌≤◌, ◌<◌, ◌+◌, ℕ, List, [], Ok, IsTrue, option_map, length}
+use Rattle.pua_tree.specs.Limits.{number_end}
+use Rattle.pua_tree.specs.Names.{is_name}
+use Rattle.pua_tree.specs.Tree.{Tree, target_fits}
+use Rattle.pua_tree.specs.Edits.{add, with_new}
 use Rattle.pua_tree.specs.Listing as listing
-use Rattle.pua_tree.specs.Listing.{tree_of}
+use Rattle.pua_tree.specs.Listing.{last_number, tree_of}
 use Rattle.pua_tree.specs.Grammar.{entries_fit}
-use Rattle.pua_tree.specs.ListTree.{held_tree}
-use Rattle.pua_tree.specs.declared.listing.Reading.{Reading}
-use Rattle.pua_tree.specs.declared.listing.Entry.{Entry}
+use Rattle.pua_tree.specs.declared.gathered.Entry.{Entry}
 
 -- what an entry says
 abbrev pub said : Entry → listing.Entry
 said e = record { number = e.number; parent = e.parent; name = e.name; made = record { kind = e.kind; target = option_map (λ target. target.items) e.target } }
 
-abbrev pub gathered_tree : Reading → Tree
-gathered_tree reading = held_tree reading.rows.items reading.nodes.items (suc reading.last)
+-- the tree with an entry more: its node, under its number, in a new row
+abbrev pub grown : Tree → listing.Entry → Tree
+grown t e = with_new (record t { next = e.number }) e.parent e.name e.made
 
--- the reading holds the tree of entries each of which fits those before it
-pub record Gathers (reading : Reading) (es : List listing.Entry) : Type 0 where
+-- an entry that a tree may take: its number is no lower than the next one, and under that number its node may be added
+pub record Follows (t : Tree) (e : listing.Entry) : Type 0 where
+  pub number : t.next ≤ e.number
+  pub not_last : e.number < number_end
+  pub named : IsTrue (is_name e.name)
+  pub target : IsTrue (target_fits e.made.kind e.made.target)
+  pub added : add (record t { next = e.number }) e.parent e.name e.made ≡ Ok (e.number, grown t e)
+
+-- the tree of entries each of which fits those before it, and the greatest of their numbers
+pub record Gathers (t : Tree) (greatest : ℕ) (es : List listing.Entry) : Type 0 where
   pub fit : IsTrue (entries_fit [] es)
-  pub tree : gathered_tree reading ≡ tree_of es
-  pub small : reading.last ≤ 999999
+  pub tree : t ≡ tree_of es
+  pub highest : greatest ≡ last_number es
 
--- the reading holds the tree of some such entries
-abbrev pub IsGathered : Reading → Type 0
-IsGathered reading = (es : List listing.Entry) × Gathers reading es
+-- it is that of so many lines, the first two counted
+abbrev pub IsGathered : Tree → ℕ → ℕ → Type 0
+IsGathered t greatest lines = (es : List listing.Entry) × Gathers t greatest es × (lines ≡ length es + 2)

@@ -1,6 +1,7 @@
 -- How bytes are spelled in the fields of listings, scripts and output, and how lines are split.
 use Rattle.std.specs.Prelude.{ℕ, zero, suc, ◌+◌, ◌-◌, ◌*◌, ◌/◌, ◌%◌, Bool, false, not, ◌&&◌, ◌||◌, if◌then◌else◌, List, [], ◌∷◌, length, nat_lt, nat_le, ◌==◌, Option, Some, None, Result, Ok, Err, flat_map, fold}
 use Rattle.std.specs.List.{list_all, slice_split}
+use Rattle.pua_tree.specs.Limits.{most_name}
 use Rattle.pua_tree.specs.Names.{has_byte, is_name}
 use Rattle.pua_tree.specs.declared.fault.NameFault.{NameFault}
 use Rattle.pua_tree.specs.declared.fault.NameFault.TheVariants.{BadSpelling, Empty, TooLong, NotAName}
@@ -51,7 +52,7 @@ name_of_bytes None = Err BadSpelling
 name_of_bytes (Some n) =
     if has_byte 47 n then Err BadSpelling
     else (if length n == 0 then Err Empty
-    else (if nat_lt 255 (length n) then Err TooLong
+    else (if nat_lt most_name (length n) then Err TooLong
     else (if is_name n then Ok n else Err NotAName)))
 
 abbrev pub name_of : List ℕ → Result (List ℕ) NameFault

@@ -73,7 +73,7 @@ fn are_visible(bytes: &[u8]) -> bool
     bytes.iter().all(|byte| is_visible(*byte))
 }
 
-/// The first field of a line, and what stands behind the space that ends it, if one does.
+/// The first field of a line, and what stands after the space that ends it, if one does.
 pub fn split_field(line: &[u8]) -> (&[u8], Option<&[u8]>)
     ensures fields { fields line.now ≡ result.0.now ∷ option_map_or (λ rest. fields rest.now) result.1 [] }
     ensures shorter { IfSome result.1 (λ rest. length rest.now < length line.now) }

@@ -1,11 +1,12 @@
 //! Laws and worked examples of the definitions of this crate, each the contract of a function
 //! that does nothing.
 
-ghost use Rattle.pua_tree.specs.Laws.{TreesAreTheirRows, EditsKeepTrees};
+ghost use Rattle.pua_tree.specs.Laws.{TreesAreTheirRows, EditsKeepTrees, LimitsAreTheirs};
 ghost use Rattle.pua_tree.specs.Grammar.{ListingsAreRead, ListingsListTrees, SpellingsAreRead};
-ghost use Rattle.pua_tree.specs.Examples.{ListingRows, EditRows, ExampleIsTree};
+ghost use Rattle.pua_tree.specs.Examples.{ListingRows, FaultOrderRows, NameRows, EditRows, ExampleIsTree};
 
-/// Trees with the same rows, kinds, targets and next number are equal.
+/// Trees with the same rows, the same living nodes, each of the same kind and target, and the same
+/// next number are equal.
 pub fn tree_law()
     ensures { TreesAreTheirRows }
 {}
@@ -13,6 +14,11 @@ pub fn tree_law()
 /// What each edit leaves is a tree again, whose next number is no lower.
 pub fn edits_keep_trees()
     ensures { EditsKeepTrees }
+{}
+
+/// The constants of this crate are the limits of its definitions.
+pub fn limits_law()
+    ensures { LimitsAreTheirs }
 {}
 
 /// Bytes are read as a tree exactly where they are a listing of it, and what a listing lists is a
@@ -32,6 +38,13 @@ pub fn spelling_law()
 pub fn listing_examples()
     ensures listings { ListingRows }
     ensures tree { ExampleIsTree }
+{}
+
+/// Examples of lines and names with two faults, of which the first is answered.
+#[tactic(auto, using(crate::specs::Examples::fault_order_rows, crate::specs::Examples::name_rows))]
+pub fn fault_order_examples()
+    ensures lines { FaultOrderRows }
+    ensures names { NameRows }
 {}
 
 /// Examples of edits.

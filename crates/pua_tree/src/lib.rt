@@ -3,26 +3,28 @@
 
 mod fault;
 mod field;
+mod gathered;
 mod laws;
 mod line;
+mod link_target;
 mod list;
 mod list_edits;
 mod listing;
 mod name;
 mod node;
 mod spelling;
-mod target;
 mod tree;
 
 pub use fault::{ListingFault, NameFault, OutOfMemory, TreeFault};
 pub use field::{Fields, is_field, number_within, split_field};
 pub use laws::{
-    edit_examples, edits_keep_trees, listing_examples, listing_law, spelling_law, tree_law,
+    edit_examples, edits_keep_trees, fault_order_examples, limits_law, listing_examples,
+    listing_law, spelling_law, tree_law,
 };
+pub use link_target::{MOST_TARGET, has_short_components, is_target};
 pub use list::ListTree;
-pub use listing::read_listing;
+pub use listing::{HIGHEST_LISTED, MOST_LISTED, read_listing};
 pub use name::Name;
 pub use node::{Kind, NodeId};
 pub use spelling::{SpelledByte, byte_spelling, unspelled};
-pub use target::{has_short_components, is_target};
-pub use tree::FileTree;
+pub use tree::{FileTree, MOST_LIVING, NUMBER_END};

@@ -7,7 +7,7 @@ ghost use Rattle.pua_tree.specs.Lines.{line_read};
 use crate::field::Fields;
 use crate::node::Kind;
 
-/// A line of a listing behind its second: the number, kind, parent and name of a node, and the
+/// A line of a listing after its second: the number, kind, parent and name of a node, and the
 /// target of a link, which is empty for other kinds. Number, parent, name and target are as they are
 /// spelled.
 #[derive(Clone, Copy)]
@@ -16,7 +16,7 @@ pub(crate) struct Line<'a> {
     pub(crate) kind: Kind,
     pub(crate) parent: &'a [u8],
     pub(crate) name: &'a [u8],
-    pub(crate) last: &'a [u8],
+    pub(crate) target: &'a [u8],
 }
 
 /// The line that a text without its end is, and None where a field is empty or holds what no field
@@ -31,9 +31,9 @@ pub(crate) fn read_line(text: &[u8]) -> Option<Line<'_>>
             kind: plain_kind(word)?,
             parent,
             name,
-            last: &[],
+            target: &[],
         }),
-        [number, word, parent, name, last] => {
+        [number, word, parent, name, target] => {
             if *word != b"link".as_slice() {
                 return None;
             }
@@ -42,7 +42,7 @@ pub(crate) fn read_line(text: &[u8]) -> Option<Line<'_>>
                 kind: Kind::Link,
                 parent,
                 name,
-                last,
+                target,
             })
         }
         _ => None,

@@ -1,17 +1,15 @@
 //! A tree kept as a list of rows and a list of nodes, each in the order of its keys.
 
-use crate::fault::TreeFault;
+use crate::fault::{OutOfMemory, TreeFault};
+use crate::gathered::{Entry, Gathered};
 use crate::list_edits::{copied_target, push_node, put_row, reserve_one, take_row, take_unnamed};
 use crate::name::Name;
 use crate::node::{Kind, NodeId};
-use crate::tree::FileTree;
+use crate::tree::{FileTree, MOST_LIVING, NUMBER_END};
 use std::alloc::{AllocError, Global};
 use std::cmp::Ordering;
 use std::collections::BTreeSet;
 use std::marker::Model;
-
-/// How many nodes may live, the root among them.
-const MAX_NODES: usize = 65_535;
 
 /// A node that has a name in a directory.
 #[derive(Clone, Copy)]
@@ -49,10 +47,11 @@ impl Model for ListTree {
     ghost invariant = { λ a. WellFormed (held_tree a.rows.items a.nodes.items a.next) };
 }
 
-ghost use Rattle.std.specs.Prelude.{ℕ, ◌≡◌, ◌≢◌, ◌<◌, ◌≤◌, Some, None, Ok, Err, IsTrue, IfOk, IfErr, IfSome, OnOk, MatchResult, MatchOption, ◌==◌, unwrap_or, find, length, map, option_map, option_copied};
+ghost use Rattle.std.specs.Prelude.{ℕ, ◌≡◌, ◌≢◌, ◌<◌, ◌≤◌, Some, None, Ok, Err, IsTrue, IfOk, IfErr, IfSome, OnOk, MatchResult, MatchOption, ◌==◌, unwrap_or, find, length, map, option_map};
 ghost use Rattle.std.specs.List.{HoldsAt, insert, list_any};
 ghost use Rattle.std.specs.Ordering.{nat_cmp};
 ghost use Rattle.std.specs.FinMap.{is_sorted, find as find_key, put};
+ghost use Rattle.pua_tree.specs.Limits.{number_end};
 ghost use Rattle.pua_tree.specs.Names.{is_name};
 ghost use Rattle.pua_tree.specs.Tree as tree;
 ghost use Rattle.pua_tree.specs.Tree.{WellFormed, spot_cmp, is_dir, look, climb, distinct_names};
@@ -118,19 +117,18 @@ impl FileTree for ListTree {
         self.may_add(dir, &name)?;
         let alloc = *self.nodes.allocator();
         let target = copied_target(alloc, target).map_err(|_| TreeFault::OutOfMemory)?;
-        reserve_one(&mut self.rows, &mut self.nodes).map_err(|_| TreeFault::OutOfMemory)?;
-        let id = NodeId::new(self.next);
-        put_row(
-            &mut self.rows,
-            Row {
-                dir,
-                name,
-                node: id,
-            },
-        );
-        push_node(&mut self.nodes, Node { id, kind, target });
-        self.next += 1;
-        Ok(id)
+        let number = self.next;
+        let entry = Entry {
+            number,
+            parent: dir,
+            name,
+            kind,
+            target,
+        };
+        match self.put(entry) {
+            Ok(()) => Ok(NodeId::new(number)),
+            Err(OutOfMemory) => Err(TreeFault::OutOfMemory),
+        }
     }
 
     fn cut(&mut self, dir: NodeId, name: &Name) -> Result<NodeId, TreeFault> {
@@ -168,15 +166,51 @@ impl FileTree for ListTree {
     }
 }
 
-impl ListTree {
-    /// The tree of these rows, nodes and next number.
-    pub(crate) fn new(rows: Vec<Row>, nodes: Vec<Node>, next: u32) -> ListTree
-        requires { WellFormed (held_tree rows.items nodes.items next) }
-        ensures { result ≡ held_tree rows.items nodes.items next }
-    {
-        ListTree { rows, nodes, next }
+impl Gathered for ListTree {
+    fn root_alone(alloc: Global) -> Result<ListTree, OutOfMemory> {
+        let mut nodes = Vec::new(alloc);
+        let root = Node {
+            id: NodeId::ROOT,
+            kind: Kind::Dir,
+            target: None,
+        };
+        if nodes.push(root).is_err() {
+            return Err(OutOfMemory);
+        }
+        Ok(ListTree {
+            rows: Vec::new(alloc),
+            nodes,
+            next: 1,
+        })
     }
 
+    fn put(&mut self, entry: Entry) -> Result<(), OutOfMemory> {
+        if reserve_one(&mut self.rows, &mut self.nodes).is_err() {
+            return Err(OutOfMemory);
+        }
+        let id = NodeId::new(entry.number);
+        put_row(
+            &mut self.rows,
+            Row {
+                dir: entry.parent,
+                name: entry.name,
+                node: id,
+            },
+        );
+        push_node(
+            &mut self.nodes,
+            Node {
+                id,
+                kind: entry.kind,
+                target: entry.target,
+            },
+        );
+        self.next = entry.number + 1;
+        Ok(())
+    }
+}
+
+impl ListTree {
     fn is_dir(&self, id: NodeId) -> bool
         ensures { result ≡ is_dir self.now id }
     {
@@ -194,7 +228,7 @@ impl ListTree {
     fn has_room(&self) -> bool
         ensures { result ≡ has_room self.now }
     {
-        self.nodes.len() < MAX_NODES && self.next < u32::MAX
+        self.nodes.len() < MOST_LIVING && self.next < NUMBER_END
     }
 
     /// Whether the directory is this node, or stands beneath it.
@@ -219,7 +253,7 @@ impl ListTree {
         ensures exact { MatchResult result
             (λ _. (node : tree.Node) → add self.now dir name.now node ≡ Ok (self.now.next, with_new self.now dir name.now node))
             (λ fault. (fault ≢ TreeFault.OutOfMemory) × ((node : tree.Node) → add self.now dir name.now node ≡ Err fault)) }
-        ensures number { OnOk result (self.now.next < 4294967295) }
+        ensures number { OnOk result (self.now.next < number_end) }
         ensures name { IsTrue (is_name name.now) }
     {
         name.known();

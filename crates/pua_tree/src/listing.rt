@@ -1,59 +1,52 @@
-//! The reader of listings: one pass over the lines, each judged against those before it.
+//! The reader of listings: one pass over the lines, each judged against those before it. It fills
+//! whatever tree takes its entries.
+
+ghost use Rattle.std.specs.Prelude.{ℕ, List, ◌≡◌, ◌≢◌, ◌≤◌, ◌+◌, ◌++◌, ◌∷◌, [], Ok, Err, MatchResult, OnOk, OnErr, IfOk, IfErr, nat_lt, length, option_map};
+ghost use Rattle.std.specs.Bool.{OnTrue, OnFalse};
+ghost use Rattle.pua_tree.specs.Limits.{highest_listed};
+ghost use Rattle.pua_tree.specs.Spelling.{number_within};
+ghost use Rattle.pua_tree.specs.Tree.{is_dir};
+ghost use Rattle.pua_tree.specs.Lines.{line_read};
+ghost use Rattle.pua_tree.specs.Listing.{listing, entry_of, entries_of, admitted, only_if, node_of, Entry as Said};
+ghost use Rattle.pua_tree.specs.Reading.{Gathers, IsGathered, said};
 
 use crate::fault::{ListingFault, OutOfMemory};
 use crate::field::number_within;
+use crate::gathered::{Entry, Gathered};
 use crate::line::{Line, read_line};
-use crate::list::{ListTree, Node, Row, node_place, row_place};
+use crate::link_target::is_target;
+use crate::list::ListTree;
 use crate::name::Name;
 use crate::node::{Kind, NodeId};
 use crate::spelling::unspelled;
-use crate::target::is_target;
+use crate::tree::FileTree;
 use bstr::{ByteSlice, Lines};
 use std::alloc::Global;
 
-/// The most lines that a listing has: its header and 4,096 nodes.
-const MOST_LINES: u32 = 4097;
+/// The most nodes that a listing has, the root among them.
+pub const MOST_LISTED: u32 = 4096;
 
-/// The greatest number of a listing.
-const MOST_NUMBER: u32 = 999_999;
+/// The greatest number that a listing has.
+pub const HIGHEST_LISTED: u32 = 999_999;
 
-/// What one line says: a node with its number, and the row in which it stands.
-#[derive(Drop)]
-struct Entry {
-    number: u32,
-    parent: NodeId,
-    name: Name,
-    kind: Kind,
-    target: Option<Vec<u8>>,
-}
+/// The most lines that a listing has: its header, and one for each node.
+const MOST_LINES: u32 = MOST_LISTED + 1;
 
-/// The rows and nodes of the lines so far, and the greatest number among them.
-#[derive(Drop)]
-struct Reading {
-    rows: Vec<Row>,
-    nodes: Vec<Node>,
-    last: u32,
-}
-
-ghost use Rattle.std.specs.Prelude.{ℕ, List, ◌≡◌, ◌≢◌, ◌≤◌, ◌+◌, ◌++◌, ◌∷◌, [], Ok, Err, MatchResult, OnOk, OnErr, IfOk, length};
-ghost use Rattle.std.specs.Prelude.{IfErr, IsTrue, nat_lt, map, option_map};
-ghost use Rattle.std.specs.Bool.{OnTrue, OnFalse};
-ghost use Rattle.std.specs.List.{insert};
-ghost use Rattle.std.specs.Ordering.{nat_cmp};
-ghost use Rattle.std.specs.FinMap.{is_sorted, find};
-ghost use Rattle.pua_tree.specs.Spelling.{number_within};
-ghost use Rattle.pua_tree.specs.Tree.{is_dir_kind};
-ghost use Rattle.pua_tree.specs.ListTree.{node_entry};
-ghost use Rattle.pua_tree.specs.Lines.{line_read};
-ghost use Rattle.pua_tree.specs.Listing.{listing, entry_of, entries_of, admitted, only_if, node_of, tree_of, Entry as Said};
-ghost use Rattle.pua_tree.specs.Reading.{Gathers};
-
-/// The tree of which the bytes are a listing, under the numbers of the listing. The fault told is
+/// The tree of which the bytes are a listing, under the numbers of the listing. The fault is
 /// that of the first line that has one; `ListingFault::OutOfMemory` comes only where a growth was
 /// refused.
 pub fn read_listing(alloc: Global, bytes: &[u8]) -> Result<ListTree, ListingFault>
     ensures ok { IfOk result (λ tree. listing bytes.now ≡ Ok tree) }
     ensures err { IfErr result (λ fault. fault ≢ ListingFault.OutOfMemory → listing bytes.now ≡ Err fault) }
+{
+    read_tree(alloc, bytes)
+}
+
+/// The tree of which the bytes are a listing, kept in any way.
+fn read_tree<T: Gathered>(alloc: Global, bytes: &[u8]) -> Result<T, ListingFault>
+    ensures ok { IfOk result (λ tree. listing bytes.now ≡ Ok (T.content tree)) }
+    ensures err { IfErr result (λ fault. fault ≢ ListingFault.OutOfMemory
+        → listing bytes.now ≡ Err fault) }
 {
     let mut lines = bytes.lines();
     if !take_line(&mut lines, b"tree 1") {
@@ -62,8 +55,8 @@ pub fn read_listing(alloc: Global, bytes: &[u8]) -> Result<ListTree, ListingFaul
     if !take_line(&mut lines, b"0 dir") {
         return Err(ListingFault::BadLine(2));
     }
-    let Reading { rows, nodes, last } = read_entries(alloc, lines)?;
-    Ok(ListTree::new(rows, nodes, last + 1))
+    let Reading { tree, greatest: _ } = read_entries(alloc, lines)?;
+    Ok(tree)
 }
 
 /// Takes the next line. Answers whether there is one, and it is this.
@@ -77,10 +70,20 @@ fn take_line(lines: &mut Lines<'_>, text: &[u8]) -> bool
     }
 }
 
-/// Reads the lines behind the first two.
-fn read_entries(alloc: Global, lines: Lines<'_>) -> Result<Reading, ListingFault>
-    ensures ok { IfOk result (λ reading. (es : List Said) × Gathers reading es × (entries_of [] 3 lines.entry ≡ Ok es)) }
-    ensures err { IfErr result (λ fault. fault ≢ ListingFault.OutOfMemory → entries_of [] 3 lines.entry ≡ Err fault) }
+/// The tree of the lines so far, and the greatest number among them.
+#[derive(Drop)]
+struct Reading<T> {
+    tree: T,
+    greatest: u32,
+}
+
+/// Reads the lines after the first two.
+fn read_entries<T: Gathered>(alloc: Global, lines: Lines<'_>) -> Result<Reading<T>, ListingFault>
+    ensures ok { IfOk result (λ reading. (es : List Said)
+        × Gathers (T.content reading.tree) reading.greatest es
+        × (entries_of [] 3 lines.entry ≡ Ok es)) }
+    ensures err { IfErr result (λ fault. fault ≢ ListingFault.OutOfMemory
+        → entries_of [] 3 lines.entry ≡ Err fault) }
 {
     let mut reading = Reading::new(alloc)?;
     let mut n = 2;
@@ -91,56 +94,57 @@ fn read_entries(alloc: Global, lines: Lines<'_>) -> Result<Reading, ListingFault
     Ok(reading)
 }
 
-impl Reading {
-    ghost use Rattle.pua_tree.specs.Reading.{Gathers, IsGathered, gathered_tree, said};
-
+impl<T: Gathered> Reading<T> {
     /// The root alone.
-    fn new(alloc: Global) -> Result<Reading, ListingFault>
-        ensures ok { IfOk result (λ reading. Gathers reading []) }
+    fn new(alloc: Global) -> Result<Reading<T>, ListingFault>
+        ensures ok { IfOk result (λ reading. Gathers (T.content reading.tree) reading.greatest []) }
         ensures err { OnErr result (result ≡ Err ListingFault.OutOfMemory) }
     {
-        let mut nodes = Vec::new(alloc);
-        let root = Node {
-            id: NodeId::ROOT,
-            kind: Kind::Dir,
-            target: None,
-        };
-        if nodes.push(root).is_err() {
-            return Err(ListingFault::OutOfMemory);
+        match T::root_alone(alloc) {
+            Ok(tree) => Ok(Reading { tree, greatest: 0 }),
+            Err(OutOfMemory) => Err(ListingFault::OutOfMemory),
         }
-        Ok(Reading {
-            rows: Vec::new(alloc),
-            nodes,
-            last: 0,
-        })
     }
 
-    /// Reads line `n`, which comes behind those read so far.
+    /// Reads line `n`, which comes after those read so far.
     fn read(&mut self, alloc: Global, n: u32, text: &[u8]) -> Result<(), ListingFault>
-        requires { IsGathered self.old }
+        requires { (before : ℕ)
+            × IsGathered (T.content self.old.tree) self.old.greatest before × (n ≡ before + 1) }
         ensures room { OnOk result (n ≤ MOST_LINES) }
-        ensures exact { (es : List Said) → Gathers self.old es → n ≡ length es + 3 → MatchResult result
-            (λ _. (e : Said) × (entry_of es n text.now ≡ Ok e) × Gathers self.new (es ++ e ∷ []))
+        ensures exact { (es : List Said) → Gathers (T.content self.old.tree) self.old.greatest es
+            → n ≡ length es + 3 → MatchResult result
+            (λ _. (e : Said) × (entry_of es n text.now ≡ Ok e)
+            × Gathers (T.content self.new.tree) self.new.greatest (es ++ e ∷ []))
             (λ fault. fault ≢ ListingFault.OutOfMemory → entry_of es n text.now ≡ Err fault) }
     {
         let entry = self.entry(alloc, n, text)?;
-        self.add(n, entry)
+        if self.tree.look(entry.parent, &entry.name).is_some() {
+            return Err(ListingFault::Taken(n));
+        }
+        if n > MOST_LINES {
+            return Err(ListingFault::TooMany(n));
+        }
+        self.greatest = entry.number;
+        match self.tree.put(entry) {
+            Ok(()) => Ok(()),
+            Err(OutOfMemory) => Err(ListingFault::OutOfMemory),
+        }
     }
 
     /// What line `n` says, whether or not its name is free and there is room for it.
     fn entry(&self, alloc: Global, n: u32, text: &[u8]) -> Result<Entry, ListingFault>
-        requires { IsGathered self.now }
-        ensures { (es : List Said) → Gathers self.now es → MatchResult result
+        ensures { (es : List Said) → Gathers (T.content self.now.tree) self.now.greatest es
+            → MatchResult result
             (λ e. entry_of es n text.now ≡ admitted es n (said e))
             (λ fault. fault ≢ ListingFault.OutOfMemory → entry_of es n text.now ≡ Err fault) }
     {
         let Some(line) = read_line(text) else {
             return Err(ListingFault::BadLine(n));
         };
-        let Some(number) = number_after(self.last, line.number) else {
+        let Some(number) = number_after(self.greatest, line.number) else {
             return Err(ListingFault::BadNumber(n));
         };
-        let Some(parent) = dir_in(&self.nodes, line.parent) else {
+        let Some(parent) = dir_in(&self.tree, line.parent) else {
             return Err(ListingFault::BadParent(n));
         };
         let Ok(name) = Name::read(line.name) else {
@@ -155,66 +159,22 @@ impl Reading {
             target,
         })
     }
-
-    /// Adds the entry of line `n`.
-    fn add(&mut self, n: u32, entry: Entry) -> Result<(), ListingFault>
-        requires { IsGathered self.old }
-        ensures room { OnOk result (n ≤ MOST_LINES) }
-        ensures exact { (es : List Said) → Gathers self.old es → MatchResult result
-            (λ _. (admitted es n (said entry) ≡ Ok (said entry)) × (gathered_tree self.new ≡ tree_of (es ++ said entry ∷ [])))
-            (λ fault. fault ≢ ListingFault.OutOfMemory → admitted es n (said entry) ≡ Err fault) }
-    {
-        match row_place(&self.rows, entry.parent, &entry.name) {
-            Ok(_) => Err(ListingFault::Taken(n)),
-            Err(_) if n > MOST_LINES => Err(ListingFault::TooMany(n)),
-            Err(place) => self.insert(place, entry),
-        }
-    }
-
-    /// Puts the row of an entry into its place, and its node behind the others.
-    fn insert(&mut self, place: usize, entry: Entry) -> Result<(), ListingFault>
-        requires { place ≤ length self.old.rows.items }
-        ensures rows { OnOk result (self.new.rows.items ≡ insert self.old.rows.items place (record { dir = entry.parent; name = entry.name; node = entry.number })) }
-        ensures nodes { OnOk result (self.new.nodes.items ≡ self.old.nodes.items ++ record { id = entry.number; kind = entry.kind; target = entry.target } ∷ []) }
-        ensures last { OnOk result (self.new.last ≡ entry.number) }
-        ensures err { OnErr result (result ≡ Err ListingFault.OutOfMemory) }
-    {
-        let id = NodeId::new(entry.number);
-        let row = Row {
-            dir: entry.parent,
-            name: entry.name,
-            node: id,
-        };
-        let node = Node {
-            id,
-            kind: entry.kind,
-            target: entry.target,
-        };
-        if self.rows.insert(place, row).is_err() || self.nodes.push(node).is_err() {
-            return Err(ListingFault::OutOfMemory);
-        }
-        self.last = entry.number;
-        Ok(())
-    }
 }
 
 /// The number that a text writes, if it is one of a listing and above the last.
 fn number_after(last: u32, text: &[u8]) -> Option<u32>
-    ensures { result ≡ only_if (λ n. nat_lt last n) (number_within 1 999999 text.now) }
+    ensures { result ≡ only_if (λ n. nat_lt last n) (number_within 1 highest_listed text.now) }
 {
-    number_within(1, MOST_NUMBER, text).filter(|number| *number > last)
+    number_within(1, HIGHEST_LISTED, text).filter(|number| *number > last)
 }
 
-/// The directory among these nodes whose number a text writes.
-fn dir_in(nodes: &[Node], text: &[u8]) -> Option<NodeId>
-    requires { IsTrue (is_sorted nat_cmp (map node_entry nodes.now)) }
-    ensures { result ≡ only_if (λ n. is_dir_kind (option_map (λ node. node.kind) (find nat_cmp n (map node_entry nodes.now)))) (number_within 0 999999 text.now) }
+/// The directory of the tree whose number a text writes.
+fn dir_in<T: FileTree>(tree: &T, text: &[u8]) -> Option<NodeId>
+    ensures { result
+        ≡ only_if (is_dir (T.content tree.now)) (number_within 0 highest_listed text.now) }
 {
-    let id = NodeId::new(number_within(0, MOST_NUMBER, text)?);
-    match node_place(nodes, id) {
-        Ok(place) if nodes[place].kind == Kind::Dir => Some(id),
-        _ => None,
-    }
+    let id = NodeId::new(number_within(0, HIGHEST_LISTED, text)?);
+    (tree.kind(id) == Some(Kind::Dir)).then_some(id)
 }
 
 /// The target of line `n`, which a link has and nothing else.
@@ -225,7 +185,7 @@ fn target_of(alloc: Global, n: u32, line: &Line<'_>) -> Result<Option<Vec<u8>>, 
     if line.kind != Kind::Link {
         return Ok(None);
     }
-    match unspelled(alloc, line.last) {
+    match unspelled(alloc, line.target) {
         Ok(Some(target)) if is_target(target.as_slice()) => Ok(Some(target)),
         Ok(_) => Err(ListingFault::BadTarget(n)),
         Err(_) => Err(ListingFault::OutOfMemory),

@@ -17,7 +17,6 @@ pub struct Name {
 
 impl Model for Name {
     ghost use Rattle.std.specs.Prelude.{◌≡◌, ℕ, List, length, take, IsTrue};
-    ghost use Rattle.std.proofs.Common.{sym};
     ghost use Rattle.pua_tree.specs.Names.{is_name, padded};
 
     ghost Value = { List ℕ };
@@ -39,12 +38,13 @@ ghost use Rattle.std.specs.Ordering.{nat_cmp, as_partial_cmp};
 ghost use Rattle.std.specs.Cmp.Lexicographic.{slice_cmp, pointwise};
 ghost use Rattle.std.specs.Hash as fed;
 ghost use Rattle.std.specs.List.{list_all};
+ghost use Rattle.pua_tree.specs.Limits.{most_name};
 ghost use Rattle.pua_tree.specs.Names.{is_name, is_name_byte, padded};
 ghost use Rattle.pua_tree.specs.Spelling.{name_of};
 
 impl Name {
     /// The most bytes that a name has.
-    pub(crate) const MOST: usize = 255;
+    pub const MOST: usize = 255;
 
     /// The name that a text spells, or the first of its faults.
     pub fn read(spelling: &[u8]) -> Result<Name, NameFault>
@@ -174,12 +174,12 @@ fn is_name_byte(byte: u8) -> bool
     byte != 0 && byte != b'/'
 }
 
-/// The bytes and zeros behind them.
+/// The bytes and zeros after them.
 fn padded(bytes: &[u8]) -> [u8; 255]
-    requires { length bytes.now ≤ 255 }
+    requires { length bytes.now ≤ most_name }
     ensures { result ≡ padded bytes.now }
 {
-    let mut padded = [0; 255];
+    let mut padded = [0; Name::MOST];
     padded[..bytes.len()].copy_from_slice(bytes);
     padded
 }

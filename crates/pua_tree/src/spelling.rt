@@ -89,7 +89,7 @@ pub(crate) fn unspell_into(text: &[u8], room: &mut [u8]) -> Option<usize>
     Some(len)
 }
 
-/// The first byte that a text spells, and the text behind its spelling.
+/// The first byte that a text spells, and the text after its spelling.
 fn first_spelled(text: &[u8]) -> Option<(u8, &[u8])>
     requires { 0 < length text.now }
     ensures first { MatchOption result (unspelled text.now ≡ None)

@@ -5,6 +5,12 @@ use crate::name::Name;
 use crate::node::{Kind, NodeId};
 use std::alloc::Global;
 
+/// How many nodes may live in a tree, the root among them.
+pub const MOST_LIVING: usize = 65_535;
+
+/// The number that no node is given: those of a tree's nodes are below it.
+pub const NUMBER_END: u32 = 4_294_967_295;
+
 /// A tree of files: rows that give a node a name in a directory, the living nodes with their kinds
 /// and targets, and a number above each of them.
 pub trait FileTree {

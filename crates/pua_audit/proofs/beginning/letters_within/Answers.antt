@@ -5,7 +5,7 @@ use Rattle.std.proofs.lemmas.List.{length-map}
 use Rattle.pua_tree.specs.Tree.{name_cmp}
 use Rattle.pua_audit.specs.Reach.{alphabet_of}
 use Rattle.pua_audit.specs.Begin.{longest}
-use Rattle.pua_audit.specs.World.{is_letter}
+use Rattle.pua_audit.specs.Judge.{is_letter}
 use Rattle.pua_audit.specs.Laws.{Rises}
 use Rattle.pua_audit.specs.Ready.{part_bytes}
 use Rattle.pua_audit.specs.Alphabets.{AreParts}
@@ -23,7 +23,7 @@ returns-clause-begun g c = λ table h base after.
     let same : letters ≡ alphabet_of t names = c.in-Ok.ensures.letters ∙ ap (alphabet_of t) c.as_slice.ensures.value in
     let most : c.longest.result ≡ longest letters = c.longest.ensures.longest ∙ ap (λ l. longest (map part_bytes l)) c.as_slice-2.ensures.value in
     let product = same_product c.from.result c.args.limit c.longest.result (longest letters) c.from.ensures most in
-    begun t table h base texts c.args.limit after c.if-limit-gt-MOST_LETTERS.false few names c.in_ok-names.ensures letters same (subst (λ n. n ≤ 1023) product c.if-from-longest-gt-MOST_PATH.false)
+    begun t table h base texts c.args.limit after c.if-limit-gt-LETTER_LIMIT.false few names c.in_ok-names.ensures letters same (subst (λ n. n ≤ 1023) product c.if-from-longest-gt-PATH_LIMIT.false)
 
 pub returns-clause-sound : goal.returns-clause-sound
 returns-clause-sound g c =
@@ -35,9 +35,9 @@ returns-clause-sound g c =
     let most : c.longest.result ≡ longest letters = c.longest.ensures.longest ∙ ap (λ l. longest (map part_bytes l)) c.as_slice-2.ensures.value in
     let product = same_product c.from.result c.args.limit c.longest.result (longest letters) c.from.ensures most in
     record {
-      few = c.if-limit-gt-MOST_LETTERS.false;
+      few = c.if-limit-gt-LETTER_LIMIT.false;
       parts = subst AreParts c.as_slice-2.ensures.value c.longest.ensures.parts;
       known = subst (λ l. IsTrue (list_all is_letter l)) (sym same) (alphabet_letters t c.known.ensures texts names c.in_ok-names.ensures);
       rises = subst (Rises name_cmp) (sym same) (alphabet_rises t names);
-      short = subst (λ n. n ≤ 1023) product c.if-from-longest-gt-MOST_PATH.false;
+      short = subst (λ n. n ≤ 1023) product c.if-from-longest-gt-PATH_LIMIT.false;
     }

@@ -1,7 +1,7 @@
-use Rattle.std.proofs.Common.{Ok, Err, refl}
+use Rattle.std.proofs.Common.{Ok, Err, refl, sym}
 use Rattle.std.proofs.lemmas.Result.{err_from_is_err_and}
 use Rattle.pua_path.proofs.Arrival.{resolution_starts}
-use Rattle.pua_path.proofs.Fitting.{founds_fit}
+use Rattle.pua_path.proofs.Fitting.{founds_fit, resolutions_fit}
 use Rattle.pua_path.proofs.resolver.resolve.Goals as goal
 
 pub finish-requires : goal.finish-requires
@@ -24,3 +24,8 @@ pub returns-clause-fits : goal.returns-clause-fits
 returns-clause-fits g c =
     let text = c.args.text.now in
     founds_fit (g.P.Probe.tree c.args.probe.now) c.known.ensures c.args.from text.ending text.bytes c.args.mode (Ok c.in_ok-found.found) (returns-clause-exact g c)
+
+pub returns-clause-named : goal.returns-clause-named
+returns-clause-named g c =
+    let text = c.args.text.now in
+    ((resolutions_fit (g.P.Probe.tree c.args.probe.now) c.known.ensures).whole c.args.from text.ending text.bytes c.args.mode c.in_ok-found.found (sym (returns-clause-exact g c))).named

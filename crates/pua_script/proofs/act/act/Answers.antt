@@ -2,19 +2,20 @@ use Rattle.std.proofs.Common.{◌∷◌, sym, ap, ◌∙◌}
 use Rattle.pua_path.specs.declared.text.Ending.TheVariants as ending
 use Rattle.pua_policy.specs.Calls.{standard_table}
 use Rattle.pua_policy.specs.History.{Ended}
-use Rattle.pua_script.specs.Replay.{Leaves, effect, symlink_effect, on_two_paths, rename_found, node_named}
-use Rattle.pua_script.proofs.Doing.{all_acts, as_same}
+use Rattle.pua_path.specs.Fits.{node_named}
+use Rattle.pua_script.specs.Replay.{Leaves, effect, symlink_effect, on_two_paths, rename_found}
+use Rattle.pua_script.proofs.Doing.{as_same, attempts_same}
 use Rattle.pua_script.proofs.act.act.Goals as goal
 
 pub returns-in-Symlink-clause-exact : goal.returns-in-Symlink-clause-exact
-returns-in-Symlink-clause-exact g c = all_acts (g.T.FileTree.content c.args.tree.now) (g.T.FileTree.content c.symlink.new.tree) c.args.process.now c.symlink.new.process c.symlink.result _ _ (λ w h trees.
-    ap (effect standard_table w h) c.in-Symlink.is
-    ∙ (λ i. symlink_effect standard_table (trees i) h (sym c.bytes-in-Symlink.ensures i) (sym c.bytes-in-Symlink-2.ensures i))) c.symlink.ensures.exact
+returns-in-Symlink-clause-exact g c = λ w h trees s. attempts_same _ _ h c.symlink.result _ _ _
+    (ap (effect standard_table w h) c.in-Symlink.is
+    ∙ (λ i. symlink_effect standard_table (trees i) h (sym c.bytes-in-Symlink.ensures i) (sym c.bytes-in-Symlink-2.ensures i))) (c.symlink.ensures.exact h s)
 
 pub returns-in-Rename-clause-exact : goal.returns-in-Rename-clause-exact
-returns-in-Rename-clause-exact g c = all_acts (g.T.FileTree.content c.args.tree.now) (g.T.FileTree.content c.rename.new.tree) c.args.process.now c.rename.new.process c.rename.result _ _ (λ w h trees.
-    ap (effect standard_table w h) c.in-Rename.is
-    ∙ (λ i. on_two_paths (trees i) h ending.Dropped (sym c.bytes-in-Rename.ensures i) (sym c.bytes-in-Rename-2.ensures i) (λ a b. rename_found (trees i) h a b (node_named a)))) c.rename.ensures.exact
+returns-in-Rename-clause-exact g c = λ w h trees s. attempts_same _ _ h c.rename.result _ _ _
+    (ap (effect standard_table w h) c.in-Rename.is
+    ∙ (λ i. on_two_paths (trees i) h ending.Dropped (sym c.bytes-in-Rename.ensures i) (sym c.bytes-in-Rename-2.ensures i) (λ a b. rename_found (trees i) h a b (node_named a)))) (c.rename.ensures.exact h s)
 
 pub returns-in-Exit-clause-exact : goal.returns-in-Exit-clause-exact
 returns-in-Exit-clause-exact g c = λ w h trees s. as_same _ _ h _ _ _ _

@@ -4,8 +4,9 @@ use Rattle.std.proofs.lemmas.Option.{same_Some}
 use Rattle.std.specs.Prelude.{Some, None}
 use Rattle.std.specs.List.{list_any}
 use Rattle.pua_tree.specs.Tree.{above, climb}
-use Rattle.pua_tree.proofs.Sound.{climb_here, climb_root}
-use Rattle.pua_policy.proofs.Climbs.{is_dir_above, length-climb_step}
+use Rattle.pua_tree.proofs.ForCallers.{climb_here, climb_root}
+use Rattle.pua_path.proofs.ForCallers.{above_lives}
+use Rattle.pua_policy.proofs.ForCallers.{length-climb_step}
 use Rattle.pua_script.proofs.Renaming.{climb_other}
 use Rattle.pua_script.proofs.rename.is_within.Goals as goal
 use Rattle.pua_script.proofs.rename.is_within.Goals.{In-Some}
@@ -48,7 +49,7 @@ loop-node-preserved g c =
     let living = c.loop-node.invariant.living in
     let other : (at == c.args.node) ≡ false = sym c.eq.ensures ∙ c.if-eq.false in
     record {
-      living = rw (goes_up g c) (is_dir_above t c.known.ensures at);
+      living = rw (goes_up g c) (above_lives t at c.known.ensures);
       same = ap (λ d. list_any (λ e. e == c.args.node) (climb t d)) (goes_up g c)
           ∙ sym (climb_other t c.known.ensures at c.args.node (is_higher g c) living other)
           ∙ c.loop-node.invariant.same;

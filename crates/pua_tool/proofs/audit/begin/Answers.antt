@@ -1,4 +1,4 @@
-use Rattle.std.proofs.Common.{◌≡◌, ◌≢◌, List, sym, ◌∙◌, subst, Ok, Err}
+use Rattle.std.proofs.Common.{◌≡◌, ◌≢◌, sym, ◌∙◌, subst, Ok, Err}
 use Rattle.std.proofs.lemmas.Result.{err_from_is_err_and}
 use Rattle.pua_tree.specs.Tree.{Tree}
 use Rattle.pua_policy.specs.Calls.{standard_table}
@@ -19,8 +19,7 @@ returns-in-Ok-clause-begun c =
     let of = c.in-Ok.ensures.of in
     let tree : c.new-probe.result.tree ≡ done.0.world.tree = c.new-probe.ensures.tree ∙ c.tree.ensures ∙ done.2.stands.tree in
     let same : beginning done.0.world.tree standard_table made.history w.base w.candidates w.limit w.after ≡ Ok begins.0 =
-    subst (λ (t : Tree). beginning t standard_table made.history w.base w.candidates w.limit w.after ≡ Ok begins.0) tree begins.1.0 in
-    (
+    subst (λ (t : Tree). beginning t standard_table made.history w.base w.candidates w.limit w.after ≡ Ok begins.0) tree begins.1.0 in (
       record { told = done.0.told; beginning = begins.0 },
       begun_is standard_table c.args.tree_bytes.now c.args.script_bytes.now w done.0 made.history begins.0 done.1 made.is same,
       record {

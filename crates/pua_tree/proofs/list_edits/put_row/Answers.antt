@@ -2,7 +2,8 @@ use Rattle.std.proofs.Common.{refl}
 use Rattle.pua_tree.specs.Tree.{Spot}
 use Rattle.pua_tree.specs.ListTree.{row_entry}
 use Rattle.pua_tree.proofs.Content.{spots_total}
-use Rattle.pua_tree.proofs.Places.{passed, replaced_at, inserted_at}
+use Rattle.std.specs.Bool.{passes}
+use Rattle.pua_tree.proofs.Places.{replaced_at, inserted_at}
 use Rattle.pua_tree.proofs.list_edits.put_row.Goals as goal
 
 pub returns-in-Ok : goal.returns-in-Ok
@@ -11,7 +12,7 @@ returns-in-Ok c =
     let spot : Spot = (c.args.row.dir, c.args.row.name) in
     let found = rw c.deref.ensures.value at c.in-Ok.ensures.found in
     let here = rw c.deref.ensures.value at c.in-Ok.ensures.spot in
-    replaced_at spots_total row_entry rows spot c.args.row.node c.in-Ok.place c.args.row (passed _ c.requires.order) found.0 here refl
+    replaced_at spots_total row_entry rows spot c.args.row.node c.in-Ok.place c.args.row (passes _ c.requires.order) found.0 here refl
 
 pub returns-in-Err : goal.returns-in-Err
 returns-in-Err c =

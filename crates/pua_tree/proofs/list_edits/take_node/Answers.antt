@@ -1,7 +1,8 @@
 use Rattle.std.proofs.Common.{sym}
 use Rattle.std.specs.Cmp.{nat_cmp_total}
 use Rattle.pua_tree.specs.ListTree.{node_entry}
-use Rattle.pua_tree.proofs.Places.{passed, removed_at, absent_removed}
+use Rattle.std.specs.Bool.{passes}
+use Rattle.pua_tree.proofs.Places.{removed_at, absent_removed}
 use Rattle.pua_tree.proofs.list_edits.take_node.Goals as goal
 
 pub returns-in-Ok : goal.returns-in-Ok
@@ -9,7 +10,7 @@ returns-in-Ok c =
     let nodes = c.args.nodes.now.items in
     let found = rw c.deref.ensures.value at c.in-Ok.ensures.found in
     let here = rw c.deref.ensures.value at c.in-Ok.ensures.number in
-    rw c.remove.ensures.items (removed_at nat_cmp_total node_entry nodes c.args.id c.in-Ok.place (passed _ c.requires) found.0 here)
+    rw c.remove.ensures.items (removed_at nat_cmp_total node_entry nodes c.args.id c.in-Ok.place (passes _ c.requires) found.0 here)
 
 pub returns-in_default : goal.returns-in_default
 returns-in_default c =

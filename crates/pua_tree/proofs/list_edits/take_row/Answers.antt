@@ -1,7 +1,8 @@
 use Rattle.pua_tree.specs.Tree.{Spot}
 use Rattle.pua_tree.specs.ListTree.{row_entry}
 use Rattle.pua_tree.proofs.Content.{spots_total}
-use Rattle.pua_tree.proofs.Places.{passed, removed_at}
+use Rattle.std.specs.Bool.{passes}
+use Rattle.pua_tree.proofs.Places.{removed_at}
 use Rattle.pua_tree.proofs.list_edits.take_row.Goals as goal
 
 pub returns-clause-rows : goal.returns-clause-rows
@@ -10,4 +11,4 @@ returns-clause-rows c =
     let spot : Spot = (c.args.dir, c.args.name.now) in
     let found = rw (c.deref.ensures.value, c.unwrap-place.ensures) at c.row_place.ensures.found in
     let here = rw (c.deref.ensures.value, c.unwrap-place.ensures) at c.row_place.ensures.spot in
-    rw c.remove.ensures.items (removed_at spots_total row_entry rows spot c.unwrap-place.result (passed _ c.requires.order) found.0 here)
+    rw c.remove.ensures.items (removed_at spots_total row_entry rows spot c.unwrap-place.result (passes _ c.requires.order) found.0 here)

@@ -10,7 +10,7 @@ pub returns-in-Ok-Some-clause-ok : goal.returns-in-Ok-Some-clause-ok
 returns-in-Ok-Some-clause-ok c =
     let line = line_read c.args.line.now in
     let target = c.in-Ok-Some.target.items in
-    let spelled : unspelled line.last ≡ Some target = sym (rw (c.in-Ok-Some.is, c.in-Ok-Some.field-0-is) at c.unspelled.ensures) in
+    let spelled : unspelled line.target ≡ Some target = sym (rw (c.in-Ok-Some.is, c.in-Ok-Some.field-0-is) at c.unspelled.ensures) in
     let tested : IsTrue (is_target target) = cc in
     let is_link : line.kind ≡ Link = search rules in
     link_target c.args.n line target is_link spelled tested

@@ -1,5 +1,5 @@
-use Rattle.std.proofs.Common.{◌≡◌, refl, rules, List, ap, ◌∙◌, map}
-use Rattle.std.specs.Prelude.{option_map}
+use Rattle.std.proofs.Common.{◌≡◌, refl, rules, ℕ, List, [], sym, ap, ◌∙◌, map}
+use Rattle.std.specs.Prelude.{Result, Ok, Err, option_map}
 use Rattle.pua_tree.specs.Tree.{Tree}
 use Rattle.pua_path.specs.declared.found.Part.{Part}
 use Rattle.pua_policy.specs.Calls.{standard_table}
@@ -8,8 +8,12 @@ use Rattle.pua_audit.specs.Past.{history_of}
 use Rattle.pua_audit.specs.Reach.{Scope, rest_after}
 use Rattle.pua_audit.specs.Begin.{Beginning}
 use Rattle.pua_audit.specs.Alphabets.{AreParts}
-use Rattle.pua_audit.specs.Ready.{part_bytes, scope_in}
+use Rattle.pua_audit.specs.Plain.{is_plain_alphabet}
+use Rattle.pua_audit.specs.Ready.{part_bytes, letters_of, scope_in}
 use Rattle.pua_audit.specs.Starting.{pair_in, scope_with, beginning_with}
+use Rattle.pua_audit.specs.declared.fault.AuditFault.{AuditFault}
+use Rattle.pua_audit.specs.declared.terms.Terms.{Terms}
+use Rattle.pua_audit.proofs.PlainPaths.{marked}
 use Rattle.pua_audit.proofs.Pasts.{stands_for_past, rest_by_process}
 use Rattle.pua_audit.proofs.audit.Audit.begin.Goals as goal
 
@@ -42,3 +46,20 @@ returns-clause-begun g c = λ h stands.
         refl,
       ),
     )
+
+pub invariant_of-result : goal.invariant_of-result
+invariant_of-result g c = (
+  c.in-Ok-begin.ensures.ready,
+  marked c.are_plain-plain.result c.in-Ok-begin.walk c.in-Ok.terms _ (c.are_plain-plain.ensures ∙ ap (λ (ls : List Part). is_plain_alphabet (map part_bytes ls)) c.as_slice.ensures.value)
+      c.in-Ok-begin.ensures.terms c.in-Ok-begin.ensures.left,
+)
+
+abbrev alphabet_in : Result Beginning AuditFault → List (List ℕ)
+alphabet_in (Ok b) = b.scope.alphabet
+alphabet_in (Err fault) = []
+
+pub returns-clause-letters : goal.returns-clause-letters
+returns-clause-letters g c = λ h b is.
+    ap (λ (u : Terms). letters_of u) c.in-Ok-begin.ensures.terms
+    ∙ ap (λ (v : List Part). map part_bytes v) (ap (λ v. v.items) c.in-Ok.ensures.letters.1)
+    ∙ ap alphabet_in (sym (c.in_ok-letters.ensures.begun standard_table h) ∙ is)

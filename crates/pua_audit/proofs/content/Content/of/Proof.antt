@@ -1,4 +1,7 @@
 -- `of` makes a value of no bytes, whose ghost field is the content that the caller picks.
+-- This file is over internal modules of the toolchain (mir, seplogic, base and others), which no guide describes and which may change with each
+-- toolchain. No other proof of the repository is. Where a new toolchain refuses it, start from the goal that a check prints, and from the toolchain's
+-- own proofs of values with a ghost field.
 use mathlib.Core.Path.{refl, sym, subst}
 use Prim.Native.Nat.{ℕ}
 use mathlib.Core.List.{List, [], ◌∷◌, ◌++◌}

@@ -4,7 +4,7 @@ use Rattle.std.proofs.lemmas.List.{length_push}
 use Rattle.pua_policy.specs.Calls.{calls}
 use Rattle.pua_policy.specs.declared.call.Call.{Call}
 use Rattle.pua_policy.specs.declared.call.Call.TheVariants.{Stat}
-use Rattle.pua_audit.specs.Ready.{world_in, letters_of, place_of}
+use Rattle.pua_audit.specs.Ready.{judge_in, letters_of, place_of}
 use Rattle.pua_audit.proofs.Letters.{allows_own, call_kept, call_dropped, calls_decided}
 use Rattle.pua_audit.proofs.terms.Terms.decide.Goals.{then-allows, else-allows}
 use Rattle.pua_audit.proofs.terms.Terms.decide.Goals as goal
@@ -12,7 +12,7 @@ use Rattle.pua_audit.proofs.terms.Terms.decide.Goals as goal
 pub loop-call-preserved : goal.loop-call-preserved
 loop-call-preserved g c =
     let a = c.args.self.now in
-    let own : Call → Bool = (world_in a).own (place_of (letters_of a) c.args.place.now) in
+    let own : Call → Bool = (judge_in a).own (place_of (letters_of a) c.args.place.now) in
     let i : ℕ = c.loop-call.call-index in
     let call : Call = get_or calls i Stat in
     let within : i < length calls = omega (arith, c.loop-call-test.true) in
@@ -41,4 +41,4 @@ loop-call-preserved g c =
 pub returns-clause-calls : goal.returns-clause-calls
 returns-clause-calls g c =
     let a = c.args.self.now in
-    c.loop-call.invariant.decided ∙ calls_decided (world_in a) (place_of (letters_of a) c.args.place.now) c.loop-call.call-index (omega (arith, c.loop-call-test.false))
+    c.loop-call.invariant.decided ∙ calls_decided (judge_in a) (place_of (letters_of a) c.args.place.now) c.loop-call.call-index (omega (arith, c.loop-call-test.false))

@@ -1,7 +1,7 @@
 use Rattle.std.proofs.Common.{ap, sym, ◌∙◌}
 use Rattle.std.specs.Prelude.{Ok}
 use Rattle.pua_path.specs.declared.found.Found.TheVariants.{Whole}
-use Rattle.pua_audit.specs.World.{base_dir}
+use Rattle.pua_audit.specs.Judge.{base_dir}
 use Rattle.pua_audit.specs.Past.{history_of}
 use Rattle.pua_audit.specs.Ready.{found_from}
 use Rattle.pua_audit.proofs.terms.Terms.found.Goals as goal

@@ -13,4 +13,3 @@ returns-clause-value g c =
     let part : c.index-part.result.now ≡ get_or a.letters.items c.args.letter Dot = grind (arith, common_steps) in
     c.last.ensures.exact ∙ ap (λ t. last t c.args.state.dir c.args.state.used c.index-part.result.now c.args.mode) c.requires.tree
     ∙ ap (λ p. last a.seen.tree c.args.state.dir c.args.state.used p c.args.mode) (part ∙ sym (letter_part a.letters.items c.args.letter Dot c.requires.sound.parts c.requires.at.1))
-

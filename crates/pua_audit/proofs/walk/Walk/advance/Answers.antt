@@ -1,7 +1,7 @@
 use Rattle.std.proofs.Common.{◌≡◌, ◌++◌, ◌∷◌, [], length, sym, ap, ◌∙◌, arith, None}
 use Rattle.std.proofs.lemmas.Grind.{common_steps}
 use Rattle.pua_audit.specs.Trail.{lines_of, pending, everywhere}
-use Rattle.pua_audit.specs.Ready.{letters_of, world_in, word_of, trail, left_over}
+use Rattle.pua_audit.specs.Ready.{letters_of, judge_in, word_of, trail, left_over}
 use Rattle.pua_audit.specs.declared.terms.Terms.{Terms}
 use Rattle.pua_audit.proofs.Moves.{shortened_by}
 use Rattle.pua_audit.proofs.walk.Walk.advance.Given.{Over}
@@ -23,9 +23,9 @@ module _ (g : Over) (c : goal.After-turn-2 g) where
       let b = c.leave.new.self in
       let same : b.terms ≡ a.terms = c.leave.ensures.kept.0 in
       let frames : b.frames.items ≡ a.frames.items = ap (λ v. v.items) c.leave.ensures.kept.4 in
-      shortened_by (world_in a.terms) (letters_of a.terms) a.terms.limit a.word.items b.word.items a.frames.items (c.requires.ready.framed c.requires.going) c.leave.ensures.word
-      ∙ ap (λ fs. pending (world_in a.terms) everywhere (letters_of a.terms) a.terms.limit 0 (word_of (letters_of a.terms) b.word.items) fs) (sym frames)
-      ∙ ap (λ (t : Terms). pending (world_in t) everywhere (letters_of t) t.limit 0 (word_of (letters_of t) b.word.items) b.frames.items) (sym same)
+      shortened_by (judge_in a.terms) (letters_of a.terms) a.terms.limit a.word.items b.word.items a.frames.items (c.requires.ready.framed c.requires.going) c.leave.ensures.word
+      ∙ ap (λ fs. pending (judge_in a.terms) everywhere (letters_of a.terms) a.terms.limit 0 (word_of (letters_of a.terms) b.word.items) fs) (sym frames)
+      ∙ ap (λ (t : Terms). pending (judge_in t) everywhere (letters_of t) t.limit 0 (word_of (letters_of t) b.word.items) b.frames.items) (sym same)
 
 pub returns-in-Some-clause-lines : goal.returns-in-Some-clause-lines
 returns-in-Some-clause-lines g c = λ h. ap lines_of (opened g c ∙ ap (λ es. None ∷ es) (c.turn.ensures.waiting h))

@@ -1,9 +1,9 @@
 use Rattle.std.proofs.Common.{◌≡◌, true, not, sym, ap, ◌∙◌}
 use Rattle.std.specs.Prelude.{option_map}
 use Rattle.pua_audit.specs.Reach.{rest_after}
-use Rattle.pua_audit.specs.World.{reach_along}
+use Rattle.pua_audit.specs.Judge.{reach_along}
 use Rattle.pua_audit.specs.Trail.{lines_of}
-use Rattle.pua_audit.specs.Ready.{scope_in, letters_of, world_in, along_after}
+use Rattle.pua_audit.specs.Ready.{scope_in, letters_of, judge_in, along_after}
 use Rattle.pua_audit.specs.Starting.{pair_in}
 use Rattle.pua_audit.specs.declared.terms.Terms.{Terms}
 use Rattle.pua_audit.proofs.Moves.{nothing_left}
@@ -22,7 +22,7 @@ returns-in_default-clause-left g c =
     let a = c.args.terms in
     let opened = sym c.is_open-open.ensures.open ∙ c.if-not-open.false in
     decided_lines c.in_ok-walk.walk c.decide.new.self (c.in_ok-walk.ensures.fresh (ap not c.if-not-open.false)) c.decide.ensures.kept c.decide.ensures.calls
-    ∙ ap (λ (t : Terms). reach_along (world_in t) (letters_of t) t.limit) c.in_ok-walk.ensures.terms
+    ∙ ap (λ (t : Terms). reach_along (judge_in t) (letters_of t) t.limit) c.in_ok-walk.ensures.terms
     ∙ all_along a c.requires.sound c.requires.letters opened
     ∙ ap (λ o. rest_after (scope_in a) (option_map (pair_in (letters_of a)) o)) (sym c.in_default.is)
 

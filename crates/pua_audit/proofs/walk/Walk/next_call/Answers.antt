@@ -1,6 +1,6 @@
 use Rattle.std.proofs.Common.{◌≡◌, ◌∷◌, [], true, false, refl, sym, ap, ◌∙◌}
 use Rattle.pua_audit.specs.Trail.{lines_of, ahead, everywhere}
-use Rattle.pua_audit.specs.Ready.{letters_of, world_in, word_in, place_in, left_in, trail}
+use Rattle.pua_audit.specs.Ready.{letters_of, judge_in, word_in, place_in, left_in, trail}
 use Rattle.pua_audit.specs.declared.walk.Walk.{Walk}
 use Rattle.pua_audit.proofs.Moves.{given_by, nothing_left}
 use Rattle.pua_audit.proofs.walk.Walk.next_call.Goals as goal
@@ -18,8 +18,8 @@ returns-in-Some-clause-next g c =
     ] refl in (
       ap (λ (s : Walk). s.done) c.in-Some.ensures.0 ∙ going,
       c.words.invariant.so_far
-          ∙ ap lines_of (given_by (world_in a.terms) (letters_of a.terms) a.terms.limit a.done (word_in a) (place_in a) (left_in a) a.frames.items going call (left_in b) first)
-          ∙ ap (λ (s : Walk). (word_in s, call) ∷ lines_of (ahead (world_in s.terms) everywhere (letters_of s.terms) s.terms.limit s.done (word_in s) (place_in s) (left_in b) s.frames.items)) (sym c.in-Some.ensures.0),
+          ∙ ap lines_of (given_by (judge_in a.terms) (letters_of a.terms) a.terms.limit a.done (word_in a) (place_in a) (left_in a) a.frames.items going call (left_in b) first)
+          ∙ ap (λ (s : Walk). (word_in s, call) ∷ lines_of (ahead (judge_in s.terms) everywhere (letters_of s.terms) s.terms.limit s.done (word_in s) (place_in s) (left_in b) s.frames.items)) (sym c.in-Some.ensures.0),
     )
 
 pub returns-then-self-clause-next : goal.returns-then-self-clause-next

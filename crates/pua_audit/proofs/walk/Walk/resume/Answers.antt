@@ -6,7 +6,7 @@ use Rattle.pua_policy.specs.declared.call.Call.{Call}
 use Rattle.pua_audit.specs.Laws.{Rises}
 use Rattle.pua_audit.specs.Trail.{lines_of, ahead, everywhere}
 use Rattle.pua_audit.specs.Starting.{pair_in}
-use Rattle.pua_audit.specs.Ready.{part_bytes, letters_of, world_in, word_of, place_of, word_in, place_in, left_in, step_from, along_after}
+use Rattle.pua_audit.specs.Ready.{part_bytes, letters_of, judge_in, word_of, place_of, word_in, place_in, left_in, step_from, along_after}
 use Rattle.pua_audit.specs.declared.terms.Terms.{Terms}
 use Rattle.pua_audit.specs.declared.walk.Walk.{Walk}
 use Rattle.pua_audit.proofs.Entered.{entered_ready}
@@ -25,7 +25,7 @@ loop-letter-init g c =
       going = c.requires.fresh.going;
       along = ap length c.requires.fresh.word;
       tree = refl;
-      so_far = start_by (world_in a.terms) (letters_of a.terms) a.terms.limit a.word.items a.place a.frames.items (word_of (letters_of a.terms) c.args.after.now.word.items) c.args.after.now.call c.requires.fresh.word c.requires.fresh.place c.requires.fresh.frames;
+      so_far = start_by (judge_in a.terms) (letters_of a.terms) a.terms.limit a.word.items a.place a.frames.items (word_of (letters_of a.terms) c.args.after.now.word.items) c.args.after.now.call c.requires.fresh.word c.requires.fresh.place c.requires.fresh.frames;
     }
 
 pub returns-in_default-clause-left : goal.returns-in_default-clause-left
@@ -35,7 +35,7 @@ returns-in_default-clause-left g c =
     let d : ℕ = c.loop-letter.letter-index in
     let within : d < length way = omega (arith, c.loop-letter-test.true, ap length c.deref-letter-items.ensures.value) in
     let none : step_from a.terms a.place ≡ None = sym c.step.ensures.value ∙ c.in_default.is in
-    sym (stop_by (world_in a.terms) (letters_of a.terms) a.terms.limit a.word.items a.place a.frames.items way d c.args.after.now.call a.done (left_in a) c.loop-letter.invariant.going within none c.loop-letter.invariant.left)
+    sym (stop_by (judge_in a.terms) (letters_of a.terms) a.terms.limit a.word.items a.place a.frames.items way d c.args.after.now.call a.done (left_in a) c.loop-letter.invariant.going within none c.loop-letter.invariant.left)
     ∙ c.loop-letter.invariant.so_far ∙ ap (λ (t : Terms). along_after t (pair_in (letters_of t) c.args.after.now)) c.loop-letter.invariant.terms
 
 pub loop-letter-preserved : goal.loop-letter-preserved
@@ -65,8 +65,8 @@ loop-letter-preserved g c =
       going = c.enter.ensures.kept.1 ∙ c.loop-letter.invariant.going;
       along = omega (arith, longer, c.loop-letter.invariant.along);
       tree = c.step.ensures.tree ∙ c.loop-letter.invariant.tree;
-      so_far = ap (λ (t : Terms). to_give (world_in t) everywhere (letters_of t) t.limit (word_of (letters_of t) b.word.items) (place_of (letters_of t) b.place) b.frames.items (word_of (letters_of t) (drop (d + 1) way)) c.args.after.now.call) same
-          ∙ sym (step_by (world_in a.terms) (letters_of a.terms) a.terms.limit a.word.items a.place a.frames.items way d c.args.after.now.call (subst (λ (t : Terms). Rises name_cmp (letters_of t)) (sym c.loop-letter.invariant.terms) c.requires.rises) b.word.items b.place b.frames.items c.in-Some.state j within step place known short even c.enter.ensures.frames c.enter.ensures.word c.enter.ensures.place)
+      so_far = ap (λ (t : Terms). to_give (judge_in t) everywhere (letters_of t) t.limit (word_of (letters_of t) b.word.items) (place_of (letters_of t) b.place) b.frames.items (word_of (letters_of t) (drop (d + 1) way)) c.args.after.now.call) same
+          ∙ sym (step_by (judge_in a.terms) (letters_of a.terms) a.terms.limit a.word.items a.place a.frames.items way d c.args.after.now.call (subst (λ (t : Terms). Rises name_cmp (letters_of t)) (sym c.loop-letter.invariant.terms) c.requires.rises) b.word.items b.place b.frames.items c.in-Some.state j within step place known short even c.enter.ensures.frames c.enter.ensures.word c.enter.ensures.place)
           ∙ c.loop-letter.invariant.so_far
           ∙ ap (λ (t : Terms). along_after t (pair_in (letters_of t) c.args.after.now)) (sym same);
     }
@@ -80,6 +80,6 @@ returns-clause-left g c =
     let call : Call = c.args.after.now.call in
     let past : length way ≤ d = omega (arith, c.loop-letter-test.false, ap length c.deref-letter-items.ensures.value) in
     let kept = c.keep_behind.ensures.calls ∙ ap (filter (λ (other : Call). nat_lt (call_number call) (call_number other))) c.decide.ensures.calls in
-    ap (λ (s : Walk). lines_of (ahead (world_in s.terms) everywhere (letters_of s.terms) s.terms.limit s.done (word_in s) (place_in s) (drop s.given left) s.frames.items)) c.decide.ensures.kept
-    ∙ sym (end_by (world_in a.terms) (letters_of a.terms) a.terms.limit a.word.items a.place a.frames.items way d call a.done left c.loop-letter.invariant.going past kept)
+    ap (λ (s : Walk). lines_of (ahead (judge_in s.terms) everywhere (letters_of s.terms) s.terms.limit s.done (word_in s) (place_in s) (drop s.given left) s.frames.items)) c.decide.ensures.kept
+    ∙ sym (end_by (judge_in a.terms) (letters_of a.terms) a.terms.limit a.word.items a.place a.frames.items way d call a.done left c.loop-letter.invariant.going past kept)
     ∙ c.loop-letter.invariant.so_far ∙ ap (λ (t : Terms). along_after t (pair_in (letters_of t) c.args.after.now)) c.loop-letter.invariant.terms

@@ -1,7 +1,7 @@
 use Rattle.std.proofs.Common.{◌≡◌, ℕ, ◌+◌, ◌-◌, length-take, ◌<◌, ◌≤◌, length, [], ◌∷◌, ◌++◌, false, sym, arith, ◌∙◌, ap, drop, subst}
 use Rattle.std.proofs.lemmas.List.{length_push, length-map}
 use Rattle.pua_audit.specs.Trail.{pending, everywhere}
-use Rattle.pua_audit.specs.Ready.{part_bytes, letters_of, world_in, word_of, IsState, IsSound, Frames, left_in}
+use Rattle.pua_audit.specs.Ready.{part_bytes, letters_of, judge_in, word_of, IsState, IsSound, Frames, left_in}
 use Rattle.pua_audit.specs.declared.terms.Terms.{Terms}
 use Rattle.pua_audit.proofs.Entered.{entered_ready}
 use Rattle.pua_audit.proofs.Moves.{taken_by, left_by, none_left, all_front}
@@ -18,8 +18,8 @@ returns-then-frame-len-clause-waiting c = λ _.
     let many : length (letters_of b.terms) ≡ length a.terms.letters.items = length-map b.terms.letters.items part_bytes ∙ ap (λ (t : Terms). length t.letters.items) same in
     let more : c.in-Some.frame.next < length (letters_of b.terms) = omega (arith, many) in
     c.loop-frame.invariant.so_far
-    ∙ ap (λ (t : Terms). pending (world_in t) everywhere (letters_of t) t.limit 0 (word_of (letters_of t) a.word.items) a.frames.items) (sym same)
-    ∙ taken_by (world_in b.terms) (letters_of b.terms) b.terms.limit b.done a.word.items b.word.items a.frames.items c.pop.new.self.items b.frames.items c.in-Some.frame b.place going split even more c.enter.ensures.frames c.enter.ensures.word c.enter.ensures.place
+    ∙ ap (λ (t : Terms). pending (judge_in t) everywhere (letters_of t) t.limit 0 (word_of (letters_of t) a.word.items) a.frames.items) (sym same)
+    ∙ taken_by (judge_in b.terms) (letters_of b.terms) b.terms.limit b.done a.word.items b.word.items a.frames.items c.pop.new.self.items b.frames.items c.in-Some.frame b.place going split even more c.enter.ensures.frames c.enter.ensures.word c.enter.ensures.place
 
 pub returns-then-frame-len-clause-ready : goal.returns-then-frame-len-clause-ready
 returns-then-frame-len-clause-ready c =
@@ -58,9 +58,9 @@ loop-frame-preserved c =
       most = omega (arith, ap length frames, even, c.loop-frame.invariant.within, ap (λ (t : Terms). t.limit) same);
       going = c.leave.ensures.kept.1 ∙ c.loop-frame.invariant.going;
       so_far = c.loop-frame.invariant.so_far
-          ∙ left_by (world_in a.terms) (letters_of a.terms) a.terms.limit a.word.items b.word.items a.frames.items c.pop.new.self.items b.frames.items c.in-Some.frame split even none c.leave.ensures.word frames
-          ∙ ap (λ (t : Terms). pending (world_in t) everywhere (letters_of t) t.limit 0 (word_of (letters_of t) b.word.items) b.frames.items) (sym same);
+          ∙ left_by (judge_in a.terms) (letters_of a.terms) a.terms.limit a.word.items b.word.items a.frames.items c.pop.new.self.items b.frames.items c.in-Some.frame split even none c.leave.ensures.word frames
+          ∙ ap (λ (t : Terms). pending (judge_in t) everywhere (letters_of t) t.limit 0 (word_of (letters_of t) b.word.items) b.frames.items) (sym same);
     }
 
 pub returns-clause-none : goal.returns-clause-none
-returns-clause-none c = λ _. c.loop-frame.invariant.so_far ∙ none_left (world_in c.loop-frame.self.terms) (letters_of c.loop-frame.self.terms) c.loop-frame.self.terms.limit _ c.loop-frame.self.frames.items (omega (arith, c.in_default.ensures.cases))
+returns-clause-none c = λ _. c.loop-frame.invariant.so_far ∙ none_left (judge_in c.loop-frame.self.terms) (letters_of c.loop-frame.self.terms) c.loop-frame.self.terms.limit _ c.loop-frame.self.frames.items (omega (arith, c.in_default.ensures.cases))

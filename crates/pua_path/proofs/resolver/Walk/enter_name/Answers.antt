@@ -1,10 +1,6 @@
-use Rattle.std.proofs.Common.{Some, None, sym, ap, ◌∙◌}
-use Rattle.pua_path.specs.Resolution.{resolve_parts, Plain, Nothing}
-use Rattle.pua_path.specs.Walks.{goes_on}
-use Rattle.pua_path.specs.declared.errno.Errno.TheVariants.{ENOENT, ENOTDIR}
-use Rattle.pua_path.specs.declared.found.Found.TheVariants.{Slot}
+use Rattle.pua_path.specs.Resolution.{resolve_parts}
 use Rattle.pua_path.proofs.Living.{start_lives, potential_linked}
-use Rattle.pua_path.proofs.Steps.{resolve_name, ends}
+use Rattle.pua_path.proofs.Steps.{resolve_plain, resolve_nothing}
 use Rattle.pua_path.proofs.resolver.Walk.enter_name.Goals as goal
 
 pub returns-in_ok-follow-in-Linked-clause-ready : goal.returns-in_ok-follow-in-Linked-clause-ready
@@ -23,15 +19,13 @@ returns-in_ok-follow-in-Linked-clause-potential g c =
 pub returns-in-Plain-clause-exact : goal.returns-in-Plain-clause-exact
 returns-in-Plain-clause-exact g c =
     let t = g.P.Probe.tree c.args.probe.now in
-    let further = resolve_parts c.args.self.now.left t c.args.mode c.args.self.now.here c.args.self.now.way c.args.self.now.rest.parts in
-    resolve_name t c.args.mode c.args.self.now.left c.args.self.now.here c.args.self.now.way c.args.name.now c.args.self.now.rest.parts (Plain c.in-Plain.node) c.in-Plain.ensures.standing
-    ∙ sym (ends c.args.self.now.rest.parts (Slot c.args.self.now.here c.args.name.now (Some c.in-Plain.node)) ENOTDIR c.args.self.now.left further)
-    ∙ ap (λ r. goes_on r c.args.self.now.left further) (sym c.end_at.ensures)
+    let walk = c.args.self.now in
+    resolve_plain t c.args.mode walk.left walk.here walk.way c.args.name.now walk.rest.parts c.in-Plain.node c.end_at.result
+    (resolve_parts walk.left t c.args.mode walk.here walk.way walk.rest.parts) c.in-Plain.ensures.standing c.end_at.ensures
 
 pub returns-in-Nothing-clause-exact : goal.returns-in-Nothing-clause-exact
 returns-in-Nothing-clause-exact g c =
     let t = g.P.Probe.tree c.args.probe.now in
-    let further = resolve_parts c.args.self.now.left t c.args.mode c.args.self.now.here c.args.self.now.way c.args.self.now.rest.parts in
-    resolve_name t c.args.mode c.args.self.now.left c.args.self.now.here c.args.self.now.way c.args.name.now c.args.self.now.rest.parts Nothing c.in-Nothing.ensures.standing
-    ∙ sym (ends c.args.self.now.rest.parts (Slot c.args.self.now.here c.args.name.now None) ENOENT c.args.self.now.left further)
-    ∙ ap (λ r. goes_on r c.args.self.now.left further) (sym c.end_at-in-Nothing.ensures)
+    let walk = c.args.self.now in
+    resolve_nothing t c.args.mode walk.left walk.here walk.way c.args.name.now walk.rest.parts c.end_at-in-Nothing.result
+    (resolve_parts walk.left t c.args.mode walk.here walk.way walk.rest.parts) c.in-Nothing.ensures.standing c.end_at-in-Nothing.ensures

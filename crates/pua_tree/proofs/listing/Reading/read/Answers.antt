@@ -1,13 +1,43 @@
-use Rattle.std.proofs.Common.{◌∙◌}
-use Rattle.std.proofs.lemmas.Result.{MatchResult-weaker}
-use Rattle.pua_tree.specs.Reading.{said}
-use Rattle.pua_tree.proofs.Gathered.{gathered_read}
+use Rattle.std.proofs.Common.{◌≡◌, ◌∙◌, ◌+◌, ◌++◌, ◌∷◌, [], length, Ok, true, false, is_some, sym, subst, rules, arith}
+use Rattle.pua_tree.specs.Tree as tree
+use Rattle.pua_tree.specs.Tree.{look}
+use Rattle.pua_tree.specs.Listing.{entry_of}
+use Rattle.pua_tree.specs.Reading.{Gathers, said}
+use Rattle.pua_tree.proofs.Entries.{Fits}
+use Rattle.pua_tree.proofs.ListingGrammar.{entry_read}
+use Rattle.pua_tree.proofs.Gathering.{taken_entry, crowded_entry, admitted_entry, gathered_more, fit_follows}
 use Rattle.pua_tree.proofs.listing.Reading.read.Goals as goal
 
-pub returns-clause-exact : goal.returns-clause-exact
-returns-clause-exact c = λ es g count.
-    let judged = c.in_ok-entry.ensures es g in
+pub returns-then-is_some-clause-exact : goal.returns-then-is_some-clause-exact
+returns-then-is_some-clause-exact g c = λ es h _ _.
+    let t = g.T.FileTree.content c.args.self.now.tree in
     let e = said c.in_ok-entry.entry in
-    MatchResult-weaker c.add.result (c.add.ensures.exact es g)
-    (λ _ added. (e, judged ∙ added.0, gathered_read c.args.self.now c.add.new.self es c.args.n c.args.text.now e g count (judged ∙ added.0) added.1))
-    (λ fault failed other. judged ∙ failed other)
+    let taken : is_some (look t e.parent e.name) ≡ true = search rules in
+    c.in_ok-entry.ensures es h ∙ taken_entry t c.args.self.now.greatest es c.args.n e h taken
+
+pub returns-then-n-gt-MOST_LINES-clause-exact : goal.returns-then-n-gt-MOST_LINES-clause-exact
+returns-then-n-gt-MOST_LINES-clause-exact g c = λ es h _ _.
+    let t = g.T.FileTree.content c.args.self.now.tree in
+    let e = said c.in_ok-entry.entry in
+    let free : is_some (look t e.parent e.name) ≡ false = search rules in
+    c.in_ok-entry.ensures es h ∙ crowded_entry t c.args.self.now.greatest es c.args.n e h free c.if-n-gt-MOST_LINES.true
+
+pub put-requires : goal.put-requires
+put-requires g c =
+    let t = g.T.FileTree.content c.args.self.now.tree in
+    let e = said c.in_ok-entry.entry in
+    let es = c.requires.1.0 in
+    let h : Gathers t c.args.self.now.greatest es = c.requires.1.1 in
+    let count : c.args.n ≡ length es + 3 = omega (arith, c.requires.1.2, c.requires.2) in
+    let free : is_some (look t e.parent e.name) ≡ false = search rules in
+    let read : entry_of es c.args.n c.args.text.now ≡ Ok e = c.in_ok-entry.ensures es h ∙ admitted_entry t c.args.self.now.greatest es c.args.n e h free c.if-n-gt-MOST_LINES.false in
+    fit_follows t c.args.self.now.greatest es e h (entry_read es c.args.n c.args.text.now e count read).1
+
+pub returns-in-Ok-clause-exact : goal.returns-in-Ok-clause-exact
+returns-in-Ok-clause-exact g c = λ es h count.
+    let t = g.T.FileTree.content c.args.self.now.tree in
+    let e = said c.in_ok-entry.entry in
+    let free : is_some (look t e.parent e.name) ≡ false = search rules in
+    let read : entry_of es c.args.n c.args.text.now ≡ Ok e = c.in_ok-entry.ensures es h ∙ admitted_entry t c.args.self.now.greatest es c.args.n e h free c.if-n-gt-MOST_LINES.false in
+    let fits : Fits es e = (entry_read es c.args.n c.args.text.now e count read).1 in
+    (e, read, subst (λ (u : tree.Tree). Gathers u e.number (es ++ e ∷ [])) (sym c.in-Ok.ensures.grown) (gathered_more t c.args.self.now.greatest es e h fits))

@@ -1,0 +1,181 @@
+//! Trees and scripts at random, by a fixed seed, so that each run of the program has the same ones.
+
+use anyhow::Result;
+use std::alloc::Global;
+
+/// The names in the trees, in the order of their bytes.
+pub(crate) const NAMES: [&str; 5] = ["a", "b", "c", "d", "e"];
+
+/// How many nodes a tree has beside its root, at the most.
+pub(crate) const NODES: usize = 12;
+
+/// How many nodes are drawn at the most; those without room are left out.
+const DRAWS: usize = 200;
+
+/// How many lines a script has.
+pub(crate) const LINES: usize = 8;
+
+const KINDS: [&str; 8] = ["dir", "dir", "dir", "dir", "file", "prog", "link", "link"];
+
+const TARGETS: [&str; 12] = [
+    "a", "b", "../c", "/d", "a/b", "..", ".", "/", "c/", "d/../a", "/a/e", "e/e",
+];
+
+const PATHS: [&str; 16] = [
+    "/", "/a", "/b", "/c", "/d", "/e", "/a/b", "/b/a/", "/c/../d", "a", "b", "e", "..", "../a",
+    "./d", "/e/a/b",
+];
+
+const PERMS: [&str; 6] = ["r", "rw", "rwxc", "rc", "x", "="];
+
+const PLEDGES: [&str; 8] = [
+    "-",
+    "stdio,rpath,cpath,unveil,proc",
+    "rpath,wpath,cpath,exec,proc,unveil",
+    "rpath,wpath,fattr",
+    "rpath,error",
+    "cpath,wpath,proc,unveil,error",
+    "exec,rpath",
+    "=",
+];
+
+const CALLS: [&str; 9] = [
+    "chdir", "chdir", "mkdir", "rmdir", "unlink", "create", "exec", "exec", "stat",
+];
+
+/// A generator of numbers (xorshift).
+#[derive(Drop)]
+pub(crate) struct Random {
+    state: u64,
+}
+
+impl Random {
+    /// A generator with a fixed seed.
+    pub(crate) fn new() -> Random {
+        Random {
+            state: 0x9e37_79b9_7f4a_7c15,
+        }
+    }
+
+    fn next(&mut self) -> u64 {
+        let mut state = self.state;
+        state ^= state << 13u32;
+        state ^= state >> 7u32;
+        state ^= state << 17u32;
+        self.state = state;
+        state >> 33u32
+    }
+
+    /// A number below a bound; 0 where the bound is 0.
+    pub(crate) fn below(&mut self, bound: usize) -> usize {
+        let drawn = usize::try_from(self.next()).unwrap_or(0);
+        drawn.checked_rem(bound).unwrap_or(0)
+    }
+
+    /// One of some texts.
+    fn pick<'a>(&mut self, texts: &[&'a str]) -> &'a str {
+        let place = self.below(texts.len());
+        match texts.get(place) {
+            Some(text) => *text,
+            None => "",
+        }
+    }
+}
+
+/// A node of a tree, and where it stands.
+#[derive(Clone, Copy)]
+pub(crate) struct Node {
+    pub(crate) kind: &'static str,
+    pub(crate) parent: usize,
+    pub(crate) name: &'static str,
+    pub(crate) target: &'static str,
+}
+
+/// The nodes of a tree, the root first: a node's number is its place.
+pub(crate) fn nodes(alloc: Global, random: &mut Random) -> Result<Vec<Node>> {
+    let mut nodes = Vec::new(alloc);
+    nodes.push(Node {
+        kind: "dir",
+        parent: 0,
+        name: "",
+        target: "",
+    })?;
+    for _ in 0..DRAWS {
+        let node = Node {
+            kind: random.pick(&KINDS),
+            parent: random.below(nodes.len()),
+            name: random.pick(&NAMES),
+            target: random.pick(&TARGETS),
+        };
+        if nodes.len() <= NODES && has_room(nodes.as_slice(), &node) {
+            nodes.push(node)?;
+        }
+    }
+    Ok(nodes)
+}
+
+/// Whether a node's parent is a directory, in which nothing has its name.
+fn has_room(nodes: &[Node], node: &Node) -> bool {
+    let is_dir = nodes
+        .get(node.parent)
+        .is_some_and(|above| above.kind == "dir");
+    is_dir && number_of(nodes, node.parent, node.name).is_none()
+}
+
+/// The number of the node with a name in a directory.
+pub(crate) fn number_of(nodes: &[Node], parent: usize, name: &str) -> Option<usize> {
+    nodes
+        .iter()
+        .position(|node| node.parent == parent && node.name == name)
+}
+
+/// The listing of a tree.
+pub(crate) fn listing(alloc: Global, nodes: &[Node]) -> Result<String> {
+    let mut text = String::from_str(alloc, "tree 1\n0 dir\n")?;
+    for (number, node) in nodes.iter().enumerate().skip(1) {
+        write!(text, "{number} {} {} {}", node.kind, node.parent, node.name)?;
+        if node.kind == "link" {
+            write!(text, " {}", node.target)?;
+        }
+        text.push('\n')?;
+    }
+    Ok(text)
+}
+
+/// The lines of a script: the first makes process 2, and each later one is of process 1 or 2.
+pub(crate) fn script(alloc: Global, random: &mut Random) -> Result<String> {
+    let mut text = String::from_str(alloc, "1 fork 2\n")?;
+    for _ in 1..LINES {
+        let process = random.below(2).saturating_add(1);
+        write!(text, "{process} ")?;
+        match random.below(8) {
+            0 | 1 => writeln!(
+                text,
+                "unveil {} {}",
+                random.pick(&PATHS),
+                random.pick(&PERMS)
+            )?,
+            2 => writeln!(
+                text,
+                "pledge {} {}",
+                random.pick(&PLEDGES),
+                random.pick(&PLEDGES)
+            )?,
+            3 => writeln!(
+                text,
+                "rename {} {}",
+                random.pick(&PATHS),
+                random.pick(&PATHS)
+            )?,
+            4 => writeln!(
+                text,
+                "symlink {} {}",
+                random.pick(&TARGETS),
+                random.pick(&PATHS)
+            )?,
+            5 if random.below(2) == 0 => writeln!(text, "unveil - -")?,
+            _ => writeln!(text, "{} {}", random.pick(&CALLS), random.pick(&PATHS))?,
+        }
+    }
+    Ok(text)
+}

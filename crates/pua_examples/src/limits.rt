@@ -1,0 +1,280 @@
+//! Inputs as large as the limits let them be, or larger by one: they are answered, and not with want
+//! of memory. What is expected follows from the rules, line by line.
+
+use crate::written::{Files, as_expected};
+use anyhow::Result;
+use std::alloc::Global;
+
+/// For how many bytes the output of a large command has room.
+const LARGE: usize = 8_388_608;
+
+/// A listing or a script in the making, and what is expected to be written of it.
+#[derive(Drop)]
+struct Case {
+    tree: String,
+    script: String,
+    lines: usize,
+    output: String,
+}
+
+impl Case {
+    /// A root alone, and no script.
+    fn new(alloc: Global) -> Result<Case> {
+        Ok(Case {
+            tree: String::from_str(alloc, "tree 1\n0 dir\n")?,
+            script: String::new(alloc),
+            lines: 0,
+            output: String::new(alloc),
+        })
+    }
+
+    /// Adds a line of the script, and its answer.
+    fn ask(&mut self, line: &str, answer: &str) -> Result<()> {
+        self.lines = self.lines.saturating_add(1);
+        self.script.push_str(line)?;
+        self.script.push('\n')?;
+        writeln!(self.output, "{} {answer}", self.lines)?;
+        Ok(())
+    }
+
+    /// Adds a line of the reach.
+    fn reach(&mut self, line: &str) -> Result<()> {
+        self.output.push_str(line)?;
+        self.output.push('\n')?;
+        Ok(())
+    }
+
+    /// Whether a command writes what is expected.
+    fn holds(&self, alloc: Global, words: &[&str]) -> Result<bool> {
+        self.writes(alloc, words, 0, self.output.as_str(), "")
+    }
+
+    /// Whether a command reports this fault, and writes nothing.
+    fn fails(&self, alloc: Global, words: &[&str], status: u8, fault: &str) -> Result<bool> {
+        self.writes(alloc, words, status, "", fault)
+    }
+
+    fn writes(
+        &self,
+        alloc: Global,
+        words: &[&str],
+        status: u8,
+        output: &str,
+        fault: &str,
+    ) -> Result<bool> {
+        let files = Files {
+            tree: self.tree.as_bytes(),
+            script: self.script.as_bytes(),
+        };
+        let written = files.written(alloc, words, LARGE)?;
+        Ok(written.is(status, output.as_bytes(), fault.as_bytes()))
+    }
+}
+
+/// Prints a line for each limit.
+pub(crate) fn run(rt: &HostRuntime) -> Result<()> {
+    let alloc = rt.alloc();
+    for (limit, holds) in [
+        ("128 veils", are_veils(alloc)?),
+        ("256 processes", are_processes(alloc)?),
+        ("4,096 nodes with names of 255 bytes", are_names(alloc)?),
+        ("4,095 names and 1,024 candidates", are_candidates(alloc)?),
+        ("60,000 lines with the longest paths", are_lines(alloc)?),
+        ("a command of 3,000 words", are_words(alloc)?),
+        ("one node more than 4,096", are_nodes_refused(alloc)?),
+    ] {
+        println!(rt; "{limit}: {}", as_expected(holds))?;
+    }
+    Ok(())
+}
+
+/// A process keeps 128 veils, and no more; it is forked, execs and is audited with them.
+fn are_veils(alloc: Global) -> Result<bool> {
+    let mut case = Case::new(alloc)?;
+    for number in 1..=129u32 {
+        let kind = if number == 128 { "prog" } else { "file" };
+        writeln!(case.tree, "{number} {kind} 0 f{number:03}")?;
+    }
+    for number in 1..=127u32 {
+        let line = format!(in alloc; "1 unveil /f{number:03} r")?;
+        case.ask(line.as_str(), "ok")?;
+    }
+    for (line, answer) in [
+        ("1 unveil /f128 rx", "ok"),
+        ("1 unveil /f129 r", "E2BIG"),
+        ("1 unveil /f001 =", "ok"),
+        ("1 stat /f002", "ok"),
+        ("1 stat /f001", "EACCES"),
+        ("1 pledge stdio,rpath,exec,proc stdio,rpath", "ok"),
+        ("1 fork 2", "ok"),
+        ("2 exec /f128", "ok"),
+        ("2 stat /f002", "ok"),
+        ("2 stat /f129", "ENOENT"),
+        ("1 stat /f128", "ok"),
+    ] {
+        case.ask(line, answer)?;
+    }
+    if !case.holds(alloc, &["run", "TREE", "SCRIPT"])? {
+        return Ok(false);
+    }
+    case.reach("reach 2")?;
+    for number in 2..=128u32 {
+        for call in ["stat", "lstat", "open-r"] {
+            let line = format!(in alloc; "/f{number:03} {call}")?;
+            case.reach(line.as_str())?;
+        }
+    }
+    let words = ["audit", "--limit", "1", "--process", "2", "TREE", "SCRIPT"];
+    case.holds(alloc, &words)
+}
+
+/// 256 processes are made, and no more, also where one has ended.
+fn are_processes(alloc: Global) -> Result<bool> {
+    let mut case = Case::new(alloc)?;
+    for number in 2..=256u32 {
+        let line = format!(in alloc; "1 fork {number}")?;
+        case.ask(line.as_str(), "ok")?;
+    }
+    for (line, answer) in [
+        ("1 fork 257", "EAGAIN"),
+        ("256 exit", "ok"),
+        ("256 stat /", "gone"),
+        ("2 fork 256", "EAGAIN"),
+        ("255 stat /", "ok"),
+    ] {
+        case.ask(line, answer)?;
+    }
+    case.holds(alloc, &["run", "TREE", "SCRIPT"])
+}
+
+/// A name of 255 bytes, each of which is escaped, by its number in the order of such names.
+fn long_name(alloc: Global, number: u32) -> Result<String> {
+    let mut name = String::new(alloc);
+    for _ in 0..252u32 {
+        name.push_str("\\377")?;
+    }
+    for shift in [8u32, 4, 0] {
+        write!(name, "\\{:03o}", 0o200 | ((number >> shift) & 15))?;
+    }
+    Ok(name)
+}
+
+/// A listing of 4,096 nodes with the longest names is read, and audited.
+fn are_names(alloc: Global) -> Result<bool> {
+    let mut case = Case::new(alloc)?;
+    case.ask("1 pledge stdio,fattr -", "ok")?;
+    case.reach("reach 1")?;
+    case.reach("/ chmod")?;
+    case.reach("/.. chmod")?;
+    for number in 1..=4_095u32 {
+        let name = long_name(alloc, number)?;
+        writeln!(case.tree, "{number} file 0 {name}")?;
+        writeln!(case.output, "/{name} chmod")?;
+    }
+    case.holds(alloc, &["audit", "--limit", "1", "TREE", "SCRIPT"])
+}
+
+/// So many names of one length, in their order.
+fn candidates(alloc: Global, count: u32) -> Result<Vec<String>> {
+    let mut names = Vec::new(alloc);
+    for number in 1..=count {
+        names.push(format!(in alloc; "c{number:04}")?)?;
+    }
+    Ok(names)
+}
+
+/// The words of an audit of one letter with these candidates.
+fn words_with<'a>(alloc: Global, names: &'a [String]) -> Result<Vec<&'a str>> {
+    let mut words = Vec::new(alloc);
+    words.extend_from_slice(&["audit", "--limit", "1", "TREE", "SCRIPT"])?;
+    for name in names {
+        words.push(name.as_str())?;
+    }
+    Ok(words)
+}
+
+/// An audit takes 1,024 candidates beside 4,095 names.
+fn are_candidates(alloc: Global) -> Result<bool> {
+    let names = candidates(alloc, 1_024)?;
+    let mut case = Case::new(alloc)?;
+    case.ask("1 pledge stdio,cpath -", "ok")?;
+    case.reach("reach 1")?;
+    for name in &names {
+        writeln!(case.output, "/{name} mkdir\n/{name} symlink")?;
+    }
+    for number in 1..=4_095u32 {
+        writeln!(case.tree, "{number} file 0 n{number:04}")?;
+        writeln!(case.output, "/n{number:04} unlink")?;
+    }
+    let words = words_with(alloc, names.as_slice())?;
+    case.holds(alloc, words.as_slice())
+}
+
+/// A path of so many bytes: components of 255 of them, and one that is shorter.
+fn long_path(alloc: Global, length: usize) -> Result<String> {
+    let mut path = String::new(alloc);
+    for place in 0..length {
+        path.push(if place.checked_rem(256) == Some(0) {
+            '/'
+        } else {
+            'a'
+        })?;
+    }
+    Ok(path)
+}
+
+/// A script of 60,000 lines with paths of 1,023 bytes is run; a path of one byte more is too long.
+fn are_lines(alloc: Global) -> Result<bool> {
+    let mut case = Case::new(alloc)?;
+    let path = long_path(alloc, 1_023)?;
+    let line = format!(in alloc; "1 stat {path}")?;
+    for _ in 0..59_998u32 {
+        case.ask(line.as_str(), "ENOENT")?;
+    }
+    let line = format!(in alloc; "1 stat {path}a")?;
+    case.ask(line.as_str(), "ENAMETOOLONG")?;
+    case.ask("1 stat /", "ok")?;
+    case.holds(alloc, &["run", "TREE", "SCRIPT"])
+}
+
+/// A command of 3,000 words is answered as a shorter one is: with too many names, which comes after
+/// a limit that is too large and before a candidate that is none; or as words that are no command.
+fn are_words(alloc: Global) -> Result<bool> {
+    let case = Case::new(alloc)?;
+    let many = "pua: audit: too many names\n";
+    let large = "pua: audit: limit too large\n";
+    for (limit, fault) in [("1", many), ("16", many), ("17", large)] {
+        let mut words = Vec::new(alloc);
+        words.extend_from_slice(&["audit", "--limit", limit, "TREE", "SCRIPT"])?;
+        for _ in words.len()..3_000 {
+            words.push("..")?;
+        }
+        if !case.fails(alloc, words.as_slice(), 1, fault)? {
+            return Ok(false);
+        }
+    }
+    Ok(true)
+}
+
+/// A listing of 4,097 nodes has too many; where the last one's name is taken, that comes first.
+fn are_nodes_refused(alloc: Global) -> Result<bool> {
+    let mut case = Case::new(alloc)?;
+    for number in 1..=4_095u32 {
+        writeln!(case.tree, "{number} file 0 n{number:04}")?;
+    }
+    for (name, fault) in [
+        ("n4096", "pua: listing: line 4098: too many nodes\n"),
+        ("n4095", "pua: listing: line 4098: name taken\n"),
+    ] {
+        let larger = Case {
+            tree: format!(in alloc; "{}4096 file 0 {name}\n", case.tree)?,
+            script: String::new(alloc),
+            lines: 0,
+            output: String::new(alloc),
+        };
+        if !larger.fails(alloc, &["run", "TREE", "SCRIPT"], 1, fault)? {
+            return Ok(false);
+        }
+    }
+    Ok(true)
+}

@@ -1,0 +1,94 @@
+//! The table of rows, as its file has it.
+
+use anyhow::Result;
+use serde::Deserialize;
+use std::alloc::Global;
+use std::collections::BTreeMap;
+
+/// The whole file.
+#[derive(Drop, Deserialize)]
+pub(crate) struct Table {
+    /// The line on standard error for words that are no command.
+    pub(crate) usage: String,
+    pub(crate) tree: BTreeMap<String, Tree>,
+    pub(crate) misused: Vec<Misused>,
+    pub(crate) refused: Vec<Refused>,
+    pub(crate) row: Vec<Row>,
+}
+
+/// A listing, by name.
+#[derive(Drop, Deserialize)]
+pub(crate) struct Tree {
+    pub(crate) listing: String,
+}
+
+/// Words that are no command.
+#[derive(Drop, Deserialize)]
+pub(crate) struct Misused {
+    pub(crate) name: String,
+    pub(crate) command: String,
+}
+
+/// A listing or a script with a fault.
+#[derive(Drop, Deserialize)]
+pub(crate) struct Refused {
+    pub(crate) name: String,
+    /// Where the fault is from.
+    pub(crate) from: String,
+    pub(crate) listing: Option<String>,
+    pub(crate) script: Option<String>,
+    pub(crate) fault: String,
+}
+
+/// A command over the files TREE and SCRIPT, and what it writes.
+#[derive(Drop, Deserialize)]
+pub(crate) struct Row {
+    pub(crate) name: String,
+    /// Where the expected values are from.
+    pub(crate) from: String,
+    pub(crate) command: String,
+    pub(crate) tree: String,
+    #[serde(default)]
+    pub(crate) script: String,
+    #[serde(default)]
+    pub(crate) answers: String,
+    pub(crate) reach: Option<u32>,
+    #[serde(default)]
+    pub(crate) pairs: String,
+    #[serde(default)]
+    pub(crate) fault: String,
+    #[serde(default)]
+    pub(crate) status: u8,
+}
+
+impl Row {
+    /// The text that the row's command writes: each answer behind the number of its line, the line
+    /// `reach P`, and a line for each pair.
+    pub(crate) fn output(&self, alloc: Global) -> Result<String> {
+        let mut text = String::new(alloc);
+        for (place, answer) in self.answers.as_str().split_whitespace().enumerate() {
+            writeln!(text, "{} {answer}", place.saturating_add(1))?;
+        }
+        if let Some(process) = self.reach {
+            writeln!(text, "reach {process}")?;
+        }
+        for line in self.pairs.as_str().lines() {
+            let mut words = line.split_whitespace();
+            if let Some(path) = words.next() {
+                for call in words {
+                    writeln!(text, "{path} {call}")?;
+                }
+            }
+        }
+        Ok(text)
+    }
+}
+
+/// A line with its end; nothing where there is none.
+pub(crate) fn ended(alloc: Global, line: &str) -> Result<String> {
+    Ok(if line.is_empty() {
+        String::new(alloc)
+    } else {
+        format!(in alloc; "{line}\n")?
+    })
+}

@@ -1,0 +1,14 @@
+-- The limits of paths and of resolution.
+use Rattle.std.specs.Prelude.{ℕ}
+
+-- at most so many links are followed in one resolution
+abbrev pub link_limit : ℕ
+link_limit = 32
+
+-- the most bytes of a component of a path, as of a name
+abbrev pub name_limit : ℕ
+name_limit = 255
+
+-- the most bytes of a path
+abbrev pub path_limit : ℕ
+path_limit = 1023

@@ -1,0 +1,10 @@
+-- What crates above cite of the proofs of this one, beside the definitions and the laws.
+
+-- climbing in a tree, one directory after another
+pub use Rattle.pua_policy.proofs.Climbs.{climb_step, length-climb_step}
+-- what a process keeps decides what it may do
+pub use Rattle.pua_policy.proofs.Standing.{processes_decide}
+-- no event brings back a promise but `error`
+pub use Rattle.pua_policy.proofs.Narrowing.{held_never_grows}
+-- what an exec keeps of a history
+pub use Rattle.pua_policy.proofs.Exec.{others, no_promises, no_execpromises, same_veils, same_lock, same_dirs, same_end}

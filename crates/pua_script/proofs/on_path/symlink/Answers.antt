@@ -1,0 +1,14 @@
+use Rattle.pua_script.specs.Replay.{added, link_node}
+use Rattle.pua_script.proofs.Doing.{as_same, attempts_edit, attempts_same}
+use Rattle.pua_script.proofs.on_path.symlink.Goals as goal
+
+pub returns-in-Ok-clause-exact : goal.returns-in-Ok-clause-exact
+returns-in-Ok-clause-exact g c = λ h s.
+    let t = g.T.FileTree.content c.args.tree.now in
+    attempts_same t _ h c.add.result _ _ _ (c.in-Ok.ensures.exact h s (added t h (link_node c.args.target.now)))
+    (attempts_edit t _ h c.add.result _ _ (c.add.ensures.exact h) s)
+
+pub returns-in-Err-clause-exact : goal.returns-in-Err-clause-exact
+returns-in-Err-clause-exact g c = λ h s.
+    let t = g.T.FileTree.content c.args.tree.now in
+    as_same t t h _ _ _ _ (c.in-Err.ensures.exact h s (added t h (link_node c.args.target.now))) (c.refuse.ensures h t s)

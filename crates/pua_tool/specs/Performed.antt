@@ -1,0 +1,87 @@
+-- What the performance of a command promises.
+use Rattle.std.specs.Prelude.{◌≡◌, ◌⊎◌, ℕ, List, Option, Result, Ok, Err}
+use Rattle.pua_policy.specs.Calls.{standard_table}
+use Rattle.pua_words.specs.declared.command.Command.{Command}
+use Rattle.pua_words.specs.declared.command.Text.{Text}
+use Rattle.pua_words.specs.declared.command.Text.TheVariants.{Run, Audit}
+use Rattle.pua_tool.specs.declared.fault.ToolFault.{ToolFault}
+use Rattle.pua_tool.specs.declared.fault.ToolFault.TheVariants.{Write, OutOfMemory}
+use Rattle.pua_tool.specs.declared.outcome.CommandFault.{CommandFault}
+use Rattle.pua_tool.specs.declared.outcome.CommandFault.TheVariants.{Usage, Unreadable, Tool}
+use Rattle.pua_tool.specs.declared.status.TheConstants.{REFUSED}
+use Rattle.pua_tool.specs.Held.{Held, Holds, HoldsNothing}
+use Rattle.pua_tool.specs.Sinks.{Adds, AddsFront, HasFailed}
+use Rattle.pua_tool.specs.Statuses.{status_of}
+use Rattle.pua_tool.specs.Texts.{run_text, audit_text, wanted_by}
+
+-- the text that is asked for, of a listing and a script, or what refuses it
+abbrev pub text_asked : Text → List ℕ → List ℕ → Result (List ℕ) ToolFault
+text_asked Run tree script = run_text standard_table tree script
+text_asked (Audit words) tree script = audit_text standard_table tree script (wanted_by words)
+
+-- what is asked for, of the bytes that are held under the command's two names
+pub record Asks (held : Held) (command : Command) (answer : Result (List ℕ) ToolFault) : Type 0 where
+  pub tree : List ℕ
+  pub script : List ℕ
+  pub tree_held : Holds held command.tree.now tree
+  pub script_held : Holds held command.script.now script
+  pub answers : text_asked command.text tree script ≡ answer
+
+-- the whole text that is asked for was written
+pub record IsDone (held : Held) (command : Command) (old new : Option (List ℕ)) : Type 0 where
+  pub text : List ℕ
+  pub asks : Asks held command (Ok text)
+  pub adds : Adds text old new
+
+-- a put failed, and a front of the text that is asked for was written
+pub record IsCutShort (held : Held) (command : Command) (old new : Option (List ℕ)) (before after : ℕ) : Type 0 where
+  pub text : List ℕ
+  pub asks : Asks held command (Ok text)
+  pub adds : AddsFront text old new
+  pub failed : HasFailed before after
+
+-- what is asked for is refused by the texts of the inputs
+pub record IsRefused (held : Held) (command : Command) : Type 0 where
+  pub fault : ToolFault
+  pub asks : Asks held command (Err fault)
+  pub status : status_of fault ≡ REFUSED
+
+-- nothing is held under the script's name, where the tree's is there
+pub record LacksScript (held : Held) (command : Command) : Type 0 where
+  pub tree : List ℕ
+  pub tree_held : Holds held command.tree.now tree
+  pub nothing : HoldsNothing held command.script.now
+
+-- one of the two inputs is missing: the tree's, or else the script's
+abbrev pub LacksInput : Held → Command → Type 0
+LacksInput held command = HoldsNothing held command.tree.now ⊎ LacksScript held command
+
+-- this is the name of the first input that is missing
+abbrev pub Lacks : Held → Command → List ℕ → Type 0
+Lacks held command name =
+    ((name ≡ command.tree.now) × HoldsNothing held command.tree.now)
+    ⊎ ((name ≡ command.script.now) × LacksScript held command)
+
+-- why one input was not taken
+abbrev pub IsUnheld : Held → List ℕ → CommandFault → Type 0
+IsUnheld held name Usage = ⊥
+IsUnheld held name (Unreadable other) = (other.now ≡ name) × HoldsNothing held name
+IsUnheld held name (Tool fault) = fault ≡ OutOfMemory
+
+-- why the two inputs were not taken
+abbrev pub IsUntaken : Held → Command → CommandFault → Type 0
+IsUntaken held command Usage = ⊥
+IsUntaken held command (Unreadable name) = Lacks held command name.now
+IsUntaken held command (Tool fault) = fault ≡ OutOfMemory
+
+-- what a fault of the writing says of the inputs and of the output
+abbrev pub IsUnwritten : Held → Command → ToolFault → Option (List ℕ) → Option (List ℕ) → ℕ → ℕ → Type 0
+IsUnwritten held command Write old new before after = IsCutShort held command old new before after
+IsUnwritten held command OutOfMemory old new before after = new ≡ old
+IsUnwritten held command fault old new before after = Asks held command (Err fault) × (new ≡ old)
+
+-- what a command's fault says of the inputs and of the output
+abbrev pub IsStopped : Held → Command → CommandFault → Option (List ℕ) → Option (List ℕ) → ℕ → ℕ → Type 0
+IsStopped held command Usage old new before after = ⊥
+IsStopped held command (Unreadable name) old new before after = Lacks held command name.now × (new ≡ old)
+IsStopped held command (Tool fault) old new before after = IsUnwritten held command fault old new before after

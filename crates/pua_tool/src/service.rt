@@ -1,0 +1,143 @@
+//! What a command asks for, done: its two inputs are taken, and its text is written.
+
+ghost use Rattle.std.specs.Prelude.{◌≡◌, ◌≢◌, ◌≤◌, ◌⊎◌, ℕ, List, Ok, Err, OnOk, IfOk, IfErr};
+ghost use Rattle.pua_tool.specs.Held.{Holds};
+ghost use Rattle.pua_tool.specs.Performed.{IsCutShort, IsDone, IsRefused, IsStopped, IsUnheld, IsUntaken, LacksInput, text_asked};
+ghost use Rattle.pua_tool.specs.Sinks.{Adds, AddsFront, HasFailed};
+
+use crate::audit::audit_to;
+use crate::fault::ToolFault;
+use crate::inputs::{InputFault, Inputs};
+use crate::job::job_of;
+use crate::outcome::{CommandFault, finish};
+use crate::run::run_to;
+use crate::sink::Sink;
+use crate::status::{DEVICE, DONE, MEMORY, REFUSED, USAGE};
+use pua_words::{Command, Text};
+use std::alloc::Global;
+
+/// Does what a command asks for: the text of a run or of an audit goes to `out`, and of a fault one
+/// line goes to `err`, which is dropped where it can't be written. Both inputs are taken, the tree's
+/// first, before either is read as a listing or a script.
+///
+/// It answers the status. [`DONE`]: the text that is asked for, of the bytes that the inputs hold
+/// under the command's two names, was written, and nothing to `err`. [`REFUSED`]: these bytes, or
+/// what the audit is asked for, are refused. [`DEVICE`]: an input is missing, and nothing was
+/// written; or a put failed, and a front of the text was written. [`MEMORY`]: a growth of memory was
+/// refused. After [`REFUSED`] and [`MEMORY`] nothing was written.
+pub fn perform<I: Inputs, O: Sink, E: Sink>(
+    alloc: Global,
+    command: &Command<'_>,
+    inputs: &mut I,
+    out: &mut O,
+    err: &mut E,
+) -> u8
+    ensures done { result ≡ DONE →
+        IsDone (I.holds inputs.old) command.now (O.written out.old) (O.written out.new) }
+    ensures unfailed { result ≡ DONE → O.failed out.new ≡ O.failed out.old }
+    ensures quiet { result ≡ DONE → err.new ≡ err.old }
+    ensures refused { result ≡ REFUSED → IsRefused (I.holds inputs.old) command.now }
+    ensures device { result ≡ DEVICE →
+        (LacksInput (I.holds inputs.old) command.now × (O.written out.new ≡ O.written out.old))
+        ⊎ IsCutShort (I.holds inputs.old) command.now (O.written out.old) (O.written out.new)
+        (O.failed out.old) (O.failed out.new) }
+    ensures unwritten { result ≢ DONE → result ≢ DEVICE → O.written out.new ≡ O.written out.old }
+    ensures statuses { result ≤ MEMORY }
+    ensures words { result ≢ USAGE }
+{
+    finish(serve(alloc, command, inputs, out), err)
+}
+
+/// Takes the inputs, and writes the text that is asked for.
+fn serve<'c, I: Inputs, O: Sink>(
+    alloc: Global,
+    command: &Command<'c>,
+    inputs: &mut I,
+    out: &mut O,
+) -> Result<(), CommandFault<'c>>
+    ensures done { OnOk result
+        (IsDone (I.holds inputs.old) command.now (O.written out.old) (O.written out.new)) }
+    ensures unfailed { OnOk result (O.failed out.new ≡ O.failed out.old) }
+    ensures stopped { IfErr result (λ fault. IsStopped (I.holds inputs.old) command.now fault
+        (O.written out.old) (O.written out.new) (O.failed out.old) (O.failed out.new)) }
+{
+    let Taken { tree, script } = take_both(alloc, command, inputs)?;
+    match write_text(
+        alloc,
+        tree.as_slice(),
+        script.as_slice(),
+        &command.text,
+        out,
+    ) {
+        Ok(()) => Ok(()),
+        Err(fault) => Err(CommandFault::Tool(fault)),
+    }
+}
+
+/// The bytes of both inputs.
+#[derive(Drop)]
+pub(crate) struct Taken {
+    tree: Vec<u8>,
+    script: Vec<u8>,
+}
+
+/// Takes both inputs, the tree's first.
+fn take_both<'c, I: Inputs>(
+    alloc: Global,
+    command: &Command<'c>,
+    inputs: &mut I,
+) -> Result<Taken, CommandFault<'c>>
+    ensures tree { IfOk result (λ taken.
+        Holds (I.holds inputs.old) command.now.tree.now taken.tree.items) }
+    ensures script { IfOk result (λ taken.
+        Holds (I.holds inputs.old) command.now.script.now taken.script.items) }
+    ensures untaken { IfErr result (λ fault. IsUntaken (I.holds inputs.old) command.now fault) }
+{
+    let tree = take_named(alloc, command.tree, inputs)?;
+    let script = take_named(alloc, command.script, inputs)?;
+    Ok(Taken { tree, script })
+}
+
+/// Takes the input of this name.
+fn take_named<'c, I: Inputs>(
+    alloc: Global,
+    name: &'c str,
+    inputs: &mut I,
+) -> Result<Vec<u8>, CommandFault<'c>>
+    ensures held { IfOk result (λ bytes. Holds (I.holds inputs.old) name.now bytes.items) }
+    ensures unheld { IfErr result (λ fault. IsUnheld (I.holds inputs.old) name.now fault) }
+    ensures unchanged { I.holds inputs.new ≡ I.holds inputs.old }
+{
+    match inputs.take(alloc, name) {
+        Ok(bytes) => Ok(bytes),
+        Err(InputFault::Unreadable) => Err(CommandFault::Unreadable(name)),
+        Err(InputFault::OutOfMemory) => Err(CommandFault::Tool(ToolFault::OutOfMemory)),
+    }
+}
+
+/// Writes the text that is asked for, of these bytes of a listing and a script.
+fn write_text<O: Sink>(
+    alloc: Global,
+    tree: &[u8],
+    script: &[u8],
+    text: &Text<'_>,
+    out: &mut O,
+) -> Result<(), ToolFault>
+    ensures whole { OnOk result ((t : List ℕ) × (text_asked text.now tree.now script.now ≡ Ok t)
+        × Adds t (O.written out.old) (O.written out.new)) }
+    ensures unfailed { OnOk result (O.failed out.new ≡ O.failed out.old) }
+    ensures write { result ≡ Err ToolFault.Write →
+        (t : List ℕ) × (text_asked text.now tree.now script.now ≡ Ok t)
+        × AddsFront t (O.written out.old) (O.written out.new)
+        × HasFailed (O.failed out.old) (O.failed out.new) }
+    ensures refused { IfErr result (λ fault.
+        fault ≢ ToolFault.Write → fault ≢ ToolFault.OutOfMemory →
+        text_asked text.now tree.now script.now ≡ Err fault) }
+    ensures unwritten { IfErr result (λ fault.
+        fault ≢ ToolFault.Write → O.written out.new ≡ O.written out.old) }
+{
+    match text {
+        Text::Run => run_to(alloc, tree, script, out),
+        Text::Audit(words) => audit_to(alloc, tree, script, &job_of(words), out),
+    }
+}

@@ -1,0 +1,10 @@
+-- What the proofs of crates above may cite, beside the definitions and the laws.
+pub use Rattle.pua_tree.proofs.Base.{holds, same_Some, None≢Some, Some≢None, none, guarded, mapped, Err≢Ok, same_Ok, past, passed, tested, ok_or_read, result_ok_read, step_read, step_from, only_if_read, only_if_same, same_word, other_word, nat_tie}
+-- spots have one order, and tie where they are the same
+pub use Rattle.pua_tree.proofs.Content.{spots_total, exact_spots}
+-- a climb, step by step
+pub use Rattle.pua_tree.proofs.Sound.{climb_here, climb_root, climb_more, climb_last}
+-- the lines of a text
+pub use Rattle.pua_tree.proofs.Lines.{lines_agree}
+-- spellings, names, numbers and fields
+pub use Rattle.pua_tree.proofs.Spellings.{is_byte, is_visible, unspelled-spelling, spelling-unspelled, bytes_unspelled, spelling_tells, name_is_bytes, name_of-spelling, name_read, decimal_within, number_read, fields_cons, fields_one, fields_joined, visible_decimal, visible_spelling, is_field-decimal, is_field-spelling}

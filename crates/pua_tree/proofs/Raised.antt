@@ -1,0 +1,24 @@
+-- A tree whose next number is raised is a tree.
+use Rattle.std.proofs.Common.{◌≤◌, ℕ, zero, suc, refl, arith}
+use Rattle.pua_tree.specs.Tree.{Tree, WellFormed, above}
+use Rattle.pua_tree.proofs.Sound.{Sound, Reaches, sound_from, well_formed_from}
+
+reaches_raised : (t : Tree) (next k d : ℕ) → Reaches t k d → Reaches (record t { next = next }) k d
+reaches_raised t next zero d r = r
+reaches_raised t next (suc k) zero r = absurd (r.0 refl)
+reaches_raised t next (suc k) (suc d) r = (r.0, reaches_raised t next k (above t (suc d)) r.1)
+
+pub raised_keeps : (t : Tree) (next : ℕ) → WellFormed t → t.next ≤ next → WellFormed (record t { next = next })
+raised_keeps t next w le =
+    let f : Sound t = sound_from t w in
+    well_formed_from (record t { next = next }) (record {
+      rows_sorted = f.rows_sorted;
+      nodes_sorted = f.nodes_sorted;
+      root = f.root;
+      row = f.row;
+      node = λ x n e. (let fits = f.node x n e in (omega (arith, fits.0, le), fits.1));
+      unnamed_root = f.unnamed_root;
+      named = f.named;
+      once = f.once;
+      rooted = λ d dir z. (let up = f.rooted d dir z in (up.0, reaches_raised t next up.0 d up.1));
+    })

@@ -1,0 +1,5 @@
+use Rattle.std.proofs.Common.{refl}
+use Rattle.pua_tree.proofs.laws.limits_law.Goals as goal
+
+pub returns : goal.returns
+returns c = record { name = refl; target = refl; living = refl; number = refl; listed = refl; highest = refl }

@@ -1,0 +1,30 @@
+-- The numbers that bound names, targets, trees and listings.
+use Rattle.std.specs.Prelude.{ℕ, ◌+◌}
+
+-- bytes of a name, and of a component of a path or target
+abbrev pub most_name : ℕ
+most_name = 255
+
+-- bytes of a link's target
+abbrev pub most_target : ℕ
+most_target = 1023
+
+-- living nodes of a tree, the root counted
+abbrev pub most_living : ℕ
+most_living = 65535
+
+-- the number that no node is given
+abbrev pub number_end : ℕ
+number_end = 4294967295
+
+-- nodes of a listing, the root counted
+abbrev pub most_listed : ℕ
+most_listed = 4096
+
+-- lines of a listing: its header, and one for each node
+abbrev pub most_lines : ℕ
+most_lines = most_listed + 1
+
+-- the greatest number of a listing
+abbrev pub highest_listed : ℕ
+highest_listed = 999999

@@ -1,0 +1,36 @@
+//! What a reader of listings fills: a tree that takes one entry after another.
+
+use crate::fault::OutOfMemory;
+use crate::name::Name;
+use crate::node::{Kind, NodeId};
+use crate::tree::FileTree;
+use std::alloc::Global;
+
+/// What one line of a listing says: a node with its number, and the row in which it stands.
+#[derive(Drop)]
+pub(crate) struct Entry {
+    pub(crate) number: u32,
+    pub(crate) parent: NodeId,
+    pub(crate) name: Name,
+    pub(crate) kind: Kind,
+    pub(crate) target: Option<Vec<u8>>,
+}
+
+/// A tree that begins as the root alone, and takes nodes under numbers that rise and may leave some
+/// out. What it holds so far is its content.
+pub(crate) trait Gathered: FileTree + Drop {
+    ghost use Rattle.std.specs.Prelude.{◌≡◌, OnOk, OnErr, IfOk};
+    ghost use Rattle.pua_tree.specs.Tree.{empty_tree};
+    ghost use Rattle.pua_tree.specs.Reading.{Follows, grown, said};
+
+    /// The root alone. The only error is that the memory for it is refused.
+    fn root_alone(alloc: Global) -> Result<Self, OutOfMemory>
+        ensures { IfOk result (λ tree. Self.content tree ≡ empty_tree) };
+
+    /// Puts the node of an entry into a new row. The only error is that memory for it is refused;
+    /// the tree is then as it was.
+    fn put(&mut self, entry: Entry) -> Result<(), OutOfMemory>
+        requires { Follows (Self.content self.old) (said entry) }
+        ensures grown { OnOk result (Self.content self.new ≡ grown (Self.content self.old) (said entry)) }
+        ensures unchanged { OnErr result (Self.content self.new ≡ Self.content self.old) };
+}

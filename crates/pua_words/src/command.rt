@@ -1,0 +1,38 @@
+//! What the program is asked for.
+
+use pua_audit::Base;
+
+/// A command: a text that is asked for, and the names of the two inputs that it is made of.
+#[derive(Debug, Drop)]
+pub struct Command<'a> {
+    /// The name of the input with the listing of the tree.
+    pub tree: &'a str,
+    /// The name of the input with the script.
+    pub script: &'a str,
+    /// Which text is asked for.
+    pub text: Text<'a>,
+}
+
+/// Which text a command asks for.
+#[derive(Debug, Drop)]
+pub enum Text<'a> {
+    /// What each line of the script is answered.
+    Run,
+    /// The same, and then what a process may still do.
+    Audit(AuditWords<'a>),
+}
+
+/// What an audit is asked for, besides its inputs.
+#[derive(Debug, Drop)]
+pub struct AuditWords<'a> {
+    /// The most names in a path. Audits take 0 to 16.
+    pub limit: u8,
+    /// The number of the process, 1 to 999,999 where the words of the command line named it.
+    pub process: u32,
+    /// Where paths begin.
+    pub base: Base,
+    /// The pair after which the audit goes on, as the text `CALL:PATH`, if it goes on.
+    pub after: Option<&'a [u8]>,
+    /// Spellings of further names to try in paths. Audits take at most 1,024.
+    pub names: Vec<&'a [u8]>,
+}

@@ -1,0 +1,11 @@
+//! The words of the command line, and the help that they can ask for: the one crate that calls
+//! `clap`.
+#![tactic(auto)]
+
+mod command;
+mod help;
+mod words;
+
+pub use command::{AuditWords, Command, Text};
+pub use help::USAGE_LINE;
+pub use words::{Stop, read_words};
