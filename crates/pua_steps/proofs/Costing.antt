@@ -1,0 +1,89 @@
+-- A walk's tables and frames are within the bound on visits.
+use Rattle.std.proofs.Common.{ℕ, zero, suc, ◌+◌, ◌-◌, ◌*◌, ◌≤◌, ◌≡◌, List, [], ◌∷◌, Option, Some, None, true, false, cond, ◌==◌, refl, ap, arith, sym, ◌∙◌, length, map, drop, length-append}
+use Rattle.std.specs.Prelude.{IfSome, MatchOption}
+use Rattle.std.specs.List.{range_with_len, AllByRecursion}
+use Rattle.std.proofs.lemmas.List.{length-map}
+use Rattle.pua_steps.specs.Calls.{calls_of}
+use Rattle.pua_steps.specs.Trail.{Event, pairs_of}
+use Rattle.pua_steps.specs.Table.{IsTable, IsState, IsOpen, IsEntry, Rising, graph_of, rest_of, visits_from, gap, missed, visit_of, entries_at, missing_at}
+use Rattle.pua_steps.specs.Live.{live_of, IsSized}
+use Rattle.pua_steps.specs.Ready.{looks, trail, IsReady, AreOpen, rests_of}
+use Rattle.pua_steps.specs.declared.state.State.{State}
+use Rattle.pua_steps.specs.declared.visit.Visit.{Visit}
+use Rattle.pua_steps.specs.declared.frame.Frame.{Frame}
+use Rattle.pua_steps.specs.declared.steps.Entry.{Entry}
+use Rattle.pua_steps.specs.declared.steps.Steps.{Steps}
+use Rattle.pua_steps.specs.declared.walk.Walk.{Walk}
+use Rattle.pua_steps.specs.declared.live.Live as table
+use Rattle.pua_steps.proofs.Closing.{visits_stay, prunes, live_is}
+use Rattle.pua_steps.proofs.Gap.{Fits, IsRest, few_visits}
+
+range_length : (k n : ℕ) → length (range_with_len k n) ≡ n
+range_length k zero = refl
+range_length k (suc n) = ap suc (range_length (k + 1) n)
+
+gap_few : (m next n : ℕ) → length (gap m next n) ≤ n
+unfolding gap
+gap_few m next n = elim (m == 0) as (λ b. length (cond b [] (map (missed m) (range_with_len next n))) ≤ n) [ true ↦ omega arith | false ↦ omega (arith, length-map (range_with_len next n) (missed m), range_length next n) ]
+
+-- a state has no more visits than there are letters
+visits_few : (t : Steps) (m u next : ℕ) (es : List Entry) → AllByRecursion (λ e. IsEntry t e) es → Rising next es → length (visits_from t.letters m u next es) ≤ t.letters - next
+unfolding visits_from
+visits_few t m u next [] all rises = gap_few m next (t.letters - next)
+visits_few t m u next (e ∷ es) all rises =
+    omega (arith, length-append (gap m next (e.letter - next)) (visit_of u e ∷ visits_from t.letters m u (suc e.letter) es), gap_few m next (e.letter - next), visits_few t m u (suc e.letter) es all.1 rises.1, rises.0, all.0.letter)
+
+all_drop : {A : Type 0} (P : A → Type 0) (i : ℕ) (xs : List A) → AllByRecursion P xs → AllByRecursion P (drop i xs)
+all_drop P zero xs all = all
+all_drop P (suc i) [] all = tt
+all_drop P (suc i) (x ∷ xs) all = all_drop P i xs all.1
+
+graph_few : (t : Steps) → IsTable t → (l : ℕ) (s : State) → IsState t s → length (graph_of t l s) ≤ t.letters
+unfolding graph_of
+graph_few t known l s is = let few = visits_few t (missing_at t s.dir) s.used 0 (entries_at t s.dir) (known s.dir is.dir).entries (known s.dir is.dir).rises in omega (arith, few)
+
+pub fits : (t : Steps) (v : table.Live) (limit : ℕ) → IsTable t → IsSized t v limit → Fits (graph_of t) (live_of v) limit t.letters (λ s. IsState t s)
+fits t v limit known sized = record { prunes = prunes t v limit known sized; lives = λ l s short is lives. sym (live_is t v limit sized (suc l) s short is) ∙ lives; few = graph_few t known }
+
+module _ (t : Steps) (v : table.Live) (limit : ℕ) (known : IsTable t) (sized : IsSized t v limit) where
+  abbrev Rest : List Visit → Type 0
+  Rest vs = IsRest (graph_of t) (live_of v) limit t.letters (λ s. IsState t s) (fits t v limit known sized) vs
+
+  pub rest_is : (f : Frame) → IsOpen t f → Rest (rest_of t f)
+  unfolding rest_of
+  rest_is f is =
+      let es : List Entry = drop f.place (entries_at t f.state.dir) in
+      let all : AllByRecursion (λ e. IsEntry t e) es = all_drop (λ e. IsEntry t e) f.place (entries_at t f.state.dir) (known f.state.dir is.state.dir).entries in
+      let few = visits_few t (missing_at t f.state.dir) f.state.used f.next es all is.rises in
+      record { few = omega (arith, few); stays = visits_stay t t.letters (missing_at t f.state.dir) f.state.used f.next es is.state.used all }
+
+  rests_are : (frames : List Frame) → AreOpen t frames → AllByRecursion Rest (rests_of t frames)
+  rests_are [] all = tt
+  rests_are (f ∷ frames) all = (rest_is f all.0, rests_are frames all.1)
+
+pub states_of : (P : State → Type 0) (Q : State → Type 0) (o : Option State) → IfSome o (λ s. P s × Q s) → IfSome o P
+states_of P Q None h = tt
+states_of P Q (Some s) h = h.0
+
+-- how many letters are looked at
+pub cost_of : (a : Walk) → IsReady a → (n : ℕ) (es : List Event) → trail a ≡ looks n es → n ≤ 2 * (a.limit * a.steps.letters)
+cost_of a ready n es e =
+    let known = ready.sound.table in
+    let sized = ready.sound.sized in
+    few_visits (graph_of a.steps) (live_of a.live) a.limit a.steps.letters (λ s. IsState a.steps s) (fits a.steps a.live a.limit known sized) a.word.items (calls_of a.calls) a.behind (rests_of a.steps a.frames.items) n es
+    (states_of (λ s. IsState a.steps s) (λ s. live_of a.live (a.limit - length a.word.items) s ≡ true) a.behind ready.behind) (rests_are a.steps a.live a.limit known sized a.frames.items ready.states)
+    (omega (arith, length-map a.frames.items (rest_of a.steps), ready.framed, ready.within)) e
+
+looks-pairs : (n : ℕ) (es : List Event) → pairs_of (looks n es) ≡ pairs_of es
+unfolding looks
+looks-pairs zero es = refl
+looks-pairs (suc n) es = looks-pairs n es
+
+pub pairs_by : (a b : Walk) (result : Option ℕ) (n : ℕ) → MatchOption result ((trail a ≡ looks n []) × (trail b ≡ [])) (λ call. trail a ≡ looks n (Some (b.word.items, call) ∷ trail b))
+    → MatchOption result ((pairs_of (trail a) ≡ []) × (pairs_of (trail b) ≡ [])) (λ call. pairs_of (trail a) ≡ (b.word.items, call) ∷ pairs_of (trail b))
+pairs_by a b None n is = (ap pairs_of is.0 ∙ looks-pairs n [], ap pairs_of is.1)
+pairs_by a b (Some call) n is = ap pairs_of is ∙ looks-pairs n (Some (b.word.items, call) ∷ trail b)
+
+pub cost_by : (a b : Walk) → IsReady a → (result : Option ℕ) (n : ℕ) → MatchOption result ((trail a ≡ looks n []) × (trail b ≡ [])) (λ call. trail a ≡ looks n (Some (b.word.items, call) ∷ trail b)) → n ≤ 2 * (a.limit * a.steps.letters)
+cost_by a b ready None n is = cost_of a ready n [] is.0
+cost_by a b ready (Some call) n is = cost_of a ready n (Some (b.word.items, call) ∷ trail b) is

@@ -1,0 +1,13 @@
+use Rattle.std.proofs.Common.{◌≡◌, ℕ, length}
+use Rattle.pua_steps.specs.Ready.{IsCounted, IsReady, IsOf, looks, trail}
+use Rattle.pua_steps.proofs.walk.Walk.go_on.Given as goal
+
+abbrev pub invariant-words : goal.invariant-words
+invariant-words l = record {
+  ready : IsReady l.self;
+  same : IsOf l.fn.self l.self;
+  so_far : (n : ℕ) × (IsCounted l.fn.self.seen n l.self.seen × (trail l.fn.self ≡ looks n (trail l.self)));
+}
+
+abbrev pub decreases-words : goal.decreases-words
+decreases-words l = length (trail l.self)

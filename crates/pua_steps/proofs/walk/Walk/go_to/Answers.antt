@@ -1,0 +1,96 @@
+use Rattle.std.proofs.Common.{◌≡◌, ◌+◌, ◌-◌, ◌<◌, ◌≤◌, ◌∷◌, ℕ, List, length, drop, get_or, None, true, refl, sym, ap, ◌∙◌, arith, subst}
+use Rattle.std.proofs.lemmas.List.{drop_more}
+use Rattle.std.proofs.Math.ListN.{drop_of_length-le}
+use Rattle.std.specs.Prelude.{IfSome}
+use Rattle.pua_steps.specs.Calls.{calls_of}
+use Rattle.pua_steps.specs.Order.{rest_after}
+use Rattle.pua_steps.specs.Table.{IsState, graph_of}
+use Rattle.pua_steps.specs.Live.{live_of}
+use Rattle.pua_steps.specs.Trail.{pairs_of, ahead}
+use Rattle.pua_steps.specs.Ready.{rests_of}
+use Rattle.pua_steps.specs.Resuming.{to_give, to_give_after}
+use Rattle.pua_steps.specs.declared.steps.Steps.{Steps}
+use Rattle.pua_steps.specs.declared.walk.Walk.{Walk}
+use Rattle.pua_steps.proofs.Closing.{prunes}
+use Rattle.pua_steps.proofs.Costing.{states_of}
+use Rattle.pua_steps.proofs.Resume.{all_index}
+use Rattle.pua_steps.proofs.Opened.{below_limit}
+use Rattle.pua_steps.proofs.Resume.{give_start, give_here, give_dead}
+use Rattle.pua_steps.proofs.walk.Walk.go_to.Goals as goal
+
+pub loop-letter-init : goal.loop-letter-init
+loop-letter-init c =
+    let a : Walk = c.args.self.now in
+    let t = a.steps in
+    let way : List ℕ = c.args.word.now in
+    let call : ℕ = c.args.call in
+    let fresh = c.requires.fresh in
+    let ready = c.requires.ready in
+    let stands = states_of (λ s. IsState t s) (λ s. live_of a.live (a.limit - length a.word.items) s ≡ true) a.behind ready.behind in
+    record {
+      ready = ready;
+      same = record { steps = refl; live = refl; limit = refl };
+      reads = refl;
+      so_far = (λ i. to_give (graph_of t) (live_of a.live) a.limit (fresh.0 i) a.calls a.behind (rests_of t (fresh.1 i)) way call)
+          ∙ give_start (graph_of t) (live_of a.live) a.limit (λ s. IsState t s) (prunes t a.live a.limit ready.sound.table ready.sound.sized) a.calls a.behind way call stands
+          ∙ sym (λ i. rest_after (way, call) (pairs_of (ahead (graph_of t) (live_of a.live) a.limit (fresh.0 i) (calls_of a.calls) a.behind (rests_of t (fresh.1 i)))));
+    }
+
+pub returns-in_default-clause-left : goal.returns-in_default-clause-left
+returns-in_default-clause-left c =
+    let a : Walk = c.loop-letter.self in
+    let t = a.steps in
+    let way : List ℕ = c.args.word.now in
+    let d : ℕ = c.loop-letter.letter-index in
+    let call : ℕ = c.args.call in
+    let inv = c.loop-letter.invariant in
+    let split = drop_more way d 0 c.loop-letter-test.true in
+    let none : a.behind ≡ None = c.in_default.is in
+    let rests = rests_of t a.frames.items in
+    let g = graph_of t in
+    let v = live_of a.live in
+    sym (ap (λ w. to_give_after a w call) split
+    ∙ ap (λ o. to_give g v a.limit a.word.items a.calls o rests (get_or way d 0 ∷ drop (d + 1) way) call) none
+    ∙ give_dead g v a.limit (λ s. IsState t s) (prunes t a.live a.limit inv.ready.sound.table inv.ready.sound.sized) a.word.items a.calls rests call (get_or way d 0) (drop (d + 1) way)
+    ∙ ap (λ o. pairs_of (ahead g v a.limit a.word.items (calls_of 0) o rests)) (sym none))
+    ∙ inv.so_far
+
+pub descend-requires-clause-short : goal.descend-requires-clause-short
+descend-requires-clause-short c =
+    let a : Walk = c.loop-letter.self in
+    let ready = c.loop-letter.invariant.ready in
+    let stands = subst (λ o. IfSome o (λ s. IsState a.steps s × (live_of a.live (a.limit - length a.word.items) s ≡ true))) c.in-Some.is ready.behind in
+    below_limit a.steps a.live a.limit (length a.word.items) c.in-Some.state ready.sound.sized stands.0 stands.1
+
+pub descend-requires-clause-letter : goal.descend-requires-clause-letter
+descend-requires-clause-letter c =
+    let a : Walk = c.loop-letter.self in
+    let there = all_index (λ i. i < c.args.self.now.steps.letters) c.args.word.now c.requires.word c.loop-letter.letter-index c.loop-letter-test.true in
+    subst (λ (t : Steps). get_or c.args.word.now c.loop-letter.letter-index 0 < t.letters) (sym c.loop-letter.invariant.same.steps) there
+
+pub loop-letter-preserved : goal.loop-letter-preserved
+loop-letter-preserved c =
+    let a : Walk = c.loop-letter.self in
+    let way : List ℕ = c.args.word.now in
+    let d : ℕ = c.loop-letter.letter-index in
+    let inv = c.loop-letter.invariant in
+    let split = drop_more way d 0 c.loop-letter-test.true in
+    record {
+      ready = c.descend.ensures.ready;
+      same = record { steps = c.descend.ensures.same.steps ∙ inv.same.steps; live = c.descend.ensures.same.live ∙ inv.same.live; limit = c.descend.ensures.same.limit ∙ inv.same.limit };
+      reads = c.descend.ensures.reads ∙ inv.reads;
+      so_far = sym (ap (λ w. to_give_after a w c.args.call) split ∙ c.descend.ensures.gives (drop (d + 1) way) c.args.call) ∙ inv.so_far;
+    }
+
+pub returns-clause-left : goal.returns-clause-left
+returns-clause-left c =
+    let a : Walk = c.loop-letter.self in
+    let t = a.steps in
+    let way : List ℕ = c.args.word.now in
+    let d : ℕ = c.loop-letter.letter-index in
+    let inv = c.loop-letter.invariant in
+    let past : length way ≤ d = omega (arith, c.loop-letter-test.false) in
+    let stands = states_of (λ s. IsState t s) (λ s. live_of a.live (a.limit - length a.word.items) s ≡ true) a.behind inv.ready.behind in
+    sym (ap (λ w. to_give_after a w c.args.call) (drop_of_length-le way past)
+    ∙ give_here (graph_of t) (live_of a.live) a.limit (λ s. IsState t s) (prunes t a.live a.limit inv.ready.sound.table inv.ready.sound.sized) a.word.items a.calls (rests_of t a.frames.items) c.args.call a.behind c.calls_after-self.result stands c.calls_after-self.ensures.after)
+    ∙ inv.so_far

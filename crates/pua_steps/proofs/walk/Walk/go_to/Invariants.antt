@@ -1,0 +1,14 @@
+use Rattle.std.proofs.Common.{◌≡◌, drop}
+use Rattle.pua_steps.specs.Order.{rest_after}
+use Rattle.pua_steps.specs.Trail.{pairs_of}
+use Rattle.pua_steps.specs.Ready.{IsReady, IsOf, trail}
+use Rattle.pua_steps.specs.Resuming.{to_give_after}
+use Rattle.pua_steps.proofs.walk.Walk.go_to.Given as goal
+
+abbrev pub invariant-loop-letter : goal.invariant-loop-letter
+invariant-loop-letter l = record {
+  ready : IsReady l.self;
+  same : IsOf l.fn.self l.self;
+  reads : l.self.seen ≡ l.fn.self.seen;
+  so_far : to_give_after l.self (drop l.letter-index l.word) l.call ≡ rest_after (l.word, l.call) (pairs_of (trail l.fn.self));
+}

@@ -1,0 +1,18 @@
+use Rattle.std.proofs.Common.{◌≡◌, ◌≤◌, ◌-◌, ℕ, None, length}
+use Rattle.pua_steps.specs.Ready.{IsCounted, looks, left_over, AreOpen, IsSound, IsOf}
+use Rattle.pua_steps.proofs.walk.Walk.turn.Given as goal
+
+abbrev pub invariant-loop-frame : goal.invariant-loop-frame
+invariant-loop-frame l = record {
+  same : IsOf l.fn.self l.self;
+  sound : IsSound l.self;
+  states : AreOpen l.self.steps l.self.frames.items;
+  calls : l.self.calls ≡ 0;
+  behind : l.self.behind ≡ None;
+  framed : length l.self.word.items ≡ length l.self.frames.items - 1;
+  most : length l.self.frames.items ≤ l.self.limit;
+  so_far : (n : ℕ) × (IsCounted l.fn.self.seen n l.self.seen × (left_over l.fn.self l.fn.self.frames.items ≡ looks n (left_over l.self l.self.frames.items)));
+}
+
+abbrev pub decreases-loop-frame : goal.decreases-loop-frame
+decreases-loop-frame l = length l.self.frames.items

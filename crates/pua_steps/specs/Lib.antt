@@ -1,0 +1,11 @@
+pub mod Limits
+pub mod Calls
+pub mod Graph
+pub mod Trail
+pub mod Table
+pub mod Live
+pub mod Ready
+pub mod Reached
+pub mod Order
+pub mod Resuming
+pub mod Examples

@@ -1,0 +1,18 @@
+-- The limits of a table of steps and of a walk over it, each with one name.
+use Rattle.std.specs.Prelude.{ℕ}
+
+-- the most letters of a word
+abbrev pub most_letters : ℕ
+most_letters = 16
+
+-- the most links that are followed on one path
+abbrev pub most_links : ℕ
+most_links = 32
+
+-- one more: the greatest number of a bound on the links followed before
+abbrev pub most_bound : ℕ
+most_bound = 33
+
+-- how many calls there are
+abbrev pub call_count : ℕ
+call_count = 14

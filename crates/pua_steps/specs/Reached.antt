@@ -1,0 +1,66 @@
+-- The live states: those to which words lead, and from which words with allowed calls go on.
+use Rattle.std.specs.Prelude.{◌≡◌, ◌<◌, ◌≤◌, ◌^◌, ◌+◌, ◌-◌, ℕ, zero, suc, Bool, false, cond, ◌&&◌, ◌||◌, ◌==◌, nat_le, List, [], ◌∷◌, length, get_or, Option, Some, None, option_to_list, flat_map, filter, filter_map}
+use Rattle.std.specs.Int.{bit_at}
+use Rattle.pua_steps.specs.Limits.{most_links, most_bound}
+use Rattle.pua_steps.specs.Graph.{Graph, below, some_pair}
+use Rattle.pua_steps.specs.declared.state.State.{State}
+use Rattle.pua_steps.specs.declared.visit.Visit.{Visit}
+use Rattle.pua_steps.specs.Table.{entries_at}
+use Rattle.pua_steps.specs.declared.steps.Entry.{Entry}
+use Rattle.pua_steps.specs.declared.steps.Steps.{Steps}
+
+abbrev pub states_behind : List Visit → List State
+states_behind vs = filter_map (λ (v : Visit). v.behind) vs
+
+-- the states to which the words of so many letters lead, one for each word
+unfoldable pub reached : (State → List Visit) → ℕ → Option State → List State
+reached g zero o = option_to_list o
+reached g (suc n) o = flat_map (λ s. states_behind (g s)) (reached g n o)
+
+abbrev pub is_same : State → State → Bool
+is_same a b = (a.dir == b.dir) && (a.used == b.used)
+
+abbrev pub is_among : State → List State → Bool
+is_among s [] = false
+is_among s (x ∷ xs) = is_same s x || is_among s xs
+
+-- each state once
+abbrev pub distinct : List State → List State
+distinct [] = []
+distinct (x ∷ xs) = cond (is_among x xs) (distinct xs) (x ∷ distinct xs)
+
+-- those from which a word with an allowed call goes on, by at most so many letters
+abbrev pub live_among : Graph → ℕ → List State → List State
+live_among g l ss = filter (λ s. some_pair (below g l (Some s))) ss
+
+-- how many states, by the letters that may still come, are live: with the last n letters of the limit
+abbrev pub live_count : Graph → ℕ → Option State → ℕ → ℕ
+live_count g limit o zero = 0
+live_count g limit o (suc n) = live_count g limit o n + length (distinct (live_among g (limit - n) (reached (g 0) n o)))
+
+-- the sum of the first n
+abbrev pub total : (ℕ → ℕ) → ℕ → ℕ
+total f zero = 0
+total f (suc n) = total f n + f n
+
+-- sets of numbers of links as bits, one for each directory
+abbrev pub stood : List ℕ → ℕ → ℕ → Bool
+stood sets d u = bit_at (get_or sets d 0) u == 1
+
+pub record AreSets (dirs : ℕ) (ss : List State) (sets : List ℕ) : Type 0 where
+  pub many : length sets ≡ dirs
+  pub small : (d : ℕ) → d < dirs → get_or sets d 0 < 2 ^ most_bound
+  pub tells : (d u : ℕ) → d < dirs → u ≤ most_links → stood sets d u ≡ is_among (record { dir = d; used = u }) ss
+
+-- an entry leads from one of a set's numbers of links to a directory and a number of links
+abbrev pub lands : Entry → ℕ → ℕ → ℕ → Bool
+lands e set d u = elim e.to [ None ↦ false | Some to ↦ (to == d) && (nat_le e.links u && (bit_at set (u - e.links) == 1)) ]
+
+abbrev pub lands_some : List Entry → ℕ → ℕ → ℕ → Bool
+lands_some [] set d u = false
+lands_some (e ∷ es) set d u = lands e set d u || lands_some es set d u
+
+-- the same from the sets of the first directories
+abbrev pub lands_from : Steps → List ℕ → ℕ → ℕ → ℕ → Bool
+lands_from t sets zero d u = false
+lands_from t sets (suc n) d u = lands_from t sets n d u || lands_some (entries_at t n) (get_or sets n 0) d u

@@ -1,0 +1,12 @@
+//! An open state of a walk.
+
+use crate::state::State;
+
+/// An open state: the letters from `next` on, and its directory's entries from `place` on, are still
+/// to be tried.
+#[derive(Clone, Copy, Debug, PartialEq, Eq)]
+pub struct Frame {
+    pub state: State,
+    pub next: u32,
+    pub place: usize,
+}

@@ -1,0 +1,28 @@
+//! The words over an alphabet by a table of steps: which calls are allowed on them, which states are
+//! live, and a walk through them in their order.
+//!
+//! Letters, directories and calls are numbers here: a letter is its place in the alphabet, a
+//! directory its place among the rows of the table, a call the place of its bit in a set.
+#![tactic(auto)]
+
+mod calls;
+mod forward;
+mod frame;
+mod laws;
+mod limits;
+mod live;
+mod resumed;
+mod seek;
+mod state;
+mod steps;
+mod visit;
+mod walk;
+
+pub use frame::Frame;
+pub use laws::steps_examples;
+pub use limits::{CALL_COUNT, MOST_LETTERS, MOST_LINKS};
+pub use live::Live;
+pub use state::State;
+pub use steps::{Entry, Row, Steps};
+pub use visit::Visit;
+pub use walk::Walk;

@@ -1,0 +1,142 @@
+//! A walk that goes on after a pair.
+
+ghost use Rattle.std.specs.Prelude.{◌≡◌, ◌<◌, ◌≤◌, ◌^◌, ◌*◌, ◌∷◌, [], ℕ, List, suc, length, Some, IfOk, IfSome};
+ghost use Rattle.std.specs.List.{AllByRecursion};
+ghost use Rattle.pua_steps.specs.Limits.{most_letters, call_count};
+ghost use Rattle.pua_steps.specs.Graph.{reach};
+ghost use Rattle.pua_steps.specs.Order.{rest_after, IsSplit};
+ghost use Rattle.pua_steps.specs.Table.{IsTable, IsState, IsOpen, IsVisit, graph_of, rest_of};
+ghost use Rattle.pua_steps.specs.Trail.{pairs_of};
+ghost use Rattle.pua_steps.specs.Ready.{IsReady, IsOf, trail};
+ghost use Rattle.pua_steps.specs.Resuming.{to_give_after};
+
+use crate::calls::calls_after;
+use crate::frame::Frame;
+use crate::state::State;
+use crate::steps::Steps;
+use crate::visit::Visit;
+use crate::walk::Walk;
+use std::alloc::{AllocError, Global};
+
+/// What a letter of a state leads to, and the state open from the letter after it on.
+#[derive(Clone, Copy)]
+struct Found {
+    frame: Frame,
+    visit: Visit,
+}
+
+impl Steps {
+    /// Finds a letter among those of a state, by one binary search among its directory's entries.
+    fn find(&self, state: State, letter: u32) -> Found
+        requires table { IsTable self.now }
+        requires state { IsState self.now state }
+        requires letter { letter < self.now.letters }
+        ensures open { IsOpen self.now result.frame }
+        ensures visit { IsVisit self.now result.visit }
+        ensures split { (l : ℕ) →
+            IsSplit letter (graph_of self.now l state) result.visit (rest_of self.now result.frame) }
+    {
+        let row = &self.rows[state.dir as usize];
+        let place = row.place_of(letter);
+        let next = letter + 1;
+        let Some(entry) = row.entry_of(place, letter) else {
+            return Found {
+                frame: Frame { state, next, place },
+                visit: Visit {
+                    letter,
+                    calls: row.missing,
+                    behind: None,
+                },
+            };
+        };
+        Found {
+            frame: Frame {
+                state,
+                next,
+                place: place + 1,
+            },
+            visit: entry.visit(state.used),
+        }
+    }
+}
+
+impl Walk {
+    /// A walk with those pairs ahead of it that come after a pair: after the word `word`, given by the
+    /// places of its letters, and the call with the number `call`, from 0 on. The word's path may lead
+    /// nowhere, the word may be longer than `limit`, and the pair need not be allowed. The other
+    /// arguments are those of `begin`, as is the error. It goes to that place by one binary search a
+    /// letter, and does not walk there from the first pair.
+    pub fn resume(
+        alloc: Global,
+        steps: Steps,
+        calls: u16,
+        base: Option<State>,
+        limit: usize,
+        word: &[u32],
+        call: u8,
+    ) -> Result<Walk, AllocError>
+        requires table { IsTable steps }
+        requires limit { limit ≤ most_letters }
+        requires fits { suc limit * length steps.rows.items < 2 ^ 64 }
+        requires calls { calls < 2 ^ call_count }
+        requires base { IfSome base (λ s. IsState steps s) }
+        requires word { AllByRecursion (λ letter. letter < steps.letters) word.now }
+        requires call { call < call_count }
+        ensures ready { IfOk result (λ walk. IsReady walk) }
+        ensures of { IfOk result (λ walk. (walk.steps ≡ steps) × (walk.limit ≡ limit)) }
+        ensures reads { IfOk result (λ walk. walk.seen ≡ 0) }
+        ensures left { IfOk result (λ walk.
+            pairs_of (trail walk) ≡ rest_after (word.now, call) (reach (graph_of steps) limit calls base)) }
+    {
+        let mut walk = Walk::begin(alloc, steps, calls, base, limit)?;
+        walk.go_to(word, call);
+        Ok(walk)
+    }
+
+    /// Goes from its beginning to the place after a pair: along the pair's word as far as words with
+    /// an allowed call go on, and to those of the word's calls that come after the pair's.
+    fn go_to(&mut self, word: &[u32], call: u8)
+        requires ready { IsReady self.old }
+        requires fresh { (self.old.word.items ≡ []) × (self.old.frames.items ≡ []) }
+        requires word { AllByRecursion (λ letter. letter < self.old.steps.letters) word.now }
+        requires call { call < call_count }
+        ensures ready { IsReady self.new }
+        ensures same { IsOf self.old self.new }
+        ensures reads { self.new.seen ≡ self.old.seen }
+        ensures left { pairs_of (trail self.new) ≡ rest_after (word.now, call) (pairs_of (trail self.old)) }
+    {
+        for letter in word {
+            let Some(state) = self.behind else {
+                self.calls = 0;
+                return;
+            };
+            self.descend(state, *letter);
+        }
+        self.calls = calls_after(self.calls, call);
+    }
+
+    /// Goes on to the word with this letter more, past the letters before it.
+    fn descend(&mut self, state: State, letter: u32)
+        requires ready { IsReady self.old }
+        requires there { self.old.behind ≡ Some state }
+        requires short { length self.old.word.items < self.old.limit }
+        requires letter { letter < self.old.steps.letters }
+        ensures ready { IsReady self.new }
+        ensures same { IsOf self.old self.new }
+        ensures reads { self.new.seen ≡ self.old.seen }
+        ensures gives { (way : List ℕ) (call : ℕ) →
+            to_give_after self.old (letter ∷ way) call ≡ to_give_after self.new way call }
+    {
+        let left = self.limit - self.word.len() - 1;
+        let found = self.steps.find(state, letter);
+        let behind = self.live.entrance(left, found.visit.behind);
+        self.enter(
+            found.frame,
+            Visit {
+                letter,
+                calls: found.visit.calls,
+                behind,
+            },
+        );
+    }
+}

@@ -1,0 +1,182 @@
+//! The walk through the words over a table of steps.
+
+ghost use Rattle.std.specs.Prelude.{◌≡◌, ◌≤◌, ◌<◌, ◌+◌, ◌∷◌, ◌++◌, [], ℕ, IfSome, ◌*◌, ◌^◌, suc, IfOk, length, vec_capacity, MatchOption};
+ghost use Rattle.pua_steps.specs.Limits.{most_letters, call_count};
+ghost use Rattle.pua_steps.specs.Graph.{reach};
+ghost use Rattle.pua_steps.specs.Table.{IsTable, IsState, graph_of};
+ghost use Rattle.pua_steps.specs.Trail.{pairs_of};
+ghost use Rattle.pua_steps.specs.Ready.{IsReady, IsBetween, IsOf, IsTurned, IsNext, IsCounted, left_over, trail};
+
+use crate::calls::take_first;
+use crate::frame::Frame;
+use crate::live::Live;
+use crate::seek::next_visit;
+use crate::state::State;
+use crate::steps::Steps;
+use crate::visit::Visit;
+use std::alloc::{AllocError, Global};
+
+/// A walk through the words of a table of steps, in their order: letter by letter, a word before its
+/// extensions. It gives the pairs of a word and a call that is allowed on it. It takes no memory
+/// beyond what was reserved at its beginning.
+#[derive(Drop)]
+pub struct Walk {
+    pub steps: Steps,
+    pub live: Live,
+    /// The most letters of a word.
+    pub limit: usize,
+    /// The word, by the places of its letters in the alphabet.
+    pub word: Vec<u32>,
+    /// The calls of the word that are still to be given.
+    pub calls: u16,
+    /// The state to which the word leads, where it is live.
+    pub behind: Option<State>,
+    /// The states that are open, one for each letter of the word.
+    pub frames: Vec<Frame>,
+    /// How many letters were read; it stays at its greatest value once there.
+    pub seen: u64,
+}
+
+impl Walk {
+    /// A walk with all pairs ahead of it, by words of at most `limit` letters: `calls` are the calls of
+    /// the empty word, and `base` is the state in which the first letter stands, if there is one. It
+    /// reserves all that the walk will need, and reads no letter. The one error is that a growth was refused, after which
+    /// nothing is kept.
+    pub fn begin(
+        alloc: Global,
+        steps: Steps,
+        calls: u16,
+        base: Option<State>,
+        limit: usize,
+    ) -> Result<Walk, AllocError>
+        requires table { IsTable steps }
+        requires limit { limit ≤ most_letters }
+        requires fits { suc limit * length steps.rows.items < 2 ^ 64 }
+        requires calls { calls < 2 ^ call_count }
+        requires base { IfSome base (λ s. IsState steps s) }
+        ensures ready { IfOk result (λ walk. IsReady walk) }
+        ensures of { IfOk result (λ walk. (walk.steps ≡ steps) × (walk.limit ≡ limit)) }
+        ensures fresh { IfOk result (λ walk. (walk.word.items ≡ []) × (walk.frames.items ≡ [])) }
+        ensures reads { IfOk result (λ walk. walk.seen ≡ 0) }
+        ensures left { IfOk result (λ walk. pairs_of (trail walk) ≡ reach (graph_of steps) limit calls base) }
+    {
+        let live = Live::fill(alloc, &steps, limit)?;
+        let word = Vec::with_capacity(alloc, limit)?;
+        let frames = Vec::with_capacity(alloc, limit)?;
+        let behind = live.entrance(limit, base);
+        Ok(Walk {
+            steps,
+            live,
+            limit,
+            word,
+            calls,
+            behind,
+            frames,
+            seen: 0,
+        })
+    }
+
+    /// The call of the next pair, whose word is then the walk's. None where no pair is left, now and
+    /// from then on. It reads at most `2 * limit * letters` letters, and takes no memory.
+    pub fn next_call(&mut self) -> Option<u8>
+        requires ready { IsReady self.old }
+        ensures ready { IsReady self.new }
+        ensures same { IsOf self.old self.new }
+        ensures line { MatchOption result ((pairs_of (trail self.old) ≡ []) × (pairs_of (trail self.new) ≡ []))
+            (λ call. pairs_of (trail self.old) ≡ (self.new.word.items, call) ∷ pairs_of (trail self.new)) }
+        ensures count { (n : ℕ) × (IsCounted self.old.seen n self.new.seen × IsNext self.old result self.new n) }
+        ensures cost { self.new.seen ≤ self.old.seen + 2 * (self.old.limit * self.old.steps.letters) }
+    {
+        self.go_on()
+    }
+
+    /// How many letters the walk has read so far. It stays at its greatest value once there.
+    pub fn reads(&self) -> u64
+        ensures { result ≡ self.now.seen }
+    {
+        self.seen
+    }
+
+    /// Goes on to the next pair.
+    fn go_on(&mut self) -> Option<u8>
+        requires { IsReady self.old }
+        ensures ready { IsReady self.new }
+        ensures same { IsOf self.old self.new }
+        ensures next { (n : ℕ) × (IsCounted self.old.seen n self.new.seen × IsNext self.old result self.new n) }
+    {
+        'words: loop {
+            if let Some(call) = take_first(&mut self.calls) {
+                return Some(call);
+            }
+            if !self.advance() {
+                return None;
+            }
+        }
+    }
+
+    /// Goes on to the next word, if there is one.
+    fn advance(&mut self) -> bool
+        requires ready { IsReady self.old }
+        requires given { self.old.calls ≡ 0 }
+        ensures ready { IsReady self.new }
+        ensures same { IsOf self.old self.new }
+        ensures next { (n : ℕ) × (IsCounted self.old.seen n self.new.seen × IsTurned (trail self.old) result self.new n) }
+    {
+        if let Some(state) = self.behind {
+            self.behind = None;
+            self.frames
+                .push(Frame {
+                    state,
+                    next: 0,
+                    place: 0,
+                })
+                .unwrap();
+            return self.turn();
+        }
+        let _ = self.word.pop();
+        self.turn()
+    }
+
+    /// Takes the next letter of the deepest frame that has one left.
+    fn turn(&mut self) -> bool
+        requires { IsBetween self.old }
+        ensures ready { IsReady self.new }
+        ensures same { IsOf self.old self.new }
+        ensures next { (n : ℕ) × (IsCounted self.old.seen n self.new.seen
+            × IsTurned (left_over self.old self.old.frames.items) result self.new n) }
+    {
+        while let Some(mut frame) = self.frames.pop() {
+            let left = self.limit - self.word.len() - 1;
+            if let Some(visit) = next_visit(
+                &self.steps,
+                &self.live,
+                left,
+                &mut frame,
+                &mut self.seen,
+            ) {
+                self.enter(frame, visit);
+                return true;
+            }
+            let _ = self.word.pop();
+        }
+        false
+    }
+
+    /// Goes to the word with one letter more.
+    pub(crate) fn enter(&mut self, frame: Frame, visit: Visit)
+        requires words { length self.old.word.items < vec_capacity self.old.word }
+        requires frames { length self.old.frames.items < vec_capacity self.old.frames }
+        ensures kept { (self.new.steps ≡ self.old.steps) × (self.new.live ≡ self.old.live)
+            × (self.new.limit ≡ self.old.limit) × (self.new.seen ≡ self.old.seen) }
+        ensures room { (vec_capacity self.old.word ≤ vec_capacity self.new.word)
+            × (vec_capacity self.old.frames ≤ vec_capacity self.new.frames) }
+        ensures frames { self.new.frames.items ≡ self.old.frames.items ++ frame ∷ [] }
+        ensures word { self.new.word.items ≡ self.old.word.items ++ visit.letter ∷ [] }
+        ensures there { (self.new.calls ≡ visit.calls) × (self.new.behind ≡ visit.behind) }
+    {
+        self.frames.push(frame).unwrap();
+        self.word.push(visit.letter).unwrap();
+        self.calls = visit.calls;
+        self.behind = visit.behind;
+    }
+}
