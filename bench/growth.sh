@@ -1,0 +1,33 @@
+#!/bin/sh
+# Each growth of memory refused in turn to calls that are then made once more: sh growth.sh PROGRAM
+# PROGRAM is that of the crate pua_hostile. Its growth number N is refused, for N from 1 until a run
+# meets no refusal. A run has to end as it must after the second call, or, where the growth was refused
+# to something else than these calls, with a fault. A line is printed for each run that does neither,
+# and at last how many runs there were, in how many a call was made once more, and how many were wrong.
+set -u
+program=$(realpath "$1")
+source=$(realpath "$(dirname "$0")")/refuse.c
+room=$(mktemp -d)
+trap 'rm -rf "$room"' EXIT
+cd "$room" || exit 2
+cc -O2 -Wall -shared -fPIC -o refuse.so "$source" || exit 2
+runs=0
+again=0
+elsewhere=0
+wrong=0
+
+while :; do
+    LD_PRELOAD=$room/refuse.so REFUSE_AT=$((runs + 1)) "$program" growth > written 2> told 9> met
+    status=$?
+    [ -s met ] || break
+    runs=$((runs + 1))
+    case "$status $(cat written)" in
+        '0 1 calls made once more') again=$((again + 1)) ;;
+        '0 0 calls made once more') elsewhere=$((elsewhere + 1)) ;;
+        '0 '*) wrong=$((wrong + 1)); echo "growth $runs: $(cat written)" ;;
+        *' ') elsewhere=$((elsewhere + 1)) ;;
+        *) wrong=$((wrong + 1)); echo "growth $runs: status $status, $(cat written told)" ;;
+    esac
+done
+echo "$runs growths: $again in calls made once more, $elsewhere elsewhere, $wrong wrong"
+[ "$wrong" = 0 ]

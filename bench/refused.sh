@@ -1,0 +1,101 @@
+#!/bin/sh
+# Each growth of memory refused in turn in the program: sh refused.sh PROGRAM
+# For each command its growth number N is refused, for N from 1 until a run meets no refusal: once this
+# growth alone, and once each one from it on. A run has to end with status 4, the one line
+# `pua: out of memory` on standard error and nothing on standard output, or as it ends undisturbed,
+# where the refused growth was of no account. A line is printed for each run that does neither, for each
+# command how many runs did which, and at last how many runs there were and how many were wrong.
+set -u
+program=$(realpath "$1")
+source=$(realpath "$(dirname "$0")")/refuse.c
+room=$(mktemp -d)
+trap 'rm -rf "$room"' EXIT
+cd "$room" || exit 2
+cc -O2 -Wall -shared -fPIC -o refuse.so "$source" || exit 2
+runs=0
+wrong=0
+ended=
+
+printf '%s\n' 'tree 1' '0 dir' '1 dir 0 etc' '2 file 1 passwd' '3 dir 0 tmp' '4 link 0 t tmp' \
+    '5 link 3 up ../etc' '6 link 3 self self' '7 prog 3 sh' > tree
+printf '%s\n' 'tree 1' '0 dir' '1 dir 0' > cut
+printf '%s\n' '1 create /a' '1 mkdir /tmp/new' '1 symlink ../etc /tmp/new/l' '1 rename /a /tmp/new/b' \
+    '1 rename /tmp /etc/tmp' '1 unlink /etc/tmp/sh' '1 rmdir /etc/tmp/new' '1 stat /etc/tmp/new/b' > edits
+printf '%s\n' '1 fork 2' '1 unveil /etc/passwd rw' '2 unlink /etc/passwd' '1 stat /etc/passwd' '2 create /etc/passwd' \
+    '2 fork 3' '3 exec /tmp/sh' '3 exit' '3 stat /' > forks
+printf '%s\n' '1 unveil /etc r' '1 unveil /etc rw' '1 unveil /etc/passwd rw' '1 unveil /etc q' '1 unveil /no/x r' \
+    '1 unveil - -' '1 unveil /tmp r' '1 unveil - -' > veils
+printf '%s\n' '1 unveil /etc/passwd r' '1 unveil - -' > one
+printf '%s\n' '1 pledge stdio,cpath -' '1 mkdir /d' '1 chdir /d' > makes
+printf '%s\n' '1 pledge stdio,,rpath -' > list
+: > none
+
+# One run of the command with the growth refused; its answer stands in `status`, `written` and `told`.
+refused() {
+    at=$1
+    shift
+    LD_PRELOAD=$room/refuse.so REFUSE_AT=$at "$program" "$@" > written 2> told 9> met
+    status=$?
+}
+
+# Counts the run's answer, or prints that it is wrong.
+judge() {
+    runs=$((runs + 1))
+    if [ "$status" = 4 ] && [ ! -s written ] && cmp -s told line; then
+        named=$((named + 1))
+    elif [ "$status" = "$ended" ] && cmp -s written output && cmp -s told fault; then
+        same=$((same + 1))
+    else
+        echo "$name, growth $at, $mode: status $status, $(cat told)"
+        wrong=$((wrong + 1))
+    fi
+}
+
+# The name of a case, the status that it has undisturbed, and the words of the command.
+sweep() {
+    name=$1
+    ended=$2
+    shift 2
+    "$program" "$@" > output 2> fault
+    status=$?
+    if [ "$status" != "$ended" ]; then
+        echo "$name: status $status undisturbed, $(cat fault)"
+        wrong=$((wrong + 1))
+    fi
+    for mode in alone 'and on'; do
+        named=0
+        same=0
+        growths=0
+        if [ "$mode" = 'and on' ]; then export REFUSE_ON=1; else unset REFUSE_ON; fi
+        while :; do
+            refused $((growths + 1)) "$@"
+            [ -s met ] || break
+            growths=$at
+            judge
+        done
+        echo "$name, $mode: $growths growths, $named out of memory, $same undisturbed"
+    done
+}
+
+echo 'pua: out of memory' > line
+sweep 'edits' 0 run tree edits
+sweep 'forks' 0 run tree forks
+sweep 'veils' 0 run tree veils
+sweep 'no script' 0 run tree none
+sweep 'an audit' 0 audit --limit 3 tree one
+sweep 'an audit of what it makes' 0 audit --limit 2 --base cwd tree makes a 'b\040c'
+sweep 'an audit of another process' 0 audit --limit 2 --process 2 tree forks
+sweep 'an audit that is resumed' 0 audit --limit 3 --after lstat:/etc/passwd tree one
+sweep 'an audit of many lines' 0 audit --limit 6 tree none
+sweep 'help' 0 --help
+sweep 'help of an audit' 0 audit --help
+sweep 'no words' 2
+sweep 'words of no command' 2 audit --limit x tree one
+sweep 'a listing that is cut' 1 run cut none
+sweep 'a list with an empty word' 1 run tree list
+sweep 'no such process' 1 audit --limit 1 --process 9 tree none
+sweep 'no such pair' 1 audit --limit 3 --after stat:/nope tree one
+sweep 'a limit too large' 1 audit --limit 17 tree none
+sweep 'no such file' 3 run tree missing
+echo "$runs runs, $wrong wrong"
+[ "$wrong" = 0 ]

@@ -1,0 +1,197 @@
+//! Sinks that break at each of their puts, and readers that fail at each of their reads.
+
+use crate::LISTING;
+use crate::dripping::{DrippingReader, DrippingSink};
+use anyhow::{Result, anyhow};
+use pua_audit::Base;
+use pua_tool::{
+    DEVICE, DONE, InputFault, Job, MemoryInputs, MemorySink, ReadSource, ToolFault, audit_to,
+    command, read_bytes,
+};
+use std::alloc::Global;
+
+/// A listing, a script, and the audit of process 1 with them.
+#[derive(Clone, Copy)]
+struct Audited<'a> {
+    tree: &'a [u8],
+    script: &'a [u8],
+    job: Job<'a>,
+}
+
+/// An audit with a text of 59 bytes.
+const SHORT: Audited<'static> = Audited {
+    tree: b"tree 1\n0 dir\n",
+    script: b"1 pledge stdio,cpath -\n",
+    job: Job {
+        limit: 2,
+        process: 1,
+        base: Base::Root,
+        after: None,
+        candidates: &[b"a"],
+    },
+};
+
+/// The text of the short audit.
+const SHORT_TEXT: &[u8] = b"1 ok\nreach 1\n/../a mkdir\n/../a symlink\n/a mkdir\n/a symlink\n";
+
+/// An audit whose lines take more than one block of 65,536 bytes: of a new process, over a directory
+/// in which nothing stands.
+const LONG: Audited<'static> = Audited {
+    tree: b"tree 1\n0 dir\n1 dir 0 d\n",
+    script: b"",
+    job: Job {
+        limit: 10,
+        process: 1,
+        base: Base::Root,
+        after: None,
+        candidates: &[],
+    },
+};
+
+/// How many bytes the text of the long audit has.
+const LONG_BYTES: usize = 68_027;
+
+/// How many bytes stand before the lines of the long audit, and in the first block of them.
+const BEFORE_BLOCK: u64 = 8;
+
+const BLOCK: u64 = 65_536;
+
+/// Room for the longest of the texts.
+const ROOM: usize = 131_072;
+
+/// Prints a line for each case that is not as it has to be, and how many cases each table has.
+pub(crate) fn run(rt: &HostRuntime) -> Result<()> {
+    short_audits(rt)?;
+    short_commands(rt)?;
+    long_audits(rt)?;
+    short_puts(rt)?;
+    readings(rt)
+}
+
+fn memory_sink(alloc: Global, room: usize) -> Result<MemorySink> {
+    MemorySink::new(alloc, room).map_err(|fault| anyhow!("{fault}"))
+}
+
+/// The first bytes of a text, at most so many.
+fn front(text: &[u8], count: u64) -> &[u8] {
+    match usize::try_from(count) {
+        Ok(count) if count < text.len() => &text[..count],
+        _ => text,
+    }
+}
+
+/// Whether an audit, with a sink that takes a byte a put and fails from this put on, leaves in it the
+/// bytes of the puts before, and answers that it can't write unless these are the whole text.
+fn is_cut(alloc: Global, audited: &Audited<'_>, text: &[u8], fails_from: u64) -> Result<bool> {
+    let mut sink = DrippingSink::new(alloc, 1, fails_from);
+    let answer = audit_to(alloc, audited.tree, audited.script, &audited.job, &mut sink);
+    let held = front(text, fails_from.saturating_sub(1));
+    let wanted = if held.len() == text.len() {
+        Ok(())
+    } else {
+        Err(ToolFault::Write)
+    };
+    Ok(answer == wanted && sink.bytes() == held)
+}
+
+/// The short audit, with a sink that fails from each put on.
+fn short_audits(rt: &HostRuntime) -> Result<()> {
+    let mut cases = 0u32;
+    for fails_from in 1..=60 {
+        cases = cases.saturating_add(1);
+        if !is_cut(rt.alloc(), &SHORT, SHORT_TEXT, fails_from)? {
+            println!(rt; "short audit, put {fails_from}: wrong")?;
+        }
+    }
+    println!(rt; "short audit: {cases} sinks")?;
+    Ok(())
+}
+
+/// Whether the command of the short audit leaves the same in such a sink, with its status and line.
+fn is_cut_command(alloc: Global, fails_from: u64) -> Result<bool> {
+    let words = ["audit", "--limit", "2", "T", "S", "a"];
+    let entries = [("T", SHORT.tree), ("S", SHORT.script)];
+    let mut inputs = MemoryInputs::new(&entries);
+    let mut out = DrippingSink::new(alloc, 1, fails_from);
+    let mut err = memory_sink(alloc, 1_024)?;
+    let status = command(alloc, &words, &mut inputs, &mut out, &mut err);
+    let held = front(SHORT_TEXT, fails_from.saturating_sub(1));
+    let (wanted, line) = if held.len() == SHORT_TEXT.len() {
+        (DONE, b"".as_slice())
+    } else {
+        (DEVICE, b"pua: cannot write\n".as_slice())
+    };
+    Ok(status == wanted && out.bytes() == held && err.bytes() == line)
+}
+
+/// The command of the short audit, with a sink that fails from each put on.
+fn short_commands(rt: &HostRuntime) -> Result<()> {
+    let mut cases = 0u32;
+    for fails_from in 1..=60 {
+        cases = cases.saturating_add(1);
+        if !is_cut_command(rt.alloc(), fails_from)? {
+            println!(rt; "short command, put {fails_from}: wrong")?;
+        }
+    }
+    println!(rt; "short command: {cases} sinks")?;
+    Ok(())
+}
+
+/// The long audit, with sinks that fail about the ends of the first block and of the text.
+fn long_audits(rt: &HostRuntime) -> Result<()> {
+    let mut whole = memory_sink(rt.alloc(), ROOM)?;
+    let answer = audit_to(rt.alloc(), LONG.tree, LONG.script, &LONG.job, &mut whole);
+    if answer != Ok(()) || whole.bytes().len() != LONG_BYTES {
+        println!(rt; "long audit: {} bytes", whole.bytes().len())?;
+    }
+    let mut cases = 0u32;
+    for edge in [BEFORE_BLOCK, BLOCK, BEFORE_BLOCK + BLOCK, LONG_BYTES as u64] {
+        for fails_from in edge.saturating_sub(2)..edge.saturating_add(4) {
+            cases = cases.saturating_add(1);
+            if !is_cut(rt.alloc(), &LONG, whole.bytes(), fails_from)? {
+                println!(rt; "long audit, put {fails_from}: wrong")?;
+            }
+        }
+    }
+    println!(rt; "long audit: {cases} sinks")?;
+    Ok(())
+}
+
+/// Whether a sink that takes so many bytes a put, and never fails, is left the text of the long audit.
+fn is_whole(alloc: Global, text: &[u8], most: usize) -> Result<bool> {
+    let mut sink = DrippingSink::new(alloc, most, u64::MAX);
+    let answer = audit_to(alloc, LONG.tree, LONG.script, &LONG.job, &mut sink);
+    Ok(answer == Ok(()) && sink.bytes() == text)
+}
+
+/// The long audit, with sinks that take little or much a put, and never fail.
+fn short_puts(rt: &HostRuntime) -> Result<()> {
+    let mut whole = memory_sink(rt.alloc(), ROOM)?;
+    let answer = audit_to(rt.alloc(), LONG.tree, LONG.script, &LONG.job, &mut whole);
+    let sizes = [1usize, 2, 7, 4_096, 65_535, 65_536, 65_537];
+    for most in &sizes {
+        if answer != Ok(()) || !is_whole(rt.alloc(), whole.bytes(), *most)? {
+            println!(rt; "long audit, {most} bytes a put: wrong")?;
+        }
+    }
+    println!(rt; "short puts: {} sinks", sizes.len())?;
+    Ok(())
+}
+
+/// The listing, read by readers that fail at each read.
+fn readings(rt: &HostRuntime) -> Result<()> {
+    let mut cases = 0u32;
+    for fails_at in 1..=120 {
+        cases = cases.saturating_add(1);
+        let mut source = ReadSource::new(DrippingReader::new(LISTING, fails_at));
+        let is_right = match read_bytes(rt.alloc(), &mut source) {
+            Ok(all) => fails_at == 120 && all.as_slice() == LISTING,
+            Err(fault) => fails_at < 120 && fault == InputFault::Unreadable,
+        };
+        if !is_right {
+            println!(rt; "reading, read {fails_at}: wrong")?;
+        }
+    }
+    println!(rt; "readings: {cases} readers")?;
+    Ok(())
+}

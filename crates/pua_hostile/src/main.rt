@@ -1,0 +1,36 @@
+//! Runs the libraries in hostile surroundings: sinks that take a byte at a time and break, readers
+//! that give a byte at a time and fail, inputs that are cut anywhere or hold a wrong byte, and links
+//! that lead to one another. A line is printed for each case that is not as it has to be, and for each
+//! table how many cases it has. With a word it makes only the calls to which growths may be refused.
+#![tactic(auto)]
+
+mod broken;
+mod cuts;
+mod dripping;
+mod growth;
+mod listed;
+mod nets;
+mod rows;
+mod variants;
+
+use anyhow::Result;
+use std::env;
+
+/// A tree of directories, a file, a program, and links: to a directory, up and down again, to itself.
+const LISTING: &[u8] =
+    b"tree 1\n0 dir\n1 dir 0 etc\n2 file 1 passwd\n3 dir 0 tmp\n4 link 0 t tmp\n5 link 3 up ../etc\n6 link 3 self self\n7 prog 3 sh\n";
+
+/// A script of one process that puts veils over this tree.
+const SCRIPT: &[u8] =
+    b"1 unveil /etc r\n1 unveil /etc rw\n1 unveil /etc/passwd rw\n1 unveil /etc q\n1 unveil /no/x r\n1 unveil - -\n1 unveil /tmp r\n1 unveil - -\n";
+
+fn main(rt: HostRuntime) -> Result<()> {
+    if env::args(&rt)?.count() > 1 {
+        return growth::run(&rt);
+    }
+    broken::run(&rt)?;
+    cuts::run(&rt)?;
+    nets::run(&rt)?;
+    variants::run(&rt)?;
+    growth::run(&rt)
+}

@@ -1,0 +1,80 @@
+//! Two links, each of which leads through the other.
+
+use anyhow::{Result, anyhow};
+use pua_audit::Base;
+use pua_tool::{Job, MemorySink, audit_to};
+use std::alloc::Global;
+
+/// The root, and in it the two links.
+const TREE: &[u8] = b"tree 1\n0 dir\n1 link 0 a b/b\n2 link 0 b a/a\n";
+
+/// What a new process may do to the root.
+const ROOT_CALLS: [&str; 5] = ["stat", "lstat", "open-r", "chmod", "chdir"];
+
+/// What it may do to a link that leads nowhere.
+const LINK_CALLS: [&str; 3] = ["lstat", "readlink", "unlink"];
+
+/// The text of the audit with a limit of 1, written out.
+const SHORT: &str =
+    "reach 1\n/ stat\n/ lstat\n/ open-r\n/ chmod\n/ chdir\n/.. stat\n/.. lstat\n/.. open-r\n/.. chmod\n/.. chdir\n/a lstat\n/a readlink\n/a unlink\n/b lstat\n/b readlink\n/b unlink\n";
+
+/// Prints a line for each audit whose text is another one, and how many lines each has.
+pub(crate) fn run(rt: &HostRuntime) -> Result<()> {
+    if text_of(rt.alloc(), 1)?.as_str() != SHORT {
+        println!(rt; "a net of links, worked out: wrong")?;
+    }
+    for limit in [1, 16] {
+        let text = text_of(rt.alloc(), limit)?;
+        if !is_audited(rt.alloc(), limit, text.as_bytes())? {
+            println!(rt; "a net of links, limit {limit}: wrong")?;
+        }
+        let pairs = text.as_str().lines().count().saturating_sub(1);
+        println!(rt; "a net of links, limit {limit}: {pairs} pairs")?;
+    }
+    Ok(())
+}
+
+/// The text that is owed: the root by each number of `..`, and then, from the most of them to none,
+/// the two links after them.
+fn text_of(alloc: Global, limit: u8) -> Result<String> {
+    let mut text = String::from_str(alloc, "reach 1\n")?;
+    for ups in 0..=limit {
+        add_lines(alloc, &mut text, ups, "", &ROOT_CALLS)?;
+    }
+    for ups in (0..limit).rev() {
+        add_lines(alloc, &mut text, ups, "/a", &LINK_CALLS)?;
+        add_lines(alloc, &mut text, ups, "/b", &LINK_CALLS)?;
+    }
+    Ok(text)
+}
+
+/// Adds the lines of a path: so many times `..`, and then this.
+fn add_lines(alloc: Global, text: &mut String, ups: u8, rest: &str, calls: &[&str]) -> Result<()> {
+    let mut path = String::new(alloc);
+    for _ in 0..ups {
+        path.push_str("/..")?;
+    }
+    path.push_str(if ups == 0 && rest.is_empty() {
+        "/"
+    } else {
+        rest
+    })?;
+    for call in calls {
+        text.push_str(format!(in alloc; "{path} {call}\n")?.as_str())?;
+    }
+    Ok(())
+}
+
+/// Whether this is the text of the audit of a new process with a limit.
+fn is_audited(alloc: Global, limit: u8, text: &[u8]) -> Result<bool> {
+    let job = Job {
+        limit,
+        process: 1,
+        base: Base::Root,
+        after: None,
+        candidates: &[],
+    };
+    let mut sink = MemorySink::new(alloc, 65_536).map_err(|fault| anyhow!("{fault}"))?;
+    let answer = audit_to(alloc, TREE, b"", &job, &mut sink);
+    Ok(answer == Ok(()) && sink.bytes() == text)
+}

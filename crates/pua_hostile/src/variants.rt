@@ -1,0 +1,143 @@
+//! The listing and the script with each byte replaced by each of sixteen others: what comes of them is
+//! compared with a table.
+
+use crate::listed::listing_of;
+use crate::rows::read_row;
+use crate::{LISTING, SCRIPT};
+use anyhow::{Result, anyhow, bail};
+use pua_tool::{MemorySink, ToolFault, run_to};
+use pua_tree::read_listing;
+use std::alloc::Global;
+use std::fs;
+
+/// The sixteen bytes, which the tables name by letters from `a` on.
+const OTHERS: [u8; 16] = [
+    0, b'\n', b'\r', b' ', b'\\', b'/', b'0', b'9', b'=', b'-', 127, 128, 255, b'c', b'r', b'z',
+];
+
+/// What is varied.
+#[derive(Clone, Copy)]
+enum Varied {
+    Listing,
+    Script,
+}
+
+impl Varied {
+    fn bytes(self) -> &'static [u8] {
+        match self {
+            Varied::Listing => LISTING,
+            Varied::Script => SCRIPT,
+        }
+    }
+
+    /// Whether this is what comes of a variant in which the byte at a place is another.
+    fn is_answered(self, alloc: Global, variant: &[u8], at: usize, answer: &str) -> Result<bool> {
+        match self {
+            Varied::Listing => is_listing(alloc, variant, at, answer),
+            Varied::Script => is_script(alloc, variant, answer),
+        }
+    }
+}
+
+/// Prints a line for each variant that is answered otherwise than its table says, and how many there
+/// are.
+pub(crate) fn run(rt: &HostRuntime) -> Result<()> {
+    variants(rt, "listing-variants", Varied::Listing)?;
+    variants(rt, "script-variants", Varied::Script)
+}
+
+/// The variants of a table.
+fn variants(rt: &HostRuntime, table: &str, varied: Varied) -> Result<()> {
+    let text = fs::read_to_string(rt, table)?;
+    let mut cases = 0usize;
+    for line in text.as_str().lines() {
+        if let Some(row) = read_row(line)? {
+            let at: usize = row.first.parse()?;
+            cases = cases.saturating_add(row.second.len());
+            for letter in row.second.bytes() {
+                if !is_answered(rt.alloc(), varied, at, letter, row.answer)? {
+                    println!(rt;
+                        "{table}, place {at}, byte {letter}: not so: {}",
+                        row.answer
+                    )?;
+                }
+            }
+        }
+    }
+    if cases != varied.bytes().len().saturating_mul(OTHERS.len()) {
+        println!(rt; "{table}: not all variants")?;
+    }
+    println!(rt; "{table}: {cases} variants")?;
+    Ok(())
+}
+
+/// Whether this is what comes of the variant with the byte of this letter at a place.
+fn is_answered(alloc: Global, varied: Varied, at: usize, letter: u8, answer: &str) -> Result<bool> {
+    let Some(byte) = OTHERS.get(usize::from(letter.saturating_sub(b'a'))) else {
+        bail!("no byte has this letter: {letter}");
+    };
+    let mut variant = Vec::from_slice(alloc, varied.bytes())?;
+    let Some(place) = variant.get_mut(at) else {
+        bail!("no byte has this place: {at}");
+    };
+    *place = *byte;
+    varied.is_answered(alloc, variant.as_slice(), at, answer)
+}
+
+/// Whether a listing is refused with this fault, or is that of a tree with this line in place of the
+/// one that had the place.
+fn is_listing(alloc: Global, variant: &[u8], at: usize, answer: &str) -> Result<bool> {
+    match read_listing(alloc, variant) {
+        Ok(tree) => {
+            let Some(line) = answer.strip_prefix("is ") else {
+                return Ok(false);
+            };
+            let wanted = with_line(alloc, at, line.as_bytes())?;
+            Ok(listing_of(alloc, &tree)?.as_slice() == wanted.as_slice())
+        }
+        Err(fault) => Ok(format!(in alloc; "{fault}")?.as_str() == answer),
+    }
+}
+
+/// The listing, with another line in place of the one that has this place.
+fn with_line(alloc: Global, at: usize, line: &[u8]) -> Result<Vec<u8>> {
+    let mut wanted = Vec::new(alloc);
+    let mut start = 0usize;
+    for old in LISTING.split_inclusive(|byte| *byte == b'\n') {
+        let end = start.saturating_add(old.len());
+        if start <= at && at < end {
+            wanted.extend_from_slice(line)?;
+            wanted.push(b'\n')?;
+        } else {
+            wanted.extend_from_slice(old)?;
+        }
+        start = end;
+    }
+    Ok(wanted)
+}
+
+/// Whether a script is refused with this fault, or its requests are answered with these words, one
+/// after another.
+fn is_script(alloc: Global, variant: &[u8], answer: &str) -> Result<bool> {
+    let mut sink = MemorySink::new(alloc, 1_024).map_err(|fault| anyhow!("{fault}"))?;
+    match run_to(alloc, LISTING, variant, &mut sink) {
+        Ok(()) => {
+            let Some(words) = answer.strip_prefix("is ") else {
+                return Ok(false);
+            };
+            Ok(sink.bytes() == run_text(alloc, words)?.as_bytes())
+        }
+        Err(ToolFault::Script(fault)) => Ok(format!(in alloc; "{fault}")?.as_str() == answer),
+        Err(_) => Ok(false),
+    }
+}
+
+/// The text of a run whose requests are answered with these words.
+fn run_text(alloc: Global, words: &str) -> Result<String> {
+    let mut text = String::new(alloc);
+    for (before, word) in words.split(' ').enumerate() {
+        let number = before.saturating_add(1);
+        text.push_str(format!(in alloc; "{number} {word}\n")?.as_str())?;
+    }
+    Ok(text)
+}
