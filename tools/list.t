@@ -1,0 +1,319 @@
+#!/usr/bin/perl
+# Tests of list.pl, over real directories that they make: perl tools/list.t
+# With PUA=PROGRAM each listing is also handed to that pua, which has to accept it.
+use strict;
+use warnings;
+use Cwd qw(abs_path);
+use File::Basename qw(dirname);
+use File::Copy qw(copy);
+use File::Path qw(make_path);
+use File::Temp qw(tempdir);
+use IO::Socket::UNIX;
+use POSIX qw(mkfifo);
+use Test::More;
+
+my $LIST = dirname(abs_path(__FILE__)) . '/list.pl';
+my $PUA  = defined $ENV{PUA} ? abs_path($ENV{PUA}) : undef;
+my $room = tempdir(CLEANUP => 1);
+chmod 0755, $room or die "$room: $!";
+umask 022;
+
+# A new directory, which is the working directory from now on.
+my $made = 0;
+sub room {
+    my $path = "$room/" . ++$made;
+    make_path($path);
+    chdir $path or die "$path: $!";
+    return $path;
+}
+
+sub file {
+    my ($name, $mode) = @_;
+    open my $out, '>', $name or die "$name: $!";
+    close $out or die "$name: $!";
+    chmod $mode, $name or die "$name: $!" if defined $mode;
+    return;
+}
+
+# The whole content of a file.
+sub content {
+    my ($name) = @_;
+    open my $in, '<:raw', $name or die "$name: $!";
+    local $/ = undef;
+    my $bytes = <$in>;
+    close $in;
+    return defined $bytes ? $bytes : '';
+}
+
+# Runs list.pl with these words: its status, and what it wrote on both outputs.
+sub list {
+    my @words = @_;
+    my ($out, $err) = ("$room/out", "$room/err");
+    my $child = fork;
+    die "fork: $!" unless defined $child;
+    if (!$child) {
+        open STDOUT, '>', $out or POSIX::_exit(99);
+        open STDERR, '>', $err or POSIX::_exit(99);
+        exec $^X, $LIST, @words or POSIX::_exit(99);
+    }
+    waitpid $child, 0;
+    return ($? >> 8, content($out), content($err));
+}
+
+sub lines { return join '', map { "$_\n" } 'tree 1', '0 dir', @_ }
+
+# That the words give this listing and these reports.
+sub lists {
+    my ($what, $words, $lines, @reports) = @_;
+    my ($status, $out, $err) = list(@$words);
+    is($out, lines(@$lines), "$what: the listing");
+    is($err, join('', map { "list.pl: $_\n" } @reports), "$what: the reports");
+    is($status, 0, "$what: the status");
+    if (defined $PUA) {
+        is(system($PUA, 'run', "$room/out", '/dev/null'), 0, "$what: pua reads it");
+    }
+    return;
+}
+
+# That the words are refused with this report, and nothing is printed.
+sub refuses {
+    my ($what, $words, $wanted, $report) = @_;
+    my ($status, $out, $err) = list(@$words);
+    is($out, '', "$what: nothing is printed");
+    like($err, $report, "$what: the report");
+    is($status, $wanted, "$what: the status");
+    return;
+}
+
+# Directories at their own places, with what leads there and nothing beside it.
+{
+    my $root = room();
+    make_path('etc/ssl', 'var/www/logs', 'var/log', 'usr');
+    file($_) for 'etc/passwd', 'etc/ssl/cert.pem', 'var/www/logs/access', 'var/log/daemon', 'usr/x';
+    my @etc = ('1 dir 0 etc', '2 file 1 passwd', '3 dir 1 ssl', '4 file 3 cert.pem');
+    my @www = ('5 dir 0 var', '6 dir 5 www', '7 dir 6 logs', '8 file 7 access');
+    lists('one directory',   ['-r', $root, '/etc'], \@etc);
+    lists('two directories', ['-r', $root, '/etc', '/var/www'], [@etc, @www]);
+    lists('in another order, and one within another',
+        ['-r', $root, '/var/www', '/etc/ssl', '/etc', '/etc'], [@etc, @www]);
+    lists('paths with slashes and dots',
+        ['-r', "$root//", 'etc/', '//var/./log/../www//'], [@etc, @www]);
+    lists('a file', ['-r', $root, '/etc/ssl/cert.pem'],
+        ['1 dir 0 etc', '2 dir 1 ssl', '3 file 2 cert.pem']);
+    lists('an empty directory', ['-r', "$root/usr", '-x', 'x'], []);
+    lists('all of a root', ['-r', "$root/etc"], ['1 file 0 passwd', '2 dir 0 ssl', '3 file 2 cert.pem']);
+    chdir "$root/var" or die;
+    lists('a root that is named from here', ['-r', '../etc', 'ssl'], ['1 dir 0 ssl', '2 file 1 cert.pem']);
+
+    my ($status, $out) = list("$root/etc");
+    my $number = 0;
+    my @way = map { my $line = ($number + 1) . " dir $number $_"; $number++; $line }
+        grep { $_ ne '' } split m{/}, "$root/etc";
+    is($out, lines(@way, ($number + 1) . " file $number passwd", ($number + 2) . " dir $number ssl",
+        ($number + 3) . ' file ' . ($number + 2) . ' cert.pem'), 'below the real root');
+    my ($again, $same) = list('../etc');
+    is($same, $out, 'named from the working directory');
+    refuses('a file in place of a directory', ['-r', $root, '/etc/passwd/../ssl'], 1,
+        qr/\Alist\.pl: \/etc\/passwd: not a directory\n\z/);
+}
+
+# What is left out.
+{
+    my $root = room();
+    make_path('a/b', 'a/c', 'd');
+    file($_) for 'a/b/1', 'a/c/2', 'd/3';
+    lists('one is left out', ['-r', $root, '-x', '/a/b'], ['1 dir 0 a', '2 dir 1 c', '3 file 2 2', '4 dir 0 d', '5 file 4 3']);
+    lists('several are left out', ['-r', $root, '-x', '/a/b', '-x', 'd/3', '-x', '/a/c/2/'],
+        ['1 dir 0 a', '2 dir 1 c', '3 dir 0 d']);
+    lists('an operand is left out', ['-r', $root, '-x', '/a', '/a/b', '/d'], ['1 dir 0 d', '2 file 1 3']);
+    lists('nothing is left out', ['-r', $root, '-x', '/a', '-x', '/none'], ['1 dir 0 d', '2 file 1 3'],
+        '/none: nothing was left out');
+}
+
+# Kinds.
+{
+    my $root = room();
+    file('plain', 0644);
+    file('mine',  0744);
+    file('ours',  0654);
+    file('yours', 0645);
+    file('none',  0000);
+    mkfifo('fifo', 0755) or die "fifo: $!";
+    my $socket = IO::Socket::UNIX->new(Local => 'socket', Listen => 1) or die "socket: $!";
+    mkdir 'dir';
+    symlink 'plain', 'link' or die "link: $!";
+    lists('kinds', ['-r', $root], [
+        '1 dir 0 dir', '2 file 0 fifo', '3 link 0 link plain', '4 prog 0 mine', '5 file 0 none',
+        '6 prog 0 ours', '7 file 0 plain', '8 file 0 socket', '9 prog 0 yours'
+    ]);
+    lists('devices', ['/dev/null'], ['1 dir 0 dev', '2 file 1 null']);
+}
+
+# Names of any bytes, in the order of their bytes.
+{
+    my $root = room();
+    file($_) for 'a b', 'a', 'a!', '~', "\xff", "\\", "\n", "\xc3\xa9", '\\141', '=', '-x';
+    symlink "a b/\\\xff", 'l' or die;
+    lists('names of any bytes', ['-r', $root], [
+        '1 file 0 \012', '2 file 0 -x', '3 file 0 =', '4 file 0 \134', '5 file 0 \134141',
+        '6 file 0 a', '7 file 0 a\040b', '8 file 0 a!', '9 link 0 l a\040b/\134\377',
+        '10 file 0 ~', '11 file 0 \303\251', '12 file 0 \377'
+    ]);
+    my ($status, $first) = list('-r', $root);
+    my ($again,  $second) = list('-r', $root);
+    is($first, $second, 'two runs are equal');
+
+    my $bytes = room();
+    my @all = grep { $_ ne '/' && $_ ne '.' } map { chr } 1 .. 255;
+    file($_) for @all;
+    my ($done, $out) = list('-r', $bytes);
+    my @names;
+    for my $line (split /\n/, $out) {
+        my ($name) = $line =~ /\A[0-9]+ file 0 ([\x21-\x7e]+)\z/ or next;
+        $name =~ s/\\([0-7]{3})/chr oct $1/ge;
+        push @names, $name;
+    }
+    is_deeply(\@names, \@all, 'each byte is a name');
+}
+
+# The order is that of names, each directory followed by what is in it.
+{
+    my $root = room();
+    make_path('a/z', 'a!');
+    file($_) for 'a/z/1', 'a!/2', 'b';
+    lists('the order', ['-r', $root],
+        ['1 dir 0 a', '2 dir 1 z', '3 file 2 1', '4 dir 0 a!', '5 file 4 2', '6 file 0 b']);
+}
+
+# Links that lead out of what is listed.
+{
+    my $root = room();
+    make_path('in/deep', 'out');
+    file($_) for 'in/page', 'out/secret';
+    my %target = (
+        here    => 'page',
+        up      => '../in/deep/../page',
+        missing => 'nothing',
+        nowhere => '../none/x',
+        leads   => '../out/secret',
+        whole   => '/out/secret',
+        by      => 'deep/../../out',
+        first   => 'leads',
+        loop    => 'loop',
+        beyond  => 'page/x',
+        top     => '/../in/./',
+    );
+    symlink $target{$_}, "in/$_" or die "$_: $!" for keys %target;
+    my ($status, $out, $err) = list('-r', $root, '/in');
+    is($err, join('', map { "list.pl: /in/$_, which is not listed\n" }
+        'by: the link to deep/../../out leads to /out',
+        'first: the link to leads leads to /out',
+        'leads: the link to ../out/secret leads to /out',
+        'whole: the link to /out/secret leads to /out'), 'links that lead out');
+    is($status, 0, 'links that lead out: the status');
+    ($status, $out, $err) = list('-r', $root, '/in', '/out');
+    is($err, '', 'none of them leads out where all is listed');
+    ($status, $out, $err) = list('-r', $root, '-x', '/out/secret');
+    is($err, join('', map { "list.pl: /in/$_ leads to /out/secret, which is not listed\n" }
+        'first: the link to leads', 'leads: the link to ../out/secret', 'whole: the link to /out/secret'),
+        'links to what is left out');
+}
+
+# An operand that is reached through links.
+{
+    my $root = room();
+    make_path('private/var/run');
+    file('private/var/run/pid');
+    symlink 'private/var', 'var' or die;
+    symlink '/var/run',    'run' or die;
+    my @private = ('1 dir 0 private', '2 dir 1 var', '3 dir 2 run', '4 file 3 pid');
+    lists('through one link', ['-r', $root, '/var/run'], [@private, '5 link 0 var private/var']);
+    lists('through two links', ['-r', $root, '/run/'], ['1 link 0 run /var/run'],
+        '/run: the link to /var/run leads to /var, which is not listed');
+    lists('and beyond', ['-r', $root, '/run/pid'], [@private, '5 link 0 run /var/run', '6 link 0 var private/var']);
+    symlink 'self', 'self' or die;
+    refuses('a link to itself', ['-r', $root, '/self/x'], 1, qr/\Alist\.pl: \/self\/x: too many links\n\z/);
+}
+
+# Files with several names.
+{
+    my $root = room();
+    make_path('d');
+    file('d/one');
+    link 'd/one', 'd/three' or die "link: $!";
+    link 'd/one', 'd/two'   or die "link: $!";
+    lists('several names', ['-r', $root], ['1 dir 0 d', '2 file 1 one', '3 file 1 three', '4 file 1 two'],
+        '/d/three: a further name of /d/one, listed as a file of its own',
+        '/d/two: a further name of /d/one, listed as a file of its own');
+    lists('a name that is not listed', ['-r', $root, '/d/two'], ['1 dir 0 d', '2 file 1 two'],
+        '/d/two: the file has a further name, which is not listed');
+}
+
+# What is refused.
+{
+    my $root = room();
+    make_path('d');
+    file('f');
+    my $usage = qr/^usage: list\.pl \[-r ROOT\] \[-x PATH\]\.\.\. PATH\.\.\.\n\z/m;
+    refuses('no words',          [],                     2, $usage);
+    refuses('an unknown option', ['-q', '/etc'],         2, $usage);
+    refuses('no path',           ['-x', '/etc'],         2, $usage);
+    refuses('an empty path',     ['/etc', ''],           2, $usage);
+    refuses('a missing path',    ['-r', $root, '/none'], 1, qr/\Alist\.pl: \/none: \S.*\n\z/);
+    refuses('a file on the way', ['-r', $root, '/f/x'],  1, qr/\Alist\.pl: \/f(\/x)?: \S.*\n\z/);
+    refuses('a missing root',    ['-r', "$root/none"],   1, qr/: not a directory\n\z/);
+    refuses('a file as the root', ['-r', "$root/f"],     1, qr/: not a directory\n\z/);
+    symlink 'x/' x 511 . 'y', 'd/long' or die;
+    lists('a target as long as may be', ['-r', "$root/d"], ['1 link 0 long ' . 'x/' x 511 . 'y']);
+    symlink 'x/' x 512, 'd/longer' or die;
+    refuses('a target that is too long', ['-r', "$root/d"], 1, qr/\Alist\.pl: \/longer: the target is too long/);
+    unlink 'd/longer';
+    symlink 'x' x 256, 'd/wide' or die;
+    refuses('a target with a long component', ['-r', "$root/d"], 1, qr/\Alist\.pl: \/wide: the target is too long/);
+}
+
+# As many nodes as may be, and one more.
+{
+    my $root = room();
+    file("f$_") for 1 .. 4095;
+    my ($status, $out) = list('-r', $root);
+    is($status, 0, '4,096 nodes: the status');
+    is(() = $out =~ /\n/g, 4097, '4,096 nodes: the lines');
+    file('more');
+    refuses('4,097 nodes', ['-r', $root], 1, qr/\Alist\.pl: more than 4096 nodes/);
+    ($status, $out) = list('-r', $root, '-x', '/f7');
+    is($status, 0, 'all of them except one');
+}
+
+# A directory that can't be read, by a user who is not root.
+SKIP: {
+    my $root = room();
+    make_path('open', 'closed');
+    file('open/x');
+    chmod 0311, 'closed' or die;
+    if ($> == 0) {
+        copy($LIST, "$room/list.pl") or die;
+        $LIST = "$room/list.pl";
+        my $child = fork;
+        die "fork: $!" unless defined $child;
+        if (!$child) {
+            ($(, $)) = (65534, '65534 65534');
+            ($<, $>) = (65534, 65534);
+            POSIX::_exit($> == 65534 && !opendir(my $closed, 'closed') ? 0 : 1);
+        }
+        waitpid $child, 0;
+        skip('this root can be no other user', 6) if $?;
+        chmod 0777, $room;
+        unlink "$room/out", "$room/err";
+        ($(, $)) = (65534, '65534 65534');
+        $> = 65534;
+    }
+    refuses('an unreadable directory', ['-r', $root], 1, qr/\Alist\.pl: \/closed: \S.*\n\z/);
+    lists('beside it', ['-r', $root, '-x', '/closed'], ['1 dir 0 open', '2 file 1 x']);
+    unlink "$room/out", "$room/err";
+    $> = $<;
+    chmod 0755, 'closed';
+}
+
+chdir '/';
+done_testing();
