@@ -1,4 +1,4 @@
-//! A random case: a tree, a script, and an audit of one of its processes.
+//! A case: a tree, a script, and an audit of one of its processes.
 
 use crate::generator::{NAMES, Node, Random, listing, nodes, number_of, script};
 use crate::written::Files;
@@ -16,10 +16,12 @@ const CALLS: [&str; 14] = [
     "unlink", "symlink", "chmod", "chdir", "exec",
 ];
 
-/// A random case.
+/// A case, at random or written out. Its audit has these letters beside `..`, in the order of their
+/// bytes.
 #[derive(Drop)]
 pub(crate) struct Case {
     nodes: Vec<Node>,
+    letters: &'static [&'static str],
     pub(crate) listing: String,
     pub(crate) script: String,
     process: &'static str,
@@ -46,7 +48,27 @@ impl Case {
             process: if random.below(2) == 0 { "1" } else { "2" },
             base: if random.below(2) == 0 { "root" } else { "cwd" },
             limit: if random.below(4) == 0 { "2" } else { "1" },
+            letters: &NAMES,
             nodes,
+        })
+    }
+
+    /// The case of a listing, a script, and an audit of process 1 with two letters.
+    pub(crate) fn written(
+        alloc: Global,
+        listing: &str,
+        script: &str,
+        base: &'static str,
+        letters: &'static [&'static str],
+    ) -> Result<Case> {
+        Ok(Case {
+            listing: String::from_str(alloc, listing)?,
+            script: String::from_str(alloc, script)?,
+            process: "1",
+            base,
+            limit: "2",
+            letters,
+            nodes: Vec::new(alloc),
         })
     }
 
@@ -127,10 +149,10 @@ impl Case {
         };
         let mut paths = Vec::new(alloc);
         paths.push(String::from_str(alloc, alone)?)?;
-        for letter in [".."].iter().chain(NAMES.iter()) {
+        for letter in [".."].iter().chain(self.letters.iter()) {
             paths.push(format!(in alloc; "{first}{letter}")?)?;
             if self.limit == "2" {
-                for next in [".."].iter().chain(NAMES.iter()) {
+                for next in [".."].iter().chain(self.letters.iter()) {
                     paths.push(format!(in alloc; "{first}{letter}/{next}")?)?;
                 }
             }
@@ -168,7 +190,7 @@ impl Case {
         let mut words = Vec::new(alloc);
         words.extend_from_slice(&["audit", "--process", self.process, "--base", self.base])?;
         words.extend_from_slice(&["--limit", self.limit, "TREE", "SCRIPT"])?;
-        words.extend_from_slice(&NAMES)?;
+        words.extend_from_slice(self.letters)?;
         if let Some(after) = after {
             words.extend_from_slice(&["--after", after])?;
         }

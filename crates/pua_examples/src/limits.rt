@@ -80,6 +80,12 @@ pub(crate) fn run(rt: &HostRuntime) -> Result<()> {
         ("4,096 nodes with names of 255 bytes", are_names(alloc)?),
         ("4,095 names and 1,024 candidates", are_candidates(alloc)?),
         ("60,000 lines with the longest paths", are_lines(alloc)?),
+        ("one line more than 60,000", are_lines_refused(alloc)?),
+        (
+            "one candidate more than 1,024",
+            are_candidates_refused(alloc)?,
+        ),
+        ("three letters of 255 bytes", are_letters(alloc)?),
         ("a command of 3,000 words", are_words(alloc)?),
         ("one node more than 4,096", are_nodes_refused(alloc)?),
     ] {
@@ -235,6 +241,40 @@ fn are_lines(alloc: Global) -> Result<bool> {
     case.ask(line.as_str(), "ENAMETOOLONG")?;
     case.ask("1 stat /", "ok")?;
     case.holds(alloc, &["run", "TREE", "SCRIPT"])
+}
+
+/// A script of 60,001 lines has too many.
+fn are_lines_refused(alloc: Global) -> Result<bool> {
+    let mut case = Case::new(alloc)?;
+    for _ in 0..60_001u32 {
+        case.ask("1 exit", "ok")?;
+    }
+    let fault = "pua: script: too many lines\n";
+    case.fails(alloc, &["run", "TREE", "SCRIPT"], 1, fault)
+}
+
+/// An audit of 1,025 candidates has too many.
+fn are_candidates_refused(alloc: Global) -> Result<bool> {
+    let names = candidates(alloc, 1_025)?;
+    let words = words_with(alloc, names.as_slice())?;
+    let fault = "pua: audit: too many names\n";
+    Case::new(alloc)?.fails(alloc, words.as_slice(), 1, fault)
+}
+
+/// A candidate of 255 bytes is listed as a short one is, wherever it stands among three letters.
+fn are_letters(alloc: Global) -> Result<bool> {
+    let mut name = String::new(alloc);
+    for _ in 0..255u32 {
+        name.push('a')?;
+    }
+    let mut case = Case::new(alloc)?;
+    case.ask("1 pledge stdio,cpath -", "ok")?;
+    case.reach("reach 1")?;
+    for front in ["/../../", "/../", "/"] {
+        writeln!(case.output, "{front}{name} mkdir\n{front}{name} symlink")?;
+    }
+    let words = ["audit", "--limit", "3", "TREE", "SCRIPT", name.as_str()];
+    case.holds(alloc, &words)
 }
 
 /// A command of 3,000 words is answered as a shorter one is: with too many names, which comes after

@@ -1,7 +1,7 @@
-//! Runs the examples: the story of each folder, the table of rows, the limits, and random cases by a
-//! fixed seed. A line is printed for each folder and each limit, which says whether what is written
-//! is what was expected; then one for each row and each case of which that isn't so, with their
-//! counts.
+//! Runs the examples: the story of each folder, the table of rows, the limits, chosen walks, and
+//! random cases by a fixed seed. A line is printed for each folder and each limit, which says whether
+//! what is written is what was expected; then one for each row and each case of which that isn't so,
+//! with their counts.
 #![tactic(auto)]
 
 mod case;
@@ -11,6 +11,7 @@ mod random;
 mod rows;
 mod stories;
 mod table;
+mod walks;
 mod written;
 
 use anyhow::Result;
@@ -19,5 +20,6 @@ fn main(rt: HostRuntime) -> Result<()> {
     stories::run(&rt)?;
     rows::run(&rt)?;
     limits::run(&rt)?;
+    walks::run(&rt)?;
     random::run(&rt)
 }

@@ -5,7 +5,7 @@ use crate::dripping::{DrippingReader, DrippingSink};
 use anyhow::{Result, anyhow};
 use pua_audit::Base;
 use pua_tool::{
-    DEVICE, DONE, InputFault, Job, MemoryInputs, MemorySink, ReadSource, ToolFault, audit_to,
+    DEVICE, DONE, InputFault, Job, MemoryInputs, MemorySink, ReadSource, Sink, ToolFault, audit_to,
     command, read_bytes,
 };
 use std::alloc::Global;
@@ -63,6 +63,7 @@ const ROOM: usize = 131_072;
 pub(crate) fn run(rt: &HostRuntime) -> Result<()> {
     short_audits(rt)?;
     short_commands(rt)?;
+    small_rooms(rt)?;
     long_audits(rt)?;
     short_puts(rt)?;
     readings(rt)
@@ -107,21 +108,31 @@ fn short_audits(rt: &HostRuntime) -> Result<()> {
     Ok(())
 }
 
-/// Whether the command of the short audit leaves the same in such a sink, with its status and line.
-fn is_cut_command(alloc: Global, fails_from: u64) -> Result<bool> {
+/// The status of the command of the short audit with this output, and what it reports.
+fn short_command<O: Sink>(alloc: Global, out: &mut O) -> Result<(u8, MemorySink)> {
     let words = ["audit", "--limit", "2", "T", "S", "a"];
     let entries = [("T", SHORT.tree), ("S", SHORT.script)];
     let mut inputs = MemoryInputs::new(&entries);
-    let mut out = DrippingSink::new(alloc, 1, fails_from);
     let mut err = memory_sink(alloc, 1_024)?;
-    let status = command(alloc, &words, &mut inputs, &mut out, &mut err);
-    let held = front(SHORT_TEXT, fails_from.saturating_sub(1));
-    let (wanted, line) = if held.len() == SHORT_TEXT.len() {
-        (DONE, b"".as_slice())
+    let status = command(alloc, &words, &mut inputs, out, &mut err);
+    Ok((status, err))
+}
+
+/// Whether that is the status and the line of a command that wrote so many bytes of the short text.
+fn is_told(status: u8, line: &[u8], count: u64) -> bool {
+    if front(SHORT_TEXT, count).len() == SHORT_TEXT.len() {
+        status == DONE && line.is_empty()
     } else {
-        (DEVICE, b"pua: cannot write\n".as_slice())
-    };
-    Ok(status == wanted && out.bytes() == held && err.bytes() == line)
+        status == DEVICE && line == b"pua: cannot write\n".as_slice()
+    }
+}
+
+/// Whether the command of the short audit leaves the same in such a sink, with its status and line.
+fn is_cut_command(alloc: Global, fails_from: u64) -> Result<bool> {
+    let mut out = DrippingSink::new(alloc, 1, fails_from);
+    let (status, err) = short_command(alloc, &mut out)?;
+    let count = fails_from.saturating_sub(1);
+    Ok(out.bytes() == front(SHORT_TEXT, count) && is_told(status, err.bytes(), count))
 }
 
 /// The command of the short audit, with a sink that fails from each put on.
@@ -134,6 +145,22 @@ fn short_commands(rt: &HostRuntime) -> Result<()> {
         }
     }
     println!(rt; "short command: {cases} sinks")?;
+    Ok(())
+}
+
+/// The command of the short audit, with a sink in memory for each room that is too small, and for
+/// the whole text.
+fn small_rooms(rt: &HostRuntime) -> Result<()> {
+    let mut cases = 0u32;
+    for room in 0..=SHORT_TEXT.len() {
+        cases = cases.saturating_add(1);
+        let mut out = memory_sink(rt.alloc(), room)?;
+        let (status, err) = short_command(rt.alloc(), &mut out)?;
+        if out.bytes() != &SHORT_TEXT[..room] || !is_told(status, err.bytes(), room as u64) {
+            println!(rt; "short command, room {room}: wrong")?;
+        }
+    }
+    println!(rt; "short command: {cases} rooms")?;
     Ok(())
 }
 

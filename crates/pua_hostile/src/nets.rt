@@ -1,4 +1,4 @@
-//! Two links, each of which leads through the other.
+//! Two links, each of which leads through the other, and chains of links.
 
 use anyhow::{Result, anyhow};
 use pua_audit::Base;
@@ -31,7 +31,53 @@ pub(crate) fn run(rt: &HostRuntime) -> Result<()> {
         let pairs = text.as_str().lines().count().saturating_sub(1);
         println!(rt; "a net of links, limit {limit}: {pairs} pairs")?;
     }
+    chained(rt)
+}
+
+/// A listing of a directory with 20 links to it, and in it a file with 13 links to it: each link
+/// leads to the one before.
+fn chains(alloc: Global) -> Result<String> {
+    let mut text = String::from_str(alloc, "tree 1\n0 dir\n1 dir 0 d\n2 link 0 d1 d\n")?;
+    for number in 2u32..21 {
+        writeln!(text, "{} link 0 d{number} d{}", number + 1, number - 1)?;
+    }
+    text.push_str("22 file 1 f\n23 link 1 g1 f\n")?;
+    for number in 2u32..14 {
+        writeln!(text, "{} link 1 g{number} g{}", number + 22, number - 1)?;
+    }
+    Ok(text)
+}
+
+/// Prints how many pairs an audit of two letters has where the file alone is unveiled, and a line
+/// unless a path that follows 32 links is among them, and none that would follow 33.
+fn chained(rt: &HostRuntime) -> Result<()> {
+    let tree = chains(rt.alloc())?;
+    let script = b"1 unveil /d/f r\n1 unveil - -\n";
+    let job = job_of(2);
+    let mut sink = MemorySink::new(rt.alloc(), 65_536).map_err(|fault| anyhow!("{fault}"))?;
+    let answer = audit_to(rt.alloc(), tree.as_bytes(), script, &job, &mut sink);
+    let heading = b"1 ok\n2 ok\nreach 1\n".as_slice();
+    let pairs = sink.bytes().strip_prefix(heading).unwrap_or(&[]);
+    let mut lines = pairs.split(|byte| *byte == b'\n');
+    let is_reached = lines.any(|line| line == b"/d20/g12 stat".as_slice());
+    let mut lines = pairs.split(|byte| *byte == b'\n');
+    if answer != Ok(()) || !is_reached || lines.any(|line| line.starts_with(b"/d20/g13 ")) {
+        println!(rt; "chains of links: wrong")?;
+    }
+    let count = pairs.iter().filter(|byte| **byte == b'\n').count();
+    println!(rt; "chains of links: {count} pairs")?;
     Ok(())
+}
+
+/// The audit of a new process from the root, with a limit.
+fn job_of(limit: u8) -> Job<'static> {
+    Job {
+        limit,
+        process: 1,
+        base: Base::Root,
+        after: None,
+        candidates: &[],
+    }
 }
 
 /// The text that is owed: the root by each number of `..`, and then, from the most of them to none,
@@ -67,13 +113,7 @@ fn add_lines(alloc: Global, text: &mut String, ups: u8, rest: &str, calls: &[&st
 
 /// Whether this is the text of the audit of a new process with a limit.
 fn is_audited(alloc: Global, limit: u8, text: &[u8]) -> Result<bool> {
-    let job = Job {
-        limit,
-        process: 1,
-        base: Base::Root,
-        after: None,
-        candidates: &[],
-    };
+    let job = job_of(limit);
     let mut sink = MemorySink::new(alloc, 65_536).map_err(|fault| anyhow!("{fault}"))?;
     let answer = audit_to(alloc, TREE, b"", &job, &mut sink);
     Ok(answer == Ok(()) && sink.bytes() == text)

@@ -25,12 +25,13 @@ pub record CoverRows : Type 0 where
   pub beneath_nearer : cover example_tree three_veils (found.Slot 3 (codes "sh") (Some 7)) ≡ Only 0
   pub own : cover example_tree three_veils (found.Slot 1 (codes "passwd") (Some 2)) ≡ Only (reading + writing)
   pub missing : cover example_tree three_veils (found.Slot 1 (codes "x") None) ≡ Only reading
+  pub own_alone : cover example_tree (Unveiled (Slot 1 (codes "passwd")) writing ∷ three_veils) (found.Slot 1 (codes "passwd") (Some 2)) ≡ Only writing
   pub increase : unveil_fault three_veils (Dir 3) reading ≡ Some NotPermitted
   pub locked : unveil_fault (Locked ∷ three_veils) (Dir 0) 0 ≡ Some NotPermitted
   pub reduction : unveil_fault three_veils (Dir 0) 0 ≡ None
 
 pub cover_rows : CoverRows
-cover_rows = record { beneath_root = refl; beneath_nearer = refl; own = refl; missing = refl; increase = refl; locked = refl; reduction = refl }
+cover_rows = record { beneath_root = refl; beneath_nearer = refl; own = refl; missing = refl; own_alone = refl; increase = refl; locked = refl; reduction = refl }
 
 -- a veil on the root and none of its permissions on a directory
 abbrev pub root_alone : History

@@ -18,29 +18,16 @@ pub(crate) fn found(
 ) -> Result<Found, Errno>
     ensures { FoundsFit tree.now result }
 {
-    found_from(tree, NodeId::ROOT, text, ending, mode)
-}
-
-/// What a path names from a directory.
-pub(crate) fn found_from(
-    tree: &ListTree,
-    from: NodeId,
-    text: &[u8],
-    ending: Ending,
-    mode: Last,
-) -> Result<Found, Errno>
-    ensures { FoundsFit tree.now result }
-{
     let text = PathText::read(text, ending)?;
-    resolved(tree, from, &text, mode)
+    resolved(tree, &text, mode)
 }
 
-fn resolved(tree: &ListTree, from: NodeId, text: &PathText<'_>, mode: Last) -> Result<Found, Errno>
+fn resolved(tree: &ListTree, text: &PathText<'_>, mode: Last) -> Result<Found, Errno>
     ensures { FoundsFit tree.now result }
 {
     tree.known();
     let mut probe = Counted::new(tree);
-    resolve(&mut probe, from, text, mode)
+    resolve(&mut probe, NodeId::ROOT, text, mode)
 }
 
 /// A directory as an answer.

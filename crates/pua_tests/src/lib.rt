@@ -3,8 +3,6 @@
 #![tactic(auto)]
 
 #[cfg(test)]
-mod audits;
-#[cfg(test)]
 mod commands;
 #[cfg(test)]
 mod edits;
@@ -31,15 +29,11 @@ mod probes;
 #[cfg(test)]
 mod processes;
 #[cfg(test)]
-mod readings;
-#[cfg(test)]
 mod steps;
 #[cfg(test)]
 mod told;
 #[cfg(test)]
 mod verdicts;
-#[cfg(test)]
-mod walks;
 #[cfg(test)]
 mod words;
 #[cfg(test)]

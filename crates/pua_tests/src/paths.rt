@@ -3,8 +3,7 @@
 use crate::example::{EXAMPLE, found, slot, whole};
 use crate::expect::{expect_bytes, expect_eq, expect_row, expect_text};
 use pua_path::{Counted, Ending, Errno, Last, PathText, Way, resolve};
-use pua_tree::{ListTree, Name, NodeId, read_listing};
-use std::alloc::Global;
+use pua_tree::{Name, NodeId, read_listing};
 use std::test::Fail;
 
 #[test]
@@ -70,60 +69,6 @@ fn relative_paths_alone_need_a_directory(rt: HostRuntime) -> Result<(), Fail> {
             &Some(found),
             &whole(0, Way::DotDot),
         );
-    }
-    Ok(())
-}
-
-/// Why a path names nothing.
-fn refusal(tree: &ListTree, text: &[u8], mode: Last) -> Option<Errno> {
-    match found(tree, text, Ending::Dot, mode) {
-        Ok(_) => None,
-        Err(errno) => Some(errno),
-    }
-}
-
-/// A listing of a directory with 20 links to it, and in it a file with 13 links to it: each link
-/// leads to the one before.
-pub(crate) fn chains(alloc: Global) -> Result<String, Fail> {
-    let mut text = String::from_str(alloc, "tree 1\n0 dir\n1 dir 0 d\n2 link 0 d1 d\n")?;
-    for number in 2u32..21 {
-        writeln!(text, "{} link 0 d{number} d{}", number + 1, number - 1)?;
-    }
-    text.push_str("22 file 1 f\n23 link 1 g1 f\n")?;
-    for number in 2u32..14 {
-        writeln!(text, "{} link 1 g{number} g{}", number + 22, number - 1)?;
-    }
-    Ok(text)
-}
-
-/// A listing of a file with 33 links to it, each of which leads to the one before.
-fn chain(alloc: Global) -> Result<String, Fail> {
-    let mut text = String::from_str(alloc, "tree 1\n0 dir\n1 file 0 f\n2 link 0 a1 f\n")?;
-    for number in 2u32..34 {
-        writeln!(text, "{} link 0 a{number} a{}", number + 1, number - 1)?;
-    }
-    Ok(text)
-}
-
-#[test]
-fn paths_follow_32_links_and_no_more(rt: HostRuntime) -> Result<(), Fail> {
-    let tree = read_listing(rt.alloc(), chain(rt.alloc())?.as_bytes())?;
-    for (path, fault) in [(b"/a32".as_slice(), None), (b"/a33", Some(Errno::ELOOP))] {
-        expect_text(&rt, path, &refusal(&tree, path, Last::Followed), &fault);
-    }
-    Ok(())
-}
-
-#[test]
-fn links_are_counted_along_the_whole_path(rt: HostRuntime) -> Result<(), Fail> {
-    let tree = read_listing(rt.alloc(), chains(rt.alloc())?.as_bytes())?;
-    for (path, mode, fault) in [
-        (b"/d20/g13".as_slice(), Last::Followed, Some(Errno::ELOOP)),
-        (b"/d/g13", Last::Followed, None),
-        (b"/d20/g12", Last::Followed, None),
-        (b"/d20/g13", Last::Kept, None),
-    ] {
-        expect_text(&rt, path, &refusal(&tree, path, mode), &fault);
     }
     Ok(())
 }

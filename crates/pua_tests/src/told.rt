@@ -54,11 +54,3 @@ pub(crate) fn output(
     expect_eq(rt, "the status of no fault", &ended, &0);
     Ok(Vec::from_slice(alloc, out.bytes())?)
 }
-
-/// What stands in a text behind its heading; nothing where it has another one.
-pub(crate) fn behind<'a>(text: &'a [u8], heading: &[u8]) -> &'a [u8] {
-    match text.get(heading.len()..) {
-        Some(rest) if text.starts_with(heading) => rest,
-        _ => b"",
-    }
-}

@@ -1,6 +1,8 @@
 -- What is replayed and begun, step by step.
 use Rattle.std.proofs.Common.{◌≡◌, ℕ, List, refl, ◌∙◌}
+use Rattle.std.proofs.lemmas.Bool.{false≢true}
 use Rattle.std.specs.Prelude.{Option, Some, None, Result, Ok, Err, ok_or}
+use Rattle.std.specs.Result.{IsOk}
 use Rattle.pua_tree.specs.Tree.{Tree}
 use Rattle.pua_tree.specs.Listing.{listing}
 use Rattle.pua_tree.specs.Steps.{◌>>=◌}
@@ -28,16 +30,20 @@ module _ (table : CallTable) (tree_bytes script_bytes : List ℕ) where
   abbrev served : Tree → Result (List Asked) ToolFault → Result Replayed ToolFault
   served t requests = requests >>= λ asks. Ok (left_by t asks)
 
+  refused_after : (read : Result Tree ToolFault) (fault : ToolFault) → IsOk read → (read >>= λ t. served t (Err fault)) ≡ Err fault
+  refused_after (Ok t) fault accepted = refl
+  refused_after (Err other) fault accepted = absurd (false≢true accepted)
+
   -- a listing's fault comes first
   pub listing_refuses : (fault : ToolFault) → as_listing (listing tree_bytes) ≡ Err fault → replayed table tree_bytes script_bytes ≡ Err fault
   unfolding replayed
   listing_refuses fault l = λ i. l i >>= λ t. served t (as_script (script script_bytes))
 
   -- a script's fault comes where the listing has none
-  pub script_refuses : (t : Tree) (fault : ToolFault) → as_listing (listing tree_bytes) ≡ Ok t → as_script (script script_bytes) ≡ Err fault
+  pub script_refuses : (fault : ToolFault) → IsOk (as_listing (listing tree_bytes)) → as_script (script script_bytes) ≡ Err fault
       → replayed table tree_bytes script_bytes ≡ Err fault
   unfolding replayed
-  script_refuses t fault l s = (λ i. l i >>= λ t. served t (as_script (script script_bytes))) ∙ (λ i. served t (s i))
+  script_refuses fault accepted s = (λ i. as_listing (listing tree_bytes) >>= λ t. served t (s i)) ∙ refused_after (as_listing (listing tree_bytes)) fault accepted
 
   module _ (wanted : Wanted) where
     abbrev begun_with : Replayed → Result Beginning ToolFault → Result Begun ToolFault

@@ -1,5 +1,4 @@
-use Rattle.std.proofs.Common.{◌≡◌, ◌≢◌, Err}
-use Rattle.std.proofs.lemmas.Result.{err_from_is_err_and}
+use Rattle.std.proofs.Common.{◌≡◌, ◌≢◌, Err, rules}
 use Rattle.pua_policy.specs.Calls.{standard_table}
 use Rattle.pua_script.specs.Replay.{new_world, answers, world_after}
 use Rattle.pua_tool.specs.Texts.{replayed}
@@ -12,16 +11,14 @@ returns-in_err-tree-clause-refused c =
     let fault = c.in_err-tree.field-0.0 in
     let refuses : fault ≢ OutOfMemory → replayed standard_table c.args.tree_bytes.now c.args.script_bytes.now ≡ Err fault = λ other.
     listing_refuses standard_table c.args.tree_bytes.now c.args.script_bytes.now fault (c.in_err-tree.ensures.refused other) in
-    let p = err_from_is_err_and c.from_residual.result c.from_residual.ensures.1 in
-    rw (p.1, p.2) refuses
+    search (rules, refuses)
 
 pub returns-in_err-script-clause-refused : goal.returns-in_err-script-clause-refused
 returns-in_err-script-clause-refused c =
     let fault = c.in_err-script.field-0.0 in
     let refuses : fault ≢ OutOfMemory → replayed standard_table c.args.tree_bytes.now c.args.script_bytes.now ≡ Err fault = λ other.
-    script_refuses standard_table c.args.tree_bytes.now c.args.script_bytes.now c.in_ok-tree.tree fault c.in_ok-tree.ensures.read (c.in_err-script.ensures.refused other) in
-    let p = err_from_is_err_and c.from_residual-in_err-script.result c.from_residual-in_err-script.ensures.1 in
-    rw (p.1, p.2) refuses
+    script_refuses standard_table c.args.tree_bytes.now c.args.script_bytes.now fault (search rules) (c.in_err-script.ensures.refused other) in
+    search (rules, refuses)
 
 pub returns-clause-done : goal.returns-clause-done
 returns-clause-done c =
