@@ -56,6 +56,9 @@ expect 'a pipe that ends early' 3 'pua: cannot write'
 "$program" --help > /dev/full 2> told
 status=$?
 expect 'help to a full device' 3 'pua: cannot write'
+"$program" --version > /dev/full 2> told
+status=$?
+expect 'the version to a full device' 3 'pua: cannot write'
 "$program" run tree script 2> /dev/full > written
 status=$?
 : > told

@@ -89,6 +89,7 @@ sweep 'an audit that is resumed' 0 audit --limit 3 --after lstat:/etc/passwd tre
 sweep 'an audit of many lines' 0 audit --limit 6 tree none
 sweep 'help' 0 --help
 sweep 'help of an audit' 0 audit --help
+sweep 'the version' 0 --version
 sweep 'no words' 2
 sweep 'words of no command' 2 audit --limit x tree one
 sweep 'a listing that is cut' 1 run cut none

@@ -12,23 +12,25 @@
 #               are not followed.
 #
 # Directories are listed as `dir`, symbolic links as `link`, plain files that someone may execute as
-# `prog`, and all else as `file`: plain files, sockets, fifos and devices. Links are not followed,
-# except on the way to a PATH; mount points are crossed. Names come in the order of their bytes, so
-# two runs over the same files print the same.
+# `prog`, and all else as `file`: plain files, sockets, fifos and devices. What has several names, by
+# its device and inode, is listed once, under the first of them in the order of the listing; each
+# other one is a `hard` line, and the listing's first line is then `tree 2`, else `tree 1`. Links are
+# not followed, except on the way to a PATH; mount points are crossed. Names come in the order of
+# their bytes, so two runs over the same files print the same.
 #
 # Lines on standard error report what a reader of the listing has to know: a link whose target is
-# there but isn't listed; a file that is listed under several names, each as a file of its own, or
-# that has a name which isn't listed; a -x that left nothing out.
+# there but isn't listed; each further name of what is listed, which a veil on the first one doesn't
+# cover; that something has a name which isn't listed; a -x that left nothing out.
 #
 # Status 0: the listing was printed. Status 1: a directory or a link can't be read, there are more
-# than 4,096 nodes, or a link's target is longer than pua reads; then nothing was printed.
+# than 4,096 names, or a link's target is longer than pua reads; then nothing was printed.
 # Status 2: the words are no use of it.
 use strict;
 use warnings;
 use Cwd qw(getcwd);
 use Getopt::Long qw(:config posix_default no_ignore_case bundling);
 
-my $MOST_NODES  = 4096;    # the root among them
+my $MOST_LISTED = 4096;    # names, the root among them
 my $MOST_TARGET = 1023;    # bytes in a link's target
 my $MOST_NAME   = 255;     # bytes in a component
 my $MOST_LINKS  = 32;      # links followed in one resolution
@@ -94,7 +96,7 @@ sub take {
     my ($name) = $path =~ m{([^/]*)\z};
     $inside{ above($path) }{$name} = 1;
     $nodes{$path} = \%node;
-    fail("more than $MOST_NODES nodes; leave some out with -x") if keys %nodes > $MOST_NODES;
+    fail("more than $MOST_LISTED names; leave some out with -x") if keys %nodes > $MOST_LISTED;
     return $node{kind};
 }
 
@@ -187,23 +189,32 @@ sub outside {
     return;
 }
 
+# What a line has for a node, in which $parent is the number of its directory and $made that of the
+# same file under an earlier name, if there is one.
+sub fields {
+    my ($node, $parent, $name, $made) = @_;
+    return ('hard', $parent, $name, $made) if defined $made;
+    return ($node->{kind}, $parent, $name, defined $node->{target} ? spelled($node->{target}) : ());
+}
+
 # The lines of the listing, and the paths in their order.
 sub lines {
-    my @lines = ("tree 1\n", "0 dir\n");
-    my (@order, %number) = ();
-    $number{''} = 0;
+    my (@lines, @order, %made);    # %made has the number of a node, by its device and inode
+    my ($header, %number) = ('tree 1', '' => 0);
     my @paths = map { "/$_" } sort keys %{ $inside{''} };
     while (defined(my $path = shift @paths)) {
         my $node = $nodes{$path};
+        my $made = $node->{kind} eq 'dir' ? undef : $made{ $node->{file} };
         my ($name) = $path =~ m{([^/]*)\z};
         push @order, $path;
         $number{$path} = @order;
-        push @lines, join(' ',
-            $number{$path}, $node->{kind}, $number{ above($path) }, spelled($name),
-            defined $node->{target} ? spelled($node->{target}) : ()) . "\n";
+        $header = 'tree 2' if defined $made;
+        $made{ $node->{file} } = $number{$path} unless defined $made;
+        push @lines,
+            join(' ', $number{$path}, fields($node, $number{ above($path) }, spelled($name), $made)) . "\n";
         unshift @paths, map { "$path/$_" } sort keys %{ $inside{$path} || {} };
     }
-    return (\@lines, \@order);
+    return (["$header\n", "0 dir\n", @lines], \@order);
 }
 
 # Reports, in the order of the listing, what its reader has to know.
@@ -221,9 +232,7 @@ sub report_on {
                 if defined $outside;
         }
         my ($first, @others) = @{ $names{ $node->{file} } };
-        report(shown($path) . ': a further name of ' . shown($first)
-                . ', listed as a file of its own')
-            if $path ne $first;
+        report(shown($path) . ': a further name of ' . shown($first)) if $path ne $first;
         report(shown($path) . ': the file has a further name, which is not listed')
             if $path eq $first && $node->{names} > 1 + @others;
     }

@@ -60,7 +60,11 @@ sub list {
     return ($? >> 8, content($out), content($err));
 }
 
-sub lines { return join '', map { "$_\n" } 'tree 1', '0 dir', @_ }
+# A listing with these lines; its header is that of listings with hard links, where there is one.
+sub lines {
+    my $header = grep({ /\A[0-9]+ hard / } @_) ? 'tree 2' : 'tree 1';
+    return join '', map { "$_\n" } $header, '0 dir', @_;
+}
 
 # That the words give this listing and these reports.
 sub lists {
@@ -238,15 +242,52 @@ sub refuses {
 # Files with several names.
 {
     my $root = room();
-    make_path('d');
+    make_path('d', 'a');
     file('d/one');
     link 'd/one', 'd/three' or die "link: $!";
     link 'd/one', 'd/two'   or die "link: $!";
-    lists('several names', ['-r', $root], ['1 dir 0 d', '2 file 1 one', '3 file 1 three', '4 file 1 two'],
-        '/d/three: a further name of /d/one, listed as a file of its own',
-        '/d/two: a further name of /d/one, listed as a file of its own');
+    lists('several names', ['-r', $root, '/d'],
+        ['1 dir 0 d', '2 file 1 one', '3 hard 1 three 2', '4 hard 1 two 2'],
+        '/d/three: a further name of /d/one', '/d/two: a further name of /d/one');
+    lists('one of them is left out', ['-r', $root, '-x', '/d/three', '/d'],
+        ['1 dir 0 d', '2 file 1 one', '3 hard 1 two 2'],
+        '/d/one: the file has a further name, which is not listed', '/d/two: a further name of /d/one');
     lists('a name that is not listed', ['-r', $root, '/d/two'], ['1 dir 0 d', '2 file 1 two'],
         '/d/two: the file has a further name, which is not listed');
+    link 'd/one', 'a/z\\' or die "link: $!";
+    lists('the first name is the first in the listing', ['-r', $root, '/d', '/a'],
+        ['1 dir 0 a', '2 file 1 z\134', '3 dir 0 d', '4 hard 3 one 2', '5 hard 3 three 2', '6 hard 3 two 2'],
+        map { "/d/$_: a further name of /a/z\\134" } qw(one three two));
+}
+
+# Each kind that may have several names; directories have one, and copies are no names.
+{
+    my $root = room();
+    make_path('d/e');
+    file('prog', 0755);
+    file('same');
+    file('other');
+    mkfifo('fifo', 0644) or die "fifo: $!";
+    symlink 'd', 'link' or die "link: $!";
+    link 'prog', 'd/prog' or die "link: $!";
+    link 'fifo', 'd/fifo' or die "link: $!";
+    my $links = link('link', 'd/link') && -l 'd/link';
+    unlink 'd/link' unless $links;
+    lists('kinds with several names', ['-r', $root], [
+        '1 dir 0 d', '2 dir 1 e', '3 file 1 fifo',
+        $links
+        ? ('4 link 1 link d', '5 prog 1 prog', '6 hard 0 fifo 3', '7 hard 0 link 4', '8 file 0 other', '9 hard 0 prog 5', '10 file 0 same')
+        : ('4 prog 1 prog', '5 hard 0 fifo 3', '6 link 0 link d', '7 file 0 other', '8 hard 0 prog 4', '9 file 0 same')
+    ],
+        '/fifo: a further name of /d/fifo',
+        $links ? ('/link: a further name of /d/link') : (),
+        '/prog: a further name of /d/prog');
+    lists('none of them twice', ['-r', $root, '-x', '/d'],
+        ['1 file 0 fifo', '2 link 0 link d', '3 file 0 other', '4 prog 0 prog', '5 file 0 same'],
+        '/fifo: the file has a further name, which is not listed',
+        '/link: the link to d leads to /d, which is not listed',
+        $links ? ('/link: the file has a further name, which is not listed') : (),
+        '/prog: the file has a further name, which is not listed');
 }
 
 # What is refused.
@@ -272,15 +313,18 @@ sub refuses {
     refuses('a target with a long component', ['-r', "$root/d"], 1, qr/\Alist\.pl: \/wide: the target is too long/);
 }
 
-# As many nodes as may be, and one more.
+# As many names as may be, and one more, also where it is a further name.
 {
     my $root = room();
     file("f$_") for 1 .. 4095;
     my ($status, $out) = list('-r', $root);
-    is($status, 0, '4,096 nodes: the status');
-    is(() = $out =~ /\n/g, 4097, '4,096 nodes: the lines');
+    is($status, 0, '4,096 names: the status');
+    is(() = $out =~ /\n/g, 4097, '4,096 names: the lines');
+    link 'f1', 'more' or die "link: $!";
+    refuses('4,097 names of 4,096 nodes', ['-r', $root], 1, qr/\Alist\.pl: more than 4096 names/);
+    unlink 'more';
     file('more');
-    refuses('4,097 nodes', ['-r', $root], 1, qr/\Alist\.pl: more than 4096 nodes/);
+    refuses('4,097 names', ['-r', $root], 1, qr/\Alist\.pl: more than 4096 names/);
     ($status, $out) = list('-r', $root, '-x', '/f7');
     is($status, 0, 'all of them except one');
 }

@@ -73,7 +73,8 @@ impl Case {
     }
 
     /// Whether the listing is read as the tree that it was printed from: each node has its kind and
-    /// target, and each name in each directory is its node, or isn't there.
+    /// target, a further name's number is no node's, and each name in each directory is its node, or
+    /// isn't there.
     pub(crate) fn is_read_back(&self, alloc: Global) -> Result<bool> {
         let Ok(tree) = read_listing(alloc, self.listing.as_bytes()) else {
             return Ok(false);
@@ -81,7 +82,7 @@ impl Case {
         for (number, node) in self.nodes.iter().enumerate() {
             let id = node_id(number);
             let target = (node.kind == "link").then_some(node.target.as_bytes());
-            if tree.kind(id) != Some(kind(node)) || tree.target(id) != target {
+            if tree.kind(id) != kind(node) || tree.target(id) != target {
                 return Ok(false);
             }
             if !self.has_rows(&tree, number)? {
@@ -233,12 +234,14 @@ impl Filtered {
     }
 }
 
-fn kind(node: &Node) -> Kind {
+/// What a node is; a further name is none.
+fn kind(node: &Node) -> Option<Kind> {
     match node.kind {
-        "dir" => Kind::Dir,
-        "prog" => Kind::Prog,
-        "link" => Kind::Link,
-        _ => Kind::File,
+        "dir" => Some(Kind::Dir),
+        "file" => Some(Kind::File),
+        "prog" => Some(Kind::Prog),
+        "link" => Some(Kind::Link),
+        _ => None,
     }
 }
 

@@ -15,7 +15,9 @@ const DRAWS: usize = 200;
 /// How many lines a script has.
 pub(crate) const LINES: usize = 8;
 
-const KINDS: [&str; 8] = ["dir", "dir", "dir", "dir", "file", "prog", "link", "link"];
+const KINDS: [&str; 9] = [
+    "dir", "dir", "dir", "dir", "file", "prog", "link", "link", "hard",
+];
 
 const TARGETS: [&str; 12] = [
     "a", "b", "../c", "/d", "a/b", "..", ".", "/", "c/", "d/../a", "/a/e", "e/e",
@@ -82,16 +84,18 @@ impl Random {
     }
 }
 
-/// A node of a tree, and where it stands.
+/// A node of a tree, and where it stands; or a further name of an earlier one, which is no directory.
 #[derive(Clone, Copy)]
 pub(crate) struct Node {
     pub(crate) kind: &'static str,
     pub(crate) parent: usize,
     pub(crate) name: &'static str,
     pub(crate) target: &'static str,
+    /// The number of the earlier one.
+    pub(crate) named: usize,
 }
 
-/// The nodes of a tree, the root first: a node's number is its place.
+/// The nodes and further names of a tree, the root first: a node's number is its place.
 pub(crate) fn nodes(alloc: Global, random: &mut Random) -> Result<Vec<Node>> {
     let mut nodes = Vec::new(alloc);
     nodes.push(Node {
@@ -99,6 +103,7 @@ pub(crate) fn nodes(alloc: Global, random: &mut Random) -> Result<Vec<Node>> {
         parent: 0,
         name: "",
         target: "",
+        named: 0,
     })?;
     for _ in 0..DRAWS {
         let node = Node {
@@ -106,6 +111,7 @@ pub(crate) fn nodes(alloc: Global, random: &mut Random) -> Result<Vec<Node>> {
             parent: random.below(nodes.len()),
             name: random.pick(&NAMES),
             target: random.pick(&TARGETS),
+            named: random.below(nodes.len()),
         };
         if nodes.len() <= NODES && has_room(nodes.as_slice(), &node) {
             nodes.push(node)?;
@@ -114,28 +120,43 @@ pub(crate) fn nodes(alloc: Global, random: &mut Random) -> Result<Vec<Node>> {
     Ok(nodes)
 }
 
-/// Whether a node's parent is a directory, in which nothing has its name.
+/// Whether a node's parent is a directory, in which nothing has its name; and, for a further name,
+/// whether what it names may have one.
 fn has_room(nodes: &[Node], node: &Node) -> bool {
     let is_dir = nodes
         .get(node.parent)
         .is_some_and(|above| above.kind == "dir");
-    is_dir && number_of(nodes, node.parent, node.name).is_none()
+    let is_file = nodes
+        .get(node.named)
+        .is_some_and(|named| named.kind != "dir" && named.kind != "hard");
+    let may_be_named = node.kind != "hard" || is_file;
+    is_dir && may_be_named && number_of(nodes, node.parent, node.name).is_none()
 }
 
 /// The number of the node with a name in a directory.
 pub(crate) fn number_of(nodes: &[Node], parent: usize, name: &str) -> Option<usize> {
-    nodes
+    let place = nodes
         .iter()
-        .position(|node| node.parent == parent && node.name == name)
+        .position(|node| node.parent == parent && node.name == name)?;
+    let node = nodes.get(place)?;
+    Some(if node.kind == "hard" {
+        node.named
+    } else {
+        place
+    })
 }
 
 /// The listing of a tree.
 pub(crate) fn listing(alloc: Global, nodes: &[Node]) -> Result<String> {
-    let mut text = String::from_str(alloc, "tree 1\n0 dir\n")?;
+    let has_hard = nodes.iter().any(|node| node.kind == "hard");
+    let form = if has_hard { 2u32 } else { 1 };
+    let mut text = format!(in alloc; "tree {form}\n0 dir\n")?;
     for (number, node) in nodes.iter().enumerate().skip(1) {
         write!(text, "{number} {} {} {}", node.kind, node.parent, node.name)?;
         if node.kind == "link" {
             write!(text, " {}", node.target)?;
+        } else if node.kind == "hard" {
+            write!(text, " {}", node.named)?;
         }
         text.push('\n')?;
     }
@@ -148,7 +169,7 @@ pub(crate) fn script(alloc: Global, random: &mut Random) -> Result<String> {
     for _ in 1..LINES {
         let process = random.below(2).saturating_add(1);
         write!(text, "{process} ")?;
-        match random.below(8) {
+        match random.below(9) {
             0 | 1 => writeln!(
                 text,
                 "unveil {} {}",
@@ -167,13 +188,14 @@ pub(crate) fn script(alloc: Global, random: &mut Random) -> Result<String> {
                 random.pick(&PATHS),
                 random.pick(&PATHS)
             )?,
-            4 => writeln!(
+            4 => writeln!(text, "link {} {}", random.pick(&PATHS), random.pick(&PATHS))?,
+            5 => writeln!(
                 text,
                 "symlink {} {}",
                 random.pick(&TARGETS),
                 random.pick(&PATHS)
             )?,
-            5 if random.below(2) == 0 => writeln!(text, "unveil - -")?,
+            6 if random.below(2) == 0 => writeln!(text, "unveil - -")?,
             _ => writeln!(text, "{} {}", random.pick(&CALLS), random.pick(&PATHS))?,
         }
     }

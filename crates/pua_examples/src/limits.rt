@@ -88,6 +88,7 @@ pub(crate) fn run(rt: &HostRuntime) -> Result<()> {
         ("three letters of 255 bytes", are_letters(alloc)?),
         ("a command of 3,000 words", are_words(alloc)?),
         ("one node more than 4,096", are_nodes_refused(alloc)?),
+        ("4,095 names of one file", are_further_names(alloc)?),
     ] {
         println!(rt; "{limit}: {}", as_expected(holds))?;
     }
@@ -317,4 +318,27 @@ fn are_nodes_refused(alloc: Global) -> Result<bool> {
         }
     }
     Ok(true)
+}
+
+/// A listing in which one file has 4,095 names is read; one name more is too many.
+fn are_further_names(alloc: Global) -> Result<bool> {
+    let mut case = Case::new(alloc)?;
+    case.tree = String::from_str(alloc, "tree 2\n0 dir\n1 file 0 n0001\n")?;
+    for number in 2..=4_095u32 {
+        writeln!(case.tree, "{number} hard 0 n{number:04} 1")?;
+    }
+    for (line, answer) in [
+        ("1 unlink /n0001", "ok"),
+        ("1 stat /n4095", "ok"),
+        ("1 link /n4095 /n4094", "EEXIST"),
+        ("1 link /n4095 /n4096", "ok"),
+        ("1 stat /n4096", "ok"),
+    ] {
+        case.ask(line, answer)?;
+    }
+    let words = ["run", "TREE", "SCRIPT"];
+    let is_run = case.holds(alloc, &words)?;
+    writeln!(case.tree, "4096 hard 0 n4096 1")?;
+    let fault = "pua: listing: line 4098: too many nodes\n";
+    Ok(is_run && case.fails(alloc, &words, 1, fault)?)
 }

@@ -8,7 +8,7 @@ use std::fs;
 use std::rt::Files;
 
 /// The folders of the stories.
-const STORIES: [&str; 10] = [
+const STORIES: [&str; 11] = [
     "first-run",
     "links",
     "wide-veil",
@@ -19,6 +19,7 @@ const STORIES: [&str; 10] = [
     "web-logger",
     "dhcp-client",
     "patch",
+    "second-name",
 ];
 
 /// Prints a line for each folder, which says whether its command writes what the folder has; and one

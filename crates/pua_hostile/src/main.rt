@@ -1,7 +1,8 @@
 //! Runs the libraries in hostile surroundings: sinks that take a byte at a time and break, readers
 //! that give a byte at a time and fail, inputs that are cut anywhere or hold a wrong byte, and links
 //! that lead to one another. A line is printed for each case that is not as it has to be, and for each
-//! table how many cases it has. With a word it makes only the calls to which growths may be refused.
+//! table how many cases it has. With the word `growth` it makes only the calls to which growths may
+//! be refused, and with `list` only lists a reach.
 #![tactic(auto)]
 
 mod broken;
@@ -25,12 +26,19 @@ const SCRIPT: &[u8] =
     b"1 unveil /etc r\n1 unveil /etc rw\n1 unveil /etc/passwd rw\n1 unveil /etc q\n1 unveil /no/x r\n1 unveil - -\n1 unveil /tmp r\n1 unveil - -\n";
 
 fn main(rt: HostRuntime) -> Result<()> {
-    if env::args(&rt)?.count() > 1 {
-        return growth::run(&rt);
+    let words: Vec<String> = env::args(&rt)?.skip(1).collect(rt.alloc())?;
+    match words.first().map(String::as_str) {
+        Some("growth") => growth::run(&rt),
+        Some("list") => growth::list(&rt),
+        _ => run_all(&rt),
     }
-    broken::run(&rt)?;
-    cuts::run(&rt)?;
-    nets::run(&rt)?;
-    variants::run(&rt)?;
-    growth::run(&rt)
+}
+
+fn run_all(rt: &HostRuntime) -> Result<()> {
+    broken::run(rt)?;
+    cuts::run(rt)?;
+    nets::run(rt)?;
+    variants::run(rt)?;
+    growth::run(rt)?;
+    growth::list(rt)
 }

@@ -37,8 +37,8 @@ use Rattle.pua_script.specs.declared.answer.Answer.{Answer}
 use Rattle.pua_script.specs.declared.answer.Answer.TheVariants.{Gone}
 use Rattle.pua_script.specs.declared.request.Given.{Given}
 use Rattle.pua_script.specs.declared.request.Action.{Action}
-use Rattle.pua_script.specs.declared.request.Action.TheVariants.{OnPath, Symlink, Rename, Pledge, Unveil, Lock, Fork, Exit}
-use Rattle.pua_script.specs.Replay.{World, Effect, Fails, Kills, Leaves, Copies, history_of, effect, if_promised, unless, edited, edited_tree, added, removed, moved_to, change, by_verdict, on_found, path_call, symlink_effect, link_node, on_two_paths, rename_found, shifted, unveil_errno, veil_on, veil_put, given_set, is_unknown, pledge_effect, fork_effect, answer_to, left_by, served, apply, answers, world_after}
+use Rattle.pua_script.specs.declared.request.Action.TheVariants.{OnPath, Symlink, Rename, Link, Pledge, Unveil, Lock, Fork, Exit}
+use Rattle.pua_script.specs.Replay.{World, Effect, Fails, Kills, Leaves, Copies, history_of, effect, if_promised, unless, edited, edited_tree, added, removed, moved_to, change, by_verdict, on_found, path_call, symlink_effect, link_node, on_two_paths, rename_found, shifted, link_found, tied, unveil_errno, veil_on, veil_put, given_set, is_unknown, pledge_effect, fork_effect, answer_to, left_by, served, apply, answers, world_after}
 use Rattle.pua_script.specs.Limits.{process_limit}
 use Rattle.pua_script.specs.Worlds.{WorldState, StandsAt, StandsForWorld, WorldsAnswerAlike, process_at}
 use Rattle.pua_script.proofs.StoodFor.{nat_tie, nat_turned, true_from_T, T_from_true}
@@ -162,6 +162,14 @@ module _ (h k : History) (a : Same h k) where
   same_rename t x y None = fails
   same_rename t x y (Some node) = search (same_unless, same_if, stay, same_shifted) depth 9
 
+  same_tied : (t : Tree) (x : ℕ) (spot : Option Spot) → SameEffect (tied t h x spot) (tied t k x spot)
+  same_tied t x None = leaves a
+  same_tied t x (Some spot) = same_edited_tree _
+
+  same_link : (t : Tree) (x y : Found) (node : Option ℕ) → SameEffect (link_found t h x y node) (link_found t k x y node)
+  same_link t x y None = fails
+  same_link t x y (Some node) = search (same_unless, same_tied) depth 9
+
   same_two_paths : (t : Tree) (end : Ending) (old_path new_path : List ℕ) (f g : Found → Found → Effect) → ((x y : Found) → SameEffect (f x y) (g x y))
       → SameEffect (on_two_paths t h end old_path new_path f) (on_two_paths t k end old_path new_path g)
   same_two_paths t end old_path new_path f g same =
@@ -250,6 +258,8 @@ module _ (v w : World) (same : SameWorlds v w) where
   same_effect h k a (Symlink target path) = subst (λ t. SameEffect (effect standard_table v h (Symlink target path)) (symlink_effect standard_table t k target path)) same.tree (same_symlink h k a standard_table v.tree target path)
   same_effect h k a (Rename old new) = subst (λ t. SameEffect (effect standard_table v h (Rename old new)) (on_two_paths t k ending.Dropped old new (λ x y. rename_found t k x y (node_named x)))) same.tree
       (same_two_paths h k a v.tree ending.Dropped old new _ _ (λ x y. same_rename h k a v.tree x y (node_named x)))
+  same_effect h k a (Link old new) = subst (λ t. SameEffect (effect standard_table v h (Link old new)) (on_two_paths t k ending.Dot old new (λ x y. link_found t k x y (node_named x)))) same.tree
+      (same_two_paths h k a v.tree ending.Dot old new _ _ (λ x y. same_link h k a v.tree x y (node_named x)))
   same_effect h k a (Pledge p e) = subst (λ t. SameEffect (effect standard_table v h (Pledge p e)) (pledge_effect t k p e)) same.tree (same_pledge h k a v.tree p e)
   same_effect h k a (Unveil path perms) = subst (λ t. SameEffect (effect standard_table v h (Unveil path perms)) (if_promised (may_any k (unveil ∷ [])) (cond (is_locked k) (Fails EPERM) (veil_on t k path perms (veil_put t k))))) same.tree (same_unveil h k a v.tree path perms)
   same_effect h k a Lock = subst (λ t. SameEffect (effect standard_table v h Lock) (if_promised (may_any k (unveil ∷ [])) (Leaves t (Locked ∷ k)))) same.tree (same_lock h k a v.tree)

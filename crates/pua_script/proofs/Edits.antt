@@ -9,16 +9,15 @@ use Rattle.pua_tree.specs.Edits.{cut, cut_found, is_full_dir, without_unnamed, w
 use Rattle.pua_tree.specs.declared.node.Kind.{Kind}
 use Rattle.pua_tree.specs.declared.node.Kind.TheVariants as kinds
 use Rattle.pua_tree.specs.declared.fault.TreeFault.TheVariants as faults
-use Rattle.pua_path.specs.Fits.{spot_named}
 use Rattle.pua_path.specs.declared.errno.Errno.TheVariants.{ENOTEMPTY}
 use Rattle.pua_path.specs.declared.found.Way.TheVariants as ways
 use Rattle.pua_path.specs.declared.found.Found.{Found}
 use Rattle.pua_path.specs.declared.found.Found.TheVariants.{Whole, Slot}
 use Rattle.pua_policy.specs.Verdict.{object_of_kind, object_fault}
 use Rattle.pua_policy.specs.declared.call.Call.TheVariants as calls
-use Rattle.pua_script.specs.Judged.{IsFor}
+use Rattle.pua_script.specs.Judged.{IsFor, IsRemovable}
 
-some_none : {A : Type 0} (x : A) → Some x ≡ None → ⊥
+pub some_none : {A : Type 0} (x : A) → Some x ≡ None → ⊥
 some_none x is = cc
 
 -- a row whose node is no directory in which something stands can be taken away
@@ -29,7 +28,7 @@ cut_ok t dir name x lives there alone =
     ∙ (λ i. cond (alone i) (Err faults.NotEmpty) (Ok (x, without_unnamed (without_row t dir name) x))) in
     subst IsOk (sym is) refl
 
-empty_alone : (t : Tree) (x : ℕ) → is_empty t x ≡ true → is_full_dir t x ≡ false
+pub empty_alone : (t : Tree) (x : ℕ) → is_empty t x ≡ true → is_full_dir t x ≡ false
 empty_alone t x empty = ap (λ b. is_dir t x && not b) (and_parts (is_dir t x) (has_no_row t x) empty).1 ∙ by (is_dir t x)
   where
     by : (b : Bool) → (b && false) ≡ false
@@ -40,13 +39,9 @@ is_emptied : (b : Bool) → cond b None (Some ENOTEMPTY) ≡ None → b ≡ true
 is_emptied true is = refl
 is_emptied false is = absurd (some_none ENOTEMPTY is)
 
-not_dir : (b : Bool) → not b ≡ true → b ≡ false
+pub not_dir : (b : Bool) → not b ≡ true → b ≡ false
 not_dir true is = cc
 not_dir false is = refl
-
--- what may be removed can be taken away
-abbrev pub Removable : Tree → Found → Type 0
-Removable t object = (spot : Spot) → spot_named object ≡ Some spot → IsOk (cut t spot.0 spot.1)
 
 module _ (t : Tree) where
   removable_at : (dir : ℕ) (name : List ℕ) (o : Option Spot) → o ≡ Some (dir, name) → IsOk (cut t dir name) → (spot : Spot) → o ≡ Some spot → IsOk (cut t spot.0 spot.1)
@@ -59,7 +54,7 @@ module _ (t : Tree) where
   no_rmdir (Some kinds.Link) is = some_none _ is
   no_rmdir (Some kinds.Prog) is = some_none _ is
 
-  pub rmdir_removes : (object : Found) → IsFor t calls.Rmdir object → Removable t object
+  pub rmdir_removes : (object : Found) → IsFor t calls.Rmdir object → IsRemovable t object
   rmdir_removes (Whole dir (ways.Named parent name)) for =
       removable_at parent name (Some (parent, name)) refl (cut_ok t parent name dir for.name.named.0 for.name.named.1 (empty_alone t dir (is_emptied (is_empty t dir) for.kind)))
   rmdir_removes (Whole dir ways.Dot) for = absurd (some_none _ for.kind)
@@ -68,7 +63,7 @@ module _ (t : Tree) where
   rmdir_removes (Slot dir name None) for = absurd (some_none _ for.kind)
   rmdir_removes (Slot dir name (Some x)) for = absurd (no_rmdir (kind_at t x) for.kind)
 
-  pub unlink_removes : (object : Found) → IsFor t calls.Unlink object → Removable t object
+  pub unlink_removes : (object : Found) → IsFor t calls.Unlink object → IsRemovable t object
   unlink_removes (Whole dir way) for = absurd (some_none _ for.kind)
   unlink_removes (Slot dir name None) for = absurd (some_none _ for.kind)
   unlink_removes (Slot dir name (Some x)) for =

@@ -21,11 +21,11 @@ use Rattle.pua_script.specs.Requests.{Asked, is_symlink, has_no_nul}
 use Rattle.pua_script.specs.declared.request.Given.{Given}
 use Rattle.pua_script.specs.declared.request.Given.TheVariants.{Null, Good}
 use Rattle.pua_script.specs.declared.request.Action.{Action}
-use Rattle.pua_script.specs.declared.request.Action.TheVariants.{OnPath, Symlink, Rename, Pledge, Unveil, Lock, Fork, Exit}
+use Rattle.pua_script.specs.declared.request.Action.TheVariants.{OnPath, Symlink, Rename, Link, Pledge, Unveil, Lock, Fork, Exit}
 use Rattle.pua_script.specs.declared.fault.ScriptFault.{ScriptFault}
 use Rattle.pua_script.specs.declared.fault.ScriptFault.TheVariants.{BadLine, BadCall, BadPath, BadList, TooMany}
-use Rattle.pua_script.specs.Scripts.{is_dash, is_equals, path_in, has_empty_word, good_or_unknown, given_in, perms_in, Form, PathForm, SymlinkForm, RenameForm, PledgeForm, UnveilForm, ForkForm, ExitForm, form_of, with_paths, unveil_of, action_of, form_in, action_in, request_of_fields, request_of, requests_of}
-use Rattle.pua_script.specs.ScriptGrammar.{SpellsPath, empty, spelled, IsList, SpellsGiven, null, nothing, known, unknown, SpellsPerms, no_letter, letters, unknown_letter, SpellsAction, on_path, symlink, rename, pledge, unveil, lock, fork, exit, SpellsRequest, SpellRequests, ScriptsAreRead}
+use Rattle.pua_script.specs.Scripts.{is_dash, is_equals, path_in, has_empty_word, good_or_unknown, given_in, perms_in, Form, PathForm, SymlinkForm, RenameForm, LinkForm, PledgeForm, UnveilForm, ForkForm, ExitForm, form_of, with_paths, unveil_of, action_of, form_in, action_in, request_of_fields, request_of, requests_of}
+use Rattle.pua_script.specs.ScriptGrammar.{SpellsPath, empty, spelled, IsList, SpellsGiven, null, nothing, known, unknown, SpellsPerms, no_letter, letters, unknown_letter, SpellsAction, on_path, symlink, rename, link, pledge, unveil, lock, fork, exit, SpellsRequest, SpellRequests, ScriptsAreRead}
 
 same_from : (a b : List ℕ) → same_bytes a b ≡ true → a ≡ b
 same_from a b e = (bytes_decides a b).0 e
@@ -165,6 +165,9 @@ module _ (n : ℕ) where
   rename_form : (word a b : List ℕ) (action : Action) → word ≡ codes "rename" → action_of n (RenameForm a b) ≡ Ok action → SpellsAction (word ∷ a ∷ b ∷ []) action
   rename_form word a b action named e = let both = two_paths Rename a b action e in subst (SpellsAction (word ∷ a ∷ b ∷ [])) both.4 (rename named both.2 both.3)
 
+  link_form : (word a b : List ℕ) (action : Action) → word ≡ codes "link" → action_of n (LinkForm a b) ≡ Ok action → SpellsAction (word ∷ a ∷ b ∷ []) action
+  link_form word a b action named e = let both = two_paths Link a b action e in subst (SpellsAction (word ∷ a ∷ b ∷ [])) both.4 (link named both.2 both.3)
+
   pledge_form : (word a b : List ℕ) (action : Action) → word ≡ codes "pledge" → action_of n (PledgeForm a b) ≡ Ok action → SpellsAction (word ∷ a ∷ b ∷ []) action
   pledge_form word a b action named e =
       let first = bound (ok_or (given_in a) (BadList n)) (λ p. ok_or (given_in b) (BadList n) >>= λ x. Ok (Pledge p x)) action e in
@@ -200,15 +203,16 @@ module _ (n : ℕ) where
           path_form word a named.0 action (not-true (is_symlink named.0) read.1) (call_read word named.0 read.0) (ap (action_of n) named.2 ∙ is)
 
   two_arguments : (word a b : List ℕ) (form : Form) (action : Action) → form_of word (a ∷ b ∷ []) ≡ Some form → action_of n form ≡ Ok action → SpellsAction (word ∷ a ∷ b ∷ []) action
-  two_arguments word a b form action = by (same_bytes word (codes "symlink")) refl (same_bytes word (codes "rename")) refl (same_bytes word (codes "pledge")) refl (same_bytes word (codes "unveil")) refl
+  two_arguments word a b form action = by (same_bytes word (codes "symlink")) refl (same_bytes word (codes "rename")) refl (same_bytes word (codes "link")) refl (same_bytes word (codes "pledge")) refl (same_bytes word (codes "unveil")) refl
     where
-      by : (s : Bool) → same_bytes word (codes "symlink") ≡ s → (r : Bool) → same_bytes word (codes "rename") ≡ r → (p : Bool) → same_bytes word (codes "pledge") ≡ p → (u : Bool) → same_bytes word (codes "unveil") ≡ u
-          → cond s (Some (SymlinkForm a b)) (cond r (Some (RenameForm a b)) (cond p (Some (PledgeForm a b)) (cond u (Some (UnveilForm a b)) None))) ≡ Some form → action_of n form ≡ Ok action → SpellsAction (word ∷ a ∷ b ∷ []) action
-      by true w r _ p _ u _ e is = symlink_form word a b action (same_from word (codes "symlink") w) (ap (action_of n) (same_Some (SymlinkForm a b) form e) ∙ is)
-      by false _ true w p _ u _ e is = rename_form word a b action (same_from word (codes "rename") w) (ap (action_of n) (same_Some (RenameForm a b) form e) ∙ is)
-      by false _ false _ true w u _ e is = pledge_form word a b action (same_from word (codes "pledge") w) (ap (action_of n) (same_Some (PledgeForm a b) form e) ∙ is)
-      by false _ false _ false _ true w e is = unveil_form word a b action (same_from word (codes "unveil") w) (ap (action_of n) (same_Some (UnveilForm a b) form e) ∙ is)
-      by false _ false _ false _ false w e is = absurd (None≢Some form e)
+      by : (s : Bool) → same_bytes word (codes "symlink") ≡ s → (r : Bool) → same_bytes word (codes "rename") ≡ r → (l : Bool) → same_bytes word (codes "link") ≡ l → (p : Bool) → same_bytes word (codes "pledge") ≡ p → (u : Bool) → same_bytes word (codes "unveil") ≡ u
+          → cond s (Some (SymlinkForm a b)) (cond r (Some (RenameForm a b)) (cond l (Some (LinkForm a b)) (cond p (Some (PledgeForm a b)) (cond u (Some (UnveilForm a b)) None)))) ≡ Some form → action_of n form ≡ Ok action → SpellsAction (word ∷ a ∷ b ∷ []) action
+      by true w r _ l _ p _ u _ e is = symlink_form word a b action (same_from word (codes "symlink") w) (ap (action_of n) (same_Some (SymlinkForm a b) form e) ∙ is)
+      by false _ true w l _ p _ u _ e is = rename_form word a b action (same_from word (codes "rename") w) (ap (action_of n) (same_Some (RenameForm a b) form e) ∙ is)
+      by false _ false _ true w p _ u _ e is = link_form word a b action (same_from word (codes "link") w) (ap (action_of n) (same_Some (LinkForm a b) form e) ∙ is)
+      by false _ false _ false _ true w u _ e is = pledge_form word a b action (same_from word (codes "pledge") w) (ap (action_of n) (same_Some (PledgeForm a b) form e) ∙ is)
+      by false _ false _ false _ false _ true w e is = unveil_form word a b action (same_from word (codes "unveil") w) (ap (action_of n) (same_Some (UnveilForm a b) form e) ∙ is)
+      by false _ false _ false _ false _ false w e is = absurd (None≢Some form e)
 
   pub action_read : (more : List (List ℕ)) (form : Form) (action : Action) → form_in more ≡ Some form → action_of n form ≡ Ok action → SpellsAction more action
   action_read [] form action e is = absurd (None≢Some form e)
@@ -235,6 +239,8 @@ module _ (n : ℕ) where
       (SymlinkForm a b, ap (λ w. form_of w (a ∷ b ∷ [])) named, paths_told Symlink a b x y first second)
   action_told _ _ (rename {a = a} {b = b} {old = x} {new = y} named first second) =
       (RenameForm a b, ap (λ w. form_of w (a ∷ b ∷ [])) named, paths_told Rename a b x y first second)
+  action_told _ _ (link {a = a} {b = b} {old = x} {new = y} named first second) =
+      (LinkForm a b, ap (λ w. form_of w (a ∷ b ∷ [])) named, paths_told Link a b x y first second)
   action_told _ _ (pledge {a = a} {b = b} {promises = p} {execpromises = x} named first second) = (
     PledgeForm a b,
     ap (λ w. form_of w (a ∷ b ∷ [])) named,

@@ -21,8 +21,8 @@ use Rattle.pua_policy.specs.declared.answer.Verdict.{Verdict}
 use Rattle.pua_policy.specs.declared.answer.Verdict.TheVariants as verdicts
 use Rattle.pua_policy.specs.declared.place.Place.{Place}
 use Rattle.pua_script.specs.declared.request.Action.{Action}
-use Rattle.pua_script.specs.declared.request.Action.TheVariants.{OnPath, Symlink, Rename, Pledge, Unveil, Lock, Fork, Exit}
-use Rattle.pua_script.specs.Replay.{World, Effect, Fails, Kills, Leaves, Copies, effect, if_promised, unless, edited, edited_tree, added, removed, moved_to, change, by_verdict, on_found, rename_found, shifted, veil_on, veil_put}
+use Rattle.pua_script.specs.declared.request.Action.TheVariants.{OnPath, Symlink, Rename, Link, Pledge, Unveil, Lock, Fork, Exit}
+use Rattle.pua_script.specs.Replay.{World, Effect, Fails, Kills, Leaves, Copies, effect, if_promised, unless, edited, edited_tree, added, removed, moved_to, change, by_verdict, on_found, rename_found, shifted, link_found, tied, veil_on, veil_put}
 use Rattle.pua_script.specs.Laws.{IsConfined, Narrows, IsExec, RequestsNarrow}
 
 -- the history as it was, or with one event that is no unveil
@@ -121,6 +121,14 @@ module _ (h : History) where
   fine_rename t a b None = fails
   fine_rename t a b (Some x) = search (fine_unless, fine_if, stays h, fine_shifted) depth 9
 
+  fine_tied : (t : Tree) (x : ℕ) (spot : Option Spot) → Fine h (tied t h x spot)
+  fine_tied t x None = stays h
+  fine_tied t x (Some spot) = fine_edited_tree _
+
+  fine_link : (t : Tree) (a b : Found) (x : Option ℕ) → Fine h (link_found t h a b x)
+  fine_link t a b None = fails
+  fine_link t a b (Some x) = search (fine_unless, fine_tied) depth 9
+
   -- a process that can put no veil may not unveil
   no_unveil : IsConfined h → (e : Effect) → Fine h (if_promised (may_any h (unveil ∷ [])) (cond (is_locked h) (Fails EPERM) e))
   no_unveil (inl locked) e = fine_promised (may_any h (unveil ∷ [])) (cond (is_locked h) (Fails EPERM) e) (rw locked fails)
@@ -165,6 +173,7 @@ fine_effect : (table : CallTable) (w : World) (h : History) (action : Action) �
 fine_effect table w h (OnPath c path) confined other = let each : (x : Found) → Fine h (change w.tree h c x) = fine_change h w.tree c path other in search (fine_verdict h, fine_found h, each) depth 9
 fine_effect table w h (Symlink target path) confined other = search (fine_promised h, fine_unless h, fine_verdict h, fine_found h, fine_added h) depth 9
 fine_effect table w h (Rename old new) confined other = search (fine_promised h, fine_found h, fine_unless h, fine_rename h) depth 9
+fine_effect table w h (Link old new) confined other = search (fine_promised h, fine_found h, fine_unless h, fine_link h) depth 9
 fine_effect table w h (Pledge promises execpromises) confined other = search (fine_if h, fine_unless h, fails, pledges h) depth 9
 fine_effect table w h (Unveil path perms) confined other = no_unveil h confined (veil_on w.tree h path perms (veil_put w.tree h))
 fine_effect table w h Lock confined other = fine_promised h (may_any h (unveil ∷ [])) (Leaves w.tree (Locked ∷ h)) (adds h Locked refl)

@@ -11,7 +11,7 @@ use Rattle.pua_script.specs.Requests.{has_no_nul, is_asked, is_askable}
 use Rattle.pua_script.specs.declared.request.Action.{Action}
 use Rattle.pua_script.specs.declared.fault.ScriptFault.TheVariants.{BadLine, BadCall}
 use Rattle.pua_script.specs.Scripts.{action_in, form_in, action_of, request_of_fields, request_of}
-use Rattle.pua_script.specs.ScriptGrammar.{SpellsPath, empty, spelled, SpellsAction, on_path, symlink, rename, pledge, unveil, lock, fork, exit}
+use Rattle.pua_script.specs.ScriptGrammar.{SpellsPath, empty, spelled, SpellsAction, on_path, symlink, rename, link, pledge, unveil, lock, fork, exit}
 use Rattle.pua_script.proofs.Grammar.{bound, found, action_read}
 
 -- no call has more than two arguments
@@ -45,6 +45,7 @@ askable : (more : List (List ℕ)) (action : Action) → SpellsAction more actio
 askable _ _ (on_path {path = path} other named spells) = and_from _ _ (not_from_false _ other) (path_clean _ path spells)
 askable _ _ (symlink {target = x} {path = y} named first second) = and_from _ _ (path_clean _ x first) (path_clean _ y second)
 askable _ _ (rename {old = x} {new = y} named first second) = and_from _ _ (path_clean _ x first) (path_clean _ y second)
+askable _ _ (link {old = x} {new = y} named first second) = and_from _ _ (path_clean _ x first) (path_clean _ y second)
 askable _ _ (pledge named first second) = refl
 askable _ _ (unveil {path = path} named no_a no_b first second) = path_clean _ path first
 askable _ _ (lock named first second) = refl

@@ -12,11 +12,11 @@ use Rattle.pua_path.specs.declared.found.Found.TheVariants.{Whole, Slot}
 use Rattle.pua_policy.specs.History.{History}
 use Rattle.pua_policy.specs.declared.call.Call.TheVariants as calls
 use Rattle.pua_script.specs.Replay.{Effect, Fails, Leaves, edited, added, removed, moved_to}
-use Rattle.pua_script.specs.Judged.{NameFits}
+use Rattle.pua_script.specs.Judged.{NameFits, IsRemovable}
 use Rattle.pua_script.specs.Laws.{LacksRoom, AddsLackRoom, CallsLackRoom}
-use Rattle.pua_script.proofs.Edits.{Removable, rmdir_removes, unlink_removes}
+use Rattle.pua_script.proofs.Edits.{rmdir_removes, unlink_removes}
 
-leaves_not_fails : (t : Tree) (h : History) → Leaves t h ≡ Fails ENOSPC → ⊥
+pub leaves_not_fails : (t : Tree) (h : History) → Leaves t h ≡ Fails ENOSPC → ⊥
 leaves_not_fails t h e = cc
 
 some_not_none : (x : ℕ) → Some x ≡ None → ⊥
@@ -44,7 +44,7 @@ module _ (t : Tree) (h : History) where
   cut_leaves (Ok x) ok e = leaves_not_fails x.1 h e
   cut_leaves (Err fault) ok e = absurd (true≢false (sym ok))
 
-  removes : (object : Found) → Removable t object → removed t h object ≢ Fails ENOSPC
+  removes : (object : Found) → IsRemovable t object → removed t h object ≢ Fails ENOSPC
   removes (Whole dir (ways.Named parent name)) removable = cut_leaves _ (removable (parent, name) refl)
   removes (Whole dir ways.Dot) removable = leaves_not_fails t h
   removes (Whole dir ways.DotDot) removable = leaves_not_fails t h

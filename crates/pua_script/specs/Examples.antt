@@ -62,6 +62,32 @@ rename_rows = record {
   not_directory_before_empty = refl;
 }
 
+-- the same of a link
+pub record LinkRows : Type 0 where
+  pub promise_before_old_path : answers_of ordered (codes "1 pledge stdio,error -" ∷ codes "1 link /no/x /y" ∷ []) ≡ Okay ∷ Failed ENOSYS ∷ []
+  pub old_path_before_new_path : answers_of ordered (codes "1 link /f/x /no/x" ∷ []) ≡ Failed ENOTDIR ∷ []
+  pub new_path_before_old_cover : answers_of ordered (codes "1 unveil /d rwc" ∷ codes "1 link /f /d/f/x" ∷ []) ≡ Okay ∷ Failed ENOTDIR ∷ []
+  pub old_cover_before_new_cover : answers_of ordered (codes "1 unveil /d rwc" ∷ codes "1 unveil /d/f r" ∷ codes "1 link /d/f /x" ∷ []) ≡ Okay ∷ Okay ∷ Failed EACCES ∷ []
+  pub new_cover_before_missing : answers_of ordered (codes "1 unveil /d rwc" ∷ codes "1 unveil /d/g r" ∷ codes "1 link /d/no /d/g" ∷ []) ≡ Okay ∷ Okay ∷ Failed EACCES ∷ []
+  pub missing_before_there : answers_of ordered (codes "1 link /no /f" ∷ []) ≡ Failed ENOENT ∷ []
+  pub directory_before_there : answers_of ordered (codes "1 link /d /f" ∷ codes "1 link / /f" ∷ []) ≡ Failed EPERM ∷ Failed EPERM ∷ []
+  pub there : answers_of ordered (codes "1 link /f /d" ∷ codes "1 link /f /d/." ∷ codes "1 link /f /f" ∷ []) ≡ Failed EEXIST ∷ Failed EEXIST ∷ Failed EEXIST ∷ []
+  -- a slash at the end is a part `.` of either path
+  pub final_slash : answers_of ordered (codes "1 link /f/ /new" ∷ codes "1 link /f /new/" ∷ codes "1 link /f /new" ∷ []) ≡ Failed ENOTDIR ∷ Failed ENOENT ∷ Okay ∷ []
+
+pub link_rows : LinkRows
+link_rows = record {
+  promise_before_old_path = refl;
+  old_path_before_new_path = refl;
+  new_path_before_old_cover = refl;
+  old_cover_before_new_cover = refl;
+  new_cover_before_missing = refl;
+  missing_before_there = refl;
+  directory_before_there = refl;
+  there = refl;
+  final_slash = refl;
+}
+
 pub record ReplayRows : Type 0 where
   -- a link to itself is not followed without end
   pub link_loops : answers_of example (codes "1 stat /tmp/self" ∷ codes "1 lstat /tmp/self" ∷ []) ≡ Failed ELOOP ∷ Okay ∷ []
@@ -105,6 +131,12 @@ pub record ReplayRows : Type 0 where
   pub moved_by_another : answers_of example (codes "1 fork 2" ∷ codes "1 unveil /etc r" ∷ codes "1 unveil - -" ∷ codes "1 fork 3" ∷ codes "2 rename /tmp/sh /etc/sh" ∷ codes "1 stat /etc/sh" ∷ codes "3 stat /etc/sh" ∷ codes "3 unveil /tmp r" ∷ codes "3 stat /tmp" ∷ []) ≡ Okay ∷ Okay ∷ Okay ∷ Okay ∷ Okay ∷ Okay ∷ Okay ∷ Failed EPERM ∷ Failed ENOENT ∷ []
   -- what is not covered with c stays
   pub confined : answers_of example (codes "1 unveil /tmp rwc" ∷ codes "1 unveil /tmp/sh r" ∷ codes "1 unveil - -" ∷ codes "1 rename /tmp /x" ∷ codes "1 rename /tmp/self /tmp/z" ∷ codes "1 unlink /tmp/sh" ∷ codes "1 rename /tmp/z /tmp/sh" ∷ codes "1 rmdir /tmp" ∷ codes "1 unlink /etc/passwd" ∷ codes "1 stat /tmp/sh" ∷ []) ≡ Okay ∷ Okay ∷ Okay ∷ Failed ENOENT ∷ Okay ∷ Failed EACCES ∷ Failed EACCES ∷ Failed ENOTEMPTY ∷ Failed ENOENT ∷ Okay ∷ []
+  -- a further name is not covered by the veil of the first one, and keeps the node when the first one goes
+  pub second_name : answers_of (root_alone ++ codes "1 dir 0 d" ∷ codes "2 file 1 f" ∷ []) (codes "1 fork 2" ∷ codes "1 unveil /d/f r" ∷ codes "2 link /d/f /g" ∷ codes "1 stat /g" ∷ codes "2 unlink /d/f" ∷ codes "1 stat /d/f" ∷ codes "2 stat /g" ∷ codes "2 link /g /d/f" ∷ codes "1 stat /d/f" ∷ []) ≡ Okay ∷ Okay ∷ Okay ∷ Failed ENOENT ∷ Okay ∷ Failed ENOENT ∷ Okay ∷ Okay ∷ Okay ∷ []
+  -- links, and a rename between two names of one node, which moves nothing
+  pub links : answers_of (root_alone ++ codes "1 dir 0 d" ∷ codes "2 file 1 f" ∷ []) (codes "1 link /d/f /g" ∷ codes "1 rename /g /d/f" ∷ codes "1 stat /g" ∷ codes "1 link /d /e" ∷ codes "1 link /g /d/f" ∷ codes "1 link /nope /h" ∷ codes "1 link /g /h" ∷ codes "1 unlink /g" ∷ codes "1 stat /h" ∷ []) ≡ Okay ∷ Okay ∷ Okay ∷ Failed EPERM ∷ Failed EEXIST ∷ Failed ENOENT ∷ Okay ∷ Okay ∷ Okay ∷ []
+  -- a symbolic link at the old path's end is not followed: it is what gets the further name
+  pub link_kept : answers_of example (codes "1 link /tmp/self /l" ∷ codes "1 lstat /l" ∷ codes "1 link /t /u" ∷ codes "1 readlink /u" ∷ codes "1 rmdir /u" ∷ []) ≡ Okay ∷ Okay ∷ Okay ∷ Okay ∷ Failed ENOTDIR ∷ []
   -- a number is used once, and an ended process is gone
   pub forks_and_exits : answers_of root_alone (codes "1 fork 2" ∷ codes "1 fork 2" ∷ codes "2 exit" ∷ codes "2 stat /" ∷ codes "2 fork 3" ∷ codes "1 fork 3" ∷ []) ≡ Okay ∷ Failed EAGAIN ∷ Okay ∷ Gone ∷ Gone ∷ Okay ∷ []
 
@@ -131,6 +163,9 @@ replay_rows = record {
   error_then_unveil = refl;
   moved_by_another = refl;
   confined = refl;
+  second_name = refl;
+  links = refl;
+  link_kept = refl;
   forks_and_exits = refl;
 }
 

@@ -3,7 +3,7 @@ use Rattle.std.specs.Prelude.{ℕ, Bool, true, false, not, ◌||◌, if◌then�
 use Rattle.std.specs.Ordering.{nat_cmp}
 use Rattle.std.specs.FinMap.{put, find as find_key}
 use Rattle.pua_tree.specs.Tree.{Tree, Node, Spot, is_empty}
-use Rattle.pua_tree.specs.Edits.{add, cut, shift, is_inside, is_same_node}
+use Rattle.pua_tree.specs.Edits.{add, tie, cut, shift, is_inside, is_same_node}
 use Rattle.pua_path.specs.Paths.{path_fault}
 use Rattle.pua_path.specs.Resolution.{resolution_of_text}
 use Rattle.pua_path.specs.Fits.{spot_named, node_named}
@@ -17,7 +17,7 @@ use Rattle.pua_tree.specs.declared.node.Kind.{Kind}
 use Rattle.pua_tree.specs.declared.node.Kind.TheVariants as kind
 use Rattle.pua_tree.specs.declared.fault.TreeFault.{TreeFault}
 use Rattle.pua_path.specs.declared.errno.Errno.{Errno}
-use Rattle.pua_path.specs.declared.errno.Errno.TheVariants.{EPERM, ENOENT, E2BIG, EAGAIN, EBUSY, ENOTDIR, EISDIR, EINVAL, ENOSPC, ENOTEMPTY, ENOSYS}
+use Rattle.pua_path.specs.declared.errno.Errno.TheVariants.{EPERM, ENOENT, E2BIG, EAGAIN, EBUSY, EEXIST, ENOTDIR, EISDIR, EINVAL, ENOSPC, ENOTEMPTY, ENOSYS}
 use Rattle.pua_path.specs.declared.text.Ending.{Ending}
 use Rattle.pua_path.specs.declared.text.Ending.TheVariants as ending
 use Rattle.pua_path.specs.declared.found.Last.TheVariants.{Followed, Kept}
@@ -37,7 +37,7 @@ use Rattle.pua_policy.specs.declared.answer.Verdict.TheVariants as verdicts
 use Rattle.pua_script.specs.declared.request.Given.{Given}
 use Rattle.pua_script.specs.declared.request.Given.TheVariants.{Good, Unknown}
 use Rattle.pua_script.specs.declared.request.Action.{Action}
-use Rattle.pua_script.specs.declared.request.Action.TheVariants.{OnPath, Symlink, Rename, Pledge, Unveil, Lock, Fork, Exit}
+use Rattle.pua_script.specs.declared.request.Action.TheVariants.{OnPath, Symlink, Rename, Link, Pledge, Unveil, Lock, Fork, Exit}
 use Rattle.pua_script.specs.declared.answer.Answer.{Answer}
 use Rattle.pua_script.specs.declared.answer.Answer.TheVariants.{Okay, Failed, Killed, Gone}
 
@@ -180,6 +180,17 @@ rename_found t h old new (Some x) =
     (if is_same_node x (node_named new) then Leaves t h
     else unless (or_fault (inside_fault t x (spot_named new)) (kinds_fault t x old new)) (shifted t h (spot_named old) (spot_named new)))
 
+-- a further name for x at a spot
+abbrev pub tied : Tree → History → ℕ → Option Spot → Effect
+tied t h x None = Leaves t h
+tied t h x (Some spot) = edited_tree h (tie t spot.0 spot.1 x)
+
+-- a further name for what the old path named, once both are covered: no directory has one, and nothing may have it yet
+abbrev pub link_found : Tree → History → Found → Found → Option ℕ → Effect
+link_found t h old new None = Fails ENOENT
+link_found t h old new (Some x) =
+    unless (or_fault (fault_if (is_whole old) EPERM) (fault_if (is_some (node_named new)) EEXIST)) (tied t h x (spot_named new))
+
 -- two paths, both kept: the promise, then the paths, then the covers, each time the old one first
 abbrev pub on_two_paths : Tree → History → Ending → List ℕ → List ℕ → (Found → Found → Effect) → Effect
 on_two_paths t h ending old_path new_path effect =
@@ -232,6 +243,7 @@ abbrev pub effect : CallTable → World → History → Action → Effect
 effect table w h (OnPath call path) = path_call table w.tree h call path
 effect table w h (Symlink target path) = symlink_effect table w.tree h target path
 effect table w h (Rename old new) = on_two_paths w.tree h ending.Dropped old new (λ a b. rename_found w.tree h a b (node_named a))
+effect table w h (Link old new) = on_two_paths w.tree h ending.Dot old new (λ a b. link_found w.tree h a b (node_named a))
 effect table w h (Pledge promises execpromises) = pledge_effect w.tree h promises execpromises
 effect table w h (Unveil path perms) = unveil_request w.tree h path perms
 effect table w h Lock = if_promised (may_any h (unveil ∷ [])) (Leaves w.tree (Locked ∷ h))

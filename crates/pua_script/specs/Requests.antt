@@ -5,7 +5,7 @@ use Rattle.pua_script.specs.Limits.{number_limit}
 use Rattle.pua_policy.specs.declared.call.Call.{Call}
 use Rattle.pua_policy.specs.declared.call.Call.TheVariants as call
 use Rattle.pua_script.specs.declared.request.Action.{Action}
-use Rattle.pua_script.specs.declared.request.Action.TheVariants.{OnPath, Symlink, Rename, Unveil, Fork}
+use Rattle.pua_script.specs.declared.request.Action.TheVariants.{OnPath, Symlink, Rename, Link, Unveil, Fork}
 
 -- the number of a process, and what it asks for
 pub record Asked : Type 0 where
@@ -29,6 +29,7 @@ abbrev pub is_askable : Action → Bool
 is_askable (OnPath call path) = not (is_symlink call) && has_no_nul path
 is_askable (Symlink target path) = has_no_nul target && has_no_nul path
 is_askable (Rename old new) = has_no_nul old && has_no_nul new
+is_askable (Link old new) = has_no_nul old && has_no_nul new
 is_askable (Unveil path perms) = has_no_nul path
 is_askable (Fork new) = is_process_number new
 is_askable _ = true

@@ -13,7 +13,7 @@ use Rattle.pua_script.specs.Scripts.{has_empty_word, script}
 use Rattle.pua_script.specs.declared.request.Given.{Given}
 use Rattle.pua_script.specs.declared.request.Given.TheVariants.{Null, Good, Unknown}
 use Rattle.pua_script.specs.declared.request.Action.{Action}
-use Rattle.pua_script.specs.declared.request.Action.TheVariants.{OnPath, Symlink, Rename, Pledge, Unveil, Lock, Fork, Exit}
+use Rattle.pua_script.specs.declared.request.Action.TheVariants.{OnPath, Symlink, Rename, Link, Pledge, Unveil, Lock, Fork, Exit}
 
 -- a path or a target: `=` is the empty text, and anything else spells bytes without NUL
 pub data SpellsPath (field : List ℕ) : List ℕ → Type 0 where
@@ -44,6 +44,7 @@ pub data SpellsAction : List (List ℕ) → Action → Type 0 where
   on_path : {word a path : List ℕ} {call : Call} → IsFalse (is_symlink call) → word ≡ call_name call → SpellsPath a path → SpellsAction (word ∷ a ∷ []) (OnPath call path)
   symlink : {word a b target path : List ℕ} → word ≡ codes "symlink" → SpellsPath a target → SpellsPath b path → SpellsAction (word ∷ a ∷ b ∷ []) (Symlink target path)
   rename : {word a b old new : List ℕ} → word ≡ codes "rename" → SpellsPath a old → SpellsPath b new → SpellsAction (word ∷ a ∷ b ∷ []) (Rename old new)
+  link : {word a b old new : List ℕ} → word ≡ codes "link" → SpellsPath a old → SpellsPath b new → SpellsAction (word ∷ a ∷ b ∷ []) (Link old new)
   pledge : {word a b : List ℕ} {promises execpromises : Given} → word ≡ codes "pledge" → SpellsGiven a promises → SpellsGiven b execpromises → SpellsAction (word ∷ a ∷ b ∷ []) (Pledge promises execpromises)
   unveil : {word a b path : List ℕ} {perms : Option ℕ} → word ≡ codes "unveil" → a ≢ codes "-" → b ≢ codes "-" → SpellsPath a path → SpellsPerms b perms → SpellsAction (word ∷ a ∷ b ∷ []) (Unveil path perms)
   lock : {word a b : List ℕ} → word ≡ codes "unveil" → a ≡ codes "-" → b ≡ codes "-" → SpellsAction (word ∷ a ∷ b ∷ []) Lock

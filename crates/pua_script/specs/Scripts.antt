@@ -16,7 +16,7 @@ use Rattle.pua_policy.specs.declared.call.Call.{Call}
 use Rattle.pua_script.specs.declared.request.Given.{Given}
 use Rattle.pua_script.specs.declared.request.Given.TheVariants.{Null, Good, Unknown}
 use Rattle.pua_script.specs.declared.request.Action.{Action}
-use Rattle.pua_script.specs.declared.request.Action.TheVariants.{OnPath, Symlink, Rename, Pledge, Unveil, Lock, Fork, Exit}
+use Rattle.pua_script.specs.declared.request.Action.TheVariants.{OnPath, Symlink, Rename, Link, Pledge, Unveil, Lock, Fork, Exit}
 use Rattle.pua_script.specs.declared.fault.ScriptFault.{ScriptFault}
 use Rattle.pua_script.specs.declared.fault.ScriptFault.TheVariants.{BadLine, BadCall, BadPath, BadList, TooMany, OutOfMemory}
 
@@ -54,6 +54,7 @@ pub data Form : Type 0 where
   PathForm : Call → List ℕ → Form
   SymlinkForm : List ℕ → List ℕ → Form
   RenameForm : List ℕ → List ℕ → Form
+  LinkForm : List ℕ → List ℕ → Form
   PledgeForm : List ℕ → List ℕ → Form
   UnveilForm : List ℕ → List ℕ → Form
   ForkForm : ℕ → Form
@@ -68,8 +69,9 @@ form_of word (a ∷ []) =
 form_of word (a ∷ b ∷ []) =
     if same_bytes word (codes "symlink") then Some (SymlinkForm a b)
     else (if same_bytes word (codes "rename") then Some (RenameForm a b)
+    else (if same_bytes word (codes "link") then Some (LinkForm a b)
     else (if same_bytes word (codes "pledge") then Some (PledgeForm a b)
-    else (if same_bytes word (codes "unveil") then Some (UnveilForm a b) else None)))
+    else (if same_bytes word (codes "unveil") then Some (UnveilForm a b) else None))))
 form_of word (a ∷ b ∷ c ∷ more) = None
 
 -- two paths, both read or the line's fault
@@ -90,6 +92,7 @@ abbrev pub action_of : ℕ → Form → Result Action ScriptFault
 action_of n (PathForm call a) = ok_or (path_in a) (BadPath n) >>= λ path. Ok (OnPath call path)
 action_of n (SymlinkForm a b) = with_paths n Symlink a b
 action_of n (RenameForm a b) = with_paths n Rename a b
+action_of n (LinkForm a b) = with_paths n Link a b
 action_of n (PledgeForm a b) = do
   promises ← ok_or (given_in a) (BadList n)
   execpromises ← ok_or (given_in b) (BadList n)

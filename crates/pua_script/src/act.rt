@@ -5,6 +5,7 @@ ghost use Rattle.pua_script.specs.Worlds.{Acts, is_fork};
 
 use crate::answer::Answer;
 use crate::fault::WorldFault;
+use crate::link::link;
 use crate::on_path::{on_path, symlink, unveil};
 use crate::process::{exit, lock, pledge};
 use crate::rename::rename;
@@ -27,6 +28,7 @@ pub(crate) fn act<T: FileTree>(
         Action::OnPath(call, path) => on_path(tree, process, *call, path.bytes()),
         Action::Symlink(target, path) => symlink(tree, process, target.bytes(), path.bytes()),
         Action::Rename(old, new) => rename(tree, process, old.bytes(), new.bytes()),
+        Action::Link(old, new) => link(tree, process, old.bytes(), new.bytes()),
         Action::Pledge(promises, execpromises) => Ok(pledge(process, promises, execpromises)),
         Action::Unveil(path, perms) => unveil(tree, process, path.bytes(), *perms),
         Action::Lock => Ok(lock(process)),

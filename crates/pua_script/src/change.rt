@@ -1,10 +1,10 @@
 //! What allowed calls change.
 
-ghost use Rattle.std.specs.Prelude.{◌≡◌, OnErr, IsTrue, false, option_copied};
+ghost use Rattle.std.specs.Prelude.{◌≡◌, OnErr, IsOk, IsTrue, false, option_copied};
 ghost use Rattle.pua_tree.specs.Tree.{Tree, target_fits};
 ghost use Rattle.pua_tree.specs.Edits.{cut};
 ghost use Rattle.pua_policy.specs.History.{History, StandsFor};
-ghost use Rattle.pua_script.specs.Judged.{NameFits, IsFor};
+ghost use Rattle.pua_script.specs.Judged.{NameFits, IsFor, IsRemovable};
 ghost use Rattle.pua_script.specs.Replay.{added, edited, removed, moved_to, change};
 ghost use Rattle.pua_script.specs.Worlds.{Attempts, AttemptsEdit, Does, Edits};
 
@@ -46,29 +46,29 @@ pub(crate) fn add<T: FileTree>(
 
 /// Takes away what has a name.
 fn remove<T: FileTree>(tree: &mut T, found: &Found) -> Answer
+    requires { IsRemovable (T.content tree.old) found.now }
     ensures { (h : History) → Edits (T.content tree.old) h (removed (T.content tree.old) h found.now) result (T.content tree.new) }
 {
     match *found {
-        Found::Whole {
-            way: Way::Named { parent, name },
-            ..
-        } => cut(tree, parent, &name),
-        Found::Slot {
-            dir,
-            name,
-            node: Some(_),
-        } => cut(tree, dir, &name),
-        _ => Answer::Okay,
+        Found::Whole { way, .. } => match way {
+            Way::Named { parent, name } => cut(tree, parent, &name),
+            Way::Dot | Way::DotDot | Way::Top => Answer::Okay,
+        },
+        Found::Slot { dir, name, node } => match node {
+            Some(_) => cut(tree, dir, &name),
+            None => Answer::Okay,
+        },
     }
 }
 
 /// Takes a row away. What was checked before leaves no fault.
 fn cut<T: FileTree>(tree: &mut T, dir: NodeId, name: &Name) -> Answer
+    requires { IsOk (cut (T.content tree.old) dir name.now) }
     ensures { (h : History) → Edits (T.content tree.old) h (edited h (cut (T.content tree.old) dir name.now)) result (T.content tree.new) }
 {
     match tree.cut(dir, name) {
         Ok(_number) => Answer::Okay,
-        Err(_fault) => Answer::Failed(Errno::ENOSPC),
+        Err(_fault) => unreachable!(),
     }
 }
 

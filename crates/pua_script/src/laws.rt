@@ -2,11 +2,11 @@
 //! function that does nothing.
 
 ghost use Rattle.std.specs.Prelude.{◌≡◌};
-ghost use Rattle.pua_tree.specs.Tree.{Tree};
+ghost use Rattle.pua_tree.specs.Tree.{Tree, WellFormed};
 ghost use Rattle.pua_policy.specs.History.{History};
-ghost use Rattle.pua_script.specs.Examples.{RenameRows, ReplayRows, ScriptRows};
+ghost use Rattle.pua_script.specs.Examples.{LinkRows, RenameRows, ReplayRows, ScriptRows};
 ghost use Rattle.pua_script.specs.Limits.{line_limit, number_limit, process_limit};
-ghost use Rattle.pua_script.specs.Laws.{AddsLackRoom, CallsLackRoom, ReplayComposes, RequestsNarrow};
+ghost use Rattle.pua_script.specs.Laws.{AddsLackRoom, CallsLackRoom, LinksLackRoom, RenamesNeedNoRoom, ReplayComposes, RequestsLackRoom, RequestsNarrow};
 ghost use Rattle.pua_script.specs.ScriptGrammar.{ScriptsAreRead};
 ghost use Rattle.pua_script.specs.Worlds.{WorldsAnswerAlike};
 
@@ -24,10 +24,11 @@ pub fn script_examples()
     ensures { ScriptRows }
 {}
 
-/// Examples of scripts and their answers, and of what a rename checks first.
+/// Examples of scripts and their answers, and of what a rename and a link check first.
 pub fn replay_examples()
     ensures replays { ReplayRows }
     ensures renames { RenameRows }
+    ensures links { LinkRows }
 {}
 
 /// A list of requests may be cut anywhere.
@@ -50,9 +51,13 @@ pub fn script_law()
     ensures { ScriptsAreRead }
 {}
 
-/// An edit is answered `ENOSPC` exactly where it adds a node and the tree has no room: after what is
-/// checked before it, no other fault of a tree comes.
+/// An edit is answered `ENOSPC` exactly where it adds a node or a name and the tree has no room for
+/// it: after what is checked before it, no other fault of a tree comes. So a request is answered it
+/// only where it adds one, and there is no room.
 pub fn room_law()
     ensures adds { (t : Tree) (h : History) → AddsLackRoom t h }
     ensures calls { (t : Tree) (h : History) → CallsLackRoom t h }
+    ensures links { (t : Tree) (h : History) → WellFormed t → LinksLackRoom t h }
+    ensures renames { (t : Tree) (h : History) → RenamesNeedNoRoom t h }
+    ensures requests { RequestsLackRoom }
 {}

@@ -91,6 +91,9 @@ fn read_two(
     } else if word == b"rename".as_slice() {
         let old = read_path(alloc, number, a)?;
         Ok(Action::Rename(old, read_path(alloc, number, b)?))
+    } else if word == b"link".as_slice() {
+        let old = read_path(alloc, number, a)?;
+        Ok(Action::Link(old, read_path(alloc, number, b)?))
     } else if word == b"pledge".as_slice() {
         let promises = read_given(number, a)?;
         Ok(Action::Pledge(promises, read_given(number, b)?))

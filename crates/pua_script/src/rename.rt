@@ -1,35 +1,24 @@
-//! A rename: what its two paths name, what is wrong with them, and the row that moves.
+//! A rename: what is wrong with what its two paths name, and the row that moves.
 
-ghost use Rattle.std.specs.Prelude.{◌≡◌, ◌∷◌, [], ℕ, ◌==◌, Some, IfOk, OnErr, IsOk, IsTrue};
+ghost use Rattle.std.specs.Prelude.{◌≡◌, ℕ, ◌==◌, Some, OnErr, IsOk, IsTrue};
 ghost use Rattle.std.specs.List.{list_any};
 ghost use Rattle.pua_tree.specs.Tree.{Spot, is_dir, climb};
 ghost use Rattle.pua_tree.specs.Edits.{shift, is_same_node};
 ghost use Rattle.pua_path.specs.Fits.{spot_named, node_named};
-ghost use Rattle.pua_path.specs.declared.found.Found as found;
 ghost use Rattle.pua_path.specs.declared.text.Ending.TheVariants as ending;
-ghost use Rattle.pua_policy.specs.Promises.{cpath, creating};
-ghost use Rattle.pua_policy.specs.History.{History, StandsFor, may_any};
-ghost use Rattle.pua_policy.specs.Verdict.{FoundFits, cover, cover_fault, or_fault};
-ghost use Rattle.pua_policy.specs.declared.answer.May.TheVariants as may;
-ghost use Rattle.pua_script.specs.Replay.{Effect, on_two_paths, rename_found, dots_fault, top_fault, is_whole, kinds_fault, inside_fault, shifted};
-ghost use Rattle.pua_script.specs.Judged.{NameFits, effect_on, on_pair};
+ghost use Rattle.pua_policy.specs.History.{History, StandsFor};
+ghost use Rattle.pua_policy.specs.Verdict.{or_fault};
+ghost use Rattle.pua_script.specs.Replay.{on_two_paths, rename_found, dots_fault, top_fault, is_whole, kinds_fault, inside_fault, shifted};
+ghost use Rattle.pua_script.specs.Judged.{NameFits};
 ghost use Rattle.pua_script.specs.Worlds.{Attempts, AttemptsEdit};
 
 use crate::answer::Answer;
 use crate::fault::WorldFault;
-use crate::judged::named;
+use crate::pair::{is_whole, judge_pair, node_named, spot_named};
 use crate::process::refuse;
-use pua_path::{Counted, Ending, Errno, Found, Last, Probe, Way};
-use pua_policy::judge::{cover_fault, promised};
-use pua_policy::{Perms, Process, Promises, Refusal};
-use pua_tree::{FileTree, Kind, Name, NodeId, TreeFault};
-
-/// What the two paths of a rename name.
-#[derive(Clone, Copy)]
-pub(crate) struct Pair {
-    from: Found,
-    to: Found,
-}
+use pua_path::{Ending, Errno, Found, Way};
+use pua_policy::Process;
+use pua_tree::{FileTree, Kind, NodeId, TreeFault};
 
 /// A rename: the promise, what is wrong with the old path and then with the new one, the covers in
 /// the same order, and what is wrong with what both paths named.
@@ -49,69 +38,6 @@ pub(crate) fn rename<T: FileTree>(
         Ok(pair) => rename_found(tree, &pair.from, &pair.to),
         Err(refusal) => Ok(refuse(process, refusal)),
     }
-}
-
-/// What becomes of a call that gives a node of one path the name of another: the promise, then what
-/// the paths name, where both are covered.
-fn judge_pair<T: FileTree>(
-    tree: &T,
-    process: &Process,
-    ending: Ending,
-    old: &[u8],
-    new: &[u8],
-) -> Result<Pair, Refusal>
-    ensures exact { (h : History) → StandsFor process.now h → (effect : found.Found → found.Found → Effect) →
-        on_two_paths (T.content tree.now) h ending old.now new.now effect
-        ≡ effect_on result (λ pair. effect pair.from pair.to) }
-    ensures fit { IfOk result (λ pair. NameFits (T.content tree.now) pair.from × NameFits (T.content tree.now) pair.to) }
-{
-    promised(process, Promises::CPATH)?;
-    match pair_named(tree, process, ending, old, new) {
-        Ok(pair) => Ok(pair),
-        Err(errno) => Err(Refusal::Failed(errno)),
-    }
-}
-
-/// What both paths name, where both are covered with the permission to create and remove. A link
-/// that a last part names is kept.
-fn pair_named<T: FileTree>(
-    tree: &T,
-    process: &Process,
-    ending: Ending,
-    old: &[u8],
-    new: &[u8],
-) -> Result<Pair, Errno>
-    ensures exact { (h : History) → StandsFor process.now h → may_any h (cpath ∷ []) ≡ may.Yes → (effect : found.Found → found.Found → Effect) →
-        on_two_paths (T.content tree.now) h ending old.now new.now effect ≡ on_pair result effect }
-    ensures fit { IfOk result (λ pair. NameFits (T.content tree.now) pair.from × NameFits (T.content tree.now) pair.to) }
-{
-    let mut probe = Counted::new(tree);
-    let from = named(&mut probe, process.dir(), old, ending, Last::Kept)?;
-    let to = named(&mut probe, process.dir(), new, ending, Last::Kept)?;
-    match covers_fault(&mut probe, process, &from, &to) {
-        None => Ok(Pair { from, to }),
-        Some(errno) => Err(errno),
-    }
-}
-
-/// What is wrong with the two covers, the first one first.
-fn covers_fault<'t, P: Probe<'t>>(
-    probe: &mut P,
-    process: &Process,
-    from: &Found,
-    to: &Found,
-) -> Option<Errno>
-    requires from { FoundFits (P.tree probe.old) from.now }
-    requires to { FoundFits (P.tree probe.old) to.now }
-    ensures { (h : History) → StandsFor process.now h →
-        result ≡ or_fault (cover_fault (cover (P.tree probe.old) h from.now) creating) (cover_fault (cover (P.tree probe.old) h to.now) creating) }
-{
-    let cover = process.cover(probe, from);
-    if let Some(errno) = cover_fault(cover, Perms::CREATE) {
-        return Some(errno);
-    }
-    let cover = process.cover(probe, to);
-    cover_fault(cover, Perms::CREATE)
 }
 
 /// Moves what was found, unless something is wrong with it or with the place that it would get.
@@ -137,29 +63,6 @@ fn rename_found<T: FileTree>(tree: &mut T, from: &Found, to: &Found) -> Result<A
     shift(tree, from, to)
 }
 
-/// The node that was found.
-fn node_named(found: &Found) -> Option<NodeId>
-    ensures { result ≡ node_named found.now }
-{
-    match *found {
-        Found::Whole { dir, .. } => Some(dir),
-        Found::Slot { node, .. } => node,
-    }
-}
-
-/// Where the name is that was found, if it was found by one.
-fn spot_named(found: &Found) -> Option<(NodeId, Name)>
-    ensures { result ≡ spot_named found.now }
-{
-    match *found {
-        Found::Whole { way, .. } => match way {
-            Way::Named { parent, name } => Some((parent, name)),
-            Way::Dot | Way::DotDot | Way::Top => None,
-        },
-        Found::Slot { dir, name, .. } => Some((dir, name)),
-    }
-}
-
 /// Whether this node was found.
 fn is_node(node: NodeId, found: &Found) -> bool
     ensures { result ≡ is_same_node node (node_named found.now) }
@@ -168,13 +71,6 @@ fn is_node(node: NodeId, found: &Found) -> bool
         Some(there) => node == there,
         None => false,
     }
-}
-
-/// Whether a directory was found.
-fn is_whole(found: &Found) -> bool
-    ensures { result ≡ is_whole found.now }
-{
-    matches!(found, Found::Whole { .. })
 }
 
 /// What is wrong with the way in which they were named: `.` or `..` on either side, then the root on

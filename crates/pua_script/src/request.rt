@@ -37,6 +37,8 @@ pub enum Action {
     Symlink(PathBytes, PathBytes),
     /// The old path, and then the new one.
     Rename(PathBytes, PathBytes),
+    /// The path of a node, and then that of its further name.
+    Link(PathBytes, PathBytes),
     /// The promises, and then the execpromises.
     Pledge(Given, Given),
     /// The path and its permissions, which are None where a letter is unknown.

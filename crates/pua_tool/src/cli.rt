@@ -16,7 +16,8 @@ use std::alloc::Global;
 ///
 /// It answers the status: 0 where it is done, 1 where an input was refused, 2 where the words are no
 /// command, 3 where a file can't be read or the text can't be written, and 4 where a growth of memory
-/// was refused. Help is asked for by `--help`, `-h` or `help`, and goes to `out`.
+/// was refused. Help is asked for by `--help`, `-h` or `help`, and the version of the program and
+/// of its toolchain by `--version` or `-V`; both go to `out`.
 pub fn command<I: Inputs, O: Sink, E: Sink>(
     alloc: Global,
     words: &[&str],
@@ -31,7 +32,7 @@ pub fn command<I: Inputs, O: Sink, E: Sink>(
 {
     match read_words(alloc, words) {
         Ok(command) => perform(alloc, &command, inputs, out, err),
-        Err(Stop::Help(text)) => match put_all(out, text.as_bytes()) {
+        Err(Stop::Display(text)) => match put_all(out, text.as_bytes()) {
             Ok(()) => DONE,
             Err(_) => finish(Err(CommandFault::Tool(ToolFault::Write)), err),
         },

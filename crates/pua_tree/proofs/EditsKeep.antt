@@ -8,9 +8,9 @@ use Rattle.std.specs.FinMap.Entries.{is_sorted-put, is_sorted-where_key}
 use Rattle.std.proofs.lemmas.Bool.{and_from, and_parts, or_parts, not-false, false≢true, eqb-false}
 use Rattle.pua_tree.specs.Names.{is_name}
 use Rattle.pua_tree.specs.Tree.{Node, Spot, Tree, WellFormed, spot_cmp, node_at, is_dir, is_dir_kind, is_living, look, above, climb, climb_within, has_no_row, rows_of, row_fits, target_fits}
-use Rattle.pua_tree.specs.Edits.{with_row, without_row, without_node, without_unnamed, with_new, add, cut, cut_found, shift, shift_found, moved, is_full_dir, is_inside, is_same_node, is_full_dir_there, has_room}
+use Rattle.pua_tree.specs.Edits.{with_row, without_row, without_node, without_unnamed, with_new, add, tie, cut, cut_found, shift, shift_found, moved, is_full_dir, is_inside, is_same_node, is_full_dir_there, has_room, has_name_room}
 use Rattle.pua_tree.specs.Laws.{EditsKeepTrees}
-use Rattle.pua_tree.specs.declared.fault.TreeFault.TheVariants.{Taken, NotDir, NotEmpty, Inside, Full}
+use Rattle.pua_tree.specs.declared.fault.TreeFault.TheVariants.{Missing, Taken, NotDir, NotEmpty, Inside, Full, IsDir}
 use Rattle.pua_tree.proofs.Base.{same_Some, Some≢None, none, same_Ok, past, tested}
 use Rattle.pua_tree.proofs.Content.{spots_total, exact_spots}
 use Rattle.pua_tree.proofs.Tallies.{one, one_at, tally_counts, tally-put, tally-without, same_or_other, put_here, put_elsewhere, without_here, without_elsewhere, found_from_tally, tally_found, none_found}
@@ -149,6 +149,55 @@ module _ (t : Tree) (f : Sound t) (dir : ℕ) (name : List ℕ) (node : Node) (f
           (suc up.0, (n, subst (Reaches grown up.0) (sym (ap (above grown) new ∙ above_is grown t.next (dir, name) (next_not_root t f) new_rows new_row)) (kept_way up.0 dir in_dir up.1))))
       | inr old ↦ (let way = f.rooted d (was_dir d old h) n in (way.0, kept_way way.0 d (was_dir d old h) way.1))
     ];
+  }
+
+-- giving a node a further name
+module _ (t : Tree) (f : Sound t) (dir : ℕ) (name : List ℕ) (x : ℕ) (free : look t dir name ≡ None) (in_dir : is_dir t dir ≡ true)
+    (living : is_living t x ≡ true) (no_dir : is_dir t x ≡ false) where
+  abbrev tied : Tree
+  tied = with_row t dir name x
+
+  not_tied : (d : ℕ) → is_dir t d ≡ true → d ≢ x
+  not_tied d h e = false≢true (sym no_dir ∙ ap (is_dir t) (sym e) ∙ h)
+
+  tied_row : InRow tied (dir, name) x
+  tied_row = put_here spot_cmp spots_total exact_spots (dir, name) x t.rows
+
+  stays_row : (s : Spot) → s ≢ (dir, name) → find_key spot_cmp s tied.rows ≡ find_key spot_cmp s t.rows
+  stays_row s n = put_elsewhere spot_cmp spots_total exact_spots s (dir, name) x t.rows n
+
+  still_row : (s : Spot) (y : ℕ) → InRow t s y → InRow tied s y
+  still_row s y e = stays_row s (λ here. Some≢None y (sym e ∙ ap (λ r. find_key spot_cmp r t.rows) here ∙ free)) ∙ e
+
+  tied_rows : (y : ℕ) → rows_with tied y ≡ rows_with t y + one (λ z. z == y) x
+  tied_rows y =
+      let gone : one_at (λ z. z == y) (look t dir name) ≡ 0 = ap (one_at (λ z. z == y)) free in
+      omega (arith, tally-put spot_cmp spots_total exact_spots (λ z. z == y) (dir, name) x t.rows f.rows_sorted)
+
+  as_before : (y : ℕ) → y ≢ x → rows_with tied y ≡ rows_with t y
+  as_before y n = omega (arith, tied_rows y, one_other y x (λ e. n (sym e)))
+
+  still_way : (k d : ℕ) → is_dir t d ≡ true → Reaches t k d → Reaches tied k d
+  still_way = same_way t tied (λ d. is_dir t d ≡ true) (λ d h n.
+      let r = row_of t f d h n in
+      (above_is tied d r.0 n (as_before d (not_tied d h) ∙ f.once d h n) (still_row r.0 d r.1) ∙ sym r.2, above_dir t f d h n))
+
+  pub tie_keeps : is_name name ≡ true → Sound tied
+  tie_keeps is_one = record {
+    rows_sorted = is_sorted-put spot_cmp spots_total (dir, name) x t.rows f.rows_sorted;
+    nodes_sorted = f.nodes_sorted;
+    root = f.root;
+    row = λ s y e. elim (same_spot_or_other s (dir, name)) [
+      | inl here ↦ (let number : x ≡ y = same_Some x y (sym tied_row ∙ ap (λ r. find_key spot_cmp r tied.rows) (sym here) ∙ e) in
+          subst (λ r. row_fits tied (r, y) ≡ true) (sym here) (subst (λ z. row_fits tied ((dir, name), z) ≡ true) number
+          (row_made tied (dir, name) x in_dir is_one living (λ e. not_tied 0 f.root (sym e)))))
+      | inr there ↦ f.row s y (sym (stays_row s there) ∙ e)
+    ];
+    node = f.node;
+    unnamed_root = as_before 0 (not_tied 0 f.root) ∙ f.unnamed_root;
+    named = λ y lives n. (let rows = tied_rows y in let some = f.named y lives n in omega arith);
+    once = λ d h n. as_before d (not_tied d h) ∙ f.once d h n;
+    rooted = λ d h n. (let way = f.rooted d h n in (way.0, still_way way.0 d h way.1));
   }
 
 -- a tree except one node, which may stand in no row if nothing stands in it
@@ -467,6 +516,17 @@ adding t after dir x name node w is_one fits e =
     let is : grown ≡ after = ap (λ (p : ℕ × Tree). p.1) (tested (has_room t) Full (t.next, grown) (x, after) b.1).1 in
     subst (Kept t) is (well_formed_from grown (add_keeps t f dir name node (none (look t dir name) b.0) (not-false (is_dir t dir) a.0) is_one fits), omega arith)
 
+tying : (t after : Tree) (dir x : ℕ) (name : List ℕ) → WellFormed t → is_name name ≡ true → tie t dir name x ≡ Ok after → Kept t after
+tying t after dir x name w is_one e =
+    let f = sound_from t w in
+    let a = past (not (is_dir t dir)) NotDir _ after e in
+    let b = past (not (is_living t x)) Missing _ after a.1 in
+    let c = past (is_dir t x) IsDir _ after b.1 in
+    let d = past (is_some (look t dir name)) Taken _ after c.1 in
+    let tied = with_row t dir name x in
+    let is : tied ≡ after = (tested (has_name_room t) Full tied after d.1).1 in
+    subst (Kept t) is (well_formed_from tied (tie_keeps t f dir name x (none (look t dir name) d.0) (not-false (is_dir t dir) a.0) (not-false (is_living t x) b.0) c.0 is_one), omega arith)
+
 cutting : (t after : Tree) (dir x : ℕ) (name : List ℕ) → WellFormed t → cut t dir name ≡ Ok (x, after) → Kept t after
 cutting t after dir x name w e = found (look t dir name) refl (past (not (is_dir t dir)) NotDir _ (x, after) e).1
   where
@@ -509,4 +569,4 @@ shifting t after from to name new_name w is_one e = found (look t from name) ref
             (well_formed_from left (moved_keeps t (sound_from t w) from name to new_name x is both.1 is_one a.0 (look t to new_name) refl other b.0), omega arith)
 
 pub edits_keep_trees : EditsKeepTrees
-edits_keep_trees = record { adding = adding; cutting = cutting; shifting = shifting }
+edits_keep_trees = record { adding = adding; tying = tying; cutting = cutting; shifting = shifting }

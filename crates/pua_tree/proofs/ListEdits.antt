@@ -1,21 +1,24 @@
 -- Edits of the lists that hold a tree, as edits of the tree.
-use Rattle.std.proofs.Common.{◌≡◌, ℕ, ◌+◌, ◌++◌, ltb, IsTrue, true, false, not, ◌&&◌, ◌||◌, cond, List, [], ◌∷◌, map, ◌==◌, count_by, eqb, refl, sym, ap, ◌∙◌}
-use Rattle.std.specs.List.{list_all, list_any}
+use Rattle.std.proofs.Common.{◌≡◌, ◌≤◌, ℕ, ◌+◌, ◌++◌, ltb, IsTrue, true, false, not, ◌&&◌, ◌||◌, cond, List, [], ◌∷◌, map, Option, Some, None, option_map, ◌==◌, count_by, eqb, refl, sym, ap, ◌∙◌}
+use Rattle.std.specs.List.{list_all, list_any, cons_option}
 use Rattle.std.specs.Ordering.{nat_cmp, is_eq}
 use Rattle.std.specs.FinMap.{is_sorted, put}
 use Rattle.std.specs.FinMap.Entries.{where_key, is_sorted-where_key}
 use Rattle.std.proofs.lemmas.Bool.{and_parts, and_from}
-use Rattle.std.proofs.lemmas.List.{map_push}
+use Rattle.std.proofs.lemmas.List.{append-nil}
 use Rattle.std.proofs.lemmas.List.Folds.{sum_by-zero}
 use Rattle.pua_tree.specs.Tree as tree
 use Rattle.pua_tree.specs.Tree.{WellFormed, node_fits}
-use Rattle.pua_tree.specs.Edits.{without_row, without_unnamed, without_node, with_row, with_new}
+use Rattle.pua_tree.specs.Edits.{without_row, without_unnamed, without_node, with_row}
+use Rattle.pua_tree.specs.Listing.{Entry}
+use Rattle.pua_tree.specs.Reading.{Enters, grown_by}
 use Rattle.pua_tree.specs.ListTree.{row_entry, node_entry, held_tree}
 use Rattle.pua_tree.specs.declared.list.Row.{Row}
 use Rattle.pua_tree.specs.declared.list.Node.{Node}
 use Rattle.std.specs.Bool.{passes}
 use Rattle.pua_tree.proofs.Base.{holds}
 use Rattle.pua_tree.proofs.Entries.{put_last}
+use Rattle.pua_tree.proofs.Raised.{raised_keeps}
 
 no_row : (rows : List Row) (x : ℕ) → list_all (λ row. eqb (cond (row.1 == x) 1 0) 0) (map row_entry rows) ≡ not (list_any (λ row. row.node == x) rows)
 no_row [] x = refl
@@ -52,6 +55,11 @@ pub row_gone : (rows left : List Row) (nodes : List Node) (next dir : ℕ) (name
     → held_tree left nodes next ≡ without_row (held_tree rows nodes next) dir name
 row_gone rows left nodes next dir name e = λ i. record { rows = e i; nodes = map node_entry nodes; next = next }
 
+pub row_came : (rows more : List Row) (nodes : List Node) (next dir : ℕ) (name : List ℕ) (x : ℕ)
+    → map row_entry more ≡ put tree.spot_cmp (dir, name) x (map row_entry rows)
+    → held_tree more nodes next ≡ with_row (held_tree rows nodes next) dir name x
+row_came rows more nodes next dir name x e = λ i. record { rows = e i; nodes = map node_entry nodes; next = next }
+
 pub row_moved : (rows left more : List Row) (nodes : List Node) (next from : ℕ) (name : List ℕ) (to : ℕ) (new_name : List ℕ) (x : ℕ)
     → map row_entry left ≡ where_key tree.spot_cmp (λ spot. not (is_eq (tree.spot_cmp (from, name) spot))) (map row_entry rows)
     → map row_entry more ≡ put tree.spot_cmp (to, new_name) x (map row_entry left)
@@ -66,11 +74,18 @@ numbers_below t (e ∷ es) h =
     let parts = and_parts _ _ h in
     and_from _ _ (and_parts _ _ parts.0).0 (numbers_below t es parts.1)
 
-pub node_came : (rows more : List Row) (nodes : List Node) (next dir : ℕ) (name : List ℕ) (node : Node) (made : tree.Node) → WellFormed (held_tree rows nodes next)
-    → map row_entry more ≡ put tree.spot_cmp (dir, name) next (map row_entry rows) → node_entry node ≡ (next, made)
-    → held_tree more (nodes ++ node ∷ []) (next + 1) ≡ with_new (held_tree rows nodes next) dir name made
-node_came rows more nodes next dir name node made w e is =
-    let below = numbers_below (held_tree rows nodes next) (map node_entry nodes) w.nodes_fit in
-    let pushed : map node_entry (nodes ++ node ∷ []) ≡ put nat_cmp next made (map node_entry nodes) =
-    map_push node_entry nodes node ∙ ap (λ n. map node_entry nodes ++ n ∷ []) is ∙ sym (put_last next made (map node_entry nodes) below) in
-    λ i. record { rows = e i; nodes = pushed i; next = next + 1 }
+-- an entry more in the lists, as what it makes of the tree
+pub entry_came : (rows more : List Row) (nodes all : List Node) (next : ℕ) (e : Entry) (m : Option tree.Node) → WellFormed (held_tree rows nodes next) → next ≤ e.number → Enters (held_tree rows nodes next) e m
+    → map row_entry more ≡ put tree.spot_cmp (e.parent, e.name) e.node (map row_entry rows)
+    → map node_entry all ≡ map node_entry nodes ++ cons_option (option_map (λ node. (e.node, node)) m) []
+    → held_tree more all (e.number + 1) ≡ grown_by (held_tree rows nodes next) e m
+entry_came rows more nodes all next e None w le enters row node =
+    let same = node ∙ append-nil (map node_entry nodes) in
+    λ i. record { rows = row i; nodes = same i; next = e.number + 1 }
+entry_came rows more nodes all next e (Some made) w le enters row node =
+    let raised : WellFormed (held_tree rows nodes e.number) = raised_keeps (held_tree rows nodes next) e.number w le in
+    let below = numbers_below (held_tree rows nodes e.number) (map node_entry nodes) raised.nodes_fit in
+    let came = row ∙ ap (λ x. put tree.spot_cmp (e.parent, e.name) x (map row_entry rows)) enters.0 in
+    let pushed : map node_entry all ≡ put nat_cmp e.number made (map node_entry nodes) =
+    node ∙ ap (λ x. map node_entry nodes ++ (x, made) ∷ []) enters.0 ∙ sym (put_last e.number made (map node_entry nodes) below) in
+    λ i. record { rows = came i; nodes = pushed i; next = e.number + 1 }

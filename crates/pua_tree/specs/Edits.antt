@@ -4,14 +4,22 @@ use Rattle.std.specs.List.{list_any}
 use Rattle.std.specs.Ordering.{nat_cmp, is_eq}
 use Rattle.std.specs.FinMap.{put}
 use Rattle.std.specs.FinMap.Entries.{where_key}
-use Rattle.pua_tree.specs.Limits.{most_living, number_end}
-use Rattle.pua_tree.specs.Tree.{Node, Tree, spot_cmp, is_dir, look, has_no_row, rows_of, climb}
+use Rattle.pua_tree.specs.Limits.{most_names, number_end}
+use Rattle.pua_tree.specs.Tree.{Node, Tree, spot_cmp, is_dir, is_living, look, has_no_row, rows_of, climb}
 use Rattle.pua_tree.specs.declared.fault.TreeFault.{TreeFault}
-use Rattle.pua_tree.specs.declared.fault.TreeFault.TheVariants.{Missing, Taken, NotDir, NotEmpty, Inside, Full, OutOfMemory}
+use Rattle.pua_tree.specs.declared.fault.TreeFault.TheVariants.{Missing, Taken, NotDir, NotEmpty, Inside, Full, OutOfMemory, IsDir}
 
--- a further node needs room among the living ones, and a number
+-- a further name needs room among the names, of which the root counts as one
+abbrev pub has_name_room : Tree → Bool
+has_name_room t = nat_lt (length t.rows + 1) most_names
+
+-- a further node needs a number
+abbrev pub has_number_room : Tree → Bool
+has_number_room t = nat_lt t.next number_end
+
+-- and, since it comes with a name, room for that
 abbrev pub has_room : Tree → Bool
-has_room t = nat_lt (length t.nodes) most_living && nat_lt t.next number_end
+has_room t = has_name_room t && has_number_room t
 
 abbrev pub with_row : Tree → ℕ → List ℕ → ℕ → Tree
 with_row t dir name x = record t { rows = put spot_cmp (dir, name) x t.rows }
@@ -40,6 +48,15 @@ add t dir name node =
     if not (is_dir t dir) then Err NotDir
     else (if is_some (look t dir name) then Err Taken
     else (if has_room t then Ok (t.next, with_new t dir name node) else Err Full))
+
+-- gives a living node that is no directory a further name
+abbrev pub tie : Tree → ℕ → List ℕ → ℕ → Result Tree TreeFault
+tie t dir name x =
+    if not (is_dir t dir) then Err NotDir
+    else (if not (is_living t x) then Err Missing
+    else (if is_dir t x then Err IsDir
+    else (if is_some (look t dir name) then Err Taken
+    else (if has_name_room t then Ok (with_row t dir name x) else Err Full))))
 
 -- a directory in which something stands
 abbrev pub is_full_dir : Tree → ℕ → Bool

@@ -1,13 +1,13 @@
 -- Worked rows on trees and listings.
 use Rattle.std.specs.Prelude.{◌≡◌, ℕ, List, [], ◌∷◌, ◌++◌, Some, None, Ok, Err, codes, flat_map, refl, take, length, replicate}
 use Rattle.pua_tree.specs.Tree.{Node, Tree, WellFormed}
-use Rattle.pua_tree.specs.Edits.{add, cut, shift}
+use Rattle.pua_tree.specs.Edits.{add, tie, cut, shift}
 use Rattle.pua_tree.specs.Spelling.{name_of}
 use Rattle.pua_tree.specs.Listing.{Entry, listing, admitted}
 use Rattle.pua_tree.specs.declared.node.Kind.TheVariants.{Dir, File, Prog, Link}
-use Rattle.pua_tree.specs.declared.fault.ListingFault.TheVariants.{BadHeader, BadLine, BadNumber, BadParent, BadName, BadTarget, Taken, TooMany}
+use Rattle.pua_tree.specs.declared.fault.ListingFault.TheVariants.{BadHeader, BadLine, BadNumber, BadParent, BadName, BadTarget, Taken, TooMany, BadNode}
 use Rattle.pua_tree.specs.declared.fault.NameFault.TheVariants.{BadSpelling, Empty, TooLong, NotAName}
-use Rattle.pua_tree.specs.declared.fault.TreeFault.TheVariants.{Missing, NotDir, NotEmpty, Inside, Full, Taken as NameTaken}
+use Rattle.pua_tree.specs.declared.fault.TreeFault.TheVariants.{Missing, NotDir, NotEmpty, Inside, Full, IsDir, Taken as NameTaken}
 
 -- lines that end in LF
 abbrev pub text_of_lines : List (List ℕ) → List ℕ
@@ -21,13 +21,21 @@ abbrev plain : Node
 plain = record { kind = File; target = None }
 
 abbrev example_entry : Entry
-example_entry = record { number = 1; parent = 0; name = codes "a"; made = plain }
+example_entry = record { number = 1; parent = 0; name = codes "a"; node = 1; made = Some plain }
 
 abbrev pub example_tree : Tree
 example_tree = record {
   rows = ((0, codes "etc"), 1) ∷ ((0, codes "t"), 4) ∷ ((0, codes "tmp"), 3) ∷ ((1, codes "passwd"), 2) ∷ ((3, codes "self"), 6) ∷ ((3, codes "sh"), 7) ∷ ((3, codes "up"), 5) ∷ [];
   nodes = (0, record { kind = Dir; target = None }) ∷ (1, record { kind = Dir; target = None }) ∷ (2, record { kind = File; target = None }) ∷ (3, record { kind = Dir; target = None }) ∷ (4, record { kind = Link; target = Some (codes "tmp") }) ∷ (5, record { kind = Link; target = Some (codes "../etc") }) ∷ (6, record { kind = Link; target = Some (codes "self") }) ∷ (7, record { kind = Prog; target = None }) ∷ [];
   next = 8;
+}
+
+-- a tree in which a file has two names
+abbrev pub tree_of_two_names : Tree
+tree_of_two_names = record {
+  rows = ((0, codes "a"), 1) ∷ ((0, codes "b"), 2) ∷ ((1, codes "c"), 2) ∷ [];
+  nodes = (0, record { kind = Dir; target = None }) ∷ (1, record { kind = Dir; target = None }) ∷ (2, record { kind = File; target = None }) ∷ [];
+  next = 3;
 }
 
 -- what is no listing, by its first fault
@@ -45,7 +53,16 @@ pub record ListingRows : Type 0 where
   pub leading_zero : listing (text_of_lines (codes "tree 1" ∷ codes "0 dir" ∷ codes "01 dir 0 a" ∷ [])) ≡ Err (BadNumber 3)
   pub two_spaces : listing (text_of_lines (codes "tree 1" ∷ codes "0 dir" ∷ codes "1 dir  0 a" ∷ [])) ≡ Err (BadLine 3)
   pub short_line : listing (text_of_lines (codes "tree 1" ∷ codes "0 dir" ∷ codes "1 dir 0" ∷ [])) ≡ Err (BadLine 3)
-  pub other_header : listing (text_of_lines (codes "tree 2" ∷ codes "0 dir" ∷ [])) ≡ Err BadHeader
+  pub other_header : listing (text_of_lines (codes "tree 3" ∷ codes "0 dir" ∷ [])) ≡ Err BadHeader
+  pub two_names : listing (text_of_lines (codes "tree 2" ∷ codes "0 dir" ∷ codes "1 dir 0 a" ∷ codes "2 file 0 b" ∷ codes "3 hard 1 c 2" ∷ [])) ≡ Ok (record tree_of_two_names { next = 4 })
+  pub after_hard : listing (text_of_lines (codes "tree 2" ∷ codes "0 dir" ∷ codes "1 file 0 a" ∷ codes "3 hard 0 b 1" ∷ codes "3 file 0 c" ∷ [])) ≡ Err (BadNumber 5)
+  pub hard_to_dir : listing (text_of_lines (codes "tree 2" ∷ codes "0 dir" ∷ codes "1 dir 0 d" ∷ codes "2 hard 0 e 1" ∷ [])) ≡ Err (BadNode 4)
+  pub hard_to_root : listing (text_of_lines (codes "tree 2" ∷ codes "0 dir" ∷ codes "1 hard 0 e 0" ∷ [])) ≡ Err (BadNode 3)
+  pub hard_to_itself : listing (text_of_lines (codes "tree 2" ∷ codes "0 dir" ∷ codes "1 hard 0 e 1" ∷ [])) ≡ Err (BadNode 3)
+  pub hard_to_later : listing (text_of_lines (codes "tree 2" ∷ codes "0 dir" ∷ codes "1 hard 0 e 2" ∷ codes "2 file 0 f" ∷ [])) ≡ Err (BadNode 3)
+  pub hard_to_hard : listing (text_of_lines (codes "tree 2" ∷ codes "0 dir" ∷ codes "1 file 0 a" ∷ codes "2 hard 0 b 1" ∷ codes "3 hard 0 c 2" ∷ [])) ≡ Err (BadNode 5)
+  pub hard_taken : listing (text_of_lines (codes "tree 2" ∷ codes "0 dir" ∷ codes "1 file 0 a" ∷ codes "2 hard 0 a 1" ∷ [])) ≡ Err (Taken 4)
+  pub hard_is_no_dir : listing (text_of_lines (codes "tree 2" ∷ codes "0 dir" ∷ codes "1 file 0 a" ∷ codes "2 hard 0 b 1" ∷ codes "3 file 2 c" ∷ [])) ≡ Err (BadParent 5)
   pub unknown_kind : listing (text_of_lines (codes "tree 1" ∷ codes "0 dir" ∷ codes "1 file 0 a" ∷ codes "2 hard 0 b 1" ∷ [])) ≡ Err (BadLine 4)
   pub first_0 : listing (take 0 example_listing) ≡ Err BadHeader
   pub first_5 : listing (take 5 example_listing) ≡ Err BadHeader
@@ -56,7 +73,7 @@ pub record ListingRows : Type 0 where
   pub bytes : length example_listing ≡ 118
 
 pub listing_rows : ListingRows
-listing_rows = record { example = refl; returns_and_feeds = refl; no_bytes = refl; header_alone = refl; same_number = refl; parent_is_file = refl; dots = refl; plain_escaped = refl; nul_target = refl; taken = refl; leading_zero = refl; two_spaces = refl; short_line = refl; other_header = refl; unknown_kind = refl; first_0 = refl; first_5 = refl; first_6 = refl; first_48 = refl; first_49 = refl; first_63 = refl; bytes = refl }
+listing_rows = record { example = refl; returns_and_feeds = refl; no_bytes = refl; header_alone = refl; same_number = refl; parent_is_file = refl; dots = refl; plain_escaped = refl; nul_target = refl; taken = refl; leading_zero = refl; two_spaces = refl; short_line = refl; other_header = refl; two_names = refl; after_hard = refl; hard_to_dir = refl; hard_to_root = refl; hard_to_itself = refl; hard_to_later = refl; hard_to_hard = refl; hard_taken = refl; hard_is_no_dir = refl; unknown_kind = refl; first_0 = refl; first_5 = refl; first_6 = refl; first_48 = refl; first_49 = refl; first_63 = refl; bytes = refl }
 
 -- of two faults of a line the earlier is answered, and of two lines that of the first
 pub record FaultOrderRows : Type 0 where
@@ -67,13 +84,15 @@ pub record FaultOrderRows : Type 0 where
   pub parent_before_name : listing (text_of_lines (codes "tree 1" ∷ codes "0 dir" ∷ codes "1 dir 7 .." ∷ [])) ≡ Err (BadParent 3)
   pub name_before_target : listing (text_of_lines (codes "tree 1" ∷ codes "0 dir" ∷ codes "1 link 0 .. \\000" ∷ [])) ≡ Err (BadName 3)
   pub target_before_taken : listing (text_of_lines (codes "tree 1" ∷ codes "0 dir" ∷ codes "1 dir 0 a" ∷ codes "2 link 0 a \\000" ∷ [])) ≡ Err (BadTarget 4)
+  pub name_before_node : listing (text_of_lines (codes "tree 2" ∷ codes "0 dir" ∷ codes "1 hard 0 .. 0" ∷ [])) ≡ Err (BadName 3)
+  pub node_before_taken : listing (text_of_lines (codes "tree 2" ∷ codes "0 dir" ∷ codes "1 dir 0 a" ∷ codes "2 hard 0 a 1" ∷ [])) ≡ Err (BadNode 4)
   pub taken_before_room : admitted (example_entry ∷ []) 4098 example_entry ≡ Err (Taken 4098)
   pub no_room : admitted [] 4098 example_entry ≡ Err (TooMany 4098)
   pub last_room : admitted [] 4097 example_entry ≡ Ok example_entry
   pub earlier_line_first : listing (text_of_lines (codes "tree 1" ∷ codes "0 dir" ∷ codes "1 dir 0 .." ∷ codes "x" ∷ [])) ≡ Err (BadName 3)
 
 pub fault_order_rows : FaultOrderRows
-fault_order_rows = record { header_before_root = refl; root_before_entries = refl; line_before_number = refl; number_before_parent = refl; parent_before_name = refl; name_before_target = refl; target_before_taken = refl; taken_before_room = refl; no_room = refl; last_room = refl; earlier_line_first = refl }
+fault_order_rows = record { header_before_root = refl; root_before_entries = refl; line_before_number = refl; number_before_parent = refl; parent_before_name = refl; name_before_target = refl; target_before_taken = refl; name_before_node = refl; node_before_taken = refl; taken_before_room = refl; no_room = refl; last_room = refl; earlier_line_first = refl }
 
 -- what is no name, by its first fault
 pub record NameRows : Type 0 where
@@ -112,6 +131,14 @@ small_tree = record {
   next = 3;
 }
 
+-- the tree of two names without the first
+abbrev pub tree_of_second_name : Tree
+tree_of_second_name = record {
+  rows = ((0, codes "a"), 1) ∷ ((1, codes "c"), 2) ∷ [];
+  nodes = (0, record { kind = Dir; target = None }) ∷ (1, record { kind = Dir; target = None }) ∷ (2, record { kind = File; target = None }) ∷ [];
+  next = 3;
+}
+
 -- edits and their faults, the first that holds
 pub record EditRows : Type 0 where
   pub added : add small_tree 1 (codes "c") plain ≡ Ok (
@@ -125,6 +152,22 @@ pub record EditRows : Type 0 where
   pub into_file : add example_tree 2 (codes "passwd") plain ≡ Err NotDir
   pub name_taken : add (record example_tree { next = 4294967295 }) 0 (codes "tmp") plain ≡ Err NameTaken
   pub no_number : add (record example_tree { next = 4294967295 }) 0 (codes "tmpp") plain ≡ Err Full
+  pub tied : tie small_tree 1 (codes "c") 2 ≡ Ok tree_of_two_names
+  pub tied_without_number : tie (record small_tree { next = 4294967295 }) 1 (codes "c") 2 ≡ Ok (record tree_of_two_names { next = 4294967295 })
+  pub tie_in_file : tie small_tree 2 (codes "c") 9 ≡ Err NotDir
+  pub tie_nothing : tie small_tree 0 (codes "b") 9 ≡ Err Missing
+  pub tie_dir : tie small_tree 0 (codes "b") 1 ≡ Err IsDir
+  pub tie_taken : tie small_tree 0 (codes "b") 2 ≡ Err NameTaken
+  pub cut_one_name : cut tree_of_two_names 0 (codes "b") ≡ Ok (2, tree_of_second_name)
+  pub cut_last_name : cut tree_of_second_name 1 (codes "c") ≡ Ok (
+    2,
+    record {
+      rows = ((0, codes "a"), 1) ∷ [];
+      nodes = (0, record { kind = Dir; target = None }) ∷ (1, record { kind = Dir; target = None }) ∷ [];
+      next = 3;
+    },
+  )
+  pub between_names : shift tree_of_two_names 0 (codes "b") 1 (codes "c") ≡ Ok tree_of_two_names
   pub cut_dir : cut small_tree 0 (codes "a") ≡ Ok (
     1,
     record {
@@ -150,4 +193,4 @@ pub record EditRows : Type 0 where
   pub onto_full_dir : shift example_tree 0 (codes "etc") 0 (codes "tmp") ≡ Err NotEmpty
 
 pub edit_rows : EditRows
-edit_rows = record { added = refl; into_file = refl; name_taken = refl; no_number = refl; cut_dir = refl; cut_in_link = refl; cut_nothing = refl; cut_full_dir = refl; moved = refl; onto_empty_dir = refl; in_place = refl; move_from_file = refl; move_to_gone = refl; move_nothing = refl; into_itself = refl; onto_full_dir = refl }
+edit_rows = record { added = refl; into_file = refl; name_taken = refl; no_number = refl; tied = refl; tied_without_number = refl; tie_in_file = refl; tie_nothing = refl; tie_dir = refl; tie_taken = refl; cut_one_name = refl; cut_last_name = refl; between_names = refl; cut_dir = refl; cut_in_link = refl; cut_nothing = refl; cut_full_dir = refl; moved = refl; onto_empty_dir = refl; in_place = refl; move_from_file = refl; move_to_gone = refl; move_nothing = refl; into_itself = refl; onto_full_dir = refl }

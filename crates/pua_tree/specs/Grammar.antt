@@ -1,12 +1,12 @@
 -- What a listing is as a text: the lines that spell its entries, each of which fits those before it.
-use Rattle.std.specs.Prelude.{◌≡◌, ℕ, ◌+◌, Bool, true, false, not, ◌&&◌, List, [], ◌∷◌, ◌++◌, map, length, Option, Some, None, codes, decimal, IsTrue, nat_lt, nat_le, Ok, ◌↔◌}
+use Rattle.std.specs.Prelude.{◌≡◌, ℕ, ◌+◌, Bool, true, false, not, ◌&&◌, if◌then◌else◌, List, [], ◌∷◌, ◌++◌, map, length, Option, Some, None, codes, decimal, IsTrue, nat_lt, nat_le, ◌==◌, option_map, Ok, ◌↔◌}
 use Rattle.std.specs.List.{list_all}
 use Rattle.std.specs.Str.Lines.{lines}
 use Rattle.pua_tree.specs.Limits.{highest_listed, most_listed}
 use Rattle.pua_tree.specs.Names.{is_name, is_target}
 use Rattle.pua_tree.specs.Spelling.{spelling, unspelled}
-use Rattle.pua_tree.specs.Tree.{Tree, WellFormed}
-use Rattle.pua_tree.specs.Listing.{Entry, last_number, is_earlier_dir, is_taken, tree_of, listing}
+use Rattle.pua_tree.specs.Tree.{Node, Tree, WellFormed}
+use Rattle.pua_tree.specs.Listing.{Entry, last_number, is_earlier_dir, is_earlier_other, is_taken, tree_of, listing, listing_of_lines}
 use Rattle.pua_tree.specs.declared.node.Kind.{Kind}
 use Rattle.pua_tree.specs.declared.node.Kind.TheVariants.{Dir, File, Prog, Link}
 
@@ -16,14 +16,23 @@ kind_word File = codes "file"
 kind_word Prog = codes "prog"
 kind_word Link = codes "link"
 
--- a link's target stands in a field of its own
+-- the word of a line: the kind of what it makes, if it makes something
+abbrev pub line_word : Option Kind → List ℕ
+line_word None = codes "hard"
+line_word (Some kind) = kind_word kind
+
+-- a link's target stands in a field of its own, and so does the node of a hard link
 abbrev pub target_field : Option (List ℕ) → List ℕ
 target_field None = []
 target_field (Some target) = 32 ∷ spelling target
 
+abbrev pub last_field : ℕ → Option Node → List ℕ
+last_field node None = 32 ∷ decimal node
+last_field node (Some made) = target_field made.target
+
 -- the line that spells an entry
 abbrev pub entry_text : Entry → List ℕ
-entry_text e = decimal e.number ++ 32 ∷ kind_word e.made.kind ++ 32 ∷ decimal e.parent ++ 32 ∷ spelling e.name ++ target_field e.made.target
+entry_text e = decimal e.number ++ 32 ∷ line_word (option_map (λ made. made.kind) e.made) ++ 32 ∷ decimal e.parent ++ 32 ∷ spelling e.name ++ last_field e.node e.made
 
 -- a target stands exactly at links, and its bytes are below 256, as a name's are
 abbrev pub target_stands : Kind → Option (List ℕ) → Bool
@@ -32,25 +41,39 @@ target_stands Link None = false
 target_stands _ None = true
 target_stands _ (Some target) = false
 
--- an entry that may follow the earlier ones: its number is above theirs and at most the highest, its parent is a
--- directory of theirs, its name is one that the parent hasn't yet, and with the root there is room for it
-abbrev pub entry_fits : List Entry → Entry → Bool
-entry_fits earlier e =
-    nat_lt (last_number earlier) e.number && (nat_le e.number highest_listed && (is_earlier_dir earlier e.parent && (is_name e.name
-    && (not (is_taken earlier e.parent e.name) && (nat_lt (length earlier + 1) most_listed && target_stands e.made.kind e.made.target)))))
+-- a line makes the node of its row, under its own number; a hard link, where those are known, has a node of an earlier
+-- line that is no directory
+abbrev pub made_fits : Bool → List Entry → Entry → Option Node → Bool
+made_fits hard earlier e None = hard && is_earlier_other earlier e.node
+made_fits hard earlier e (Some made) = e.node == e.number && target_stands made.kind made.target
 
-abbrev pub entries_fit : List Entry → List Entry → Bool
-entries_fit earlier [] = true
-entries_fit earlier (e ∷ es) = entry_fits earlier e && entries_fit (earlier ++ e ∷ []) es
+-- an entry that may follow the earlier ones: its number is above theirs and at most the highest, its parent is a
+-- directory of theirs, its name is one that the parent hasn't yet, and after the root there is room for its line
+abbrev pub entry_fits : Bool → List Entry → Entry → Bool
+entry_fits hard earlier e =
+    nat_lt (last_number earlier) e.number && (nat_le e.number highest_listed && (is_earlier_dir earlier e.parent && (is_name e.name
+    && (not (is_taken earlier e.parent e.name) && (nat_lt (length earlier + 1) most_listed && made_fits hard earlier e e.made)))))
+
+abbrev pub entries_fit : Bool → List Entry → List Entry → Bool
+entries_fit hard earlier [] = true
+entries_fit hard earlier (e ∷ es) = entry_fits hard earlier e && entries_fit hard (earlier ++ e ∷ []) es
+
+-- the first line: hard links are known in the second form
+abbrev pub header_text : Bool → List ℕ
+header_text hard = if hard then codes "tree 2" else codes "tree 1"
 
 -- the bytes are a listing of the tree
 abbrev pub IsListing : List ℕ → Tree → Type 0
-IsListing bytes t = (es : List Entry) × IsTrue (entries_fit [] es)
-    × (lines bytes ≡ codes "tree 1" ∷ codes "0 dir" ∷ map entry_text es) × (t ≡ tree_of es)
+IsListing bytes t = (hard : Bool) × (es : List Entry) × IsTrue (entries_fit hard [] es)
+    × (lines bytes ≡ header_text hard ∷ codes "0 dir" ∷ map entry_text es) × (t ≡ tree_of es)
 
 -- the reader accepts exactly the listings of a tree
 abbrev pub ListingsAreRead : Type 0
 ListingsAreRead = (bytes : List ℕ) (t : Tree) → (listing bytes ≡ Ok t) ↔ IsListing bytes t
+
+-- the lines of a listing of the first form list the same tree in the second
+abbrev pub SecondFormsAgree : Type 0
+SecondFormsAgree = (texts : List (List ℕ)) (t : Tree) → listing_of_lines (header_text false ∷ texts) ≡ Ok t → listing_of_lines (header_text true ∷ texts) ≡ Ok t
 
 -- what a listing lists is a tree
 abbrev pub ListingsListTrees : Type 0

@@ -9,19 +9,19 @@ most_name = 255
 abbrev pub most_target : ℕ
 most_target = 1023
 
--- living nodes of a tree, the root counted
-abbrev pub most_living : ℕ
-most_living = 65535
+-- names in a tree, the root counted
+abbrev pub most_names : ℕ
+most_names = 65535
 
 -- the number that no node is given
 abbrev pub number_end : ℕ
 number_end = 4294967295
 
--- nodes of a listing, the root counted
+-- lines of a listing after its header, of which the root's is the first
 abbrev pub most_listed : ℕ
 most_listed = 4096
 
--- lines of a listing: its header, and one for each node
+-- lines of a listing with its header
 abbrev pub most_lines : ℕ
 most_lines = most_listed + 1
 

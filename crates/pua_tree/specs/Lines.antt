@@ -4,4 +4,4 @@ use Rattle.pua_tree.specs.declared.line.Line.{Line as Parts}
 
 -- what the parts of a line are, where each lies in the line
 abbrev pub line_read : Parts → Line
-line_read parts = record { number = parts.number.now; kind = parts.kind; parent = parts.parent.now; name = parts.name.now; target = parts.target.now }
+line_read parts = record { number = parts.number.now; kind = parts.kind; parent = parts.parent.now; name = parts.name.now; last = parts.last.now }

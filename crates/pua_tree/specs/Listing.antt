@@ -1,5 +1,5 @@
 -- Which bytes are a listing of which tree, and else which fault comes first.
-use Rattle.std.specs.Prelude.{ℕ, suc, Bool, ◌&&◌, ◌||◌, if◌then◌else◌, List, [], ◌∷◌, ◌++◌, map, nat_lt, ◌==◌, Option, Some, None, Result, Ok, Err, codes, ok_or, option_map}
+use Rattle.std.specs.Prelude.{ℕ, suc, Bool, true, false, not, ◌&&◌, ◌||◌, if◌then◌else◌, List, [], ◌∷◌, ◌++◌, filter_map, nat_lt, ◌==◌, Option, Some, None, Result, Ok, Err, codes, ok_or, option_map}
 use Rattle.std.specs.List.{list_all, list_any}
 use Rattle.std.specs.Str.Lines.{lines}
 use Rattle.std.specs.FinMap.{put}
@@ -12,22 +12,23 @@ use Rattle.std.specs.Result.{result_ok}
 use Rattle.pua_tree.specs.declared.node.Kind.{Kind}
 use Rattle.pua_tree.specs.declared.node.Kind.TheVariants.{Dir, File, Prog, Link}
 use Rattle.pua_tree.specs.declared.fault.ListingFault.{ListingFault}
-use Rattle.pua_tree.specs.declared.fault.ListingFault.TheVariants.{BadHeader, BadLine, BadNumber, BadParent, BadName, BadTarget, Taken, TooMany}
+use Rattle.pua_tree.specs.declared.fault.ListingFault.TheVariants.{BadHeader, BadLine, BadNumber, BadParent, BadName, BadTarget, Taken, TooMany, BadNode}
 
--- what one line says: a node with its number, and the row in which it stands
+-- what one line says: a row, and the node that the line makes under its number; a `hard` line makes none
 pub record Entry : Type 0 where
   pub number : ℕ
   pub parent : ℕ
   pub name : List ℕ
-  pub made : Node
+  pub node : ℕ
+  pub made : Option Node
 
--- the fields of a line by what they are for; only a link has a target
+-- the fields of a line by what they are for; a `hard` line has no kind, and its last field is a node where a link's is a target
 pub record Line : Type 0 where
   pub number : List ℕ
-  pub kind : Kind
+  pub kind : Option Kind
   pub parent : List ℕ
   pub name : List ℕ
-  pub target : List ℕ
+  pub last : List ℕ
 
 abbrev pub plain_kind : List ℕ → Option Kind
 plain_kind word =
@@ -35,16 +36,22 @@ plain_kind word =
     else (if same_bytes word (codes "file") then Some File
     else (if same_bytes word (codes "prog") then Some Prog else None))
 
--- four fields for a directory, a file or a program, and five for a link
-abbrev pub line_of_fields : List (List ℕ) → Option Line
-line_of_fields (number ∷ word ∷ parent ∷ name ∷ []) =
-    option_map (λ kind. record { number = number; kind = kind; parent = parent; name = name; target = [] }) (plain_kind word)
-line_of_fields (number ∷ word ∷ parent ∷ name ∷ target ∷ []) =
-    if same_bytes word (codes "link") then Some (record { number = number; kind = Link; parent = parent; name = name; target = target }) else None
-line_of_fields _ = None
+-- with a last field: the kind of a link, and none for a hard link, where those are known
+abbrev pub long_kind : Bool → List ℕ → Option (Option Kind)
+long_kind hard word =
+    if same_bytes word (codes "link") then Some (Some Link)
+    else (if hard && same_bytes word (codes "hard") then Some None else None)
 
-abbrev pub line_of : List ℕ → Option Line
-line_of text = if list_all is_field (fields text) then line_of_fields (fields text) else None
+-- four fields for a directory, a file or a program, and five for a link and a hard link
+abbrev pub line_of_fields : Bool → List (List ℕ) → Option Line
+line_of_fields hard (number ∷ word ∷ parent ∷ name ∷ []) =
+    option_map (λ kind. record { number = number; kind = Some kind; parent = parent; name = name; last = [] }) (plain_kind word)
+line_of_fields hard (number ∷ word ∷ parent ∷ name ∷ last ∷ []) =
+    option_map (λ kind. record { number = number; kind = kind; parent = parent; name = name; last = last }) (long_kind hard word)
+line_of_fields hard _ = None
+
+abbrev pub line_of : Bool → List ℕ → Option Line
+line_of hard text = if list_all is_field (fields text) then line_of_fields hard (fields text) else None
 
 -- the number of the line before, or 0
 abbrev pub last_number : List Entry → ℕ
@@ -52,9 +59,22 @@ last_number [] = 0
 last_number (e ∷ []) = e.number
 last_number (e ∷ f ∷ es) = last_number (f ∷ es)
 
+-- whether a line makes a directory, or another node
+abbrev pub makes_dir : Option Node → Bool
+makes_dir None = false
+makes_dir (Some made) = is_dir_kind (Some made.kind)
+
+abbrev pub makes_other : Option Node → Bool
+makes_other None = false
+makes_other (Some made) = not (is_dir_kind (Some made.kind))
+
 -- an earlier line made a directory under this number, or it is the root's
 abbrev pub is_earlier_dir : List Entry → ℕ → Bool
-is_earlier_dir earlier n = n == 0 || list_any (λ e. e.number == n && is_dir_kind (Some e.made.kind)) earlier
+is_earlier_dir earlier n = n == 0 || list_any (λ e. e.number == n && makes_dir e.made) earlier
+
+-- an earlier line made a file, a program or a link under this number
+abbrev pub is_earlier_other : List Entry → ℕ → Bool
+is_earlier_other earlier n = list_any (λ e. e.number == n && makes_other e.made) earlier
 
 abbrev pub only_if : {A : Type 0} → (A → Bool) → Option A → Option A
 only_if test None = None
@@ -67,40 +87,47 @@ number_in earlier line = only_if (λ n. nat_lt (last_number earlier) n) (number_
 abbrev pub parent_in : List Entry → Line → Option ℕ
 parent_in earlier line = only_if (is_earlier_dir earlier) (number_within 0 highest_listed line.parent)
 
-abbrev pub target_in : Line → Option (List ℕ)
-target_in line = only_if is_target (unspelled line.target)
+abbrev pub node_in : List Entry → Line → Option ℕ
+node_in earlier line = only_if (is_earlier_other earlier) (number_within 1 highest_listed line.last)
 
--- the node that line n makes: a link has a target
-abbrev pub node_of : ℕ → Line → Kind → Result Node ListingFault
-node_of n line Link = ok_or (target_in line) (BadTarget n) >>= λ target. Ok (record { kind = Link; target = Some target })
-node_of n line kind = Ok (record { kind = kind; target = None })
+abbrev pub target_in : Line → Option (List ℕ)
+target_in line = only_if is_target (unspelled line.last)
+
+-- the node of line n's row, and what the line makes under its number: a link has a target, and a hard link makes nothing
+abbrev pub node_of : List Entry → ℕ → ℕ → Line → Option Kind → Result (ℕ × Option Node) ListingFault
+node_of earlier n number line None = ok_or (node_in earlier line) (BadNode n) >>= λ x. Ok (x, None)
+node_of earlier n number line (Some Link) = ok_or (target_in line) (BadTarget n) >>= λ target. Ok (number, Some (record { kind = Link; target = Some target }))
+node_of earlier n number line (Some kind) = Ok (number, Some (record { kind = kind; target = None }))
 
 abbrev pub is_taken : List Entry → ℕ → List ℕ → Bool
 is_taken earlier parent name = list_any (λ e. e.parent == parent && same_bytes e.name name) earlier
 
--- the entry of line n, if its name is free and there is room; line 2 is the first node's
+-- the entry of line n, if its name is free and there is room; line 2 is the root's
 abbrev pub admitted : List Entry → ℕ → Entry → Result Entry ListingFault
 admitted earlier n e = if is_taken earlier e.parent e.name then Err (Taken n) else (if nat_lt most_lines n then Err (TooMany n) else Ok e)
 
 -- what line n says after the earlier ones, or its first fault
-abbrev pub entry_of : List Entry → ℕ → List ℕ → Result Entry ListingFault
-entry_of earlier n text = do
-  line ← ok_or (line_of text) (BadLine n)
+abbrev pub entry_of : Bool → List Entry → ℕ → List ℕ → Result Entry ListingFault
+entry_of hard earlier n text = do
+  line ← ok_or (line_of hard text) (BadLine n)
   number ← ok_or (number_in earlier line) (BadNumber n)
   parent ← ok_or (parent_in earlier line) (BadParent n)
   name ← ok_or (result_ok (name_of line.name)) (BadName n)
-  made ← node_of n line line.kind
-  admitted earlier n (record { number = number; parent = parent; name = name; made = made })
+  node ← node_of earlier n number line line.kind
+  admitted earlier n (record { number = number; parent = parent; name = name; node = node.0; made = node.1 })
 
 -- what further lines say after the earlier ones, or the fault of the first line that has one
-abbrev pub entries_of : List Entry → ℕ → List (List ℕ) → Result (List Entry) ListingFault
-entries_of earlier n [] = Ok earlier
-entries_of earlier n (text ∷ texts) = entry_of earlier n text >>= λ e. entries_of (earlier ++ e ∷ []) (suc n) texts
+abbrev pub entries_of : Bool → List Entry → ℕ → List (List ℕ) → Result (List Entry) ListingFault
+entries_of hard earlier n [] = Ok earlier
+entries_of hard earlier n (text ∷ texts) = entry_of hard earlier n text >>= λ e. entries_of hard (earlier ++ e ∷ []) (suc n) texts
 
--- the tree of the lines: the root, their rows and nodes, and a number above the greatest
+-- the tree of the lines: the root, their rows and what they make, and a number above the greatest
 abbrev pub rows_of_entries : List Entry → List (Spot × ℕ)
 rows_of_entries [] = []
-rows_of_entries (e ∷ es) = put spot_cmp (e.parent, e.name) e.number (rows_of_entries es)
+rows_of_entries (e ∷ es) = put spot_cmp (e.parent, e.name) e.node (rows_of_entries es)
+
+abbrev pub node_entry : Entry → Option (ℕ × Node)
+node_entry e = option_map (λ made. (e.number, made)) e.made
 
 abbrev pub root_node : Node
 root_node = record { kind = Dir; target = None }
@@ -108,18 +135,24 @@ root_node = record { kind = Dir; target = None }
 abbrev pub tree_of : List Entry → Tree
 tree_of es = record {
   rows = rows_of_entries es;
-  nodes = (0, root_node) ∷ map (λ e. (e.number, e.made)) es;
+  nodes = (0, root_node) ∷ filter_map node_entry es;
   next = suc (last_number es);
 }
 
-abbrev pub after_header : List (List ℕ) → Result Tree ListingFault
-after_header [] = Err (BadLine 2)
-after_header (text ∷ texts) =
-    if same_bytes text (codes "0 dir") then (entries_of [] 3 texts >>= λ es. Ok (tree_of es)) else Err (BadLine 2)
+-- whether hard links are known, by the first line
+abbrev pub header : List ℕ → Result Bool ListingFault
+header text =
+    if same_bytes text (codes "tree 1") then Ok false
+    else (if same_bytes text (codes "tree 2") then Ok true else Err BadHeader)
+
+abbrev pub after_header : Bool → List (List ℕ) → Result Tree ListingFault
+after_header hard [] = Err (BadLine 2)
+after_header hard (text ∷ texts) =
+    if same_bytes text (codes "0 dir") then (entries_of hard [] 3 texts >>= λ es. Ok (tree_of es)) else Err (BadLine 2)
 
 abbrev pub listing_of_lines : List (List ℕ) → Result Tree ListingFault
 listing_of_lines [] = Err BadHeader
-listing_of_lines (text ∷ texts) = if same_bytes text (codes "tree 1") then after_header texts else Err BadHeader
+listing_of_lines (text ∷ texts) = header text >>= λ hard. after_header hard texts
 
 -- the tree of which the bytes are a listing, or their first fault
 abbrev pub listing : List ℕ → Result Tree ListingFault

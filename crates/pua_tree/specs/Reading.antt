@@ -1,36 +1,52 @@
 -- What a reader of a listing's lines has gathered so far, and what a further entry makes of it.
-use Rattle.std.specs.Prelude.{◌≡◌, ◌≤◌, ◌<◌, ◌+◌, ℕ, List, [], Ok, IsTrue, option_map, length}
+use Rattle.std.specs.Prelude.{◌≡◌, ◌≤◌, ◌<◌, ◌+◌, ℕ, Bool, List, [], Option, Some, None, Ok, IsTrue, option_map, length}
 use Rattle.pua_tree.specs.Limits.{number_end}
 use Rattle.pua_tree.specs.Names.{is_name}
+use Rattle.pua_tree.specs.Tree as tree
 use Rattle.pua_tree.specs.Tree.{Tree, target_fits}
-use Rattle.pua_tree.specs.Edits.{add, with_new}
+use Rattle.pua_tree.specs.Edits.{add, tie, with_new, with_row}
 use Rattle.pua_tree.specs.Listing as listing
 use Rattle.pua_tree.specs.Listing.{last_number, tree_of}
 use Rattle.pua_tree.specs.Grammar.{entries_fit}
 use Rattle.pua_tree.specs.declared.gathered.Entry.{Entry}
+use Rattle.pua_tree.specs.declared.gathered.Made.{Made}
 
 -- what an entry says
+abbrev pub said_node : Made → tree.Node
+said_node made = record { kind = made.kind; target = option_map (λ target. target.items) made.target }
+
 abbrev pub said : Entry → listing.Entry
-said e = record { number = e.number; parent = e.parent; name = e.name; made = record { kind = e.kind; target = option_map (λ target. target.items) e.target } }
+said e = record { number = e.number; parent = e.parent; name = e.name; node = e.node; made = option_map said_node e.made }
 
--- the tree with an entry more: its node, under its number, in a new row
+-- the tree with an entry more: the node that it makes, under its number, in a new row; or, where it makes none, a new row
+-- of its node, and a next number above its own
+abbrev pub grown_by : Tree → listing.Entry → Option tree.Node → Tree
+grown_by t e None = with_row (record t { next = e.number + 1 }) e.parent e.name e.node
+grown_by t e (Some made) = with_new (record t { next = e.number }) e.parent e.name made
+
 abbrev pub grown : Tree → listing.Entry → Tree
-grown t e = with_new (record t { next = e.number }) e.parent e.name e.made
+grown t e = grown_by t e e.made
 
--- an entry that a tree may take: its number is no lower than the next one, and under that number its node may be added
+-- the edit by which an entry comes to the tree finds no fault
+abbrev pub Enters : Tree → listing.Entry → Option tree.Node → Type 0
+Enters t e None = tie (record t { next = e.number + 1 }) e.parent e.name e.node ≡ Ok (grown_by t e None)
+Enters t e (Some made) = (e.node ≡ e.number) × IsTrue (target_fits made.kind made.target)
+    × (add (record t { next = e.number }) e.parent e.name made ≡ Ok (e.number, grown_by t e (Some made)))
+
+-- an entry that a tree may take: its number is no lower than the next one, and its node may be added under that number,
+-- or be given a further name
 pub record Follows (t : Tree) (e : listing.Entry) : Type 0 where
   pub number : t.next ≤ e.number
   pub not_last : e.number < number_end
   pub named : IsTrue (is_name e.name)
-  pub target : IsTrue (target_fits e.made.kind e.made.target)
-  pub added : add (record t { next = e.number }) e.parent e.name e.made ≡ Ok (e.number, grown t e)
+  pub enters : Enters t e e.made
 
 -- the tree of entries each of which fits those before it, and the greatest of their numbers
-pub record Gathers (t : Tree) (greatest : ℕ) (es : List listing.Entry) : Type 0 where
-  pub fit : IsTrue (entries_fit [] es)
+pub record Gathers (hard : Bool) (t : Tree) (greatest : ℕ) (es : List listing.Entry) : Type 0 where
+  pub fit : IsTrue (entries_fit hard [] es)
   pub tree : t ≡ tree_of es
   pub highest : greatest ≡ last_number es
 
 -- it is that of so many lines, the first two counted
-abbrev pub IsGathered : Tree → ℕ → ℕ → Type 0
-IsGathered t greatest lines = (es : List listing.Entry) × Gathers t greatest es × (lines ≡ length es + 2)
+abbrev pub IsGathered : Bool → Tree → ℕ → ℕ → Type 0
+IsGathered hard t greatest lines = (es : List listing.Entry) × Gathers hard t greatest es × (lines ≡ length es + 2)

@@ -27,7 +27,7 @@ pub enum NameFault {
 /// Why a tree answered no names, or was not changed.
 #[derive(Clone, Copy, Debug, PartialEq, Eq, Error)]
 pub enum TreeFault {
-    /// There is no such row.
+    /// There is no such row, or no such living node.
     #[error("missing")]
     Missing,
     /// The directory has that name already.
@@ -42,23 +42,27 @@ pub enum TreeFault {
     /// A directory would come to stand in itself, or beneath itself.
     #[error("directory inside itself")]
     Inside,
-    /// There is no room for a further node, or no number for it.
+    /// There is no room for a further name, or no number for a further node.
     #[error("no room")]
     Full,
     /// A growth of memory was refused.
     #[error("out of memory")]
     OutOfMemory,
+    /// The node is a directory, which has one name only.
+    #[error("is a directory")]
+    IsDir,
 }
 
 /// Why bytes are no listing: the fault of the first line that has one, with the number of that
 /// line, counted from 1.
 #[derive(Clone, Copy, Debug, PartialEq, Eq, Error)]
 pub enum ListingFault {
-    /// The first line is not there, or is not `tree 1`.
+    /// The first line is not there, or is neither `tree 1` nor `tree 2`.
     #[error("bad header")]
     BadHeader,
     /// The second line is not there or is not `0 dir`; a line or a field is empty; a byte that no
-    /// field has; an unknown kind, or another number of fields than its kind has.
+    /// field has; an unknown kind, as `hard` is in `tree 1`, or another number of fields than its
+    /// kind has.
     #[error("line {0}: bad line")]
     BadLine(u32),
     /// The number is no decimal from 1 to 999,999, or is not above that of the line before.
@@ -76,10 +80,14 @@ pub enum ListingFault {
     /// The parent has that name already.
     #[error("line {0}: name taken")]
     Taken(u32),
-    /// The line would be the 4,097th node.
+    /// The line would be the 4,097th after the first, the root's line counted.
     #[error("line {0}: too many nodes")]
     TooMany(u32),
     /// A growth of memory was refused.
     #[error("out of memory")]
     OutOfMemory,
+    /// The node of a hard link is not the number of a file, a program or a symbolic link that an
+    /// earlier line made.
+    #[error("line {0}: bad node")]
+    BadNode(u32),
 }

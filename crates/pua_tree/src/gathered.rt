@@ -6,17 +6,25 @@ use crate::node::{Kind, NodeId};
 use crate::tree::FileTree;
 use std::alloc::Global;
 
-/// What one line of a listing says: a node with its number, and the row in which it stands.
+/// What one line of a listing says: a row, and the node that the line makes under its number. A hard
+/// link makes none: the node of its row is of an earlier line.
 #[derive(Drop)]
 pub(crate) struct Entry {
     pub(crate) number: u32,
     pub(crate) parent: NodeId,
     pub(crate) name: Name,
+    pub(crate) node: NodeId,
+    pub(crate) made: Option<Made>,
+}
+
+/// A node that a line makes, and where it leads if it is a link.
+#[derive(Drop)]
+pub(crate) struct Made {
     pub(crate) kind: Kind,
     pub(crate) target: Option<Vec<u8>>,
 }
 
-/// A tree that begins as the root alone, and takes nodes under numbers that rise and may leave some
+/// A tree that begins as the root alone, and takes entries under numbers that rise and may leave some
 /// out. What it holds so far is its content.
 pub(crate) trait Gathered: FileTree + Drop {
     ghost use Rattle.std.specs.Prelude.{◌≡◌, OnOk, OnErr, IfOk};
@@ -27,8 +35,9 @@ pub(crate) trait Gathered: FileTree + Drop {
     fn root_alone(alloc: Global) -> Result<Self, OutOfMemory>
         ensures { IfOk result (λ tree. Self.content tree ≡ empty_tree) };
 
-    /// Puts the node of an entry into a new row. The only error is that memory for it is refused;
-    /// the tree is then as it was.
+    /// Puts the node of an entry into a new row, and the node itself into the tree where the entry
+    /// makes it. The next number is then above the entry's. The only error is that memory for it is
+    /// refused; the tree is then as it was.
     fn put(&mut self, entry: Entry) -> Result<(), OutOfMemory>
         requires { Follows (Self.content self.old) (said entry) }
         ensures grown { OnOk result (Self.content self.new ≡ grown (Self.content self.old) (said entry)) }

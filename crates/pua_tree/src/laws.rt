@@ -2,7 +2,7 @@
 //! that does nothing.
 
 ghost use Rattle.pua_tree.specs.Laws.{TreesAreTheirRows, EditsKeepTrees, LimitsAreTheirs};
-ghost use Rattle.pua_tree.specs.Grammar.{ListingsAreRead, ListingsListTrees, SpellingsAreRead};
+ghost use Rattle.pua_tree.specs.Grammar.{ListingsAreRead, ListingsListTrees, SecondFormsAgree, SpellingsAreRead};
 ghost use Rattle.pua_tree.specs.Examples.{ListingRows, FaultOrderRows, NameRows, EditRows, ExampleIsTree};
 
 /// Trees with the same rows, the same living nodes, each of the same kind and target, and the same
@@ -22,10 +22,11 @@ pub fn limits_law()
 {}
 
 /// Bytes are read as a tree exactly where they are a listing of it, and what a listing lists is a
-/// tree.
+/// tree. A listing under `tree 1` lists the same tree under `tree 2`.
 pub fn listing_law()
     ensures read { ListingsAreRead }
     ensures trees { ListingsListTrees }
+    ensures forms { SecondFormsAgree }
 {}
 
 /// Bytes have one spelling, and it is read as them.

@@ -27,4 +27,4 @@ pub use listing::{HIGHEST_LISTED, MOST_LISTED, read_listing};
 pub use name::Name;
 pub use node::{Kind, NodeId};
 pub use spelling::{SpelledByte, byte_spelling, unspelled};
-pub use tree::{FileTree, MOST_LIVING, NUMBER_END};
+pub use tree::{FileTree, MOST_NAMES, NUMBER_END};

@@ -1,55 +1,52 @@
 //! The fields of a line of a listing by what they are for.
 
 ghost use Rattle.std.specs.Prelude.{◌≡◌, option_map};
-ghost use Rattle.pua_tree.specs.Listing.{line_of, plain_kind};
+ghost use Rattle.pua_tree.specs.Listing.{line_of, plain_kind, long_kind};
 ghost use Rattle.pua_tree.specs.Lines.{line_read};
 
 use crate::field::Fields;
 use crate::node::Kind;
 
-/// A line of a listing after its second: the number, kind, parent and name of a node, and the
-/// target of a link, which is empty for other kinds. Number, parent, name and target are as they are
-/// spelled.
+/// A line of a listing after its second: its number, the kind of the node that it makes, the parent
+/// and the name of its row, and a last field, which is a link's target. A hard link has no kind, and
+/// its last field is a node; other lines have none, and it is empty here. All but the kind are as
+/// they are spelled.
 #[derive(Clone, Copy)]
 pub(crate) struct Line<'a> {
     pub(crate) number: &'a [u8],
-    pub(crate) kind: Kind,
+    pub(crate) kind: Option<Kind>,
     pub(crate) parent: &'a [u8],
     pub(crate) name: &'a [u8],
-    pub(crate) target: &'a [u8],
+    pub(crate) last: &'a [u8],
 }
 
 /// The line that a text without its end is, and None where a field is empty or holds what no field
-/// may, the kind is unknown, or there are more or fewer fields than its kind has.
-pub(crate) fn read_line(text: &[u8]) -> Option<Line<'_>>
-    ensures { option_map line_read result ≡ line_of text.now }
+/// may, the kind is unknown, or there are more or fewer fields than its kind has. The word `hard` is
+/// known where `hard` says so.
+pub(crate) fn read_line(hard: bool, text: &[u8]) -> Option<Line<'_>>
+    ensures { option_map line_read result ≡ line_of hard text.now }
 {
     let fields = Fields::read(text)?;
     match fields.as_slice() {
         [number, word, parent, name] => Some(Line {
             number,
-            kind: plain_kind(word)?,
+            kind: Some(plain_kind(word)?),
             parent,
             name,
-            target: &[],
+            last: &[],
         }),
-        [number, word, parent, name, target] => {
-            if *word != b"link".as_slice() {
-                return None;
-            }
-            Some(Line {
-                number,
-                kind: Kind::Link,
-                parent,
-                name,
-                target,
-            })
-        }
+        [number, word, parent, name, last] => Some(Line {
+            number,
+            kind: long_kind(hard, word)?,
+            parent,
+            name,
+            last,
+        }),
         _ => None,
     }
 }
 
-/// The kind that a word names, of those whose lines have no target.
+/// The kind that a word names, of those whose lines have no last field.
 fn plain_kind(word: &[u8]) -> Option<Kind>
     ensures { result ≡ plain_kind word.now }
 {
@@ -59,6 +56,20 @@ fn plain_kind(word: &[u8]) -> Option<Kind>
         Some(Kind::File)
     } else if word == b"prog".as_slice() {
         Some(Kind::Prog)
+    } else {
+        None
+    }
+}
+
+/// What a word names, of those whose lines have a last field: the kind of a symbolic link, and no
+/// kind for a hard link, where hard links are known.
+fn long_kind(hard: bool, word: &[u8]) -> Option<Option<Kind>>
+    ensures { result ≡ long_kind hard word.now }
+{
+    if word == b"link".as_slice() {
+        Some(Some(Kind::Link))
+    } else if hard && word == b"hard".as_slice() {
+        Some(None)
     } else {
         None
     }

@@ -1,11 +1,11 @@
 //! A tree kept as a list of rows and a list of nodes, each in the order of its keys.
 
 use crate::fault::{OutOfMemory, TreeFault};
-use crate::gathered::{Entry, Gathered};
-use crate::list_edits::{copied_target, push_node, put_row, reserve_one, take_row, take_unnamed};
+use crate::gathered::{Entry, Gathered, Made};
+use crate::list_edits::{copied_target, push_made, put_row, reserve_one, take_row, take_unnamed};
 use crate::name::Name;
 use crate::node::{Kind, NodeId};
-use crate::tree::{FileTree, MOST_LIVING, NUMBER_END};
+use crate::tree::{FileTree, MOST_NAMES, NUMBER_END};
 use std::alloc::{AllocError, Global};
 use std::cmp::Ordering;
 use std::collections::BTreeSet;
@@ -55,7 +55,7 @@ ghost use Rattle.pua_tree.specs.Limits.{number_end};
 ghost use Rattle.pua_tree.specs.Names.{is_name};
 ghost use Rattle.pua_tree.specs.Tree as tree;
 ghost use Rattle.pua_tree.specs.Tree.{WellFormed, spot_cmp, is_dir, look, climb, distinct_names};
-ghost use Rattle.pua_tree.specs.Edits.{add, cut, shift, is_full_dir, has_room, with_new, without_row, without_unnamed, moved};
+ghost use Rattle.pua_tree.specs.Edits.{add, tie, cut, shift, is_full_dir, has_name_room, has_room, with_row, with_new, without_row, without_unnamed, moved};
 ghost use Rattle.pua_tree.specs.ListTree.{row_entry, node_entry, made_of, held_tree};
 
 impl FileTree for ListTree {
@@ -118,17 +118,27 @@ impl FileTree for ListTree {
         let alloc = *self.nodes.allocator();
         let target = copied_target(alloc, target).map_err(|_| TreeFault::OutOfMemory)?;
         let number = self.next;
+        let node = NodeId::new(number);
         let entry = Entry {
             number,
             parent: dir,
             name,
-            kind,
-            target,
+            node,
+            made: Some(Made { kind, target }),
         };
         match self.put(entry) {
-            Ok(()) => Ok(NodeId::new(number)),
+            Ok(()) => Ok(node),
             Err(OutOfMemory) => Err(TreeFault::OutOfMemory),
         }
+    }
+
+    fn tie(&mut self, dir: NodeId, name: Name, node: NodeId) -> Result<(), TreeFault> {
+        self.may_tie(dir, &name, node)?;
+        if self.rows.reserve(1).is_err() {
+            return Err(TreeFault::OutOfMemory);
+        }
+        put_row(&mut self.rows, Row { dir, name, node });
+        Ok(())
     }
 
     fn cut(&mut self, dir: NodeId, name: &Name) -> Result<NodeId, TreeFault> {
@@ -188,24 +198,16 @@ impl Gathered for ListTree {
         if reserve_one(&mut self.rows, &mut self.nodes).is_err() {
             return Err(OutOfMemory);
         }
-        let id = NodeId::new(entry.number);
-        put_row(
-            &mut self.rows,
-            Row {
-                dir: entry.parent,
-                name: entry.name,
-                node: id,
-            },
-        );
-        push_node(
-            &mut self.nodes,
-            Node {
-                id,
-                kind: entry.kind,
-                target: entry.target,
-            },
-        );
-        self.next = entry.number + 1;
+        let Entry {
+            number,
+            parent: dir,
+            name,
+            node,
+            made,
+        } = entry;
+        put_row(&mut self.rows, Row { dir, name, node });
+        push_made(&mut self.nodes, node, made);
+        self.next = number + 1;
         Ok(())
     }
 }
@@ -224,11 +226,18 @@ impl ListTree {
         self.is_dir(id) && has_row(&self.rows, id)
     }
 
-    /// Whether there is room for a further node, and a number.
+    /// Whether there is room for a further name.
+    fn has_name_room(&self) -> bool
+        ensures { result ≡ has_name_room self.now }
+    {
+        self.rows.len() + 1 < MOST_NAMES
+    }
+
+    /// Whether there is room for the name of a further node, and a number.
     fn has_room(&self) -> bool
         ensures { result ≡ has_room self.now }
     {
-        self.nodes.len() < MOST_LIVING && self.next < NUMBER_END
+        self.has_name_room() && self.next < NUMBER_END
     }
 
     /// Whether the directory is this node, or stands beneath it.
@@ -264,6 +273,31 @@ impl ListTree {
             return Err(TreeFault::Taken);
         }
         if !self.has_room() {
+            return Err(TreeFault::Full);
+        }
+        Ok(())
+    }
+
+    /// Whether a node may be given this further name, or else the first fault.
+    fn may_tie(&self, dir: NodeId, name: &Name, node: NodeId) -> Result<(), TreeFault>
+        ensures exact { MatchResult result
+            (λ _. tie self.now dir name.now node ≡ Ok (with_row self.now dir name.now node))
+            (λ fault. (fault ≢ TreeFault.OutOfMemory) × (tie self.now dir name.now node ≡ Err fault)) }
+        ensures name { IsTrue (is_name name.now) }
+    {
+        name.known();
+        if !self.is_dir(dir) {
+            return Err(TreeFault::NotDir);
+        }
+        match self.kind(node) {
+            None => return Err(TreeFault::Missing),
+            Some(Kind::Dir) => return Err(TreeFault::IsDir),
+            Some(_) => {}
+        }
+        if self.look(dir, name).is_some() {
+            return Err(TreeFault::Taken);
+        }
+        if !self.has_name_room() {
             return Err(TreeFault::Full);
         }
         Ok(())

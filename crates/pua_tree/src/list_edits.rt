@@ -1,14 +1,16 @@
 //! Changes of a list of rows and of a list of nodes, each in the order of its keys.
 
 ghost use Rattle.std.specs.Prelude.{ℕ, ◌≡◌, ◌<◌, ◌++◌, ◌∷◌, [], IsTrue, IsSome, IfOk, OnOk, not, ◌==◌, map, option_map, option_copied, vec_len, vec_capacity};
-ghost use Rattle.std.specs.List.{list_any};
+ghost use Rattle.std.specs.List.{list_any, cons_option};
 ghost use Rattle.std.specs.Ordering.{nat_cmp, is_eq};
 ghost use Rattle.std.specs.FinMap.{is_sorted, find as find_key, put};
 ghost use Rattle.std.specs.FinMap.Entries.{where_key};
 ghost use Rattle.pua_tree.specs.Tree.{spot_cmp};
 ghost use Rattle.pua_tree.specs.Edits.{without_unnamed};
 ghost use Rattle.pua_tree.specs.ListTree.{row_entry, node_entry, held_tree};
+ghost use Rattle.pua_tree.specs.Reading.{said_node};
 
+use crate::gathered::Made;
 use crate::list::{Node, Row, node_place, row_place};
 use crate::name::Name;
 use crate::node::NodeId;
@@ -60,12 +62,16 @@ pub(crate) fn take_row(rows: &mut Vec<Row>, dir: NodeId, name: &Name)
     rows.remove(place);
 }
 
-/// Puts a node whose number is above all others, for which there is room.
-pub(crate) fn push_node(nodes: &mut Vec<Node>, node: Node)
+/// Puts a node, if one is made, after all others, whose numbers are below; there is room for it.
+pub(crate) fn push_made(nodes: &mut Vec<Node>, id: NodeId, made: Option<Made>)
     requires { vec_len nodes.old < vec_capacity nodes.old }
-    ensures { nodes.new.items ≡ nodes.old.items ++ node ∷ [] }
+    ensures { map node_entry nodes.new.items
+        ≡ map node_entry nodes.old.items
+        ++ cons_option (option_map (λ node. (id, node)) (option_map said_node made)) [] }
 {
-    nodes.push(node).unwrap();
+    if let Some(Made { kind, target }) = made {
+        nodes.push(Node { id, kind, target }).unwrap();
+    }
 }
 
 /// Takes the node of this number away, if there is one.

@@ -1,18 +1,18 @@
 //! The reader of listings: one pass over the lines, each judged against those before it. It fills
 //! whatever tree takes its entries.
 
-ghost use Rattle.std.specs.Prelude.{ℕ, List, ◌≡◌, ◌≢◌, ◌≤◌, ◌+◌, ◌++◌, ◌∷◌, [], Ok, Err, MatchResult, OnOk, OnErr, IfOk, IfErr, nat_lt, length, option_map};
+ghost use Rattle.std.specs.Prelude.{ℕ, List, ◌≡◌, ◌≢◌, ◌≤◌, ◌+◌, ◌++◌, ◌∷◌, [], Some, Ok, Err, MatchResult, MatchOption, OnOk, OnErr, IfOk, IfErr, nat_lt, length, option_map, not, ◌&&◌};
 ghost use Rattle.std.specs.Bool.{OnTrue, OnFalse};
 ghost use Rattle.pua_tree.specs.Limits.{highest_listed};
 ghost use Rattle.pua_tree.specs.Spelling.{number_within};
-ghost use Rattle.pua_tree.specs.Tree.{is_dir};
+ghost use Rattle.pua_tree.specs.Tree.{is_dir, is_living};
 ghost use Rattle.pua_tree.specs.Lines.{line_read};
-ghost use Rattle.pua_tree.specs.Listing.{listing, entry_of, entries_of, admitted, only_if, node_of, Entry as Said};
-ghost use Rattle.pua_tree.specs.Reading.{Gathers, IsGathered, said};
+ghost use Rattle.pua_tree.specs.Listing.{listing, listing_of_lines, after_header, entry_of, entries_of, admitted, only_if, node_of, Entry as Said};
+ghost use Rattle.pua_tree.specs.Reading.{Gathers, IsGathered, said, said_node};
 
 use crate::fault::{ListingFault, OutOfMemory};
 use crate::field::number_within;
-use crate::gathered::{Entry, Gathered};
+use crate::gathered::{Entry, Gathered, Made};
 use crate::line::{Line, read_line};
 use crate::link_target::is_target;
 use crate::list::ListTree;
@@ -23,13 +23,13 @@ use crate::tree::FileTree;
 use bstr::{ByteSlice, Lines};
 use std::alloc::Global;
 
-/// The most nodes that a listing has, the root among them.
+/// The most lines that a listing has after its first, of which the root's is one.
 pub const MOST_LISTED: u32 = 4096;
 
 /// The greatest number that a listing has.
 pub const HIGHEST_LISTED: u32 = 999_999;
 
-/// The most lines that a listing has: its header, and one for each node.
+/// The most lines that a listing has with its first.
 const MOST_LINES: u32 = MOST_LISTED + 1;
 
 /// The tree of which the bytes are a listing, under the numbers of the listing. The fault is
@@ -49,14 +49,30 @@ fn read_tree<T: Gathered>(alloc: Global, bytes: &[u8]) -> Result<T, ListingFault
         → listing bytes.now ≡ Err fault) }
 {
     let mut lines = bytes.lines();
-    if !take_line(&mut lines, b"tree 1") {
+    let Some(hard) = take_header(&mut lines) else {
         return Err(ListingFault::BadHeader);
-    }
+    };
     if !take_line(&mut lines, b"0 dir") {
         return Err(ListingFault::BadLine(2));
     }
-    let Reading { tree, greatest: _ } = read_entries(alloc, lines)?;
+    let Reading { tree, .. } = read_entries(alloc, hard, lines)?;
     Ok(tree)
+}
+
+/// Takes the first line. Answers whether hard links are known in the lines after it, and None where
+/// it is not there or is no listing's.
+fn take_header(lines: &mut Lines<'_>) -> Option<bool>
+    ensures { MatchOption result (listing_of_lines lines.old ≡ Err ListingFault.BadHeader)
+        (λ hard. listing_of_lines lines.old ≡ after_header hard lines.new) }
+{
+    let line = lines.next()?;
+    if line == b"tree 1".as_slice() {
+        Some(false)
+    } else if line == b"tree 2".as_slice() {
+        Some(true)
+    } else {
+        None
+    }
 }
 
 /// Takes the next line. Answers whether there is one, and it is this.
@@ -70,22 +86,27 @@ fn take_line(lines: &mut Lines<'_>, text: &[u8]) -> bool
     }
 }
 
-/// The tree of the lines so far, and the greatest number among them.
+/// The tree of the lines so far, the greatest number among them, and whether hard links are known.
 #[derive(Drop)]
 struct Reading<T> {
+    hard: bool,
     tree: T,
     greatest: u32,
 }
 
 /// Reads the lines after the first two.
-fn read_entries<T: Gathered>(alloc: Global, lines: Lines<'_>) -> Result<Reading<T>, ListingFault>
+fn read_entries<T: Gathered>(
+    alloc: Global,
+    hard: bool,
+    lines: Lines<'_>,
+) -> Result<Reading<T>, ListingFault>
     ensures ok { IfOk result (λ reading. (es : List Said)
-        × Gathers (T.content reading.tree) reading.greatest es
-        × (entries_of [] 3 lines.entry ≡ Ok es)) }
+        × Gathers hard (T.content reading.tree) reading.greatest es
+        × (entries_of hard [] 3 lines.entry ≡ Ok es)) }
     ensures err { IfErr result (λ fault. fault ≢ ListingFault.OutOfMemory
-        → entries_of [] 3 lines.entry ≡ Err fault) }
+        → entries_of hard [] 3 lines.entry ≡ Err fault) }
 {
-    let mut reading = Reading::new(alloc)?;
+    let mut reading = Reading::new(alloc, hard)?;
     let mut n = 2;
     for text in lines {
         n += 1;
@@ -96,12 +117,17 @@ fn read_entries<T: Gathered>(alloc: Global, lines: Lines<'_>) -> Result<Reading<
 
 impl<T: Gathered> Reading<T> {
     /// The root alone.
-    fn new(alloc: Global) -> Result<Reading<T>, ListingFault>
-        ensures ok { IfOk result (λ reading. Gathers (T.content reading.tree) reading.greatest []) }
+    fn new(alloc: Global, hard: bool) -> Result<Reading<T>, ListingFault>
+        ensures ok { IfOk result (λ reading. Gathers hard (T.content reading.tree) reading.greatest []) }
+        ensures hard { IfOk result (λ reading. reading.hard ≡ hard) }
         ensures err { OnErr result (result ≡ Err ListingFault.OutOfMemory) }
     {
         match T::root_alone(alloc) {
-            Ok(tree) => Ok(Reading { tree, greatest: 0 }),
+            Ok(tree) => Ok(Reading {
+                hard,
+                tree,
+                greatest: 0,
+            }),
             Err(OutOfMemory) => Err(ListingFault::OutOfMemory),
         }
     }
@@ -109,13 +135,17 @@ impl<T: Gathered> Reading<T> {
     /// Reads line `n`, which comes after those read so far.
     fn read(&mut self, alloc: Global, n: u32, text: &[u8]) -> Result<(), ListingFault>
         requires { (before : ℕ)
-            × IsGathered (T.content self.old.tree) self.old.greatest before × (n ≡ before + 1) }
+            × IsGathered self.old.hard (T.content self.old.tree) self.old.greatest before
+            × (n ≡ before + 1) }
         ensures room { OnOk result (n ≤ MOST_LINES) }
-        ensures exact { (es : List Said) → Gathers (T.content self.old.tree) self.old.greatest es
+        ensures hard { self.new.hard ≡ self.old.hard }
+        ensures exact { (es : List Said)
+            → Gathers self.old.hard (T.content self.old.tree) self.old.greatest es
             → n ≡ length es + 3 → MatchResult result
-            (λ _. (e : Said) × (entry_of es n text.now ≡ Ok e)
-            × Gathers (T.content self.new.tree) self.new.greatest (es ++ e ∷ []))
-            (λ fault. fault ≢ ListingFault.OutOfMemory → entry_of es n text.now ≡ Err fault) }
+            (λ _. (e : Said) × (entry_of self.old.hard es n text.now ≡ Ok e)
+            × Gathers self.old.hard (T.content self.new.tree) self.new.greatest (es ++ e ∷ []))
+            (λ fault. fault ≢ ListingFault.OutOfMemory
+            → entry_of self.old.hard es n text.now ≡ Err fault) }
     {
         let entry = self.entry(alloc, n, text)?;
         if self.tree.look(entry.parent, &entry.name).is_some() {
@@ -133,12 +163,14 @@ impl<T: Gathered> Reading<T> {
 
     /// What line `n` says, whether or not its name is free and there is room for it.
     fn entry(&self, alloc: Global, n: u32, text: &[u8]) -> Result<Entry, ListingFault>
-        ensures { (es : List Said) → Gathers (T.content self.now.tree) self.now.greatest es
+        ensures { (es : List Said)
+            → Gathers self.now.hard (T.content self.now.tree) self.now.greatest es
             → MatchResult result
-            (λ e. entry_of es n text.now ≡ admitted es n (said e))
-            (λ fault. fault ≢ ListingFault.OutOfMemory → entry_of es n text.now ≡ Err fault) }
+            (λ e. entry_of self.now.hard es n text.now ≡ admitted es n (said e))
+            (λ fault. fault ≢ ListingFault.OutOfMemory
+            → entry_of self.now.hard es n text.now ≡ Err fault) }
     {
-        let Some(line) = read_line(text) else {
+        let Some(line) = read_line(self.hard, text) else {
             return Err(ListingFault::BadLine(n));
         };
         let Some(number) = number_after(self.greatest, line.number) else {
@@ -150,14 +182,42 @@ impl<T: Gathered> Reading<T> {
         let Ok(name) = Name::read(line.name) else {
             return Err(ListingFault::BadName(n));
         };
-        let target = target_of(alloc, n, &line)?;
+        let (node, made) = self.node_of(alloc, n, number, &line)?;
         Ok(Entry {
             number,
             parent,
             name,
-            kind: line.kind,
-            target,
+            node,
+            made,
         })
+    }
+
+    /// The node of the row that line `n` says, and what the line makes under its number.
+    fn node_of(
+        &self,
+        alloc: Global,
+        n: u32,
+        number: u32,
+        line: &Line<'_>,
+    ) -> Result<(NodeId, Option<Made>), ListingFault>
+        ensures { (es : List Said)
+            → Gathers self.now.hard (T.content self.now.tree) self.now.greatest es
+            → MatchResult result
+            (λ found. node_of es n number (line_read line.now) line.now.kind
+            ≡ Ok (found.0, option_map said_node found.1))
+            (λ fault. fault ≢ ListingFault.OutOfMemory
+            → node_of es n number (line_read line.now) line.now.kind ≡ Err fault) }
+    {
+        match line.kind {
+            None => match other_in(&self.tree, line.last) {
+                Some(node) => Ok((node, None)),
+                None => Err(ListingFault::BadNode(n)),
+            },
+            Some(kind) => {
+                let target = target_of(alloc, n, kind, line)?;
+                Ok((NodeId::new(number), Some(Made { kind, target })))
+            }
+        }
     }
 }
 
@@ -177,15 +237,37 @@ fn dir_in<T: FileTree>(tree: &T, text: &[u8]) -> Option<NodeId>
     (tree.kind(id) == Some(Kind::Dir)).then_some(id)
 }
 
-/// The target of line `n`, which a link has and nothing else.
-fn target_of(alloc: Global, n: u32, line: &Line<'_>) -> Result<Option<Vec<u8>>, ListingFault>
-    ensures ok { IfOk result (λ target. node_of n (line_read line.now) line.now.kind ≡ Ok (record { kind = line.now.kind; target = option_map (λ t. t.items) target })) }
-    ensures err { IfErr result (λ fault. fault ≢ ListingFault.OutOfMemory → node_of n (line_read line.now) line.now.kind ≡ Err fault) }
+/// The node of the tree, and no directory, whose number a text writes.
+fn other_in<T: FileTree>(tree: &T, text: &[u8]) -> Option<NodeId>
+    ensures { result
+        ≡ only_if (λ x. is_living (T.content tree.now) x && not (is_dir (T.content tree.now) x))
+        (number_within 1 highest_listed text.now) }
 {
-    if line.kind != Kind::Link {
+    let id = NodeId::new(number_within(1, HIGHEST_LISTED, text)?);
+    match tree.kind(id) {
+        None | Some(Kind::Dir) => None,
+        Some(_) => Some(id),
+    }
+}
+
+/// The target of line `n`, which makes a node of this kind: a link has one, and nothing else.
+fn target_of(
+    alloc: Global,
+    n: u32,
+    kind: Kind,
+    line: &Line<'_>,
+) -> Result<Option<Vec<u8>>, ListingFault>
+    ensures ok { IfOk result (λ target. (es : List Said) (number : ℕ)
+        → node_of es n number (line_read line.now) (Some kind)
+        ≡ Ok (number, Some (record { kind = kind; target = option_map (λ t. t.items) target }))) }
+    ensures err { IfErr result (λ fault. fault ≢ ListingFault.OutOfMemory
+        → (es : List Said) (number : ℕ)
+        → node_of es n number (line_read line.now) (Some kind) ≡ Err fault) }
+{
+    if kind != Kind::Link {
         return Ok(None);
     }
-    match unspelled(alloc, line.target) {
+    match unspelled(alloc, line.last) {
         Ok(Some(target)) if is_target(target.as_slice()) => Ok(Some(target)),
         Ok(_) => Err(ListingFault::BadTarget(n)),
         Err(_) => Err(ListingFault::OutOfMemory),

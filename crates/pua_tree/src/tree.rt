@@ -5,8 +5,8 @@ use crate::name::Name;
 use crate::node::{Kind, NodeId};
 use std::alloc::Global;
 
-/// How many nodes may live in a tree, the root among them.
-pub const MOST_LIVING: usize = 65_535;
+/// How many names a tree may have, the root counted as one: its rows are fewer than this.
+pub const MOST_NAMES: usize = 65_535;
 
 /// The number that no node is given: those of a tree's nodes are below it.
 pub const NUMBER_END: u32 = 4_294_967_295;
@@ -16,7 +16,7 @@ pub const NUMBER_END: u32 = 4_294_967_295;
 pub trait FileTree {
     ghost use Rattle.std.specs.Prelude.{◌≡◌, Ok, Err, IsTrue, IfOk, IfErr, OnErr, MatchResult, option_copied};
     ghost use Rattle.pua_tree.specs.Tree.{Tree, WellFormed, kind_at, look, parent, target_at, target_fits, is_empty, names};
-    ghost use Rattle.pua_tree.specs.Edits.{Refuses, add, cut, shift};
+    ghost use Rattle.pua_tree.specs.Edits.{Refuses, add, tie, cut, shift};
 
     /// What the tree holds.
     ghost content: { Self → Tree };
@@ -55,8 +55,8 @@ pub trait FileTree {
     /// Adds a node under this name, and answers its number, which is the next one. A link comes with
     /// its target, and no other kind with any. The faults, of which the first that holds is answered:
     /// `NotDir` where `dir` is no living directory, `Taken` where it has the name already, `Full`
-    /// where 65,535 nodes are living, the root among them, or the next number is 4,294,967,295, and
-    /// `OutOfMemory`. After each of them the tree is as it was.
+    /// where the tree has 65,535 names, the root counted as one, or the next number is
+    /// 4,294,967,295, and `OutOfMemory`. After each of them the tree is as it was.
     fn add(
         &mut self,
         dir: NodeId,
@@ -67,6 +67,16 @@ pub trait FileTree {
         requires { IsTrue (target_fits kind (option_copied target)) }
         ensures exact { let rule = add (content self.old) dir name (record { kind = kind; target = option_copied target.entry }) in
             MatchResult result (λ id. rule ≡ Ok (id, content self.new)) (Refuses rule) }
+        ensures unchanged { OnErr result (content self.new ≡ content self.old) };
+
+    /// Gives a living node that is no directory a further name, as a hard link does; it takes no
+    /// number. The faults, of which the first that holds is answered: `NotDir` where `dir` is no
+    /// living directory, `Missing` where `node` is not living, `IsDir` where it is a directory,
+    /// `Taken` where `dir` has the name already, `Full` where the tree has 65,535 names, the root
+    /// counted as one, and `OutOfMemory`. After each of them the tree is as it was.
+    fn tie(&mut self, dir: NodeId, name: Name, node: NodeId) -> Result<(), TreeFault>
+        ensures exact { let rule = tie (content self.old) dir name node in
+            MatchResult result (λ _. rule ≡ Ok (content self.new)) (Refuses rule) }
         ensures unchanged { OnErr result (content self.new ≡ content self.old) };
 
     /// Takes a row away, and its node with its last row, and answers the node's number. The faults,

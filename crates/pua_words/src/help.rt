@@ -28,13 +28,15 @@ pub(crate) const AFTER: &str = "Print only what comes after this pair";
 /// The formats of both inputs.
 pub(crate) const INPUTS: &str = "\
 TREE has a line for each directory, file, program and link; numbers rise:
-  tree 1
+  tree 2
   0 dir
   1 dir 0 etc
   2 file 1 passwd
   3 prog 0 sh
   4 link 0 conf etc
+  5 hard 0 users 2
 A line is NUMBER KIND PARENT NAME, and for a link its target after the name.
+A `hard` line is a further name, here /users, of the node of an earlier line.
 
 SCRIPT has a line for each call: a process, the call, and its arguments.
   1 unveil /etc r

@@ -1,9 +1,10 @@
-//! The words of the command line, and the help that they can ask for: the one crate that calls
-//! `clap`.
+//! The words of the command line, and the help and the version that they can ask for: the one crate
+//! that calls `clap`.
 #![tactic(auto)]
 
 mod command;
 mod help;
+mod version;
 mod words;
 
 pub use command::{AuditWords, Command, Text};

@@ -5,6 +5,7 @@ ghost use Rattle.pua_words.specs.Commands.{AsksSoundly, IsProcessNumber};
 
 use crate::command::{AuditWords, Command, Text};
 use crate::help;
+use crate::version::VERSION;
 use clap::error::ErrorKind;
 use clap::{Arg, ArgAction, ArgMatches, Error, value_parser};
 use pua_audit::Base;
@@ -18,8 +19,8 @@ pub(crate) const MOST_PROCESS: u32 = 999_999;
 pub enum Stop {
     /// The words are not those of any command.
     Usage,
-    /// Help was asked for, and is this text.
-    Help(String),
+    /// Help or the version was asked for, and is this text.
+    Display(String),
     /// A growth of memory was refused.
     OutOfMemory,
 }
@@ -53,6 +54,7 @@ fn pua_command<'a>(alloc: Global) -> Result<clap::Command<'a>, AllocError> {
     clap::Command::new(alloc, "pua")
         .no_binary_name(true)
         .bin_name("pua")?
+        .version(VERSION)
         .about(help::PUA)
         .after_help(help::INPUTS)
         .subcommand_required(true)
@@ -110,7 +112,8 @@ fn base<'a>(alloc: Global) -> Arg<'a> {
     Arg::new(alloc, "base")
         .long("base")
         .action(ArgAction::Set)
-        .value_name("BASE")
+        .value_name("root|cwd")
+        .hide_possible_values(true)
         .help(help::BASE)
         .default_value("root")
         .value_parser(["root", "cwd"].as_slice())
@@ -141,8 +144,8 @@ fn script<'a>(alloc: Global) -> Arg<'a> {
 fn stop_of(alloc: Global, error: &Error) -> Stop {
     match error.kind() {
         ErrorKind::OutOfMemory => Stop::OutOfMemory,
-        ErrorKind::DisplayHelp => match error.to_string(alloc) {
-            Ok(text) => Stop::Help(text),
+        ErrorKind::DisplayHelp | ErrorKind::DisplayVersion => match error.to_string(alloc) {
+            Ok(text) => Stop::Display(text),
             Err(_) => Stop::OutOfMemory,
         },
         _ => Stop::Usage,

@@ -1,21 +1,26 @@
-use Rattle.std.proofs.Common.{◌≡◌, ◌∷◌, refl, rules}
+use Rattle.std.proofs.Common.{◌≡◌, ◌∷◌, ◌∙◌, refl, rules}
 use Rattle.std.proofs.lemmas.Result.{err_from_is_err_and}
 use Rattle.pua_tree.proofs.SoFar.{one_more, one_stops, still_gathered}
 use Rattle.pua_tree.proofs.listing.read_entries.Goals as goal
 
 pub read-requires : goal.read-requires
-read-requires g c = still_gathered c.args.lines _ c.loop-text.n _ _ c.loop-text.invariant
+read-requires g c = rw c.loop-text.invariant.0 (still_gathered c.args.hard c.args.lines _ c.loop-text.n _ _ c.loop-text.invariant.1)
 
 pub loop-text-preserved : goal.loop-text-preserved
 loop-text-preserved g c =
     let next : c.loop-text.text-iterator ≡ c.in-Some.text.now ∷ c.next.new.self = search rules in
     let held = g.T.FileTree.content in
-    one_more c.args.lines _ _ c.loop-text.n _ (held c.loop-text.reading.tree) (held c.read.new.self.tree) c.loop-text.reading.greatest c.read.new.self.greatest c.in-Some.text.now
-    c.loop-text.invariant next refl c.in_ok-read.ensures.room c.in_ok-read.ensures.exact
+    let same : c.loop-text.reading.hard ≡ c.args.hard = c.loop-text.invariant.0 in
+    let exact = rw same at c.in_ok-read.ensures.exact in (
+      c.in_ok-read.ensures.hard ∙ same,
+      one_more c.args.hard c.args.lines _ _ c.loop-text.n _ (held c.loop-text.reading.tree) (held c.read.new.self.tree) c.loop-text.reading.greatest c.read.new.self.greatest c.in-Some.text.now
+          c.loop-text.invariant.1 next refl c.in_ok-read.ensures.room exact,
+    )
 
 pub returns-in_err-read-clause-err : goal.returns-in_err-read-clause-err
 returns-in_err-read-clause-err g c =
     let next : c.loop-text.text-iterator ≡ c.in-Some.text.now ∷ c.next.new.self = search rules in
     let failed = err_from_is_err_and c.from_residual-in_err-read.result c.from_residual-in_err-read.ensures.1 in
     let held = g.T.FileTree.content in
-    rw (failed.1, failed.2) (λ other. one_stops c.args.lines _ _ c.loop-text.n _ (held c.loop-text.reading.tree) c.loop-text.reading.greatest c.in-Some.text.now _ c.loop-text.invariant next refl (λ es h count. c.in_err-read.ensures.exact es h count other))
+    let exact = rw c.loop-text.invariant.0 at c.in_err-read.ensures.exact in
+    rw (failed.1, failed.2) (λ other. one_stops c.args.hard c.args.lines _ _ c.loop-text.n _ (held c.loop-text.reading.tree) c.loop-text.reading.greatest c.in-Some.text.now _ c.loop-text.invariant.1 next refl (λ es h count. exact es h count other))

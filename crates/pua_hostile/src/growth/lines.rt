@@ -1,0 +1,113 @@
+//! An audit that is begun once more where a growth was refused, and lists its lines whole whatever
+//! is refused then.
+
+ghost use Rattle.std.specs.Prelude.{◌≡◌, IfOk};
+
+use crate::LISTING;
+use crate::growth::readings::tree_read;
+use anyhow::{Result, anyhow};
+use pua_audit::{Audit, AuditFault, Base, Line};
+use pua_path::Counted;
+use pua_policy::{Call, Perms, Place, Process};
+use pua_tree::{ListTree, Name, NodeId, read_listing};
+use std::alloc::Global;
+
+/// The reach of a process that may only read one file.
+const LINES: [(&[u8], Call); 12] = [
+    (b"/../etc/passwd", Call::Stat),
+    (b"/../etc/passwd", Call::Lstat),
+    (b"/../etc/passwd", Call::OpenRead),
+    (b"/etc/passwd", Call::Stat),
+    (b"/etc/passwd", Call::Lstat),
+    (b"/etc/passwd", Call::OpenRead),
+    (b"/t/up/passwd", Call::Stat),
+    (b"/t/up/passwd", Call::Lstat),
+    (b"/t/up/passwd", Call::OpenRead),
+    (b"/tmp/up/passwd", Call::Stat),
+    (b"/tmp/up/passwd", Call::Lstat),
+    (b"/tmp/up/passwd", Call::OpenRead),
+];
+
+/// Whether an audit that is begun lists its lines.
+pub(crate) fn hold(alloc: Global, again: &mut u32) -> Result<bool> {
+    let tree = tree_read(alloc, LISTING, again)?;
+    let process = reader(alloc)?;
+    match begun_again(alloc, &tree, &process, again) {
+        Ok(mut audit) => Ok(is_listed(&tree, &mut audit)),
+        Err(fault) => Err(anyhow!("{fault}")),
+    }
+}
+
+fn begun_again(
+    alloc: Global,
+    tree: &ListTree,
+    process: &Process,
+    again: &mut u32,
+) -> Result<Audit, AuditFault>
+    ensures { IfOk result (λ audit. audit.tree ≡ tree.now) }
+{
+    match begun(alloc, tree, process) {
+        Err(AuditFault::OutOfMemory) => {
+            *again = again.saturating_add(1);
+            begun(alloc, tree, process)
+        }
+        answer => answer,
+    }
+}
+
+/// How an audit is listed: refused before the first line, or whole, or otherwise. It takes memory
+/// before the first line alone.
+pub(crate) fn listed(alloc: Global) -> &'static str {
+    let (Ok(tree), Ok(process)) = (read_listing(alloc, LISTING), reader(alloc)) else {
+        return "refused";
+    };
+    match begun(alloc, &tree, &process) {
+        Ok(mut audit) => {
+            if is_listed(&tree, &mut audit) {
+                "whole"
+            } else {
+                "wrong"
+            }
+        }
+        Err(AuditFault::OutOfMemory) => "refused",
+        Err(_) => "wrong",
+    }
+}
+
+/// A locked process that may read one file.
+fn reader(alloc: Global) -> Result<Process> {
+    let Ok(name) = Name::read(b"passwd") else {
+        return Err(anyhow!("no name"));
+    };
+    let mut process = Process::new(alloc).map_err(|fault| anyhow!("{fault}"))?;
+    process
+        .unveil_at(Place::Slot(NodeId::new(1), name), Perms::READ)
+        .map_err(|fault| anyhow!("{fault}"))?;
+    process.lock();
+    Ok(process)
+}
+
+fn begun(alloc: Global, tree: &ListTree, process: &Process) -> Result<Audit, AuditFault>
+    ensures { IfOk result (λ audit. audit.tree ≡ tree.now) }
+{
+    let mut probe = Counted::new(tree);
+    Audit::begin(alloc, &mut probe, process, Base::Root, &[], 3, None)
+}
+
+/// Whether an audit lends each of the lines in turn, and then none.
+fn is_listed(tree: &ListTree, audit: &mut Audit) -> bool
+    requires { audit.old.tree ≡ tree.now }
+{
+    let mut probe = Counted::new(tree);
+    for (path, call) in &LINES {
+        if !is_line(audit.next_line(&mut probe), path, *call) {
+            return false;
+        }
+    }
+    audit.next_line(&mut probe).is_none()
+}
+
+/// Whether a line was lent, and is of this path and call.
+fn is_line(line: Option<Line<'_>>, path: &[u8], call: Call) -> bool {
+    line.is_some_and(|line| line.path == path && line.call == call)
+}

@@ -1,0 +1,57 @@
+//! What can be seen of processes and worlds, as a text: before and after a refusal it is the same.
+
+ghost use Rattle.std.specs.Prelude.{◌≡◌};
+
+use crate::listed::listing_of;
+use anyhow::{Result, anyhow};
+use pua_audit::{Audit, Base};
+use pua_path::Counted;
+use pua_policy::Process;
+use pua_script::World;
+use pua_tree::ListTree;
+use std::alloc::Global;
+
+/// Processes have numbers up to this one, in the worlds that are looked at here.
+const PROCESSES: u32 = 3;
+
+/// All lines that an audit has still to lend: each path in plain bytes, and the call behind a blank.
+fn lines_of(alloc: Global, tree: &ListTree, audit: &mut Audit) -> Result<Vec<u8>>
+    requires { audit.old.tree ≡ tree.now }
+{
+    let mut lines = Vec::new(alloc);
+    let mut probe = Counted::new(tree);
+    while let Some(line) = audit.next_line(&mut probe) {
+        lines.extend_from_slice(line.path)?;
+        lines.push(b' ')?;
+        lines.extend_from_slice(line.call.name().as_bytes())?;
+        lines.push(b'\n')?;
+    }
+    Ok(lines)
+}
+
+/// The working directory of a process, whether it is locked or has ended, and its reach by paths of
+/// two components, one of which may be a name that nothing has.
+pub(crate) fn process_seen(alloc: Global, tree: &ListTree, process: &Process) -> Result<Vec<u8>> {
+    let mut probe = Counted::new(tree);
+    let begun = Audit::begin(alloc, &mut probe, process, Base::Root, &[b"new"], 2, None);
+    let mut audit = begun.map_err(|fault| anyhow!("{fault}"))?;
+    let mut text = lines_of(alloc, tree, &mut audit)?;
+    let dir = process.dir().number();
+    let (locked, ended) = (process.locked(), process.ended());
+    let front = format!(in alloc; "in {dir}, locked {locked}, ended {ended}\n")?;
+    text.extend_from_slice(front.as_bytes())?;
+    Ok(text)
+}
+
+/// The listing of a world's tree, and what can be seen of each of its processes.
+pub(crate) fn world_seen(alloc: Global, world: &World<ListTree>) -> Result<Vec<u8>> {
+    let mut text = listing_of(alloc, world.tree())?;
+    for number in 1..=PROCESSES {
+        if let Some(process) = world.process(number) {
+            let seen = process_seen(alloc, world.tree(), process)?;
+            text.extend_from_slice(seen.as_slice())?;
+        }
+        text.extend_from_slice(b"process\n")?;
+    }
+    Ok(text)
+}

@@ -1,0 +1,103 @@
+//! Sinks, texts and the whole program, each once more where a growth was refused: nothing was written
+//! by the first call, and the second writes everything.
+
+use crate::LISTING;
+use anyhow::{Result, anyhow};
+use pua_audit::Base;
+use pua_tool::{
+    DONE, Job, MEMORY, MemoryInputs, MemorySink, Sink, ToolFault, audit_to, command, run_to,
+};
+use std::alloc::Global;
+
+/// A script of a process that may then read one file alone.
+const SCRIPT: &[u8] = b"1 unveil /etc/passwd r\n1 unveil - -\n";
+
+/// The answers to it.
+const RUN: &[u8] = b"1 ok\n2 ok\n";
+
+/// Its audit.
+const AUDIT: &[u8] =
+    b"1 ok\n2 ok\nreach 1\n/../etc/passwd stat\n/../etc/passwd lstat\n/../etc/passwd open-r\n/etc/passwd stat\n/etc/passwd lstat\n/etc/passwd open-r\n/t/up/passwd stat\n/t/up/passwd lstat\n/t/up/passwd open-r\n/tmp/up/passwd stat\n/tmp/up/passwd lstat\n/tmp/up/passwd open-r\n";
+
+/// What the audit is asked for.
+const JOB: Job<'static> = Job {
+    limit: 3,
+    process: 1,
+    base: Base::Root,
+    after: None,
+    candidates: &[],
+};
+
+/// For how many bytes a sink has room.
+const ROOM: usize = 512;
+
+/// Whether all is written as it has to be.
+pub(crate) fn hold(alloc: Global, again: &mut u32) -> Result<bool> {
+    Ok(
+        is_filled(alloc, again)?
+            && is_run(alloc, again)?
+            && is_audited(alloc, again)?
+            && is_done(alloc, again)?,
+    )
+}
+
+fn sink_made(alloc: Global, again: &mut u32) -> Result<MemorySink> {
+    match MemorySink::new(alloc, ROOM) {
+        Ok(sink) => Ok(sink),
+        Err(_) => {
+            *again = again.saturating_add(1);
+            MemorySink::new(alloc, ROOM).map_err(|fault| anyhow!("{fault}"))
+        }
+    }
+}
+
+/// Whether a sink has its room, and no more.
+fn is_filled(alloc: Global, again: &mut u32) -> Result<bool> {
+    let mut sink = sink_made(alloc, again)?;
+    let is_taken = sink.put(&[7; ROOM]) == Ok(ROOM) && sink.put(&[7]).is_err();
+    Ok(is_taken && sink.bytes() == [7u8; ROOM].as_slice())
+}
+
+/// Whether a run is written whole.
+fn is_run(alloc: Global, again: &mut u32) -> Result<bool> {
+    let mut sink = sink_made(alloc, again)?;
+    match run_to(alloc, LISTING, SCRIPT, &mut sink) {
+        Err(ToolFault::OutOfMemory) => {
+            *again = again.saturating_add(1);
+            let is_empty = sink.bytes().is_empty();
+            let answer = run_to(alloc, LISTING, SCRIPT, &mut sink);
+            Ok(is_empty && answer == Ok(()) && sink.bytes() == RUN)
+        }
+        answer => Ok(answer == Ok(()) && sink.bytes() == RUN),
+    }
+}
+
+/// Whether an audit is written whole.
+fn is_audited(alloc: Global, again: &mut u32) -> Result<bool> {
+    let mut sink = sink_made(alloc, again)?;
+    match audit_to(alloc, LISTING, SCRIPT, &JOB, &mut sink) {
+        Err(ToolFault::OutOfMemory) => {
+            *again = again.saturating_add(1);
+            let is_empty = sink.bytes().is_empty();
+            let answer = audit_to(alloc, LISTING, SCRIPT, &JOB, &mut sink);
+            Ok(is_empty && answer == Ok(()) && sink.bytes() == AUDIT)
+        }
+        answer => Ok(answer == Ok(()) && sink.bytes() == AUDIT),
+    }
+}
+
+/// Whether the program writes the audit whole, and reports the refusal alone where there is one.
+fn is_done(alloc: Global, again: &mut u32) -> Result<bool> {
+    let words = ["audit", "--limit", "3", "T", "S"];
+    let entries = [("T", LISTING), ("S", SCRIPT)];
+    let mut inputs = MemoryInputs::new(&entries);
+    let (mut out, mut err) = (sink_made(alloc, again)?, sink_made(alloc, again)?);
+    let mut status = command(alloc, &words, &mut inputs, &mut out, &mut err);
+    let mut line = b"".as_slice();
+    if status == MEMORY && out.bytes().is_empty() {
+        *again = again.saturating_add(1);
+        line = b"pua: out of memory\n";
+        status = command(alloc, &words, &mut inputs, &mut out, &mut err);
+    }
+    Ok(status == DONE && out.bytes() == AUDIT && err.bytes() == line)
+}
