@@ -48,7 +48,7 @@ way_up : (t : Tree) → Sound t → (d : ℕ) → is_dir t d ≡ true → (k : �
 way_up t f d h = elim (same_number_or_other d 0) [ inl e ↦ (0, e) | inr n ↦ f.rooted d h n ]
 
 -- a number that is not living is no row's node
-no_rows : (t : Tree) → Sound t → (x : ℕ) → is_living t x ≡ false → rows_with t x ≡ 0
+pub no_rows : (t : Tree) → Sound t → (x : ℕ) → is_living t x ≡ false → rows_with t x ≡ 0
 no_rows t f x h =
     elim (rows_with t x) as (λ n. rows_with t x ≡ n → n ≡ 0) [
       | zero ↦ λ e. refl
@@ -57,7 +57,7 @@ no_rows t f x h =
     ] refl
 
 -- the next number is not living
-next_is_new : (t : Tree) → Sound t → is_living t t.next ≡ false
+pub next_is_new : (t : Tree) → Sound t → is_living t t.next ≡ false
 next_is_new t f =
     elim (node_at t t.next) as (λ o. node_at t t.next ≡ o → is_some o ≡ false) [
       | None ↦ λ e. refl
@@ -67,7 +67,7 @@ next_is_new t f =
 not_next : (t : Tree) → Sound t → (x : ℕ) → is_living t x ≡ true → x ≢ t.next
 not_next t f x h e = false≢true (sym (next_is_new t f) ∙ ap (is_living t) (sym e) ∙ h)
 
-next_not_root : (t : Tree) → Sound t → t.next ≢ 0
+pub next_not_root : (t : Tree) → Sound t → t.next ≢ 0
 next_not_root t f e = not_next t f 0 (is_living_dir t 0 f.root) (sym e)
 
 -- adding a node

@@ -92,7 +92,7 @@ pub above_row : (t : Tree) (rows : List Row) (d : ℕ) → t.rows ≡ map row_en
 above_row t rows zero e h = ap (λ o. unwrap_or (option_map (λ row. row.dir) o) 0) (root_missing t rows (passes _ (rw e at h)))
 above_row t rows (suc d) e h = rw e (ap (λ o. unwrap_or o 0) (sym (found_row rows (suc d))))
 
-with_name_is : (n : List ℕ) (ns : List (List ℕ)) → insert_key name_cmp ns n ≡ with_name n ns
+pub with_name_is : (n : List ℕ) (ns : List (List ℕ)) → insert_key name_cmp ns n ≡ with_name n ns
 with_name_is n [] = refl
 with_name_is n (m ∷ ms) =
     elim (name_cmp n m) as (λ o. match_ordering o (n ∷ m ∷ ms) (m ∷ ms) (m ∷ insert_key name_cmp ms n) ≡ by_order o (n ∷ m ∷ ms) (m ∷ ms) (m ∷ with_name n ms)) [

@@ -77,7 +77,7 @@ module _ {K : Type 0} (R : K → K → Ordering) (o : IsTotalOrder R) (exact : (
     pub put_elsewhere : (q k : K) (v : X) (es : List (K × X)) → q ≢ k → find R q (put R k v es) ≡ find R q es
     put_elsewhere q k v es n = find-put R o q k v es ∙ ap (λ b. cond b (Some v) (find R q es)) (differ q k n)
 
-    without_at : (q k : K) (es : List (K × X)) → find R q (without k es) ≡ cond (not (is_eq (R k q))) (find R q es) None
+    pub without_at : (q k : K) (es : List (K × X)) → find R q (without k es) ≡ cond (not (is_eq (R k q))) (find R q es) None
     without_at q k es = find-where_key R (λ x. not (is_eq (R k x))) q (λ x t. ap (λ y. not (is_eq (R k y))) (sym (exact q x t))) es
 
     pub without_here : (k : K) (es : List (K × X)) → find R k (without k es) ≡ None

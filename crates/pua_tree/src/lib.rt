@@ -12,7 +12,10 @@ mod list_edits;
 mod listing;
 mod name;
 mod node;
+mod slab_tree;
+mod slots;
 mod spelling;
+mod spot;
 mod tree;
 
 pub use fault::{ListingFault, NameFault, OutOfMemory, TreeFault};
@@ -23,8 +26,9 @@ pub use laws::{
 };
 pub use link_target::{MOST_TARGET, has_short_components, is_target};
 pub use list::ListTree;
-pub use listing::{HIGHEST_LISTED, MOST_LISTED, read_listing};
+pub use listing::{HIGHEST_LISTED, MOST_LISTED, read_listing, read_listing_slab};
 pub use name::Name;
 pub use node::{Kind, NodeId};
+pub use slab_tree::SlabTree;
 pub use spelling::{SpelledByte, byte_spelling, unspelled};
 pub use tree::{FileTree, MOST_NAMES, NUMBER_END};

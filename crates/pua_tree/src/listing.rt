@@ -18,6 +18,7 @@ use crate::link_target::is_target;
 use crate::list::ListTree;
 use crate::name::Name;
 use crate::node::{Kind, NodeId};
+use crate::slab_tree::SlabTree;
 use crate::spelling::unspelled;
 use crate::tree::FileTree;
 use bstr::{ByteSlice, Lines};
@@ -36,6 +37,14 @@ const MOST_LINES: u32 = MOST_LISTED + 1;
 /// that of the first line that has one; `ListingFault::OutOfMemory` comes only where a growth was
 /// refused.
 pub fn read_listing(alloc: Global, bytes: &[u8]) -> Result<ListTree, ListingFault>
+    ensures ok { IfOk result (λ tree. listing bytes.now ≡ Ok tree) }
+    ensures err { IfErr result (λ fault. fault ≢ ListingFault.OutOfMemory → listing bytes.now ≡ Err fault) }
+{
+    read_tree(alloc, bytes)
+}
+
+/// The same tree by the same rules, kept in slots that are used again.
+pub fn read_listing_slab(alloc: Global, bytes: &[u8]) -> Result<SlabTree, ListingFault>
     ensures ok { IfOk result (λ tree. listing bytes.now ≡ Ok tree) }
     ensures err { IfErr result (λ fault. fault ≢ ListingFault.OutOfMemory → listing bytes.now ≡ Err fault) }
 {

@@ -1,0 +1,124 @@
+-- What rows and numbers in maps, and nodes in slots, hold of a tree.
+use Rattle.std.specs.Prelude.{ℕ, ◌≡◌, ◌≢◌, ◌==◌, ◌+◌, ◌-◌, not, if◌then◌else◌, List, [], ◌∷◌, map, count_by, Option, Some, None, IsSome, option_map, option_and_then}
+use Rattle.std.specs.declared.cmp.Ordering.{Ordering}
+use Rattle.std.specs.Ordering.{nat_cmp, is_eq}
+use Rattle.std.specs.FinMap.{find as find_key, put}
+use Rattle.std.specs.FinMap.Entries.{where_key}
+use Rattle.indexmap.specs.IndexMap.{get, index_map_len}
+use Rattle.slab.specs.Slab.{get as slot_get, slab_len}
+use Rattle.pua_tree.specs.Tree as tree
+use Rattle.pua_tree.specs.Tree.{spot_cmp}
+use Rattle.pua_tree.specs.declared.node.Kind.TheVariants.{Dir}
+use Rattle.pua_tree.specs.declared.slots.Slots.{Slots}
+use Rattle.pua_tree.specs.declared.slots.Node.{Node}
+use Rattle.pua_tree.specs.declared.slots.Standing.{Standing}
+use Rattle.pua_tree.specs.contracts.spot.SpotPartialEq.TheImpl.{ghosts as spot_ghosts}
+use Rattle.pua_tree.specs.contracts.node.NodeIdPartialEq.TheImpl.{ghosts as number_ghosts}
+
+abbrev pub made_of : Node → tree.Node
+made_of node = record { kind = node.kind; target = option_map (λ target. target.items) node.target }
+
+-- the node in the row at a spot
+abbrev pub row_at : Slots → tree.Spot → Option ℕ
+row_at s at = get spot_ghosts.eq s.rows (record { dir = at.0; name = at.1 })
+
+-- the slot of a number
+abbrev pub slot_of : Slots → ℕ → Option ℕ
+slot_of s x = get number_ghosts.eq s.numbers x
+
+-- the node of a number
+abbrev pub node_in : Slots → ℕ → Option Node
+node_in s x = option_and_then (slot_get s.nodes) (slot_of s x)
+
+-- entries in the order of their keys: of entries of one key the first counts, and one without a value stands for none
+abbrev pub with_entry : {K X : Type 0} → (K → K → Ordering) → K → Option X → List (K × X) → List (K × X)
+with_entry cmp k None es = where_key cmp (λ other. not (is_eq (cmp k other))) es
+with_entry cmp k (Some value) es = put cmp k value es
+
+abbrev pub in_order : {K X : Type 0} → (K → K → Ordering) → List (K × Option X) → List (K × X)
+in_order cmp [] = []
+in_order cmp (e ∷ es) = with_entry cmp e.0 e.1 (in_order cmp es)
+
+-- the rows and the nodes that are held, as the tree has them
+abbrev pub held_rows : Slots → List (tree.Spot × ℕ)
+held_rows s = in_order spot_cmp (map {B = tree.Spot × Option ℕ} (λ e. ((e.0.dir, e.0.name), Some e.1)) s.rows.entries)
+
+abbrev pub held_nodes : Slots → List (ℕ × tree.Node)
+held_nodes s = in_order nat_cmp (map {B = ℕ × Option tree.Node} (λ e. (e.0, option_map made_of (slot_get s.nodes e.1))) s.numbers.entries)
+
+abbrev pub held_in_slots : Slots → ℕ → tree.Tree
+held_in_slots s next = record { rows = held_rows s; nodes = held_nodes s; next = next }
+
+-- how many rows a directory has
+abbrev pub rows_in : List (tree.Spot × ℕ) → ℕ → ℕ
+rows_in rows dir = count_by (λ row. row.0.0 == dir) rows
+
+-- how many names a node has
+abbrev pub names_of : List (tree.Spot × ℕ) → ℕ → ℕ
+names_of rows x = count_by (λ row. row.1 == x) rows
+
+-- each number has a slot of its own, in which a node is, and no other slot has one
+pub record IsFiled (s : Slots) : Type 0 where
+  pub filled : (x slot : ℕ) → slot_of s x ≡ Some slot → IsSome (slot_get s.nodes slot)
+  pub apart : (x y slot : ℕ) → slot_of s x ≡ Some slot → slot_of s y ≡ Some slot → x ≡ y
+  pub no_other : slab_len s.nodes ≡ index_map_len s.numbers
+
+-- each node knows how it stands in the rows
+pub record StandsIn (rows : List (tree.Spot × ℕ)) (s : Slots) : Type 0 where
+  pub rows_counted : (x : ℕ) (node : Node) → node_in s x ≡ Some node → node.standing.rows ≡ rows_in rows x
+  pub names_counted : (x : ℕ) (node : Node) → node_in s x ≡ Some node → node.standing.names ≡ names_of rows x
+  pub dir_above : (at : tree.Spot) (x : ℕ) (node : Node) → find_key spot_cmp at rows ≡ Some x → node_in s x ≡ Some node → node.kind ≡ Dir → node.standing.above ≡ at.0
+  pub above_root : (node : Node) → node_in s 0 ≡ Some node → node.standing.above ≡ 0
+
+-- what is true of rows and nodes in slots after each of their changes
+pub record IsKept (s : Slots) : Type 0 where
+  pub filed : IsFiled s
+  pub standing : StandsIn (held_rows s) s
+
+-- a node that stands otherwise
+abbrev pub restood : Standing → Node → Node
+restood standing node = record node { standing = standing }
+
+-- standings have changed so, and nothing else
+pub record Restands (old new : Slots) (change : ℕ → Standing → Standing) : Type 0 where
+  pub rows : new.rows ≡ old.rows
+  pub numbers : new.numbers ≡ old.numbers
+  pub filed : IsFiled new
+  pub nodes : (x : ℕ) → node_in new x ≡ option_map (λ node. restood (change x node.standing) node) (node_in old x)
+
+abbrev pub one_at : ℕ → ℕ → ℕ
+one_at x y = if x == y then 1 else 0
+
+-- a standing written at one node
+abbrev pub standing_set : ℕ → Standing → ℕ → Standing → Standing
+standing_set at written x standing = if at == x then written else standing
+
+-- one row more, or fewer, in a directory
+abbrev pub row_gained : ℕ → ℕ → Standing → Standing
+row_gained dir x standing = record standing { rows = standing.rows + one_at dir x }
+
+abbrev pub row_lost : ℕ → ℕ → Standing → Standing
+row_lost dir x standing = record standing { rows = standing.rows - one_at dir x }
+
+-- one name more of a node, in a directory, or one name fewer
+abbrev pub name_gained : ℕ → ℕ → ℕ → Standing → Standing
+name_gained dir node x standing = record standing { names = standing.names + one_at node x; above = if node == x then dir else standing.above }
+
+abbrev pub name_lost : ℕ → ℕ → Standing → Standing
+name_lost node x standing = record standing { names = standing.names - one_at node x }
+
+-- a node that may come to stand in a further row: not the root, and a directory only where it stands in none
+pub record MayStand (s : Slots) (x : ℕ) : Type 0 where
+  pub not_root : x ≢ 0
+  pub dir_once : (node : Node) → node_in s x ≡ Some node → node.kind ≡ Dir → names_of (held_rows s) x ≡ 0
+
+-- a number that no node has, and no row names
+pub record IsNew (s : Slots) (x : ℕ) : Type 0 where
+  pub no_slot : slot_of s x ≡ None
+  pub no_rows : rows_in (held_rows s) x ≡ 0
+  pub no_names : names_of (held_rows s) x ≡ 0
+
+-- nodes with one more, if one is made
+abbrev pub with_made : ℕ → Option tree.Node → List (ℕ × tree.Node) → List (ℕ × tree.Node)
+with_made x None nodes = nodes
+with_made x (Some made) nodes = put nat_cmp x made nodes

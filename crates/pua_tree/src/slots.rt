@@ -1,0 +1,381 @@
+//! Rows by their spots, and nodes in slots that are used again, found by their numbers.
+
+use crate::gathered::Made;
+use crate::name::Name;
+use crate::node::{Kind, NodeId};
+use crate::spot::Spot;
+use indexmap::IndexMap;
+use slab::Slab;
+use std::alloc::{AllocError, Global};
+use std::collections::BTreeSet;
+
+/// A living node, where it leads if it is a link, and how it stands in the tree.
+#[derive(Drop)]
+pub(crate) struct Node {
+    pub(crate) kind: Kind,
+    pub(crate) target: Option<Vec<u8>>,
+    pub(crate) standing: Standing,
+}
+
+/// How a node stands in the tree: in which directory it came to stand last, how many rows a
+/// directory has, and how many names the node has.
+#[derive(Clone, Copy)]
+pub(crate) struct Standing {
+    pub(crate) above: NodeId,
+    pub(crate) rows: usize,
+    pub(crate) names: usize,
+}
+
+/// Rows and nodes. A node's number is never given again; its slot is.
+#[derive(Drop)]
+pub(crate) struct Slots {
+    pub(crate) rows: IndexMap<Spot, NodeId>,
+    pub(crate) numbers: IndexMap<NodeId, usize>,
+    pub(crate) nodes: Slab<Node>,
+}
+
+ghost use Rattle.std.specs.Prelude.{ℕ, ◌≡◌, ◌≢◌, ◌<◌, ◌≤◌, ◌+◌, ◌==◌, ◌^◌, Some, None, IsSome, IfSome, IfOk, OnOk, if◌then◌else◌, option_copied, option_map, option_and_then, length, map, not};
+ghost use Rattle.std.specs.Ordering.{is_eq, nat_cmp};
+ghost use Rattle.std.specs.FinMap.{put};
+ghost use Rattle.std.specs.FinMap.Entries.{where_key};
+ghost use Rattle.indexmap.specs.IndexMap.{spare};
+ghost use Rattle.slab.specs.Slab.{HasRoomFor};
+ghost use Rattle.pua_tree.specs.declared.slots.Node.{Node};
+ghost use Rattle.pua_tree.specs.Tree.{spot_cmp, empty_tree, distinct_names};
+ghost use Rattle.pua_tree.specs.Edits.{without_unnamed};
+ghost use Rattle.pua_tree.specs.Reading.{said_node};
+ghost use Rattle.pua_tree.specs.Slots.{held_rows, held_nodes, held_in_slots, names_of, IsNew, MayStand, with_made, row_at, slot_of, node_in, IsFiled, IsKept, Restands, standing_set, row_gained, row_lost, name_gained, name_lost};
+
+impl Slots {
+    /// The node in the row of this directory and name.
+    pub(crate) fn row(&self, dir: NodeId, name: &Name) -> Option<NodeId>
+        ensures { result ≡ row_at self.now (dir, name.now) }
+    {
+        let spot = Spot { dir, name: *name };
+        self.rows.get(&spot).copied()
+    }
+
+    /// The node of this number.
+    fn node(&self, id: NodeId) -> Option<&Node>
+        ensures { option_copied result ≡ node_in self.now id }
+    {
+        let slot = self.numbers.get(&id)?;
+        self.nodes.get(*slot)
+    }
+
+    /// What the node of this number is.
+    pub(crate) fn kind(&self, id: NodeId) -> Option<Kind>
+        ensures { result ≡ option_map (λ node. node.kind) (node_in self.now id) }
+    {
+        match self.node(id) {
+            Some(node) => Some(node.kind),
+            None => None,
+        }
+    }
+
+    /// Where the node of this number leads, if it is a link.
+    pub(crate) fn target(&self, id: NodeId) -> Option<&[u8]>
+        ensures { option_copied result ≡ option_and_then (λ node. option_map (λ target. target.items) node.target) (node_in self.now id) }
+    {
+        match &self.node(id)?.target {
+            Some(target) => Some(target.as_slice()),
+            None => None,
+        }
+    }
+
+    /// The directory above a directory.
+    pub(crate) fn above(&self, dir: NodeId) -> Option<NodeId>
+        ensures { result ≡ option_map (λ node. node.standing.above) (node_in self.now dir) }
+    {
+        match self.standing(dir) {
+            Some(standing) => Some(standing.above),
+            None => None,
+        }
+    }
+
+    /// Whether no row stands in this directory.
+    pub(crate) fn has_no_row(&self, dir: NodeId) -> bool
+        ensures { IfSome (node_in self.now dir) (λ node. result ≡ (node.standing.rows == 0)) }
+    {
+        match self.standing(dir) {
+            Some(standing) => standing.rows == 0,
+            None => true,
+        }
+    }
+
+    /// How the node of this number stands.
+    fn standing(&self, id: NodeId) -> Option<Standing>
+        ensures { result ≡ option_map (λ node. node.standing) (node_in self.now id) }
+    {
+        match self.node(id) {
+            Some(node) => Some(node.standing),
+            None => None,
+        }
+    }
+
+    /// Writes how the node of this number stands.
+    fn set_standing(&mut self, id: NodeId, standing: Standing)
+        requires { IsFiled self.old }
+        ensures { Restands self.old self.new (standing_set id standing) }
+    {
+        let Some(slot) = self.numbers.get(&id).copied() else {
+            return;
+        };
+        if let Some(node) = self.nodes.get_mut(slot) {
+            node.standing = standing;
+        }
+    }
+
+    /// Counts a further row of a directory.
+    fn gain_row(&mut self, dir: NodeId)
+        requires filed { IsFiled self.old }
+        requires few { IfSome (node_in self.old dir) (λ node. node.standing.rows < 2 ^ 63) }
+        ensures { Restands self.old self.new (row_gained dir) }
+    {
+        if let Some(standing) = self.standing(dir) {
+            let rows = standing.rows + 1;
+            self.set_standing(dir, Standing { rows, ..standing });
+        }
+    }
+
+    /// Counts a row of a directory no more.
+    fn lose_row(&mut self, dir: NodeId)
+        requires filed { IsFiled self.old }
+        requires some { IfSome (node_in self.old dir) (λ node. 0 < node.standing.rows) }
+        ensures { Restands self.old self.new (row_lost dir) }
+    {
+        if let Some(standing) = self.standing(dir) {
+            let rows = standing.rows - 1;
+            self.set_standing(dir, Standing { rows, ..standing });
+        }
+    }
+
+    /// Counts a further name of a node, which is in this directory.
+    fn gain_name(&mut self, node: NodeId, dir: NodeId)
+        requires filed { IsFiled self.old }
+        requires few { IfSome (node_in self.old node) (λ node. node.standing.names < 2 ^ 63) }
+        ensures { Restands self.old self.new (name_gained dir node) }
+    {
+        if let Some(standing) = self.standing(node) {
+            let names = standing.names + 1;
+            let standing = Standing {
+                above: dir,
+                names,
+                ..standing
+            };
+            self.set_standing(node, standing);
+        }
+    }
+
+    /// Counts a name of a node no more.
+    fn lose_name(&mut self, node: NodeId)
+        requires filed { IsFiled self.old }
+        requires some { IfSome (node_in self.old node) (λ node. 0 < node.standing.names) }
+        ensures { Restands self.old self.new (name_lost node) }
+    {
+        if let Some(standing) = self.standing(node) {
+            let names = standing.names - 1;
+            self.set_standing(node, Standing { names, ..standing });
+        }
+    }
+
+    /// How many rows there are.
+    pub(crate) fn row_count(&self) -> usize
+        ensures count { result ≡ length (held_rows self.now) }
+        ensures small { result < 2 ^ 63 }
+    {
+        self.rows.len()
+    }
+
+    /// How many nodes there are.
+    pub(crate) fn node_count(&self) -> usize
+        requires { IsFiled self.now }
+        ensures { result ≡ length (held_nodes self.now) }
+    {
+        self.numbers.len()
+    }
+
+    /// Puts a row at a spot that has none.
+    pub(crate) fn put_row(&mut self, dir: NodeId, name: Name, node: NodeId)
+        requires kept { IsKept self.old }
+        requires room { 0 < spare self.old.rows }
+        requires free { row_at self.old (dir, name) ≡ None }
+        requires dir_once { MayStand self.old node }
+        ensures kept { IsKept self.new }
+        ensures rows { held_rows self.new ≡ put spot_cmp (dir, name) node (held_rows self.old) }
+        ensures nodes { held_nodes self.new ≡ held_nodes self.old }
+    {
+        let count = self.row_count();
+        prove!(count < usize::MAX);
+        self.rows.insert(Spot { dir, name }, node).unwrap();
+        self.gain_row(dir);
+        self.gain_name(node, dir);
+    }
+
+    /// Takes away the row of this directory and name, in which this node stands.
+    pub(crate) fn take_row(&mut self, dir: NodeId, name: &Name, node: NodeId)
+        requires kept { IsKept self.old }
+        requires there { row_at self.old (dir, name.now) ≡ Some node }
+        ensures kept { IsKept self.new }
+        ensures rows { held_rows self.new ≡ where_key spot_cmp (λ spot. not (is_eq (spot_cmp (dir, name.now) spot))) (held_rows self.old) }
+        ensures nodes { held_nodes self.new ≡ held_nodes self.old }
+        ensures room { spare self.old.rows ≤ spare self.new.rows }
+    {
+        let spot = Spot { dir, name: *name };
+        self.rows.swap_remove(&spot);
+        self.lose_row(dir);
+        self.lose_name(node);
+    }
+
+    /// Moves the row of this directory and name, in which this node stands, to a spot that has none.
+    pub(crate) fn move_row(
+        &mut self,
+        from: NodeId,
+        name: &Name,
+        to: NodeId,
+        new_name: Name,
+        node: NodeId,
+    )
+        requires kept { IsKept self.old }
+        requires room { 0 < spare self.old.rows }
+        requires there { row_at self.old (from, name.now) ≡ Some node }
+        requires free { row_at self.old (to, new_name) ≡ None }
+        requires not_root { node ≢ 0 }
+        requires dir_once { (n : Node) → node_in self.old node ≡ Some n → n.kind ≡ Kind.Dir → names_of (held_rows self.old) node ≡ 1 }
+        ensures kept { IsKept self.new }
+        ensures rows { held_rows self.new ≡ put spot_cmp (to, new_name) node (where_key spot_cmp (λ spot. not (is_eq (spot_cmp (from, name.now) spot))) (held_rows self.old)) }
+        ensures nodes { held_nodes self.new ≡ held_nodes self.old }
+    {
+        self.take_row(from, name, node);
+        self.put_row(to, new_name, node);
+    }
+
+    /// Puts a node under a number that no node has and no row names.
+    pub(crate) fn add_node(&mut self, id: NodeId, kind: Kind, target: Option<Vec<u8>>)
+        requires kept { IsKept self.old }
+        requires slot_room { HasRoomFor self.old.nodes 1 }
+        requires number_room { 0 < spare self.old.numbers }
+        requires new { IsNew self.old id }
+        ensures kept { IsKept self.new }
+        ensures rows { self.new.rows ≡ self.old.rows }
+        ensures nodes { held_nodes self.new ≡ put nat_cmp id (record { kind = kind; target = option_map (λ bytes. bytes.items) target }) (held_nodes self.old) }
+    {
+        let standing = Standing {
+            above: NodeId::ROOT,
+            rows: 0,
+            names: 0,
+        };
+        let slot = self.nodes.insert_reserved(Node {
+            kind,
+            target,
+            standing,
+        });
+        self.numbers.insert(id, slot).unwrap();
+    }
+
+    /// Puts the node that an entry of a listing makes, if it makes one.
+    pub(crate) fn add_made(&mut self, id: NodeId, made: Option<Made>)
+        requires kept { IsKept self.old }
+        requires slot_room { HasRoomFor self.old.nodes 1 }
+        requires number_room { 0 < spare self.old.numbers }
+        requires new { IfSome made (λ _. IsNew self.old id) }
+        ensures kept { IsKept self.new }
+        ensures rows { self.new.rows ≡ self.old.rows }
+        ensures nodes { held_nodes self.new ≡ with_made id (option_map said_node made) (held_nodes self.old) }
+    {
+        if let Some(Made { kind, target }) = made {
+            self.add_node(id, kind, target);
+        }
+    }
+
+    /// Takes the node of this number away. Its slot is the next that is used.
+    fn drop_node(&mut self, id: NodeId)
+        requires kept { IsKept self.old }
+        requires living { IsSome (slot_of self.old id) }
+        ensures kept { IsKept self.new }
+        ensures rows { self.new.rows ≡ self.old.rows }
+        ensures nodes { held_nodes self.new ≡ where_key nat_cmp (λ other. not (is_eq (nat_cmp id other))) (held_nodes self.old) }
+    {
+        let slot = self.numbers.swap_remove(&id).unwrap();
+        self.nodes.remove(slot);
+    }
+
+    /// Takes the node of this number away, if it has no name.
+    pub(crate) fn drop_unnamed(&mut self, id: NodeId)
+        requires kept { IsKept self.old }
+        requires living { IsSome (node_in self.old id) }
+        ensures kept { IsKept self.new }
+        ensures rows { self.new.rows ≡ self.old.rows }
+        ensures unnamed { (next : ℕ) → held_in_slots self.new next ≡ without_unnamed (held_in_slots self.old next) id }
+    {
+        if self
+            .standing(id)
+            .is_some_and(|standing| standing.names == 0)
+        {
+            self.drop_node(id);
+        }
+    }
+
+    /// Makes room for a further row. The only error is that memory is refused.
+    pub(crate) fn reserve_row(&mut self) -> Result<(), AllocError>
+        requires { IsKept self.old }
+        ensures kept { IsKept self.new }
+        ensures same { (next : ℕ) → held_in_slots self.new next ≡ held_in_slots self.old next }
+        ensures room { OnOk result (0 < spare self.new.rows) }
+    {
+        self.rows.reserve(1)
+    }
+
+    /// Makes room for a further row and a further node. The only error is that memory is refused.
+    pub(crate) fn reserve_node(&mut self) -> Result<(), AllocError>
+        requires { IsKept self.old }
+        ensures kept { IsKept self.new }
+        ensures same { (next : ℕ) → held_in_slots self.new next ≡ held_in_slots self.old next }
+        ensures row_room { OnOk result (0 < spare self.new.rows) }
+        ensures number_room { OnOk result (0 < spare self.new.numbers) }
+        ensures slot_room { OnOk result (HasRoomFor self.new.nodes 1) }
+    {
+        self.rows.reserve(1)?;
+        self.numbers.reserve(1)?;
+        self.nodes.reserve(1)
+    }
+
+    /// The root alone. The only error is that memory is refused.
+    pub(crate) fn root_alone(alloc: Global) -> Result<Slots, AllocError>
+        ensures kept { IfOk result IsKept }
+        ensures root { IfOk result (λ slots. held_in_slots slots 1 ≡ empty_tree) }
+    {
+        let mut slots = Slots {
+            rows: IndexMap::new(alloc),
+            numbers: IndexMap::with_capacity(alloc, 1)?,
+            nodes: Slab::with_capacity(alloc, 1)?,
+        };
+        slots.add_node(NodeId::ROOT, Kind::Dir, None);
+        Ok(slots)
+    }
+
+    /// The allocator that rows and nodes take memory from.
+    pub(crate) fn allocator(&self) -> Global {
+        *self.rows.allocator()
+    }
+
+    /// The names in the rows: each once, in the order of their bytes. The only error is that memory
+    /// is refused.
+    pub(crate) fn names(&self, alloc: Global) -> Result<Vec<Name>, AllocError>
+        ensures { IfOk result (λ all. all.items ≡ distinct_names (map (λ row. row.0.1) (held_rows self.now))) }
+    {
+        let names = self.name_set(alloc)?;
+        names.into_iter().collect(alloc)
+    }
+
+    /// The names in the rows, as a set.
+    fn name_set(&self, alloc: Global) -> Result<BTreeSet<Name>, AllocError>
+        ensures { IfOk result (λ names. names.keys ≡ distinct_names (map (λ row. row.0.1) (held_rows self.now))) }
+    {
+        let mut names = BTreeSet::new(alloc);
+        for spot in self.rows.keys().as_slice().iter().rev() {
+            names.insert(spot.name)?;
+        }
+        Ok(names)
+    }
+}
