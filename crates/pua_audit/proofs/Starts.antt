@@ -17,7 +17,7 @@ use Rattle.pua_audit.specs.declared.walk.Walk.{Walk}
 use Rattle.pua_audit.proofs.Audited.{reaches_along, closed_reaches, trails_reach}
 
 module _ (a : Terms) (sound : IsSound a) (letters : AreSound a.limit a.letters.items) where
-  audited : IsAudited (scope_in a)
+  pub audited : IsAudited (scope_in a)
   audited = record { tree = sound.tree; letters = letters.known; short = letters.short }
 
   -- one who is not open reaches nothing

@@ -13,3 +13,8 @@ pub mod Lent
 pub mod Alphabets
 pub mod Starting
 pub mod PairTexts
+pub mod Graphs
+pub mod Entries
+pub mod Live
+pub mod Table
+pub mod Rows

@@ -3,6 +3,9 @@
 ghost use Rattle.std.specs.Prelude.{◌≡◌};
 ghost use Rattle.pua_audit.specs.Limits.{candidate_limit, letter_limit};
 ghost use Rattle.pua_audit.specs.Laws.{AlphabetRises, ClosedReaches, ReachIsAlong, ReachRises, TrailsReach};
+ghost use Rattle.pua_audit.specs.Graphs.{GraphsReach, LiveStatesCount, MasksList};
+ghost use Rattle.pua_audit.specs.Entries.{EntriesStand};
+ghost use Rattle.pua_audit.specs.Table.{TablesStand};
 ghost use Rattle.pua_audit.specs.PairTexts.{ResumeTextsName};
 ghost use Rattle.pua_audit.specs.Examples.{ReachRows};
 
@@ -41,4 +44,17 @@ pub fn walk_laws()
 /// colon, and the printed path of a word over the alphabet within the limit.
 pub fn resume_text_law()
     ensures { ResumeTextsName }
+{}
+
+/// The pairs of a graph of steps that stands for what is asked of a tree and a process are those that
+/// are allowed letter by letter, and the live states are as many as its own. A letter that is followed
+/// once, with no link used before it, tells all that such a graph has of it after any number of links.
+/// A set of calls, a bit for each, lists the calls whose bits it has. The graph of a table stands for
+/// a judge where each row tells the letters of its directory.
+pub fn graph_laws()
+    ensures reach { GraphsReach }
+    ensures entries { EntriesStand }
+    ensures masks { MasksList }
+    ensures live { LiveStatesCount }
+    ensures tables { TablesStand }
 {}

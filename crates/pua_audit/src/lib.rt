@@ -18,12 +18,13 @@ mod place;
 mod resume_text;
 mod resumed;
 mod state;
+mod table;
 mod terms;
 mod walk;
 
 pub use audit::Audit;
 pub use base::Base;
 pub use fault::AuditFault;
-pub use laws::{limits_law, reach_examples, reach_laws, resume_text_law, walk_laws};
+pub use laws::{graph_laws, limits_law, reach_examples, reach_laws, resume_text_law, walk_laws};
 pub use limits::{CANDIDATE_LIMIT, LETTER_LIMIT};
 pub use line::Line;

@@ -99,7 +99,7 @@ impl Terms {
     }
 
     /// How the base itself is named.
-    fn base_way(&self) -> Way
+    pub(crate) fn base_way(&self) -> Way
         ensures { result ≡ base_way self.now.base }
     {
         match self.base {

@@ -1,16 +1,16 @@
 -- What is true of resolution.
-use Rattle.std.specs.Prelude.{◌≡◌, ℕ, ◌+◌, ◌-◌, ◌<◌, ◌≤◌, ◌⊎◌, List, [], ◌∷◌, ◌++◌, Result, Ok, Err, IsTrue}
+use Rattle.std.specs.Prelude.{◌≡◌, ℕ, ◌+◌, ◌-◌, ◌<◌, ◌≤◌, ◌⊎◌, List, [], ◌∷◌, ◌++◌, Result, Ok, Err, IsTrue, is_some, if◌then◌else◌}
 use Rattle.pua_tree.specs.Tree.{Tree, WellFormed, is_dir}
 use Rattle.pua_tree.specs.Steps.{◌>>=◌}
-use Rattle.pua_path.specs.Resolution.{Resolved, resolve_parts, resolution, link_limit, step, last}
+use Rattle.pua_path.specs.Resolution.{Resolved, resolve_parts, resolution, link_limit, step, last, follow}
 use Rattle.pua_path.specs.Fits.{IsOf}
 use Rattle.pua_path.specs.declared.errno.Errno.{Errno}
-use Rattle.pua_path.specs.declared.errno.Errno.TheVariants.{ENOTDIR, ELOOP}
+use Rattle.pua_path.specs.declared.errno.Errno.TheVariants.{ENOENT, ENOTDIR, ELOOP}
 use Rattle.pua_path.specs.declared.text.Ending.{Ending}
 use Rattle.pua_path.specs.declared.found.Part.{Part}
 use Rattle.pua_path.specs.declared.found.Part.TheVariants as parts
 use Rattle.pua_path.specs.declared.found.Last.{Last}
-use Rattle.pua_path.specs.declared.found.Last.TheVariants.{Followed}
+use Rattle.pua_path.specs.declared.found.Last.TheVariants.{Followed, Kept}
 use Rattle.pua_path.specs.declared.found.Way.{Way}
 use Rattle.pua_path.specs.declared.found.Way.TheVariants.{Top}
 use Rattle.pua_path.specs.declared.found.Found.{Found}
@@ -71,6 +71,37 @@ pub record LastFollows (t : Tree) (dir : ℕ) (part : Part) (mode : Last) (count
 abbrev pub LastsFollow : Type 0
 LastsFollow = (t : Tree) (dir : ℕ) (part : Part) (mode : Last) →
     ((used : ℕ) → used ≤ link_limit → last t dir used part mode ≡ Err ELOOP) ⊎ ((count : ℕ) × ((outcome : Result Found Errno) × LastFollows t dir part mode count outcome))
+
+-- a directory is entered, and nothing else
+abbrev pub entered : ℕ → Found → Result (ℕ × ℕ) Errno
+entered used (Whole dir way) = Ok (dir, used)
+entered used (Slot dir name node) = Err (if is_some node then ENOTDIR else ENOENT)
+
+-- a part that follows so many links where none was used before: `last` names what it names, and `step` enters it, while all links are within the limit
+pub record IsFollowed (t : Tree) (dir used : ℕ) (part : Part) (found : Found) (count : ℕ) : Type 0 where
+  pub within : count ≤ link_limit
+  pub last_within : used + count ≤ link_limit → last t dir used part Followed ≡ Ok found
+  pub step_within : used + count ≤ link_limit → step t dir used part ≡ entered (used + count) found
+  pub last_beyond : link_limit < used + count → last t dir used part Followed ≡ Err ELOOP
+  pub step_beyond : link_limit < used + count → step t dir used part ≡ Err ELOOP
+
+-- a part that names nothing where no link was used before names nothing after any; the error may be another
+pub record Fails (t : Tree) (dir used : ℕ) (part : Part) : Type 0 where
+  pub errno : Errno
+  pub last_fails : last t dir used part Followed ≡ Err errno
+  pub step_fails : step t dir used part ≡ Err errno
+
+abbrev pub IsToldBy : Tree → ℕ → ℕ → Part → Result (Found × ℕ) Errno → Type 0
+IsToldBy t dir used part (Ok (found, count)) = IsFollowed t dir used part found count
+IsToldBy t dir used part (Err errno) = Fails t dir used part
+
+-- the answer where no link was used before tells the answer after any number of links
+abbrev pub FollowDecides : Type 0
+FollowDecides = (t : Tree) (dir used : ℕ) (part : Part) → used ≤ link_limit → IsToldBy t dir used part (follow t dir part)
+
+-- a last part that is kept follows no link
+abbrev pub KeptFollowsNone : Type 0
+KeptFollowsNone = (t : Tree) (dir used : ℕ) (part : Part) → last t dir used part Kept ≡ last t dir 0 part Kept
 
 -- what parts name is of the tree, and no more links are left than there were
 abbrev pub Lands : Tree → Last → ℕ → Resolved → Type 0

@@ -105,3 +105,11 @@ step t dir used part = resolve_parts (link_limit - used) t Followed dir Top (par
 -- the last part
 abbrev pub last : Tree → ℕ → ℕ → Part → Last → Result Found Errno
 last t dir used part mode = resolve_parts (link_limit - used) t mode dir Top (part ∷ []) >>= λ found. Ok found.0
+
+-- what was found, and the links followed by then
+abbrev pub counted : Found × ℕ → Result (Found × ℕ) Errno
+counted (found, left) = Ok (found, link_limit - left)
+
+-- the last part, followed, where no link was followed before it
+abbrev pub follow : Tree → ℕ → Part → Result (Found × ℕ) Errno
+follow t dir part = resolve_parts link_limit t Followed dir Top (part ∷ []) >>= counted

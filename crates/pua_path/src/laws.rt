@@ -3,7 +3,7 @@
 ghost use Rattle.std.specs.Prelude.{◌≡◌};
 ghost use Rattle.pua_path.specs.Limits.{link_limit, path_limit};
 ghost use Rattle.pua_path.specs.Examples.{ResolutionRows, StepRows};
-ghost use Rattle.pua_path.specs.Laws.{LastsFollow, LinksDecide, ResolutionComposes, ResolutionsFit, StepsCompose, StepsFollow};
+ghost use Rattle.pua_path.specs.Laws.{FollowDecides, KeptFollowsNone, LastsFollow, LinksDecide, ResolutionComposes, ResolutionsFit, StepsCompose, StepsFollow};
 
 use crate::limits::{LINK_LIMIT, PATH_LIMIT};
 
@@ -29,11 +29,15 @@ pub fn steps_law()
     ensures { StepsCompose }
 {}
 
-/// What parts name, and how many links are followed, does not depend on how many may be.
+/// What parts name, and how many links are followed, does not depend on how many may be. So what a
+/// part names where no link was used before tells it for any number used before, as `last` and as
+/// `step` answer; and a last part that is kept is the same for each.
 pub fn links_law()
     ensures parts { LinksDecide }
     ensures steps { StepsFollow }
     ensures lasts { LastsFollow }
+    ensures follow { FollowDecides }
+    ensures kept { KeptFollowsNone }
 {}
 
 /// What a path names is of the tree: its directory lives, and its row is as the tree has it; what

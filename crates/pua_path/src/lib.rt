@@ -18,5 +18,5 @@ pub use laws::{
 };
 pub use limits::{LINK_LIMIT, PATH_LIMIT};
 pub use probe::{Counted, Probe};
-pub use resolver::{last, resolve, step};
+pub use resolver::{follow, last, resolve, step};
 pub use text::{Ending, PathText};

@@ -2,7 +2,7 @@
 
 ghost use Rattle.std.specs.Prelude.{◌≡◌, ◌≤◌, ◌<◌, ◌+◌, ◌-◌, ◌*◌, ◌∷◌, ◌++◌, IsTrue, IfOk, IfErr, IfSome, OnOk, is_some, not, ◌&&◌, ◌==◌, Ok, Err, Some, None, [], if◌then◌else◌};
 ghost use Rattle.pua_tree.specs.Tree.{is_dir};
-ghost use Rattle.pua_path.specs.Resolution.{resolution, resolve_parts, standing_at, is_followed, start_of, step, last};
+ghost use Rattle.pua_path.specs.Resolution.{resolution, resolve_parts, standing_at, is_followed, start_of, step, last, follow};
 ghost use Rattle.pua_path.specs.Limits.{link_limit};
 ghost use Rattle.pua_path.specs.Paths.{is_absolute, parts_of};
 ghost use Rattle.pua_path.specs.Walks.{standing_seen, StandsIn, CanGoOn, goes_on, potential};
@@ -106,6 +106,29 @@ pub fn last<'t, P: Probe<'t>>(
 {
     let (found, _) = resolve_part(probe, dir, LINK_LIMIT - used, part, mode)?;
     Ok(found)
+}
+
+/// What the last part names where no link was followed before it and its own are, and how many that
+/// are, 32 at most. It tells `last` and `step` for any number of links used before: while both
+/// together are within 32, `last` names the same, and `step` leads to it, with the sum used, if it
+/// is a directory; where they are not, both are `ELOOP`. Needs `dir` to be a living directory.
+/// Errors are those of `last`; what is found is of the tree as it stands. Takes no memory, and as
+/// many probes as `step` at most.
+pub fn follow<'t, P: Probe<'t>>(
+    probe: &mut P,
+    dir: NodeId,
+    part: &Part,
+) -> Result<(Found, u8), Errno>
+    requires { IsTrue (is_dir (P.tree probe.old) dir) }
+    ensures exact { result ≡ follow (P.tree probe.old) dir part.now }
+    ensures fits { IfOk result (λ found. FoundFits (P.tree probe.old) found.0) }
+    ensures named { IfOk result (λ found. StandsAsNamed (P.tree probe.old) found.0) }
+    ensures links { IfOk result (λ found. found.1 ≤ link_limit) }
+    ensures tree { P.tree probe.new ≡ P.tree probe.old }
+    ensures cost { P.count probe.new ≤ P.count probe.old + part_cost (P.tree probe.old) }
+{
+    let (found, left) = resolve_part(probe, dir, LINK_LIMIT, part, Last::Followed)?;
+    Ok((found, LINK_LIMIT - left))
 }
 
 fn resolve_part<'t, P: Probe<'t>>(

@@ -8,3 +8,7 @@ pub use Rattle.pua_policy.proofs.Standing.{processes_decide}
 pub use Rattle.pua_policy.proofs.Narrowing.{held_never_grows}
 -- what an exec keeps of a history
 pub use Rattle.pua_policy.proofs.Exec.{others, no_promises, no_execpromises, same_veils, same_lock, same_dirs, same_end}
+-- names without a veil of their own are covered as their directory is, and get one verdict where nothing stands
+pub use Rattle.pua_policy.proofs.Unveiled.{unveiled_alike, unveiled_within, missing_alike}
+-- the bit of each call in a set of calls
+pub use Rattle.pua_policy.proofs.CallBits.{bit_below, call_at_bit, bit_of_call_at, same_bit}

@@ -1,4 +1,5 @@
 pub mod Sets
+pub mod CallBits
 pub mod Keywords
 pub mod Climbs
 pub mod Veils
@@ -7,5 +8,6 @@ pub mod Narrowing
 pub mod Exec
 pub mod Standing
 pub mod Covers
+pub mod Unveiled
 pub mod Histories
 pub mod ForCallers

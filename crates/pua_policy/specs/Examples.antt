@@ -1,15 +1,18 @@
 -- Worked rows on covers and verdicts over the example tree.
-use Rattle.std.specs.Prelude.{◌≡◌, ◌+◌, ◌^◌, [], ◌∷◌, Some, None, Ok, Err, codes, map, refl}
+use Rattle.std.specs.Prelude.{◌≡◌, ◌+◌, ◌-◌, ◌^◌, [], ◌∷◌, Some, None, Ok, Err, codes, map, filter, refl}
 use Rattle.pua_tree.specs.Tree.{empty_tree}
 use Rattle.pua_tree.specs.Examples.{example_tree}
 use Rattle.pua_policy.specs.Promises.{promises_of, perms_of, reading, writing, rpath, wpath, error}
 use Rattle.pua_policy.specs.Calls.{calls, standard_table}
+use Rattle.pua_policy.specs.CallSets.{calls_in, keeps_link}
+use Rattle.pua_policy.specs.Objects.{object_seen}
 use Rattle.pua_policy.specs.History.{History, Pledged, Unveiled, Locked, new_history, held, held_for_exec, pledge_fault, unveil_fault, may_any}
 use Rattle.pua_policy.specs.Verdict.{cover, verdict_on, object_fault, rmdir_fault, IsDir, IsFile, IsProg, IsLink, IsMissing}
 use Rattle.pua_path.specs.declared.errno.Errno.TheVariants.{EACCES, EPERM, EINVAL, ENOENT, EBUSY, EEXIST, ENOTDIR, EISDIR, ENOTEMPTY}
 use Rattle.pua_path.specs.declared.found.Way.TheVariants as way
 use Rattle.pua_path.specs.declared.found.Found.TheVariants as found
-use Rattle.pua_policy.specs.declared.call.Call.TheVariants.{Stat, Lstat, Readlink, Mkdir, Rmdir, Unlink, Symlink}
+use Rattle.pua_policy.specs.declared.call.Call.TheVariants.{Stat, Lstat, Readlink, Mkdir, Rmdir, Unlink, Symlink, Exec}
+use Rattle.pua_policy.specs.declared.object.Object.TheVariants as see
 use Rattle.pua_policy.specs.declared.place.Place.TheVariants.{Dir, Slot}
 use Rattle.pua_policy.specs.declared.answer.UnveilFault.TheVariants.{NotPermitted}
 use Rattle.pua_policy.specs.declared.answer.Cover.TheVariants.{Only}
@@ -102,4 +105,25 @@ last_check_rows = record {
   by_dots = refl;
   at_top = refl;
   empty_directory = refl;
+}
+
+-- sets of calls, and directories as a verdict sees them
+pub record SetRows : Type 0 where
+  pub first_and_last : calls_in (2 ^ 0 + 2 ^ 13) ≡ Stat ∷ Exec ∷ []
+  pub no_calls : calls_in 0 ≡ []
+  pub all_calls : calls_in (2 ^ 14 - 1) ≡ calls
+  pub on_links : filter keeps_link calls ≡ Lstat ∷ Readlink ∷ Mkdir ∷ Rmdir ∷ Unlink ∷ Symlink ∷ []
+  pub with_rows : object_seen example_tree (IsDir 1 (way.Named 0 (codes "etc"))) ≡ see.Directory
+  pub without_rows : object_seen empty_tree (IsDir 0 (way.Named 0 (codes "d"))) ≡ see.Removable
+  pub by_dot : object_seen empty_tree (IsDir 0 way.Dot) ≡ see.Directory
+
+pub set_rows : SetRows
+set_rows = record {
+  first_and_last = refl;
+  no_calls = refl;
+  all_calls = refl;
+  on_links = refl;
+  with_rows = refl;
+  without_rows = refl;
+  by_dot = refl;
 }

@@ -1,7 +1,9 @@
 pub mod Limits
 pub mod Promises
 pub mod Calls
+pub mod CallSets
 pub mod History
 pub mod Verdict
+pub mod Objects
 pub mod Laws
 pub mod Examples

@@ -1,14 +1,20 @@
 //! The verdict on a call.
 
-ghost use Rattle.std.specs.Prelude.{◌≡◌, ◌+◌, ◌≤◌, [], ◌∷◌, length, Some, None, MatchResult};
+ghost use Rattle.std.specs.Prelude.{◌≡◌, ◌+◌, ◌≤◌, [], ◌∷◌, ℕ, length, Some, None, is_none, MatchResult};
 ghost use Rattle.pua_tree.specs.Tree.{Tree};
 ghost use Rattle.pua_policy.specs.Calls.{standard_table};
+ghost use Rattle.pua_policy.specs.CallSets.{has};
 ghost use Rattle.pua_policy.specs.History.{History, StandsFor, may_any};
-ghost use Rattle.pua_policy.specs.Verdict.{FoundFits, FoundsFit, verdict, verdict_of, refusal_of, found_fault, cover_fault, object_fault, rmdir_fault, object_of, object_of_kind, IsDir};
+ghost use Rattle.pua_policy.specs.Objects.{object_seen};
+ghost use Rattle.pua_policy.specs.Verdict.{FoundFits, FoundsFit, verdict, verdict_of, is_allowed, cover as cover_of, refusal_of, found_fault, cover_fault, object_fault, rmdir_fault, Object as Judged, object_of, object_of_kind, IsDir};
+ghost use Rattle.pua_path.specs.declared.found.Found as found;
+ghost use Rattle.pua_path.specs.declared.found.Way as way;
 
 use crate::answer::{Cover, May, Refusal, Verdict};
 use crate::call::Call;
+use crate::calls::Calls;
 use crate::needs;
+use crate::object::Object;
 use crate::perms::Perms;
 use crate::process::Process;
 use crate::promises::Promises;
@@ -104,6 +110,66 @@ pub fn object_verdict<'t, P: Probe<'t>>(
     }
 }
 
+/// The calls that are allowed on an object, by what the veils of the process leave of it: those on
+/// which the verdict is `Verdict::Allowed`, wherever the object stands that has this cover. The tree
+/// is not asked. `Process::cover` tells the cover, and `object` what the object is.
+pub fn allowed(process: &Process, cover: Cover, object: Object) -> Calls
+    ensures { (t : Tree) (h : History) (found : found.Found) → StandsFor process.now h → cover ≡ cover_of t h found → object ≡ object_seen t (object_of t found) →
+        (call : Call) → has result call ≡ is_allowed (verdict t standard_table h call found) }
+{
+    let mut calls = Calls::NONE;
+    for call in Call::ALL {
+        if allows(process, call, &cover, object) {
+            calls = calls.with(call);
+        }
+    }
+    calls
+}
+
+/// The calls that are allowed on what a path named. What was found is of the probe's tree as it
+/// stands. At most one more look at the tree than it has nodes.
+pub fn allowed_on<'t, P: Probe<'t>>(probe: &mut P, process: &Process, found: &Found) -> Calls
+    requires { FoundFits (P.tree probe.old) found.now }
+    ensures exact { (h : History) → StandsFor process.now h → (call : Call) → has result call ≡ is_allowed (verdict (P.tree probe.old) standard_table h call found.now) }
+    ensures tree { P.tree probe.new ≡ P.tree probe.old }
+    ensures cost { P.count probe.new ≤ P.count probe.old + length (P.tree probe.old).nodes + 1 }
+{
+    let object = object(probe, found);
+    allowed(process, process.cover(probe, found), object)
+}
+
+/// Whether a call is allowed on an object that has this cover.
+fn allows(process: &Process, call: Call, cover: &Cover, object: Object) -> bool
+    ensures { (t : Tree) (h : History) (found : found.Found) → StandsFor process.now h → cover.now ≡ cover_of t h found → object ≡ object_seen t (object_of t found) →
+        result ≡ is_allowed (verdict t standard_table h call found) }
+{
+    let need = needs::need(call);
+    promised(process, need.promises).is_ok()
+        && cover_fault(*cover, need.perms).is_none()
+        && suits(call, object)
+}
+
+/// What a call is on, of what its path named. One look at the tree at most.
+pub fn object<'t, P: Probe<'t>>(probe: &mut P, found: &Found) -> Object
+    ensures exact { result ≡ object_seen (P.tree probe.old) (object_of (P.tree probe.old) found.now) }
+    ensures tree { P.tree probe.new ≡ P.tree probe.old }
+    ensures cost { P.count probe.new ≤ P.count probe.old + 1 }
+{
+    match *found {
+        Found::Whole { dir, way } => match rmdir_fault(probe, dir, way) {
+            Some(_) => Object::Directory,
+            None => Object::Removable,
+        },
+        Found::Slot { node: Some(id), .. } => match probe.kind(id) {
+            Some(Kind::Prog) => Object::Program,
+            Some(Kind::Link) => Object::Link,
+            Some(Kind::File | Kind::Dir) => Object::File,
+            None => Object::Missing,
+        },
+        Found::Slot { node: None, .. } => Object::Missing,
+    }
+}
+
 /// What is wrong with a cover for a call that needs these permissions: `ENOENT` where nothing is
 /// left of the object, `EACCES` where a letter lacks, and None where neither is so.
 pub fn cover_fault(cover: Cover, perms: Perms) -> Option<Errno>
@@ -124,29 +190,37 @@ fn object_fault<'t, P: Probe<'t>>(probe: &mut P, call: Call, found: &Found) -> O
     ensures cost { P.count probe.new ≤ P.count probe.old + 1 }
 {
     match *found {
-        Found::Whole { dir, way } => directory_fault(probe, call, dir, way),
+        Found::Whole { dir, way } if call == Call::Rmdir => rmdir_fault(probe, dir, way),
+        Found::Whole { .. } => directory_fault(call),
         Found::Slot { node: Some(id), .. } => slot_fault(call, probe.kind(id)),
         Found::Slot { node: None, .. } => slot_fault(call, None),
     }
 }
 
-/// What is wrong with a directory, by the way it was named.
-fn directory_fault<'t, P: Probe<'t>>(
-    probe: &mut P,
-    call: Call,
-    dir: NodeId,
-    way: Way,
-) -> Option<Errno>
-    ensures exact { result ≡ object_fault (P.tree probe.old) call (IsDir dir way) }
-    ensures tree { P.tree probe.new ≡ P.tree probe.old }
-    ensures cost { P.count probe.new ≤ P.count probe.old + 1 }
+/// Whether a call is on such an object, the veils aside.
+fn suits(call: Call, object: Object) -> bool
+    ensures { (t : Tree) (judged : Judged) → object ≡ object_seen t judged → result ≡ is_none (object_fault t call judged) }
+{
+    let fault = match object {
+        Object::Missing => slot_fault(call, None),
+        Object::File => slot_fault(call, Some(Kind::File)),
+        Object::Program => slot_fault(call, Some(Kind::Prog)),
+        Object::Link => slot_fault(call, Some(Kind::Link)),
+        Object::Directory if call == Call::Rmdir => return false,
+        Object::Directory | Object::Removable => directory_fault(call),
+    };
+    fault.is_none()
+}
+
+/// What is wrong with a directory, which may be removed if the call is rmdir.
+fn directory_fault(call: Call) -> Option<Errno>
+    ensures { (t : Tree) (dir : ℕ) (how : way.Way) → (call ≡ Call.Rmdir → rmdir_fault t dir how ≡ None) → result ≡ object_fault t call (IsDir dir how) }
 {
     match call {
-        Call::Stat | Call::Lstat | Call::OpenRead | Call::Chmod | Call::Chdir => None,
+        Call::Stat | Call::Lstat | Call::OpenRead | Call::Rmdir | Call::Chmod | Call::Chdir => None,
         Call::Readlink => Some(Errno::EINVAL),
         Call::OpenWrite | Call::OpenBoth | Call::Create => Some(Errno::EISDIR),
         Call::Mkdir | Call::Symlink => Some(Errno::EEXIST),
-        Call::Rmdir => rmdir_fault(probe, dir, way),
         Call::Unlink => Some(Errno::EPERM),
         Call::Exec => Some(Errno::EACCES),
     }

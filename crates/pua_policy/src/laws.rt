@@ -6,7 +6,7 @@ ghost use Rattle.pua_policy.specs.Laws.{VeilsAreKept, CoverNeedsUnveil, NearestC
 ghost use Rattle.pua_policy.specs.Calls.{calls};
 ghost use Rattle.pua_policy.specs.Limits.{place_limit};
 ghost use Rattle.pua_policy.specs.Promises.{promises_of, other_promises, perms_of};
-ghost use Rattle.pua_policy.specs.Examples.{CoverRows, VerdictRows, LastCheckRows};
+ghost use Rattle.pua_policy.specs.Examples.{CoverRows, VerdictRows, LastCheckRows, SetRows};
 
 use crate::call::Call;
 use crate::perms::Perms;
@@ -65,12 +65,13 @@ pub fn cover_examples()
     ensures { CoverRows }
 {}
 
-/// Examples of what promises and veils allow, and the last check of each call on each kind of
-/// object.
-#[tactic(auto, using(crate::specs::Examples::verdict_rows, crate::specs::Examples::last_check_rows))]
+/// Examples of what promises and veils allow, the last check of each call on each kind of object,
+/// and sets of calls.
+#[tactic(auto, using(crate::specs::Examples::verdict_rows, crate::specs::Examples::last_check_rows, crate::specs::Examples::set_rows))]
 pub fn verdict_examples()
     ensures verdicts { VerdictRows }
     ensures checks { LastCheckRows }
+    ensures sets { SetRows }
 {}
 
 /// The veils of a process are exactly the places with their last permissions. Of all events only

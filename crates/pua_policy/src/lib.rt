@@ -3,10 +3,12 @@
 
 mod answer;
 mod call;
+mod calls;
 mod cover;
 pub mod judge;
 mod laws;
 pub mod needs;
+mod object;
 mod perms;
 mod place;
 mod process;
@@ -14,10 +16,12 @@ mod promises;
 
 pub use answer::{Cover, May, Refusal, UnveilFault, Verdict};
 pub use call::{Call, Need};
+pub use calls::Calls;
 pub use laws::{
     cover_examples, cover_laws, limits_law, permission_constants, promise_bounds,
     promise_constants, promise_laws, standing_law, verdict_examples,
 };
+pub use object::Object;
 pub use perms::Perms;
 pub use place::Place;
 pub use process::{PLACE_LIMIT, Process};

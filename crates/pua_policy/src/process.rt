@@ -40,7 +40,7 @@ impl Model for Process {
 
 ghost use Rattle.std.specs.Prelude.{◌≡◌, ◌≢◌, ◌-◌, [], ◌∷◌, length, Option, Some, None, Err, IfOk, OnOk, OnErr, IfErr, IfSome, if◌then◌else◌, false, MatchResult, unwrap_or};
 ghost use Rattle.pua_policy.specs.Promises.{all_promises, error};
-ghost use Rattle.pua_policy.specs.History.{History, StandsFor, Pledged, Unveiled, Locked, Moved, Ended, new_history, HasHistory, after_exec, pledge_fault, unveil_fault, place_fault, is_within, narrowed, may_any, is_locked, is_ended, working_dir, veil_at, has_veil};
+ghost use Rattle.pua_policy.specs.History.{History, StandsFor, Pledged, Unveiled, Locked, Moved, Ended, new_history, HasHistory, after_exec, pledge_fault, unveil_fault, place_fault, is_within, narrowed, may_any, is_locked, is_ended, working_dir, kept, veil_at, has_veil};
 
 impl Process {
     /// A new process, in the root: it holds every promise but `error`, and has no veil.
@@ -242,9 +242,10 @@ impl Process {
         !self.veils.is_empty()
     }
 
-    /// The permissions kept at a place.
-    pub(crate) fn kept(&self, place: &Place) -> Option<Perms>
-        ensures { result ≡ veil_at self.now.veils place.now }
+    /// The permissions kept at a place; None where it has no veil.
+    pub fn kept(&self, place: &Place) -> Option<Perms>
+        ensures state { result ≡ veil_at self.now.veils place.now }
+        ensures history { (h : History) → StandsFor self.now h → result ≡ kept h place.now }
     {
         self.veils.get(place).copied()
     }

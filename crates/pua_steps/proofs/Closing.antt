@@ -1,29 +1,23 @@
--- The table of steps and that of live states give what a walk needs: steps stay among its directories, and what is not live has no pair.
-use Rattle.std.proofs.Common.{ℕ, suc, ◌+◌, ◌-◌, ◌*◌, ◌<◌, ◌≤◌, ◌≡◌, List, [], ◌∷◌, ◌++◌, Option, Some, None, true, false, cond, ◌==◌, nat_lt, refl, ap, arith, sym, ◌∙◌, length, map, get_or, suc-mul, mul-le-mul_right, subst}
+-- The table of steps and that of live states: steps stay among its directories, and what is not live has no pair.
+use Rattle.std.proofs.Common.{ℕ, suc, ◌+◌, ◌-◌, ◌*◌, ◌<◌, ◌≤◌, ◌≡◌, List, [], ◌∷◌, ◌++◌, Some, true, false, cond, ◌==◌, nat_lt, refl, arith, length, map, get_or, suc-mul, mul-le-mul_right}
 use Rattle.std.specs.Prelude.{IfSome}
 use Rattle.std.specs.List.{range_with_len, AllByRecursion}
-use Rattle.pua_steps.specs.Graph.{Pair, below, rows, reach, some_pair}
-use Rattle.pua_steps.specs.Calls.{calls_of}
-use Rattle.pua_steps.specs.Trail.{pairs_of, ahead, deeper}
+use Rattle.pua_steps.specs.Graph.{Pair, below, some_pair}
 use Rattle.pua_steps.specs.Table.{visit_of, missed, gap, visits_from, graph_of, missing_at, entries_at, IsEntry, IsState, IsTable}
-use Rattle.pua_steps.specs.Live.{IsSized, live_of, entrance}
+use Rattle.pua_steps.specs.Live.{IsSized, live_of}
 use Rattle.pua_steps.specs.declared.state.State.{State}
 use Rattle.pua_steps.specs.declared.visit.Visit.{Visit}
 use Rattle.pua_steps.specs.declared.steps.Entry.{Entry}
 use Rattle.pua_steps.specs.declared.steps.Steps.{Steps}
 use Rattle.pua_steps.specs.declared.live.Live as table
 use Rattle.pua_steps.proofs.Visits.{visit_is}
-use Rattle.pua_steps.proofs.Filling.{below_none, below_some}
-use Rattle.pua_steps.proofs.Lines.{Prunes, pairs-fresh}
-use Rattle.pua_steps.proofs.Turns.{alike}
-use Rattle.pua_steps.proofs.Seeks.{deeper_entrance}
 
 pub all_append : {A : Type 0} (P : A → Type 0) (xs ys : List A) → AllByRecursion P xs → AllByRecursion P ys → AllByRecursion P (xs ++ ys)
 all_append P [] ys a b = b
 all_append P (x ∷ xs) ys a b = (a.0, all_append P xs ys a.1 b)
 
 module _ (t : Steps) where
-  abbrev Stays : Visit → Type 0
+  abbrev pub Stays : Visit → Type 0
   Stays v = IfSome v.behind (λ s. IsState t s)
 
   missed_stay : (m : ℕ) (is : List ℕ) → AllByRecursion Stays (map (missed m) is)
@@ -45,7 +39,7 @@ module _ (t : Steps) where
   unfolding graph_of
   states_stay known l s is = visits_stay t.letters (missing_at t s.dir) s.used 0 (entries_at t s.dir) is.used (known s.dir is.dir).entries
 
-no_pair : (ps : List Pair) → some_pair ps ≡ false → ps ≡ []
+pub no_pair : (ps : List Pair) → some_pair ps ≡ false → ps ≡ []
 no_pair [] h = refl
 no_pair (p ∷ ps) h = absurd cc
 
@@ -64,49 +58,3 @@ live_is t v limit sized l s short is =
     let at_most : suc l ≤ suc limit = omega (arith, short) in
     let within : l * v.dirs + s.dir < length v.bounds.items = omega (arith, low, sized.cells, suc-mul l v.dirs, mul-le-mul_right v.dirs at_most) in
     (sized.filled l s.dir low within).tells s.used is.used
-
-pub prunes : (t : Steps) (v : table.Live) (limit : ℕ) → IsTable t → IsSized t v limit → Prunes (graph_of t) (live_of v) limit (λ s. IsState t s)
-prunes t v limit known sized = record {
-  closed = states_stay t known;
-  nothing = λ l s short is dead.
-      let none : some_pair (rows (graph_of t) l (graph_of t l s)) ≡ false = ap some_pair (sym (below_some (graph_of t) l s)) ∙ sym (live_is t v limit sized (suc l) s short is) ∙ dead in
-      no_pair (rows (graph_of t) l (graph_of t l s)) none;
-}
-
--- a walk that begins has the whole reach before it
-pub whole_reach : (t : Steps) (v : table.Live) (limit calls : ℕ) (o : Option State) → IsTable t → IsSized t v limit → IfSome o (λ s. IsState t s) → pairs_of (ahead (graph_of t) (live_of v) limit [] (calls_of calls) o []) ≡ reach (graph_of t) limit calls o
-whole_reach t v limit calls o known sized is = pairs-fresh (graph_of t) (live_of v) limit (λ s. IsState t s) (prunes t v limit known sized) calls o is
-
--- the same where the state is tested first
-pub whole_tested : (t : Steps) (v : table.Live) (limit calls : ℕ) (o p : Option State) → IsTable t → IsSized t v limit → IfSome o (λ s. IsState t s) → p ≡ entrance (live_of v) limit o
-    → pairs_of (ahead (graph_of t) (live_of v) limit [] (calls_of calls) p []) ≡ reach (graph_of t) limit calls o
-whole_tested t v limit calls o p known sized is tested =
-    let same : limit - 0 ≡ limit = omega arith in
-    ap pairs_of (alike (graph_of t) (live_of v) limit [] [] (calls_of calls) p o
-    (ap (λ n. deeper (graph_of t) (live_of v) n p) same ∙ ap (deeper (graph_of t) (live_of v) limit) tested ∙ deeper_entrance (graph_of t) (live_of v) limit o ∙ ap (λ n. deeper (graph_of t) (live_of v) n o) (sym same)))
-    ∙ whole_reach t v limit calls o known sized is
-
--- what the test leaves
-pub tested_is : (t : Steps) (v : table.Live) (limit n : ℕ) (o p : Option State) → n ≡ 0 → IfSome o (λ s. IsState t s) → p ≡ entrance (live_of v) limit o → IfSome p (λ s. IsState t s × (live_of v (limit - n) s ≡ true))
-tested_is t v limit n o p e is tested = subst (λ q. IfSome q (λ s. IsState t s × (live_of v (limit - n) s ≡ true))) (sym tested) (by o is)
-  where
-    same : limit ≡ limit - n
-    same = omega (arith, e)
-
-    by : (o : Option State) → IfSome o (λ s. IsState t s) → IfSome (entrance (live_of v) limit o) (λ s. IsState t s × (live_of v (limit - n) s ≡ true))
-    by None h = tt
-    by (Some s) h = elim (live_of v limit s) as (λ b. live_of v limit s ≡ b → IfSome (cond b (Some s) None) (λ s. IsState t s × (live_of v (limit - n) s ≡ true))) [
-      | true ↦ λ lives. (h, ap (λ l. live_of v l s) (sym same) ∙ lives)
-      | false ↦ λ _. tt
-    ] refl
-
--- the test takes no pair away
-pub tested_below : (t : Steps) (v : table.Live) (limit l : ℕ) (o p : Option State) → IsSized t v limit → l ≤ limit → IfSome o (λ s. IsState t s) → p ≡ entrance (live_of v) l o → below (graph_of t) l p ≡ below (graph_of t) l o
-tested_below t v limit l o p sized short is tested = ap (below (graph_of t) l) tested ∙ by o is
-  where
-    by : (o : Option State) → IfSome o (λ s. IsState t s) → below (graph_of t) l (entrance (live_of v) l o) ≡ below (graph_of t) l o
-    by None h = refl
-    by (Some s) h = elim (live_of v l s) as (λ b. live_of v l s ≡ b → below (graph_of t) l (cond b (Some s) None) ≡ below (graph_of t) l (Some s)) [
-      | true ↦ λ _. refl
-      | false ↦ λ dead. below_none (graph_of t) l ∙ sym (no_pair (below (graph_of t) l (Some s)) (sym (live_is t v limit sized l s short h) ∙ dead))
-    ] refl

@@ -1,11 +1,12 @@
 -- A walk's tables and frames are within the bound on visits.
-use Rattle.std.proofs.Common.{ℕ, zero, suc, ◌+◌, ◌-◌, ◌*◌, ◌≤◌, ◌≡◌, List, [], ◌∷◌, Option, Some, None, true, false, cond, ◌==◌, refl, ap, arith, sym, ◌∙◌, length, map, drop, length-append}
+use Rattle.std.proofs.Common.{ℕ, zero, suc, ◌+◌, ◌-◌, ◌*◌, ◌≤◌, ◌≡◌, List, [], ◌∷◌, Option, Some, None, true, false, cond, ◌==◌, refl, ap, arith, sym, ◌∙◌, length, map, length-append}
 use Rattle.std.specs.Prelude.{IfSome, MatchOption}
 use Rattle.std.specs.List.{range_with_len, AllByRecursion}
 use Rattle.std.proofs.lemmas.List.{length-map}
 use Rattle.pua_steps.specs.Calls.{calls_of}
 use Rattle.pua_steps.specs.Trail.{Event, pairs_of}
-use Rattle.pua_steps.specs.Table.{IsTable, IsState, IsOpen, IsEntry, Rising, graph_of, rest_of, visits_from, gap, missed, visit_of, entries_at, missing_at}
+use Rattle.pua_steps.specs.Table.{IsTable, IsState, IsEntry, Rising, visits_from, gap, missed, visit_of, missing_at}
+use Rattle.pua_steps.specs.Lists.{IsOpen, within, narrow_of, rest_of, list_of}
 use Rattle.pua_steps.specs.Live.{live_of, IsSized}
 use Rattle.pua_steps.specs.Ready.{looks, trail, IsReady, AreOpen, rests_of}
 use Rattle.pua_steps.specs.declared.state.State.{State}
@@ -15,7 +16,10 @@ use Rattle.pua_steps.specs.declared.steps.Entry.{Entry}
 use Rattle.pua_steps.specs.declared.steps.Steps.{Steps}
 use Rattle.pua_steps.specs.declared.walk.Walk.{Walk}
 use Rattle.pua_steps.specs.declared.live.Live as table
-use Rattle.pua_steps.proofs.Closing.{visits_stay, prunes, live_is}
+use Rattle.pua_steps.specs.declared.lists.Lists.{Lists}
+use Rattle.pua_steps.proofs.Closing.{visits_stay}
+use Rattle.pua_steps.proofs.Listing.{all_within, list_known, list_rises}
+use Rattle.pua_steps.proofs.Narrowing.{prunes, lists_live}
 use Rattle.pua_steps.proofs.Gap.{Fits, IsRest, few_visits}
 
 range_length : (k n : ℕ) → length (range_with_len k n) ≡ n
@@ -33,31 +37,27 @@ visits_few t m u next [] all rises = gap_few m next (t.letters - next)
 visits_few t m u next (e ∷ es) all rises =
     omega (arith, length-append (gap m next (e.letter - next)) (visit_of u e ∷ visits_from t.letters m u (suc e.letter) es), gap_few m next (e.letter - next), visits_few t m u (suc e.letter) es all.1 rises.1, rises.0, all.0.letter)
 
-all_drop : {A : Type 0} (P : A → Type 0) (i : ℕ) (xs : List A) → AllByRecursion P xs → AllByRecursion P (drop i xs)
-all_drop P zero xs all = all
-all_drop P (suc i) [] all = tt
-all_drop P (suc i) (x ∷ xs) all = all_drop P i xs all.1
+lists_few : (t : Steps) (v : table.Live) → IsTable t → (l : ℕ) (s : State) → IsState t s → length (narrow_of t v l s) ≤ t.letters
+unfolding narrow_of
+lists_few t v known l s is =
+    let few = visits_few t (missing_at t s.dir) s.used 0 (list_of t v l s.dir) (list_known t v l s.dir known is.dir) (list_rises t v l s.dir known is.dir) in omega (arith, few)
 
-graph_few : (t : Steps) → IsTable t → (l : ℕ) (s : State) → IsState t s → length (graph_of t l s) ≤ t.letters
-unfolding graph_of
-graph_few t known l s is = let few = visits_few t (missing_at t s.dir) s.used 0 (entries_at t s.dir) (known s.dir is.dir).entries (known s.dir is.dir).rises in omega (arith, few)
+pub fits : (t : Steps) (v : table.Live) (limit : ℕ) → IsTable t → IsSized t v limit → Fits (narrow_of t v) (live_of v) limit t.letters (λ s. IsState t s)
+fits t v limit known sized = record { prunes = prunes t v limit known sized; lives = λ l s short is lives. sym (lists_live t v limit known sized (suc l) s short is) ∙ lives; few = lists_few t v known }
 
-pub fits : (t : Steps) (v : table.Live) (limit : ℕ) → IsTable t → IsSized t v limit → Fits (graph_of t) (live_of v) limit t.letters (λ s. IsState t s)
-fits t v limit known sized = record { prunes = prunes t v limit known sized; lives = λ l s short is lives. sym (live_is t v limit sized (suc l) s short is) ∙ lives; few = graph_few t known }
-
-module _ (t : Steps) (v : table.Live) (limit : ℕ) (known : IsTable t) (sized : IsSized t v limit) where
+module _ (t : Steps) (v : table.Live) (limit : ℕ) (known : IsTable t) (sized : IsSized t v limit) (ls : Lists) (entries : AllByRecursion (λ e. IsEntry t e) ls.entries.items) where
   abbrev Rest : List Visit → Type 0
-  Rest vs = IsRest (graph_of t) (live_of v) limit t.letters (λ s. IsState t s) (fits t v limit known sized) vs
+  Rest vs = IsRest (narrow_of t v) (live_of v) limit t.letters (λ s. IsState t s) (fits t v limit known sized) vs
 
-  pub rest_is : (f : Frame) → IsOpen t f → Rest (rest_of t f)
+  pub rest_is : (f : Frame) → IsOpen t ls f → Rest (rest_of t ls f)
   unfolding rest_of
   rest_is f is =
-      let es : List Entry = drop f.place (entries_at t f.state.dir) in
-      let all : AllByRecursion (λ e. IsEntry t e) es = all_drop (λ e. IsEntry t e) f.place (entries_at t f.state.dir) (known f.state.dir is.state.dir).entries in
+      let es : List Entry = within ls.entries.items f.place f.end in
+      let all : AllByRecursion (λ e. IsEntry t e) es = all_within (λ e. IsEntry t e) ls.entries.items f.place f.end entries in
       let few = visits_few t (missing_at t f.state.dir) f.state.used f.next es all is.rises in
       record { few = omega (arith, few); stays = visits_stay t t.letters (missing_at t f.state.dir) f.state.used f.next es is.state.used all }
 
-  rests_are : (frames : List Frame) → AreOpen t frames → AllByRecursion Rest (rests_of t frames)
+  rests_are : (frames : List Frame) → AreOpen t ls frames → AllByRecursion Rest (rests_of t ls frames)
   rests_are [] all = tt
   rests_are (f ∷ frames) all = (rest_is f all.0, rests_are frames all.1)
 
@@ -70,9 +70,9 @@ pub cost_of : (a : Walk) → IsReady a → (n : ℕ) (es : List Event) → trail
 cost_of a ready n es e =
     let known = ready.sound.table in
     let sized = ready.sound.sized in
-    few_visits (graph_of a.steps) (live_of a.live) a.limit a.steps.letters (λ s. IsState a.steps s) (fits a.steps a.live a.limit known sized) a.word.items (calls_of a.calls) a.behind (rests_of a.steps a.frames.items) n es
-    (states_of (λ s. IsState a.steps s) (λ s. live_of a.live (a.limit - length a.word.items) s ≡ true) a.behind ready.behind) (rests_are a.steps a.live a.limit known sized a.frames.items ready.states)
-    (omega (arith, length-map a.frames.items (rest_of a.steps), ready.framed, ready.within)) e
+    few_visits (narrow_of a.steps a.live) (live_of a.live) a.limit a.steps.letters (λ s. IsState a.steps s) (fits a.steps a.live a.limit known sized) a.word.items (calls_of a.calls) a.behind (rests_of a.steps a.lists a.frames.items) n es
+    (states_of (λ s. IsState a.steps s) (λ s. live_of a.live (a.limit - length a.word.items) s ≡ true) a.behind ready.behind) (rests_are a.steps a.live a.limit known sized a.lists ready.sound.listed.known a.frames.items ready.states)
+    (omega (arith, length-map a.frames.items (rest_of a.steps a.lists), ready.framed, ready.within)) e
 
 looks-pairs : (n : ℕ) (es : List Event) → pairs_of (looks n es) ≡ pairs_of es
 unfolding looks

@@ -206,7 +206,7 @@ not_before k l s t size h less e = omega (arith, suc-mul k size, mul-le-mul_righ
 same_row : (k l s t size : ℕ) → s < size → t < size → k * size + s ≡ l * size + t → k ≡ l
 same_row k l s t size h i e = omega (arith, (λ (less : k < l). not_before k l s t size h less e), (λ (less : l < k). not_before l k t s size i less (sym e)))
 
-at_end : (xs : List ℕ) (b : ℕ) (i : ℕ) → i ≡ length xs → get_or (xs ++ b ∷ []) i 0 ≡ b
+pub at_end : (xs : List ℕ) (b : ℕ) (i : ℕ) → i ≡ length xs → get_or (xs ++ b ∷ []) i 0 ≡ b
 at_end [] b zero e = refl
 at_end [] b (suc i) e = absurd (omega (arith, e))
 at_end (x ∷ xs) b zero e = absurd (omega (arith, e))

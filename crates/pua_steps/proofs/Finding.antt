@@ -1,17 +1,22 @@
 -- The frame and the visit that a search for a letter finds.
-use Rattle.std.proofs.Common.{ℕ, zero, suc, ◌+◌, ◌<◌, ◌≤◌, ◌≡◌, List, [], ◌∷◌, Option, Some, None, cond, ◌==◌, ap, arith, sym, ◌∙◌, length, take, drop, get_or, inl, inr, subst, ◌^◌}
+use Rattle.std.proofs.Common.{ℕ, zero, suc, ◌+◌, ◌<◌, ◌≤◌, ◌≡◌, List, [], ◌∷◌, Option, Some, None, cond, ◌==◌, refl, ap, arith, sym, ◌∙◌, length, take, drop, get_or, inl, inr, subst, ◌^◌}
 use Rattle.std.proofs.lemmas.Bool.{cases_Bool, cases_eq, eq-eqb, eqb-true}
 use Rattle.std.specs.Prelude.{IfSome}
 use Rattle.std.specs.List.{AllByRecursion}
 use Rattle.pua_steps.specs.Order.{IsSplit}
-use Rattle.pua_steps.specs.Table.{IsTable, IsState, IsOpen, IsVisit, IsEntry, Rising, visit_of, missed, first_of, with_letter, graph_of, rest_of, visits_from, entries_at, missing_at}
+use Rattle.pua_steps.specs.Table.{IsTable, IsState, IsVisit, IsEntry, Rising, visit_of, missed, first_of, with_letter, visits_from, missing_at}
+use Rattle.pua_steps.specs.Lists.{IsListed, IsOpen, within, span_of, list_of, narrow_of, rest_of}
 use Rattle.pua_steps.specs.declared.state.State.{State}
 use Rattle.pua_steps.specs.declared.visit.Visit.{Visit}
-use Rattle.pua_steps.specs.declared.frame.Frame.{Frame}
 use Rattle.pua_steps.specs.declared.steps.Entry.{Entry}
 use Rattle.pua_steps.specs.declared.steps.Row.{Row}
 use Rattle.pua_steps.specs.declared.steps.Steps.{Steps}
-use Rattle.pua_steps.proofs.Visits.{some_at, row_entries, row_missing, entry_is, visit_is}
+use Rattle.pua_steps.specs.declared.frame.Frame.{Frame}
+use Rattle.pua_steps.specs.declared.live.Live as table
+use Rattle.pua_steps.specs.declared.lists.Span.{Span}
+use Rattle.pua_steps.specs.declared.lists.Lists.{Lists}
+use Rattle.pua_steps.proofs.Visits.{some_at, all_at, row_missing, visit_is}
+use Rattle.pua_steps.proofs.Listing.{all_within, drop-drop, list_rises}
 use Rattle.pua_steps.proofs.Splitting.{Cut, cut_at, split_missed, split_found}
 
 -- letters rise along entries
@@ -63,55 +68,100 @@ with_some a (Some x) e h =
       | inr apart ↦ (let bad : None ≡ Some e = ap (λ b. cond b (Some x) None) (sym apart) ∙ h in absurd cc)
     ]
 
-module _ (t : Steps) (s : State) (r : Row) (a p : ℕ) (known : IsTable t) (is : IsState t s) (within : a < t.letters) (here : r ≡ get_or t.rows.items s.dir r)
-    (low : AllByRecursion (λ e. e.letter < a) (take p r.entries.items)) (high : IfSome (first_of (drop p r.entries.items)) (λ e. a ≤ e.letter)) where
-  same : entries_at t s.dir ≡ r.entries.items
-  same = row_entries t s.dir r is.dir here
+module _ (t : Steps) (s : State) (es : List Entry) (a p : ℕ) (is : IsState t s) (within_all : a < t.letters) (known : AllByRecursion (λ e. IsEntry t e) es) (rises : Rising 0 es)
+    (low : AllByRecursion (λ e. e.letter < a) (take p es)) (high : IfSome (first_of (drop p es)) (λ e. a ≤ e.letter)) where
+  abbrev m : ℕ
+  m = missing_at t s.dir
 
-  cut : Cut t.letters (missing_at t s.dir) s.used a 0 (entries_at t s.dir) (drop p (entries_at t s.dir))
-  cut = cut_at t.letters (missing_at t s.dir) s.used a p 0 (entries_at t s.dir) (omega arith) within (known s.dir is.dir).rises (subst (λ es. AllByRecursion (λ (e : Entry). e.letter < a) (take p es)) (sym same) low) (subst (λ es. IfSome (first_of (drop p es)) (λ e. a ≤ e.letter)) (sym same) high)
+  abbrev from : ℕ → List Entry → List Visit
+  from next xs = visits_from t.letters m s.used next xs
+
+  cut : Cut t.letters m s.used a 0 es (drop p es)
+  cut = cut_at t.letters m s.used a p 0 es (omega arith) within_all rises low high
+
+  missed_parts : with_letter a (first_of (drop p es)) ≡ None → IsSplit a (from 0 es) (missed m a) (from (a + 1) (drop p es)) × Rising (a + 1) (drop p es)
+  missed_parts none = split_missed t.letters m s.used a 0 es (drop p es) within_all cut (with_none a (first_of (drop p es)) high none)
+
+  module _ (e : Entry) (some : with_letter a (first_of (drop p es)) ≡ Some e) where
+    named : (first_of (drop p es) ≡ Some e) × (e.letter ≡ a)
+    named = with_some a (first_of (drop p es)) e some
+
+    stands : (p < length es) × (drop p es ≡ e ∷ drop (p + 1) es)
+    stands = some_at es p e named.0
+
+    entry_found : IsEntry t e
+    entry_found = all_at (λ e. IsEntry t e) es known p e (drop (p + 1) es) stands.1
+
+    found_parts : IsSplit a (from 0 es) (visit_of s.used e) (from (a + 1) (drop (p + 1) es)) × Rising (a + 1) (drop (p + 1) es)
+    found_parts = split_found t.letters m s.used a 0 es (drop p es) (drop (p + 1) es) e cut stands.1 named.1
+
+-- the same by where the list stands
+module _ (t : Steps) (v : table.Live) (limit : ℕ) (ls : Lists) (known : IsTable t) (listed : IsListed t v limit ls) (l : ℕ) (short : l < limit) (s : State) (is : IsState t s) (a : ℕ) (within_all : a < t.letters)
+    (span : Span) (there : span ≡ span_of ls l s.dir) where
+  abbrev part : List Entry
+  part = within ls.entries.items span.place span.end
+
+  same : part ≡ list_of t v l s.dir
+  same = (λ i. within ls.entries.items (there i).place (there i).end) ∙ ((listed.layers l short).stand s.dir is.dir).same
+
+  inside : span.end ≤ length ls.entries.items
+  inside = subst (λ s. s.end ≤ length ls.entries.items) (sym there) ((listed.layers l short).stand s.dir is.dir).inside
+
+  pub part_rises : Rising 0 part
+  part_rises = subst (Rising 0) (sym same) (list_rises t v l s.dir known is.dir)
+
+  part_known : AllByRecursion (λ e. IsEntry t e) part
+  part_known = all_within (λ e. IsEntry t e) ls.entries.items span.place span.end listed.known
+
+  part_from : (place q : ℕ) → place ≡ span.place + q → within ls.entries.items place span.end ≡ drop q part
+  part_from place q e = ap (λ n. within ls.entries.items n span.end) e ∙ drop-drop span.place q (take span.end ls.entries.items)
 
   abbrev frame_at : ℕ → Frame
-  frame_at place = record { state = s; next = a + 1; place = place }
+  frame_at place = record { state = s; next = a + 1; place = place; end = span.end }
 
-  module _ (none : with_letter a (first_of (drop p r.entries.items)) ≡ None) where
-    missed_parts : IsSplit a (visits_from t.letters (missing_at t s.dir) s.used 0 (entries_at t s.dir)) (missed (missing_at t s.dir) a) (visits_from t.letters (missing_at t s.dir) s.used (a + 1) (drop p (entries_at t s.dir))) × Rising (a + 1) (drop p (entries_at t s.dir))
-    missed_parts =
-        let above : IfSome (first_of (drop p (entries_at t s.dir))) (λ e. a < e.letter) = subst (λ es. IfSome (first_of (drop p es)) (λ e. a < e.letter)) (sym same) (with_none a (first_of (drop p r.entries.items)) high none) in
-        split_missed t.letters (missing_at t s.dir) s.used a 0 (entries_at t s.dir) (drop p (entries_at t s.dir)) within cut above
+  opens : (place q : ℕ) → place ≡ span.place + q → Rising (a + 1) (drop q part) → IsOpen t ls (frame_at place)
+  opens place q e rises = record { state = is; inside = inside; rises = subst (Rising (a + 1)) (sym (part_from place q e)) rises }
 
-    pub missed_open : IsOpen t (frame_at p)
-    missed_open = record { state = is; rises = missed_parts.1 }
+  splits : (place q : ℕ) (x y : Visit) → place ≡ span.place + q → y ≡ x → IsSplit a (visits_from t.letters (missing_at t s.dir) s.used 0 part) x (visits_from t.letters (missing_at t s.dir) s.used (a + 1) (drop q part))
+      → IsSplit a (narrow_of t v l s) y (rest_of t ls (frame_at place))
+  unfolding narrow_of rest_of
+  splits place q x y e visit split =
+      subst (λ ws. IsSplit a (visits_from t.letters (missing_at t s.dir) s.used 0 ws) y (visits_from t.letters (missing_at t s.dir) s.used (a + 1) (within ls.entries.items place span.end))) same
+      (subst (λ ws. IsSplit a (visits_from t.letters (missing_at t s.dir) s.used 0 part) y (visits_from t.letters (missing_at t s.dir) s.used (a + 1) ws)) (sym (part_from place q e))
+      (subst (λ z. IsSplit a (visits_from t.letters (missing_at t s.dir) s.used 0 part) z (visits_from t.letters (missing_at t s.dir) s.used (a + 1) (drop q part))) (sym visit) split))
 
-    pub missed_split : (l : ℕ) → IsSplit a (graph_of t l s) (record { letter = a; calls = r.missing; behind = None }) (rest_of t (frame_at p))
-    unfolding graph_of rest_of
-    missed_split l =
-        subst (λ k. IsSplit a (visits_from t.letters (missing_at t s.dir) s.used 0 (entries_at t s.dir)) (missed k a) (visits_from t.letters (missing_at t s.dir) s.used (a + 1) (drop p (entries_at t s.dir)))) (row_missing t s.dir r is.dir here) missed_parts.0
+  module _ (p : ℕ) (low : AllByRecursion (λ e. e.letter < a) (take p part)) (high : IfSome (first_of (drop p part)) (λ e. a ≤ e.letter)) where
+    module _ (none : with_letter a (first_of (within ls.entries.items (span.place + p) span.end)) ≡ None) where
+      lacks : with_letter a (first_of (drop p part)) ≡ None
+      lacks = ap (λ es. with_letter a (first_of es)) (sym (part_from (span.place + p) p refl)) ∙ none
 
-    pub missed_visit : IsVisit t (record { letter = a; calls = r.missing; behind = None })
-    missed_visit = record { letter = within; calls = subst (λ k. k < 2 ^ 14) (row_missing t s.dir r is.dir here) (known s.dir is.dir).missing; behind = tt }
+      pub missed_open : IsOpen t ls (frame_at (span.place + p))
+      missed_open = opens (span.place + p) p refl (missed_parts t s part a p is within_all part_known part_rises low high lacks).1
 
-  module _ (e : Entry) (some : with_letter a (first_of (drop p r.entries.items)) ≡ Some e) where
-    named : (first_of (drop p r.entries.items) ≡ Some e) × (e.letter ≡ a)
-    named = with_some a (first_of (drop p r.entries.items)) e some
+      module _ (r : Row) (here : r ≡ get_or t.rows.items s.dir r) where
+        pub missed_visit : IsVisit t (record { letter = a; calls = r.missing; behind = None })
+        missed_visit = record { letter = within_all; calls = subst (λ k. k < 2 ^ 14) (row_missing t s.dir r is.dir here) (known s.dir is.dir).missing; behind = tt }
 
-    pub stands : (p < length r.entries.items) × (drop p r.entries.items ≡ e ∷ drop (p + 1) r.entries.items)
-    stands = some_at r.entries.items p e named.0
+        pub missed_split : IsSplit a (narrow_of t v l s) (record { letter = a; calls = r.missing; behind = None }) (rest_of t ls (frame_at (span.place + p)))
+        missed_split =
+            splits (span.place + p) p (missed (missing_at t s.dir) a) (record { letter = a; calls = r.missing; behind = None }) refl (ap (λ k. missed k a) (sym (row_missing t s.dir r is.dir here)))
+            (missed_parts t s part a p is within_all part_known part_rises low high lacks).0
 
-    pub found_entry : IsEntry t e
-    found_entry = entry_is t s.dir r p e (known s.dir is.dir).entries same stands.1
+    module _ (e : Entry) (some : with_letter a (first_of (within ls.entries.items (span.place + p) span.end)) ≡ Some e) where
+      has : with_letter a (first_of (drop p part)) ≡ Some e
+      has = ap (λ es. with_letter a (first_of es)) (sym (part_from (span.place + p) p refl)) ∙ some
 
-    found_parts : IsSplit a (visits_from t.letters (missing_at t s.dir) s.used 0 (entries_at t s.dir)) (visit_of s.used e) (visits_from t.letters (missing_at t s.dir) s.used (a + 1) (drop (p + 1) (entries_at t s.dir))) × Rising (a + 1) (drop (p + 1) (entries_at t s.dir))
-    found_parts =
-        split_found t.letters (missing_at t s.dir) s.used a 0 (entries_at t s.dir) (drop p (entries_at t s.dir)) (drop (p + 1) (entries_at t s.dir)) e cut
-        (ap (drop p) same ∙ stands.1 ∙ ap (λ es. e ∷ drop (p + 1) es) (sym same)) named.1
+      after : span.place + p + 1 ≡ span.place + (p + 1)
+      after = omega arith
 
-    pub found_open : IsOpen t (frame_at (p + 1))
-    found_open = record { state = is; rises = found_parts.1 }
+      pub found_entry : IsEntry t e
+      found_entry = entry_found t s part a p is within_all part_known part_rises low high e has
 
-    pub found_split : (l : ℕ) (x : Visit) → x ≡ visit_of s.used e → IsSplit a (graph_of t l s) x (rest_of t (frame_at (p + 1)))
-    unfolding graph_of rest_of
-    found_split l x e = subst (λ y. IsSplit a (visits_from t.letters (missing_at t s.dir) s.used 0 (entries_at t s.dir)) y (visits_from t.letters (missing_at t s.dir) s.used (a + 1) (drop (p + 1) (entries_at t s.dir)))) (sym e) found_parts.0
+      pub found_visit : (x : Visit) → x ≡ visit_of s.used e → IsVisit t x
+      found_visit x visit = subst (IsVisit t) (sym visit) (visit_is t s.used e found_entry is.used)
 
-    pub found_visit : (x : Visit) → x ≡ visit_of s.used e → IsVisit t x
-    found_visit x e = subst (IsVisit t) (sym e) (visit_is t s.used _ found_entry is.used)
+      pub found_open : IsOpen t ls (frame_at (span.place + p + 1))
+      found_open = opens (span.place + p + 1) (p + 1) after (found_parts t s part a p is within_all part_known part_rises low high e has).1
+
+      pub found_split : (x : Visit) → x ≡ visit_of s.used e → IsSplit a (narrow_of t v l s) x (rest_of t ls (frame_at (span.place + p + 1)))
+      found_split x visit = splits (span.place + p + 1) (p + 1) (visit_of s.used e) x after visit (found_parts t s part a p is within_all part_known part_rises low high e has).0

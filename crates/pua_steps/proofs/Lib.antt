@@ -6,7 +6,10 @@ pub mod Seeks
 pub mod Turning
 pub mod Opened
 pub mod Filling
+pub mod Listing
+pub mod Front
 pub mod Closing
+pub mod Narrowing
 pub mod Counting
 pub mod Spreading
 pub mod Stepping

@@ -1,5 +1,5 @@
 -- The letters of an open state, one after another.
-use Rattle.std.proofs.Common.{ℕ, zero, suc, ◌+◌, ◌-◌, ◌<◌, ◌≤◌, ◌≡◌, List, [], ◌∷◌, ◌++◌, Bool, true, false, not, cond, nat_lt, nat_le, ◌==◌, refl, ap, arith, sym, ◌∙◌, length, map, drop, get_or, Some, None, Option, option_map, inl, inr, subst}
+use Rattle.std.proofs.Common.{ℕ, zero, suc, ◌+◌, ◌-◌, ◌<◌, ◌≤◌, ◌≡◌, List, [], ◌∷◌, ◌++◌, Bool, true, false, not, cond, nat_lt, nat_le, ◌==◌, refl, ap, arith, sym, ◌∙◌, length, map, drop, get_or, Some, None, Option, option_map, inl, inr, subst, ◌^◌}
 use Rattle.std.specs.Prelude.{IfSome}
 use Rattle.std.specs.List.{range_with_len, AllByRecursion}
 use Rattle.std.proofs.lemmas.Bool.{and_parts, and_cases, not-true, ltb-true, ltb-false, leb-true, cases_Bool}
@@ -91,10 +91,6 @@ all_at P (y ∷ xs) all zero x more e = subst P (ap (λ (ys : List _). first y y
     first y (x ∷ xs) = x
 all_at P (y ∷ xs) all (suc i) x more e = all_at P xs all.1 i x more e
 
-pub entry_is : (t : Steps) (d : ℕ) (r : Row) (place : ℕ) (e : Entry) → AllByRecursion (λ e. IsEntry t e) (entries_at t d) → entries_at t d ≡ r.entries.items
-    → drop place r.entries.items ≡ e ∷ drop (place + 1) r.entries.items → IsEntry t e
-entry_is t d r place e all same split = all_at (λ e. IsEntry t e) (entries_at t d) all place e (drop (place + 1) r.entries.items) (ap (drop place) same ∙ split)
-
 -- what is left of a state whose next entry is this
 pub rises_on : (next : ℕ) (es : List Entry) (e : Entry) (more : List Entry) → es ≡ e ∷ more → Rising next es → Rising (e.letter + 1) more
 rises_on next es e more split rises =
@@ -115,3 +111,13 @@ visit_is t used e is low =
     leads : (to : Option ℕ) → IfSome to (λ d. d < length t.rows.items) → used + e.links ≤ 32 → IfSome (option_map (λ d. record { dir = d; used = used + e.links }) to) (λ s. IsState t s)
     leads None h fits = tt
     leads (Some d) h fits = record { dir = h; used = fits }
+
+-- a letter without an entry that comes next
+pub gap_is : (t : Steps) (m next : ℕ) (es : List Entry) → m < 2 ^ 14 → AllByRecursion (λ e. IsEntry t e) es → has_gap m next (end_of t.letters (first_of es)) ≡ true → IsVisit t (missed m next)
+gap_is t m next es fits all some =
+    let less : next < end_of t.letters (first_of es) = ltb-true next (end_of t.letters (first_of es)) (and_parts (not (m == 0)) (nat_lt next (end_of t.letters (first_of es))) some).1 in
+    record { letter = omega (arith, less, end_within es all); calls = fits; behind = tt }
+  where
+    end_within : (es : List Entry) → AllByRecursion (λ e. IsEntry t e) es → end_of t.letters (first_of es) ≤ t.letters
+    end_within [] all = omega arith
+    end_within (e ∷ es) all = omega (arith, all.0.letter)

@@ -4,6 +4,7 @@ pub mod Graph
 pub mod Trail
 pub mod Table
 pub mod Live
+pub mod Lists
 pub mod Ready
 pub mod Reached
 pub mod Order

@@ -4,8 +4,8 @@ use Rattle.pua_steps.specs.Calls.{calls_of}
 use Rattle.pua_steps.specs.Graph.{Graph, Word, Pair, cons, alone, below}
 use Rattle.pua_steps.specs.Order.{rest_after}
 use Rattle.pua_steps.specs.Trail.{Live, pairs_of, pending}
-use Rattle.pua_steps.specs.Table.{graph_of}
 use Rattle.pua_steps.specs.Live.{live_of}
+use Rattle.pua_steps.specs.Lists.{narrow_of}
 use Rattle.pua_steps.specs.Ready.{rests_of}
 use Rattle.pua_steps.specs.declared.state.State.{State}
 use Rattle.pua_steps.specs.declared.visit.Visit.{Visit}
@@ -22,4 +22,4 @@ to_give g live limit word calls o rests way call =
     cons_all word (rest_after (way, call) (alone (calls_of calls) ++ below g (limit - length word) o)) ++ pairs_of (pending g live limit 0 word rests)
 
 abbrev pub to_give_after : Walk → Word → ℕ → List Pair
-to_give_after a way call = to_give (graph_of a.steps) (live_of a.live) a.limit a.word.items a.calls a.behind (rests_of a.steps a.frames.items) way call
+to_give_after a way call = to_give (narrow_of a.steps a.live) (live_of a.live) a.limit a.word.items a.calls a.behind (rests_of a.steps a.lists a.frames.items) way call

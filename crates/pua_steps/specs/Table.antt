@@ -1,11 +1,10 @@
 -- The graph that a table of steps is.
-use Rattle.std.specs.Prelude.{◌≡◌, ◌<◌, ◌≤◌, ◌^◌, ℕ, suc, ◌+◌, ◌-◌, Bool, not, ◌&&◌, cond, nat_lt, nat_le, ◌==◌, List, [], ◌∷◌, ◌++◌, map, drop, length, get_or, Option, Some, None, option_map, IfSome, ⊤}
+use Rattle.std.specs.Prelude.{◌≡◌, ◌<◌, ◌≤◌, ◌^◌, ℕ, suc, ◌+◌, ◌-◌, Bool, not, ◌&&◌, cond, nat_lt, nat_le, ◌==◌, List, [], ◌∷◌, ◌++◌, map, length, get_or, Option, Some, None, option_map, IfSome, ⊤}
 use Rattle.std.specs.List.{range_with_len, AllByRecursion}
 use Rattle.pua_steps.specs.Limits.{most_links, call_count}
 use Rattle.pua_steps.specs.Graph.{Graph}
 use Rattle.pua_steps.specs.declared.state.State.{State}
 use Rattle.pua_steps.specs.declared.visit.Visit.{Visit}
-use Rattle.pua_steps.specs.declared.frame.Frame.{Frame}
 use Rattle.pua_steps.specs.declared.steps.Entry.{Entry}
 use Rattle.pua_steps.specs.declared.steps.Row.{Row}
 use Rattle.pua_steps.specs.declared.steps.Steps.{Steps}
@@ -62,10 +61,6 @@ visits_from letters missing used next (e ∷ es) = gap missing next (e.letter - 
 unfoldable pub graph_of : Steps → Graph
 graph_of t l s = visits_from t.letters (missing_at t s.dir) s.used 0 (entries_at t s.dir)
 
--- what an open state has left
-unfoldable pub rest_of : Steps → Frame → List Visit
-rest_of t f = visits_from t.letters (missing_at t f.state.dir) f.state.used f.next (drop f.place (entries_at t f.state.dir))
-
 -- a directory of the table, and no more links than may be followed
 pub record IsState (t : Steps) (s : State) : Type 0 where
   pub dir : s.dir < length t.rows.items
@@ -92,11 +87,6 @@ pub record IsRow (t : Steps) (es : List Entry) (m : ℕ) : Type 0 where
 
 abbrev pub IsTable : Steps → Type 0
 IsTable t = (d : ℕ) → d < length t.rows.items → IsRow t (entries_at t d) (missing_at t d)
-
--- the entries that are left come after the letters that were tried
-pub record IsOpen (t : Steps) (f : Frame) : Type 0 where
-  pub state : IsState t f.state
-  pub rises : Rising f.next (drop f.place (entries_at t f.state.dir))
 
 pub record IsVisit (t : Steps) (v : Visit) : Type 0 where
   pub letter : v.letter < t.letters

@@ -2,11 +2,12 @@
 
 use crate::state::State;
 
-/// An open state: the letters from `next` on, and its directory's entries from `place` on, are still
-/// to be tried.
+/// An open state: the letters from `next` on, and the entries of its list from `place` on and before
+/// `end`, are still to be tried.
 #[derive(Clone, Copy, Debug, PartialEq, Eq)]
 pub struct Frame {
     pub state: State,
     pub next: u32,
     pub place: usize,
+    pub end: usize,
 }

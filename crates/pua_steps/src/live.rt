@@ -1,6 +1,6 @@
 //! The table of live states.
 
-ghost use Rattle.std.specs.Prelude.{◌≡◌, ◌≤◌, ◌<◌, ◌+◌, ◌*◌, ◌^◌, suc, length, IfSome, IfOk};
+ghost use Rattle.std.specs.Prelude.{◌≡◌, ◌≢◌, ◌≤◌, ◌<◌, ◌+◌, ◌-◌, ◌*◌, ◌^◌, ℕ, suc, true, false, length, get_or, IfSome, IfOk};
 ghost use Rattle.pua_steps.specs.Limits.{most_letters, most_links};
 ghost use Rattle.pua_steps.specs.Table.{IsTable, graph_of};
 ghost use Rattle.pua_steps.specs.Live.{live_of, entrance, bound_of, IsBound, IsFilled, IsSized};
@@ -42,6 +42,25 @@ impl Live {
         }
         None
     }
+
+    /// Whether the bounds where `left` letters may come are those where one letter fewer may.
+    pub(crate) fn repeats(&self, left: usize) -> bool
+        requires some { 0 < left }
+        requires layer { left * self.now.dirs + self.now.dirs ≤ length self.now.bounds.items }
+        ensures same { result ≡ true → (d : ℕ) → d < self.now.dirs →
+            get_or self.now.bounds.items (left * self.now.dirs + d) 0
+            ≡ get_or self.now.bounds.items ((left - 1) * self.now.dirs + d) 0 }
+        ensures other { result ≡ false → (d : ℕ) × ((d < self.now.dirs)
+            × (get_or self.now.bounds.items (left * self.now.dirs + d) 0
+            ≢ get_or self.now.bounds.items ((left - 1) * self.now.dirs + d) 0)) }
+    {
+        for dir in 0..self.dirs {
+            if self.bounds[left * self.dirs + dir] != self.bounds[(left - 1) * self.dirs + dir] {
+                return false;
+            }
+        }
+        true
+    }
 }
 
 /// The greatest bound: a directory that is live whatever number of links was followed before.
@@ -50,7 +69,7 @@ const MOST_BOUND: u8 = MOST_LINKS + 1;
 impl Entry {
     /// The bound by which this letter alone makes its directory live, where at most `left` letters
     /// come after it, by the bounds for so many: 33 where a call is allowed with the final link kept.
-    fn bound(&self, bounds: &[u8], dirs: usize, left: usize) -> u8
+    pub(crate) fn bound(&self, bounds: &[u8], dirs: usize, left: usize) -> u8
         requires links { self.now.links ≤ most_links }
         requires layer { left * dirs + dirs ≤ length bounds.now }
         requires to { IfSome self.now.to (λ d. d < dirs) }

@@ -5,9 +5,10 @@ ghost use Rattle.std.specs.List.{AllByRecursion};
 ghost use Rattle.pua_steps.specs.Limits.{most_letters, call_count};
 ghost use Rattle.pua_steps.specs.Graph.{reach};
 ghost use Rattle.pua_steps.specs.Order.{rest_after, IsSplit};
-ghost use Rattle.pua_steps.specs.Table.{IsTable, IsState, IsOpen, IsVisit, graph_of, rest_of};
+ghost use Rattle.pua_steps.specs.Lists.{IsOpen, narrow_of, rest_of};
+ghost use Rattle.pua_steps.specs.Table.{IsTable, IsState, IsVisit, graph_of};
 ghost use Rattle.pua_steps.specs.Trail.{pairs_of};
-ghost use Rattle.pua_steps.specs.Ready.{IsReady, IsOf, trail};
+ghost use Rattle.pua_steps.specs.Ready.{IsReady, IsSound, IsOf, trail};
 ghost use Rattle.pua_steps.specs.Resuming.{to_give_after};
 
 use crate::calls::calls_after;
@@ -23,41 +24,6 @@ use std::alloc::{AllocError, Global};
 struct Found {
     frame: Frame,
     visit: Visit,
-}
-
-impl Steps {
-    /// Finds a letter among those of a state, by one binary search among its directory's entries.
-    fn find(&self, state: State, letter: u32) -> Found
-        requires table { IsTable self.now }
-        requires state { IsState self.now state }
-        requires letter { letter < self.now.letters }
-        ensures open { IsOpen self.now result.frame }
-        ensures visit { IsVisit self.now result.visit }
-        ensures split { (l : ℕ) →
-            IsSplit letter (graph_of self.now l state) result.visit (rest_of self.now result.frame) }
-    {
-        let row = &self.rows[state.dir as usize];
-        let place = row.place_of(letter);
-        let next = letter + 1;
-        let Some(entry) = row.entry_of(place, letter) else {
-            return Found {
-                frame: Frame { state, next, place },
-                visit: Visit {
-                    letter,
-                    calls: row.missing,
-                    behind: None,
-                },
-            };
-        };
-        Found {
-            frame: Frame {
-                state,
-                next,
-                place: place + 1,
-            },
-            visit: entry.visit(state.used),
-        }
-    }
 }
 
 impl Walk {
@@ -115,6 +81,50 @@ impl Walk {
         self.calls = calls_after(self.calls, call);
     }
 
+    /// Finds a letter among those of a state, by one binary search in its list, where at most `left`
+    /// letters may come after it.
+    fn find(&self, left: usize, state: State, letter: u32) -> Found
+        requires sound { IsSound self.now }
+        requires left { left < self.now.limit }
+        requires state { IsState self.now.steps state }
+        requires letter { letter < self.now.steps.letters }
+        ensures open { IsOpen self.now.steps self.now.lists result.frame }
+        ensures visit { IsVisit self.now.steps result.visit }
+        ensures split { IsSplit letter (narrow_of self.now.steps self.now.live left state) result.visit
+            (rest_of self.now.steps self.now.lists result.frame) }
+    {
+        prove!(letter < self.steps.letters);
+        let row = &self.steps.rows[state.dir as usize];
+        let span = self.lists.span(left, state.dir);
+        let place = span.place + self.lists.count_before(span, letter);
+        let next = letter + 1;
+        let end = span.end;
+        let Some(entry) = self.lists.entry_of(place, end, letter) else {
+            return Found {
+                frame: Frame {
+                    state,
+                    next,
+                    place,
+                    end,
+                },
+                visit: Visit {
+                    letter,
+                    calls: row.missing,
+                    behind: None,
+                },
+            };
+        };
+        Found {
+            frame: Frame {
+                state,
+                next,
+                place: place + 1,
+                end,
+            },
+            visit: entry.visit(state.used),
+        }
+    }
+
     /// Goes on to the word with this letter more, past the letters before it.
     fn descend(&mut self, state: State, letter: u32)
         requires ready { IsReady self.old }
@@ -128,7 +138,7 @@ impl Walk {
             to_give_after self.old (letter ∷ way) call ≡ to_give_after self.new way call }
     {
         let left = self.limit - self.word.len() - 1;
-        let found = self.steps.find(state, letter);
+        let found = self.find(left, state, letter);
         let behind = self.live.entrance(left, found.visit.behind);
         self.enter(
             found.frame,

@@ -1,10 +1,13 @@
 //! The search for the next letter of an open state.
 
 ghost use Rattle.std.specs.Prelude.{◌≡◌, ◌≤◌, ◌+◌, ◌*◌, ℕ, length, IfSome};
-ghost use Rattle.pua_steps.specs.Table.{IsTable, IsOpen};
+ghost use Rattle.std.specs.List.{AllByRecursion};
+ghost use Rattle.pua_steps.specs.Lists.{IsOpen};
+ghost use Rattle.pua_steps.specs.Table.{IsTable, IsEntry};
 ghost use Rattle.pua_steps.specs.Ready.{IsGiven, IsScanned, IsCounted, is_idle};
 
 use crate::frame::Frame;
+use crate::lists::Lists;
 use crate::live::Live;
 use crate::steps::Steps;
 use crate::visit::Visit;
@@ -23,21 +26,23 @@ impl Visit {
 /// read is counted, up to the greatest value of the count.
 pub fn next_visit(
     steps: &Steps,
+    lists: &Lists,
     live: &Live,
     left: usize,
     frame: &mut Frame,
     seen: &mut u64,
 ) -> Option<Visit>
     requires table { IsTable steps.now }
+    requires known { AllByRecursion (λ e. IsEntry steps.now e) lists.now.entries.items }
     requires layer { left * live.now.dirs + live.now.dirs ≤ length live.now.bounds.items }
     requires dirs { live.now.dirs ≡ length steps.now.rows.items }
-    requires open { IsOpen steps.now frame.old }
-    ensures open { IsOpen steps.now frame.new }
+    requires open { IsOpen steps.now lists.now frame.old }
+    ensures open { IsOpen steps.now lists.now frame.new }
     ensures given { IfSome result (λ v. IsGiven steps.now live.now left v) }
     ensures next { (n : ℕ) × (IsCounted seen.old n seen.new
-        × IsScanned steps.now live.now left frame.old result frame.new n) }
+        × IsScanned steps.now live.now lists.now left frame.old result frame.new n) }
 {
-    while let Some(visit) = steps.visit(frame) {
+    while let Some(visit) = steps.visit(lists, frame) {
         *seen = seen.saturating_add(1);
         let behind = live.entrance(left, visit.behind);
         let visit = Visit {

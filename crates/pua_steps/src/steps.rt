@@ -1,12 +1,14 @@
 //! The table of steps: what each letter in each directory leads to.
 
-ghost use Rattle.std.specs.Prelude.{◌≡◌, ◌<◌, ◌≤◌, ◌∷◌, [], MatchOption, IfSome, option_map, take, drop, length};
+ghost use Rattle.std.specs.Prelude.{◌≡◌, ◌<◌, ◌≤◌, ◌∷◌, [], MatchOption, IfSome, option_map};
 ghost use Rattle.std.specs.List.{AllByRecursion};
 ghost use Rattle.pua_steps.specs.Limits.{most_links};
-ghost use Rattle.pua_steps.specs.Table.{IsTable, IsOpen, rest_of, visit_of, IsVisit, Rising, first_of, with_letter, has_gap, end_of};
+ghost use Rattle.pua_steps.specs.Lists.{IsOpen, rest_of};
+ghost use Rattle.pua_steps.specs.Table.{IsTable, IsEntry, IsVisit, visit_of, has_gap, end_of};
 
 use crate::frame::Frame;
 use crate::limits::MOST_LINKS;
+use crate::lists::Lists;
 use crate::state::State;
 use crate::visit::Visit;
 
@@ -72,39 +74,6 @@ impl Entry {
 }
 
 impl Row {
-    /// The entry at a place, or None past the last one.
-    fn entry(&self, place: usize) -> Option<Entry>
-        ensures { result ≡ first_of (drop place self.now.entries.items) }
-    {
-        if place < self.entries.len() {
-            return Some(self.entries[place]);
-        }
-        None
-    }
-
-    /// How many entries stand before a letter: the place of its own entry, if it has one. It is found by
-    /// one binary search.
-    pub(crate) fn place_of(&self, letter: u32) -> usize
-        requires { Rising 0 self.now.entries.items }
-        ensures low { AllByRecursion (λ e. e.letter < letter) (take result self.now.entries.items) }
-        ensures high { IfSome (first_of (drop result self.now.entries.items)) (λ e. letter ≤ e.letter) }
-    {
-        self.entries
-            .as_slice()
-            .partition_point(|entry| entry.letter < letter)
-    }
-
-    /// The entry at a place, if it is that of the letter.
-    pub(crate) fn entry_of(&self, place: usize, letter: u32) -> Option<Entry>
-        ensures { result ≡ with_letter letter (first_of (drop place self.now.entries.items)) }
-    {
-        let entry = self.entry(place)?;
-        if entry.letter == letter {
-            return Some(entry);
-        }
-        None
-    }
-
     /// Whether calls are allowed on the letters without entries, and there is one of them from `next`
     /// on and before `end`.
     pub(crate) fn has_gap(&self, next: u32, end: u32) -> bool
@@ -126,16 +95,17 @@ impl Steps {
     }
 
     /// Takes the next letter of an open state. None where it has none left: the frame stays as it is.
-    pub(crate) fn visit(&self, frame: &mut Frame) -> Option<Visit>
+    pub(crate) fn visit(&self, lists: &Lists, frame: &mut Frame) -> Option<Visit>
         requires table { IsTable self.now }
-        requires open { IsOpen self.now frame.old }
-        ensures open { IsOpen self.now frame.new }
-        ensures rest { MatchOption result (rest_of self.now frame.old ≡ [])
-            (λ v. rest_of self.now frame.old ≡ v ∷ rest_of self.now frame.new) }
+        requires known { AllByRecursion (λ e. IsEntry self.now e) lists.now.entries.items }
+        requires open { IsOpen self.now lists.now frame.old }
+        ensures open { IsOpen self.now lists.now frame.new }
+        ensures rest { MatchOption result (rest_of self.now lists.now frame.old ≡ [])
+            (λ v. rest_of self.now lists.now frame.old ≡ v ∷ rest_of self.now lists.now frame.new) }
         ensures visit { IfSome result (λ v. IsVisit self.now v) }
     {
         let row = &self.rows[frame.state.dir as usize];
-        let entry = row.entry(frame.place);
+        let entry = lists.entry(frame.place, frame.end);
         if row.has_gap(frame.next, self.end(entry)) {
             let letter = frame.next;
             frame.next += 1;

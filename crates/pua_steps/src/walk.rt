@@ -1,14 +1,15 @@
 //! The walk through the words over a table of steps.
 
-ghost use Rattle.std.specs.Prelude.{◌≡◌, ◌≤◌, ◌<◌, ◌+◌, ◌∷◌, ◌++◌, [], ℕ, IfSome, ◌*◌, ◌^◌, suc, IfOk, length, vec_capacity, MatchOption};
+ghost use Rattle.std.specs.Prelude.{◌≡◌, ◌≢◌, ◌≤◌, ◌<◌, ◌+◌, ◌∷◌, ◌++◌, [], ℕ, IfSome, ◌*◌, ◌^◌, suc, IfOk, length, vec_capacity, MatchOption};
 ghost use Rattle.pua_steps.specs.Limits.{most_letters, call_count};
 ghost use Rattle.pua_steps.specs.Graph.{reach};
 ghost use Rattle.pua_steps.specs.Table.{IsTable, IsState, graph_of};
 ghost use Rattle.pua_steps.specs.Trail.{pairs_of};
-ghost use Rattle.pua_steps.specs.Ready.{IsReady, IsBetween, IsOf, IsTurned, IsNext, IsCounted, left_over, trail};
+ghost use Rattle.pua_steps.specs.Ready.{IsReady, IsBetween, IsOf, IsTurned, IsNext, IsCounted, IsUnchanged, StaysFront, left_over, trail};
 
 use crate::calls::take_first;
 use crate::frame::Frame;
+use crate::lists::Lists;
 use crate::live::Live;
 use crate::seek::next_visit;
 use crate::state::State;
@@ -23,10 +24,13 @@ use std::alloc::{AllocError, Global};
 pub struct Walk {
     pub steps: Steps,
     pub live: Live,
+    pub lists: Lists,
     /// The most letters of a word.
     pub limit: usize,
     /// The word, by the places of its letters in the alphabet.
     pub word: Vec<u32>,
+    /// How many letters at the front of the word are as they were before the last `next_call`.
+    pub unchanged: usize,
     /// The calls of the word that are still to be given.
     pub calls: u16,
     /// The state to which the word leads, where it is live.
@@ -40,8 +44,8 @@ pub struct Walk {
 impl Walk {
     /// A walk with all pairs ahead of it, by words of at most `limit` letters: `calls` are the calls of
     /// the empty word, and `base` is the state in which the first letter stands, if there is one. It
-    /// reserves all that the walk will need, and reads no letter. The one error is that a growth was refused, after which
-    /// nothing is kept.
+    /// reserves all that the walk will need, and reads no letter. The one error is that a growth was
+    /// refused, after which nothing is kept.
     pub fn begin(
         alloc: Global,
         steps: Steps,
@@ -61,14 +65,17 @@ impl Walk {
         ensures left { IfOk result (λ walk. pairs_of (trail walk) ≡ reach (graph_of steps) limit calls base) }
     {
         let live = Live::fill(alloc, &steps, limit)?;
+        let lists = Lists::fill(alloc, &steps, &live, limit)?;
         let word = Vec::with_capacity(alloc, limit)?;
         let frames = Vec::with_capacity(alloc, limit)?;
         let behind = live.entrance(limit, base);
         Ok(Walk {
             steps,
             live,
+            lists,
             limit,
             word,
+            unchanged: 0,
             calls,
             behind,
             frames,
@@ -77,7 +84,8 @@ impl Walk {
     }
 
     /// The call of the next pair, whose word is then the walk's. None where no pair is left, now and
-    /// from then on. It reads at most `2 * limit * letters` letters, and takes no memory.
+    /// from then on. It reads at most `2 * limit * letters` letters, and takes no memory. Of the word
+    /// as it was before, the first `unchanged` letters stay.
     pub fn next_call(&mut self) -> Option<u8>
         requires ready { IsReady self.old }
         ensures ready { IsReady self.new }
@@ -86,8 +94,29 @@ impl Walk {
             (λ call. pairs_of (trail self.old) ≡ (self.new.word.items, call) ∷ pairs_of (trail self.new)) }
         ensures count { (n : ℕ) × (IsCounted self.old.seen n self.new.seen × IsNext self.old result self.new n) }
         ensures cost { self.new.seen ≤ self.old.seen + 2 * (self.old.limit * self.old.steps.letters) }
+        ensures unchanged { IsUnchanged self.old.word.items self.new.unchanged self.new.word.items }
+        ensures stays { self.old.calls ≢ 0 →
+            (self.new.word ≡ self.old.word) × (self.new.unchanged ≡ length self.old.word.items) }
     {
+        self.unchanged = self.word.len();
         self.go_on()
+    }
+
+    /// The word of the pair that was given last, by the places of its letters in the alphabet. Before
+    /// the first call it is the word from which the walk goes on.
+    pub fn word(&self) -> &[u32]
+        ensures { result.now ≡ self.now.word.items }
+    {
+        &self.word
+    }
+
+    /// How many letters at the front of the word the last `next_call` left as they were. What is made
+    /// of the word letter by letter has to be made again from there on. Where the call is of the same
+    /// word as the one before, it is the length of the word.
+    pub fn unchanged(&self) -> usize
+        ensures { result ≡ self.now.unchanged }
+    {
+        self.unchanged
     }
 
     /// How many letters the walk has read so far. It stays at its greatest value once there.
@@ -103,6 +132,9 @@ impl Walk {
         ensures ready { IsReady self.new }
         ensures same { IsOf self.old self.new }
         ensures next { (n : ℕ) × (IsCounted self.old.seen n self.new.seen × IsNext self.old result self.new n) }
+        ensures unchanged { StaysFront self.old.unchanged self.old.word.items self.new.unchanged self.new.word.items }
+        ensures stays { self.old.calls ≢ 0 →
+            (self.new.word ≡ self.old.word) × (self.new.unchanged ≡ self.old.unchanged) }
     {
         'words: loop {
             if let Some(call) = take_first(&mut self.calls) {
@@ -121,16 +153,13 @@ impl Walk {
         ensures ready { IsReady self.new }
         ensures same { IsOf self.old self.new }
         ensures next { (n : ℕ) × (IsCounted self.old.seen n self.new.seen × IsTurned (trail self.old) result self.new n) }
+        ensures unchanged { StaysFront self.old.unchanged self.old.word.items self.new.unchanged self.new.word.items }
     {
         if let Some(state) = self.behind {
             self.behind = None;
-            self.frames
-                .push(Frame {
-                    state,
-                    next: 0,
-                    place: 0,
-                })
-                .unwrap();
+            let left = self.limit - self.word.len() - 1;
+            let frame = self.lists.open(left, state);
+            self.frames.push(frame).unwrap();
             return self.turn();
         }
         let _ = self.word.pop();
@@ -144,21 +173,25 @@ impl Walk {
         ensures same { IsOf self.old self.new }
         ensures next { (n : ℕ) × (IsCounted self.old.seen n self.new.seen
             × IsTurned (left_over self.old self.old.frames.items) result self.new n) }
+        ensures unchanged { StaysFront self.old.unchanged self.old.word.items self.new.unchanged self.new.word.items }
     {
         while let Some(mut frame) = self.frames.pop() {
             let left = self.limit - self.word.len() - 1;
             if let Some(visit) = next_visit(
                 &self.steps,
+                &self.lists,
                 &self.live,
                 left,
                 &mut frame,
                 &mut self.seen,
             ) {
+                self.unchanged = self.unchanged.min(self.word.len());
                 self.enter(frame, visit);
                 return true;
             }
             let _ = self.word.pop();
         }
+        self.unchanged = 0;
         false
     }
 
@@ -167,7 +200,8 @@ impl Walk {
         requires words { length self.old.word.items < vec_capacity self.old.word }
         requires frames { length self.old.frames.items < vec_capacity self.old.frames }
         ensures kept { (self.new.steps ≡ self.old.steps) × (self.new.live ≡ self.old.live)
-            × (self.new.limit ≡ self.old.limit) × (self.new.seen ≡ self.old.seen) }
+            × (self.new.limit ≡ self.old.limit) × (self.new.seen ≡ self.old.seen)
+            × (self.new.lists ≡ self.old.lists) × (self.new.unchanged ≡ self.old.unchanged) }
         ensures room { (vec_capacity self.old.word ≤ vec_capacity self.new.word)
             × (vec_capacity self.old.frames ≤ vec_capacity self.new.frames) }
         ensures frames { self.new.frames.items ≡ self.old.frames.items ++ frame ∷ [] }

@@ -1,5 +1,5 @@
 use Rattle.std.proofs.Common.{◌≡◌, ◌+◌, true, sym, ◌∙◌, arith}
-use Rattle.pua_steps.specs.Table.{graph_of, rest_of}
+use Rattle.pua_steps.specs.Lists.{narrow_of, rest_of}
 use Rattle.pua_steps.specs.Live.{live_of}
 use Rattle.pua_steps.specs.Trail.{branches}
 use Rattle.pua_steps.specs.Ready.{is_idle}
@@ -14,6 +14,7 @@ pub returns-then-not-is_idle-clause-next : goal.returns-then-not-is_idle-clause-
 returns-then-not-is_idle-clause-next c =
     let t = c.args.steps.now in
     let v = c.args.live.now in
+    let ls = c.args.lists.now in
     let far = c.loop-visit.invariant.so_far in
     let x : Visit = record { letter = c.in-Some.visit.letter; calls = c.in-Some.visit.calls; behind = c.entrance-behind.result } in (
       far.0 + 1,
@@ -22,7 +23,7 @@ returns-then-not-is_idle-clause-next c =
         record {
           next = (
             omega arith,
-            found (graph_of t) (live_of v) c.args.left (branches (graph_of t) (live_of v) c.args.left (rest_of t c.args.frame.now)) far.0 (rest_of t c.loop-visit.frame) (rest_of t c.visit.new.frame) c.in-Some.visit x far.1.1 c.in-Some.ensures.rest
+            found (narrow_of t v) (live_of v) c.args.left (branches (narrow_of t v) (live_of v) c.args.left (rest_of t ls c.args.frame.now)) far.0 (rest_of t ls c.loop-visit.frame) (rest_of t ls c.visit.new.frame) c.in-Some.visit x far.1.1 c.in-Some.ensures.rest
                 (λ i. record { letter = c.in-Some.visit.letter; calls = c.in-Some.visit.calls; behind = c.entrance-behind.ensures i }),
           );
         },
@@ -33,6 +34,7 @@ pub loop-visit-preserved : goal.loop-visit-preserved
 loop-visit-preserved c =
     let t = c.args.steps.now in
     let v = c.args.live.now in
+    let ls = c.args.lists.now in
     let far = c.loop-visit.invariant.so_far in
     let x : Visit = record { letter = c.in-Some.visit.letter; calls = c.in-Some.visit.calls; behind = c.entrance-behind.result } in
     let idle : is_idle x ≡ true = sym c.is_idle.ensures ∙ c.if-not-is_idle.false in
@@ -42,7 +44,7 @@ loop-visit-preserved c =
         far.0 + 1,
         (
           counted_one c.args.seen.now far.0 c.loop-visit.seen c.saturating_add.result far.1.0 c.saturating_add.ensures,
-          passed (graph_of t) (live_of v) c.args.left (branches (graph_of t) (live_of v) c.args.left (rest_of t c.args.frame.now)) far.0 (rest_of t c.loop-visit.frame) (rest_of t c.visit.new.frame) c.in-Some.visit x far.1.1 c.in-Some.ensures.rest
+          passed (narrow_of t v) (live_of v) c.args.left (branches (narrow_of t v) (live_of v) c.args.left (rest_of t ls c.args.frame.now)) far.0 (rest_of t ls c.loop-visit.frame) (rest_of t ls c.visit.new.frame) c.in-Some.visit x far.1.1 c.in-Some.ensures.rest
               (λ i. record { letter = c.in-Some.visit.letter; calls = c.in-Some.visit.calls; behind = c.entrance-behind.ensures i }) idle,
         ),
       );
@@ -52,5 +54,6 @@ pub returns-clause-next : goal.returns-clause-next
 returns-clause-next c =
     let t = c.args.steps.now in
     let v = c.args.live.now in
+    let ls = c.args.lists.now in
     let far = c.loop-visit.invariant.so_far in
-    (far.0, (far.1.0, record { next = none_found (graph_of t) (live_of v) c.args.left (branches (graph_of t) (live_of v) c.args.left (rest_of t c.args.frame.now)) far.0 (rest_of t c.loop-visit.frame) far.1.1 c.in_default.ensures.rest }))
+    (far.0, (far.1.0, record { next = none_found (narrow_of t v) (live_of v) c.args.left (branches (narrow_of t v) (live_of v) c.args.left (rest_of t ls c.args.frame.now)) far.0 (rest_of t ls c.loop-visit.frame) far.1.1 c.in_default.ensures.rest }))

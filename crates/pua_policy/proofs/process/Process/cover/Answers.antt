@@ -18,12 +18,12 @@ returns-in-Whole-clause-exact g c = λ h s.
 pub returns-in-Some-clause-exact : goal.returns-in-Some-clause-exact
 returns-in-Some-clause-exact g c = λ h s.
     let t = g.P.Probe.tree c.args.probe.now in
-    sym (cover-own c.args.self.now h s t (sym c.is_veiled.ensures ∙ c.if-not-is_veiled.false) c.in-Slot.dir c.in-Slot.name c.in-Slot.node c.in-Some.perms (sym c.kept.ensures ∙ c.in-Some.is))
+    sym (cover-own c.args.self.now h s t (sym c.is_veiled.ensures ∙ c.if-not-is_veiled.false) c.in-Slot.dir c.in-Slot.name c.in-Slot.node c.in-Some.perms (sym c.kept.ensures.state ∙ c.in-Some.is))
     ∙ ap (cover t h) (sym c.in-Slot.is)
 
 pub returns-in-None-clause-exact : goal.returns-in-None-clause-exact
 returns-in-None-clause-exact g c = λ h s.
     let t = g.P.Probe.tree c.args.probe.now in
     c.nearest-in-None.ensures.exact
-    ∙ sym (cover-beneath c.args.self.now h s t (sym c.is_veiled.ensures ∙ c.if-not-is_veiled.false) c.in-Slot.dir c.in-Slot.name c.in-Slot.node (sym c.kept.ensures ∙ c.in-None.is))
+    ∙ sym (cover-beneath c.args.self.now h s t (sym c.is_veiled.ensures ∙ c.if-not-is_veiled.false) c.in-Slot.dir c.in-Slot.name c.in-Slot.node (sym c.kept.ensures.state ∙ c.in-None.is))
     ∙ ap (cover t h) (sym c.in-Slot.is)

@@ -27,7 +27,7 @@ goes_up g c =
 pub returns-in-Some-clause-exact : goal.returns-in-Some-clause-exact
 returns-in-Some-clause-exact g c =
     let t = g.P.Probe.tree c.args.probe.now in
-    sym (nearest_here t c.requires.tree (λ dir. veil_at c.args.self.now.veils (Dir dir)) c.loop-perms.dir c.in-Some.perms c.loop-perms.invariant.living (sym c.kept.ensures ∙ c.in-Some.is))
+    sym (nearest_here t c.requires.tree (λ dir. veil_at c.args.self.now.veils (Dir dir)) c.loop-perms.dir c.in-Some.perms c.loop-perms.invariant.living (sym c.kept.ensures.state ∙ c.in-Some.is))
     ∙ c.loop-perms.invariant.still_nearest
 
 pub returns-in-Some-clause-cost : goal.returns-in-Some-clause-cost
@@ -56,7 +56,7 @@ loop-perms-preserved g c =
       same_tree = c.parent.ensures.tree ∙ c.loop-perms.invariant.same_tree;
       living = rw (goes_up g c) (is_dir_above t c.requires.tree dir);
       still_nearest = ap (λ d. nearest (map (λ dir. veil_at c.args.self.now.veils (Dir dir)) (climb t d))) (goes_up g c)
-          ∙ sym (nearest_above t c.requires.tree (λ dir. veil_at c.args.self.now.veils (Dir dir)) dir (is_other g c) living (sym c.kept.ensures ∙ c.in_default.is))
+          ∙ sym (nearest_above t c.requires.tree (λ dir. veil_at c.args.self.now.veils (Dir dir)) dir (is_other g c) living (sym c.kept.ensures.state ∙ c.in_default.is))
           ∙ c.loop-perms.invariant.still_nearest;
       cost = rw (goes_up g c) (omega (arith, step, c.parent.ensures.count, c.loop-perms.invariant.cost));
     }

@@ -4,14 +4,15 @@ use Rattle.std.proofs.Math.ListN.{drop_of_length-le}
 use Rattle.std.specs.Prelude.{IfSome}
 use Rattle.pua_steps.specs.Calls.{calls_of}
 use Rattle.pua_steps.specs.Order.{rest_after}
-use Rattle.pua_steps.specs.Table.{IsState, graph_of}
+use Rattle.pua_steps.specs.Table.{IsState}
+use Rattle.pua_steps.specs.Lists.{narrow_of}
 use Rattle.pua_steps.specs.Live.{live_of}
 use Rattle.pua_steps.specs.Trail.{pairs_of, ahead}
 use Rattle.pua_steps.specs.Ready.{rests_of}
 use Rattle.pua_steps.specs.Resuming.{to_give, to_give_after}
 use Rattle.pua_steps.specs.declared.steps.Steps.{Steps}
 use Rattle.pua_steps.specs.declared.walk.Walk.{Walk}
-use Rattle.pua_steps.proofs.Closing.{prunes}
+use Rattle.pua_steps.proofs.Narrowing.{prunes}
 use Rattle.pua_steps.proofs.Costing.{states_of}
 use Rattle.pua_steps.proofs.Resume.{all_index}
 use Rattle.pua_steps.proofs.Opened.{below_limit}
@@ -29,11 +30,11 @@ loop-letter-init c =
     let stands = states_of (λ s. IsState t s) (λ s. live_of a.live (a.limit - length a.word.items) s ≡ true) a.behind ready.behind in
     record {
       ready = ready;
-      same = record { steps = refl; live = refl; limit = refl };
+      same = record { steps = refl; live = refl; lists = refl; limit = refl };
       reads = refl;
-      so_far = (λ i. to_give (graph_of t) (live_of a.live) a.limit (fresh.0 i) a.calls a.behind (rests_of t (fresh.1 i)) way call)
-          ∙ give_start (graph_of t) (live_of a.live) a.limit (λ s. IsState t s) (prunes t a.live a.limit ready.sound.table ready.sound.sized) a.calls a.behind way call stands
-          ∙ sym (λ i. rest_after (way, call) (pairs_of (ahead (graph_of t) (live_of a.live) a.limit (fresh.0 i) (calls_of a.calls) a.behind (rests_of t (fresh.1 i)))));
+      so_far = (λ i. to_give (narrow_of t a.live) (live_of a.live) a.limit (fresh.0 i) a.calls a.behind (rests_of t a.lists (fresh.1 i)) way call)
+          ∙ give_start (narrow_of t a.live) (live_of a.live) a.limit (λ s. IsState t s) (prunes t a.live a.limit ready.sound.table ready.sound.sized) a.calls a.behind way call stands
+          ∙ sym (λ i. rest_after (way, call) (pairs_of (ahead (narrow_of t a.live) (live_of a.live) a.limit (fresh.0 i) (calls_of a.calls) a.behind (rests_of t a.lists (fresh.1 i)))));
     }
 
 pub returns-in_default-clause-left : goal.returns-in_default-clause-left
@@ -46,8 +47,8 @@ returns-in_default-clause-left c =
     let inv = c.loop-letter.invariant in
     let split = drop_more way d 0 c.loop-letter-test.true in
     let none : a.behind ≡ None = c.in_default.is in
-    let rests = rests_of t a.frames.items in
-    let g = graph_of t in
+    let rests = rests_of t a.lists a.frames.items in
+    let g = narrow_of t a.live in
     let v = live_of a.live in
     sym (ap (λ w. to_give_after a w call) split
     ∙ ap (λ o. to_give g v a.limit a.word.items a.calls o rests (get_or way d 0 ∷ drop (d + 1) way) call) none
@@ -77,7 +78,7 @@ loop-letter-preserved c =
     let split = drop_more way d 0 c.loop-letter-test.true in
     record {
       ready = c.descend.ensures.ready;
-      same = record { steps = c.descend.ensures.same.steps ∙ inv.same.steps; live = c.descend.ensures.same.live ∙ inv.same.live; limit = c.descend.ensures.same.limit ∙ inv.same.limit };
+      same = record { steps = c.descend.ensures.same.steps ∙ inv.same.steps; live = c.descend.ensures.same.live ∙ inv.same.live; lists = c.descend.ensures.same.lists ∙ inv.same.lists; limit = c.descend.ensures.same.limit ∙ inv.same.limit };
       reads = c.descend.ensures.reads ∙ inv.reads;
       so_far = sym (ap (λ w. to_give_after a w c.args.call) split ∙ c.descend.ensures.gives (drop (d + 1) way) c.args.call) ∙ inv.so_far;
     }
@@ -92,5 +93,5 @@ returns-clause-left c =
     let past : length way ≤ d = omega (arith, c.loop-letter-test.false) in
     let stands = states_of (λ s. IsState t s) (λ s. live_of a.live (a.limit - length a.word.items) s ≡ true) a.behind inv.ready.behind in
     sym (ap (λ w. to_give_after a w c.args.call) (drop_of_length-le way past)
-    ∙ give_here (graph_of t) (live_of a.live) a.limit (λ s. IsState t s) (prunes t a.live a.limit inv.ready.sound.table inv.ready.sound.sized) a.word.items a.calls (rests_of t a.frames.items) c.args.call a.behind c.calls_after-self.result stands c.calls_after-self.ensures.after)
+    ∙ give_here (narrow_of t a.live) (live_of a.live) a.limit (λ s. IsState t s) (prunes t a.live a.limit inv.ready.sound.table inv.ready.sound.sized) a.word.items a.calls (rests_of t a.lists a.frames.items) c.args.call a.behind c.calls_after-self.result stands c.calls_after-self.ensures.after)
     ∙ inv.so_far

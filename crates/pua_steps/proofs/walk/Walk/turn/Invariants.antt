@@ -1,16 +1,19 @@
 use Rattle.std.proofs.Common.{◌≡◌, ◌≤◌, ◌-◌, ℕ, None, length}
 use Rattle.pua_steps.specs.Ready.{IsCounted, looks, left_over, AreOpen, IsSound, IsOf}
+use Rattle.pua_steps.specs.Lists.{IsLonger}
 use Rattle.pua_steps.proofs.walk.Walk.turn.Given as goal
 
 abbrev pub invariant-loop-frame : goal.invariant-loop-frame
 invariant-loop-frame l = record {
   same : IsOf l.fn.self l.self;
   sound : IsSound l.self;
-  states : AreOpen l.self.steps l.self.frames.items;
+  states : AreOpen l.self.steps l.self.lists l.self.frames.items;
   calls : l.self.calls ≡ 0;
   behind : l.self.behind ≡ None;
   framed : length l.self.word.items ≡ length l.self.frames.items - 1;
   most : length l.self.frames.items ≤ l.self.limit;
+  unchanged : l.self.unchanged ≡ l.fn.self.unchanged;
+  front : IsLonger ℕ l.self.word.items l.fn.self.word.items;
   so_far : (n : ℕ) × (IsCounted l.fn.self.seen n l.self.seen × (left_over l.fn.self l.fn.self.frames.items ≡ looks n (left_over l.self l.self.frames.items)));
 }
 

@@ -1,0 +1,46 @@
+-- Places of directories.
+use Rattle.std.proofs.Common.{ℕ, ◌<◌, ◌≤◌, ◌≡◌, List, [], ◌∷◌, ◌++◌, Option, Some, None, ◌&&◌, true, false, ◌||◌, refl, ap, arith, sym, ◌∙◌, length, get_or, nat_eq, subst}
+use Rattle.std.specs.Prelude.{is_none, slice_get, if◌then◌else◌}
+use Rattle.std.specs.List.{AllByRecursion, list_any}
+use Rattle.std.proofs.lemmas.Bool.{eqb-true}
+use Rattle.std.proofs.lemmas.List.{length-append}
+use Rattle.std.proofs.lemmas.Map.Steps.{length-le_from_distinct_below}
+use Rattle.std.proofs.lemmas.Option.{get_or_from_slice_get}
+use Rattle.std.proofs.Math.ListN.{get_or-append}
+use Rattle.pua_tree.specs.Tree.{Tree, is_dir, look}
+use Rattle.pua_path.specs.Fits.{found_fits}
+use Rattle.pua_path.specs.declared.found.Found.TheVariants.{Slot}
+use Rattle.indexmap.specs.IndexSet.{insert_key}
+use Rattle.pua_audit.specs.Rows.{AreNumbers, IsGrown}
+use Rattle.pua_audit.proofs.Rising.{all_joined}
+
+-- numbers below 2^32, none of them twice, are at most so many
+
+below : (ns : List ℕ) (q : ℕ) → AllByRecursion (λ n. n < 4294967296) ns → list_any (nat_eq q) ns ≡ true → q < 4294967296
+below [] q all e = absurd cc
+below (n ∷ ns) q all e =
+    elim (nat_eq q n) as (λ b. nat_eq q n ≡ b → (b || list_any (nat_eq q) ns) ≡ true → q < 4294967296) [
+      | true ↦ λ same _. subst (λ m. m < 4294967296) (sym (eqb-true q n same)) all.0
+      | false ↦ λ _ rest. below ns q all.1 rest
+    ] refl e
+
+pub few_numbers : (ns : List ℕ) → AreNumbers ns → length ns ≤ 4294967296
+few_numbers ns is = length-le_from_distinct_below ns 4294967296 is.apart (λ q. below ns q is.fit)
+
+-- one more at the end, or none
+
+pub all_inserted : (P : ℕ → Type 0) (ns : List ℕ) (n : ℕ) → P n → AllByRecursion P ns → AllByRecursion P (insert_key nat_eq ns n)
+all_inserted P ns n here all = elim (list_any (nat_eq n) ns) as (λ b. AllByRecursion P (if b then ns else ns ++ n ∷ [])) [ true ↦ all | false ↦ all_joined P ns (n ∷ []) all (here, tt) ]
+
+pub grown_inserted : (ns : List ℕ) (n : ℕ) → IsGrown ns (insert_key nat_eq ns n)
+grown_inserted ns n = elim (list_any (nat_eq n) ns) as (λ b. IsGrown ns (if b then ns else ns ++ n ∷ [])) [
+  | true ↦ record { more = omega arith; same = λ d low. refl }
+  | false ↦ record { more = omega (arith, length-append ns (n ∷ [])); same = λ d low. get_or-append ns (n ∷ []) 0 d low }
+]
+
+pub placed : (ns : List ℕ) (place n : ℕ) → (k : ℕ) × (slice_get ns place ≡ Some k) × (nat_eq n k ≡ true) → get_or ns place 0 ≡ n
+placed ns place n found = get_or_from_slice_get ns place found.0 0 found.1 ∙ sym (eqb-true n found.0 found.2)
+
+-- a name that is not there is missing in its directory
+pub missing_fits : (t : Tree) (dir : ℕ) (name : List ℕ) (found : Option ℕ) → is_dir t dir ≡ true → found ≡ look t dir name → is_none found ≡ true → found_fits t (Slot dir name None) ≡ true
+missing_fits t dir name found living same none = ap (λ b. b && is_none (look t dir name)) living ∙ ap is_none (sym same) ∙ none

@@ -1,0 +1,91 @@
+-- A letter by its sets of calls.
+use Rattle.std.proofs.Common.{ℕ, zero, suc, ◌+◌, ◌<◌, ◌^◌, ◌≡◌, List, Bool, true, false, not, ◌&&◌, ◌||◌, ◌==◌, nat_le, cond, refl, ap, arith, sym, ◌∙◌}
+use Rattle.std.specs.Int.{bit_at}
+use Rattle.std.proofs.lemmas.Nat.Bits.{bit_at-lt, bit_at-zero, same_from_bits_below}
+use Rattle.pua_tree.specs.Tree.{Tree}
+use Rattle.pua_path.specs.Limits.{link_limit}
+use Rattle.pua_path.specs.Paths.{part_of}
+use Rattle.pua_path.specs.Resolution.{follow}
+use Rattle.pua_path.specs.declared.found.Last.{Last}
+use Rattle.pua_path.specs.declared.found.Last.TheVariants.{Followed, Kept}
+use Rattle.pua_policy.specs.Calls.{CallTable}
+use Rattle.pua_policy.specs.CallSets.{bit_of, has, is_kept, keeps_link}
+use Rattle.pua_policy.specs.History.{History}
+use Rattle.pua_policy.specs.declared.call.Call.{Call}
+use Rattle.pua_policy.specs.declared.call.Call.TheVariants.{Stat, Lstat, Readlink, OpenRead, OpenWrite, OpenBoth, Create, Mkdir, Rmdir, Unlink, Symlink, Chmod, Chdir, Exec}
+use Rattle.pua_audit.specs.Judge.{judge_of}
+use Rattle.pua_audit.specs.Entries.{links_of, found_of, leads_to, allowed_near, allowed_far}
+use Rattle.pua_audit.specs.Table.{IsLetter}
+use Rattle.pua_audit.specs.declared.base.Base.{Base}
+use Rattle.pua_audit.proofs.Fresh.{entries_stand}
+
+-- a letter that is followed once, by the sets of its calls
+pub letter_told : (t : Tree) (table : CallTable) (base : Base) (h : History) (dir : ℕ) (letter : List ℕ) (all kept : ℕ)
+    → ((call : Call) → has all call ≡ allowed_near t table h dir letter (follow t dir (part_of letter)) call) → ((call : Call) → has kept call ≡ allowed_far t table h dir letter call)
+    → IsLetter (judge_of t table base h) dir letter all kept (links_of (follow t dir (part_of letter))) (leads_to (found_of (follow t dir (part_of letter))))
+letter_told t table base h dir letter all kept near far = record {
+  own = λ used call low. (entries_stand t table base h dir letter used low).own call ∙ by call (nat_le (used + links_of (follow t dir (part_of letter))) link_limit);
+  step = λ used low. (entries_stand t table base h dir letter used low).step;
+}
+  where
+    by : (call : Call) (b : Bool) → cond b (allowed_near t table h dir letter (follow t dir (part_of letter)) call) (allowed_far t table h dir letter call) ≡ has (cond b all kept) call
+    by call true = sym (near call)
+    by call false = sym (far call)
+
+-- calls that follow a final link, and those that keep it
+
+pub by_both : (mode : Last) (followed kept : Bool) → ((followed && not (is_kept mode)) || (kept && is_kept mode)) ≡ elim mode [ Followed ↦ followed | Kept ↦ kept ]
+by_both Followed true true = refl
+by_both Followed true false = refl
+by_both Followed false true = refl
+by_both Followed false false = refl
+by_both Kept true true = refl
+by_both Kept true false = refl
+by_both Kept false true = refl
+by_both Kept false false = refl
+
+pub by_kept : (mode : Last) (followed kept : Bool) → (elim mode [ Followed ↦ followed | Kept ↦ kept ] && is_kept mode) ≡ elim mode [ Followed ↦ false | Kept ↦ kept ]
+by_kept Followed true kept = refl
+by_kept Followed false kept = refl
+by_kept Kept followed true = refl
+by_kept Kept followed false = refl
+
+-- a set without calls
+
+zero_of : (b : ℕ) → b < 2 → (b == 1) ≡ false → b ≡ 0
+zero_of zero low e = refl
+zero_of (suc zero) low e = absurd cc
+zero_of (suc (suc b)) low e = absurd (omega (arith, low))
+
+no_bit : (set : ℕ) → ((call : Call) → has set call ≡ false) → (i : ℕ) → i < 14 → bit_at set i ≡ 0
+no_bit set none i low = at i low
+  where
+    of : (call : Call) → bit_at set (bit_of call) ≡ 0
+    of call = zero_of (bit_at set (bit_of call)) (bit_at-lt set (bit_of call)) (none call)
+
+    at : (i : ℕ) → i < 14 → bit_at set i ≡ 0
+    at zero low = of Stat
+    at (suc zero) low = of Lstat
+    at (suc (suc zero)) low = of Readlink
+    at (suc (suc (suc zero))) low = of OpenRead
+    at (suc (suc (suc (suc zero)))) low = of OpenWrite
+    at (suc (suc (suc (suc (suc zero))))) low = of OpenBoth
+    at (suc (suc (suc (suc (suc (suc zero)))))) low = of Create
+    at (suc (suc (suc (suc (suc (suc (suc zero))))))) low = of Mkdir
+    at (suc (suc (suc (suc (suc (suc (suc (suc zero)))))))) low = of Rmdir
+    at (suc (suc (suc (suc (suc (suc (suc (suc (suc zero))))))))) low = of Unlink
+    at (suc (suc (suc (suc (suc (suc (suc (suc (suc (suc zero)))))))))) low = of Symlink
+    at (suc (suc (suc (suc (suc (suc (suc (suc (suc (suc (suc zero))))))))))) low = of Chmod
+    at (suc (suc (suc (suc (suc (suc (suc (suc (suc (suc (suc (suc zero)))))))))))) low = of Chdir
+    at (suc (suc (suc (suc (suc (suc (suc (suc (suc (suc (suc (suc (suc zero))))))))))))) low = of Exec
+    at (suc (suc (suc (suc (suc (suc (suc (suc (suc (suc (suc (suc (suc (suc i)))))))))))))) low = absurd (omega (arith, low))
+
+pub no_calls : (set : ℕ) → set < 2 ^ 14 → ((call : Call) → has set call ≡ false) → set ≡ 0
+no_calls set fits none = same_from_bits_below 14 set 0 fits (omega arith) (λ i low. no_bit set none i low ∙ sym (bit_at-zero i))
+
+pub has_none : (call : Call) → has 0 call ≡ false
+has_none call = ap (λ b. b == 1) (bit_at-zero (bit_of call))
+
+-- the calls that a set keeps are none where it has none
+pub kept_none : (all kept : ℕ) → kept < 2 ^ 14 → ((call : Call) → has kept call ≡ (has all call && keeps_link call)) → all ≡ 0 → kept ≡ 0
+kept_none all kept fits is none = no_calls kept fits (λ call. is call ∙ ap (λ n. has n call && keeps_link call) none ∙ ap (λ b. b && keeps_link call) (has_none call))

@@ -1,0 +1,13 @@
+use Rattle.std.proofs.Common.{◌≡◌}
+use Rattle.pua_audit.specs.Ready.{judge_in, letters_of}
+use Rattle.pua_audit.specs.Rows.{AreLiving, IsGrown, IsRow}
+use Rattle.pua_audit.proofs.terms.Terms.row.Given as goal
+
+-- the row has the letters so far
+abbrev pub invariant-loop-letter : goal.invariant-loop-letter
+invariant-loop-letter g l = record {
+  row : IsRow (judge_in l.self) (letters_of l.self) l.dirs l.dir l.letter l.missing l.entries.items;
+  grown : IsGrown l.fn.dirs l.dirs;
+  living : AreLiving l.self.seen.tree l.dirs;
+  tree : g.P.Probe.tree l.probe ≡ l.self.seen.tree;
+}

@@ -1,0 +1,18 @@
+use Rattle.std.proofs.Common.{◌≡◌, ◌<◌, ◌≤◌, ◌-◌, length, get_or}
+use Rattle.pua_audit.specs.Ready.{judge_in, letters_of}
+use Rattle.pua_audit.specs.Rows.{AreLiving, AreRows}
+use Rattle.pua_audit.proofs.terms.Terms.table.Given as goal
+
+-- the first directories have their rows
+abbrev pub invariant-loop-dir : goal.invariant-loop-dir
+invariant-loop-dir g l = record {
+  rows : AreRows (judge_in l.self) (letters_of l.self) l.dirs l.rows.items;
+  within : length l.rows.items ≤ length l.dirs;
+  some : 0 < length l.dirs;
+  first : get_or l.dirs 0 0 ≡ l.fn.base;
+  living : AreLiving l.self.seen.tree l.dirs;
+  tree : g.P.Probe.tree l.probe ≡ l.self.seen.tree;
+}
+
+abbrev pub decreases-loop-dir : goal.decreases-loop-dir
+decreases-loop-dir g l = 4294967296 - length l.rows.items

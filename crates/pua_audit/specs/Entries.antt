@@ -1,0 +1,53 @@
+-- What a letter that is followed once, with no link used before it, tells of the letter after any number of links.
+use Rattle.std.specs.Prelude.{◌≡◌, ◌≤◌, ◌+◌, ℕ, Bool, false, cond, nat_le, List, Option, Some, None, option_map, Result, Ok, Err}
+use Rattle.pua_tree.specs.Tree.{Tree}
+use Rattle.pua_path.specs.Limits.{link_limit}
+use Rattle.pua_path.specs.Paths.{part_of}
+use Rattle.pua_path.specs.Resolution.{follow, last}
+use Rattle.pua_path.specs.declared.errno.Errno.{Errno}
+use Rattle.pua_path.specs.declared.found.Last.TheVariants.{Followed, Kept}
+use Rattle.pua_path.specs.declared.found.Found.{Found}
+use Rattle.pua_path.specs.declared.found.Found.TheVariants.{Whole, Slot}
+use Rattle.pua_policy.specs.Calls.{CallTable, last_of}
+use Rattle.pua_policy.specs.History.{History}
+use Rattle.pua_policy.specs.Verdict.{verdict_of, is_allowed}
+use Rattle.pua_policy.specs.declared.call.Call.{Call}
+use Rattle.pua_audit.specs.Judge.{Below, judge_of}
+use Rattle.pua_audit.specs.declared.base.Base.{Base}
+
+abbrev pub links_of : Result (Found × ℕ) Errno → ℕ
+links_of (Ok found) = found.1
+links_of (Err errno) = 0
+
+abbrev pub found_of : Result (Found × ℕ) Errno → Result Found Errno
+found_of (Ok found) = Ok found.0
+found_of (Err errno) = Err errno
+
+-- the directory that was found
+abbrev pub leads_to : Result Found Errno → Option ℕ
+leads_to (Ok (Whole dir way)) = Some dir
+leads_to (Ok (Slot dir name _)) = None
+leads_to (Err errno) = None
+
+-- whether a call that keeps a final link is allowed
+abbrev pub allowed_kept : Tree → CallTable → History → ℕ → List ℕ → Call → Bool
+allowed_kept t table h dir letter call = is_allowed (verdict_of t table h call (last t dir 0 (part_of letter) Kept))
+
+-- whether a call is allowed where the letter's links may be followed, and where they may not
+abbrev pub allowed_near : Tree → CallTable → History → ℕ → List ℕ → Result (Found × ℕ) Errno → Call → Bool
+allowed_near t table h dir letter r call =
+    elim (last_of call) [ Followed ↦ is_allowed (verdict_of t table h call (found_of r)) | Kept ↦ allowed_kept t table h dir letter call ]
+
+abbrev pub allowed_far : Tree → CallTable → History → ℕ → List ℕ → Call → Bool
+allowed_far t table h dir letter call = elim (last_of call) [ Followed ↦ false | Kept ↦ allowed_kept t table h dir letter call ]
+
+-- what the letter is, for each number of links used before
+pub record IsEntryAt (t : Tree) (table : CallTable) (base : Base) (h : History) (dir : ℕ) (letter : List ℕ) (r : Result (Found × ℕ) Errno) (used : ℕ) : Type 0 where
+  pub own : (call : Call) → (judge_of t table base h).own (Below (record { dir = dir; used = used }) letter) call
+      ≡ cond (nat_le (used + links_of r) link_limit) (allowed_near t table h dir letter r call) (allowed_far t table h dir letter call)
+  pub step : (judge_of t table base h).step (Below (record { dir = dir; used = used }) letter)
+      ≡ cond (nat_le (used + links_of r) link_limit) (option_map (λ d. record { dir = d; used = used + links_of r }) (leads_to (found_of r))) None
+
+-- a letter that is followed once tells it after any number of links
+abbrev pub EntriesStand : Type 0
+EntriesStand = (t : Tree) (table : CallTable) (base : Base) (h : History) (dir : ℕ) (letter : List ℕ) (used : ℕ) → used ≤ link_limit → IsEntryAt t table base h dir letter (follow t dir (part_of letter)) used

@@ -1,0 +1,47 @@
+-- The live states, by the reach alone: where words lead from which words of the reach go on.
+use Rattle.std.specs.Prelude.{◌≡◌, ℕ, ◌-◌, List, [], ◌∷◌, map, length, Option, Some, option_map, flat_map, filter_map, Contains}
+use Rattle.std.specs.Result.{result_ok}
+use Rattle.std.specs.declared.cmp.Ordering.{Ordering}
+use Rattle.std.specs.Ordering.{nat_cmp}
+use Rattle.std.specs.Cmp.Lexicographic.{slice_cmp}
+use Rattle.std.specs.FinMap.Entries.{by_order}
+use Rattle.pua_path.specs.Paths.{part_of}
+use Rattle.pua_path.specs.Laws.{steps}
+use Rattle.pua_audit.specs.Reach.{Word, Pair, Scope, reach}
+use Rattle.pua_audit.specs.Judge.{base_dir}
+
+-- a directory, the links followed on the way to it, and how many letters may still come
+pub record Stage : Type 0 where
+  pub dir : ℕ
+  pub links : ℕ
+  pub left : ℕ
+
+-- where a word leads from the base, one step after another, if each step leads to a directory
+abbrev pub stage_after : Scope → Word → Option Stage
+stage_after s word =
+    option_map (λ (at : ℕ × ℕ). record { dir = at.0; links = at.1; left = s.limit - length word }) (result_ok (steps s.tree (map part_of word) (base_dir s.base s.history, 0)))
+
+-- the words that a word properly extends
+abbrev pub shorter : Word → List Word
+shorter [] = []
+shorter (letter ∷ word) = [] ∷ map (λ front. letter ∷ front) (shorter word)
+
+-- a state is live if a word leads to it which the word of some pair of the reach properly extends
+abbrev pub IsLive : Scope → Stage → Type 0
+IsLive s stage = (pair : Pair) × (word : Word) × Contains (reach s) pair × Contains (shorter pair.0) word × (stage_after s word ≡ Some stage)
+
+-- by the directory, then by the links, then by the letters
+abbrev pub stage_cmp : Stage → Stage → Ordering
+stage_cmp a b = slice_cmp nat_cmp (a.dir ∷ a.links ∷ a.left ∷ []) (b.dir ∷ b.links ∷ b.left ∷ [])
+
+abbrev pub with_stage : Stage → List Stage → List Stage
+with_stage a [] = a ∷ []
+with_stage a (b ∷ stages) = by_order (stage_cmp a b) (a ∷ b ∷ stages) (b ∷ stages) (b ∷ with_stage a stages)
+
+abbrev pub distinct_stages : List Stage → List Stage
+distinct_stages [] = []
+distinct_stages (a ∷ stages) = with_stage a (distinct_stages stages)
+
+-- the live states, each once
+abbrev pub live_states : Scope → List Stage
+live_states s = distinct_stages (filter_map (stage_after s) (flat_map (λ (p : Pair). shorter p.0) (reach s)))

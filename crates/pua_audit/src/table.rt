@@ -1,0 +1,53 @@
+//! The making of the table of steps.
+
+ghost use Rattle.std.specs.Prelude.{◌≡◌, ◌<◌, ◌≤◌, ◌^◌, ℕ, List, length, get_or, IfOk, IsTrue};
+ghost use Rattle.pua_tree.specs.Tree.{is_dir};
+ghost use Rattle.pua_audit.specs.Graphs.{AreApart};
+ghost use Rattle.pua_audit.specs.Ready.{IsSound, judge_in, letters_of};
+ghost use Rattle.pua_audit.specs.Table.{IsTableOf};
+
+mod begun;
+mod directories;
+mod letter;
+mod row;
+
+use crate::table::directories::Directories;
+use crate::terms::Terms;
+use pua_path::Probe;
+use pua_steps::Steps;
+use pua_tree::{NodeId, OutOfMemory};
+use std::alloc::Global;
+
+impl Terms {
+    /// The table of steps of all directories to which words from a living directory lead. That
+    /// directory has the first place. The error is that a growth was refused.
+    #[tactic(auto, using(crate::proofs::Moves::all_at_index))]
+    pub(crate) fn table<'t, P: Probe<'t>>(
+        &self,
+        alloc: Global,
+        probe: &mut P,
+        base: NodeId,
+    ) -> Result<Steps, OutOfMemory>
+        requires tree { P.tree probe.old ≡ self.now.seen.tree }
+        requires sound { IsSound self.now }
+        requires living { IsTrue (is_dir self.now.seen.tree base) }
+        requires few { length self.now.letters.items < 2 ^ 32 }
+        ensures table { IfOk result (λ steps. (names : List ℕ) × (IsTableOf (judge_in self.now) (letters_of self.now) names steps × AreApart names × (0 < length names) × (get_or names 0 0 ≡ base))) }
+        ensures few { IfOk result (λ steps. length steps.rows.items ≤ 2 ^ 32) }
+        ensures tree { P.tree probe.new ≡ P.tree probe.old }
+    {
+        let mut dirs = Directories::new(alloc);
+        dirs.place(base)?;
+        let mut rows = Vec::new(alloc);
+        while let Some(dir) = dirs.at(rows.len()) {
+            let row = self.row(alloc, probe, &mut dirs, dir)?;
+            let Ok(()) = rows.push(row) else {
+                return Err(OutOfMemory);
+            };
+        }
+        Ok(Steps {
+            letters: self.letters.len() as u32,
+            rows,
+        })
+    }
+}

@@ -1,0 +1,104 @@
+//! What a letter is in a directory.
+
+ghost use Rattle.std.specs.Prelude.{◌≡◌, ◌<◌, ◌≤◌, ◌&&◌, [], length, get_or, Ok, Err, IfSome, IsTrue};
+ghost use Rattle.pua_tree.specs.Tree.{is_dir};
+ghost use Rattle.pua_policy.specs.Calls.{standard_table};
+ghost use Rattle.pua_policy.specs.CallSets.{has, keeps_link};
+ghost use Rattle.pua_policy.specs.declared.call.Call.{Call};
+ghost use Rattle.pua_policy.specs.Verdict.{FoundsFit, verdict_of, is_allowed};
+ghost use Rattle.pua_audit.specs.Past.{history_of};
+ghost use Rattle.pua_audit.specs.Ready.{IsSound, judge_in, letters_of};
+ghost use Rattle.pua_audit.specs.Entries.{links_of, found_of, leads_to};
+ghost use Rattle.pua_audit.specs.Table.{IsLetter};
+ghost use Rattle.pua_steps.specs.Limits.{most_links};
+
+use crate::terms::Terms;
+use pua_path::{Errno, Found, Last, Probe};
+use pua_policy::{Calls, judge};
+use pua_tree::NodeId;
+
+/// A letter in a directory, for any number of links that were followed before it.
+#[derive(Clone, Copy)]
+pub(crate) struct Letter {
+    /// The calls that are allowed on it where its links may be followed.
+    pub(crate) all: Calls,
+    /// The calls that are allowed on it where they may not: they keep a final link.
+    pub(crate) kept: Calls,
+    /// How many links it follows.
+    pub(crate) links: u8,
+    /// The directory to which it leads, if it leads to one.
+    pub(crate) leads: Option<NodeId>,
+}
+
+impl Terms {
+    /// What a letter is in a living directory. It is followed once, with no link used before it.
+    pub(crate) fn letter<'t, P: Probe<'t>>(
+        &self,
+        probe: &mut P,
+        dir: NodeId,
+        letter: usize,
+    ) -> Letter
+        requires tree { P.tree probe.old ≡ self.now.seen.tree }
+        requires sound { IsSound self.now }
+        requires living { IsTrue (is_dir self.now.seen.tree dir) }
+        requires letter { letter < length self.now.letters.items }
+        ensures exact { IsLetter (judge_in self.now) dir (get_or (letters_of self.now) letter []) result.all result.kept result.links result.leads }
+        ensures kept { (call : Call) → has result.kept call ≡ (has result.all call && keeps_link call) }
+        ensures links { result.links ≤ most_links }
+        ensures lives { IfSome result.leads (λ to. IsTrue (is_dir self.now.seen.tree to)) }
+        ensures tree { P.tree probe.new ≡ P.tree probe.old }
+    {
+        let part = &self.letters[letter];
+        let (followed, links) = counted(pua_path::follow(probe, dir, part));
+        let kept = pua_path::last(probe, dir, 0, part, Last::Kept);
+        let near = self.calls_on(probe, &followed).following();
+        let all = near.union(self.calls_on(probe, &kept).keeping());
+        Letter {
+            all,
+            kept: all.keeping(),
+            links,
+            leads: directory_of(&followed),
+        }
+    }
+
+    /// The calls that are allowed on what a path named.
+    pub(crate) fn calls_on<'t, P: Probe<'t>>(
+        &self,
+        probe: &mut P,
+        found: &Result<Found, Errno>,
+    ) -> Calls
+        requires tree { P.tree probe.old ≡ self.now.seen.tree }
+        requires sound { IsSound self.now }
+        requires fits { FoundsFit self.now.seen.tree found.now }
+        ensures exact { (call : Call) → has result call ≡ is_allowed (verdict_of self.now.seen.tree standard_table (history_of self.now.process) call found.now) }
+        ensures tree { P.tree probe.new ≡ P.tree probe.old }
+    {
+        let Ok(found) = found else {
+            return Calls::NONE;
+        };
+        let cover = self.process.cover(probe, found);
+        let object = judge::object(probe, found);
+        judge::allowed(&self.process, cover, object)
+    }
+}
+
+/// What was found, and how many links were followed.
+fn counted(followed: Result<(Found, u8), Errno>) -> (Result<Found, Errno>, u8)
+    ensures found { result.0 ≡ found_of followed }
+    ensures links { result.1 ≡ links_of followed }
+{
+    match followed {
+        Ok((found, links)) => (Ok(found), links),
+        Err(errno) => (Err(errno), 0),
+    }
+}
+
+/// The directory that was found, if one was.
+fn directory_of(found: &Result<Found, Errno>) -> Option<NodeId>
+    ensures { result ≡ leads_to found.now }
+{
+    match *found {
+        Ok(Found::Whole { dir, .. }) => Some(dir),
+        Ok(Found::Slot { .. }) | Err(_) => None,
+    }
+}

@@ -1,0 +1,135 @@
+//! The row of a directory.
+
+ghost use Rattle.std.specs.Prelude.{◌≡◌, ◌<◌, ◌≤◌, ◌+◌, ◌^◌, ◌&&◌, ℕ, List, [], length, get_or, option_map, Option, None, IfOk, IfSome, IsTrue};
+ghost use Rattle.pua_tree.specs.Tree.{Tree, is_dir};
+ghost use Rattle.pua_policy.specs.CallSets.{has, keeps_link};
+ghost use Rattle.pua_policy.specs.declared.call.Call.{Call};
+ghost use Rattle.pua_audit.specs.Judge.{Judge};
+ghost use Rattle.pua_audit.specs.Ready.{IsSound, judge_in, letters_of};
+ghost use Rattle.pua_audit.specs.Rows.{AreLiving, IsGrown, IsRow};
+ghost use Rattle.pua_audit.specs.Table.{IsLetter};
+ghost use Rattle.pua_steps.specs.Limits.{most_links};
+
+use crate::table::directories::Directories;
+use crate::table::letter::Letter;
+use crate::terms::Terms;
+use pua_path::{Found, Part, Probe};
+use pua_policy::Calls;
+use pua_steps::{Entry, Row};
+use pua_tree::{NodeId, OutOfMemory};
+use std::alloc::Global;
+
+impl Terms {
+    /// The row of a living directory. What its letters lead to is put behind the other directories.
+    /// The error is that a growth was refused.
+    #[tactic(auto, using(crate::proofs::Rowed::row_empty, crate::proofs::Rowed::grown_itself, crate::proofs::Rowed::grown_further))]
+    pub(crate) fn row<'t, P: Probe<'t>>(
+        &self,
+        alloc: Global,
+        probe: &mut P,
+        dirs: &mut Directories,
+        dir: NodeId,
+    ) -> Result<Row, OutOfMemory>
+        requires tree { P.tree probe.old ≡ self.now.seen.tree }
+        requires sound { IsSound self.now }
+        requires living { IsTrue (is_dir self.now.seen.tree dir) }
+        requires dirs { AreLiving self.now.seen.tree dirs.old }
+        requires few { length self.now.letters.items < 2 ^ 32 }
+        ensures row { IfOk result (λ row. IsRow (judge_in self.now) (letters_of self.now) dirs.new dir (length self.now.letters.items) row.missing row.entries.items) }
+        ensures grown { IfOk result (λ _. IsGrown dirs.old dirs.new) }
+        ensures living { IfOk result (λ _. AreLiving self.now.seen.tree dirs.new) }
+        ensures tree { P.tree probe.new ≡ P.tree probe.old }
+    {
+        let missing = self.missing(probe, dir);
+        let others = missing.bits();
+        let mut entries = Vec::new(alloc);
+        for letter in 0..self.letters.len() {
+            let found = self.letter(probe, dir, letter);
+            found.put(letter as u32, missing, dirs, &mut entries)?;
+        }
+        Ok(Row {
+            entries,
+            missing: others,
+        })
+    }
+
+    /// Calls for the letters that have no entry in a living directory: those on the first name that is
+    /// missing there. A letter on which they are not just these has an entry.
+    #[tactic(auto, using(crate::proofs::Places::missing_fits))]
+    fn missing<'t, P: Probe<'t>>(&self, probe: &mut P, dir: NodeId) -> Calls
+        requires tree { P.tree probe.old ≡ self.now.seen.tree }
+        requires sound { IsSound self.now }
+        requires living { IsTrue (is_dir self.now.seen.tree dir) }
+        ensures tree { P.tree probe.new ≡ P.tree probe.old }
+    {
+        for letter in &self.letters {
+            let Part::Name(name) = *letter else {
+                continue;
+            };
+            if probe.look(dir, &name).is_none() {
+                let found = Found::Slot {
+                    dir,
+                    name,
+                    node: None,
+                };
+                return self.calls_on(probe, &Ok(found));
+            }
+        }
+        Calls::NONE
+    }
+}
+
+impl Letter {
+    /// Puts its entry behind those of the letters before it, and the directory to which it leads among
+    /// the others. It has none where the calls on letters without entries tell it. The error is
+    /// that a growth was refused.
+    fn put(
+        &self,
+        letter: u32,
+        missing: Calls,
+        dirs: &mut Directories,
+        entries: &mut Vec<Entry>,
+    ) -> Result<(), OutOfMemory>
+        requires kept { (call : Call) → has self.now.kept call ≡ (has self.now.all call && keeps_link call) }
+        requires links { self.now.links ≤ most_links }
+        ensures row { IfOk result (λ _. (w : Judge) (letters : List (List ℕ)) (dir : ℕ) → IsLetter w dir (get_or letters letter []) self.now.all self.now.kept self.now.links self.now.leads
+            → IsRow w letters dirs.old dir letter missing entries.old.items → IsRow w letters dirs.new dir (letter + 1) missing entries.new.items) }
+        ensures grown { IfOk result (λ _. IsGrown dirs.old dirs.new) }
+        ensures living { IfOk result (λ _. (t : Tree) → IfSome self.now.leads (λ d. IsTrue (is_dir t d)) → AreLiving t dirs.old → AreLiving t dirs.new) }
+    {
+        if self.is_told_by(missing) {
+            return Ok(());
+        }
+        let to = self.place(dirs)?;
+        let entry = Entry {
+            letter,
+            all: self.all.bits(),
+            kept: self.kept.bits(),
+            links: self.links,
+            to,
+        };
+        let Ok(()) = entries.push(entry) else {
+            return Err(OutOfMemory);
+        };
+        Ok(())
+    }
+
+    /// Whether it leads nowhere, and just these calls are allowed on it.
+    fn is_told_by(&self, missing: Calls) -> bool
+        ensures { IsTrue result → (self.now.all ≡ missing) × (self.now.kept ≡ missing) × (self.now.leads ≡ None) }
+    {
+        self.all == missing && self.kept == missing && self.leads.is_none()
+    }
+
+    /// The place of the directory to which it leads.
+    fn place(&self, dirs: &mut Directories) -> Result<Option<u32>, OutOfMemory>
+        ensures to { IfOk result (λ to. (option_map (λ d. get_or dirs.new d 0) to ≡ self.now.leads) × IfSome to (λ d. d < length dirs.new)) }
+        ensures grown { IfOk result (λ _. IsGrown dirs.old dirs.new) }
+        ensures living { IfOk result (λ _. (t : Tree) → IfSome self.now.leads (λ d. IsTrue (is_dir t d)) → AreLiving t dirs.old → AreLiving t dirs.new) }
+    {
+        let Some(dir) = self.leads else {
+            return Ok(None);
+        };
+        Ok(Some(dirs.place(dir)?))
+    }
+}

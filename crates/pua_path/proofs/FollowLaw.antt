@@ -1,0 +1,90 @@
+-- What a part names where no link was used before tells it for any number of links used before.
+use Rattle.std.proofs.Common.{◌≡◌, ℕ, ◌+◌, ◌-◌, ◌≤◌, List, [], ◌∷◌, Some, None, refl, sym, ap, ◌∙◌, subst, arith, inl, inr, Result, Ok, Err}
+use Rattle.std.proofs.lemmas.Bool.{cases_lt}
+use Rattle.pua_tree.specs.Tree.{Tree, above}
+use Rattle.pua_tree.specs.Steps.{◌>>=◌}
+use Rattle.pua_path.specs.Resolution.{Resolved, Standing, Directory, Linked, Plain, Nothing, standing_at, resolve_parts, counted, step, last, link_limit}
+use Rattle.pua_path.specs.Laws.{IsDecidedByLinks, FollowsLinks, entered, IsFollowed, Fails, IsToldBy, FollowDecides, KeptFollowsNone}
+use Rattle.pua_path.specs.declared.errno.Errno.{Errno}
+use Rattle.pua_path.specs.declared.errno.Errno.TheVariants.{ELOOP}
+use Rattle.pua_path.specs.declared.found.Part.{Part}
+use Rattle.pua_path.specs.declared.found.Part.TheVariants as parts
+use Rattle.pua_path.specs.declared.found.Last.TheVariants.{Followed, Kept}
+use Rattle.pua_path.specs.declared.found.Way.TheVariants as ways
+use Rattle.pua_path.specs.declared.found.Found.{Found}
+use Rattle.pua_path.specs.declared.found.Found.TheVariants.{Whole, Slot}
+use Rattle.pua_path.proofs.Steps.{resolve_end, resolve_dot, resolve_dotdot, resolve_directory, resolve_name, resolve_kept}
+use Rattle.pua_path.proofs.Arrival.{arrived, step_arrives}
+use Rattle.pua_path.proofs.LinksLaw.{links_decide}
+
+-- what is arrived at with links left is entered with the others used
+arrives_entered : (found : Found) (left used : ℕ) → link_limit - left ≡ used → arrived (found, left) ≡ entered used found
+arrives_entered (Whole dir way) left used e = ap (λ n. Ok (dir, n)) e
+arrives_entered (Slot dir name found) left used e = refl
+
+module _ (t : Tree) (dir used : ℕ) (part : Part) (low : used ≤ link_limit) where
+  abbrev answer : ℕ → Resolved
+  answer links = resolve_parts links t Followed dir ways.Top (part ∷ [])
+
+  last_by : (r : Resolved) → answer (link_limit - used) ≡ r → last t dir used part Followed ≡ (r >>= λ found. Ok found.0)
+  last_by r e = ap (λ (r : Resolved). r >>= λ found. Ok found.0) e
+
+  step_by : (r : Resolved) → answer (link_limit - used) ≡ r → step t dir used part ≡ (r >>= arrived)
+  step_by r e = sym (step_arrives t dir used part r (sym e))
+
+  fails : (errno : Errno) → answer (link_limit - used) ≡ Err errno → Fails t dir used part
+  fails errno e = record { errno = errno; last_fails = last_by (Err errno) e; step_fails = step_by (Err errno) e }
+
+  follows : (found : Found) (count : ℕ) → count ≤ link_limit → FollowsLinks answer count (Ok found) → IsFollowed t dir used part found count
+  follows found count within h = record {
+    within = within;
+    last_within = λ le. last_by (Ok (found, link_limit - used - count)) (h.enough (link_limit - used) (omega (arith, le)));
+    step_within = λ le. step_by (Ok (found, link_limit - used - count)) (h.enough (link_limit - used) (omega (arith, le))) ∙ arrives_entered found (link_limit - used - count) (used + count) (omega (arith, le));
+    last_beyond = λ lt. last_by (Err ELOOP) (h.too_few (link_limit - used) (omega (arith, lt, low)));
+    step_beyond = λ lt. step_by (Err ELOOP) (h.too_few (link_limit - used) (omega (arith, lt, low)));
+  }
+
+  told_by : (count : ℕ) (outcome : Result Found Errno) → count ≤ link_limit → FollowsLinks answer count outcome → IsToldBy t dir used part ((outcome >>= λ found. Ok (found, link_limit - count)) >>= counted)
+  told_by count (Ok found) within h = let same : count ≡ link_limit - (link_limit - count) = omega (arith, within) in subst (IsFollowed t dir used part found) same (follows found count within h)
+  told_by count (Err errno) within h = elim (cases_lt (link_limit - used) count) [
+    | inl few ↦ fails ELOOP (h.too_few (link_limit - used) few)
+    | inr enough ↦ fails errno (h.enough (link_limit - used) enough)
+  ]
+
+  told : IsDecidedByLinks answer link_limit → IsToldBy t dir used part (answer link_limit >>= counted)
+  told (inl loops) = subst (λ r. IsToldBy t dir used part (r >>= counted)) (sym (loops link_limit (omega arith))) (fails ELOOP (loops (link_limit - used) (omega arith)))
+  told (inr (count, (outcome, (within, h)))) = subst (λ r. IsToldBy t dir used part (r >>= counted)) (sym (h.enough link_limit within)) (told_by count outcome within h)
+
+pub follow_decides : FollowDecides
+follow_decides t dir used part low = told t dir used part low (links_decide t Followed dir ways.Top (part ∷ []) link_limit)
+
+-- what a name is where the last part is kept
+kept_at : ℕ → List ℕ → Standing → Found
+kept_at dir name (Directory x) = Whole x (ways.Named dir name)
+kept_at dir name (Linked x target) = Slot dir name (Some x)
+kept_at dir name (Plain x) = Slot dir name (Some x)
+kept_at dir name Nothing = Slot dir name None
+
+kept_found : Tree → ℕ → Part → Found
+kept_found t dir parts.Dot = Whole dir ways.Dot
+kept_found t dir parts.DotDot = Whole (above t dir) ways.DotDot
+kept_found t dir (parts.Name name) = kept_at dir name (standing_at t dir name)
+
+module _ (t : Tree) (links dir : ℕ) where
+  kept_name : (name : List ℕ) (s : Standing) → s ≡ standing_at t dir name → resolve_parts links t Kept dir ways.Top (parts.Name name ∷ []) ≡ Ok (kept_at dir name s, links)
+  unfolding kept_at
+  kept_name name (Directory x) e = resolve_directory t Kept links dir ways.Top name [] x e ∙ resolve_end t Kept links x (ways.Named dir name)
+  kept_name name (Linked x target) e = resolve_kept t Kept links dir ways.Top name [] x target e refl
+  kept_name name (Plain x) e = resolve_name t Kept links dir ways.Top name [] (Plain x) e
+  kept_name name Nothing e = resolve_name t Kept links dir ways.Top name [] Nothing e
+
+  kept_free : (part : Part) → resolve_parts links t Kept dir ways.Top (part ∷ []) ≡ Ok (kept_found t dir part, links)
+  unfolding kept_found
+  kept_free parts.Dot = resolve_dot t Kept links dir ways.Top [] ∙ resolve_end t Kept links dir ways.Dot
+  kept_free parts.DotDot = resolve_dotdot t Kept links dir ways.Top [] ∙ resolve_end t Kept links (above t dir) ways.DotDot
+  kept_free (parts.Name name) = kept_name name (standing_at t dir name) refl
+
+pub kept_follows_none : KeptFollowsNone
+kept_follows_none t dir used part =
+    let after : (links : ℕ) → (resolve_parts links t Kept dir ways.Top (part ∷ []) >>= λ found. Ok found.0) ≡ Ok (kept_found t dir part) = λ links. ap (λ (r : Resolved). r >>= λ found. Ok found.0) (kept_free t links dir part) in
+    after (link_limit - used) ∙ sym (after (link_limit - 0))
