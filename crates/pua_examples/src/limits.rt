@@ -3,6 +3,7 @@
 
 use crate::written::{Files, as_expected};
 use anyhow::Result;
+use pua_tree::{FileTree, Kind, Name, NodeId, TreeFault, read_listing};
 use std::alloc::Global;
 
 /// For how many bytes the output of a large command has room.
@@ -89,6 +90,7 @@ pub(crate) fn run(rt: &HostRuntime) -> Result<()> {
         ("a command of 3,000 words", are_words(alloc)?),
         ("one node more than 4,096", are_nodes_refused(alloc)?),
         ("4,095 names of one file", are_further_names(alloc)?),
+        ("65,534 names of one file", are_most_names(alloc)?),
     ] {
         println!(rt; "{limit}: {}", as_expected(holds))?;
     }
@@ -341,4 +343,32 @@ fn are_further_names(alloc: Global) -> Result<bool> {
     writeln!(case.tree, "4096 hard 0 n4096 1")?;
     let fault = "pua: listing: line 4098: too many nodes\n";
     Ok(is_run && case.fails(alloc, &words, 1, fault)?)
+}
+
+/// A name of five digits.
+fn numbered(alloc: Global, number: u32) -> Result<Name> {
+    let text = format!(in alloc; "{number:05}")?;
+    Ok(Name::read(text.as_bytes())?)
+}
+
+/// One file is given as many names as a tree has room for beside its root. Then there is no room for
+/// a further name, nor for a further node; there is again once a name is taken away, with which the
+/// file does not go.
+fn are_most_names(alloc: Global) -> Result<bool> {
+    let mut tree = read_listing(alloc, b"tree 1\n0 dir\n1 file 0 00001\n")?;
+    let file = NodeId::new(1);
+    for number in 2..=65_534u32 {
+        let name = numbered(alloc, number)?;
+        if tree.tie(NodeId::ROOT, name, file).is_err() {
+            return Ok(false);
+        }
+    }
+    let more = numbered(alloc, 65_535)?;
+    let is_full = tree.tie(NodeId::ROOT, more, file) == Err(TreeFault::Full)
+        && tree.add(NodeId::ROOT, more, Kind::File, None) == Err(TreeFault::Full);
+    let first = numbered(alloc, 1)?;
+    let is_cut = tree.cut(NodeId::ROOT, &first) == Ok(file);
+    let is_kept = tree.kind(file) == Some(Kind::File);
+    let is_given = tree.tie(NodeId::ROOT, more, file).is_ok();
+    Ok(is_full && is_cut && is_kept && is_given)
 }

@@ -12,3 +12,8 @@ pub use Rattle.pua_policy.proofs.Exec.{others, no_promises, no_execpromises, sam
 pub use Rattle.pua_policy.proofs.Unveiled.{unveiled_alike, unveiled_within, missing_alike}
 -- the bit of each call in a set of calls
 pub use Rattle.pua_policy.proofs.CallBits.{bit_below, call_at_bit, bit_of_call_at, same_bit}
+-- covers, one directory after another
+pub use Rattle.pua_policy.proofs.Climbs.{nearest_here, nearest_above, nearest_root, nearest_whole}
+-- the veils that are kept, and whether there is any
+pub use Rattle.pua_policy.proofs.Veils.{veils_are_kept}
+pub use Rattle.pua_policy.proofs.Standing.{any_veil}

@@ -29,7 +29,7 @@ put_veil : (place : Place) (perms : ℕ) (vs : List (Place × ℕ)) → has_veil
 put_veil place perms [] = refl
 put_veil place perms (v ∷ vs) = elim (same_place place v.0) as (λ b. has_veil (cond b ((v.0, perms) ∷ vs) (v ∷ with_veil place perms vs)) ≡ true) [ true ↦ refl | false ↦ refl ]
 
-any_veil : (h : History) → list_any is_unveil h ≡ has_veil (veils h)
+pub any_veil : (h : History) → list_any is_unveil h ≡ has_veil (veils h)
 any_veil [] = refl
 any_veil (Unveiled place perms ∷ h) = sym (put_veil place perms (veils h))
 any_veil (Pledged p e ∷ h) = any_veil h

@@ -7,7 +7,7 @@ use crate::promises::Promises;
 use indexmap::IndexMap;
 use pua_path::Errno;
 use pua_tree::{NodeId, OutOfMemory};
-use std::alloc::Global;
+use std::alloc::{AllocError, Global};
 use std::marker::Model;
 
 /// A process keeps veils at no more places than so many.
@@ -38,7 +38,7 @@ impl Model for Process {
     ghost invariant = { λ a. HasHistory (record { promises = a.promises; execpromises = a.execpromises; veils = a.veils.entries; locked = a.locked; dir = a.dir; ended = a.ended }) };
 }
 
-ghost use Rattle.std.specs.Prelude.{◌≡◌, ◌≢◌, ◌-◌, [], ◌∷◌, length, Option, Some, None, Err, IfOk, OnOk, OnErr, IfErr, IfSome, if◌then◌else◌, false, MatchResult, unwrap_or};
+ghost use Rattle.std.specs.Prelude.{◌≡◌, ◌≢◌, ◌-◌, [], ◌∷◌, length, map, Option, Some, None, Err, IfOk, OnOk, OnErr, IfErr, IfSome, if◌then◌else◌, false, MatchResult, unwrap_or};
 ghost use Rattle.pua_policy.specs.Promises.{all_promises, error};
 ghost use Rattle.pua_policy.specs.History.{History, StandsFor, Pledged, Unveiled, Locked, Moved, Ended, new_history, HasHistory, after_exec, pledge_fault, unveil_fault, place_fault, is_within, narrowed, may_any, is_locked, is_ended, working_dir, kept, veil_at, has_veil};
 
@@ -235,20 +235,36 @@ impl Process {
         self.promises.unwrap_or(Promises::ALL_BUT_ERROR)
     }
 
+    /// Lends the places with veils, in the order in which they were first kept. The only error is
+    /// that the memory for the list is refused.
+    pub fn places(&self, alloc: Global) -> Result<Vec<&Place>, OutOfMemory>
+        ensures { IfOk result (λ places. map (λ place. place.now) places.items ≡ map (λ veil. veil.0) self.now.veils) }
+    {
+        lent_places(alloc, &self.veils).map_err(|_| OutOfMemory)
+    }
+
     /// Whether a veil is kept.
-    pub(crate) fn is_veiled(&self) -> bool
+    pub fn is_veiled(&self) -> bool
         ensures { result ≡ has_veil self.now.veils }
     {
         !self.veils.is_empty()
     }
 
-    /// The permissions kept at a place; None where it has no veil.
+    /// The permissions kept at this very place; None where it has no veil. Veils at directories over
+    /// it are not asked.
     pub fn kept(&self, place: &Place) -> Option<Perms>
         ensures state { result ≡ veil_at self.now.veils place.now }
         ensures history { (h : History) → StandsFor self.now h → result ≡ kept h place.now }
     {
         self.veils.get(place).copied()
     }
+}
+
+/// The places of veils, in the order in which they were first kept.
+fn lent_places(alloc: Global, veils: &IndexMap<Place, Perms>) -> Result<Vec<&Place>, AllocError>
+    ensures { IfOk result (λ places. map (λ place. place.now) places.items ≡ map (λ veil. veil.0) veils.now.entries) }
+{
+    veils.keys().collect(alloc)
 }
 
 /// Whether a request names nothing beyond what was given before; before the first it may name

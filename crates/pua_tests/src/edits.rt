@@ -12,6 +12,8 @@ use std::test::Fail;
 enum Step {
     /// Adds a node of a kind that has no target.
     Add(Kind, u32, &'static [u8]),
+    /// Gives a node a further name.
+    Tie(u32, &'static [u8], u32),
     /// Takes a name away.
     Cut(u32, &'static [u8]),
     /// Moves a name to another directory and name.
@@ -31,6 +33,7 @@ type Answer = Result<Option<u32>, TreeFault>;
 fn answer(tree: &mut ListTree, step: Step) -> Option<Answer> {
     match step {
         Step::Add(kind, dir, name) => added(tree, kind, dir, name),
+        Step::Tie(dir, name, node) => tied(tree, dir, name, node),
         Step::Cut(dir, name) => cut(tree, dir, name),
         Step::Shift(from, name, to, new_name) => shifted(tree, from, name, to, new_name),
         Step::Look(dir, name) => looked(tree, dir, name),
@@ -44,6 +47,14 @@ fn added(tree: &mut ListTree, kind: Kind, dir: u32, name: &[u8]) -> Option<Answe
     match kind {
         Kind::Link => None,
         kind => Some(found(tree.add(NodeId::new(dir), name, kind, None))),
+    }
+}
+
+fn tied(tree: &mut ListTree, dir: u32, name: &[u8], node: u32) -> Option<Answer> {
+    let name = Name::from_bytes(name)?;
+    match tree.tie(NodeId::new(dir), name, NodeId::new(node)) {
+        Ok(()) => Some(Ok(None)),
+        Err(fault) => Some(Err(fault)),
     }
 }
 
@@ -136,6 +147,51 @@ fn nodes_are_moved_and_displace_others(rt: HostRuntime) -> Result<(), Fail> {
     expect_steps(&rt, rt.alloc(), &MOVED)
 }
 
+const TIED: [(Step, Answer); 16] = [
+    (Step::Tie(0, b"new", 2), Ok(None)),
+    (Step::Look(0, b"new"), Ok(Some(2))),
+    // the same node: nothing moves
+    (Step::Shift(0, b"new", 1, b"passwd"), Ok(None)),
+    (Step::Look(0, b"new"), Ok(Some(2))),
+    (Step::Look(1, b"passwd"), Ok(Some(2))),
+    // it is displaced under one name, and taken away under another
+    (Step::Tie(3, b"more", 2), Ok(None)),
+    (Step::Shift(3, b"sh", 1, b"passwd"), Ok(None)),
+    (Step::Look(1, b"passwd"), Ok(Some(7))),
+    (Step::Stands(2), Ok(Some(2))),
+    (Step::Cut(0, b"new"), Ok(Some(2))),
+    (Step::Look(0, b"new"), Ok(None)),
+    (Step::Stands(2), Ok(Some(2))),
+    // its last name
+    (Step::Cut(3, b"more"), Ok(Some(2))),
+    (Step::Stands(2), Ok(None)),
+    (Step::Tie(0, b"new", 2), Err(TreeFault::Missing)),
+    // no number was given to a name
+    (Step::Add(Kind::File, 0, b"new"), Ok(Some(8))),
+];
+
+#[test]
+fn nodes_have_names_and_go_with_the_last(rt: HostRuntime) -> Result<(), Fail> {
+    expect_steps(&rt, rt.alloc(), &TIED)
+}
+
+const NOT_TIED: [(Step, Answer); 9] = [
+    (Step::Tie(2, b"etc", 99), Err(TreeFault::NotDir)),
+    (Step::Tie(99, b"etc", 2), Err(TreeFault::NotDir)),
+    (Step::Tie(0, b"etc", 99), Err(TreeFault::Missing)),
+    (Step::Tie(0, b"etc", 3), Err(TreeFault::IsDir)),
+    (Step::Tie(0, b"new", 0), Err(TreeFault::IsDir)),
+    (Step::Tie(0, b"etc", 2), Err(TreeFault::Taken)),
+    (Step::Look(0, b"etc"), Ok(Some(1))),
+    (Step::Look(0, b"new"), Ok(None)),
+    (Step::Look(1, b"passwd"), Ok(Some(2))),
+];
+
+#[test]
+fn further_names_are_refused(rt: HostRuntime) -> Result<(), Fail> {
+    expect_steps(&rt, rt.alloc(), &NOT_TIED)
+}
+
 const REFUSED: [(Step, Answer); 12] = [
     (Step::Add(Kind::File, 2, b"new"), Err(TreeFault::NotDir)),
     (Step::Add(Kind::File, 0, b"tmp"), Err(TreeFault::Taken)),
@@ -176,6 +232,8 @@ fn takes_65535_nodes_and_no_more(rt: HostRuntime) -> Result<(), Fail> {
     }
     for (step, want) in [
         (Step::Add(Kind::File, 0, b"more"), Err(TreeFault::Full)),
+        (Step::Tie(0, b"more", 1), Err(TreeFault::Full)),
+        (Step::Tie(0, b"00001", 1), Err(TreeFault::Taken)),
         (Step::Cut(0, b"65534"), Ok(Some(65_534))),
         (Step::Add(Kind::File, 0, b"more"), Ok(Some(65_535))),
     ] {

@@ -3,6 +3,8 @@
 #![tactic(auto)]
 
 #[cfg(test)]
+mod allowed;
+#[cfg(test)]
 mod commands;
 #[cfg(test)]
 mod edits;
@@ -14,6 +16,8 @@ mod expect;
 mod fields;
 #[cfg(test)]
 mod flushes;
+#[cfg(test)]
+mod follows;
 #[cfg(test)]
 mod lent;
 #[cfg(test)]
@@ -28,6 +32,8 @@ mod paths;
 mod probes;
 #[cfg(test)]
 mod processes;
+#[cfg(test)]
+mod sets;
 #[cfg(test)]
 mod steps;
 #[cfg(test)]

@@ -82,6 +82,19 @@ fn lists_names_in_their_order(rt: HostRuntime) -> Result<(), Fail> {
 }
 
 #[test]
+fn reads_further_names(rt: HostRuntime) -> Result<(), Fail> {
+    let text = b"tree 2\n0 dir\n1 dir 0 d\n2 file 1 f\n3 hard 0 g 2\n";
+    let mut tree = read_listing(rt.alloc(), text)?;
+    let second = Name::read(b"g")?;
+    let node = tree.look(NodeId::ROOT, &second);
+    expect_eq(&rt, "its node", &node, &Some(NodeId::new(2)));
+    expect_eq(&rt, "no node", &tree.kind(NodeId::new(3)), &None);
+    let added = tree.add(NodeId::ROOT, Name::read(b"h")?, Kind::File, None)?;
+    expect_eq(&rt, "the next number", &added, &NodeId::new(4));
+    Ok(())
+}
+
+#[test]
 fn takes_4096_nodes_and_no_more(rt: HostRuntime) -> Result<(), Fail> {
     let alloc = rt.alloc();
     let mut text = String::from_str(alloc, "tree 1\n0 dir\n")?;

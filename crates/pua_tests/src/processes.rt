@@ -3,7 +3,7 @@
 use crate::expect::{expect, expect_eq, expect_row};
 use pua_path::Errno;
 use pua_policy::{May, Perms, Place, Process, Promises, UnveilFault};
-use pua_tree::NodeId;
+use pua_tree::{Name, NodeId};
 use std::alloc::Global;
 use std::test::Fail;
 
@@ -81,6 +81,35 @@ fn veils_are_at_most_128(rt: HostRuntime) -> Result<(), Fail> {
         let unveiled = process.unveil_at(place(*number), *perms);
         expect_row(&rt, row, &unveiled, want);
     }
+    Ok(())
+}
+
+#[test]
+fn veils_are_kept_at_their_places_in_order(rt: HostRuntime) -> Result<(), Fail> {
+    let mut process = Process::new(rt.alloc())?;
+    let slot = Place::Slot(NodeId::new(1), Name::read(b"passwd")?);
+    let both = Perms::READ.union(Perms::WRITE);
+    for (place, perms) in [
+        (place(3), Perms::READ),
+        (slot, both),
+        (place(3), Perms::NONE),
+    ] {
+        process.unveil_at(place, perms)?;
+    }
+    for (row, (place, perms)) in [
+        (place(3), Some(Perms::NONE)),
+        (slot, Some(both)),
+        (place(1), None),
+    ]
+    .iter()
+    .enumerate()
+    {
+        expect_row(&rt, row, &process.kept(place), perms);
+    }
+    let places = process.places(rt.alloc())?;
+    let dir = place(3);
+    let wanted = [&dir, &slot];
+    expect_eq(&rt, "the places", &places.as_slice(), &wanted.as_slice());
     Ok(())
 }
 

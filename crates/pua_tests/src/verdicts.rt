@@ -9,7 +9,8 @@ use pua_tree::{ListTree, Name, NodeId, read_listing};
 use std::test::Fail;
 
 /// An empty directory, and one in which a file, a link to it and a program stand.
-const KINDS: &[u8] = b"tree 1\n0 dir\n1 dir 0 d\n2 dir 0 e\n3 file 2 f\n4 link 2 l f\n5 prog 2 p\n";
+pub(crate) const KINDS: &[u8] =
+    b"tree 1\n0 dir\n1 dir 0 d\n2 dir 0 e\n3 file 2 f\n4 link 2 l f\n5 prog 2 p\n";
 
 const OK: Option<Errno> = None;
 
@@ -59,7 +60,7 @@ fn unlike(
 
 /// What each call answers on a directory that is not empty, an empty one, a file, a program, a link
 /// and a name that is free.
-const BY_KIND: [(&[u8], [Option<Errno>; 14]); 6] = [
+pub(crate) const BY_KIND: [(&[u8], [Option<Errno>; 14]); 6] = [
     (
         b"/e",
         [

@@ -8,3 +8,6 @@ pub use Rattle.pua_tree.proofs.Sound.{climb_here, climb_root, climb_more, climb_
 pub use Rattle.pua_tree.proofs.Lines.{lines_agree}
 -- spellings, names, numbers and fields
 pub use Rattle.pua_tree.proofs.Spellings.{is_byte, is_visible, unspelled-spelling, spelling-unspelled, bytes_unspelled, spelling_tells, name_is_bytes, name_of-spelling, name_read, decimal_within, number_read, fields_cons, fields_one, fields_joined, visible_decimal, visible_spelling, is_field-decimal, is_field-spelling}
+-- a tree that is sound: what a row says, the one row of a directory, and the way up from it
+pub use Rattle.pua_tree.proofs.Sound.{Sound, Reaches, InRow, sound_from, row_says, row_of, above_is, above_dir, climb_ends}
+pub use Rattle.pua_tree.proofs.Tallies.{only_key}

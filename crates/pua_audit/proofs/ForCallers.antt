@@ -1,0 +1,6 @@
+-- What crates above cite of the proofs of this one, beside the definitions and the laws.
+
+-- lists that rise
+pub use Rattle.pua_audit.proofs.Rising.{all_mapped, all_joined, all_flat, rises_filtered, rises_joined, rises_mapped, rises_flat, distinct_names_rise}
+-- words and their paths
+pub use Rattle.pua_audit.proofs.Paths.{same_is, IsPiece, letter_is_piece, path_is}

@@ -1,0 +1,10 @@
+pub mod Among
+pub mod Judged
+pub mod Listing
+pub mod Completeness
+pub mod Leading
+pub mod Soundness
+pub mod Descending
+pub mod Processes
+pub mod Rising
+pub mod Walking
