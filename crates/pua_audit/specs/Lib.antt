@@ -10,6 +10,7 @@ pub mod Past
 pub mod Ready
 pub mod WordPaths
 pub mod Coming
+pub mod Bounds
 pub mod Plain
 pub mod AuditState
 pub mod Lent
