@@ -4,3 +4,7 @@
 pub use Rattle.pua_audit.proofs.Rising.{all_mapped, all_joined, all_flat, rises_filtered, rises_joined, rises_mapped, rises_flat, distinct_names_rise}
 -- words and their paths
 pub use Rattle.pua_audit.proofs.Paths.{same_is, IsPiece, letter_is_piece, path_is}
+-- fewer pairs that are allowed make a reach that lies within another
+pub use Rattle.pua_audit.proofs.SubLists.{fewer_reach_less}
+-- a reach asks a tree for its rows and nodes alone
+pub use Rattle.pua_audit.proofs.Renumbering.{reach_needs_rows}

@@ -1,5 +1,7 @@
 pub mod Limits
 pub mod Reach
+pub mod SubLists
+pub mod Renumbering
 pub mod Begin
 pub mod Judge
 pub mod Trail

@@ -7,6 +7,8 @@ ghost use Rattle.pua_audit.specs.Graphs.{GraphsReach, LiveStatesCount, MasksList
 ghost use Rattle.pua_audit.specs.Entries.{EntriesStand};
 ghost use Rattle.pua_audit.specs.Table.{TablesStand};
 ghost use Rattle.pua_audit.specs.PairTexts.{ResumeTextsName};
+ghost use Rattle.pua_audit.specs.Renumbering.{ReachNeedsRows};
+ghost use Rattle.pua_audit.specs.SubLists.{FewerReachLess};
 ghost use Rattle.pua_audit.specs.Examples.{ReachRows};
 
 use crate::limits::{CANDIDATE_LIMIT, LETTER_LIMIT};
@@ -57,4 +59,18 @@ pub fn graph_laws()
     ensures masks { MasksList }
     ensures live { LiveStatesCount }
     ensures tables { TablesStand }
+{}
+
+/// Over the same letters and with the same limit, the reach of who is allowed no further pair lies
+/// within that of the other.
+#[tactic(auto, using(crate::proofs::SubLists::fewer_reach_less))]
+pub fn within_law()
+    ensures { FewerReachLess }
+{}
+
+/// A reach asks a tree for its rows and nodes alone: over a tree with the same ones it is the same,
+/// whatever number is the next.
+#[tactic(auto, using(crate::proofs::Renumbering::reach_needs_rows))]
+pub fn rows_law()
+    ensures { ReachNeedsRows }
 {}

@@ -25,6 +25,9 @@ mod walk;
 pub use audit::Audit;
 pub use base::Base;
 pub use fault::AuditFault;
-pub use laws::{graph_laws, limits_law, reach_examples, reach_laws, resume_text_law, walk_laws};
+pub use laws::{
+    graph_laws, limits_law, reach_examples, reach_laws, resume_text_law, rows_law, walk_laws,
+    within_law,
+};
 pub use limits::{CANDIDATE_LIMIT, LETTER_LIMIT};
 pub use line::Line;

@@ -6,6 +6,8 @@ pub use Rattle.pua_policy.proofs.Climbs.{climb_step, length-climb_step}
 pub use Rattle.pua_policy.proofs.Standing.{processes_decide}
 -- no event brings back a promise but `error`
 pub use Rattle.pua_policy.proofs.Narrowing.{held_never_grows}
+-- what both of two sets have, the second has
+pub use Rattle.pua_policy.proofs.Narrowing.{second_holds}
 -- what an exec keeps of a history
 pub use Rattle.pua_policy.proofs.Exec.{others, no_promises, no_execpromises, same_veils, same_lock, same_dirs, same_end}
 -- names without a veil of their own are covered as their directory is, and get one verdict where nothing stands
@@ -13,7 +15,7 @@ pub use Rattle.pua_policy.proofs.Unveiled.{unveiled_alike, unveiled_within, miss
 -- the bit of each call in a set of calls
 pub use Rattle.pua_policy.proofs.CallBits.{bit_below, call_at_bit, bit_of_call_at, same_bit}
 -- covers, one directory after another
-pub use Rattle.pua_policy.proofs.Climbs.{nearest_here, nearest_above, nearest_root, nearest_whole}
+pub use Rattle.pua_policy.proofs.Climbs.{climb_root, nearest_here, nearest_above, nearest_root, nearest_whole}
 -- the veils that are kept, and whether there is any
 pub use Rattle.pua_policy.proofs.Veils.{veils_are_kept}
 pub use Rattle.pua_policy.proofs.Standing.{any_veil}

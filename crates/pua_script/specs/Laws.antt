@@ -1,20 +1,19 @@
 -- What is true of replays.
-use Rattle.std.specs.Prelude.{not, ◌&&◌, ◌≡◌, ◌≢◌, ◌↔◌, ℕ, Bool, true, false, ◌⊎◌, None, List, ◌++◌, IsTrue, bit_and, is_some, ◌<◌, ◌^◌}
+use Rattle.std.specs.Prelude.{not, ◌&&◌, ◌≡◌, ◌≢◌, ◌↔◌, Bool, true, false, ◌⊎◌, None, List, ◌++◌, IsTrue, is_some}
 use Rattle.pua_tree.specs.Tree.{Tree, Node, WellFormed}
 use Rattle.pua_tree.specs.Edits.{has_name_room, has_room}
 use Rattle.pua_path.specs.Fits.{node_named}
 use Rattle.pua_path.specs.declared.errno.Errno.TheVariants.{ENOSPC}
 use Rattle.pua_path.specs.declared.found.Found.{Found}
-use Rattle.pua_policy.specs.Promises.{holds, error, unveil}
-use Rattle.pua_policy.specs.History.{History, held, kept, is_locked}
+use Rattle.pua_policy.specs.Promises.{holds, unveil}
+use Rattle.pua_policy.specs.History.{History, held, is_locked}
 use Rattle.pua_policy.specs.Calls.{CallTable}
-use Rattle.pua_policy.specs.declared.place.Place.{Place}
 use Rattle.pua_script.specs.declared.request.Action.{Action}
 use Rattle.pua_script.specs.declared.request.Action.TheVariants.{OnPath, Symlink, Link}
 use Rattle.pua_policy.specs.declared.call.Call.{Call}
 use Rattle.pua_policy.specs.declared.call.Call.TheVariants as call
 use Rattle.pua_script.specs.Requests.{Asked}
-use Rattle.pua_script.specs.Replay.{World, Fails, Leaves, added, change, is_whole, link_found, rename_found, effect, answers, world_after}
+use Rattle.pua_script.specs.Replay.{World, Fails, added, change, is_whole, link_found, rename_found, effect, answers, world_after}
 use Rattle.pua_script.specs.Judged.{NameFits, IsFor}
 
 -- a list of requests may be cut anywhere
@@ -26,21 +25,6 @@ ReplayComposes = (table : CallTable) (w : World) (first second : List Asked) →
 -- the process can put no veil any more: it is locked, or doesn't hold `unveil`
 abbrev pub IsConfined : History → Type 0
 IsConfined h = (is_locked h ≡ true) ⊎ (holds (held h) unveil ≡ false)
-
--- the later history has the veils of the earlier one, adds no promise but `error`, and can put no veil either
-pub record Narrows (before after : History) : Type 0 where
-  pub veils : (place : Place) → kept after place ≡ kept before place
-  pub promises : (set : ℕ) → set < 2 ^ 36 → bit_and set error ≡ 0 → IsTrue (holds (held after) set) → IsTrue (holds (held before) set)
-  pub confined : IsConfined after
-
--- any request of a confined process but a successful exec narrows it
-abbrev pub IsExec : Action → Type 0
-IsExec (OnPath call.Exec path) = Unit {0}
-IsExec _ = ⊥
-
-abbrev pub RequestsNarrow : Type 0
-RequestsNarrow = (table : CallTable) (w : World) (h : History) (action : Action) (t : Tree) (after : History) →
-    IsConfined h → (IsExec action → ⊥) → effect table w h action ≡ Leaves t after → Narrows h after
 
 -- nothing stands there, and a further node has no room
 abbrev pub LacksRoom : Tree → Found → Type 0

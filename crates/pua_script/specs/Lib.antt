@@ -7,4 +7,10 @@ pub mod Replay
 pub mod Judged
 pub mod Worlds
 pub mod Laws
+pub mod Family
+pub mod Tightening
+pub mod Confinement
+pub mod Bytes
+pub mod Futures
+pub mod ErrorTables
 pub mod Examples

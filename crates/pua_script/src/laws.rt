@@ -6,7 +6,7 @@ ghost use Rattle.pua_tree.specs.Tree.{Tree, WellFormed};
 ghost use Rattle.pua_policy.specs.History.{History};
 ghost use Rattle.pua_script.specs.Examples.{LinkRows, RenameRows, ReplayRows, ScriptRows};
 ghost use Rattle.pua_script.specs.Limits.{line_limit, number_limit, process_limit};
-ghost use Rattle.pua_script.specs.Laws.{AddsLackRoom, CallsLackRoom, LinksLackRoom, RenamesNeedNoRoom, ReplayComposes, RequestsLackRoom, RequestsNarrow};
+ghost use Rattle.pua_script.specs.Laws.{AddsLackRoom, CallsLackRoom, LinksLackRoom, RenamesNeedNoRoom, ReplayComposes, RequestsLackRoom};
 ghost use Rattle.pua_script.specs.ScriptGrammar.{ScriptsAreRead};
 ghost use Rattle.pua_script.specs.Worlds.{WorldsAnswerAlike};
 
@@ -34,11 +34,6 @@ pub fn replay_examples()
 /// A list of requests may be cut anywhere.
 pub fn replay_law()
     ensures { ReplayComposes }
-{}
-
-/// Any request but a successful exec of a process that can put no veil any more narrows it.
-pub fn narrowing_law()
-    ensures { RequestsNarrow }
 {}
 
 /// Two worlds of the replay for which one world stands answer alike, to the end.

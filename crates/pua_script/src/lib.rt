@@ -6,6 +6,7 @@ mod answer;
 mod change;
 mod fault;
 mod fork;
+mod futures;
 mod judged;
 mod laws;
 mod limits;
@@ -21,9 +22,11 @@ mod world;
 
 pub use answer::Answer;
 pub use fault::{ScriptFault, WorldFault};
+pub use futures::{
+    bytes_law, confined_law, error_table_examples, families_law, others_law, steps_law, table_law,
+};
 pub use laws::{
-    limits_law, narrowing_law, replay_examples, replay_law, room_law, script_examples, script_law,
-    standing_law,
+    limits_law, replay_examples, replay_law, room_law, script_examples, script_law, standing_law,
 };
 pub use limits::{LINE_LIMIT, NUMBER_LIMIT, PROCESS_LIMIT};
 pub use request::{Action, Given, PathBytes, Request};

@@ -35,6 +35,8 @@ impl<T: FileTree> Model for World<T> {
 }
 
 ghost use Rattle.std.specs.Prelude.{◌≡◌, IfOk, OnErr, MatchResult, IsFalse, option_copied};
+ghost use Rattle.pua_tree.specs.Tree.{WellFormed};
+ghost use Rattle.pua_script.specs.Futures.{AreDone, AreDoneInPart, AreHeld, AreHeldInPart, IsNarrowing, IsSparing};
 ghost use Rattle.pua_script.specs.Replay.{new_world};
 ghost use Rattle.pua_script.specs.Worlds.{HasReplay, StandsForWorld, IsProcessOf, IsOkay, IsServed, AreServed, AreServedInPart, is_fork, process_at};
 
@@ -84,7 +86,26 @@ impl<T: FileTree> World<T> {
     /// Serves one request, and answers it. A process that has ended or was never made is told
     /// `Gone`; a request that fails changes nothing. `OutOfMemory` where a growth was refused, which
     /// only a request can meet that would be answered `Okay`; the world is then as it was.
+    ///
+    /// A process that is locked or doesn't hold `unveil` reaches no more afterwards, whoever asks:
+    /// its veils stay, and it is given no promise but `error`, except by its own exec. A row that the
+    /// one that asks can't touch with `c` stays, with its node and, by the history that was, its cover.
     pub fn apply(&mut self, request: &Request) -> Result<Answer, WorldFault>
+        ensures served { IfOk result (λ answer. IsServed self.old request.now answer self.new) }
+        ensures memory { OnErr result (IsOkay self.old request.now) }
+        ensures unchanged { OnErr result (self.new ≡ self.old) }
+        ensures narrows { IsNarrowing self.old request.now }
+        ensures spares { IfOk result (λ _. IsSparing self.old request.now self.new) }
+        ensures tree { IfOk result (λ _. WellFormed self.new.tree) }
+    {
+        self.tree.known();
+        let answer = self.answer(request)?;
+        self.tree.known();
+        Ok(answer)
+    }
+
+    /// Serves one request, of which only the answer and the world left are said.
+    fn answer(&mut self, request: &Request) -> Result<Answer, WorldFault>
         ensures served { IfOk result (λ answer. IsServed self.old request.now answer self.new) }
         ensures memory { OnErr result (IsOkay self.old request.now) }
         ensures unchanged { OnErr result (self.new ≡ self.old) }
@@ -99,9 +120,23 @@ impl<T: FileTree> World<T> {
     /// Serves the requests of a script in their order, and answers each. `OutOfMemory` where a
     /// growth was refused: before the first request where there is no room for the answers, and
     /// else some of the first requests were served.
+    ///
+    /// What is true of a single request (see [`World::apply`]) is true of those that were served
+    /// together, for a process and its family: itself, and those that a member forks from then on.
+    /// As long as no member's exec succeeds, each member reaches no more than the process did; and
+    /// where members alone ask, each row that the process couldn't touch with `c` stays.
     pub fn run(&mut self, alloc: Global, script: &Script) -> Result<Vec<Answer>, WorldFault>
-        ensures { MatchResult result (λ told. AreServed self.old script.now told.items self.new) (λ _. AreServedInPart self.old script.now self.new) }
+        ensures served { MatchResult result (λ told. AreServed self.old script.now told.items self.new) (λ _. AreServedInPart self.old script.now self.new) }
+        ensures held { MatchResult result (λ _. AreHeld self.old script.now self.new) (λ _. AreHeldInPart self.old script.now self.new) }
     {
+        self.serve_each(alloc, script)
+    }
+
+    /// Serves requests one after another, over trees.
+    fn serve_each(&mut self, alloc: Global, script: &Script) -> Result<Vec<Answer>, WorldFault>
+        ensures { MatchResult result (λ told. AreDone self.old script.now told.items self.new) (λ _. AreDoneInPart self.old script.now self.new) }
+    {
+        self.tree.known();
         let requests = script.requests();
         let Ok(mut told) = Vec::with_capacity(alloc, requests.len()) else {
             return Err(WorldFault::OutOfMemory);

@@ -1,3 +1,4 @@
 pub mod Putting
 pub mod Replays
 pub mod Pairs
+pub mod Futures

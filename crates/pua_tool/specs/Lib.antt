@@ -7,4 +7,5 @@ pub mod Statuses
 pub mod Texts
 pub mod Begun
 pub mod Performed
+pub mod Futures
 pub mod Examples

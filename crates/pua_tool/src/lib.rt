@@ -23,7 +23,7 @@ pub use cli::command;
 pub use fault::ToolFault;
 pub use inputs::{DiskInputs, InputFault, Inputs, MemoryInputs};
 pub use job::Job;
-pub use laws::text_examples;
+pub use laws::{confined, narrowing, text_examples};
 pub use pua_words::{AuditWords, Command, Text, USAGE_LINE};
 pub use run::run_to;
 pub use service::perform;

@@ -11,3 +11,7 @@ pub use Rattle.pua_tree.proofs.Spellings.{is_byte, is_visible, unspelled-spellin
 -- a tree that is sound: what a row says, the one row of a directory, and the way up from it
 pub use Rattle.pua_tree.proofs.Sound.{Sound, Reaches, InRow, sound_from, row_says, row_of, above_is, above_dir, climb_ends}
 pub use Rattle.pua_tree.proofs.Tallies.{only_key}
+-- what each edit leaves is a tree
+pub use Rattle.pua_tree.proofs.EditsKeep.{edits_keep_trees}
+-- what is found at a key after another one was put or taken away, and how often a value is found
+pub use Rattle.pua_tree.proofs.Tallies.{same_or_other, put_here, put_elsewhere, without_here, without_elsewhere, tally_counts, tally_found}

@@ -1,23 +1,8 @@
-use Rattle.std.proofs.Common.{◌+◌, ◌∷◌, ◌++◌, [], refl, take}
-use Rattle.std.proofs.lemmas.Result.{err_from_is_err_and}
-use Rattle.pua_script.specs.Worlds.{AreServed, AreServedInPart}
-use Rattle.pua_script.proofs.Serving.{served_before, served_next}
+use Rattle.pua_script.proofs.Served.{run_served, run_held}
 use Rattle.pua_script.proofs.world.World.run.Goals as goal
 
-pub returns-in_err-answer : goal.returns-in_err-answer
-returns-in_err-answer g c =
-    let part : AreServedInPart c.args.self.now c.args.script.now c.apply.new.self =
-    served_before _ c.loop-request.self _ _ c.requests-requests.result.now c.loop-request.request-index _ c.requests-requests.ensures c.in_err-answer.ensures.unchanged c.loop-request.invariant in
-    let p = err_from_is_err_and c.from_residual.result c.from_residual.ensures.1 in
-    rw p.1 part
+pub returns-clause-served : goal.returns-clause-served
+returns-clause-served g c = run_served c.args.self.now c.serve_each.new.self c.args.script.now (λ v. v.items) c.serve_each.result c.serve_each.ensures
 
-pub returns-in_default-push : goal.returns-in_default-push
-returns-in_default-push g c =
-    let next : AreServed c.args.self.now (take (c.loop-request.request-index + 1) c.requests-requests.result.now) (c.loop-request.told.items ++ c.in_ok-answer.answer ∷ []) c.apply.new.self =
-    served_next _ _ _ c.requests-requests.result.now c.loop-request.request-index _ _ c.request-item.result c.in_ok-answer.answer c.loop-request-test.true c.request-item.is refl c.loop-request.invariant c.in_ok-answer.ensures.served in
-    served_before _ c.apply.new.self _ _ c.requests-requests.result.now (c.loop-request.request-index + 1) _ c.requests-requests.ensures refl next
-
-pub loop-request-preserved : goal.loop-request-preserved
-loop-request-preserved g c =
-    served_next _ _ _ c.requests-requests.result.now c.loop-request.request-index _ _ c.request-item.result c.in_ok-answer.answer c.loop-request-test.true c.request-item.is c.in-Ok-push.ensures.items
-    c.loop-request.invariant c.in_ok-answer.ensures.served
+pub returns-clause-held : goal.returns-clause-held
+returns-clause-held g c = run_held c.args.self.now c.serve_each.new.self c.args.script.now (λ v. v.items) c.serve_each.result c.serve_each.ensures

@@ -1,0 +1,200 @@
+-- A reach asks a tree for its rows and nodes alone.
+use Rattle.std.proofs.Common.{◌≡◌, ℕ, zero, suc, List, [], ◌∷◌, ◌++◌, map, length, Bool, not, ◌&&◌, cond, refl, ap, ◌∙◌}
+use Rattle.std.specs.Prelude.{Option, Some, None, Result, Ok, Err, filter}
+use Rattle.std.specs.List.{list_any}
+use Rattle.pua_tree.specs.Steps.{◌>>=◌}
+use Rattle.pua_tree.specs.Tree.{Tree, is_dir, look, above, climb_within}
+use Rattle.pua_path.specs.Paths.{parts_of, is_absolute, path_fault}
+use Rattle.pua_path.specs.Resolution.{Resolved, Standing, Directory, Linked, Plain, Nothing, standing_at, is_followed, slot_or, walk, start_of, resolve_parts, resolution, resolution_of_text, link_limit}
+use Rattle.pua_path.specs.declared.errno.Errno.{Errno}
+use Rattle.pua_path.specs.declared.errno.Errno.TheVariants.{ENOENT, ENOTDIR, ELOOP}
+use Rattle.pua_path.specs.declared.text.Ending.{Ending}
+use Rattle.pua_path.specs.declared.text.Ending.TheVariants as ending
+use Rattle.pua_path.specs.declared.found.Part.{Part}
+use Rattle.pua_path.specs.declared.found.Part.TheVariants as parts
+use Rattle.pua_path.specs.declared.found.Last.{Last}
+use Rattle.pua_path.specs.declared.found.Way.{Way}
+use Rattle.pua_path.specs.declared.found.Way.TheVariants as way
+use Rattle.pua_path.specs.declared.found.Found.{Found}
+use Rattle.pua_path.specs.declared.found.Found.TheVariants.{Whole, Slot}
+use Rattle.pua_policy.specs.Calls.{CallTable, rule_of, ending_of, last_of}
+use Rattle.pua_policy.specs.History.{History, kept, may_any, working_dir}
+use Rattle.pua_policy.specs.Verdict.{Object, IsDir, IsFile, IsProg, IsLink, IsMissing, object_fault, object_of, cover, cover_fault, or_fault, nearest, is_unveil, place_of, directories_over, allowed_unless, if_promised, verdict_of, verdict_on, object_named, is_allowed}
+use Rattle.pua_policy.specs.declared.answer.Cover.TheVariants.{All}
+use Rattle.pua_policy.specs.declared.call.Call.{Call}
+use Rattle.pua_policy.specs.declared.call.Call.TheVariants.{Stat, Lstat, Readlink, OpenRead, OpenWrite, OpenBoth, Create, Mkdir, Rmdir, Unlink, Symlink, Chmod, Chdir, Exec}
+use Rattle.pua_policy.specs.declared.place.Place.TheVariants.{Dir}
+use Rattle.pua_audit.specs.Reach.{Scope, is_reached, pairs, reach, path_of}
+use Rattle.pua_audit.specs.Renumbering.{ReachNeedsRows}
+
+module _ (t : Tree) (n : ℕ) where
+  -- the tree with another next number
+  abbrev v : Tree
+  v = record t { next = n }
+
+  same_above : (d : ℕ) → above v d ≡ above t d
+  same_above zero = refl
+  same_above (suc d) = refl
+
+  same_climb : (k d : ℕ) → climb_within k v d ≡ climb_within k t d
+  same_climb zero d = refl
+  same_climb (suc k) zero = refl
+  same_climb (suc k) (suc d) = ap (λ ds. suc d ∷ ds) (same_climb k (above t (suc d)))
+
+  same_standing : (dir : ℕ) (name : List ℕ) → standing_at v dir name ≡ standing_at t dir name
+  same_standing dir name = by (look t dir name) refl
+    where
+      by : (o : Option ℕ) → look t dir name ≡ o → standing_at v dir name ≡ standing_at t dir name
+      by None e = rw e refl
+      by (Some x) e = rw e refl
+
+  -- what a name leads to, in a walk
+  abbrev met : Tree → Last → ℕ → (ℕ → List ℕ → List Part → Resolved) → ℕ → List ℕ → List Part → Standing → Resolved
+  met u mode links follow dir name ps s = elim s [
+    | Directory x ↦ walk u mode links follow x (way.Named dir name) ps
+    | Linked x target ↦ cond (is_followed mode ps) (follow dir target ps) (Ok (Slot dir name (Some x), links))
+    | Plain x ↦ slot_or ps (Slot dir name (Some x)) ENOTDIR links
+    | Nothing ↦ slot_or ps (Slot dir name None) ENOENT links
+  ]
+
+  module _ (mode : Last) (links : ℕ) (f g : ℕ → List ℕ → List Part → Resolved) (alike : (from : ℕ) (target : List ℕ) (rest : List Part) → f from target rest ≡ g from target rest) where
+    same_met : (ps : List Part) (dir : ℕ) (name : List ℕ) → ((x : ℕ) → walk v mode links f x (way.Named dir name) ps ≡ walk t mode links g x (way.Named dir name) ps) →
+        (s : Standing) → met v mode links f dir name ps s ≡ met t mode links g dir name ps s
+    same_met ps dir name further (Directory x) = further x
+    same_met ps dir name further (Linked x target) = ap (λ r. cond (is_followed mode ps) r (Ok (Slot dir name (Some x), links))) (alike dir target ps)
+    same_met ps dir name further (Plain x) = refl
+    same_met ps dir name further Nothing = refl
+
+    same_walk : (ps : List Part) (dir : ℕ) (by : Way) → walk v mode links f dir by ps ≡ walk t mode links g dir by ps
+    same_walk [] dir by = refl
+    same_walk (parts.Dot ∷ ps) dir by = same_walk ps dir way.Dot
+    same_walk (parts.DotDot ∷ ps) dir by = ap (λ d. walk v mode links f d way.DotDot ps) (same_above dir) ∙ same_walk ps (above t dir) way.DotDot
+    same_walk (parts.Name name ∷ ps) dir by =
+        ap (met v mode links f dir name ps) (same_standing dir name)
+        ∙ same_met ps dir name (λ x. same_walk ps x (way.Named dir name)) (standing_at t dir name)
+
+  same_resolve : (links : ℕ) (mode : Last) (dir : ℕ) (by : Way) (ps : List Part) → resolve_parts links v mode dir by ps ≡ resolve_parts links t mode dir by ps
+  same_resolve zero mode dir by ps = same_walk mode 0 (λ from target rest. Err ELOOP) (λ from target rest. Err ELOOP) (λ from target rest. refl) ps dir by
+  same_resolve (suc links) mode dir by ps =
+      same_walk mode (suc links) _ _ (λ from target rest. same_resolve links mode (start_of target from) way.Top (parts_of ending.Dot target ++ rest)) ps dir by
+
+  same_resolution : (from : ℕ) (end : Ending) (text : List ℕ) (mode : Last) → resolution v from end text mode ≡ resolution t from end text mode
+  same_resolution from end text mode =
+      ap (λ r. cond {A = Result Found Errno} (not (is_absolute text) && not (is_dir t from)) (Err ENOENT) (r >>= λ found. Ok found.0)) (same_resolve link_limit mode (start_of text from) way.Top (parts_of end text))
+
+  same_named : (from : ℕ) (end : Ending) (text : List ℕ) (mode : Last) → resolution_of_text v from end text mode ≡ resolution_of_text t from end text mode
+  same_named from end text mode = by (path_fault text) refl
+    where
+      by : (o : Option Errno) → path_fault text ≡ o → resolution_of_text v from end text mode ≡ resolution_of_text t from end text mode
+      by None e = rw e (same_resolution from end text mode)
+      by (Some errno) e = rw e refl
+
+  same_over : (x : Found) → directories_over v x ≡ directories_over t x
+  same_over (Whole dir w) = ap (climb_within (length t.nodes) v) (same_above dir) ∙ same_climb (length t.nodes) (above t dir)
+  same_over (Slot dir name y) = same_climb (length t.nodes) dir
+
+  same_cover : (h : History) (x : Found) → cover v h x ≡ cover t h x
+  same_cover h x = ap (λ dirs. cond (list_any is_unveil h) (nearest (kept h (place_of x) ∷ map (λ dir. kept h (Dir dir)) dirs)) All) (same_over x)
+
+  same_object : (x : Found) → object_of v x ≡ object_of t x
+  same_object (Whole dir w) = refl
+  same_object (Slot dir name None) = refl
+  same_object (Slot dir name (Some y)) = refl
+
+  same_fault : (c : Call) (o : Object) → object_fault v c o ≡ object_fault t c o
+  same_fault Stat (IsDir dir w) = refl
+  same_fault Stat IsFile = refl
+  same_fault Stat IsProg = refl
+  same_fault Stat IsLink = refl
+  same_fault Stat IsMissing = refl
+  same_fault Lstat (IsDir dir w) = refl
+  same_fault Lstat IsFile = refl
+  same_fault Lstat IsProg = refl
+  same_fault Lstat IsLink = refl
+  same_fault Lstat IsMissing = refl
+  same_fault Readlink (IsDir dir w) = refl
+  same_fault Readlink IsFile = refl
+  same_fault Readlink IsProg = refl
+  same_fault Readlink IsLink = refl
+  same_fault Readlink IsMissing = refl
+  same_fault OpenRead (IsDir dir w) = refl
+  same_fault OpenRead IsFile = refl
+  same_fault OpenRead IsProg = refl
+  same_fault OpenRead IsLink = refl
+  same_fault OpenRead IsMissing = refl
+  same_fault OpenWrite (IsDir dir w) = refl
+  same_fault OpenWrite IsFile = refl
+  same_fault OpenWrite IsProg = refl
+  same_fault OpenWrite IsLink = refl
+  same_fault OpenWrite IsMissing = refl
+  same_fault OpenBoth (IsDir dir w) = refl
+  same_fault OpenBoth IsFile = refl
+  same_fault OpenBoth IsProg = refl
+  same_fault OpenBoth IsLink = refl
+  same_fault OpenBoth IsMissing = refl
+  same_fault Create (IsDir dir w) = refl
+  same_fault Create IsFile = refl
+  same_fault Create IsProg = refl
+  same_fault Create IsLink = refl
+  same_fault Create IsMissing = refl
+  same_fault Mkdir (IsDir dir w) = refl
+  same_fault Mkdir IsFile = refl
+  same_fault Mkdir IsProg = refl
+  same_fault Mkdir IsLink = refl
+  same_fault Mkdir IsMissing = refl
+  same_fault Rmdir (IsDir dir way.Dot) = refl
+  same_fault Rmdir (IsDir dir way.DotDot) = refl
+  same_fault Rmdir (IsDir dir way.Top) = refl
+  same_fault Rmdir (IsDir dir (way.Named parent name)) = refl
+  same_fault Rmdir IsFile = refl
+  same_fault Rmdir IsProg = refl
+  same_fault Rmdir IsLink = refl
+  same_fault Rmdir IsMissing = refl
+  same_fault Unlink (IsDir dir w) = refl
+  same_fault Unlink IsFile = refl
+  same_fault Unlink IsProg = refl
+  same_fault Unlink IsLink = refl
+  same_fault Unlink IsMissing = refl
+  same_fault Symlink (IsDir dir w) = refl
+  same_fault Symlink IsFile = refl
+  same_fault Symlink IsProg = refl
+  same_fault Symlink IsLink = refl
+  same_fault Symlink IsMissing = refl
+  same_fault Chmod (IsDir dir w) = refl
+  same_fault Chmod IsFile = refl
+  same_fault Chmod IsProg = refl
+  same_fault Chmod IsLink = refl
+  same_fault Chmod IsMissing = refl
+  same_fault Chdir (IsDir dir w) = refl
+  same_fault Chdir IsFile = refl
+  same_fault Chdir IsProg = refl
+  same_fault Chdir IsLink = refl
+  same_fault Chdir IsMissing = refl
+  same_fault Exec (IsDir dir w) = refl
+  same_fault Exec IsFile = refl
+  same_fault Exec IsProg = refl
+  same_fault Exec IsLink = refl
+  same_fault Exec IsMissing = refl
+
+  same_verdict : (table : CallTable) (h : History) (c : Call) (r : Result Found Errno) → verdict_of v table h c r ≡ verdict_of t table h c r
+  same_verdict table h c (Ok x) =
+      λ i. if_promised (may_any h (rule_of table c).alternatives) (allowed_unless (or_fault (cover_fault (same_cover h x i) (rule_of table c).perms) ((ap (object_fault v c) (same_object x) ∙ same_fault c (object_of t x)) i)))
+  same_verdict table h c (Err errno) = refl
+
+  pub same_on : (table : CallTable) (h : History) (c : Call) (text : List ℕ) → verdict_on v table h c text ≡ verdict_on t table h c text
+  same_on table h c text =
+      ap (verdict_of v table h c) (same_named (working_dir h) (ending_of c) text (last_of c)) ∙ same_verdict table h c (object_named t h c text)
+
+module _ {A : Type 0} (p q : A → Bool) (alike : (x : A) → p x ≡ q x) where
+  same_filter : (xs : List A) → filter p xs ≡ filter q xs
+  same_filter [] = refl
+  same_filter (x ∷ xs) = λ i. cond (alike x i) (x ∷ same_filter xs i) (same_filter xs i)
+
+renumbered : (s : Scope) (n : ℕ) → reach (record s { tree = record s.tree { next = n } }) ≡ reach s
+renumbered s n =
+    same_filter (is_reached (record s { tree = record s.tree { next = n } })) (is_reached s)
+    (λ pair. ap is_allowed (same_on s.tree n s.table s.history pair.1 (path_of s.base pair.0))) (pairs s.alphabet s.limit)
+
+pub reach_needs_rows : ReachNeedsRows
+reach_needs_rows s u rows nodes =
+    ap (λ (t : Tree). reach (record s { tree = t })) (λ i. record { rows = rows i; nodes = nodes i; next = u.next }) ∙ renumbered s u.next

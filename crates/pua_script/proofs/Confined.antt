@@ -1,0 +1,74 @@
+-- What a list of requests of a family leaves of the tree.
+use Rattle.std.proofs.Common.{◌≡◌, ℕ, List, [], ◌∷◌, Bool, true, false, refl, sym, ap, ◌∙◌, lit<}
+use Rattle.std.specs.Prelude.{not, filter}
+use Rattle.std.proofs.lemmas.Bool.{false≢true, and_parts}
+use Rattle.pua_tree.specs.Tree.{Tree, WellFormed}
+use Rattle.pua_policy.specs.Promises.{holds, cpath}
+use Rattle.pua_policy.specs.Calls.{CallTable}
+use Rattle.pua_policy.specs.History.{History, held}
+use Rattle.pua_policy.specs.Verdict.{is_unveil}
+use Rattle.pua_script.specs.Requests.{Asked}
+use Rattle.pua_script.specs.Replay.{World, apply, world_after}
+use Rattle.pua_script.specs.Family.{is_member, is_exec, is_done, none_done, members_alone, family_then}
+use Rattle.pua_script.specs.Confinement.{TakingNeedsC, ChangingNeedsCpath, UncoveredStay, TreesAlong, FamiliesConfine, object_in, has_c}
+use Rattle.pua_script.proofs.Allowing.{IsWithin, same_cover}
+use Rattle.pua_script.proofs.Families.{Members, members_then, begins, not_true}
+use Rattle.pua_script.proofs.Confining.{each_spares, spared_twice}
+use Rattle.pua_script.proofs.Unchanged.{cpath_changes}
+
+stay_self : (h : History) (t : Tree) → UncoveredStay h t t
+stay_self h t s x here lacks = record { row = here; node = refl; covered = refl }
+
+-- histories with the same unveils spare the same rows
+by_other : (a b : History) → filter is_unveil a ≡ filter is_unveil b → (t u : Tree) → UncoveredStay a t u → UncoveredStay b t u
+by_other a b same t u stays s x here lacks =
+    let stay = stays s x here (ap has_c (same_cover a b same t (object_in t s x)) ∙ lacks) in
+    record { row = stay.row; node = stay.node; covered = sym (same_cover a b same u (object_in u s x)) ∙ stay.covered ∙ same_cover a b same t (object_in t s x) }
+
+first_tree : (table : CallTable) (w : World) (asks : List Asked) → TreesAlong table w asks → WellFormed w.tree
+first_tree table w [] trees = trees
+first_tree table w (ask ∷ asks) trees = trees.0
+
+module _ (table : CallTable) (now : History) where
+  spares_along : TakingNeedsC table → (asks : List Asked) (w : World) (members : List ℕ) → Members w members now false → none_done is_exec table w asks members ≡ true
+      → members_alone table w asks members ≡ true → TreesAlong table w asks → UncoveredStay now w.tree (world_after table w asks).tree
+  spares_along needs [] w members are none alone trees = stay_self now w.tree
+  spares_along needs (ask ∷ asks) w members are none alone trees =
+      let asked = and_parts (is_member members ask.process) _ alone in
+      let parts = and_parts (not (is_done is_exec table w ask members)) _ none in
+      let asker = are ask.process asked.0 in
+      let after = (apply table w ask).1 in
+      let step = each_spares table needs w ask asker.0 trees.0 (first_tree table after asks trees.1) asker.1 in
+      spared_twice now w.tree after.tree (world_after table after asks).tree
+      (by_other asker.0 now asker.2.within.tightens.unveils w.tree after.tree step)
+      (spares_along needs asks after (family_then table w ask members)
+      (members_then table now w ask members false are (not_true (is_done is_exec table w ask members) parts.0)) parts.1 asked.1 trees.1)
+
+  lacking : (h : History) → IsWithin now h → holds (held now) cpath ≡ false → holds (held h) cpath ≡ false
+  lacking h within lacks = by (holds (held h) cpath) refl
+    where
+      by : (b : Bool) → holds (held h) cpath ≡ b → holds (held h) cpath ≡ false
+      by false e = e
+      by true e = absurd (false≢true (sym lacks ∙ within.tightens.promises cpath (lit< tt, refl) e))
+
+  unchanged_along : ChangingNeedsCpath table → holds (held now) cpath ≡ false → (asks : List Asked) (w : World) (members : List ℕ) → Members w members now false
+      → none_done is_exec table w asks members ≡ true → members_alone table w asks members ≡ true → (world_after table w asks).tree ≡ w.tree
+  unchanged_along needs lacks [] w members are none alone = refl
+  unchanged_along needs lacks (ask ∷ asks) w members are none alone =
+      let asked = and_parts (is_member members ask.process) _ alone in
+      let parts = and_parts (not (is_done is_exec table w ask members)) _ none in
+      let asker = are ask.process asked.0 in
+      unchanged_along needs lacks asks (apply table w ask).1 (family_then table w ask members)
+      (members_then table now w ask members false are (not_true (is_done is_exec table w ask members) parts.0)) parts.1 asked.1
+      ∙ cpath_changes table needs w ask asker.0 asker.1 (lacking asker.0 asker.2.within lacks)
+
+at_all : (w : World) (members : List ℕ) (now : History) → Members w members now true → Members w members now false
+at_all w members now are m belongs = let one = are m belongs in (one.0, one.1, record { within = one.2.within; dir = λ e. absurd (false≢true e) })
+
+pub families_confine : FamiliesConfine
+families_confine table w asks process now here confined none alone =
+    let are = at_all w (process ∷ []) now (begins table now w process here confined) in
+    record {
+      spares = λ needs trees. spares_along table now needs asks w (process ∷ []) are none alone trees;
+      unchanged = λ needs lacks. unchanged_along table now needs lacks asks w (process ∷ []) are none alone;
+    }

@@ -1,0 +1,140 @@
+-- What a list of requests leaves of the family of a process that can put no veil any more.
+use Rattle.std.proofs.Common.{◌≡◌, ℕ, List, [], ◌∷◌, Bool, true, false, cond, ◌&&◌, ◌||◌, refl, sym, ap, subst, ◌∙◌}
+use Rattle.std.specs.Prelude.{Some, not, ◌==◌}
+use Rattle.std.proofs.lemmas.Bool.{false≢true, eqb-true, and_parts}
+use Rattle.pua_policy.specs.Calls.{CallTable}
+use Rattle.pua_policy.specs.History.{History, working_dir}
+use Rattle.pua_script.specs.Requests.{Asked}
+use Rattle.pua_script.specs.Replay.{World, history_of, apply, world_after}
+use Rattle.pua_script.specs.Laws.{IsConfined}
+use Rattle.pua_script.specs.Family.{is_member, is_okay, is_exec, is_chdir, with_child, family_then, family, is_done, none_done, HasHistoryOf}
+use Rattle.pua_script.specs.Tightening.{FamiliesNarrow}
+use Rattle.pua_script.specs.declared.answer.Answer.{Answer}
+use Rattle.pua_script.specs.declared.answer.Answer.TheVariants.{Okay, Failed, Killed, Gone}
+use Rattle.pua_script.specs.declared.request.Action.{Action}
+use Rattle.pua_script.specs.declared.request.Action.TheVariants.{OnPath, Symlink, Rename, Link, Pledge, Unveil, Lock, Fork, Exit}
+use Rattle.pua_script.proofs.Others.{forks_copy}
+use Rattle.pua_script.proofs.Allowing.{IsWithin, allows_no_more}
+use Rattle.pua_script.proofs.Tightening.{is_own, is_one, each_steps, within_self, within_twice}
+
+-- a member: its history is within that of the process of the beginning, and works in its directory if none moved
+pub record Belongs (now : History) (still : Bool) (h : History) : Type 0 where
+  pub within : IsWithin now h
+  pub dir : still ≡ true → working_dir h ≡ working_dir now
+
+abbrev pub Members : World → List ℕ → History → Bool → Type 0
+Members w members now still = (m : ℕ) → is_member members m ≡ true → HasHistoryOf w m (Belongs now still)
+
+is_okay_only : (a : Answer) → is_okay a ≡ true → a ≡ Okay
+is_okay_only Okay e = refl
+is_okay_only (Failed errno) e = absurd (false≢true e)
+is_okay_only Killed e = absurd (false≢true e)
+is_okay_only Gone e = absurd (false≢true e)
+
+-- what one member did not do, is not done by it
+not_by_one : (kind : Action → Bool) (table : CallTable) (w : World) (ask : Asked) (members : List ℕ) (m : ℕ) → is_member members m ≡ true
+    → is_done kind table w ask members ≡ false → is_done kind table w ask (m ∷ []) ≡ false
+not_by_one kind table w ask members m belongs none = by (m == ask.process) refl
+  where
+    by : (b : Bool) → (m == ask.process) ≡ b → is_done kind table w ask (m ∷ []) ≡ false
+    by false e = ap (λ b. b && is_own kind table w ask) (is_one m ask.process ∙ e)
+    by true e =
+        let is : m ≡ ask.process = eqb-true m ask.process e in
+        ap (λ b. b && is_own kind table w ask) (is_one m ask.process ∙ e)
+        ∙ sym (ap (λ b. b && is_own kind table w ask) (ap (is_member members) (sym is) ∙ belongs)) ∙ none
+
+pub not_true : (b : Bool) → not b ≡ true → b ≡ false
+not_true true e = absurd (false≢true e)
+not_true false e = refl
+
+-- a member of the family with a child is one before, or the child
+child_or_old : (action : Action) (members : List ℕ) (m : ℕ) (P : Type 0) → is_member (with_child action members) m ≡ true
+    → (is_member members m ≡ true → P) → ((new : ℕ) → action ≡ Fork new → new ≡ m → P) → P
+child_or_old (Fork new) members m P belongs old child = by (new == m) refl belongs
+  where
+    by : (b : Bool) → (new == m) ≡ b → (b || is_member members m) ≡ true → P
+    by true e belongs = child new refl (eqb-true new m e)
+    by false e belongs = old belongs
+child_or_old (OnPath c path) members m P belongs old child = old belongs
+child_or_old (Symlink target path) members m P belongs old child = old belongs
+child_or_old (Rename from to) members m P belongs old child = old belongs
+child_or_old (Link from to) members m P belongs old child = old belongs
+child_or_old (Pledge p x) members m P belongs old child = old belongs
+child_or_old (Unveil path perms) members m P belongs old child = old belongs
+child_or_old Lock members m P belongs old child = old belongs
+child_or_old Exit members m P belongs old child = old belongs
+
+module _ (table : CallTable) (now : History) where
+  module _ (w : World) (ask : Asked) (members : List ℕ) (still : Bool) (are : Members w members now still) (none : is_done is_exec table w ask members ≡ false) where
+    abbrev then : World
+    then = (apply table w ask).1
+
+    abbrev still_then : Bool
+    still_then = still && not (is_done is_chdir table w ask members)
+
+    -- an old member
+    old_member : (m : ℕ) → is_member members m ≡ true → HasHistoryOf then m (Belongs now still_then)
+    old_member m belongs =
+        let before = are m belongs in
+        let after = each_steps table w ask m before.0 before.1 before.2.within.tightens.confined (not_by_one is_exec table w ask members m belongs none) in (
+          after.0,
+          after.1,
+          record {
+            within = within_twice now before.0 after.0 before.2.within after.2.within;
+            dir = λ is.
+                let parts = and_parts still (not (is_done is_chdir table w ask members)) is in
+                after.2.dir (not_by_one is_chdir table w ask members m belongs (not_true (is_done is_chdir table w ask members) parts.1)) ∙ before.2.dir parts.0;
+          },
+        )
+
+    -- a child has the history of the member that asked
+    child : (new : ℕ) → ask.action ≡ Fork new → is_member members ask.process ≡ true → is_okay (apply table w ask).0 ≡ true → HasHistoryOf then new (Belongs now still_then)
+    child new forks belongs okay =
+        let before = are ask.process belongs in
+        let same : (record { process = ask.process; action = Fork new }) ≡ ask = λ i. record { process = ask.process; action = sym forks i } in
+        let copied = forks_copy table w ask.process new before.0 before.1 (ap (λ a. (apply table w a).0) same ∙ is_okay_only (apply table w ask).0 okay) in
+        (before.0, sym (ap (λ a. history_of (apply table w a).1 new) same) ∙ copied, record { within = before.2.within; dir = λ is. before.2.dir (and_parts still _ is).0 })
+
+    pub members_then : Members then (family_then table w ask members) now still_then
+    members_then m = by (is_member members ask.process) (is_okay (apply table w ask).0) refl refl
+      where
+        by : (a b : Bool) → is_member members ask.process ≡ a → is_okay (apply table w ask).0 ≡ b → is_member (cond (a && b) (with_child ask.action members) members) m ≡ true → HasHistoryOf then m (Belongs now still_then)
+        by false b asks told belongs = old_member m belongs
+        by true false asks told belongs = old_member m belongs
+        by true true asks told belongs =
+            child_or_old ask.action members m (HasHistoryOf then m (Belongs now still_then)) belongs (old_member m)
+            (λ new forks is. subst (λ n. HasHistoryOf then n (Belongs now still_then)) is (child new forks asks told))
+
+  weaker : (a b c : Bool) → (a && (b && c)) ≡ true → ((a && b) && c) ≡ true
+  weaker true true c e = e
+  weaker true false c e = e
+  weaker false b c e = e
+
+  pub members_after : (asks : List Asked) (w : World) (members : List ℕ) (still : Bool) → Members w members now still → none_done is_exec table w asks members ≡ true
+      → Members (world_after table w asks) (family table w asks members) now (still && none_done is_chdir table w asks members)
+  members_after [] w members still are none m belongs =
+      let one = are m belongs in (one.0, one.1, record { within = one.2.within; dir = λ is. one.2.dir (and_parts still true is).0 })
+  members_after (ask ∷ asks) w members still are none m belongs =
+      let parts = and_parts (not (is_done is_exec table w ask members)) _ none in
+      let first = not_true (is_done is_exec table w ask members) parts.0 in
+      let one = members_after asks (apply table w ask).1 (family_then table w ask members) (still && not (is_done is_chdir table w ask members))
+      (members_then w ask members still are first) parts.1 m belongs in
+      (one.0, one.1, record { within = one.2.within; dir = λ is. one.2.dir (weaker still (not (is_done is_chdir table w ask members)) _ is) })
+
+  -- at the beginning the process is the only member
+  pub begins : (w : World) (process : ℕ) → history_of w process ≡ Some now → IsConfined now → Members w (process ∷ []) now true
+  begins w process here confined m belongs =
+      let is : process ≡ m = eqb-true process m (sym (is_one process m) ∙ belongs) in
+      (now, sym (ap (history_of w) is) ∙ here, record { within = within_self now confined; dir = λ still. refl })
+
+pub families_narrow : FamiliesNarrow
+families_narrow table w asks process now here confined none m belongs =
+    let one = members_after table now asks w (process ∷ []) true (begins table now w process here confined) none m belongs in (
+      one.0,
+      one.1,
+      record {
+        tightens = one.2.within.tightens;
+        allows = λ sound. allows_no_more table sound now one.0 one.2.within;
+        dir = one.2.dir;
+      },
+    )

@@ -1,0 +1,8 @@
+-- What crates above cite of the proofs of this one, beside the definitions and the laws.
+
+-- what becomes of a family, and what it leaves of the tree
+pub use Rattle.pua_script.proofs.Families.{families_narrow}
+pub use Rattle.pua_script.proofs.Confined.{families_confine}
+pub use Rattle.pua_script.proofs.KeepTrees.{replays_keep_trees}
+-- what requests of others leave
+pub use Rattle.pua_script.proofs.Others.{others_leave, others_leave_always}

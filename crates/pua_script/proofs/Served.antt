@@ -1,0 +1,111 @@
+-- What a world's requests leave, by the worlds of the replay for which it stands.
+use Rattle.std.proofs.Common.{◌≡◌, ℕ, ◌+◌, ◌<◌, List, [], ◌∷◌, ◌++◌, length, take, get_or, refl, sym, ap, subst, ◌∙◌, lit<, add-one}
+use Rattle.std.proofs.Math.Seq.{take-suc}
+use Rattle.std.specs.Prelude.{Result, Ok, Err, MatchResult}
+use Rattle.pua_tree.specs.Tree.{WellFormed}
+use Rattle.pua_policy.specs.Calls.{CallTable, standard_table}
+use Rattle.pua_policy.specs.declared.call.Call.TheVariants.{Stat, Lstat, Readlink, OpenRead, OpenWrite, OpenBoth, Create, Mkdir, Rmdir, Unlink, Symlink, Chmod, Chdir, Exec}
+use Rattle.pua_script.specs.Requests.{Asked}
+use Rattle.pua_script.specs.Replay.{World, apply, world_after}
+use Rattle.pua_script.specs.Worlds.{WorldState, StandsForWorld, IsServed, AreServed, AreServedInPart}
+use Rattle.pua_script.specs.Tightening.{NoCallNeedsError}
+use Rattle.pua_script.specs.Confinement.{UncoveredStay, TreesAlong}
+use Rattle.pua_script.specs.Futures.{StandardTableNarrows, IsNarrowing, IsSparing, AreDone, AreDoneInPart, AreHeld, AreHeldInPart}
+use Rattle.pua_script.specs.declared.answer.Answer.{Answer}
+use Rattle.pua_script.proofs.Tightening.{each_narrows}
+use Rattle.pua_script.proofs.Confining.{each_spares}
+use Rattle.pua_script.proofs.Families.{families_narrow}
+use Rattle.pua_script.proofs.Confined.{families_confine}
+use Rattle.pua_script.proofs.Serving.{served_more}
+
+standard_error : NoCallNeedsError standard_table
+standard_error Stat = ((lit< tt, refl), tt)
+standard_error Lstat = ((lit< tt, refl), tt)
+standard_error Readlink = ((lit< tt, refl), tt)
+standard_error OpenRead = ((lit< tt, refl), tt)
+standard_error OpenWrite = ((lit< tt, refl), tt)
+standard_error OpenBoth = ((lit< tt, refl), tt)
+standard_error Create = ((lit< tt, refl), tt)
+standard_error Mkdir = ((lit< tt, refl), tt)
+standard_error Rmdir = ((lit< tt, refl), tt)
+standard_error Unlink = ((lit< tt, refl), tt)
+standard_error Symlink = ((lit< tt, refl), tt)
+standard_error Chmod = ((lit< tt, refl), tt)
+standard_error Chdir = ((lit< tt, refl), tt)
+standard_error Exec = ((lit< tt, refl), tt)
+
+pub standard_table_narrows : StandardTableNarrows
+standard_table_narrows = record {
+  error = standard_error;
+  taking = record { rmdir = refl; unlink = refl };
+  changing = record { create = (refl, tt); mkdir = (refl, tt); rmdir = (refl, tt); unlink = (refl, tt); symlink = (refl, tt) };
+}
+
+pub is_narrowing : (before : WorldState) (ask : Asked) → IsNarrowing before ask
+is_narrowing before ask w stands = each_narrows standard_table w ask
+
+-- both worlds have a tree
+pub is_sparing : (before : WorldState) (ask : Asked) (answer : Answer) (after : WorldState) → WellFormed before.tree → WellFormed after.tree → IsServed before ask answer after → IsSparing before ask after
+is_sparing before ask answer after well well_then served w stands h here =
+    let left = (served w stands).1 in
+    let stays = each_spares standard_table standard_table_narrows.taking w ask h (subst WellFormed stands.tree well) (subst WellFormed left.tree well_then) here in
+    subst (λ u. UncoveredStay h before.tree u) (sym left.tree) (subst (λ t. UncoveredStay h t (apply standard_table w ask).1.tree) (sym stands.tree) stays)
+
+-- the trees on the way of one request more
+more_trees : (table : CallTable) (w : World) (asks : List Asked) (ask : Asked) → TreesAlong table w asks → WellFormed (apply table (world_after table w asks) ask).1.tree → TreesAlong table w (asks ++ ask ∷ [])
+more_trees table w [] ask trees last = (trees, last)
+more_trees table w (first ∷ asks) ask trees last = (trees.0, more_trees table (apply table w first).1 asks ask trees.1 last)
+
+done_more : (before mid after : WorldState) (asks : List Asked) (told : List Answer) (ask : Asked) (answer : Answer) → WellFormed after.tree → AreDone before asks told mid → IsServed mid ask answer after
+    → AreDone before (asks ++ ask ∷ []) (told ++ answer ∷ []) after
+done_more before mid after asks told ask answer well first next = (
+  served_more before mid after asks told ask answer first.0 next,
+  λ w stands.
+      let left = (next (world_after standard_table w asks) (first.0 w stands).1).1 in
+      more_trees standard_table w asks ask (first.1 w stands) (subst WellFormed left.tree well),
+)
+
+-- the next of a list of requests
+pub done_next : (before mid after : WorldState) (asks : List Asked) (i : ℕ) (told more : List Answer) (ask : Asked) (answer : Answer) → i < length asks → ask ≡ get_or asks i ask → more ≡ told ++ answer ∷ []
+    → WellFormed after.tree → AreDone before (take i asks) told mid → IsServed mid ask answer after → AreDone before (take (i + 1) asks) more after
+done_next before mid after asks i told more ask answer within is pushed well first next =
+    let taken : take (i + 1) asks ≡ take i asks ++ ask ∷ [] = ap (λ n. take n asks) (add-one i) ∙ take-suc asks i ask within ∙ ap (λ x. take i asks ++ x ∷ []) (sym is) in
+    subst (λ xs. AreDone before xs more after) (sym taken)
+    (subst (λ ys. AreDone before (take i asks ++ ask ∷ []) ys after) (sym pushed) (done_more before mid after (take i asks) told ask answer well first next))
+
+-- some first ones, where the next was not served
+pub done_before : (before mid after : WorldState) (asks own : List Asked) (i : ℕ) (told : List Answer) → own ≡ asks → after ≡ mid → AreDone before (take i own) told mid → AreDoneInPart before asks after
+done_before before mid after asks own i told is same first = (
+  i,
+  λ w stands. (
+    subst (λ x. StandsForWorld x (world_after standard_table w (take i asks))) (sym same) (subst (λ xs. StandsForWorld mid (world_after standard_table w (take i xs))) is (first.0 w stands).1),
+    subst (λ xs. TreesAlong standard_table w (take i xs)) is (first.1 w stands),
+  ),
+)
+
+-- none was served yet
+pub done_none : (s : WorldState) → WellFormed s.tree → AreDone s [] [] s
+done_none s well = (λ w stands. (refl, stands), λ w stands. subst WellFormed stands.tree well)
+
+-- what was served holds the families
+held_by : (before after : WorldState) (asks : List Asked) → ((w : World) → StandsForWorld before w → StandsForWorld after (world_after standard_table w asks) × TreesAlong standard_table w asks) → AreHeld before asks after
+held_by before after asks done = record {
+  narrows = λ w stands. families_narrow standard_table w asks;
+  confines = λ w stands process now here confined none alone.
+      let both = families_confine standard_table w asks process now here confined none alone in
+      let left = done w stands in
+      let stays = both.spares standard_table_narrows.taking left.1 in
+      record {
+        spares = subst (λ u. UncoveredStay now before.tree u) (sym left.0.tree) (subst (λ t. UncoveredStay now t (world_after standard_table w asks).tree) (sym stands.tree) stays);
+        unchanged = λ lacks. left.0.tree ∙ both.unchanged standard_table_narrows.changing lacks ∙ sym stands.tree;
+      };
+}
+
+module _ {A E : Type 0} (before after : WorldState) (asks : List Asked) (told : A → List Answer) where
+  pub run_served : (r : Result A E) → MatchResult r (λ a. AreDone before asks (told a) after) (λ _. AreDoneInPart before asks after) → MatchResult r (λ a. AreServed before asks (told a) after) (λ _. AreServedInPart before asks after)
+  run_served (Ok a) done = done.0
+  run_served (Err e) done = (done.0, λ w stands. (done.1 w stands).0)
+
+  pub run_held : (r : Result A E) → MatchResult r (λ a. AreDone before asks (told a) after) (λ _. AreDoneInPart before asks after) → MatchResult r (λ _. AreHeld before asks after) (λ _. AreHeldInPart before asks after)
+  run_held (Ok a) done = held_by before after asks (λ w stands. ((done.0 w stands).1, done.1 w stands))
+  run_held (Err e) done = (done.0, held_by before after (take done.0 asks) done.1)

@@ -1,0 +1,5 @@
+use Rattle.pua_script.proofs.KeepTrees.{requests_keep_trees, replays_keep_trees}
+use Rattle.pua_script.proofs.futures.bytes_law.Goals as goal
+
+pub returns : goal.returns
+returns c = record { one = requests_keep_trees; many = replays_keep_trees }

@@ -1,0 +1,38 @@
+-- Texts as bytes: in the definitions a text is a list of numbers.
+use Rattle.std.specs.Prelude.{◌≡◌, ℕ, Bool, true, ◌&&◌, List, nat_lt, Some, IsTrue}
+use Rattle.std.specs.List.{list_all}
+use Rattle.pua_tree.specs.Tree.{Tree, WellFormed, target_at}
+use Rattle.pua_policy.specs.Calls.{CallTable}
+use Rattle.pua_script.specs.Requests.{Asked}
+use Rattle.pua_script.specs.Replay.{World, apply}
+use Rattle.pua_script.specs.Confinement.{TreesAlong}
+use Rattle.pua_script.specs.declared.request.Action.{Action}
+use Rattle.pua_script.specs.declared.request.Action.TheVariants.{OnPath, Symlink, Rename, Link, Unveil}
+
+abbrev pub is_bytes : List ℕ → Bool
+is_bytes text = list_all (λ b. nat_lt b 256) text
+
+-- a request whose texts are bytes
+abbrev pub is_in_bytes : Action → Bool
+is_in_bytes (OnPath call path) = is_bytes path
+is_in_bytes (Symlink target path) = is_bytes target && is_bytes path
+is_in_bytes (Rename old new) = is_bytes old && is_bytes new
+is_in_bytes (Link old new) = is_bytes old && is_bytes new
+is_in_bytes (Unveil path perms) = is_bytes path
+is_in_bytes _ = true
+
+abbrev pub are_in_bytes : List Asked → Bool
+are_in_bytes asks = list_all (λ ask. is_in_bytes ask.action) asks
+
+-- a tree whose links lead to bytes
+pub record IsByteTree (t : Tree) : Type 0 where
+  pub tree : WellFormed t
+  pub targets : (x : ℕ) (target : List ℕ) → target_at t x ≡ Some target → IsTrue (is_bytes target)
+
+-- a request leaves such a tree
+abbrev pub RequestsKeepTrees : Type 0
+RequestsKeepTrees = (table : CallTable) (w : World) (ask : Asked) → IsByteTree w.tree → IsTrue (is_in_bytes ask.action) → IsByteTree (apply table w ask).1.tree
+
+-- so each world on the way of requests in bytes has a tree
+abbrev pub ReplaysKeepTrees : Type 0
+ReplaysKeepTrees = (table : CallTable) (w : World) (asks : List Asked) → IsByteTree w.tree → IsTrue (are_in_bytes asks) → TreesAlong table w asks

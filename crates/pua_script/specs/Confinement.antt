@@ -1,0 +1,85 @@
+-- The second part of narrowing: what a process can't touch with `c` stays, whatever it asks for.
+use Rattle.std.specs.Prelude.{◌≡◌, ℕ, Bool, true, false, if◌then◌else◌, List, [], ◌∷◌, Some, IsTrue, IsFalse}
+use Rattle.std.specs.List.{AllByRecursion}
+use Rattle.pua_tree.specs.Tree.{Tree, WellFormed, Spot, is_dir, look, node_at}
+use Rattle.pua_path.specs.declared.found.Found.{Found}
+use Rattle.pua_path.specs.declared.found.Found.TheVariants.{Whole, Slot}
+use Rattle.pua_path.specs.declared.found.Way.TheVariants.{Named}
+use Rattle.pua_policy.specs.Promises.{holds, cpath, creating}
+use Rattle.pua_policy.specs.Calls.{CallTable, rule_of}
+use Rattle.pua_policy.specs.History.{History, held}
+use Rattle.pua_policy.specs.Verdict.{cover}
+use Rattle.pua_policy.specs.declared.answer.Cover.{Cover}
+use Rattle.pua_policy.specs.declared.answer.Cover.TheVariants.{All, Nothing, Only}
+use Rattle.pua_policy.specs.declared.call.Call.{Call}
+use Rattle.pua_policy.specs.declared.call.Call.TheVariants as call
+use Rattle.pua_script.specs.Requests.{Asked}
+use Rattle.pua_script.specs.Replay.{World, history_of, apply, world_after}
+use Rattle.pua_script.specs.Laws.{IsConfined}
+use Rattle.pua_script.specs.Family.{is_exec, none_done, members_alone}
+
+-- the two calls that take a name away need `c`
+pub record TakingNeedsC (table : CallTable) : Type 0 where
+  pub rmdir : IsTrue (holds (rule_of table call.Rmdir).perms creating)
+  pub unlink : IsTrue (holds (rule_of table call.Unlink).perms creating)
+
+-- each alternative of a call names cpath
+abbrev pub NamesCpath : CallTable → Call → Type 0
+NamesCpath table call = AllByRecursion (λ set. IsTrue (holds set cpath)) (rule_of table call).alternatives
+
+-- the five calls that make a name or take one away
+pub record ChangingNeedsCpath (table : CallTable) : Type 0 where
+  pub create : NamesCpath table call.Create
+  pub mkdir : NamesCpath table call.Mkdir
+  pub rmdir : NamesCpath table call.Rmdir
+  pub unlink : NamesCpath table call.Unlink
+  pub symlink : NamesCpath table call.Symlink
+
+-- what stands in a row, as veils see it: a directory by its node, anything else by its name
+abbrev pub object_in : Tree → Spot → ℕ → Found
+object_in t spot x = if is_dir t x then Whole x (Named spot.0 spot.1) else Slot spot.0 spot.1 (Some x)
+
+-- whether a cover has `c`
+abbrev pub has_c : Cover → Bool
+has_c All = true
+has_c Nothing = false
+has_c (Only perms) = holds perms creating
+
+-- a row stays with its node, what that is, where it leads, and its cover
+pub record RowStays (h : History) (t u : Tree) (spot : Spot) (x : ℕ) : Type 0 where
+  pub row : look u spot.0 spot.1 ≡ Some x
+  pub node : node_at u x ≡ node_at t x
+  pub covered : cover u h (object_in u spot x) ≡ cover t h (object_in t spot x)
+
+-- each row that the history doesn't cover with `c` stays
+abbrev pub UncoveredStay : History → Tree → Tree → Type 0
+UncoveredStay h t u = (spot : Spot) (x : ℕ) → look t spot.0 spot.1 ≡ Some x → IsFalse (has_c (cover t h (object_in t spot x))) → RowStays h t u spot x
+
+-- one request, by the history of the one that asks, from one tree to another; nothing is asked of that history
+abbrev pub EachRequestSpares : Type 0
+EachRequestSpares = (table : CallTable) → TakingNeedsC table → (w : World) (ask : Asked) (h : History) →
+    WellFormed w.tree → WellFormed (apply table w ask).1.tree → history_of w ask.process ≡ Some h → UncoveredStay h w.tree (apply table w ask).1.tree
+
+-- and without cpath the tree stays
+abbrev pub CpathChanges : Type 0
+CpathChanges = (table : CallTable) → ChangingNeedsCpath table → (w : World) (ask : Asked) (h : History) →
+    history_of w ask.process ≡ Some h → IsFalse (holds (held h) cpath) → (apply table w ask).1.tree ≡ w.tree
+
+-- each world on the way has a tree
+abbrev pub TreesAlong : CallTable → World → List Asked → Type 0
+TreesAlong table w [] = WellFormed w.tree
+TreesAlong table w (ask ∷ asks) = WellFormed w.tree × TreesAlong table (apply table w ask).1 asks
+
+-- the second part over a list of requests: by the history at its beginning each uncovered row stays, and without cpath the tree stays
+pub record Confines (table : CallTable) (w : World) (now : History) (asks : List Asked) : Type 0 where
+  pub spares : TakingNeedsC table → TreesAlong table w asks → UncoveredStay now w.tree (world_after table w asks).tree
+  pub unchanged : ChangingNeedsCpath table → IsFalse (holds (held now) cpath) → (world_after table w asks).tree ≡ w.tree
+
+-- where members alone ask, and no exec of theirs is answered ok
+abbrev pub FamilyConfines : CallTable → World → List Asked → Type 0
+FamilyConfines table w asks = (process : ℕ) (now : History) →
+    history_of w process ≡ Some now → IsConfined now → IsTrue (none_done is_exec table w asks (process ∷ [])) →
+    IsTrue (members_alone table w asks (process ∷ [])) → Confines table w now asks
+
+abbrev pub FamiliesConfine : Type 0
+FamiliesConfine = (table : CallTable) (w : World) (asks : List Asked) → FamilyConfines table w asks

@@ -1,0 +1,59 @@
+//! Laws on what becomes of a process that can put no veil any more, because it is locked or does not
+//! hold `unveil`, whatever is asked afterwards. Each is the contract of a function that does nothing.
+
+ghost use Rattle.pua_script.specs.Bytes.{ReplaysKeepTrees, RequestsKeepTrees};
+ghost use Rattle.pua_script.specs.Confinement.{CpathChanges, EachRequestSpares, FamiliesConfine};
+ghost use Rattle.pua_script.specs.ErrorTables.{ErrorTables};
+ghost use Rattle.pua_script.specs.Futures.{StandardTableNarrows};
+ghost use Rattle.pua_script.specs.Tightening.{EachRequestNarrows, FamiliesNarrow, ForksCopy, OthersLeave, OthersLeaveAlways};
+
+/// A request leaves the history of each process but the one that asks: its promises and execpromises,
+/// its veils and lock, its directory, and whether it has ended. A process that is forked begins with
+/// the history of the one that forked it.
+#[tactic(auto, using(crate::proofs::Others::others_leave, crate::proofs::Others::others_leave_always, crate::proofs::Others::forks_copy))]
+pub fn others_law()
+    ensures one { OthersLeave }
+    ensures many { OthersLeaveAlways }
+    ensures forks { ForksCopy }
+{}
+
+/// A request, whoever makes it, leaves a process that can put no veil any more so: its unveils are
+/// the same, it has no further promise but `error`, and over each tree it may do no more than before.
+/// Two things are excepted: its own exec that succeeds, and on relative paths its own chdir that does.
+pub fn steps_law()
+    ensures { EachRequestNarrows }
+{}
+
+/// The same of each member of its family over any list of requests, as long as no member's exec
+/// succeeds. The family are the process and those that a member forks from then on.
+pub fn families_law()
+    ensures { FamiliesNarrow }
+{}
+
+/// What a family alone asks for leaves each row whose object it can't touch with `c`, with the node,
+/// the kind, the target and the cover, as long as no member's exec succeeds; without cpath it leaves
+/// the tree. A single request of any process does so by the history that it had before.
+pub fn confined_law()
+    ensures requests { EachRequestSpares }
+    ensures lists { FamiliesConfine }
+    ensures cpath { CpathChanges }
+{}
+
+/// Requests whose texts are bytes leave a tree, if the links of the tree before lead to bytes.
+pub fn bytes_law()
+    ensures one { RequestsKeepTrees }
+    ensures many { ReplaysKeepTrees }
+{}
+
+/// The standard table is one of those that the laws speak of: no call needs `error`, rmdir and unlink
+/// need `c`, and the five calls that make a name or take one away need cpath.
+pub fn table_law()
+    ensures { StandardTableNarrows }
+{}
+
+/// An example of a table by which a call needs `error`: a locked process pledges it and may make the
+/// call, which it might not before.
+#[tactic(auto, using(crate::specs::ErrorTables::error_tables))]
+pub fn error_table_examples()
+    ensures { ErrorTables }
+{}

@@ -1,0 +1,68 @@
+-- What a family reaches and changes, by what its histories allow.
+use Rattle.std.proofs.Common.{◌≡◌, ℕ, List, [], ◌∷◌, ◌++◌, map, codes, Bool, true, refl, sym, ap, subst, ◌∙◌}
+use Rattle.pua_tree.specs.Tree.{Tree, distinct_names}
+use Rattle.pua_path.specs.Paths.{is_absolute}
+use Rattle.pua_policy.specs.Calls.{CallTable}
+use Rattle.pua_policy.specs.History.{History, working_dir}
+use Rattle.pua_audit.specs.Reach.{path_of, alphabet_of}
+use Rattle.pua_audit.specs.SubLists.{SubList}
+use Rattle.pua_audit.specs.declared.base.Base.{Base}
+use Rattle.pua_audit.specs.declared.base.Base.TheVariants.{Root, Cwd}
+use Rattle.pua_audit.proofs.ForCallers.{fewer_reach_less, reach_needs_rows}
+use Rattle.pua_script.specs.Replay.{world_after}
+use Rattle.pua_script.specs.Tightening.{AllowsNoMore}
+use Rattle.pua_script.proofs.ForCallers.{families_narrow, families_confine, replays_keep_trees}
+use Rattle.pua_tool.specs.Futures.{reach_over, ReachesNoMore, Narrowing, NarrowingNow, Confinement}
+
+root_path : (word : List (List ℕ)) → is_absolute (path_of Root word) ≡ true
+root_path [] = refl
+root_path (letter ∷ word) = refl
+
+reaches_no_more : (table : CallTable) (t : Tree) (now last : History) (still : Bool) → AllowsNoMore table now last → (still ≡ true → working_dir last ≡ working_dir now) → ReachesNoMore table t now last still
+reaches_no_more table t now last still allows dirs = record {
+  root = λ alphabet limit. fewer_reach_less
+      (record { tree = t; table = table; history = last; base = Root; alphabet = alphabet; limit = limit })
+      (record { tree = t; table = table; history = now; base = Root; alphabet = alphabet; limit = limit }) refl refl
+      (λ pair e. allows.absolute t pair.1 (path_of Root pair.0) (root_path pair.0) e);
+  cwd = λ is alphabet limit. fewer_reach_less
+      (record { tree = t; table = table; history = last; base = Cwd; alphabet = alphabet; limit = limit })
+      (record { tree = t; table = table; history = now; base = Cwd; alphabet = alphabet; limit = limit }) refl refl
+      (λ pair e. allows.relative (dirs is) t pair.1 (path_of Cwd pair.0) e);
+}
+
+pub narrowing : Narrowing
+narrowing table sound w process now asks here confined none member belongs =
+    let one = families_narrow table w asks process now here confined none member belongs in
+    (one.0, one.1, (one.2.tightens, λ t. reaches_no_more table t now one.0 _ (one.2.allows sound) one.2.dir))
+
+-- over a tree with the same rows and nodes the same letters, and so the same reach
+same_reach : (table : CallTable) (h : History) (base : Base) (candidates : List (List ℕ)) (limit : ℕ) (t u : Tree) → u.rows ≡ t.rows → u.nodes ≡ t.nodes →
+    reach_over u table h base (alphabet_of u candidates) limit ≡ reach_over t table h base (alphabet_of t candidates) limit
+same_reach table h base candidates limit t u rows nodes =
+    ap (λ all. reach_over u table h base (distinct_names (codes ".." ∷ candidates ++ map (λ row. row.0.1) all)) limit) rows
+    ∙ reach_needs_rows (record { tree = t; table = table; history = h; base = base; alphabet = alphabet_of t candidates; limit = limit }) u rows nodes
+
+at_base : (table : CallTable) (t : Tree) (now last : History) (still : Bool) → ReachesNoMore table t now last still → (base : Base) → (base ≡ Cwd → still ≡ true) →
+    (alphabet : List (List ℕ)) (limit : ℕ) → SubList (reach_over t table last base alphabet limit) (reach_over t table now base alphabet limit)
+at_base table t now last still no_more Root moved alphabet limit = no_more.root alphabet limit
+at_base table t now last still no_more Cwd moved alphabet limit = no_more.cwd (moved refl) alphabet limit
+
+pub narrowing_now : NarrowingNow
+narrowing_now table sound w process now asks here confined none rows nodes member belongs =
+    let one = narrowing table sound w process now asks here confined none member belongs in
+    let t = w.tree in
+    let u = (world_after table w asks).tree in (
+      one.0,
+      one.1,
+      λ base moved candidates limit.
+          subst (λ pairs. SubList pairs (reach_over t table now base (alphabet_of t candidates) limit)) (sym (same_reach table one.0 base candidates limit t u rows nodes))
+          (at_base table t now one.0 _ (one.2.1 t) base moved (alphabet_of t candidates) limit),
+    )
+
+pub confinement : Confinement
+confinement table w process now asks here confined none alone =
+    let both = families_confine table w asks process now here confined none alone in
+    record {
+      spares = λ needs is_tree small. both.spares needs (replays_keep_trees table w asks is_tree small);
+      unchanged = both.unchanged;
+    }

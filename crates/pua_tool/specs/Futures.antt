@@ -1,0 +1,56 @@
+-- What a process that can put no veil any more may come to reach and to change, whatever is asked afterwards.
+use Rattle.std.specs.Prelude.{◌≡◌, ℕ, Bool, List, [], ◌∷◌, Some, IsTrue, IsFalse}
+use Rattle.pua_tree.specs.Tree.{Tree}
+use Rattle.pua_policy.specs.Promises.{holds, cpath}
+use Rattle.pua_policy.specs.Calls.{CallTable}
+use Rattle.pua_policy.specs.History.{History, held}
+use Rattle.pua_script.specs.Requests.{Asked}
+use Rattle.pua_script.specs.Replay.{World, history_of, world_after}
+use Rattle.pua_script.specs.Laws.{IsConfined}
+use Rattle.pua_script.specs.Family.{is_exec, is_chdir, none_done, members_alone, family, is_member, HasHistoryOf}
+use Rattle.pua_script.specs.Tightening.{NoCallNeedsError, Tightens}
+use Rattle.pua_script.specs.Confinement.{TakingNeedsC, ChangingNeedsCpath, UncoveredStay}
+use Rattle.pua_script.specs.Bytes.{IsByteTree, are_in_bytes}
+use Rattle.pua_audit.specs.Reach.{Pair, alphabet_of, reach}
+use Rattle.pua_audit.specs.SubLists.{SubList}
+use Rattle.pua_audit.specs.declared.base.Base.{Base}
+use Rattle.pua_audit.specs.declared.base.Base.TheVariants.{Root, Cwd}
+
+-- what a process reaches by its history over a tree
+abbrev pub reach_over : Tree → CallTable → History → Base → List (List ℕ) → ℕ → List Pair
+reach_over t table h base alphabet limit = reach (record { tree = t; table = table; history = h; base = base; alphabet = alphabet; limit = limit })
+
+-- a history reaches no more than another over a tree, with all letters and limits: from the root, and from the working directory if no member moved
+pub record ReachesNoMore (table : CallTable) (t : Tree) (now last : History) (still : Bool) : Type 0 where
+  pub root : (alphabet : List (List ℕ)) (limit : ℕ) → SubList (reach_over t table last Root alphabet limit) (reach_over t table now Root alphabet limit)
+  pub cwd : IsTrue still → (alphabet : List (List ℕ)) (limit : ℕ) → SubList (reach_over t table last Cwd alphabet limit) (reach_over t table now Cwd alphabet limit)
+
+-- the first part: whatever is asked by anyone, as long as no exec of a member is answered ok, over each tree, so over the last one
+abbrev pub Narrowing : Type 0
+Narrowing = (table : CallTable) → NoCallNeedsError table → (w : World) (process : ℕ) (now : History) (asks : List Asked) →
+    history_of w process ≡ Some now → IsConfined now → IsTrue (none_done is_exec table w asks (process ∷ [])) →
+    (member : ℕ) → IsTrue (is_member (family table w asks (process ∷ [])) member) →
+    HasHistoryOf (world_after table w asks) member (λ last. Tightens now last
+    × ((t : Tree) → ReachesNoMore table t now last (none_done is_chdir table w asks (process ∷ []))))
+
+-- so where rows, kinds and targets are again those of now, each member's reach over the last tree lies within the process's reach over the tree of now
+abbrev pub NarrowingNow : Type 0
+NarrowingNow = (table : CallTable) → NoCallNeedsError table → (w : World) (process : ℕ) (now : History) (asks : List Asked) →
+    history_of w process ≡ Some now → IsConfined now → IsTrue (none_done is_exec table w asks (process ∷ [])) →
+    (world_after table w asks).tree.rows ≡ w.tree.rows → (world_after table w asks).tree.nodes ≡ w.tree.nodes →
+    (member : ℕ) → IsTrue (is_member (family table w asks (process ∷ [])) member) →
+    HasHistoryOf (world_after table w asks) member (λ last. (base : Base) → (base ≡ Cwd → IsTrue (none_done is_chdir table w asks (process ∷ []))) →
+    (candidates : List (List ℕ)) (limit : ℕ) →
+    SubList (reach_over (world_after table w asks).tree table last base (alphabet_of (world_after table w asks).tree candidates) limit)
+    (reach_over w.tree table now base (alphabet_of w.tree candidates) limit))
+
+-- the second part: each row that isn't covered with `c` stays, and without cpath the tree does
+pub record Confines (table : CallTable) (w : World) (now : History) (asks : List Asked) : Type 0 where
+  pub spares : TakingNeedsC table → IsByteTree w.tree → IsTrue (are_in_bytes asks) → UncoveredStay now w.tree (world_after table w asks).tree
+  pub unchanged : ChangingNeedsCpath table → IsFalse (holds (held now) cpath) → (world_after table w asks).tree ≡ w.tree
+
+-- where members alone ask, and no exec of theirs is answered ok
+abbrev pub Confinement : Type 0
+Confinement = (table : CallTable) (w : World) (process : ℕ) (now : History) (asks : List Asked) →
+    history_of w process ≡ Some now → IsConfined now → IsTrue (none_done is_exec table w asks (process ∷ [])) →
+    IsTrue (members_alone table w asks (process ∷ [])) → Confines table w now asks
