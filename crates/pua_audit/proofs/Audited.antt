@@ -6,11 +6,9 @@ use Rattle.pua_policy.specs.History.{is_ended}
 use Rattle.std.proofs.lemmas.Bool.{and_parts}
 use Rattle.pua_audit.specs.Reach.{Scope, reach}
 use Rattle.pua_audit.specs.Judge.{base_dir, is_letter}
-use Rattle.pua_audit.specs.Trail.{everywhere}
-use Rattle.pua_audit.specs.Laws.{IsAudited, ReachIsAlong, ClosedReaches, TrailsReach}
+use Rattle.pua_audit.specs.Laws.{IsAudited, ReachIsAlong, ClosedReaches}
 use Rattle.pua_audit.proofs.Paths.{IsPiece, letter_is_piece}
 use Rattle.pua_audit.proofs.Along.{IsReadable, reach_is_along, none_for_ended, none_without_base}
-use Rattle.pua_audit.proofs.Lines.{lines-fresh, prunes_none}
 
 pieces : (letters : List (List ℕ)) → list_all is_letter letters ≡ true → AllByRecursion IsPiece letters
 pieces [] h = tt
@@ -28,6 +26,3 @@ closed_reaches s is closed = by (is_ended s.history) refl closed
     by : (v : Bool) → is_ended s.history ≡ v → (not v && is_dir s.tree (base_dir s.base s.history)) ≡ false → reach s ≡ []
     by true e closed = none_for_ended s is.tree (readable s is) e
     by false e closed = none_without_base s is.tree (readable s is) closed
-
-pub trails_reach : TrailsReach
-trails_reach w letters limit = lines-fresh w everywhere letters limit (prunes_none w letters)

@@ -1,5 +1,5 @@
 -- The walk over a table of steps begins with the reach before it.
-use Rattle.std.proofs.Common.{ℕ, suc, ◌*◌, ◌<◌, ◌≤◌, ◌≡◌, List, Option, Some, refl, ap, arith, ◌∙◌, map, length, get_or}
+use Rattle.std.proofs.Common.{ℕ, zero, suc, [], None, ◌*◌, ◌<◌, ◌≤◌, ◌≡◌, List, Option, Some, refl, ap, arith, ◌∙◌, map, length, get_or}
 use Rattle.pua_policy.specs.CallSets.{bit_of}
 use Rattle.pua_policy.specs.declared.call.Call.{Call}
 use Rattle.std.specs.Prelude.{IsTrue}
@@ -8,7 +8,7 @@ use Rattle.pua_audit.specs.Reach.{Scope}
 use Rattle.pua_audit.specs.Judge.{Judge, Start, base_dir, judge_for, reach_along}
 use Rattle.pua_audit.specs.Laws.{IsAudited}
 use Rattle.pua_audit.specs.Live.{live_states}
-use Rattle.pua_audit.specs.Trail.{allowed_at}
+use Rattle.pua_audit.specs.Judge.{allowed_at}
 use Rattle.pua_audit.specs.Graphs.{AreApart, IsKnown, StandsForJudge, numbered, spelled}
 use Rattle.pua_audit.specs.Table.{IsTableOf}
 use Rattle.pua_audit.proofs.Leading.{masks_list}
@@ -18,6 +18,7 @@ use Rattle.pua_audit.proofs.Refined.{graphs_reach}
 use Rattle.pua_audit.proofs.Tabled.{table_stands}
 use Rattle.pua_steps.specs.Calls.{has_call, calls_of}
 use Rattle.pua_steps.specs.Graph as graph
+use Rattle.pua_steps.specs.Graph.{alone, below}
 use Rattle.pua_steps.specs.Reached.{live_count}
 use Rattle.pua_steps.specs.Table.{graph_of}
 use Rattle.pua_steps.specs.declared.state.State.{State}
@@ -52,3 +53,9 @@ module _ (s : Scope) (names : List ℕ) (t : Steps) (is : IsTableOf (judge_for s
 
 pub table_fits : (limit n : ℕ) → limit ≤ 16 → n ≤ 4294967296 → suc limit * n < 18446744073709551616
 table_fits limit n low few = let most = mul-le (suc limit) n 17 4294967296 (omega (arith, low)) few in omega (arith, most)
+
+-- without calls and without a first directory there is no pair
+pub none_reach : (g : graph.Graph) (limit : ℕ) → graph.reach g limit 0 None ≡ []
+unfolding alone below calls_of
+none_reach g zero = refl
+none_reach g (suc limit) = refl

@@ -22,7 +22,7 @@ use Rattle.pua_policy.specs.declared.answer.Verdict.TheVariants.{Failed}
 use Rattle.pua_policy.specs.declared.call.Call.{Call}
 use Rattle.pua_audit.specs.Judge.{Judge, Place, Below, judge_of, state_of}
 use Rattle.pua_audit.specs.declared.base.Base.{Base}
-use Rattle.pua_audit.specs.declared.state.State.{State}
+use Rattle.pua_audit.specs.Judge.{State}
 use Rattle.pua_audit.specs.Entries.{links_of, found_of, leads_to, allowed_kept, allowed_near, allowed_far, EntriesStand}
 
 -- a failed path is never allowed

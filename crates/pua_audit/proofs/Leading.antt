@@ -7,7 +7,7 @@ use Rattle.pua_policy.specs.Calls.{calls}
 use Rattle.pua_policy.specs.CallSets.{bit_of}
 use Rattle.pua_policy.specs.declared.call.Call.{Call}
 use Rattle.pua_audit.specs.Judge.{Judge, Place, Start, Below}
-use Rattle.pua_audit.specs.declared.state.State as named
+use Rattle.pua_audit.specs.Judge as named
 use Rattle.pua_steps.specs.Calls.{has_call, calls_of}
 use Rattle.pua_steps.specs.Reached.{reached, states_behind}
 use Rattle.pua_steps.specs.declared.state.State.{State}

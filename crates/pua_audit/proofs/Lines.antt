@@ -1,16 +1,16 @@
--- The reach, cut by places: what the trail's lines are.
-use Rattle.std.proofs.Common.{ℕ, zero, suc, ◌-◌, ◌≡◌, List, [], ◌∷◌, ◌++◌, Option, Some, None, Bool, true, false, cond, refl, ap, arith, sym, ◌∙◌, map, append-nil}
+-- The reach, cut by places.
+use Rattle.std.proofs.Common.{ℕ, zero, suc, ◌≡◌, List, [], ◌∷◌, ◌++◌, Option, Some, None, Bool, true, false, cond, refl, ap, sym, ◌∙◌, map}
 use Rattle.std.proofs.lemmas.List.{map-append}
 use Rattle.std.proofs.lemmas.Grind.{flat_map-append}
-use Rattle.std.proofs.lemmas.List.Elements.{filter-append, filter_map-append}
+use Rattle.std.proofs.lemmas.List.Elements.{filter-append}
 use Rattle.std.specs.Prelude.{flat_map, filter}
 use Rattle.pua_audit.specs.Judge.{Place, Start, Below, Judge}
 use Rattle.pua_policy.specs.Calls.{calls}
 use Rattle.pua_policy.specs.declared.call.Call.{Call}
-use Rattle.pua_audit.specs.declared.state.State.{State}
+use Rattle.pua_audit.specs.Judge.{State}
 use Rattle.pua_audit.specs.Reach.{Word, Pair, words, pairs}
 use Rattle.pua_audit.specs.Judge.{if_some, is_allowed_along, reach_along}
-use Rattle.pua_audit.specs.Trail.{Event, lines_of, under, under_all, with_calls, allowed_at, decide, entered, deeper, branches, pending, ahead}
+use Rattle.pua_audit.specs.Judge.{allowed_at}
 
 -- lists
 
@@ -37,6 +37,10 @@ filter-map test f (x ∷ xs) =
       | true ↦ ap (λ ys. f x ∷ ys) (filter-map test f xs)
       | false ↦ filter-map test f xs
     ]
+
+pub filter-cong : {A : Type 0} (f g : A → Bool) → ((x : A) → f x ≡ g x) → (xs : List A) → filter f xs ≡ filter g xs
+filter-cong f g same [] = refl
+filter-cong f g same (x ∷ xs) = ap (λ b. cond b (x ∷ filter f xs) (filter f xs)) (same x) ∙ ap (λ ys. cond (g x) (x ∷ ys) ys) (filter-cong f g same xs)
 
 pub filter-none : {A : Type 0} (xs : List A) → filter (λ _. false) xs ≡ []
 filter-none [] = refl
@@ -150,78 +154,3 @@ module _ (w : Judge) (letters : List (List ℕ)) where
 
 pub reach_is : (w : Judge) (letters : List (List ℕ)) (limit : ℕ) → reach_along w letters limit ≡ here w Start ++ below w letters limit Start
 reach_is w letters limit = filtered w letters limit Start
-
--- the lines of a trail
-
-pub lines-append : (xs ys : List Event) → lines_of (xs ++ ys) ≡ lines_of xs ++ lines_of ys
-lines-append xs ys = filter_map-append (λ e. e) xs ys
-
-pub lines-under : (a : List ℕ) (es : List Event) → lines_of (under a es) ≡ cons a (lines_of es)
-unfolding under cons
-lines-under a [] = refl
-lines-under a (None ∷ es) = lines-under a es
-lines-under a (Some p ∷ es) = ap (λ ps. longer a p ∷ ps) (lines-under a es)
-
-pub lines-with_calls : (cs : List Call) → lines_of (with_calls cs) ≡ alone cs
-unfolding with_calls alone
-lines-with_calls [] = refl
-lines-with_calls (c ∷ cs) = ap (λ ps. ([], c) ∷ ps) (lines-with_calls cs)
-
-pub lines-decide : (w : Judge) (x : Place) → lines_of (decide w x) ≡ here w x
-unfolding decide
-lines-decide w x = lines-with_calls (allowed_at w x)
-
--- a test of states that drops only what has no line
-abbrev pub Prunes : Judge → (ℕ → State → Bool) → List (List ℕ) → Type 0
-Prunes w live letters = (l : ℕ) (s : State) → live (suc l) s ≡ false → rows w letters l s letters ≡ []
-
-pub prunes_none : (w : Judge) (letters : List (List ℕ)) → Prunes w (λ _ _. true) letters
-prunes_none w letters l s h = absurd cc
-
-module _ (w : Judge) (live : ℕ → State → Bool) (letters : List (List ℕ)) (prunes : Prunes w live letters) where
-  lines-flat : (l : ℕ) → ((x : Place) → lines_of (deeper w live letters l x) ≡ below w letters l x) → (s : State) (some : List (List ℕ))
-      → lines_of (flat_map (λ a. under a (decide w (Below s a) ++ deeper w live letters l (Below s a))) some) ≡ rows w letters l s some
-  unfolding rows
-  lines-flat l each s [] = refl
-  lines-flat l each s (a ∷ some) =
-      lines-append (under a (decide w (Below s a) ++ deeper w live letters l (Below s a))) (flat_map (λ a. under a (decide w (Below s a) ++ deeper w live letters l (Below s a))) some)
-      ∙ ap (λ ps. ps ++ lines_of (flat_map (λ a. under a (decide w (Below s a) ++ deeper w live letters l (Below s a))) some))
-      (lines-under a (decide w (Below s a) ++ deeper w live letters l (Below s a))
-      ∙ ap (cons a) (lines-append (decide w (Below s a)) (deeper w live letters l (Below s a)) ∙ ap (λ ps. ps ++ lines_of (deeper w live letters l (Below s a))) (lines-decide w (Below s a)) ∙ ap (λ ps. here w (Below s a) ++ ps) (each (Below s a))))
-      ∙ ap (λ ps. cons a (here w (Below s a) ++ below w letters l (Below s a)) ++ ps) (lines-flat l each s some)
-
-  lines-entered : (l : ℕ) → ((x : Place) → lines_of (deeper w live letters l x) ≡ below w letters l x) → (r : Option State)
-      → lines_of (entered r (live (suc l)) (λ s. flat_map (λ a. under a (decide w (Below s a) ++ deeper w live letters l (Below s a))) letters))
-      ≡ from_state r (λ s. flat_map (λ a. cons a (here w (Below s a) ++ below w letters l (Below s a))) letters)
-  unfolding rows
-  lines-entered l each None = refl
-  lines-entered l each (Some s) =
-      let all : List Event = flat_map (λ a. under a (decide w (Below s a) ++ deeper w live letters l (Below s a))) letters in
-      elim (live (suc l) s) as (λ b. live (suc l) s ≡ b → lines_of (cond b all []) ≡ rows w letters l s letters) [
-        | true ↦ λ e. lines-flat l each s letters
-        | false ↦ λ e. sym (prunes l s e)
-      ] refl
-
-  pub lines-deeper : (l : ℕ) (x : Place) → lines_of (deeper w live letters l x) ≡ below w letters l x
-  unfolding deeper below
-  lines-deeper zero x = refl
-  lines-deeper (suc l) x = lines-entered l (lines-deeper l) (w.step x)
-
-  pub lines-branches : (l : ℕ) (s : State) (some : List (List ℕ)) → lines_of (branches w live letters l s some) ≡ rows w letters l s some
-  unfolding branches
-  lines-branches l s some = lines-flat l (lines-deeper l) s some
-
--- before its first look a walk has the reach before it
-pub lines-fresh : (w : Judge) (live : ℕ → State → Bool) (letters : List (List ℕ)) (limit : ℕ) → Prunes w live letters
-    → lines_of (ahead w live letters limit false [] Start (allowed_at w Start) []) ≡ reach_along w letters limit
-unfolding ahead under_all pending
-lines-fresh w live letters limit prunes =
-    let first : List Event = with_calls (allowed_at w Start) ++ deeper w live letters (limit - 0) Start in
-    lines-append first [] ∙ ap (λ ps. ps ++ []) (lines-append (with_calls (allowed_at w Start)) (deeper w live letters (limit - 0) Start)) ∙ append-nil (lines_of (with_calls (allowed_at w Start)) ++ lines_of (deeper w live letters (limit - 0) Start))
-    ∙ ap (λ ps. ps ++ lines_of (deeper w live letters (limit - 0) Start)) (lines-with_calls (allowed_at w Start))
-    ∙ ap (λ ps. here w Start ++ ps) (lines-deeper w live letters prunes (limit - 0) Start)
-    ∙ ap (λ n. here w Start ++ below w letters n Start) all
-    ∙ sym (reach_is w letters limit)
-  where
-    all : limit - 0 ≡ limit
-    all = omega arith

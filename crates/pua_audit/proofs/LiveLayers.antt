@@ -7,7 +7,7 @@ use Rattle.std.proofs.lemmas.Bool.{cases_eq, cases_lt, and_parts, eqb-true, eq-e
 use Rattle.pua_audit.specs.Reach.{Pair}
 use Rattle.pua_audit.specs.Judge.{Judge, Start}
 use Rattle.pua_audit.specs.Live.{Stage}
-use Rattle.pua_audit.specs.declared.state.State as named
+use Rattle.pua_audit.specs.Judge as named
 use Rattle.pua_audit.specs.Graphs.{named_in, AreApart, IsKnown, StandsForJudge, numbered, spelled}
 use Rattle.pua_audit.proofs.Lines as lines
 use Rattle.pua_audit.proofs.Stages.{staged, is_stage, is_staged, is_state, is_among, some_pair, state_of, reached_from}

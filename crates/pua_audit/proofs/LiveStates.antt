@@ -15,7 +15,7 @@ use Rattle.pua_audit.specs.Judge.{Start, Below, base_dir, judge_for, reach_along
 use Rattle.pua_audit.specs.Laws.{IsAudited}
 use Rattle.pua_audit.specs.Live.{Stage, shorter, stage_after, distinct_stages, live_states}
 use Rattle.pua_audit.specs.Graphs.{IsKnown, StandsForJudge, AreApart, LiveStatesCount}
-use Rattle.pua_audit.specs.declared.state.State as named
+use Rattle.pua_audit.specs.Judge as named
 use Rattle.pua_audit.proofs.Audited.{reaches_along, closed_reaches}
 use Rattle.pua_audit.proofs.DistinctStages.{same_stage, same_stage_laws, staged_is, stages_distinct, distinct_has}
 use Rattle.pua_audit.proofs.LiveLayers.{layers, layers_counted, layers_have, layers_distinct}

@@ -62,7 +62,7 @@ numbers_apart ns is i j low_i low_j same = elim (cases_lt i j) [
 ]
 
 -- a row for each directory
-module _ (w : Judge) (letters : List (List ℕ)) (dirs : List ℕ) (t : Steps) (many : t.letters ≡ length letters) (few : length letters < 4294967296) (whole : length t.rows.items ≡ length dirs) where
+module _ (w : Judge) (letters : List (List ℕ)) (dirs : List ℕ) (t : Steps) (many : t.letters ≡ length letters) (few : length letters < 18446744073709551616) (whole : length t.rows.items ≡ length dirs) where
   entries_fit : (es : List Entry) → AllByRecursion (λ e. IsEntryFor (length letters) (length dirs) e) es → AllByRecursion (λ e. steps.IsEntry t e) es
   entries_fit [] all = tt
   entries_fit (e ∷ es) all = (

@@ -12,10 +12,17 @@ use Rattle.pua_policy.specs.Laws.{AllowAlike}
 use Rattle.pua_policy.specs.Verdict.{is_allowed}
 use Rattle.pua_policy.specs.declared.place.Place.{Place}
 use Rattle.pua_policy.proofs.ForCallers.{processes_decide}
+use Rattle.std.specs.Prelude.{filter_map, flat_map, option_map, ◌-◌, length}
+use Rattle.std.specs.Result.{result_ok}
+use Rattle.pua_path.specs.Laws.{steps}
+use Rattle.pua_path.specs.Paths.{part_of}
+use Rattle.pua_audit.specs.Judge.{base_dir}
+use Rattle.pua_audit.specs.Live.{Stage, shorter, distinct_stages, live_states}
+use Rattle.pua_audit.specs.declared.base.Base.TheVariants.{Root, Cwd}
 use Rattle.pua_audit.specs.Past.{unveiled, locked_if, ended_if, history_of}
 use Rattle.pua_audit.specs.Reach.{Pair, Scope, path_of, pair_cmp, pairs, is_reached, reach, rest_after}
 use Rattle.pua_audit.specs.declared.base.Base.{Base}
-use Rattle.pua_audit.proofs.Resume.{filter-cong}
+use Rattle.pua_audit.proofs.Lines.{filter-cong}
 
 -- what veils, a lock and an end leave as it is
 
@@ -162,3 +169,16 @@ module _ (t : Tree) (table : CallTable) (base : Base) (alphabet : List (List ℕ
 
   pub rest_by_process : (p : ProcessState) (h k : History) → StandsFor p h → StandsFor p k → (after : Option Pair) → rest_after (scope_by h) after ≡ rest_after (scope_by k) after
   rest_by_process p h k sh sk after = rest_alike h k (processes_decide p h k sh sk) after
+
+  -- the stages of words that pairs go on from, from a directory
+  abbrev staged : ℕ → List Pair → List Stage
+  staged dir ps =
+      distinct_stages (filter_map (λ word. option_map (λ (at : ℕ × ℕ). record { dir = at.0; links = at.1; left = limit - length word }) (result_ok (steps t (map part_of word) (dir, 0)))) (flat_map (λ (p : Pair). shorter p.0) ps))
+
+  same_base : (p : ProcessState) (h k : History) → StandsFor p h → StandsFor p k → (b : Base) → base_dir b h ≡ base_dir b k
+  same_base p h k sh sk Root = refl
+  same_base p h k sh sk Cwd = sym sh.dir ∙ sk.dir
+
+  -- and the same states are live
+  pub live_by_process : (p : ProcessState) (h k : History) → StandsFor p h → StandsFor p k → live_states (scope_by h) ≡ live_states (scope_by k)
+  live_by_process p h k sh sk = (λ i. staged (same_base p h k sh sk base i) (rest_by_process p h k sh sk None i))

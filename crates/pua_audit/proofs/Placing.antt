@@ -23,7 +23,7 @@ use Rattle.pua_audit.specs.Alphabets.{with_names, IsPlaced}
 use Rattle.pua_audit.proofs.Moves.{all_at_index}
 use Rattle.pua_audit.proofs.Rising.{with_name_rises}
 
-turned : (a b : List ℕ) (o : Ordering) → name_cmp a b ≡ o → name_cmp b a ≡ ordering_reverse o
+pub turned : (a b : List ℕ) (o : Ordering) → name_cmp a b ≡ o → name_cmp b a ≡ ordering_reverse o
 turned a b o e = nat_list_cmp_total.antisymm b a ∙ ap ordering_reverse e
 
 same_name : (a b : List ℕ) → name_cmp a b ≡ Equal → a ≡ b

@@ -7,12 +7,12 @@ use Rattle.std.proofs.lemmas.List.Folds.{list_all-append}
 use Rattle.pua_tree.specs.Spelling.{is_plain, byte_spelling, spelling}
 use Rattle.pua_audit.specs.Reach.{Word, Pair, Scope, pairs, from_root, path_of, printed_path, is_reached, reach, rest_after}
 use Rattle.pua_audit.specs.Plain.{is_plain_alphabet, ArePlain, IsMarked}
-use Rattle.pua_audit.specs.Ready.{letters_of, scope_in, trail}
-use Rattle.pua_audit.specs.Trail.{lines_of}
+use Rattle.pua_audit.specs.Coming.{to_come}
+use Rattle.pua_audit.specs.Ready.{letters_of, scope_in}
 use Rattle.pua_audit.specs.declared.base.Base.{Base}
 use Rattle.pua_audit.specs.declared.base.Base.TheVariants.{Root, Cwd}
 use Rattle.pua_audit.specs.declared.terms.Terms.{Terms}
-use Rattle.pua_audit.specs.declared.walk.Walk.{Walk}
+use Rattle.pua_audit.specs.declared.pairs.Pairs.{Pairs}
 use Rattle.pua_audit.proofs.Along.{IsWord, pairs_are, all_to}
 use Rattle.pua_audit.proofs.Rising.{all_filtered}
 
@@ -57,8 +57,8 @@ pub rest_plain : (s : Scope) (after : Option Pair) → IsTrue (is_plain_alphabet
 rest_plain s None plain = reach_plain s plain
 rest_plain s (Some pair) plain = all_filtered (λ pair. printed_path s.base pair.0 ≡ path_of s.base pair.0) _ (reach s) (reach_plain s plain)
 
--- a walk with the pairs that are to come ahead knows whether its letters are plain
-pub marked : (plain : Bool) (a : Walk) (t : Terms) (after : Option Pair) → plain ≡ is_plain_alphabet (letters_of a.terms) → a.terms ≡ t → lines_of (trail a) ≡ rest_after (scope_in t) after → IsMarked plain a
+-- it is known of the pairs that are to come whether their letters are plain
+pub marked : (plain : Bool) (a : Pairs) (t : Terms) (after : Option Pair) → plain ≡ is_plain_alphabet (letters_of a.terms) → a.terms ≡ t → to_come a ≡ rest_after (scope_in t) after → IsMarked plain a
 marked plain a t after letters terms left = record {
   letters = letters;
   lines = λ is.

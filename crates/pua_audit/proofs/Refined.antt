@@ -8,7 +8,7 @@ use Rattle.pua_policy.specs.CallSets.{bit_of}
 use Rattle.pua_policy.specs.declared.call.Call.{Call}
 use Rattle.pua_audit.specs.Reach.{Word, Pair}
 use Rattle.pua_audit.specs.Judge.{Judge, Place, Start, Below}
-use Rattle.pua_audit.specs.Trail.{allowed_at}
+use Rattle.pua_audit.specs.Judge.{allowed_at}
 use Rattle.pua_audit.proofs.Lines as lines
 use Rattle.pua_steps.specs.Calls.{calls_of}
 use Rattle.pua_steps.specs.Graph as graph

@@ -8,7 +8,7 @@ use Rattle.pua_policy.specs.CallSets.{bit_of}
 use Rattle.pua_audit.specs.Judge.{Judge}
 use Rattle.pua_audit.specs.Rows.{IsGrown, IsEntryFor, IsRow}
 use Rattle.pua_audit.specs.Table.{IsLetter, IsTold, entry_of}
-use Rattle.pua_audit.specs.declared.state.State as named
+use Rattle.pua_audit.specs.Judge as named
 use Rattle.pua_audit.proofs.Rising.{all_joined}
 use Rattle.pua_steps.specs.Calls.{has_call}
 use Rattle.pua_steps.specs.Limits.{call_count}

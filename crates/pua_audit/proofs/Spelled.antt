@@ -1,6 +1,6 @@
 -- The path of a walk's word, letter by letter.
-use Rattle.std.proofs.Common.{ℕ, suc, ◌+◌, ◌-◌, ◌*◌, ◌<◌, ◌≤◌, ◌≡◌, List, [], ◌∷◌, ◌++◌, refl, ap, arith, sym, ◌∙◌, subst, length, get_or, append_assoc, append-nil, take, length-append, mul-le-mul_right}
-use Rattle.std.proofs.lemmas.List.{get_or-map, length-map, take_at}
+use Rattle.std.proofs.Common.{ℕ, suc, ◌+◌, ◌*◌, ◌<◌, ◌≤◌, ◌≡◌, List, [], ◌∷◌, ◌++◌, refl, ap, arith, sym, ◌∙◌, length, get_or, append_assoc, append-nil, mul-le-mul_right}
+use Rattle.std.proofs.lemmas.List.{get_or-map, length-map}
 use Rattle.std.specs.List.{AllByRecursion}
 use Rattle.pua_path.specs.declared.found.Part.{Part}
 use Rattle.pua_audit.specs.Reach.{Word, from_root, path_of}
@@ -10,10 +10,10 @@ use Rattle.pua_audit.specs.declared.base.Base.{Base}
 use Rattle.pua_audit.specs.declared.base.Base.TheVariants.{Root, Cwd}
 use Rattle.pua_audit.specs.declared.terms.Terms.{Terms}
 use Rattle.pua_audit.proofs.Along.{no_longer}
-use Rattle.pua_audit.proofs.Moves.{all_front, all_pushed, all_at_index, word_of-push, length-word_of}
+use Rattle.pua_audit.proofs.Moves.{all_at_index, length-word_of}
 use Rattle.pua_audit.proofs.Paths.{length_from_root}
 
-from_root-push : (word : Word) (a : List ℕ) → from_root (word ++ a ∷ []) ≡ from_root word ++ 47 ∷ a
+pub from_root-push : (word : Word) (a : List ℕ) → from_root (word ++ a ∷ []) ≡ from_root word ++ 47 ∷ a
 from_root-push [] a = ap (λ bs. 47 ∷ bs) (append-nil a)
 from_root-push (b ∷ word) a = ap (λ bs. 47 ∷ b ++ bs) (from_root-push word a) ∙ ap (λ bs. 47 ∷ bs) (sym (append_assoc b (from_root word) (47 ∷ a)))
 
@@ -64,40 +64,3 @@ room_for a word path i capacity is here more room =
         let more : suc word * suc most ≤ limit * suc most = mul-le-mul_right (suc most) w in
         let one : suc word * suc most ≡ suc most + word * suc most = omega arith in
         omega arith
-
--- a letter is put behind the word
-pub spelled_push : (a : Terms) (word path word-after path-after : List ℕ) (i : ℕ) → IsSpelled a word path → i < length a.letters.items
-    → word-after ≡ word ++ i ∷ [] → path-after ≡ path ++ 47 ∷ get_or (letters_of a) i [] → IsSpelled a word-after path-after
-spelled_push a word path word-after path-after i is here longer spelled = record {
-  known = subst (λ v. AllByRecursion (λ i. i < length a.letters.items) v) (sym longer) (all_pushed (λ i. i < length a.letters.items) word i is.known here);
-  path = spelled ∙ ap (λ bs. bs ++ 47 ∷ get_or (letters_of a) i []) is.path ∙ sym (from_root-push (word_of (letters_of a) word) (get_or (letters_of a) i []))
-      ∙ ap from_root (sym (ap (word_of (letters_of a)) longer ∙ word_of-push (letters_of a) word i));
-}
-
--- the last letter of a word
-pub record Ends (a : Terms) (bytes front : List ℕ) (i : ℕ) : Type 0 where
-  pub known : AllByRecursion (λ i. i < length a.letters.items) front
-  pub here : i < length a.letters.items
-  pub path : bytes ≡ from_root (word_of (letters_of a) front) ++ 47 ∷ get_or (letters_of a) i []
-
-pub spelled_end : (a : Terms) (word path front : List ℕ) (i : ℕ) → IsSpelled a word path → word ≡ front ++ i ∷ [] → Ends a path front i
-spelled_end a word path front i is split =
-    let all = all_front (λ i. i < length a.letters.items) front i (subst (λ v. AllByRecursion (λ i. i < length a.letters.items) v) split is.known) in record {
-      known = all.0;
-      here = all.1;
-      path = is.path ∙ ap from_root (ap (word_of (letters_of a)) split ∙ word_of-push (letters_of a) front i) ∙ from_root-push (word_of (letters_of a) front) (get_or (letters_of a) i []);
-    }
-
--- a letter and its slash are taken off
-pub dropped : (path front letter : List ℕ) (n : ℕ) → path ≡ front ++ 47 ∷ letter → n ≡ length path - length letter - 1 → take n path ≡ front
-dropped path front letter n split h =
-    let many : length front ≡ n = omega (arith, ap length split, length-append front (47 ∷ letter)) in
-    ap (take n) split ∙ take_at front (47 ∷ letter) n many
-
--- no letter, and no byte
-pub spelled_none : (a : Terms) (word path : List ℕ) → word ≡ [] → path ≡ [] → IsSpelled a word path
-unfolding word_of
-spelled_none a word path none empty = record {
-  known = subst (λ v. AllByRecursion (λ i. i < length a.letters.items) v) (sym none) tt;
-  path = empty ∙ ap (λ v. from_root (word_of (letters_of a) v)) (sym none);
-}

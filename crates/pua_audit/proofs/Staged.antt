@@ -8,8 +8,8 @@ use Rattle.std.proofs.lemmas.Bool.{cases_eq, cases_lt, and_parts, eqb-true, eq-e
 use Rattle.pua_policy.specs.declared.call.Call.{Call}
 use Rattle.pua_audit.specs.Reach.{Word, Pair}
 use Rattle.pua_audit.specs.Judge.{Judge, Place, Start, Below}
-use Rattle.pua_audit.specs.Trail.{allowed_at}
-use Rattle.pua_audit.specs.declared.state.State.{State}
+use Rattle.pua_audit.specs.Judge.{allowed_at}
+use Rattle.pua_audit.specs.Judge.{State}
 use Rattle.pua_audit.specs.Live.{Stage, shorter}
 use Rattle.pua_audit.proofs.Lines as lines
 use Rattle.pua_audit.proofs.Stages.{on_state, leads, staged, stage_after, stages_of, is_stage, is_staged, reached_from, is_state, is_among, some_pair, state_of, StagesLive}

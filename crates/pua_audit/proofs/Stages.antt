@@ -3,7 +3,7 @@ use Rattle.std.specs.Prelude.{◌≡◌, ℕ, zero, suc, ◌-◌, Bool, true, fa
 use Rattle.pua_audit.specs.Reach.{Word, Pair}
 use Rattle.pua_audit.specs.Judge.{Judge, Place, Start, Below, reach_along}
 use Rattle.pua_audit.specs.Live.{Stage, shorter}
-use Rattle.pua_audit.specs.declared.state.State.{State}
+use Rattle.pua_audit.specs.Judge.{State}
 use Rattle.pua_audit.proofs.Lines.{rows}
 
 abbrev pub on_state : {B : Type 0} → Option State → B → (State → B) → B

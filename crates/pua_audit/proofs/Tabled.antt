@@ -7,10 +7,10 @@ use Rattle.pua_path.specs.Limits.{link_limit}
 use Rattle.pua_policy.specs.CallSets.{bit_of}
 use Rattle.pua_policy.specs.declared.call.Call.{Call}
 use Rattle.pua_audit.specs.Judge.{Judge, Place, Below}
-use Rattle.pua_audit.specs.Trail.{allowed_at}
+use Rattle.pua_audit.specs.Judge.{allowed_at}
 use Rattle.pua_audit.specs.Graphs.{named_in, is_visited, Rising, IsRight, IsMissing, StandsIn, IsKnown}
 use Rattle.pua_audit.specs.Table.{IsTold, entry_of, IsTableOf}
-use Rattle.pua_audit.specs.declared.state.State as named
+use Rattle.pua_audit.specs.Judge as named
 use Rattle.pua_audit.proofs.Leading.{masks_list}
 use Rattle.pua_audit.proofs.Rising.{all_joined}
 use Rattle.pua_steps.specs.Calls.{has_call, calls_of}

@@ -8,10 +8,10 @@ use Rattle.pua_policy.specs.declared.call.Call.{Call}
 use Rattle.pua_tree.specs.Tree.{is_dir}
 use Rattle.pua_audit.specs.Reach.{Word, Pair, Scope}
 use Rattle.pua_audit.specs.Judge.{Judge, Start, Below, base_dir, is_open, judge_for, reach_along}
-use Rattle.pua_audit.specs.Trail.{allowed_at}
+use Rattle.pua_audit.specs.Judge.{allowed_at}
 use Rattle.pua_audit.specs.Laws.{IsAudited}
 use Rattle.pua_audit.specs.Live.{live_states}
-use Rattle.pua_audit.specs.declared.state.State as named
+use Rattle.pua_audit.specs.Judge as named
 use Rattle.pua_steps.specs.Calls.{has_call, calls_of}
 use Rattle.pua_steps.specs.Graph as graph
 use Rattle.pua_steps.specs.Reached.{live_count}

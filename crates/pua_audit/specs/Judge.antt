@@ -9,14 +9,18 @@ use Rattle.pua_path.specs.declared.found.Way.{Way}
 use Rattle.pua_path.specs.declared.found.Way.TheVariants.{Dot, Top}
 use Rattle.pua_path.specs.declared.found.Found.{Found}
 use Rattle.pua_path.specs.declared.found.Found.TheVariants.{Whole}
-use Rattle.pua_policy.specs.Calls.{CallTable, last_of}
+use Rattle.pua_policy.specs.Calls.{CallTable, calls, last_of}
 use Rattle.pua_policy.specs.History.{History, working_dir, is_ended}
 use Rattle.pua_policy.specs.Verdict.{verdict_of, is_allowed}
 use Rattle.pua_policy.specs.declared.call.Call.{Call}
 use Rattle.pua_audit.specs.Reach.{Word, Pair, Scope, pairs}
 use Rattle.pua_audit.specs.declared.base.Base.{Base}
 use Rattle.pua_audit.specs.declared.base.Base.TheVariants.{Root, Cwd}
-use Rattle.pua_audit.specs.declared.state.State.{State}
+
+-- a directory to which a word leads, and how many links were followed on the way
+pub record State : Type 0 where
+  pub dir : ℕ
+  pub used : ℕ
 
 -- where a word ends: the empty one at the start, another at its last letter in a directory
 pub data Place : Type 0 where
@@ -27,6 +31,10 @@ pub data Place : Type 0 where
 pub record Judge : Type 0 where
   pub step : Place → Option State
   pub own : Place → Call → Bool
+
+-- the calls that are allowed at a place, in their order
+unfoldable pub allowed_at : Judge → Place → List Call
+allowed_at w x = filter (w.own x) calls
 
 -- the directory in which the first letter stands
 abbrev pub base_dir : Base → History → ℕ

@@ -4,11 +4,12 @@ pub mod SubLists
 pub mod Renumbering
 pub mod Begin
 pub mod Judge
-pub mod Trail
 pub mod Laws
 pub mod Examples
 pub mod Past
 pub mod Ready
+pub mod WordPaths
+pub mod Coming
 pub mod Plain
 pub mod AuditState
 pub mod Lent

@@ -7,6 +7,7 @@ ghost use Rattle.pua_policy.specs.History.{History, StandsFor};
 ghost use Rattle.pua_audit.specs.Limits.{path_limit};
 ghost use Rattle.pua_audit.specs.Begin.{Beginning, beginning, still_to_come};
 ghost use Rattle.pua_audit.specs.Lent.{LendsLine};
+ghost use Rattle.pua_audit.specs.Live.{live_states};
 ghost use Rattle.pua_audit.specs.Plain.{ArePlain, is_plain_alphabet};
 
 use crate::alphabet::are_plain;
@@ -14,9 +15,9 @@ use crate::base::Base;
 use crate::beginning::{self, Checked};
 use crate::fault::AuditFault;
 use crate::line::Line;
+use crate::pairs::Pairs;
 use crate::path::lent_path;
 use crate::terms::Terms;
-use crate::walk::Walk;
 use pua_path::Probe;
 use pua_policy::Process;
 use std::alloc::Global;
@@ -26,7 +27,7 @@ use std::marker::Model;
 /// pairs that are still to come.
 #[derive(Drop)]
 pub struct Audit {
-    walk: Walk,
+    pairs: Pairs,
     /// Whether each byte of each letter stands for itself.
     plain: bool,
 }
@@ -36,18 +37,21 @@ impl Model for Audit {
 
     ghost Value = { AuditState };
 
+    ghost use Rattle.pua_audit.specs.Coming.{AreReady, to_come};
     ghost use Rattle.pua_audit.specs.Plain.{IsMarked};
-    ghost use Rattle.pua_audit.specs.Ready.{letters_of, trail, IsReady};
-    ghost use Rattle.pua_audit.specs.Trail.{lines_of};
+    ghost use Rattle.pua_audit.specs.Ready.{letters_of};
 
     ghost view = { λ a. record {
-      tree = a.walk.terms.seen.tree;
-      base = a.walk.terms.base;
-      alphabet = letters_of a.walk.terms;
-      left = lines_of (trail a.walk);
+      tree = a.pairs.terms.seen.tree;
+      base = a.pairs.terms.base;
+      alphabet = letters_of a.pairs.terms;
+      limit = a.pairs.terms.limit;
+      live = a.pairs.live;
+      reads = a.pairs.walk.seen;
+      left = to_come a.pairs;
     } };
 
-    ghost invariant = { λ a. IsReady a.walk × IsMarked a.plain a.walk };
+    ghost invariant = { λ a. AreReady a.pairs × IsMarked a.plain a.pairs };
 }
 
 impl Audit {
@@ -76,6 +80,10 @@ impl Audit {
             beginning (P.tree probe.old) standard_table h base (map (λ s. s.now) candidates.now) limit (option_map (λ s. s.now) after.entry) ≡ Err fault) }
         ensures letters { IfOk result (λ audit. (h : History) (b : Beginning) →
             beginning (P.tree probe.old) standard_table h base (map (λ s. s.now) candidates.now) limit (option_map (λ s. s.now) after.entry) ≡ Ok b → audit.alphabet ≡ b.scope.alphabet) }
+        ensures live { IfOk result (λ audit. (h : History) → StandsFor process.now h → (b : Beginning) →
+            beginning (P.tree probe.old) standard_table h base (map (λ s. s.now) candidates.now) limit (option_map (λ s. s.now) after.entry) ≡ Ok b → audit.live ≡ length (live_states b.scope)) }
+        ensures reads { IfOk result (λ audit. audit.reads ≡ 0) }
+        ensures limit { IfOk result (λ audit. audit.limit ≡ limit) }
         ensures tree { P.tree probe.new ≡ P.tree probe.old }
     {
         process.known();
@@ -85,11 +93,11 @@ impl Audit {
         let Ok(terms) = Terms::new(alloc, &*probe, process, base, limit, letters) else {
             return Err(AuditFault::OutOfMemory);
         };
-        let Ok(walk) = Walk::begin(alloc, probe, terms, after) else {
+        let Ok(pairs) = Pairs::begin(alloc, probe, terms, after) else {
             return Err(AuditFault::OutOfMemory);
         };
-        let plain = are_plain(walk.terms.letters.as_slice());
-        Ok(Audit { walk, plain })
+        let plain = are_plain(pairs.terms.letters.as_slice());
+        Ok(Audit { pairs, plain })
     }
 
     /// Whether each byte of each letter stands for itself. Then each path that is still to come is
@@ -101,16 +109,33 @@ impl Audit {
         self.plain
     }
 
+    /// How many states are live: where words lead from which words with an allowed call go on.
+    pub fn table_len(&self) -> usize
+        ensures { result ≡ self.now.live }
+    {
+        self.pairs.live
+    }
+
+    /// How many letters were read so far from the tables that the audit made when it began. It stays
+    /// at its greatest value once there.
+    pub fn reads(&self) -> u64
+        ensures { result ≡ self.now.reads }
+    {
+        self.pairs.walk.reads()
+    }
+
     /// Lends the next line, in the order of the reach: None where no pair is left. The tree is the
-    /// one with which the audit began. It is given no allocator, and answers no error.
+    /// one with which the audit began, and it is asked nothing. With a limit L and A letters at most
+    /// 2 (L + 1) (A + 1) letters are read for it. It is given no allocator, and answers no error.
     pub fn next_line<'t, P: Probe<'t>>(&mut self, probe: &mut P) -> Option<Line<'_>>
         requires { P.tree probe.old ≡ self.old.tree }
         ensures* rest { sem 𝓛 (LendsLine self.entry result) }
         ensures short { IfSome result (λ line. length line.path.now ≤ path_limit) }
         ensures tree { P.tree probe.new ≡ P.tree probe.old }
+        ensures asked { P.count probe.new ≡ P.count probe.old }
     {
-        let call = self.walk.next_call(probe)?;
-        let path = lent_path(self.walk.terms.base, self.walk.path.as_slice());
+        let call = self.pairs.next_call()?;
+        let path = lent_path(self.pairs.terms.base, self.pairs.path.bytes.as_slice());
         Some(Line { path, call })
     }
 }

@@ -2,7 +2,7 @@
 
 ghost use Rattle.std.specs.Prelude.{◌≡◌};
 ghost use Rattle.pua_audit.specs.Limits.{candidate_limit, letter_limit};
-ghost use Rattle.pua_audit.specs.Laws.{AlphabetRises, ClosedReaches, ReachIsAlong, ReachRises, TrailsReach};
+ghost use Rattle.pua_audit.specs.Laws.{AlphabetRises, ClosedReaches, ReachIsAlong, ReachRises};
 ghost use Rattle.pua_audit.specs.Graphs.{GraphsReach, LiveStatesCount, MasksList};
 ghost use Rattle.pua_audit.specs.Entries.{EntriesStand};
 ghost use Rattle.pua_audit.specs.Table.{TablesStand};
@@ -33,13 +33,11 @@ pub fn reach_laws()
 
 /// Of what an audit begins with (a tree, letters that are names or two dots, and words with paths
 /// that are not too long) the reach is what is allowed letter by letter, and nothing where the
-/// process has ended or its base was removed. A walk through the words gives the pairs that are
-/// allowed letter by letter.
-#[tactic(auto, using(crate::proofs::Audited::reaches_along, crate::proofs::Audited::closed_reaches, crate::proofs::Audited::trails_reach))]
+/// process has ended or its base was removed.
+#[tactic(auto, using(crate::proofs::Audited::reaches_along, crate::proofs::Audited::closed_reaches))]
 pub fn walk_laws()
     ensures along { ReachIsAlong }
     ensures closed { ClosedReaches }
-    ensures trails { TrailsReach }
 {}
 
 /// A text names a pair to resume after exactly where it is the text of that pair: the call's name, a

@@ -1,11 +1,65 @@
 //! The path of a word in a buffer: each letter behind a slash.
 
-ghost use Rattle.std.specs.Prelude.{◌≡◌, ◌≤◌, ◌+◌, ◌++◌, ◌∷◌, List, ℕ, suc, length, vec_capacity};
+ghost use Rattle.std.specs.Prelude.{◌≡◌, ◌≤◌, ◌<◌, ◌+◌, ◌++◌, ◌∷◌, [], List, ℕ, suc, length, min, take, IfOk, vec_capacity};
+ghost use Rattle.pua_audit.specs.Reach.{Word};
 ghost use Rattle.pua_audit.specs.Ready.{part_bytes, lent};
+ghost use Rattle.pua_audit.specs.WordPaths.{IsPathOf};
 
 use crate::alphabet::part_bytes;
 use crate::base::Base;
 use pua_path::Part;
+use std::alloc::{AllocError, Global};
+
+/// The path of a word: each letter behind a slash. It takes no memory beyond what was reserved at its
+/// beginning.
+#[derive(Drop)]
+pub(crate) struct WordPath {
+    pub(crate) bytes: Vec<u8>,
+    /// Where each letter's slash stands.
+    pub(crate) starts: Vec<usize>,
+}
+
+impl WordPath {
+    /// The path of the empty word, with room for so many letters, and for so many bytes. The error is
+    /// that a growth was refused.
+    pub(crate) fn new(alloc: Global, letters: usize, bytes: usize) -> Result<WordPath, AllocError>
+        ensures path { IfOk result (λ path. IsPathOf [] path) }
+        ensures bytes { IfOk result (λ path. bytes ≤ vec_capacity path.bytes) }
+        ensures letters { IfOk result (λ path. letters ≤ vec_capacity path.starts) }
+    {
+        let bytes = Vec::with_capacity(alloc, bytes)?;
+        let starts = Vec::with_capacity(alloc, letters)?;
+        Ok(WordPath { bytes, starts })
+    }
+
+    /// Drops all letters but so many at the front.
+    pub(crate) fn keep(&mut self, letters: usize)
+        ensures path { (word : Word) → IsPathOf word self.old → IsPathOf (take letters word) self.new }
+        ensures few { length self.new.starts.items ≡ min letters (length self.old.starts.items) }
+        ensures bytes { vec_capacity self.new.bytes ≡ vec_capacity self.old.bytes }
+        ensures starts { vec_capacity self.new.starts ≡ vec_capacity self.old.starts }
+    {
+        if letters >= self.starts.len() {
+            return;
+        }
+        let start = self.starts[letters];
+        self.bytes.truncate(start);
+        self.starts.truncate(letters);
+    }
+
+    /// Puts a letter at the end.
+    pub(crate) fn add(&mut self, letter: &Part)
+        requires bytes { length self.old.bytes.items + suc (length (part_bytes letter.now)) ≤ vec_capacity self.old.bytes }
+        requires starts { length self.old.starts.items < vec_capacity self.old.starts }
+        ensures path { (word : Word) → IsPathOf word self.old → IsPathOf (word ++ part_bytes letter.now ∷ []) self.new }
+        ensures more { length self.new.starts.items ≡ length self.old.starts.items + 1 }
+        ensures bytes { vec_capacity self.old.bytes ≤ vec_capacity self.new.bytes }
+        ensures starts { vec_capacity self.old.starts ≤ vec_capacity self.new.starts }
+    {
+        self.starts.push(self.bytes.len()).unwrap();
+        add_letter(&mut self.bytes, letter);
+    }
+}
 
 /// Puts a letter at the end of a path, behind a slash.
 pub(crate) fn add_letter(path: &mut Vec<u8>, letter: &Part)
@@ -15,17 +69,6 @@ pub(crate) fn add_letter(path: &mut Vec<u8>, letter: &Part)
 {
     path.push(b'/').unwrap();
     path.extend_from_slice(part_bytes(letter)).unwrap();
-}
-
-/// Takes the last letter off a path, and the slash before it.
-pub(crate) fn drop_letter(path: &mut Vec<u8>, letter: &Part)
-    requires { suc (length (part_bytes letter.now)) ≤ length path.old.items }
-    ensures path { (front : List ℕ) → path.old.items ≡ front ++ 47 ∷ part_bytes letter.now → path.new.items ≡ front }
-    ensures room { vec_capacity path.new ≡ vec_capacity path.old }
-{
-    let bytes = part_bytes(letter);
-    let left = path.len() - bytes.len() - 1;
-    path.truncate(left);
 }
 
 /// The path as it is lent: the base itself for no letter, and from the working directory no slash

@@ -6,7 +6,7 @@ ghost use Rattle.pua_audit.specs.Graphs.{AreApart};
 ghost use Rattle.pua_audit.specs.Ready.{IsSound, judge_in, letters_of};
 ghost use Rattle.pua_audit.specs.Table.{IsTableOf};
 
-mod begun;
+pub(crate) mod begun;
 mod directories;
 mod letter;
 mod row;
@@ -31,7 +31,6 @@ impl Terms {
         requires tree { P.tree probe.old ≡ self.now.seen.tree }
         requires sound { IsSound self.now }
         requires living { IsTrue (is_dir self.now.seen.tree base) }
-        requires few { length self.now.letters.items < 2 ^ 32 }
         ensures table { IfOk result (λ steps. (names : List ℕ) × (IsTableOf (judge_in self.now) (letters_of self.now) names steps × AreApart names × (0 < length names) × (get_or names 0 0 ≡ base))) }
         ensures few { IfOk result (λ steps. length steps.rows.items ≤ 2 ^ 32) }
         ensures tree { P.tree probe.new ≡ P.tree probe.old }
@@ -46,7 +45,7 @@ impl Terms {
             };
         }
         Ok(Steps {
-            letters: self.letters.len() as u32,
+            letters: self.letters.len(),
             rows,
         })
     }

@@ -20,3 +20,5 @@ pub mod Splitting
 pub mod Finding
 pub mod Resume
 pub mod Entering
+pub mod Within
+pub mod ForCallers

@@ -3,6 +3,7 @@ pub mod Calls
 pub mod Graph
 pub mod Trail
 pub mod Table
+pub mod Within
 pub mod Live
 pub mod Lists
 pub mod Ready

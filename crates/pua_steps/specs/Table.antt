@@ -68,7 +68,7 @@ pub record IsState (t : Steps) (s : State) : Type 0 where
 
 pub record IsEntry (t : Steps) (e : Entry) : Type 0 where
   pub letter : e.letter < t.letters
-  pub fits : e.letter + 1 < 2 ^ 32
+  pub fits : e.letter + 1 < 2 ^ 64
   pub kept : e.kept < 2 ^ call_count
   pub all : e.all < 2 ^ call_count
   pub more : e.all ≡ 0 → e.kept ≡ 0

@@ -7,7 +7,7 @@ use crate::state::State;
 #[derive(Clone, Copy, Debug, PartialEq, Eq)]
 pub struct Frame {
     pub state: State,
-    pub next: u32,
+    pub next: usize,
     pub place: usize,
     pub end: usize,
 }

@@ -20,7 +20,7 @@ mod visit;
 mod walk;
 
 pub use frame::Frame;
-pub use laws::steps_examples;
+pub use laws::{steps_examples, steps_laws};
 pub use limits::{CALL_COUNT, MOST_LETTERS, MOST_LINKS};
 pub use lists::{Lists, Span};
 pub use live::Live;

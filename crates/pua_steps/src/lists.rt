@@ -212,7 +212,7 @@ impl Lists {
     }
 
     /// How many entries of a list stand before a letter. It is found by one binary search.
-    pub(crate) fn count_before(&self, span: Span, letter: u32) -> usize
+    pub(crate) fn count_before(&self, span: Span, letter: usize) -> usize
         requires order { span.place ≤ span.end }
         requires inside { span.end ≤ length self.now.entries.items }
         requires rises { Rising 0 (within self.now.entries.items span.place span.end) }
@@ -226,7 +226,7 @@ impl Lists {
     }
 
     /// The entry at a place before `end`, if it is that of the letter.
-    pub(crate) fn entry_of(&self, place: usize, end: usize, letter: u32) -> Option<Entry>
+    pub(crate) fn entry_of(&self, place: usize, end: usize, letter: usize) -> Option<Entry>
         requires { end ≤ length self.now.entries.items }
         ensures { result ≡ with_letter letter (first_of (within self.now.entries.items place end)) }
     {

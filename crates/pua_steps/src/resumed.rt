@@ -38,7 +38,7 @@ impl Walk {
         calls: u16,
         base: Option<State>,
         limit: usize,
-        word: &[u32],
+        word: &[usize],
         call: u8,
     ) -> Result<Walk, AllocError>
         requires table { IsTable steps }
@@ -61,7 +61,7 @@ impl Walk {
 
     /// Goes from its beginning to the place after a pair: along the pair's word as far as words with
     /// an allowed call go on, and to those of the word's calls that come after the pair's.
-    fn go_to(&mut self, word: &[u32], call: u8)
+    fn go_to(&mut self, word: &[usize], call: u8)
         requires ready { IsReady self.old }
         requires fresh { (self.old.word.items ≡ []) × (self.old.frames.items ≡ []) }
         requires word { AllByRecursion (λ letter. letter < self.old.steps.letters) word.now }
@@ -83,7 +83,7 @@ impl Walk {
 
     /// Finds a letter among those of a state, by one binary search in its list, where at most `left`
     /// letters may come after it.
-    fn find(&self, left: usize, state: State, letter: u32) -> Found
+    fn find(&self, left: usize, state: State, letter: usize) -> Found
         requires sound { IsSound self.now }
         requires left { left < self.now.limit }
         requires state { IsState self.now.steps state }
@@ -126,7 +126,7 @@ impl Walk {
     }
 
     /// Goes on to the word with this letter more, past the letters before it.
-    fn descend(&mut self, state: State, letter: u32)
+    fn descend(&mut self, state: State, letter: usize)
         requires ready { IsReady self.old }
         requires there { self.old.behind ≡ Some state }
         requires short { length self.old.word.items < self.old.limit }

@@ -18,7 +18,7 @@ use crate::visit::Visit;
 /// `to` is the place of the directory to which it leads, if it leads to one.
 #[derive(Clone, Copy, Debug, PartialEq, Eq)]
 pub struct Entry {
-    pub letter: u32,
+    pub letter: usize,
     pub all: u16,
     pub kept: u16,
     pub links: u8,
@@ -37,7 +37,7 @@ pub struct Row {
 /// directory.
 #[derive(Drop)]
 pub struct Steps {
-    pub letters: u32,
+    pub letters: usize,
     pub rows: Vec<Row>,
 }
 
@@ -76,7 +76,7 @@ impl Entry {
 impl Row {
     /// Whether calls are allowed on the letters without entries, and there is one of them from `next`
     /// on and before `end`.
-    pub(crate) fn has_gap(&self, next: u32, end: u32) -> bool
+    pub(crate) fn has_gap(&self, next: usize, end: usize) -> bool
         ensures { result ≡ has_gap self.now.missing next end }
     {
         self.missing != 0 && next < end
@@ -85,7 +85,7 @@ impl Row {
 
 impl Steps {
     /// The letter of an entry, or the number of all letters.
-    fn end(&self, entry: Option<Entry>) -> u32
+    fn end(&self, entry: Option<Entry>) -> usize
         ensures { result ≡ end_of self.now.letters entry }
     {
         match entry {

@@ -6,7 +6,7 @@ use crate::state::State;
 /// `behind` the state to which that word leads, if words go on from there.
 #[derive(Clone, Copy, Debug, PartialEq, Eq)]
 pub struct Visit {
-    pub letter: u32,
+    pub letter: usize,
     pub calls: u16,
     pub behind: Option<State>,
 }

@@ -28,7 +28,7 @@ pub struct Walk {
     /// The most letters of a word.
     pub limit: usize,
     /// The word, by the places of its letters in the alphabet.
-    pub word: Vec<u32>,
+    pub word: Vec<usize>,
     /// How many letters at the front of the word are as they were before the last `next_call`.
     pub unchanged: usize,
     /// The calls of the word that are still to be given.
@@ -104,7 +104,7 @@ impl Walk {
 
     /// The word of the pair that was given last, by the places of its letters in the alphabet. Before
     /// the first call it is the word from which the walk goes on.
-    pub fn word(&self) -> &[u32]
+    pub fn word(&self) -> &[usize]
         ensures { result.now ≡ self.now.word.items }
     {
         &self.word

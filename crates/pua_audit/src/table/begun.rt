@@ -1,25 +1,31 @@
 //! The walk over the table of steps, before its first pair.
 
-ghost use Rattle.std.specs.Prelude.{◌≡◌, ◌<◌, ◌^◌, true, map, length, IfOk, IsTrue};
+ghost use Rattle.std.specs.Prelude.{◌≡◌, ◌<◌, ◌≤◌, ◌^◌, ◌*◌, suc, true, false, length, Option, option_map, IfOk, IfSome, IsTrue};
+ghost use Rattle.std.specs.List.{AllByRecursion};
 ghost use Rattle.pua_tree.specs.Tree.{is_dir};
 ghost use Rattle.pua_policy.specs.CallSets.{has};
 ghost use Rattle.pua_policy.specs.declared.call.Call.{Call};
 ghost use Rattle.pua_audit.specs.Past.{history_of};
-ghost use Rattle.pua_audit.specs.Reach.{reach};
+ghost use Rattle.pua_audit.specs.Coming.{pairs_after, pairs_at};
+ghost use Rattle.pua_audit.specs.Reach.{Pair, rest_after};
 ghost use Rattle.pua_audit.specs.Judge.{Start, base_dir, is_open};
 ghost use Rattle.pua_audit.specs.Live.{live_states};
-ghost use Rattle.pua_audit.specs.Graphs.{numbered, spelled};
 ghost use Rattle.pua_audit.specs.Ready.{IsSound, judge_in, letters_of, scope_in};
-ghost use Rattle.pua_audit.specs.Starting.{AreSound};
+ghost use Rattle.pua_audit.specs.Starting.{AreLetters, AreSound, pair_in};
+ghost use Rattle.pua_steps.specs.Graph.{reach};
+ghost use Rattle.pua_steps.specs.Limits.{call_count, most_letters};
 ghost use Rattle.pua_steps.specs.Ready.{IsReady, trail};
+ghost use Rattle.pua_steps.specs.Table.{IsState, IsTable, graph_of};
 ghost use Rattle.pua_steps.specs.Trail.{pairs_of};
+ghost use Rattle.pua_steps.specs.Within.{IsPair};
 
+use crate::resume_text::Resumption;
 use crate::terms::Terms;
 use pua_path::{Found, Probe};
 use pua_policy::Calls;
-use pua_steps::{State, Walk};
+use pua_steps::{State, Steps, Walk};
 use pua_tree::OutOfMemory;
-use std::alloc::Global;
+use std::alloc::{AllocError, Global};
 
 /// A walk over the table of steps of what is audited, and how many of its states are live.
 #[derive(Drop)]
@@ -29,35 +35,90 @@ pub(crate) struct Begun {
 }
 
 impl Terms {
-    /// A walk over the table of steps with the whole reach ahead, by the places of letters and the
-    /// numbers of calls from 0 on, and how many states are live. The process lives, and so does the
-    /// directory at the base. The error is that a growth was refused.
-    #[tactic(auto, using(crate::proofs::Begun::table_fits, crate::proofs::Starts::lives))]
+    /// A walk over the table of steps with the whole reach ahead, or with those of its pairs that come
+    /// after one, by the places of letters and the numbers of calls from 0 on; and how many states
+    /// are live. Where the process has ended, or its base was removed, there is no pair. The error
+    /// is that a growth was refused.
     pub(crate) fn begun<'t, P: Probe<'t>>(
         &self,
         alloc: Global,
         probe: &mut P,
+        after: Option<Resumption>,
     ) -> Result<Begun, OutOfMemory>
         requires tree { P.tree probe.old ≡ self.now.seen.tree }
         requires sound { IsSound self.now }
         requires letters { AreSound self.now.limit self.now.letters.items }
-        requires open { is_open (scope_in self.now) ≡ true }
-        requires few { length self.now.letters.items < 2 ^ 32 }
+        requires word { IfSome after (λ r. AreLetters (letters_of self.now) self.now.limit r.word.items) }
         ensures ready { IfOk result (λ begun. IsReady begun.walk) }
-        ensures pairs { IfOk result (λ begun. map numbered (reach (scope_in self.now)) ≡ map (spelled (letters_of self.now)) (pairs_of (trail begun.walk))) }
+        ensures limit { IfOk result (λ begun. begun.walk.limit ≡ self.now.limit) }
+        ensures letters { IfOk result (λ begun. begun.walk.steps.letters ≡ length (letters_of self.now)) }
+        ensures pairs { IfOk result (λ begun. rest_after (scope_in self.now) (option_map (pair_in (letters_of self.now)) after) ≡ pairs_at (letters_of self.now) (pairs_of (trail begun.walk))) }
+        ensures within { IfOk result (λ begun. AllByRecursion (λ p. IsPair (length (letters_of self.now)) p) (pairs_of (trail begun.walk))) }
         ensures live { IfOk result (λ begun. begun.live ≡ length (live_states (scope_in self.now))) }
+        ensures reads { IfOk result (λ begun. begun.walk.seen ≡ 0) }
+        ensures tree { P.tree probe.new ≡ P.tree probe.old }
+    {
+        if !self.is_open(probe) {
+            return self.begun_closed(alloc);
+        }
+        self.begun_open(alloc, probe, after)
+    }
+
+    /// The same where something may be allowed.
+    #[tactic(auto, using(crate::proofs::Begun::table_fits, crate::proofs::Starts::lives))]
+    fn begun_open<'t, P: Probe<'t>>(
+        &self,
+        alloc: Global,
+        probe: &mut P,
+        after: Option<Resumption>,
+    ) -> Result<Begun, OutOfMemory>
+        requires tree { P.tree probe.old ≡ self.now.seen.tree }
+        requires sound { IsSound self.now }
+        requires letters { AreSound self.now.limit self.now.letters.items }
+        requires word { IfSome after (λ r. AreLetters (letters_of self.now) self.now.limit r.word.items) }
+        requires open { is_open (scope_in self.now) ≡ true }
+        ensures ready { IfOk result (λ begun. IsReady begun.walk) }
+        ensures limit { IfOk result (λ begun. begun.walk.limit ≡ self.now.limit) }
+        ensures letters { IfOk result (λ begun. begun.walk.steps.letters ≡ length (letters_of self.now)) }
+        ensures pairs { IfOk result (λ begun. rest_after (scope_in self.now) (option_map (pair_in (letters_of self.now)) after) ≡ pairs_at (letters_of self.now) (pairs_of (trail begun.walk))) }
+        ensures within { IfOk result (λ begun. AllByRecursion (λ p. IsPair (length (letters_of self.now)) p) (pairs_of (trail begun.walk))) }
+        ensures live { IfOk result (λ begun. begun.live ≡ length (live_states (scope_in self.now))) }
+        ensures reads { IfOk result (λ begun. begun.walk.seen ≡ 0) }
         ensures tree { P.tree probe.new ≡ P.tree probe.old }
     {
         let steps = self.table(alloc, probe, self.base_dir())?;
         let calls = self.base_calls(probe).bits();
         let base = Some(State { dir: 0, used: 0 });
-        let Ok(walk) = Walk::begin(alloc, steps, calls, base, self.limit) else {
+        let Ok(walk) = walk_after(alloc, steps, calls, base, self.limit, after) else {
             return Err(OutOfMemory);
         };
         let Ok(live) = walk.live.count(alloc, &walk.steps, base, self.limit) else {
             return Err(OutOfMemory);
         };
         Ok(Begun { walk, live })
+    }
+
+    /// The same where nothing is allowed: no pair is ahead, and no state is live.
+    fn begun_closed(&self, alloc: Global) -> Result<Begun, OutOfMemory>
+        requires sound { IsSound self.now }
+        requires letters { AreSound self.now.limit self.now.letters.items }
+        requires closed { is_open (scope_in self.now) ≡ false }
+        ensures ready { IfOk result (λ begun. IsReady begun.walk) }
+        ensures limit { IfOk result (λ begun. begun.walk.limit ≡ self.now.limit) }
+        ensures letters { IfOk result (λ begun. begun.walk.steps.letters ≡ length (letters_of self.now)) }
+        ensures pairs { IfOk result (λ begun. (after : Option Pair) → rest_after (scope_in self.now) after ≡ pairs_at (letters_of self.now) (pairs_of (trail begun.walk))) }
+        ensures within { IfOk result (λ begun. AllByRecursion (λ p. IsPair (length (letters_of self.now)) p) (pairs_of (trail begun.walk))) }
+        ensures live { IfOk result (λ begun. begun.live ≡ length (live_states (scope_in self.now))) }
+        ensures reads { IfOk result (λ begun. begun.walk.seen ≡ 0) }
+    {
+        let steps = Steps {
+            letters: self.letters.len(),
+            rows: Vec::new(alloc),
+        };
+        let Ok(walk) = Walk::begin(alloc, steps, 0, None, self.limit) else {
+            return Err(OutOfMemory);
+        };
+        Ok(Begun { walk, live: 0 })
     }
 
     /// The calls that are allowed on the base itself.
@@ -74,4 +135,40 @@ impl Terms {
         });
         self.calls_on(probe, &found)
     }
+}
+
+/// A walk over a table with all pairs ahead, or with those that come after one. The error is that a
+/// growth was refused.
+fn walk_after(
+    alloc: Global,
+    steps: Steps,
+    calls: u16,
+    base: Option<State>,
+    limit: usize,
+    after: Option<Resumption>,
+) -> Result<Walk, AllocError>
+    requires table { IsTable steps }
+    requires limit { limit ≤ most_letters }
+    requires fits { suc limit * length steps.rows.items < 2 ^ 64 }
+    requires calls { calls < 2 ^ call_count }
+    requires base { IfSome base (λ s. IsState steps s) }
+    requires word { IfSome after (λ r. AllByRecursion (λ letter. letter < steps.letters) r.word.items) }
+    ensures ready { IfOk result (λ walk. IsReady walk) }
+    ensures of { IfOk result (λ walk. (walk.steps ≡ steps) × (walk.limit ≡ limit)) }
+    ensures reads { IfOk result (λ walk. walk.seen ≡ 0) }
+    ensures left { IfOk result (λ walk. pairs_of (trail walk) ≡ pairs_after after (reach (graph_of steps) limit calls base)) }
+{
+    let Some(after) = after else {
+        return Walk::begin(alloc, steps, calls, base, limit);
+    };
+    let call = after.call.number() - 1;
+    Walk::resume(
+        alloc,
+        steps,
+        calls,
+        base,
+        limit,
+        after.word.as_slice(),
+        call,
+    )
 }

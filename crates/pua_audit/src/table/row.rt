@@ -34,7 +34,6 @@ impl Terms {
         requires sound { IsSound self.now }
         requires living { IsTrue (is_dir self.now.seen.tree dir) }
         requires dirs { AreLiving self.now.seen.tree dirs.old }
-        requires few { length self.now.letters.items < 2 ^ 32 }
         ensures row { IfOk result (λ row. IsRow (judge_in self.now) (letters_of self.now) dirs.new dir (length self.now.letters.items) row.missing row.entries.items) }
         ensures grown { IfOk result (λ _. IsGrown dirs.old dirs.new) }
         ensures living { IfOk result (λ _. AreLiving self.now.seen.tree dirs.new) }
@@ -45,7 +44,7 @@ impl Terms {
         let mut entries = Vec::new(alloc);
         for letter in 0..self.letters.len() {
             let found = self.letter(probe, dir, letter);
-            found.put(letter as u32, missing, dirs, &mut entries)?;
+            found.put(letter, missing, dirs, &mut entries)?;
         }
         Ok(Row {
             entries,
@@ -85,7 +84,7 @@ impl Letter {
     /// that a growth was refused.
     fn put(
         &self,
-        letter: u32,
+        letter: usize,
         missing: Calls,
         dirs: &mut Directories,
         entries: &mut Vec<Entry>,

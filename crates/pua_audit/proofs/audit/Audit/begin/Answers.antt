@@ -1,4 +1,4 @@
-use Rattle.std.proofs.Common.{◌≡◌, refl, rules, ℕ, List, [], sym, ap, ◌∙◌, map}
+use Rattle.std.proofs.Common.{◌≡◌, refl, rules, ℕ, List, [], sym, ap, ◌∙◌, map, length}
 use Rattle.std.specs.Prelude.{Result, Ok, Err, option_map}
 use Rattle.pua_tree.specs.Tree.{Tree}
 use Rattle.pua_path.specs.declared.found.Part.{Part}
@@ -7,6 +7,7 @@ use Rattle.pua_policy.specs.History.{StandsFor}
 use Rattle.pua_audit.specs.Past.{history_of}
 use Rattle.pua_audit.specs.Reach.{Scope, rest_after}
 use Rattle.pua_audit.specs.Begin.{Beginning}
+use Rattle.pua_audit.specs.Live.{live_states}
 use Rattle.pua_audit.specs.Alphabets.{AreParts}
 use Rattle.pua_audit.specs.Plain.{is_plain_alphabet}
 use Rattle.pua_audit.specs.Ready.{part_bytes, letters_of, scope_in}
@@ -14,7 +15,7 @@ use Rattle.pua_audit.specs.Starting.{pair_in, scope_with, beginning_with}
 use Rattle.pua_audit.specs.declared.fault.AuditFault.{AuditFault}
 use Rattle.pua_audit.specs.declared.terms.Terms.{Terms}
 use Rattle.pua_audit.proofs.PlainPaths.{marked}
-use Rattle.pua_audit.proofs.Pasts.{stands_for_past, rest_by_process}
+use Rattle.pua_audit.proofs.Pasts.{stands_for_past, rest_by_process, live_by_process}
 use Rattle.pua_audit.proofs.audit.Audit.begin.Goals as goal
 
 pub new-requires : goal.new-requires
@@ -50,7 +51,7 @@ returns-clause-begun g c = λ h stands.
 pub invariant_of-result : goal.invariant_of-result
 invariant_of-result g c = (
   c.in-Ok-begin.ensures.ready,
-  marked c.are_plain-plain.result c.in-Ok-begin.walk c.in-Ok.terms _ (c.are_plain-plain.ensures ∙ ap (λ (ls : List Part). is_plain_alphabet (map part_bytes ls)) c.as_slice.ensures.value)
+  marked c.are_plain-plain.result c.in-Ok-begin.pairs c.in-Ok.terms _ (c.are_plain-plain.ensures ∙ ap (λ (ls : List Part). is_plain_alphabet (map part_bytes ls)) c.as_slice.ensures.value)
       c.in-Ok-begin.ensures.terms c.in-Ok-begin.ensures.left,
 )
 
@@ -63,3 +64,21 @@ returns-clause-letters g c = λ h b is.
     ap (λ (u : Terms). letters_of u) c.in-Ok-begin.ensures.terms
     ∙ ap (λ (v : List Part). map part_bytes v) (ap (λ v. v.items) c.in-Ok.ensures.letters.1)
     ∙ ap alphabet_in (sym (c.in_ok-letters.ensures.begun standard_table h) ∙ is)
+
+abbrev live_in : Result Beginning AuditFault → ℕ
+live_in (Ok b) = length (live_states b.scope)
+live_in (Err fault) = 0
+
+pub returns-clause-live : goal.returns-clause-live
+returns-clause-live g c = λ h stands b is.
+    let p = c.args.process.now in
+    let t : Tree = g.P.Probe.tree c.args.probe.now in
+    let base = c.args.base in
+    let limit = c.args.limit in
+    let letters : List Part = c.in_ok-letters.field-0.letters.items in
+    let past = stands_for_past p c.known.ensures.history c.known.ensures.stands in
+    c.in-Ok-begin.ensures.live
+    ∙ ap (λ (s : Scope). length (live_states s)) c.in-Ok.ensures.scope
+    ∙ ap (λ (u : Tree). length (live_states (scope_with u standard_table (history_of p) base limit letters))) c.in_ok-letters.ensures.tree
+    ∙ ap length (live_by_process t standard_table base (map part_bytes letters) limit p (history_of p) h past stands)
+    ∙ ap live_in (sym (c.in_ok-letters.ensures.begun standard_table h) ∙ is)

@@ -39,6 +39,6 @@ returns-clause-table g c =
     let t : Steps = record { letters = c.len-2.result; rows = l.rows } in
     let whole : length l.rows.items ≡ length l.dirs = omega (arith, c.in_default.ensures.none, c.len.ensures, l.invariant.within) in
     let many : c.len-2.result ≡ length (letters_of a) = omega (arith, c.len-2.ensures, length-map a.letters.items part_bytes) in
-    let few : length (letters_of a) < 4294967296 = omega (arith, c.requires.few, length-map a.letters.items part_bytes) in
+    let few : length (letters_of a) < 18446744073709551616 = omega (arith, many, c.len-2.type_inv) in
     let numbers : AreNumbers l.dirs = subst AreNumbers c.dirs-in-loop-dir.view_is c.dirs-in-loop-dir.invariant in
     (l.dirs, (table_made (judge_in a) (letters_of a) l.dirs t many few whole l.invariant.rows, numbers_apart l.dirs numbers, l.invariant.some, l.invariant.first))

@@ -1,0 +1,19 @@
+use Rattle.std.proofs.Common.{arith}
+use Rattle.pua_audit.specs.Ready.{letters_of}
+use Rattle.pua_audit.proofs.Coming.{along_none}
+use Rattle.pua_audit.proofs.pairs.Pairs.begin.Goals as goal
+
+pub returns-clause-ready : goal.returns-clause-ready
+returns-clause-ready g c =
+    let w = c.in_ok-walk.field-0.walk in
+    let got = c.in_ok-walk.ensures in
+    record {
+      sound = c.requires.sound;
+      walk = got.ready;
+      limit = got.limit;
+      letters = got.letters;
+      pairs = got.within;
+      path = along_none (letters_of c.args.terms) w.word.items c.in-Ok.path c.in-Ok.ensures.path;
+      bytes = omega (arith, c.most_bytes.ensures, c.in-Ok.ensures.bytes);
+      starts = c.in-Ok.ensures.letters;
+    }

@@ -1,0 +1,110 @@
+//! The pairs of an audit, by a walk over its table of steps.
+
+ghost use Rattle.std.specs.Prelude.{◌≡◌, ◌≤◌, ◌<◌, ◌+◌, ◌*◌, length, suc, option_map, IfOk, IfSome, vec_capacity};
+ghost use Rattle.std.specs.List.{AllByRecursion};
+ghost use Rattle.pua_audit.specs.Begin.{longest};
+ghost use Rattle.pua_audit.specs.Coming.{AreReady, IsNextCall, call_at, to_come, word_in};
+ghost use Rattle.pua_audit.specs.Live.{live_states};
+ghost use Rattle.pua_audit.specs.Reach.{rest_after};
+ghost use Rattle.pua_audit.specs.Ready.{IsSound, letters_of, scope_in};
+ghost use Rattle.pua_audit.specs.Starting.{AreLetters, AreSound, pair_in};
+ghost use Rattle.pua_audit.specs.WordPaths.{IsPathAlong, IsPathOf};
+ghost use Rattle.pua_steps.specs.Limits.{call_count};
+
+use crate::path::WordPath;
+use crate::resume_text::Resumption;
+use crate::table::begun::Begun;
+use crate::terms::Terms;
+use pua_path::Probe;
+use pua_policy::Call;
+use pua_steps::Walk;
+use pua_tree::OutOfMemory;
+use std::alloc::Global;
+
+/// The pairs that are still to come, by a walk that asks the tree nothing. It takes no memory beyond
+/// what was reserved at its beginning.
+#[derive(Drop)]
+pub(crate) struct Pairs {
+    pub(crate) terms: Terms,
+    pub(crate) walk: Walk,
+    /// How many states are live.
+    pub(crate) live: usize,
+    /// The path of the walk's word, or of the letters at its front.
+    pub(crate) path: WordPath,
+}
+
+impl Pairs {
+    /// All pairs of the reach, or those that come after one. Where the process has ended, or its base
+    /// was removed, there is none. The error is that a growth was refused.
+    pub(crate) fn begin<'t, P: Probe<'t>>(
+        alloc: Global,
+        probe: &mut P,
+        terms: Terms,
+        after: Option<Resumption>,
+    ) -> Result<Pairs, OutOfMemory>
+        requires tree { P.tree probe.old ≡ terms.seen.tree }
+        requires sound { IsSound terms }
+        requires letters { AreSound terms.limit terms.letters.items }
+        requires word { IfSome after (λ r. AreLetters (letters_of terms) terms.limit r.word.items) }
+        ensures ready { IfOk result (λ pairs. AreReady pairs) }
+        ensures terms { IfOk result (λ pairs. pairs.terms ≡ terms) }
+        ensures left { IfOk result (λ pairs. to_come pairs ≡ rest_after (scope_in terms) (option_map (pair_in (letters_of terms)) after)) }
+        ensures live { IfOk result (λ pairs. pairs.live ≡ length (live_states (scope_in terms))) }
+        ensures reads { IfOk result (λ pairs. pairs.walk.seen ≡ 0) }
+        ensures tree { P.tree probe.new ≡ P.tree probe.old }
+    {
+        let Begun { walk, live } = terms.begun(alloc, probe, after)?;
+        let Ok(path) = WordPath::new(alloc, terms.limit, terms.most_bytes()) else {
+            return Err(OutOfMemory);
+        };
+        Ok(Pairs {
+            terms,
+            walk,
+            live,
+            path,
+        })
+    }
+
+    /// The call of the next line: the path is then that of the walk's word. None where no pair is left.
+    pub(crate) fn next_call(&mut self) -> Option<Call>
+        requires ready { AreReady self.old }
+        ensures ready { AreReady self.new }
+        ensures terms { self.new.terms ≡ self.old.terms }
+        ensures live { self.new.live ≡ self.old.live }
+        ensures next { IsNextCall self.old result self.new }
+        ensures reads { self.new.walk.seen ≤ self.old.walk.seen + 2 * (self.old.terms.limit * length (letters_of self.old.terms)) }
+    {
+        let next = self.walk.next_call();
+        self.path.keep(self.walk.unchanged());
+        let call = next?;
+        self.spell();
+        Some(call_at(call))
+    }
+
+    /// Puts those letters of the walk's word at the end of the path that it doesn't have yet.
+    fn spell(&mut self)
+        requires path { IsPathAlong (letters_of self.old.terms) self.old.walk.word.items self.old.path }
+        requires known { AllByRecursion (λ i. i < length self.old.terms.letters.items) self.old.walk.word.items }
+        requires within { length self.old.walk.word.items ≤ self.old.terms.limit }
+        requires bytes { self.old.terms.limit * suc (longest (letters_of self.old.terms)) ≤ vec_capacity self.old.path.bytes }
+        requires starts { self.old.terms.limit ≤ vec_capacity self.old.path.starts }
+        ensures kept { (self.new.terms ≡ self.old.terms) × (self.new.walk ≡ self.old.walk) × (self.new.live ≡ self.old.live) }
+        ensures path { IsPathOf (word_in self.new) self.new.path }
+        ensures whole { length self.new.path.starts.items ≡ length self.new.walk.word.items }
+        ensures bytes { self.old.terms.limit * suc (longest (letters_of self.old.terms)) ≤ vec_capacity self.new.path.bytes }
+        ensures starts { self.old.terms.limit ≤ vec_capacity self.new.path.starts }
+    {
+        while self.path.starts.len() < self.walk.word().len() {
+            let letter = self.walk.word()[self.path.starts.len()];
+            self.path.add(&self.terms.letters[letter]);
+        }
+    }
+}
+
+/// The call with this number, from 0 on.
+fn call_at(number: u8) -> Call
+    requires { number < call_count }
+    ensures { result ≡ call_at number }
+{
+    Call::ALL[usize::from(number)]
+}

@@ -1,0 +1,4 @@
+-- What crates above cite of the proofs of this one, beside the definitions and the laws.
+
+-- the pairs of a table are of its letters, and of calls that there are
+pub use Rattle.pua_steps.proofs.Within.{reach_is_within}
