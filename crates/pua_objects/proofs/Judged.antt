@@ -14,6 +14,7 @@ use Rattle.pua_path.specs.declared.found.Way.TheVariants.{Named, Dot, DotDot, To
 use Rattle.pua_path.specs.declared.found.Found.{Found}
 use Rattle.pua_path.specs.declared.found.Found.TheVariants.{Whole, Slot}
 use Rattle.pua_policy.specs.Calls.{CallTable, rule_of, last_of}
+use Rattle.pua_policy.specs.CallSets.{is_kept}
 use Rattle.pua_policy.specs.History.{History, kept, may_any}
 use Rattle.pua_policy.specs.Verdict.{IsMissing, object_fault, or_fault, cover, cover_fault, nearest, is_unveil, if_promised, allowed_unless, verdict, is_allowed, is_link}
 use Rattle.pua_policy.specs.declared.call.Call.{Call}
@@ -25,7 +26,7 @@ use Rattle.pua_policy.specs.declared.answer.Cover.TheVariants.{All}
 use Rattle.pua_policy.specs.declared.answer.Verdict.{Verdict}
 use Rattle.pua_policy.specs.declared.answer.Verdict.TheVariants.{Allowed}
 use Rattle.pua_policy.specs.declared.place.Place.TheVariants as place
-use Rattle.pua_objects.specs.Objects.{Subject, At, Others, own_way, way_of_spot, subject_of, cover_in, subject_verdict, is_kept, is_named_by}
+use Rattle.pua_objects.specs.Objects.{Subject, At, Others, own_way, way_of_spot, subject_of, cover_in, subject_verdict, is_named_by}
 
 -- nothing is allowed where there is a fault
 never : (m : May) (first : Option Errno) (errno : Errno) → if_promised m (allowed_unless (or_fault first (Some errno))) ≡ Allowed → ⊥

@@ -8,3 +8,15 @@ pub mod Descending
 pub mod Processes
 pub mod Rising
 pub mod Walking
+pub mod Gathered
+pub mod Distinct
+pub mod Entries
+pub mod Lined
+pub mod Ranges
+pub mod Framed
+pub mod Leaving
+pub mod Entering
+pub mod Own
+pub mod Listed
+pub mod Nodes
+pub mod Starting

@@ -10,7 +10,7 @@ use Rattle.pua_audit.specs.Reach.{Word}
 use Rattle.pua_objects.specs.Objects.{Item, At, items_at, items_below, items}
 use Rattle.pua_objects.specs.Walk.{Frame, items_in, to_come, frame_of, others_item, IsBelow, IsDeepEnough, StepsOfWalk, WalksObjects}
 
-reaches : (t : Tree) (k d : ℕ) → IsBelow t k d → Reaches t k d
+pub reaches : (t : Tree) (k d : ℕ) → IsBelow t k d → Reaches t k d
 reaches t zero d e = e
 reaches t (suc k) d e = (e.0, reaches t k (above t d) e.1)
 

@@ -141,7 +141,12 @@ found_fault t table h call object =
 abbrev pub verdict : Tree → CallTable → History → Call → Found → Verdict
 verdict t table h call object = if_promised (may_any h (rule_of table call).alternatives) (allowed_unless (found_fault t table h call object))
 
--- the same where the path may have failed
+-- the verdict on such an object wherever it stands, by what the veils leave of it
+abbrev pub covered_verdict : Tree → CallTable → History → Call → Cover → Object → Verdict
+covered_verdict t table h call left object =
+    if_promised (may_any h (rule_of table call).alternatives) (allowed_unless (or_fault (cover_fault left (rule_of table call).perms) (object_fault t call object)))
+
+-- the verdict where the path may have failed
 abbrev pub verdict_of : Tree → CallTable → History → Call → Result Found Errno → Verdict
 verdict_of t table h call (Ok object) = verdict t table h call object
 verdict_of t table h call (Err errno) = if_promised (may_any h (rule_of table call).alternatives) (Failed errno)

@@ -6,8 +6,7 @@ ghost use Rattle.pua_policy.specs.Calls.{standard_table};
 ghost use Rattle.pua_policy.specs.CallSets.{has};
 ghost use Rattle.pua_policy.specs.History.{History, StandsFor, may_any};
 ghost use Rattle.pua_policy.specs.Objects.{object_seen};
-ghost use Rattle.pua_policy.specs.Verdict.{FoundFits, FoundsFit, verdict, verdict_of, is_allowed, cover as cover_of, refusal_of, found_fault, cover_fault, object_fault, rmdir_fault, Object as Judged, object_of, object_of_kind, IsDir};
-ghost use Rattle.pua_path.specs.declared.found.Found as found;
+ghost use Rattle.pua_policy.specs.Verdict.{FoundFits, FoundsFit, verdict, verdict_of, covered_verdict, is_allowed, refusal_of, found_fault, cover_fault, object_fault, rmdir_fault, Object as Judged, object_of, object_of_kind, IsDir};
 ghost use Rattle.pua_path.specs.declared.found.Way as way;
 
 use crate::answer::{Cover, May, Refusal, Verdict};
@@ -111,11 +110,11 @@ pub fn object_verdict<'t, P: Probe<'t>>(
 }
 
 /// The calls that are allowed on an object, by what the veils of the process leave of it: those on
-/// which the verdict is `Verdict::Allowed`, wherever the object stands that has this cover. The tree
-/// is not asked. `Process::cover` tells the cover, and `object` what the object is.
+/// which the verdict is `Verdict::Allowed`, wherever such an object stands that has this cover. The
+/// tree is not asked. `Process::cover` tells the cover, and `object` what the object is.
 pub fn allowed(process: &Process, cover: Cover, object: Object) -> Calls
-    ensures { (t : Tree) (h : History) (found : found.Found) → StandsFor process.now h → cover ≡ cover_of t h found → object ≡ object_seen t (object_of t found) →
-        (call : Call) → has result call ≡ is_allowed (verdict t standard_table h call found) }
+    ensures { (t : Tree) (h : History) (judged : Judged) → StandsFor process.now h → object ≡ object_seen t judged →
+        (call : Call) → has result call ≡ is_allowed (covered_verdict t standard_table h call cover judged) }
 {
     let mut calls = Calls::NONE;
     for call in Call::ALL {
@@ -140,8 +139,8 @@ pub fn allowed_on<'t, P: Probe<'t>>(probe: &mut P, process: &Process, found: &Fo
 
 /// Whether a call is allowed on an object that has this cover.
 fn allows(process: &Process, call: Call, cover: &Cover, object: Object) -> bool
-    ensures { (t : Tree) (h : History) (found : found.Found) → StandsFor process.now h → cover.now ≡ cover_of t h found → object ≡ object_seen t (object_of t found) →
-        result ≡ is_allowed (verdict t standard_table h call found) }
+    ensures { (t : Tree) (h : History) (judged : Judged) → StandsFor process.now h → object ≡ object_seen t judged →
+        result ≡ is_allowed (covered_verdict t standard_table h call cover.now judged) }
 {
     let need = needs::need(call);
     promised(process, need.promises).is_ok()

@@ -27,6 +27,8 @@ mod listings;
 #[cfg(test)]
 mod names;
 #[cfg(test)]
+mod objects;
+#[cfg(test)]
 mod paths;
 #[cfg(test)]
 mod probes;

@@ -34,10 +34,10 @@ same_key a b = same_from_decides {P = a ≡ b} _ _ (
 )
     (λ e. exact_spots a b ((Equal-is _).0 e), λ s. subst (λ c. is_eq (spot_cmp a c) ≡ true) s (ap is_eq (tied_itself spots_total a)))
 
-same_tie : (a b : tree.Spot) → eq_by_cmp spot_cmp a b ≡ spot_ghosts.eq (key_at a) (key_at b)
+pub same_tie : (a b : tree.Spot) → eq_by_cmp spot_cmp a b ≡ spot_ghosts.eq (key_at a) (key_at b)
 same_tie a b = sym (same_key a b)
 
-turned_key : (a b : tree.Spot) → is_eq (spot_cmp a b) ≡ is_eq (spot_cmp b a)
+pub turned_key : (a b : tree.Spot) → is_eq (spot_cmp a b) ≡ is_eq (spot_cmp b a)
 turned_key a b = same_from_decides {P = a ≡ b} _ _
     (λ e. exact_spots a b ((Equal-is _).0 e), λ s. subst (λ c. is_eq (spot_cmp a c) ≡ true) s (ap is_eq (tied_itself spots_total a)))
     (λ e. sym (exact_spots b a ((Equal-is _).0 e)), λ s. subst (λ c. is_eq (spot_cmp c a) ≡ true) s (ap is_eq (tied_itself spots_total a)))

@@ -31,4 +31,4 @@ pub use name::Name;
 pub use node::{Kind, NodeId};
 pub use slab_tree::SlabTree;
 pub use spelling::{SpelledByte, byte_spelling, unspelled};
-pub use tree::{FileTree, MOST_NAMES, NUMBER_END};
+pub use tree::{FileTree, LentRow, MOST_NAMES, NUMBER_END};

@@ -5,7 +5,7 @@ use crate::gathered::{Entry, Gathered, Made};
 use crate::list_edits::{copied_target, push_made, put_row, reserve_one, take_row, take_unnamed};
 use crate::name::Name;
 use crate::node::{Kind, NodeId};
-use crate::tree::{FileTree, MOST_NAMES, NUMBER_END};
+use crate::tree::{FileTree, LentRow, MOST_NAMES, NUMBER_END};
 use std::alloc::{AllocError, Global};
 use std::cmp::Ordering;
 use std::collections::BTreeSet;
@@ -56,6 +56,7 @@ ghost use Rattle.pua_tree.specs.Names.{is_name};
 ghost use Rattle.pua_tree.specs.Tree as tree;
 ghost use Rattle.pua_tree.specs.Tree.{WellFormed, spot_cmp, is_dir, look, climb, distinct_names};
 ghost use Rattle.pua_tree.specs.Edits.{add, tie, cut, shift, is_full_dir, has_name_room, has_room, with_row, with_new, without_row, without_unnamed, moved};
+ghost use Rattle.pua_tree.specs.LentRows.{lent_entry};
 ghost use Rattle.pua_tree.specs.ListTree.{row_entry, node_entry, made_of, held_tree};
 
 impl FileTree for ListTree {
@@ -105,6 +106,10 @@ impl FileTree for ListTree {
     #[tactic(auto, using(crate::proofs::Rows::entry_names))]
     fn names(&self, alloc: Global) -> Result<Vec<Name>, TreeFault> {
         row_names(alloc, &self.rows).map_err(|_| TreeFault::OutOfMemory)
+    }
+
+    fn rows(&self, alloc: Global) -> Result<Vec<LentRow<'_>>, OutOfMemory> {
+        lent_rows(alloc, &self.rows).map_err(|_| OutOfMemory)
     }
 
     fn add(
@@ -354,6 +359,17 @@ impl ListTree {
 }
 
 impl Row {
+    /// The row as a tree lends it.
+    fn lent(&self) -> LentRow<'_>
+        ensures { lent_entry result ≡ row_entry self.now }
+    {
+        LentRow {
+            dir: self.dir,
+            name: &self.name,
+            node: self.node,
+        }
+    }
+
     /// How its spot compares with this one.
     fn cmp_spot(&self, dir: NodeId, name: &Name) -> Ordering
         ensures { result ≡ spot_cmp (self.now.dir, self.now.name) (dir, name.now) }
@@ -406,6 +422,13 @@ fn row_names(alloc: Global, rows: &[Row]) -> Result<Vec<Name>, AllocError>
 {
     let names = name_set(alloc, rows)?;
     names.into_iter().collect(alloc)
+}
+
+/// The rows as a tree lends them.
+fn lent_rows(alloc: Global, rows: &[Row]) -> Result<Vec<LentRow<'_>>, AllocError>
+    ensures { IfOk result (λ lent. map lent_entry lent.items ≡ map row_entry rows.now) }
+{
+    rows.iter().map(Row::lent).collect(alloc)
 }
 
 /// The names in the rows, as a set.

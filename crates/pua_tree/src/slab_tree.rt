@@ -6,7 +6,7 @@ use crate::list_edits::copied_target;
 use crate::name::Name;
 use crate::node::{Kind, NodeId};
 use crate::slots::Slots;
-use crate::tree::{FileTree, MOST_NAMES, NUMBER_END};
+use crate::tree::{FileTree, LentRow, MOST_NAMES, NUMBER_END};
 use std::alloc::Global;
 use std::marker::Model;
 
@@ -72,6 +72,10 @@ impl FileTree for SlabTree {
 
     fn names(&self, alloc: Global) -> Result<Vec<Name>, TreeFault> {
         self.slots.names(alloc).map_err(|_| TreeFault::OutOfMemory)
+    }
+
+    fn rows(&self, alloc: Global) -> Result<Vec<LentRow<'_>>, OutOfMemory> {
+        self.slots.lent_rows(alloc).map_err(|_| OutOfMemory)
     }
 
     fn add(

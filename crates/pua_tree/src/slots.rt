@@ -4,6 +4,7 @@ use crate::gathered::Made;
 use crate::name::Name;
 use crate::node::{Kind, NodeId};
 use crate::spot::Spot;
+use crate::tree::LentRow;
 use indexmap::IndexMap;
 use slab::Slab;
 use std::alloc::{AllocError, Global};
@@ -44,6 +45,7 @@ ghost use Rattle.pua_tree.specs.declared.slots.Node.{Node};
 ghost use Rattle.pua_tree.specs.Tree.{spot_cmp, empty_tree, distinct_names};
 ghost use Rattle.pua_tree.specs.Edits.{without_unnamed};
 ghost use Rattle.pua_tree.specs.Reading.{said_node};
+ghost use Rattle.pua_tree.specs.LentRows.{lent_entry};
 ghost use Rattle.pua_tree.specs.Slots.{held_rows, held_nodes, held_in_slots, names_of, IsNew, MayStand, with_made, row_at, slot_of, node_in, IsFiled, IsKept, Restands, standing_set, row_gained, row_lost, name_gained, name_lost};
 
 impl Slots {
@@ -377,5 +379,23 @@ impl Slots {
             names.insert(spot.name)?;
         }
         Ok(names)
+    }
+
+    /// The rows as a tree lends them, in the order of their spots. The only error is that memory is
+    /// refused.
+    pub(crate) fn lent_rows(&self, alloc: Global) -> Result<Vec<LentRow<'_>>, AllocError>
+        ensures { IfOk result (λ rows. map lent_entry rows.items ≡ held_rows self.now) }
+    {
+        let mut rows: Vec<LentRow<'_>> = self
+            .rows
+            .iter()
+            .map(|(spot, node)| LentRow {
+                dir: spot.dir,
+                name: &spot.name,
+                node: *node,
+            })
+            .collect(alloc)?;
+        rows.sort_unstable();
+        Ok(rows)
     }
 }

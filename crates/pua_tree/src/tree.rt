@@ -1,6 +1,6 @@
 //! What a tree of files answers, however it is kept.
 
-use crate::fault::TreeFault;
+use crate::fault::{OutOfMemory, TreeFault};
 use crate::name::Name;
 use crate::node::{Kind, NodeId};
 use std::alloc::Global;
@@ -11,10 +11,19 @@ pub const MOST_NAMES: usize = 65_535;
 /// The number that no node is given: those of a tree's nodes are below it.
 pub const NUMBER_END: u32 = 4_294_967_295;
 
+/// A row that a tree lends: a node that has a name in a directory.
+#[derive(Clone, Copy, PartialEq, Eq, PartialOrd, Ord)]
+pub struct LentRow<'t> {
+    pub dir: NodeId,
+    pub name: &'t Name,
+    pub node: NodeId,
+}
+
 /// A tree of files: rows that give a node a name in a directory, the living nodes with their kinds
 /// and targets, and a number above each of them.
 pub trait FileTree {
-    ghost use Rattle.std.specs.Prelude.{◌≡◌, Ok, Err, IsTrue, IfOk, IfErr, OnErr, MatchResult, option_copied};
+    ghost use Rattle.std.specs.Prelude.{◌≡◌, Ok, Err, IsTrue, IfOk, IfErr, OnErr, MatchResult, option_copied, map};
+    ghost use Rattle.pua_tree.specs.LentRows.{lent_entry};
     ghost use Rattle.pua_tree.specs.Tree.{Tree, WellFormed, kind_at, look, parent, target_at, target_fits, is_empty, names};
     ghost use Rattle.pua_tree.specs.Edits.{Refuses, add, tie, cut, shift};
 
@@ -51,6 +60,11 @@ pub trait FileTree {
     fn names(&self, alloc: Global) -> Result<Vec<Name>, TreeFault>
         ensures names { IfOk result (λ all. all.items ≡ names (content self.now)) }
         ensures memory { IfErr result (λ fault. fault ≡ TreeFault.OutOfMemory) };
+
+    /// Lends all rows: each once, by directory and then by the bytes of the name. The only error is
+    /// that the memory for the list is refused.
+    fn rows(&self, alloc: Global) -> Result<Vec<LentRow<'_>>, OutOfMemory>
+        ensures { IfOk result (λ rows. map lent_entry rows.items ≡ (content self.now).rows) };
 
     /// Adds a node under this name, and answers its number, which is the next one. A link comes with
     /// its target, and no other kind with any. The faults, of which the first that holds is answered:

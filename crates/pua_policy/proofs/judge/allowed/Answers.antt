@@ -1,6 +1,6 @@
 use Rattle.std.proofs.Common.{◌≡◌, ℕ, Bool, get_or, sym, ◌∙◌}
 use Rattle.pua_policy.specs.Calls.{calls, standard_table}
-use Rattle.pua_policy.specs.Verdict.{verdict, is_allowed}
+use Rattle.pua_policy.specs.Verdict.{covered_verdict, is_allowed}
 use Rattle.pua_policy.specs.declared.call.Call.{Call}
 use Rattle.pua_policy.specs.declared.call.Call.TheVariants.{Stat}
 use Rattle.pua_policy.proofs.CallBits.{bit_of_call_at, Decides, decides_none, decides_taken, decides_left, decides_all}
@@ -8,17 +8,17 @@ use Rattle.pua_policy.proofs.judge.allowed.Goals.{then-allows, else-allows}
 use Rattle.pua_policy.proofs.judge.allowed.Goals as goal
 
 pub loop-call-init : goal.loop-call-init
-loop-call-init c = record { decided = λ t h found stands covered seen. decides_none (λ call. is_allowed (verdict t standard_table h call found)) }
+loop-call-init c = record { decided = λ t h judged stands seen. decides_none (λ call. is_allowed (covered_verdict t standard_table h call c.args.cover judged)) }
 
 pub loop-call-preserved : goal.loop-call-preserved
 loop-call-preserved c = record {
-  decided = λ t h found stands covered seen.
-      let f : Call → Bool = λ call. is_allowed (verdict t standard_table h call found) in
+  decided = λ t h judged stands seen.
+      let f : Call → Bool = λ call. is_allowed (covered_verdict t standard_table h call c.args.cover judged) in
       let i : ℕ = c.loop-call.call-index in
       let call : Call = get_or calls i Stat in
       let at = bit_of_call_at i c.loop-call-test.true in
-      let decided : Decides f c.loop-call.calls i = c.loop-call.invariant.decided t h found stands covered seen in
-      let own : f call ≡ c.allows.result = sym (c.allows.ensures t h found stands covered seen) in
+      let decided : Decides f c.loop-call.calls i = c.loop-call.invariant.decided t h judged stands seen in
+      let own : f call ≡ c.allows.result = sym (c.allows.ensures t h judged stands seen) in
       elim c.if-allows.branch [
         | then-allows w ↦
             let with : c.if-allows.calls ≡ w.with-calls.result = w.calls-is in
@@ -28,5 +28,5 @@ loop-call-preserved c = record {
 }
 
 pub returns : goal.returns
-returns c = λ t h found stands covered seen.
-    decides_all (λ call. is_allowed (verdict t standard_table h call found)) c.loop-call.calls c.loop-call.call-index (c.loop-call.invariant.decided t h found stands covered seen) c.loop-call-test.false
+returns c = λ t h judged stands seen.
+    decides_all (λ call. is_allowed (covered_verdict t standard_table h call c.args.cover judged)) c.loop-call.calls c.loop-call.call-index (c.loop-call.invariant.decided t h judged stands seen) c.loop-call-test.false

@@ -1,0 +1,195 @@
+-- What is to come after a name is taken.
+use Rattle.std.proofs.Common.{◌≡◌, ◌≢◌, ◌<◌, ℕ, suc, ◌+◌, ◌-◌, List, [], ◌∷◌, ◌++◌, true, false, length, take, drop, refl, sym, ap, subst, ◌∙◌, arith, vec_capacity}
+use Rattle.std.specs.Prelude.{reverse, Option, Some, None}
+use Rattle.std.proofs.lemmas.List.{length-map, length-reverse, length_push, take_all}
+use Rattle.pua_tree.specs.Tree.{Tree, Spot, is_dir, look}
+use Rattle.pua_tree.proofs.ForCallers.{Sound, sound_from, row_says, above_is, climb_ends}
+use Rattle.pua_path.specs.declared.found.Way.TheVariants.{Named}
+use Rattle.pua_path.specs.declared.found.Found.TheVariants.{Whole, Slot}
+use Rattle.pua_policy.specs.History.{History, ProcessState, StandsFor, kept}
+use Rattle.pua_policy.specs.declared.place.Place.{Place}
+use Rattle.pua_policy.specs.declared.place.Place.TheVariants as place
+use Rattle.pua_audit.specs.Reach.{Word}
+use Rattle.pua_objects.specs.Objects.{Item, At, cover_in, entries}
+use Rattle.pua_objects.specs.Laws.{own_or}
+use Rattle.pua_objects.specs.Lines.{IsLineOn}
+use Rattle.pua_objects.specs.Spots.{names_at, AreSpots}
+use Rattle.pua_objects.specs.Walk.{Frame, to_come, frame_of, others_item, IsBelow, IsDeepEnough, StepsOfWalk}
+use Rattle.pua_objects.specs.Ready.{spots_in, word_in, dirs_in, frame_at, frames_at, names_left, left_in, own_items, IsOpen, AreOpen, IsReady, IsTaken, IsEntered, IsGiven, entered}
+use Rattle.pua_objects.specs.declared.line.ObjectLine.{ObjectLine}
+use Rattle.pua_objects.specs.declared.open_dir.OpenDir.{OpenDir}
+use Rattle.pua_objects.specs.declared.open_dir.Coming.TheVariants.{Names, Others}
+use Rattle.pua_objects.specs.declared.walk.Walk.{Walk}
+use Rattle.pua_objects.proofs.Descending.{covers_descend}
+use Rattle.pua_objects.proofs.Framed.{names_no_root, others_no_root, reverse_more, frames_longer}
+use Rattle.pua_objects.proofs.Walking.{reaches, walks_objects}
+
+-- where names alone are to come
+pub only_names : (t : Tree) (vs : List (Place × ℕ)) (a : Walk) → a.coming ≡ Names → left_in t vs a ≡ names_left t vs a
+only_names t vs a names = ap (λ k. own_items k (word_in a) (dirs_in a) ++ names_left t vs a) names
+
+module _ (t : Tree) (p : ProcessState) (a b : Walk) (dir : ℕ) (name : List ℕ) (going : a.coming ≡ Names) (ready : IsReady t p b) (names : b.coming ≡ Names) (taken : IsTaken t p.veils a b dir name) where
+  abbrev n : ℕ
+  n = length taken.around
+
+  abbrev spots : List Spot
+  spots = spots_in b
+
+  abbrev word : Word
+  word = word_in b
+
+  abbrev inner : OpenDir
+  inner = entered dir (taken.next + 1) taken.cover
+
+  abbrev longer : Word
+  longer = word ++ name ∷ []
+
+  abbrev still : List Item
+  still = to_come t p.veils (frames_at t spots word (inner ∷ taken.around))
+
+  abbrev before : Frame
+  before = frame_at t spots word (entered dir taken.next taken.cover) n
+
+  opened : IsOpen t p spots inner n × AreOpen t p spots taken.around
+  opened = subst (AreOpen t p spots) taken.dirs ready.entered
+
+  pub covered : (h : History) → StandsFor p h → inner.cover ≡ cover_in t h dir
+  covered h stands = opened.0.cover h stands
+
+  few : n < length t.nodes
+  few = climb_ends t (sound_from t ready.tree) dir opened.0.living n (reaches t n dir opened.0.reaches)
+
+  dirs_long : length b.dirs.items ≡ suc n
+  dirs_long = sym (length-reverse b.dirs.items) ∙ ap length taken.dirs
+
+  pub inside : 0 < length b.dirs.items
+  inside = omega (arith, dirs_long)
+
+  pub word_room : length b.word.items < vec_capacity b.word
+  word_room = omega (arith, few, taken.word, ready.word_room)
+
+  word_long : length word ≡ n
+  word_long = length-map b.word.items (λ name. name.now) ∙ taken.word
+
+  word_here : take n word ≡ word
+  word_here = ap (λ m. take m word) (sym word_long) ∙ take_all (length word) word (omega arith)
+
+  steps : StepsOfWalk t p.veils
+  steps = walks_objects t p.veils ready.tree
+
+  here : left_in t p.veils a ≡ to_come t p.veils (before ∷ frames_at t spots word taken.around)
+  here = only_names t p.veils a going ∙ taken.left
+
+  -- no directory stands at the name
+  stands_at : (node : Option ℕ) → look t dir name ≡ node → ((x : ℕ) → node ≡ Some x → is_dir t x ≡ false) → left_in t p.veils a ≡ record { word = longer; subject = At (Slot dir name node) } ∷ still
+  stands_at None row other = here ∙ steps.missing before (frames_at t spots word taken.around) name _ taken.names row ∙ ap (λ w. record { word = w ++ name ∷ []; subject = At (Slot dir name None) } ∷ still) word_here
+  stands_at (Some x) row other = here ∙ steps.plain before (frames_at t spots word taken.around) name _ x taken.names row (other x refl) ∙ ap (λ w. record { word = w ++ name ∷ []; subject = At (Slot dir name (Some x)) } ∷ still) word_here
+
+  module _ (c : Walk) (spots_same : spots_in c ≡ spots) (word_more : word_in c ≡ longer) (word_cap : vec_capacity c.word ≡ vec_capacity b.word) where
+    long_now : length c.word.items ≡ suc n
+    long_now = sym (length-map c.word.items (λ name. name.now)) ∙ ap length word_more ∙ omega (arith, length_push word name, word_long)
+
+    still_from : still ≡ to_come t p.veils (frames_at t spots longer (inner ∷ taken.around))
+    still_from = ap (to_come t p.veils) (sym (frames_longer t spots word name (inner ∷ taken.around) (omega (arith, word_long))))
+
+    module _ (dirs_same : c.dirs ≡ b.dirs) (coming : c.coming ≡ b.coming) where
+      pub stood_ready : IsReady t p c
+      stood_ready = record {
+        tree = ready.tree;
+        spots = subst (AreSpots t p.veils) (sym spots_same) ready.spots;
+        entered = subst (λ (s : List Spot). AreOpen t p s (dirs_in c)) (sym spots_same) (subst (λ v. AreOpen t p spots (reverse v.items)) (sym dirs_same) ready.entered);
+        dirs_room = omega (arith, ap (λ v. vec_capacity v) dirs_same, ready.dirs_room);
+        word_room = omega (arith, word_cap, ready.word_room);
+        long = omega (arith, ap (λ v. length v.items) dirs_same, dirs_long, long_now);
+        exact = λ other. absurd (other (coming ∙ names));
+        start = λ root. absurd (names_no_root c.coming (coming ∙ names) root);
+      }
+
+      pub stood : (node : Option ℕ) (line : ObjectLine) → look t dir name ≡ node → ((x : ℕ) → node ≡ Some x → is_dir t x ≡ false) → ((h : History) → StandsFor p h → IsLineOn t h (At (Slot dir name node)) line) → IsGiven t p a c line
+      stood node line row other on = record {
+        subject = At (Slot dir name node);
+        left =
+            stands_at node row other
+            ∙ (λ i. record { word = sym word_more i; subject = At (Slot dir name node) } ∷ still_from i)
+            ∙ ap (λ items. record { word = word_in c; subject = At (Slot dir name node) } ∷ items)
+            ((λ i. to_come t p.veils (frames_at t (sym spots_same i) (sym word_more i) ((sym taken.dirs ∙ ap (λ v. reverse v.items) (sym dirs_same)) i))) ∙ sym (only_names t p.veils c (coming ∙ names)));
+        line = on;
+      }
+
+  -- a directory stands at the name
+  module _ (x : ℕ) (row : look t dir name ≡ Some x) (living : is_dir t x ≡ true) where
+    sound : Sound t
+    sound = sound_from t ready.tree
+
+    other : x ≢ 0
+    other = (row_says t sound (dir, name) x row).3
+
+    below : IsBelow t (suc n) x
+    below = (other, subst (IsBelow t n) (sym (above_is t x (dir, name) other (sound.once x living other) row)) opened.0.reaches)
+
+    few_more : suc n < length t.nodes
+    few_more = climb_ends t sound x living (suc n) (reaches t (suc n) x below)
+
+    pub dirs_room : length b.dirs.items < vec_capacity b.dirs
+    dirs_room = omega (arith, few_more, dirs_long, ready.dirs_room)
+
+    deep : IsDeepEnough t before
+    deep = record { living = opened.0.living; steps = n; reaches = opened.0.reaches; deep = omega (arith, few) }
+
+    module _ (c : Walk) (spots_same : spots_in c ≡ spots) (word_more : word_in c ≡ longer) (word_cap : vec_capacity c.word ≡ vec_capacity b.word) (dirs_cap : vec_capacity c.dirs ≡ vec_capacity b.dirs) (coming : c.coming ≡ Others) (e : IsEntered p b c x) where
+      abbrev new : OpenDir
+      new = entered x e.next e.cover
+
+      dirs_now : dirs_in c ≡ new ∷ inner ∷ taken.around
+      dirs_now = ap reverse e.dirs ∙ reverse_more b.dirs.items new ∙ ap (λ ds. new ∷ ds) taken.dirs
+
+      open_new : IsOpen t p spots new (suc n)
+      open_new = record {
+        living = living;
+        reaches = below;
+        cover = λ h stands. e.covered h inner taken.around stands taken.dirs ∙ ap (own_or (kept h (place.Dir x))) (covered h stands) ∙ sym ((covers_descend t h ready.tree).below dir name x row living);
+        passed = e.passed ready.spots.rise;
+      }
+
+      pub entered_ready : IsReady t p c
+      entered_ready = record {
+        tree = ready.tree;
+        spots = subst (AreSpots t p.veils) (sym spots_same) ready.spots;
+        entered = subst (λ (s : List Spot). AreOpen t p s (dirs_in c)) (sym spots_same) (subst (AreOpen t p spots) (sym dirs_now) (open_new, opened));
+        dirs_room = omega (arith, dirs_cap, ready.dirs_room);
+        word_room = omega (arith, word_cap, ready.word_room);
+        long = omega (arith, long_dirs, long_now c spots_same word_more word_cap);
+        exact = λ _. omega (arith, long_dirs, long_now c spots_same word_more word_cap);
+        start = λ root. absurd (others_no_root c.coming coming root);
+      }
+        where
+          long_dirs : length c.dirs.items ≡ suc (suc n)
+          long_dirs = omega (arith, ap length e.dirs, length_push b.dirs.items new, dirs_long)
+
+      frame_now : frame_of t p.veils (before.depth - 1) x longer ≡ frame_at t spots longer new (suc n)
+      frame_now =
+          let depth : before.depth - 1 ≡ length t.nodes - suc (suc n) = omega arith in
+          let whole : longer ≡ take (suc n) longer = sym (take_all (suc n) longer (omega (arith, length_push word name, word_long))) in
+          let first : entries t p.veils x ≡ names_at x (drop e.next spots) = sym (e.names ready.spots.rise ∙ ready.spots.entries x) in
+          (λ i. record { depth = depth i; dir = x; word = whole i; names = first i })
+
+      came : left_in t p.veils a ≡ record { word = longer; subject = At (Whole x (Named dir name)) } ∷ others_item longer x ∷ to_come t p.veils (frames_at t spots longer (new ∷ inner ∷ taken.around))
+      came =
+          here
+          ∙ (steps.enters before (frames_at t spots word taken.around) name _ x deep taken.names row living).1
+          ∙ ap (λ w. record { word = w ++ name ∷ []; subject = At (Whole x (Named dir name)) } ∷ others_item (w ++ name ∷ []) x ∷ to_come t p.veils (frame_of t p.veils (before.depth - 1) x (w ++ name ∷ []) ∷ frames_at t spots word (inner ∷ taken.around))) word_here
+          ∙ (λ i. record { word = longer; subject = At (Whole x (Named dir name)) } ∷ others_item longer x ∷ to_come t p.veils (frame_now i ∷ sym (frames_longer t spots word name (inner ∷ taken.around) (omega (arith, word_long))) i))
+
+      left_now : left_in t p.veils c ≡ others_item longer x ∷ to_come t p.veils (frames_at t spots longer (new ∷ inner ∷ taken.around))
+      left_now = (λ i. own_items (coming i) (word_more i) (dirs_now i) ++ to_come t p.veils (frames_at t (spots_same i) (word_more i) (dirs_now i)))
+
+      pub gave : (line : ObjectLine) → ((h : History) → StandsFor p h → IsLineOn t h (At (Whole x (Named dir name))) line) → IsGiven t p a c line
+      gave line on = record {
+        subject = At (Whole x (Named dir name));
+        left = came ∙ (λ i. record { word = sym word_more i; subject = At (Whole x (Named dir name)) } ∷ sym left_now i);
+        line = on;
+      }
+
+-- no name is left
+pub nothing_left : (t : Tree) (vs : List (Place × ℕ)) (a : Walk) → a.coming ≡ Names → a.dirs.items ≡ [] → left_in t vs a ≡ []
+nothing_left t vs a names none = only_names t vs a names ∙ ap (λ ds. to_come t vs (frames_at t (spots_in a) (word_in a) (reverse ds))) none

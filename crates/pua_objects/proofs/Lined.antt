@@ -1,0 +1,87 @@
+-- The calls of a line, by whether it is about a link.
+use Rattle.std.proofs.Common.{◌≡◌, ◌≢◌, Bool, true, false, refl, ap, ◌∙◌}
+use Rattle.std.specs.Prelude.{Option, Some, None, is_none, not, ◌&&◌, ◌||◌, if◌then◌else◌, codes}
+use Rattle.pua_tree.specs.Tree.{Tree, kind_at}
+use Rattle.pua_tree.specs.declared.node.Kind.{Kind}
+use Rattle.pua_tree.specs.declared.node.Kind.TheVariants as kinds
+use Rattle.pua_path.specs.declared.found.Found.{Found}
+use Rattle.pua_path.specs.declared.found.Found.TheVariants.{Whole, Slot}
+use Rattle.pua_policy.specs.Calls.{standard_table}
+use Rattle.pua_policy.specs.CallSets.{has, keeps_link}
+use Rattle.pua_policy.specs.History.{History}
+use Rattle.pua_policy.specs.Objects.{object_seen}
+use Rattle.pua_policy.specs.Verdict.{object_of, object_of_kind, rmdir_fault, is_link, is_link_kind, verdict, is_allowed}
+use Rattle.pua_policy.specs.declared.call.Call.{Call}
+use Rattle.pua_policy.specs.declared.object.Object as seen
+use Rattle.pua_policy.specs.declared.object.Object.TheVariants as see
+use Rattle.pua_objects.specs.Objects.{At, object_word}
+use Rattle.pua_objects.specs.Lines.{IsLineOn, kind_seen, kind_word}
+use Rattle.pua_objects.specs.declared.line.ObjectLine.{ObjectLine}
+
+abbrev pub is_link_seen : seen.Object → Bool
+is_link_seen see.Link = true
+is_link_seen _ = false
+
+abbrev seen_of : Tree → Found → seen.Object
+seen_of t found = object_seen t (object_of t found)
+
+pub no_link : (o : seen.Object) → o ≢ see.Link → is_link_seen o ≡ false
+no_link see.Missing other = refl
+no_link see.File other = refl
+no_link see.Program other = refl
+no_link see.Link other = absurd (other refl)
+no_link see.Directory other = refl
+no_link see.Removable other = refl
+
+link_kind : (t : Tree) (k : Option Kind) → is_link_seen (object_seen t (object_of_kind k)) ≡ is_link_kind k
+link_kind t None = refl
+link_kind t (Some kinds.Dir) = refl
+link_kind t (Some kinds.File) = refl
+link_kind t (Some kinds.Prog) = refl
+link_kind t (Some kinds.Link) = refl
+
+word_kind : (t : Tree) (k : Option Kind) → kind_word (kind_seen (object_seen t (object_of_kind k))) ≡ object_word (object_of_kind k)
+word_kind t None = refl
+word_kind t (Some kinds.Dir) = refl
+word_kind t (Some kinds.File) = refl
+word_kind t (Some kinds.Prog) = refl
+word_kind t (Some kinds.Link) = refl
+
+abbrev dir_seen : Bool → seen.Object
+dir_seen b = if b then see.Removable else see.Directory
+
+link_dir : (b : Bool) → is_link_seen (dir_seen b) ≡ false
+link_dir true = refl
+link_dir false = refl
+
+word_dir : (b : Bool) → kind_word (kind_seen (dir_seen b)) ≡ codes "dir"
+word_dir true = refl
+word_dir false = refl
+
+link_seen : (t : Tree) (found : Found) → is_link_seen (seen_of t found) ≡ is_link t found
+link_seen t (Whole dir way) = link_dir (is_none (rmdir_fault t dir way))
+link_seen t (Slot dir name None) = refl
+link_seen t (Slot dir name (Some x)) = link_kind t (kind_at t x)
+
+word_seen : (t : Tree) (found : Found) → kind_word (kind_seen (seen_of t found)) ≡ object_word (object_of t found)
+word_seen t (Whole dir way) = word_dir (is_none (rmdir_fault t dir way))
+word_seen t (Slot dir name None) = refl
+word_seen t (Slot dir name (Some x)) = word_kind t (kind_at t x)
+
+pub kept_alone : (k a : Bool) → (a && k) ≡ ((k || false) && a)
+kept_alone true true = refl
+kept_alone true false = refl
+kept_alone false true = refl
+kept_alone false false = refl
+
+pub kept_or_not : (k a : Bool) → a ≡ ((k || true) && a)
+kept_or_not true a = refl
+kept_or_not false a = refl
+
+-- a line by what is seen of the object
+pub lined : (t : Tree) (h : History) (found : Found) (object : seen.Object) (line : ObjectLine) → object ≡ seen_of t found → line.kind ≡ kind_seen object
+    → ((call : Call) → has line.calls call ≡ ((keeps_link call || not (is_link_seen object)) && is_allowed (verdict t standard_table h call found))) → IsLineOn t h (At found) line
+lined t h found object line is kind calls = record {
+  kind = ap kind_word (kind ∙ ap kind_seen is) ∙ word_seen t found;
+  calls = λ call. calls call ∙ ap (λ b. (keeps_link call || not b) && is_allowed (verdict t standard_table h call found)) (ap is_link_seen is ∙ link_seen t found);
+}

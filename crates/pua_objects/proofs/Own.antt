@@ -1,0 +1,64 @@
+-- The lines of the innermost directory before its names.
+use Rattle.std.proofs.Common.{◌≡◌, ◌≢◌, ◌<◌, ℕ, List, [], ◌∷◌, ◌++◌, length, map, refl, sym, ap, subst, ◌∙◌, arith}
+use Rattle.std.proofs.lemmas.List.{length-reverse}
+use Rattle.pua_tree.specs.Tree.{Tree}
+use Rattle.pua_path.specs.declared.found.Way.TheVariants.{Top}
+use Rattle.pua_path.specs.declared.found.Found.{Found}
+use Rattle.pua_path.specs.declared.found.Found.TheVariants.{Whole}
+use Rattle.pua_policy.specs.History.{History, ProcessState, StandsFor}
+use Rattle.pua_policy.specs.Objects.{object_seen}
+use Rattle.pua_policy.specs.Verdict.{object_of, cover}
+use Rattle.pua_policy.specs.declared.answer.Cover.{Cover}
+use Rattle.pua_policy.specs.declared.object.Object.TheVariants as see
+use Rattle.pua_objects.specs.Objects.{At, cover_in}
+use Rattle.pua_objects.specs.Objects as subject
+use Rattle.pua_objects.specs.Lines.{IsLineOn}
+use Rattle.pua_objects.specs.Walk.{IsBelow}
+use Rattle.pua_objects.specs.Ready.{spots_in, word_in, dirs_in, names_left, own_items, others_in, IsOpen, AreOpen, IsReady, IsGiven}
+use Rattle.pua_objects.specs.declared.line.ObjectLine.{ObjectLine}
+use Rattle.pua_objects.specs.declared.open_dir.OpenDir.{OpenDir}
+use Rattle.pua_objects.specs.declared.open_dir.Coming.TheVariants.{Root, Others, Names}
+use Rattle.pua_objects.specs.declared.walk.Walk.{Walk}
+use Rattle.pua_objects.proofs.Descending.{covers_descend}
+
+headed : {A : Type 0} (xs : List A) → 0 < length xs → (x : A) × (ys : List A) × (xs ≡ x ∷ ys)
+headed [] some = absurd (omega (arith, some))
+headed (x ∷ xs) some = (x, xs, refl)
+
+module _ (t : Tree) (p : ProcessState) (a : Walk) (ready : IsReady t p a) (more : a.coming ≢ Names) where
+  some : 0 < length (dirs_in a)
+  some = omega (arith, length-reverse a.dirs.items, ready.exact more)
+
+  abbrev inner : OpenDir
+  inner = (headed (dirs_in a) some).0
+
+  abbrev around : List OpenDir
+  around = (headed (dirs_in a) some).1
+
+  dirs : dirs_in a ≡ inner ∷ around
+  dirs = (headed (dirs_in a) some).2
+
+  opened : IsOpen t p (spots_in a) inner (length around) × AreOpen t p (spots_in a) around
+  opened = subst (AreOpen t p (spots_in a)) dirs ready.entered
+
+  -- the further names of the innermost directory
+  pub others_given : (line : ObjectLine) (left : Cover) → a.coming ≡ Others → ((d : OpenDir) (ds : List OpenDir) → dirs_in a ≡ d ∷ ds → left ≡ d.cover)
+      → ((h : History) (dir : ℕ) → StandsFor p h → left ≡ cover_in t h dir → IsLineOn t h (subject.Others dir) line) → IsGiven t p a (record a { coming = Names }) line
+  others_given line left others own on = record {
+    subject = subject.Others inner.dir;
+    left = (λ i. own_items (others i) (word_in a) (dirs_in a) ++ names_left t p.veils a) ∙ ap (λ ds. others_in (word_in a) ds ++ names_left t p.veils a) dirs;
+    line = λ h stands. on h inner.dir stands (own inner around dirs ∙ opened.0.cover h stands);
+  }
+
+  -- the root itself
+  pub root_given : (line : ObjectLine) (left : Cover) → a.coming ≡ Root → ((d : OpenDir) (ds : List OpenDir) → dirs_in a ≡ d ∷ ds → left ≡ d.cover)
+      → ((h : History) (found : Found) → StandsFor p h → left ≡ cover t h found → see.Directory ≡ object_seen t (object_of t found) → IsLineOn t h (At found) line) → IsGiven t p a (record a { coming = Others }) line
+  root_given line left root own on =
+      let alone : length around ≡ 0 = omega (arith, ap length dirs, length-reverse a.dirs.items, ready.exact more, ap length (ready.start root)) in
+      let at_root : inner.dir ≡ 0 = subst (λ (n : ℕ). IsBelow t n inner.dir) alone opened.0.reaches in
+      record {
+        subject = At (Whole 0 Top);
+        left = (λ i. own_items (root i) (word_in a) (dirs_in a) ++ names_left t p.veils a)
+            ∙ ap (λ w. record { word = w; subject = At (Whole 0 Top) } ∷ (others_in (word_in a) (dirs_in a) ++ names_left t p.veils a)) (sym (ap (map (λ name. name.now)) (ready.start root)));
+        line = λ h stands. on h (Whole 0 Top) stands (own inner around dirs ∙ opened.0.cover h stands ∙ ap (cover_in t h) at_root ∙ sym ((covers_descend t h ready.tree).directory 0 Top ready.tree.root)) refl;
+      }

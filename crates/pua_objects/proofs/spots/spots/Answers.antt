@@ -1,0 +1,25 @@
+use Rattle.std.proofs.Common.{◌≡◌, ◌++◌, map, ap, sym, subst, ◌∙◌}
+use Rattle.std.specs.Prelude.{filter_map}
+use Rattle.std.proofs.lemmas.Simd.{map-map}
+use Rattle.pua_tree.specs.LentRows.{lent_entry}
+use Rattle.pua_policy.specs.History.{veils}
+use Rattle.pua_objects.specs.Spots.{spot_now, row_spot, slot_of, AreAtNames, AreInOrder}
+use Rattle.pua_objects.proofs.Gathered.{at_names}
+use Rattle.pua_objects.proofs.Entries.{spots_of}
+use Rattle.pua_objects.proofs.spots.spots.Goals as goal
+
+pub returns-in-Ok-clause-spots : goal.returns-in-Ok-clause-spots
+returns-in-Ok-clause-spots c = λ t all.
+    let vs = c.args.process.now.veils in
+    let given = c.args.rows.now in
+    let rows : map row_spot given ≡ map (λ row. row.0) t.rows = sym (map-map (λ row. row.0) lent_entry given) ∙ ap (map (λ row. row.0)) all in
+    let veils : map (λ place. place.now) c.deref.result.now ≡ map (λ veil. veil.0) vs = ap (map (λ place. place.now)) c.deref.ensures.value ∙ c.in_ok-places.ensures in
+    let both : map row_spot given ++ filter_map slot_of (map (λ place. place.now) c.deref.result.now) ≡ map (λ row. row.0) t.rows ++ filter_map slot_of (map (λ veil. veil.0) vs)
+    = (λ i. rows i ++ filter_map slot_of (veils i)) in
+    spots_of t vs (map spot_now c.in-Ok.spots.items) (subst (λ given. AreInOrder given (map spot_now c.in-Ok.spots.items)) both c.in-Ok.ensures.spots)
+
+pub returns-in-Ok-clause-places : goal.returns-in-Ok-clause-places
+returns-in-Ok-clause-places c = λ h stands.
+    let is : map (λ place. place.now) c.deref.result.now ≡ map (λ veil. veil.0) (veils h) =
+    ap (map (λ place. place.now)) c.deref.ensures.value ∙ c.in_ok-places.ensures ∙ ap (map (λ veil. veil.0)) stands.veils in
+    at_names (veils h) (subst AreAtNames is c.in-Ok.ensures.places)

@@ -1,0 +1,14 @@
+use Rattle.std.proofs.Common.{sym, ap, ◌∙◌}
+use Rattle.pua_path.specs.declared.found.Found.TheVariants as found
+use Rattle.pua_policy.specs.History.{kept}
+use Rattle.pua_policy.specs.declared.place.Place.TheVariants as place
+use Rattle.pua_objects.specs.Laws.{own_or}
+use Rattle.pua_objects.proofs.Descending.{covers_descend}
+use Rattle.pua_objects.proofs.walk.Walk.stand_at.Goals as goal
+
+pub returns-clause-line : goal.returns-clause-line
+returns-clause-line c = λ t h inner around node fits stands dirs covered seen.
+    let name = c.args.name.now in
+    let own = kept h (place.Slot c.args.dir name) in
+    c.line_at.ensures t h (found.Slot c.args.dir name node) stands
+    (c.own_cover-cover.ensures h stands ∙ ap (own_or own) (c.cover.ensures inner around dirs ∙ covered) ∙ sym ((covers_descend t h fits).at_name c.args.dir name node)) seen

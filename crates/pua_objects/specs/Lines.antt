@@ -1,0 +1,37 @@
+-- A line of the code, beside the definition's.
+use Rattle.std.specs.Prelude.{◌≡◌, List, ℕ, ◌&&◌, codes}
+use Rattle.pua_tree.specs.Tree.{Tree}
+use Rattle.pua_policy.specs.Calls.{standard_table}
+use Rattle.pua_policy.specs.CallSets.{has}
+use Rattle.pua_policy.specs.History.{History}
+use Rattle.pua_policy.specs.Verdict.{is_allowed}
+use Rattle.pua_policy.specs.declared.call.Call.{Call}
+use Rattle.pua_policy.specs.declared.object.Object as seen
+use Rattle.pua_policy.specs.declared.object.Object.TheVariants as see
+use Rattle.pua_objects.specs.Objects.{Subject, subject_word, subject_verdict, is_named_by}
+use Rattle.pua_objects.specs.declared.kind.ObjectKind.{ObjectKind}
+use Rattle.pua_objects.specs.declared.kind.ObjectKind.TheVariants as kind
+use Rattle.pua_objects.specs.declared.line.ObjectLine.{ObjectLine}
+
+-- the word of a kind
+abbrev pub kind_word : ObjectKind → List ℕ
+kind_word kind.Dir = codes "dir"
+kind_word kind.File = codes "file"
+kind_word kind.Prog = codes "prog"
+kind_word kind.Link = codes "link"
+kind_word kind.Missing = codes "missing"
+kind_word kind.Other = codes "other"
+
+-- what the line of an object is about
+abbrev pub kind_seen : seen.Object → ObjectKind
+kind_seen see.Missing = kind.Missing
+kind_seen see.File = kind.File
+kind_seen see.Program = kind.Prog
+kind_seen see.Link = kind.Link
+kind_seen see.Directory = kind.Dir
+kind_seen see.Removable = kind.Dir
+
+-- the line tells what its subject is, and has each call that names it and is allowed on it
+pub record IsLineOn (t : Tree) (h : History) (subject : Subject) (line : ObjectLine) : Type 0 where
+  pub kind : kind_word line.kind ≡ subject_word t subject
+  pub calls : (call : Call) → has line.calls call ≡ (is_named_by t call subject && is_allowed (subject_verdict t standard_table h call subject))

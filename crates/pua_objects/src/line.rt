@@ -1,0 +1,63 @@
+//! A line of the list: what it is about, and the calls that are allowed on it.
+
+ghost use Rattle.std.specs.Prelude.{◌≡◌, ℕ};
+ghost use Rattle.pua_tree.specs.Tree.{Tree};
+ghost use Rattle.pua_path.specs.declared.found.Found.{Found as FoundThing};
+ghost use Rattle.pua_policy.specs.History.{History, StandsFor};
+ghost use Rattle.pua_policy.specs.Objects.{object_seen};
+ghost use Rattle.pua_policy.specs.Verdict.{cover as cover_of, object_of};
+ghost use Rattle.pua_objects.specs.Objects.{At, Others, cover_in};
+ghost use Rattle.pua_objects.specs.Lines.{IsLineOn, kind_seen};
+
+use crate::kind::ObjectKind;
+use pua_policy::{Calls, Cover, Object, Process, judge};
+
+/// A line of the list, but for the names that lead there.
+#[derive(Clone, Copy, Debug, PartialEq, Eq)]
+pub struct ObjectLine {
+    /// What it is about.
+    pub kind: ObjectKind,
+    /// The calls that are allowed on it.
+    pub calls: Calls,
+}
+
+/// The line of what stands somewhere, or of a name where nothing stands, by what the veils leave of
+/// it. On a link only those calls are listed that keep it.
+pub(crate) fn line_at(process: &Process, cover: &Cover, object: Object) -> ObjectLine
+    ensures { (t : Tree) (h : History) (found : FoundThing) → StandsFor process.now h → cover.now ≡ cover_of t h found → object ≡ object_seen t (object_of t found) →
+        IsLineOn t h (At found) result }
+{
+    let calls = judge::allowed(process, *cover, object);
+    let calls = if object == Object::Link {
+        calls.keeping()
+    } else {
+        calls
+    };
+    ObjectLine {
+        kind: kind_seen(object),
+        calls,
+    }
+}
+
+/// The line of a directory's further names, by what the veils leave of them.
+pub(crate) fn line_of_others(process: &Process, cover: &Cover) -> ObjectLine
+    ensures { (t : Tree) (h : History) (dir : ℕ) → StandsFor process.now h → cover.now ≡ cover_in t h dir → IsLineOn t h (Others dir) result }
+{
+    ObjectLine {
+        kind: ObjectKind::Other,
+        calls: judge::allowed(process, *cover, Object::Missing),
+    }
+}
+
+/// What the line of an object is about.
+fn kind_seen(object: Object) -> ObjectKind
+    ensures { result ≡ kind_seen object }
+{
+    match object {
+        Object::Missing => ObjectKind::Missing,
+        Object::File => ObjectKind::File,
+        Object::Program => ObjectKind::Prog,
+        Object::Link => ObjectKind::Link,
+        Object::Directory | Object::Removable => ObjectKind::Dir,
+    }
+}

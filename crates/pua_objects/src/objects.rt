@@ -1,0 +1,85 @@
+//! The objects that a process can touch, line by line.
+
+ghost use Rattle.std.specs.Prelude.{◌≡◌, ◌<◌, IfOk, OnOk, OnSome, length, map};
+ghost use Rattle.pua_policy.specs.Calls.{standard_table};
+ghost use Rattle.pua_policy.specs.History.{History, StandsFor};
+ghost use Rattle.pua_objects.specs.Laws.{HasPlaces};
+ghost use Rattle.pua_objects.specs.Objects.{items, objects};
+ghost use Rattle.pua_objects.specs.Ready.{lines_of, IsNextListed};
+
+use crate::line::ObjectLine;
+use crate::walk::Walk;
+use pua_policy::Process;
+use pua_tree::{FileTree, Name, OutOfMemory};
+use std::alloc::Global;
+use std::marker::Model;
+
+/// What a process is allowed in a tree, by object: a line for each object on which some call is
+/// allowed. Contracts see the tree and the process, the names that lead to what the line given last
+/// is about, and what a line may still be about.
+#[derive(Drop)]
+pub struct Objects<'t, T: FileTree> {
+    tree: &'t T,
+    process: &'t Process,
+    walk: Walk<'t>,
+}
+
+impl<'t, T: FileTree> Model for Objects<'t, T> {
+    ghost use Rattle.pua_objects.specs.ObjectsState.{ObjectsState};
+
+    ghost Value = { ObjectsState };
+
+    ghost use Rattle.pua_objects.specs.Ready.{word_in, left_in, IsReady};
+
+    ghost view = { λ a. record {
+      tree = T.content a.tree.now;
+      process = a.process.now;
+      word = word_in a.walk;
+      left = left_in (T.content a.tree.now) a.process.now.veils a.walk;
+    } };
+
+    ghost invariant = { λ a. IsReady (T.content a.tree.now) a.process.now a.walk };
+}
+
+impl<'t, T: FileTree> Objects<'t, T> {
+    /// Begins the list. Its lines are the same for each history that the process stands for, and each
+    /// veil that is not at a directory is at a name, as the law on lines asks. The only error is that a
+    /// growth was refused: later calls take no memory.
+    pub fn begin(
+        alloc: Global,
+        tree: &'t T,
+        process: &'t Process,
+    ) -> Result<Objects<'t, T>, OutOfMemory>
+        ensures of { IfOk result (λ list. (list.tree ≡ T.content tree.now) × (list.process ≡ process.now)) }
+        ensures left { IfOk result (λ list. list.left ≡ items (T.content tree.now) process.now.veils) }
+        ensures lines { IfOk result (λ list. (h : History) → StandsFor process.now h →
+            lines_of (T.content tree.now) h list.left ≡ objects (T.content tree.now) standard_table h) }
+        ensures places { OnOk result ((h : History) → StandsFor process.now h → HasPlaces h) }
+    {
+        let walk = Walk::new(alloc, tree, process)?;
+        Ok(Objects {
+            tree,
+            process,
+            walk,
+        })
+    }
+
+    /// Gives the next line: None where no object is left on which a call is allowed. A directory comes
+    /// first, then its further names, then what has or could have a name in it by the bytes of the
+    /// names, each directory followed by what is below it.
+    pub fn next_line(&mut self) -> Option<ObjectLine>
+        ensures of { (self.new.tree ≡ self.old.tree) × (self.new.process ≡ self.old.process) }
+        ensures line { IsNextListed self.old.tree self.old.process self.old.left result self.new.word self.new.left }
+        ensures fewer { OnSome result (length self.new.left < length self.old.left) }
+    {
+        self.walk.next_line(self.tree, self.process)
+    }
+
+    /// The names that lead from the root to what the line given last is about; none for the root. Where
+    /// that line is about further names, those that lead to their directory.
+    pub fn word(&self) -> &[&'t Name]
+        ensures { map (λ name. name.now) result.now ≡ self.now.word }
+    {
+        self.walk.word.as_slice()
+    }
+}
