@@ -1,8 +1,8 @@
 #!/bin/sh
 # Prints the tables of docs/BENCHMARKS.md, as this machine has them: sh bench/all.sh [TURNS]
 # Each figure is the best of TURNS runs, 5 if left out. It needs crates/pua/out/pua and crates/pua_bench/out/pua_bench
-# (`rt run` in their folders builds them), python3 and GNU time; rustc for the column of plain Rust. What isn't there has
-# a dash in the tables.
+# (`rt run` in their folders builds them), python3, rustc and GNU time. What isn't there has a dash in the tables. The
+# last tables, of the whole program, are those of `python3 bench/side_by_side.py`, which takes another `pua` too.
 set -eu
 turns=${1:-5}
 top=$(cd "$(dirname "$0")/.." && pwd)
@@ -25,30 +25,11 @@ least() {
     for _ in $(seq "$turns"); do "$@" | grep -oE '^[0-9]+'; done | sort -n | head -n 1
 }
 
-# The least time and the most memory of so many runs, the output cut after so many lines (0: not cut): `SECONDS s | MB`.
-# The output of the last run stays in the file `written`.
-run() {
-    lines=$1
-    shift
-    [ -x "$1" ] || { echo '- | -'; return; }
-    : > measured
-    for _ in $(seq "$turns"); do
-        if [ "$lines" = 0 ]; then
-            /usr/bin/time -f '%e %M' -o once "$@" > written
-        else
-            { /usr/bin/time -f '%e %M' -o once "$@" 2> faults || :; } | head -n "$lines" > written
-        fi
-        tail -n 1 once >> measured
-    done
-    awk 'NR == 1 || $1 < time { time = $1 } $2 > most { most = $2 } END { printf "%.2f s | %.1f MB\n", time, most / 1024 }' measured
-}
-
-# The lines of an audit, with its time and memory.
-audit() {
-    figures=$(run "$@")
-    lines=-
-    [ ! -x "$2" ] || lines=$(wc -l < written)
-    echo "$lines | $figures"
+# The most memory that a command took, in MB; a dash where its program isn't there.
+most() {
+    [ -x "$1" ] || { echo -; return; }
+    /usr/bin/time -f '%M' -o once "$@" > written
+    awk '{ printf "%.1f MB\n", $1 / 1024 }' once
 }
 
 ten=/part0/part1/part2/part3/part4/part5/part6/part7/part8/part9
@@ -65,16 +46,9 @@ echo "| of a file 4,000 directories deep, one veil, on the root | $(least "$benc
 echo "| of the same file, 128 veils, one of them on the root | $(least "$bench" cover tower 4000 128 5) ns |"
 echo "| of a file two directories deep, 128 veils | $(least "$bench" cover tower 2 128 100000) ns |"
 echo
-echo '| Runs of 60,000 lines over 4,000 nodes (`large`) | Time | Peak memory |'
+echo '| A tree that is filled with 65,534 files and emptied | Time | Peak memory |'
 echo '|---|---|---|'
-echo "| by one process (\`one\`) | $(run 0 "$pua" run large one) |"
-echo "| by 256 processes that take turns (\`many\`) | $(run 0 "$pua" run large many) |"
-echo
-echo '| Audits of a new process over 3,000 nodes (`middle`, 112 components) | Lines | Time | Peak memory |'
-echo '|---|---|---|---|'
-echo "| limit 3 | $(audit 0 "$pua" audit --limit 3 middle empty) |"
-echo "| limit 4 | $(audit 0 "$pua" audit --limit 4 middle empty) |"
-echo "| limit 5, cut after 2,000,000 lines | $(audit 2000000 "$pua" audit --limit 5 middle empty) |"
-echo "| limit 6, cut after 2,000,000 lines | $(audit 2000000 "$pua" audit --limit 6 middle empty) |"
-echo "| limit 6, cut after the first line | $(audit 1 "$pua" audit --limit 6 middle empty) |"
-echo "| limit 0 over 4,096 nodes (\`wide\`) | $(audit 0 "$pua" audit --limit 0 wide empty) |"
+for times in 1 10; do
+    echo "| $times times | $(least "$bench" fill "$times") us each | $(most "$bench" fill "$times") |"
+done
+[ ! -x "$pua" ] || python3 "$top/bench/side_by_side.py" "$pua" "$turns"

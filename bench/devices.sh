@@ -1,5 +1,5 @@
 #!/bin/sh
-# What the program does where files and outputs fail, which no test can set up: sh devices.sh PROGRAM
+# What the whole program does where files and its own output and fault line fail: sh devices.sh PROGRAM
 # It prints a line for each case that is not as it has to be, and at last how many were.
 set -u
 program=$(realpath "$1")
@@ -39,7 +39,7 @@ run run longest script
 expect 'as long as may be' 1 'pua: listing: bad header'
 run run "$(printf '\377')" script
 expect 'a word that is no text' 2 \
-    'pua: usage: pua run TREE SCRIPT; pua audit --limit N [--process P] [--base root|cwd] [--after CALL:PATH] TREE SCRIPT [NAME...]'
+    'pua: usage: pua run TREE SCRIPT; pua objects [--process P] TREE SCRIPT; pua audit --limit N [--process P] [--base root|cwd] [--after CALL:PATH] TREE SCRIPT [NAME...]'
 "$program" audit --limit 1 tree script > /dev/full 2> told
 status=$?
 expect 'a full device' 3 'pua: cannot write'

@@ -2,30 +2,19 @@
 # Each growth of memory refused in turn to calls that are then made once more: sh growth.sh PROGRAM
 # PROGRAM is that of the crate pua_hostile. Its growth number N is refused, for N from 1 until a run
 # meets no refusal. A run has to end as it must after the second call, or, where the growth was refused
-# to something else than these calls, with a fault. Then an audit is begun and listed, with growth N
-# and each one after it refused: it has to be refused as it begins, or to be whole. A line is printed
-# for each run that ends otherwise, then how many runs there were of the first kind, in how many a call
-# was made once more, how many there were of the second kind, and how many were wrong.
-set -u
-program=$(realpath "$1")
-source=$(realpath "$(dirname "$0")")/refuse.c
-room=$(mktemp -d)
-trap 'rm -rf "$room"' EXIT
-cd "$room" || exit 2
-cc -O2 -Wall -shared -fPIC -o refuse.so "$source" || exit 2
+# to something else than these calls, with a fault. Then reaches are begun and listed, by paths and by
+# objects, with growth N and each one after it refused: each has to be refused as it begins, or to be
+# whole. A line is printed for each run that ends otherwise, then how many runs there were of the first
+# kind, in how many a call was made once more, how many there were of the second kind, and how many were
+# wrong.
+. "$(dirname "$0")/refusing.sh"
 runs=0
 again=0
 elsewhere=0
 wrong=0
 
-# One run of the program with this word and growth refused; its answer stands in `status` and `written`.
-refused() {
-    LD_PRELOAD=$room/refuse.so REFUSE_AT=$2 "$program" "$1" > written 2> told 9> met
-    status=$?
-}
-
 while :; do
-    refused growth $((runs + 1))
+    refused $((runs + 1)) growth
     [ -s met ] || break
     runs=$((runs + 1))
     case "$status $(cat written)" in
@@ -41,15 +30,15 @@ done
 lists=0
 export REFUSE_ON=1
 while :; do
-    refused list $((lists + 1))
+    refused $((lists + 1)) list
     [ -s met ] || break
     lists=$((lists + 1))
-    case "$status $(cat written)" in
-        '0 an audit: refused' | '0 an audit: whole' | [1-9]*' ') ;;
-        *) wrong=$((wrong + 1)); echo "an audit, growth $lists: status $status, $(cat written told)" ;;
+    case "$status $(grep -c -e ': refused$' -e ': whole$' written) $(wc -l < written)" in
+        '0 4 4' | [1-9]*' 0 0') ;;
+        *) wrong=$((wrong + 1)); echo "lists, growth $lists: status $status, $(cat written told)" ;;
     esac
 done
-[ "$status $(cat written)" = '0 an audit: whole' ] || { wrong=$((wrong + 1)); echo 'an audit, undisturbed: wrong'; }
+[ "$status $(grep -c ': whole$' written)" = '0 4' ] || { wrong=$((wrong + 1)); echo 'lists, undisturbed: wrong'; }
 
-echo "$runs growths: $again in calls made once more, $elsewhere elsewhere; $lists audits; $wrong wrong"
+echo "$runs growths: $again in calls made once more, $elsewhere elsewhere; $lists runs of lists; $wrong wrong"
 [ "$wrong" = 0 ]

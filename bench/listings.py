@@ -50,7 +50,37 @@ def tower():
     return [f"{i + 1} dir {i} d" for i in range(4000)] + ["4001 file 4000 f"]
 
 
+def folders():
+    """4,000 directories in the root, with nothing in them."""
+    return [f"{i + 1} dir 0 d{i:04d}" for i in range(4000)]
+
+
+def linked():
+    """60 directories with a file, a link to the next one, and an absolute link to the file of the one after it."""
+    lines = []
+    for i in range(60):
+        top = len(lines) + 1
+        lines.append(f"{top} dir 0 d{i:02d}")
+        lines.append(f"{top + 1} file {top} f")
+        lines.append(f"{top + 2} link {top} next ../d{(i + 1) % 60:02d}")
+        lines.append(f"{top + 3} link {top} file /d{(i + 2) % 60:02d}/f")
+    return lines
+
+
+def names():
+    """4,096 nodes: 95 directories of 42 or 43 files each, all names different."""
+    lines = [f"{i + 1} dir 0 d{i:02d}" for i in range(95)]
+    return lines + [f"{i + 96} file {i % 95 + 1} file{i:04d}" for i in range(4000)]
+
+
+def dead():
+    """Directories in the root, 100 of them, each with a file; in the last one another file."""
+    lines = [f"{i + 1} dir 0 d{i:02d}" for i in range(100)]
+    return lines + [f"{i + 101} file {i + 1} f" for i in range(100)] + ["201 file 100 g"]
+
+
 # of the wide one, the first 4,000 nodes and the first 3,000
 listings = [("wide", wide()), ("large", wide()[:3999]), ("middle", wide()[:2999])]
-for name, lines in [*listings, ("mixed", mixed()), ("deep", deep()), ("tower", tower())]:
+listings += [("mixed", mixed()), ("deep", deep()), ("tower", tower()), ("root", []), ("folders", folders())]
+for name, lines in [*listings, ("linked", linked()), ("names", names()), ("dead", dead())]:
     write(name, lines)

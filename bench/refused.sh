@@ -5,38 +5,28 @@
 # `pua: out of memory` on standard error and nothing on standard output, or as it ends undisturbed,
 # where the refused growth was of no account. A line is printed for each run that does neither, for each
 # command how many runs did which, and at last how many runs there were and how many were wrong.
-set -u
-program=$(realpath "$1")
-source=$(realpath "$(dirname "$0")")/refuse.c
-room=$(mktemp -d)
-trap 'rm -rf "$room"' EXIT
-cd "$room" || exit 2
-cc -O2 -Wall -shared -fPIC -o refuse.so "$source" || exit 2
+. "$(dirname "$0")/refusing.sh"
 runs=0
 wrong=0
 ended=
 
 printf '%s\n' 'tree 1' '0 dir' '1 dir 0 etc' '2 file 1 passwd' '3 dir 0 tmp' '4 link 0 t tmp' \
     '5 link 3 up ../etc' '6 link 3 self self' '7 prog 3 sh' > tree
+printf '%s\n' 'tree 2' '0 dir' '1 dir 0 d' '2 file 1 f' '3 hard 0 g 2' '4 link 1 l g' '6 hard 1 k 4' > twice
 printf '%s\n' 'tree 1' '0 dir' '1 dir 0' > cut
+printf '%s\n' 'tree 2' '0 dir' '1 file 0 a' '2 hard 0 b 3' > lost
 printf '%s\n' '1 create /a' '1 mkdir /tmp/new' '1 symlink ../etc /tmp/new/l' '1 rename /a /tmp/new/b' \
     '1 rename /tmp /etc/tmp' '1 unlink /etc/tmp/sh' '1 rmdir /etc/tmp/new' '1 stat /etc/tmp/new/b' > edits
 printf '%s\n' '1 fork 2' '1 unveil /etc/passwd rw' '2 unlink /etc/passwd' '1 stat /etc/passwd' '2 create /etc/passwd' \
     '2 fork 3' '3 exec /tmp/sh' '3 exit' '3 stat /' > forks
 printf '%s\n' '1 unveil /etc r' '1 unveil /etc rw' '1 unveil /etc/passwd rw' '1 unveil /etc q' '1 unveil /no/x r' \
     '1 unveil - -' '1 unveil /tmp r' '1 unveil - -' > veils
+printf '%s\n' '1 fork 2' '1 unveil /d rwc' '1 link /d/f /d/h' '2 link /g /d/i' '2 unlink /d/f' '2 rename /g /d/j' \
+    '1 link /d/h /d' '1 link /g /d/x' '2 link /d /e' '2 rename /d/h /d/i' '1 stat /d/h' > links
 printf '%s\n' '1 unveil /etc/passwd r' '1 unveil - -' > one
 printf '%s\n' '1 pledge stdio,cpath -' '1 mkdir /d' '1 chdir /d' > makes
 printf '%s\n' '1 pledge stdio,,rpath -' > list
 : > none
-
-# One run of the command with the growth refused; its answer stands in `status`, `written` and `told`.
-refused() {
-    at=$1
-    shift
-    LD_PRELOAD=$room/refuse.so REFUSE_AT=$at "$program" "$@" > written 2> told 9> met
-    status=$?
-}
 
 # Counts the run's answer, or prints that it is wrong.
 judge() {
@@ -81,18 +71,24 @@ echo 'pua: out of memory' > line
 sweep 'edits' 0 run tree edits
 sweep 'forks' 0 run tree forks
 sweep 'veils' 0 run tree veils
+sweep 'further names' 0 run twice links
 sweep 'no script' 0 run tree none
 sweep 'an audit' 0 audit --limit 3 tree one
 sweep 'an audit of what it makes' 0 audit --limit 2 --base cwd tree makes a 'b\040c'
 sweep 'an audit of another process' 0 audit --limit 2 --process 2 tree forks
 sweep 'an audit that is resumed' 0 audit --limit 3 --after lstat:/etc/passwd tree one
 sweep 'an audit of many lines' 0 audit --limit 6 tree none
+sweep 'an audit of further names' 0 audit --limit 2 --process 2 twice links
+sweep 'objects' 0 objects tree one
+sweep 'objects of another process' 0 objects --process 2 twice links
 sweep 'help' 0 --help
 sweep 'help of an audit' 0 audit --help
+sweep 'help of objects' 0 objects --help
 sweep 'the version' 0 --version
 sweep 'no words' 2
 sweep 'words of no command' 2 audit --limit x tree one
 sweep 'a listing that is cut' 1 run cut none
+sweep 'a further name of no node' 1 run lost none
 sweep 'a list with an empty word' 1 run tree list
 sweep 'no such process' 1 audit --limit 1 --process 9 tree none
 sweep 'no such pair' 1 audit --limit 3 --after stat:/nope tree one

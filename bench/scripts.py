@@ -1,11 +1,13 @@
 #!/usr/bin/env python3
 """Writes the scripts of the benchmarks into a folder: python3 scripts.py FOLDER
 
-Both have 60,000 lines over the listing `large` of listings.py, which has 4,000 nodes: look-ups, edits that are
-taken back, and renames. In `one` process 1 makes all calls; in `many` 256 processes take turns."""
+All but `climb`, `descend`, `empty` and the veils have 60,000 lines. `one`, `many`, `looks`, `edits` and `sandbox` are
+for the listing `large` of listings.py, which has 4,000 nodes, `mkdirs` for `folders`, `links` for `linked`, `fill` for
+`wide`, `climb` and `descend` for `tower`. In `one` process 1 makes all calls; in `many` 256 processes take turns."""
 import sys
 
 LINES = 60_000
+CLIMBS = 200
 
 
 def calls():
@@ -41,5 +43,72 @@ def many():
     return forks + turns
 
 
-write("one", one())
-write("many", many())
+def looks():
+    """Look-ups alone: of files, of what isn't there, of directories, and by way of the parent."""
+    lines = []
+    for turn in range(LINES // 6):
+        folder, file = f"/dir{turn % 61:03d}", f"file{turn % 64:03d}.c"
+        lines += [f"1 stat {folder}/{file}", f"1 lstat {folder}/../{folder[1:]}/{file}", f"1 open-r {folder}/none"]
+        lines += [f"1 chdir {folder}", f"1 stat {file}", f"1 open-rw ./../{folder[1:]}/{file}"]
+    return lines
+
+
+def edits():
+    """In 60 directories files are made, renamed and removed."""
+    lines = []
+    for turn in range(LINES // 3):
+        folder = f"/dir{turn % 60:03d}"
+        lines += [f"1 create {folder}/new", f"1 rename {folder}/new {folder}/old", f"1 unlink {folder}/old"]
+    return lines
+
+
+def mkdirs():
+    """In each of 4,000 directories 15 directories are made."""
+    return [f"1 mkdir /d{turn % 4000:04d}/new{turn // 4000:02d}" for turn in range(LINES)]
+
+
+def sandbox():
+    """255 forks, then unveils, pledges and further forks, which are refused, by all processes in turn."""
+    lines = [f"1 fork {number}" for number in range(2, 257)]
+    promises = "stdio,rpath,wpath,cpath,fattr,exec,proc,unveil"
+    while len(lines) < LINES:
+        turn = len(lines)
+        process, folder = 1 + turn // 4 % 256, f"/dir{turn // 1024 % 60:03d}"
+        lines += [f"{process} unveil {folder} rw", f"{process} pledge {promises} -"]
+        lines += [f"{process} unveil {folder}/file{turn % 64:03d}.c r", f"{process} fork {1 + turn % 256}"]
+    return lines[:LINES]
+
+
+def links():
+    """Paths through links, and links of both kinds made and removed."""
+    lines = []
+    for turn in range(LINES // 8):
+        here, there = f"/d{turn % 60:02d}", f"d{(turn + 7) % 60:02d}"
+        lines += [f"1 stat {here}/next/next/next/file", f"1 open-r {here}/file", f"1 readlink {here}/next/file"]
+        lines += [f"1 link {here}/f {here}/g", f"1 unlink {here}/g", f"1 symlink ../{there}/f {here}/s"]
+        lines += [f"1 open-w {here}/s", f"1 unlink {here}/s"]
+    return lines
+
+
+def fill():
+    """60,000 files, in 60 directories that have 64 already."""
+    return [f"1 create /dir{turn % 60:03d}/new{turn:05d}" for turn in range(LINES)]
+
+
+def climb(times):
+    """A veil on the root, and then, 4,000 directories deeper, a file's cover so many times."""
+    down = "/".join(["d"] * 500)
+    return ["1 unveil / r"] + [f"1 chdir {down}"] * 8 + ["1 stat f"] * times
+
+
+def narrow(path):
+    """A veil on one file or directory, and the lock."""
+    return [f"1 unveil {path} r", "1 unveil - -"]
+
+
+made = {"one": one(), "many": many(), "looks": looks(), "edits": edits(), "mkdirs": mkdirs(), "sandbox": sandbox()}
+made |= {"links": links(), "fill": fill(), "climb": climb(CLIMBS), "descend": climb(0), "empty": []}
+made |= {"veil-names": narrow("/d50/file0050"), "veil-dead": narrow("/d99/g"), "veil-etc": narrow("/etc/ssl")}
+made |= {"veil-include": narrow("/usr/include/linux/can"), "veil-large": narrow("/dir030/file030.c")}
+for name, lines in made.items():
+    write(name, lines)

@@ -52,7 +52,7 @@ staged_is y (x ∷ xs) = ap (λ b. b || list_any (same_stage y) xs) (same_is y x
 
 -- a state put at its place
 
-all_with_stage : (P : Stage → Type 0) (a : Stage) (bs : List Stage) → P a → AllByRecursion P bs → AllByRecursion P (with_stage a bs)
+pub all_with_stage : (P : Stage → Type 0) (a : Stage) (bs : List Stage) → P a → AllByRecursion P bs → AllByRecursion P (with_stage a bs)
 all_with_stage P a [] here all = (here, tt)
 all_with_stage P a (b ∷ bs) here all =
     elim (stage_cmp a b) as (λ o. AllByRecursion P (by_order o (a ∷ b ∷ bs) (b ∷ bs) (b ∷ with_stage a bs))) [
@@ -75,7 +75,7 @@ with_stage_sorted a (b ∷ bs) sorted =
     all_after e [] all = tt
     all_after e (y ∷ ys) all = (stages_total.trans a b y e all.0, all_after e ys all.1)
 
-distinct_sorted : (xs : List Stage) → IsStrictlySortedBy stage_cmp (distinct_stages xs)
+pub distinct_sorted : (xs : List Stage) → IsStrictlySortedBy stage_cmp (distinct_stages xs)
 unfolding IsStrictlySortedBy
 distinct_sorted [] = tt
 distinct_sorted (x ∷ xs) = with_stage_sorted x (distinct_stages xs) (distinct_sorted xs)

@@ -3,6 +3,7 @@ pub mod Reach
 pub mod SubLists
 pub mod Renumbering
 pub mod Begin
+pub mod Bounds
 pub mod Judge
 pub mod Laws
 pub mod Examples

@@ -1,6 +1,6 @@
 //! The alphabet of an audit: its letters in the order of their bytes.
 
-ghost use Rattle.std.specs.Prelude.{◌≡◌, ◌≤◌, Ok, Err, IfOk, map, length};
+ghost use Rattle.std.specs.Prelude.{◌≡◌, ◌≤◌, ◌+◌, Ok, Err, IfOk, map, length};
 ghost use Rattle.std.specs.List.{list_all};
 ghost use Rattle.pua_tree.specs.Spelling.{is_plain};
 ghost use Rattle.pua_tree.specs.Tree.{name_cmp, with_name};
@@ -25,6 +25,7 @@ pub(crate) fn alphabet<'t, P: Probe<'t>>(
 ) -> Result<Vec<Part>, OutOfMemory>
     ensures letters { IfOk result (λ letters. map part_bytes letters.items ≡ alphabet_of (P.tree probe.old) candidates.now) }
     ensures tree { P.tree probe.new ≡ P.tree probe.old }
+    ensures cost { P.count probe.new ≤ P.count probe.old + 1 }
 {
     let Ok(names) = probe.names(alloc) else {
         return Err(OutOfMemory);

@@ -1,10 +1,11 @@
 //! The audit of a process: its reach, pair by pair.
 
-ghost use Rattle.std.specs.Prelude.{◌≡◌, ◌≢◌, ◌≤◌, Ok, Err, IfOk, IfErr, IfSome, IsTrue, length, map, option_map};
+ghost use Rattle.std.specs.Prelude.{◌≡◌, ◌≢◌, ◌≤◌, ◌+◌, Ok, Err, IfOk, IfErr, IfSome, IsTrue, length, map, option_map};
 ghost use Rattle.std.specs.Borrow.{sem};
 ghost use Rattle.pua_policy.specs.Calls.{standard_table};
 ghost use Rattle.pua_policy.specs.History.{History, StandsFor};
 ghost use Rattle.pua_audit.specs.Limits.{path_limit};
+ghost use Rattle.pua_audit.specs.Bounds.{begin_cost, letter_count};
 ghost use Rattle.pua_audit.specs.Begin.{Beginning, beginning, still_to_come};
 ghost use Rattle.pua_audit.specs.Lent.{LendsLine};
 ghost use Rattle.pua_audit.specs.Live.{live_states};
@@ -64,6 +65,10 @@ impl Audit {
     /// The errors come in the order of `AuditFault`'s page, but that `OutOfMemory` comes wherever a
     /// growth was refused. The resume text is judged also where nothing is allowed at all. No
     /// later line is given an allocator.
+    ///
+    /// With N nodes, A letters and a limit L it makes at most 33 N (L + 1) (A + 1) E looks at the
+    /// tree and 2 (L + 1) (A + 1) E more, where E is 16 times what a step and a verdict may cost
+    /// together; wherever it resumes, and whether it begins or is refused.
     pub fn begin<'t, P: Probe<'t>>(
         alloc: Global,
         probe: &mut P,
@@ -85,6 +90,7 @@ impl Audit {
         ensures reads { IfOk result (λ audit. audit.reads ≡ 0) }
         ensures limit { IfOk result (λ audit. audit.limit ≡ limit) }
         ensures tree { P.tree probe.new ≡ P.tree probe.old }
+        ensures cost { P.count probe.new ≤ P.count probe.old + begin_cost (P.tree probe.old) limit (letter_count (P.tree probe.old) (map (λ s. s.now) candidates.now)) }
     {
         process.known();
         let Checked { letters, after } = beginning::check(
@@ -125,7 +131,7 @@ impl Audit {
     }
 
     /// Lends the next line, in the order of the reach: None where no pair is left. The tree is the
-    /// one with which the audit began, and it is asked nothing. With a limit L and A letters at most
+    /// one with which the audit began, and it is asked nothing: no look is added to the probe's. With a limit L and A letters at most
     /// 2 (L + 1) (A + 1) letters are read for it. It is given no allocator, and answers no error.
     pub fn next_line<'t, P: Probe<'t>>(&mut self, probe: &mut P) -> Option<Line<'_>>
         requires { P.tree probe.old ≡ self.old.tree }

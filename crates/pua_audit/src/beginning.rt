@@ -1,9 +1,10 @@
 //! What an audit begins with, or why it can't begin.
 
-ghost use Rattle.std.specs.Prelude.{◌≡◌, ◌≢◌, ℕ, List, Option, Ok, Err, IfOk, IfErr, map, option_map};
+ghost use Rattle.std.specs.Prelude.{◌≡◌, ◌≢◌, ◌≤◌, ◌+◌, ℕ, List, Option, Ok, Err, IfOk, IfErr, length, map, option_map};
 ghost use Rattle.pua_tree.specs.Tree.{WellFormed};
 ghost use Rattle.pua_policy.specs.Calls.{CallTable};
 ghost use Rattle.pua_policy.specs.History.{History};
+ghost use Rattle.pua_audit.specs.Bounds.{letter_count};
 ghost use Rattle.pua_audit.specs.Begin.{beginning};
 ghost use Rattle.pua_audit.specs.declared.base.Base as bases;
 ghost use Rattle.pua_audit.specs.Starting.{AreSound, IsChecked, scope_with, begun_in, beginning_with};
@@ -39,8 +40,10 @@ pub(crate) fn check<'t, P: Probe<'t>>(
         beginning (P.tree probe.old) table h base (map (λ s. s.now) candidates.now) limit (option_map (λ s. s.now) after.entry) ≡ Ok (beginning_with (P.tree probe.old) table h base limit b)) }
     ensures refused { IfErr result (λ fault. fault ≢ AuditFault.OutOfMemory → (table : CallTable) (h : History) →
         beginning (P.tree probe.old) table h base (map (λ s. s.now) candidates.now) limit (option_map (λ s. s.now) after.entry) ≡ Err fault) }
+    ensures many { IfOk result (λ b. length b.letters.items ≡ letter_count (P.tree probe.old) (map (λ s. s.now) candidates.now)) }
     ensures sound { IfOk result (λ b. IsChecked (P.tree probe.old) limit b) }
     ensures tree { P.tree probe.new ≡ P.tree probe.old }
+    ensures cost { P.count probe.new ≤ P.count probe.old + 1 }
 {
     let letters = letters_within(alloc, probe, candidates, limit)?;
     let after = match after {
@@ -62,8 +65,10 @@ fn letters_within<'t, P: Probe<'t>>(
     ensures refused { IfErr result (λ fault. fault ≢ AuditFault.OutOfMemory → (table : CallTable) (h : History) (base : bases.Base) (after : Option (List ℕ)) →
         beginning (P.tree probe.old) table h base (map (λ s. s.now) candidates.now) limit after ≡ Err fault) }
     ensures known { IfOk result (λ letters. WellFormed (P.tree probe.old)) }
+    ensures many { IfOk result (λ letters. length letters.items ≡ letter_count (P.tree probe.old) (map (λ s. s.now) candidates.now)) }
     ensures sound { IfOk result (λ letters. AreSound limit letters.items) }
     ensures tree { P.tree probe.new ≡ P.tree probe.old }
+    ensures cost { P.count probe.new ≤ P.count probe.old + 1 }
 {
     if limit > LETTER_LIMIT {
         return Err(AuditFault::LimitTooLarge);

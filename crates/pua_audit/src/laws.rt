@@ -2,7 +2,7 @@
 
 ghost use Rattle.std.specs.Prelude.{◌≡◌};
 ghost use Rattle.pua_audit.specs.Limits.{candidate_limit, letter_limit};
-ghost use Rattle.pua_audit.specs.Laws.{AlphabetRises, ClosedReaches, ReachIsAlong, ReachRises};
+ghost use Rattle.pua_audit.specs.Laws.{AlphabetRises, ClosedReaches, LiveStatesLive, ReachIsAlong, ReachRises};
 ghost use Rattle.pua_audit.specs.Graphs.{GraphsReach, LiveStatesCount, MasksList};
 ghost use Rattle.pua_audit.specs.Entries.{EntriesStand};
 ghost use Rattle.pua_audit.specs.Table.{TablesStand};
@@ -38,6 +38,13 @@ pub fn reach_laws()
 pub fn walk_laws()
     ensures along { ReachIsAlong }
     ensures closed { ClosedReaches }
+{}
+
+/// The list of the live states has just the states that are live, each once, in order. So what
+/// `Audit::table_len` answers is the number of live states.
+#[tactic(auto, using(crate::proofs::LiveStagesListed::live_states_live))]
+pub fn live_law()
+    ensures { LiveStatesLive }
 {}
 
 /// A text names a pair to resume after exactly where it is the text of that pair: the call's name, a

@@ -21,8 +21,8 @@ pub use audit::Audit;
 pub use base::Base;
 pub use fault::AuditFault;
 pub use laws::{
-    graph_laws, limits_law, reach_examples, reach_laws, resume_text_law, rows_law, walk_laws,
-    within_law,
+    graph_laws, limits_law, live_law, reach_examples, reach_laws, resume_text_law, rows_law,
+    walk_laws, within_law,
 };
 pub use limits::{CANDIDATE_LIMIT, LETTER_LIMIT};
 pub use line::Line;

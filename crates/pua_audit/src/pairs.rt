@@ -2,6 +2,7 @@
 
 ghost use Rattle.std.specs.Prelude.{◌≡◌, ◌≤◌, ◌<◌, ◌+◌, ◌*◌, length, suc, option_map, IfOk, IfSome, vec_capacity};
 ghost use Rattle.std.specs.List.{AllByRecursion};
+ghost use Rattle.pua_audit.specs.Bounds.{pairs_cost};
 ghost use Rattle.pua_audit.specs.Begin.{longest};
 ghost use Rattle.pua_audit.specs.Coming.{AreReady, IsNextCall, call_at, to_come, word_in};
 ghost use Rattle.pua_audit.specs.Live.{live_states};
@@ -52,6 +53,7 @@ impl Pairs {
         ensures live { IfOk result (λ pairs. pairs.live ≡ length (live_states (scope_in terms))) }
         ensures reads { IfOk result (λ pairs. pairs.walk.seen ≡ 0) }
         ensures tree { P.tree probe.new ≡ P.tree probe.old }
+        ensures cost { P.count probe.new ≤ P.count probe.old + pairs_cost terms.seen.tree (length terms.letters.items) }
     {
         let Begun { walk, live } = terms.begun(alloc, probe, after)?;
         let Ok(path) = WordPath::new(alloc, terms.limit, terms.most_bytes()) else {

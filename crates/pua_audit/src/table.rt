@@ -1,7 +1,8 @@
 //! The making of the table of steps.
 
-ghost use Rattle.std.specs.Prelude.{◌≡◌, ◌<◌, ◌≤◌, ◌^◌, ℕ, List, length, get_or, IfOk, IsTrue};
+ghost use Rattle.std.specs.Prelude.{◌≡◌, ◌<◌, ◌≤◌, ◌+◌, ◌^◌, ℕ, List, length, get_or, IfOk, IsTrue};
 ghost use Rattle.pua_tree.specs.Tree.{is_dir};
+ghost use Rattle.pua_audit.specs.Bounds.{table_cost};
 ghost use Rattle.pua_audit.specs.Graphs.{AreApart};
 ghost use Rattle.pua_audit.specs.Ready.{IsSound, judge_in, letters_of};
 ghost use Rattle.pua_audit.specs.Table.{IsTableOf};
@@ -34,6 +35,7 @@ impl Terms {
         ensures table { IfOk result (λ steps. (names : List ℕ) × (IsTableOf (judge_in self.now) (letters_of self.now) names steps × AreApart names × (0 < length names) × (get_or names 0 0 ≡ base))) }
         ensures few { IfOk result (λ steps. length steps.rows.items ≤ 2 ^ 32) }
         ensures tree { P.tree probe.new ≡ P.tree probe.old }
+        ensures cost { P.count probe.new ≤ P.count probe.old + table_cost self.now.seen.tree (length self.now.letters.items) }
     {
         let mut dirs = Directories::new(alloc);
         dirs.place(base)?;

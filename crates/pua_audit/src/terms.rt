@@ -1,6 +1,6 @@
 //! What an audit is of.
 
-ghost use Rattle.std.specs.Prelude.{◌≡◌, ◌≤◌, ◌*◌, suc, map, IfOk};
+ghost use Rattle.std.specs.Prelude.{◌≡◌, ◌≤◌, ◌+◌, ◌*◌, suc, map, IfOk};
 ghost use Rattle.pua_policy.specs.Calls.{standard_table};
 ghost use Rattle.pua_policy.specs.History.{StandsFor};
 ghost use Rattle.pua_audit.specs.Alphabets.{AreParts};
@@ -66,6 +66,7 @@ impl Terms {
         requires sound { IsSound self.now }
         ensures open { result ≡ is_open (scope_in self.now) }
         ensures tree { P.tree probe.new ≡ P.tree probe.old }
+        ensures cost { P.count probe.new ≤ P.count probe.old + 1 }
     {
         if self.process.ended() {
             return false;

@@ -4,7 +4,7 @@ ghost use Rattle.pua_policy.specs.Verdict.{FoundFits};
 
 use pua_path::{Counted, Ending, Found, Last, PathText, Probe, resolve};
 use pua_policy::{Perms, Place, Process};
-use pua_tree::{ListTree, NodeId};
+use pua_tree::{NodeId, SlabTree};
 use std::alloc::Global;
 
 /// A process with so many veils: one on the root, and the others on nodes that no tree has.
@@ -24,7 +24,7 @@ pub(crate) fn veiled(alloc: Global, veils: u32) -> Option<Process> {
 }
 
 /// How often so many covers of the file `f` in a directory look at a tree.
-pub(crate) fn probes_of(tree: &ListTree, from: NodeId, process: &Process, turns: u32) -> u64 {
+pub(crate) fn probes_of(tree: &SlabTree, from: NodeId, process: &Process, turns: u32) -> u64 {
     let Ok(text) = PathText::read(b"f", Ending::Dot) else {
         return 0;
     };
@@ -34,7 +34,7 @@ pub(crate) fn probes_of(tree: &ListTree, from: NodeId, process: &Process, turns:
     }
 }
 
-fn probes_of_covers(tree: &ListTree, process: &Process, found: &Found, turns: u32) -> u64
+fn probes_of_covers(tree: &SlabTree, process: &Process, found: &Found, turns: u32) -> u64
     requires { FoundFits tree.now found.now }
 {
     let mut probe = Counted::new(tree);

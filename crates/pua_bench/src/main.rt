@@ -1,18 +1,19 @@
-//! Measures what docs/BENCHMARKS.md tells: how long one reading of a listing, one resolution of a path
-//! or one cover takes. Without words it says how it is called.
+//! Measures what docs/BENCHMARKS.md reports: how long one reading of a listing, one resolution of a path
+//! or one cover takes, and a tree that is filled and emptied again. Without words it says how it is called.
 #![tactic(auto)]
 
 mod covers;
+mod filled;
 
 use anyhow::{Result, anyhow, bail};
 use pua_path::{Counted, Ending, Last, PathText, Probe, resolve};
-use pua_tree::{ListTree, NodeId, read_listing};
+use pua_tree::{NodeId, SlabTree, read_listing_slab};
 use std::rt::{Clock, Files};
 use std::time::Instant;
 use std::{env, fs};
 
 const USAGE: &str =
-    "pua_bench read LISTING TURNS; pua_bench resolve LISTING PATH TURNS; pua_bench cover LISTING FROM VEILS TURNS";
+    "pua_bench read LISTING TURNS; pua_bench resolve LISTING PATH TURNS; pua_bench cover LISTING FROM VEILS TURNS; pua_bench fill TURNS";
 
 fn main(rt: HostRuntime) -> Result<()> {
     let mut words = Vec::new(rt.alloc());
@@ -30,6 +31,7 @@ fn main(rt: HostRuntime) -> Result<()> {
             word(words, 3),
             word(words, 4),
         ),
+        "fill" => fill(&rt, word(words, 1)),
         _ => Ok(println!(rt; "{USAGE}")?),
     }
 }
@@ -42,8 +44,8 @@ fn word(words: &[String], at: usize) -> &str {
     }
 }
 
-fn tree_of<R: AllocGlobal>(rt: &R, bytes: &[u8]) -> Result<ListTree> {
-    read_listing(rt.alloc(), bytes).map_err(|fault| anyhow!("{fault}"))
+fn tree_of<R: AllocGlobal>(rt: &R, bytes: &[u8]) -> Result<SlabTree> {
+    read_listing_slab(rt.alloc(), bytes).map_err(|fault| anyhow!("{fault}"))
 }
 
 /// Reads a listing so many times.
@@ -102,8 +104,23 @@ fn cover<R: AllocGlobal + Clock + Files + Print>(
     Ok(println!(rt; "{each} ns a cover, {probes} looks in all")?)
 }
 
+/// Fills a tree and empties it again, so many times.
+fn fill<R: AllocGlobal + Clock + Print>(rt: &R, turns: &str) -> Result<()> {
+    let turns: u32 = turns.parse()?;
+    let mut tree = tree_of(rt, b"tree 1\n0 dir\n")?;
+    let start = Instant::now(rt)?;
+    let mut files = 0;
+    for _ in 0..turns {
+        files = filled::fill(&mut tree);
+        filled::empty(&mut tree);
+    }
+    let micros = start.elapsed(rt)?.as_micros();
+    let each = micros / u128::from(turns.max(1));
+    Ok(println!(rt; "{each} us for {files} files, made and removed")?)
+}
+
 /// How often so many resolutions look at a tree.
-fn probes_of(tree: &ListTree, text: &PathText<'_>, turns: u32) -> u64 {
+fn probes_of(tree: &SlabTree, text: &PathText<'_>, turns: u32) -> u64 {
     let mut probe = Counted::new(tree);
     for _ in 0..turns {
         let _ = resolve(&mut probe, NodeId::ROOT, text, Last::Followed);

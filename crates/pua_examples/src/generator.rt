@@ -15,6 +15,12 @@ const DRAWS: usize = 200;
 /// How many lines a script has.
 pub(crate) const LINES: usize = 8;
 
+/// How many veils process 1 of a family is given before its lock.
+const VEILS: usize = 3;
+
+/// How many lines a family's script has after the lock.
+const FAMILY_LINES: usize = 24;
+
 const KINDS: [&str; 9] = [
     "dir", "dir", "dir", "dir", "file", "prog", "link", "link", "hard",
 ];
@@ -169,35 +175,63 @@ pub(crate) fn script(alloc: Global, random: &mut Random) -> Result<String> {
     for _ in 1..LINES {
         let process = random.below(2).saturating_add(1);
         write!(text, "{process} ")?;
-        match random.below(9) {
-            0 | 1 => writeln!(
-                text,
-                "unveil {} {}",
-                random.pick(&PATHS),
-                random.pick(&PERMS)
-            )?,
-            2 => writeln!(
-                text,
-                "pledge {} {}",
-                random.pick(&PLEDGES),
-                random.pick(&PLEDGES)
-            )?,
-            3 => writeln!(
-                text,
-                "rename {} {}",
-                random.pick(&PATHS),
-                random.pick(&PATHS)
-            )?,
-            4 => writeln!(text, "link {} {}", random.pick(&PATHS), random.pick(&PATHS))?,
-            5 => writeln!(
-                text,
-                "symlink {} {}",
-                random.pick(&TARGETS),
-                random.pick(&PATHS)
-            )?,
-            6 if random.below(2) == 0 => writeln!(text, "unveil - -")?,
-            _ => writeln!(text, "{} {}", random.pick(&CALLS), random.pick(&PATHS))?,
+        request(&mut text, random)?;
+    }
+    Ok(text)
+}
+
+/// The lines of a script of up to five processes. The first make process 2, put veils on what process
+/// 1 may reach, lock it, and make process 3, which has its lock. Each later one is of one of the
+/// first four, and some of them make the others.
+pub(crate) fn family_script(alloc: Global, random: &mut Random) -> Result<String> {
+    let mut text = String::from_str(alloc, "1 fork 2\n")?;
+    for _ in 0..VEILS {
+        let (path, perms) = (random.pick(&PATHS), random.pick(&PERMS));
+        writeln!(text, "1 unveil {path} {perms}")?;
+    }
+    text.push_str("1 unveil - -\n1 fork 3\n")?;
+    for _ in 0..FAMILY_LINES {
+        let process = random.below(4).saturating_add(1);
+        write!(text, "{process} ")?;
+        if random.below(8) == 0 {
+            writeln!(text, "fork {}", random.below(2).saturating_add(4))?;
+        } else {
+            request(&mut text, random)?;
         }
     }
     Ok(text)
+}
+
+/// Adds what a line asks for, and its end.
+fn request(text: &mut String, random: &mut Random) -> Result<()> {
+    match random.below(9) {
+        0 | 1 => writeln!(
+            text,
+            "unveil {} {}",
+            random.pick(&PATHS),
+            random.pick(&PERMS)
+        )?,
+        2 => writeln!(
+            text,
+            "pledge {} {}",
+            random.pick(&PLEDGES),
+            random.pick(&PLEDGES)
+        )?,
+        3 => writeln!(
+            text,
+            "rename {} {}",
+            random.pick(&PATHS),
+            random.pick(&PATHS)
+        )?,
+        4 => writeln!(text, "link {} {}", random.pick(&PATHS), random.pick(&PATHS))?,
+        5 => writeln!(
+            text,
+            "symlink {} {}",
+            random.pick(&TARGETS),
+            random.pick(&PATHS)
+        )?,
+        6 if random.below(2) == 0 => writeln!(text, "unveil - -")?,
+        _ => writeln!(text, "{} {}", random.pick(&CALLS), random.pick(&PATHS))?,
+    }
+    Ok(())
 }

@@ -1,17 +1,25 @@
 //! Runs the examples: the story of each folder, the table of rows, what the program prints of itself,
-//! the limits, chosen walks, and random cases by a fixed seed. A line is printed for each folder and
-//! each limit, which says whether what is written is what was expected; then one for each row and
-//! each case of which that isn't so, with their counts.
+//! the limits, edits of two kinds of trees, audits that reach next to nothing, chosen walks, random
+//! cases by a fixed seed, and what requests leave of random worlds. A line is printed for each folder,
+//! each limit and each such audit, which says whether what is written is what was expected; then one
+//! for each row, edit and case of which that isn't so, with their counts.
 #![tactic(auto)]
 
 mod case;
+mod dead;
+mod edits;
+mod futures;
 mod generator;
 mod limits;
+mod listed;
 mod random;
+mod reached;
 mod rows;
 mod shown;
+mod spared;
 mod stories;
 mod table;
+mod trees;
 mod walks;
 mod written;
 
@@ -22,6 +30,9 @@ fn main(rt: HostRuntime) -> Result<()> {
     rows::run(&rt)?;
     shown::run(&rt)?;
     limits::run(&rt)?;
+    edits::run(&rt)?;
+    dead::run(&rt)?;
     walks::run(&rt)?;
-    random::run(&rt)
+    random::run(&rt)?;
+    futures::run(&rt)
 }

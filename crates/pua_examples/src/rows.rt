@@ -1,16 +1,20 @@
-//! The table of rows: what commands over small listings and scripts write. Each audit that a row has
+//! The table of rows: what commands over small listings and scripts write. Each command whose inputs
+//! are there is also done by calls of the libraries, over each kind of tree. Each audit that a row has
 //! whole is also cut after each of its lines and resumed there.
 
 use crate::table::{Misused, Refused, Row, Table, ended};
+use crate::trees::are_alike;
 use crate::written::{Files, SMALL};
 use anyhow::{Result, anyhow};
+use pua_tool::DEVICE;
 use std::alloc::Global;
 use std::fs;
 
 /// The words before the operands of the commands that refuse an input. The last one's limit is
 /// refused too, though later.
-const REFUSING: [&[&str]; 3] = [
+const REFUSING: [&[&str]; 4] = [
     &["run", "TREE", "SCRIPT"],
+    &["objects", "TREE", "SCRIPT"],
     &["audit", "--limit", "1", "TREE", "SCRIPT"],
     &["audit", "--limit", "17", "TREE", "SCRIPT"],
 ];
@@ -21,9 +25,9 @@ const ROOT: &str = "tree 1\n0 dir\n";
 /// The script beside a listing with a fault: it has one too.
 const NO_SCRIPT: &str = "0";
 
-/// Prints a line for each part of the table that is not as expected, or whose audit goes on in
-/// another way where it is resumed; then how many there are, and after how many lines an audit was
-/// resumed.
+/// Prints a line for each part of the table that is not as expected, over either kind of tree, or
+/// whose audit goes on in another way where it is resumed; then how many there are, and after how many
+/// lines an audit was resumed.
 pub(crate) fn run(rt: &HostRuntime) -> Result<()> {
     let alloc = rt.alloc();
     let text = fs::read_to_string(rt, "rows.toml")?;
@@ -91,7 +95,8 @@ fn is_refused(alloc: Global, refused: &Refused) -> Result<bool> {
     let fault = ended(alloc, refused.fault.as_str())?;
     for words in &REFUSING {
         let written = files.written(alloc, words, SMALL)?;
-        if !written.is(1, b"", fault.as_bytes()) {
+        let is_reported = written.is(1, b"", fault.as_bytes());
+        if !is_reported || !are_alike(alloc, words, &files, "", fault.as_str())? {
             return Ok(false);
         }
     }
@@ -99,13 +104,25 @@ fn is_refused(alloc: Global, refused: &Refused) -> Result<bool> {
 }
 
 /// After how many lines a row's audit was resumed: none where the row has no whole audit. None
-/// where the row's command wrote something else, or the audit went on in another way.
+/// where the row's command wrote something else, over either kind of tree, or the audit went on in
+/// another way. A row with an input that can't be read has no tree.
 fn judged(alloc: Global, row: &Row, files: &Files<'_>) -> Result<Option<usize>> {
     let words: Vec<&str> = row.command.as_str().split_whitespace().collect(alloc)?;
     let output = row.output(alloc)?;
     let fault = ended(alloc, row.fault.as_str())?;
     let written = files.written(alloc, words.as_slice(), SMALL)?;
     if !written.is(row.status, output.as_bytes(), fault.as_bytes()) {
+        return Ok(None);
+    }
+    if row.status != DEVICE
+        && !are_alike(
+            alloc,
+            words.as_slice(),
+            files,
+            output.as_str(),
+            fault.as_str(),
+        )?
+    {
         return Ok(None);
     }
     if row.reach.is_none() {

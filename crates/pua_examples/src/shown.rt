@@ -8,13 +8,15 @@ use std::alloc::Global;
 const VERSION: &[u8] = b"pua 0.1.0\nrattle-kit-13b logic dac8208d650f15bf\n";
 
 /// The words by which help is asked for.
-const HELP: [&[&str]; 6] = [
+const HELP: [&[&str]; 8] = [
     &["--help"],
     &["-h"],
     &["help"],
     &["help", "run"],
     &["run", "--help"],
     &["audit", "-h"],
+    &["audit", "--help"],
+    &["objects", "--help"],
 ];
 
 /// The most bytes in a line of help. All of them are ASCII.

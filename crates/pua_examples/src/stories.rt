@@ -1,5 +1,5 @@
 //! The stories: each folder has a listing, a script, the words of a command over them, and what it
-//! writes.
+//! writes; and the same of a list of objects.
 
 use crate::written::{SMALL, as_expected, run_command};
 use anyhow::Result;
@@ -22,11 +22,13 @@ const STORIES: [&str; 11] = [
     "second-name",
 ];
 
-/// Prints a line for each folder, which says whether its command writes what the folder has; and one
-/// for a command whose listing isn't there.
+/// Prints a line for each folder, which says whether its two commands write what the folder has; and
+/// one for a command whose listing isn't there.
 pub(crate) fn run(rt: &HostRuntime) -> Result<()> {
     for story in &STORIES {
-        let seen = as_expected(is_so(rt, story)?);
+        let is_told = is_so(rt, story, "command", "output")?;
+        let is_listed = is_so(rt, story, "objects-command", "objects-output")?;
+        let seen = as_expected(is_told && is_listed);
         println!(rt; "{story}: {seen}")?;
     }
     let seen = as_expected(is_missed(rt)?);
@@ -34,11 +36,11 @@ pub(crate) fn run(rt: &HostRuntime) -> Result<()> {
     Ok(())
 }
 
-/// Whether a story's command writes what its folder has.
-fn is_so<R: AllocGlobal + Files>(rt: &R, story: &str) -> Result<bool> {
+/// Whether the command in one file of a story writes what another one has.
+fn is_so<R: AllocGlobal + Files>(rt: &R, story: &str, command: &str, output: &str) -> Result<bool> {
     let alloc = rt.alloc();
-    let line = fs::read_to_string(rt, format!(in alloc; "{story}/command")?.as_str())?;
-    let output = fs::read(rt, format!(in alloc; "{story}/output")?.as_str())?;
+    let line = fs::read_to_string(rt, format!(in alloc; "{story}/{command}")?.as_str())?;
+    let output = fs::read(rt, format!(in alloc; "{story}/{output}")?.as_str())?;
     let words: Vec<&str> = line.as_str().split_whitespace().skip(1).collect(alloc)?;
     let mut inputs = DiskInputs::new(rt);
     let written = run_command(alloc, words.as_slice(), &mut inputs, SMALL)?;

@@ -55,6 +55,9 @@ pub(crate) struct Row {
     pub(crate) reach: Option<u32>,
     #[serde(default)]
     pub(crate) pairs: String,
+    pub(crate) objects: Option<u32>,
+    #[serde(default)]
+    pub(crate) lines: String,
     #[serde(default)]
     pub(crate) fault: String,
     #[serde(default)]
@@ -62,8 +65,9 @@ pub(crate) struct Row {
 }
 
 impl Row {
-    /// The text that the row's command writes: each answer behind the number of its line, the line
-    /// `reach P`, and a line for each pair.
+    /// The text that the row's command writes: each answer behind the number of its line; of an audit
+    /// the line `reach P`, and a line for each pair; of a list of objects the line `objects P`, and
+    /// its lines.
     pub(crate) fn output(&self, alloc: Global) -> Result<String> {
         let mut text = String::new(alloc);
         for (place, answer) in self.answers.as_str().split_whitespace().enumerate() {
@@ -80,6 +84,10 @@ impl Row {
                 }
             }
         }
+        if let Some(process) = self.objects {
+            writeln!(text, "objects {process}")?;
+        }
+        text.push_str(self.lines.as_str())?;
         Ok(text)
     }
 }

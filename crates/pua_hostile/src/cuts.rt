@@ -2,10 +2,11 @@
 
 use crate::listed::listing_of;
 use crate::rows::read_row;
+use crate::trees::ListedTree;
 use crate::{LISTING, SCRIPT};
 use anyhow::Result;
 use pua_script::read_script;
-use pua_tree::read_listing;
+use pua_tree::{ListTree, SlabTree};
 use std::alloc::Global;
 use std::fs;
 
@@ -27,7 +28,10 @@ impl Whole {
     /// Whether this is what comes of reading a front.
     fn is_read_as(self, alloc: Global, front: &[u8], answer: &str) -> Result<bool> {
         match self {
-            Whole::Listing => is_listing(alloc, front, answer),
+            Whole::Listing => {
+                let is_listed = is_listing::<ListTree>(alloc, front, answer)?;
+                Ok(is_listed && is_listing::<SlabTree>(alloc, front, answer)?)
+            }
             Whole::Script => is_script(alloc, front, answer),
         }
     }
@@ -71,10 +75,10 @@ fn answered(rt: &HostRuntime, whole: Whole, from: usize, to: usize, answer: &str
     Ok(to.saturating_add(1))
 }
 
-/// Whether a front of the listing is `accepted`, and the tree's own listing is then this front, or
-/// it is refused with this fault.
-fn is_listing(alloc: Global, front: &[u8], answer: &str) -> Result<bool> {
-    match read_listing(alloc, front) {
+/// Whether a front of the listing is `accepted` for a tree of this kind, and the tree's own listing is
+/// then this front, or it is refused with this fault.
+fn is_listing<T: ListedTree>(alloc: Global, front: &[u8], answer: &str) -> Result<bool> {
+    match T::read(alloc, front) {
         Ok(tree) => {
             let listing = listing_of(alloc, &tree)?;
             let is_same = listing.as_slice() == front || is_ended(listing.as_slice(), front);

@@ -2,6 +2,7 @@
 //! what was handed in is as it was, and the second call answers as if there had been no first one.
 
 mod lines;
+mod objects;
 mod processes;
 mod readings;
 mod seen;
@@ -9,6 +10,7 @@ mod texts;
 mod worlds;
 
 use anyhow::Result;
+use pua_tree::{ListTree, SlabTree};
 
 /// Makes the calls, and prints how many of them were refused a growth and made once more, after a
 /// line for each kind of calls of which something was wrong then. It fails where a growth is refused
@@ -21,6 +23,7 @@ pub(crate) fn run(rt: &HostRuntime) -> Result<()> {
         ("processes", processes::hold(alloc, &mut again)?),
         ("worlds", worlds::hold(alloc, &mut again)?),
         ("audits", lines::hold(alloc, &mut again)?),
+        ("objects", objects::hold(alloc, &mut again)?),
         ("texts", texts::hold(alloc, &mut again)?),
     ] {
         if !holds {
@@ -31,9 +34,16 @@ pub(crate) fn run(rt: &HostRuntime) -> Result<()> {
     Ok(())
 }
 
-/// Lists a reach, and prints whether that was refused as it began, or is whole: nothing takes memory
-/// between the lines.
+/// Lists a reach by paths and by objects, over trees of both kinds, and prints of each list whether it
+/// was refused as it began, or is whole: nothing takes memory between the lines.
 pub(crate) fn list(rt: &HostRuntime) -> Result<()> {
-    println!(rt; "an audit: {}", lines::listed(rt.alloc()))?;
+    let alloc = rt.alloc();
+    println!(rt; "an audit: {}", lines::listed::<ListTree>(alloc))?;
+    println!(rt; "an audit over slots: {}", lines::listed::<SlabTree>(alloc))?;
+    println!(rt; "objects: {}", objects::listed::<ListTree>(alloc))?;
+    println!(rt;
+        "objects over slots: {}",
+        objects::listed::<SlabTree>(alloc)
+    )?;
     Ok(())
 }

@@ -1,14 +1,14 @@
 //! Trees written out as listings.
 
 use anyhow::{Result, anyhow};
-use pua_tree::{FileTree, Kind, ListTree, Name, NodeId, byte_spelling};
+use pua_tree::{FileTree, Kind, Name, NodeId, byte_spelling};
 use std::alloc::Global;
 
 /// Numbers from here on are of no node, in the trees that are listed here.
 const NUMBERS: u32 = 16;
 
 /// The listing of a tree whose numbers are below 16, by looks at it alone.
-pub(crate) fn listing_of(alloc: Global, tree: &ListTree) -> Result<Vec<u8>> {
+pub(crate) fn listing_of<T: FileTree>(alloc: Global, tree: &T) -> Result<Vec<u8>> {
     let names = tree.names(alloc).map_err(|fault| anyhow!("{fault}"))?;
     let mut listing = Vec::from_slice(alloc, b"tree 1\n0 dir\n")?;
     for number in 1..NUMBERS {
@@ -18,9 +18,9 @@ pub(crate) fn listing_of(alloc: Global, tree: &ListTree) -> Result<Vec<u8>> {
 }
 
 /// Adds the line of a node, for each row that the node has.
-fn list_node(
+fn list_node<T: FileTree>(
     alloc: Global,
-    tree: &ListTree,
+    tree: &T,
     names: &[Name],
     number: u32,
     listing: &mut Vec<u8>,
@@ -44,7 +44,7 @@ fn list_node(
 }
 
 /// Adds a link's target.
-fn list_target(tree: &ListTree, node: NodeId, listing: &mut Vec<u8>) -> Result<()> {
+fn list_target<T: FileTree>(tree: &T, node: NodeId, listing: &mut Vec<u8>) -> Result<()> {
     if let Some(target) = tree.target(node) {
         listing.push(b' ')?;
         spell(target, listing)?;

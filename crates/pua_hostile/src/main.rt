@@ -1,17 +1,21 @@
 //! Runs the libraries in hostile surroundings: sinks that take a byte at a time and break, readers
-//! that give a byte at a time and fail, inputs that are cut anywhere or hold a wrong byte, and links
-//! that lead to one another. A line is printed for each case that is not as it has to be, and for each
+//! that give a byte at a time and fail, the machine's own outputs and files where they fail, inputs
+//! that are cut anywhere or hold a wrong byte, links that lead to one another, and trees in which
+//! nearly nothing is reached. A line is printed for each case that is not as it has to be, and for each
 //! table how many cases it has. With the word `growth` it makes only the calls to which growths may
 //! be refused, and with `list` only lists a reach.
 #![tactic(auto)]
 
 mod broken;
 mod cuts;
+mod dead;
+mod devices;
 mod dripping;
 mod growth;
 mod listed;
 mod nets;
 mod rows;
+mod trees;
 mod variants;
 
 use anyhow::Result;
@@ -38,6 +42,8 @@ fn run_all(rt: &HostRuntime) -> Result<()> {
     broken::run(rt)?;
     cuts::run(rt)?;
     nets::run(rt)?;
+    dead::run(rt)?;
+    devices::run(rt)?;
     variants::run(rt)?;
     growth::run(rt)?;
     growth::list(rt)

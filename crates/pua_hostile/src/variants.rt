@@ -3,10 +3,11 @@
 
 use crate::listed::listing_of;
 use crate::rows::read_row;
+use crate::trees::ListedTree;
 use crate::{LISTING, SCRIPT};
 use anyhow::{Result, anyhow, bail};
 use pua_tool::{MemorySink, ToolFault, run_to};
-use pua_tree::read_listing;
+use pua_tree::{ListTree, SlabTree};
 use std::alloc::Global;
 use std::fs;
 
@@ -33,7 +34,10 @@ impl Varied {
     /// Whether this is what comes of a variant in which the byte at a place is another.
     fn is_answered(self, alloc: Global, variant: &[u8], at: usize, answer: &str) -> Result<bool> {
         match self {
-            Varied::Listing => is_listing(alloc, variant, at, answer),
+            Varied::Listing => {
+                let is_listed = is_listing::<ListTree>(alloc, variant, at, answer)?;
+                Ok(is_listed && is_listing::<SlabTree>(alloc, variant, at, answer)?)
+            }
             Varied::Script => is_script(alloc, variant, answer),
         }
     }
@@ -84,10 +88,15 @@ fn is_answered(alloc: Global, varied: Varied, at: usize, letter: u8, answer: &st
     varied.is_answered(alloc, variant.as_slice(), at, answer)
 }
 
-/// Whether a listing is refused with this fault, or is that of a tree with this line in place of the
-/// one that had the place.
-fn is_listing(alloc: Global, variant: &[u8], at: usize, answer: &str) -> Result<bool> {
-    match read_listing(alloc, variant) {
+/// Whether a listing is refused with this fault, or is that of a tree of this kind with this line in
+/// place of the one that had the place.
+fn is_listing<T: ListedTree>(
+    alloc: Global,
+    variant: &[u8],
+    at: usize,
+    answer: &str,
+) -> Result<bool> {
+    match T::read(alloc, variant) {
         Ok(tree) => {
             let Some(line) = answer.strip_prefix("is ") else {
                 return Ok(false);

@@ -1,10 +1,12 @@
 -- Texts as bytes: in the definitions a text is a list of numbers.
-use Rattle.std.specs.Prelude.{◌≡◌, ℕ, Bool, true, ◌&&◌, List, nat_lt, Some, IsTrue}
+use Rattle.std.specs.Prelude.{◌≡◌, ℕ, Bool, true, ◌&&◌, List, nat_lt, Some, Ok, IsTrue}
 use Rattle.std.specs.List.{list_all}
 use Rattle.pua_tree.specs.Tree.{Tree, WellFormed, target_at}
+use Rattle.pua_tree.specs.Listing.{listing}
 use Rattle.pua_policy.specs.Calls.{CallTable}
 use Rattle.pua_script.specs.Requests.{Asked}
-use Rattle.pua_script.specs.Replay.{World, apply}
+use Rattle.pua_script.specs.Scripts.{script}
+use Rattle.pua_script.specs.Replay.{World, apply, world_after}
 use Rattle.pua_script.specs.Confinement.{TreesAlong}
 use Rattle.pua_script.specs.declared.request.Action.{Action}
 use Rattle.pua_script.specs.declared.request.Action.TheVariants.{OnPath, Symlink, Rename, Link, Unveil}
@@ -36,3 +38,15 @@ RequestsKeepTrees = (table : CallTable) (w : World) (ask : Asked) → IsByteTree
 -- so each world on the way of requests in bytes has a tree
 abbrev pub ReplaysKeepTrees : Type 0
 ReplaysKeepTrees = (table : CallTable) (w : World) (asks : List Asked) → IsByteTree w.tree → IsTrue (are_in_bytes asks) → TreesAlong table w asks
+
+-- and leaves such a tree at the end
+abbrev pub ReplaysKeepByteTrees : Type 0
+ReplaysKeepByteTrees = (table : CallTable) (w : World) (asks : List Asked) → IsByteTree w.tree → IsTrue (are_in_bytes asks) → IsByteTree (world_after table w asks).tree
+
+-- what is read as a listing is such a tree
+abbrev pub ListingsListByteTrees : Type 0
+ListingsListByteTrees = (bytes : List ℕ) (t : Tree) → listing bytes ≡ Ok t → IsByteTree t
+
+-- and what is read as a script asks in bytes
+abbrev pub ScriptsAskInBytes : Type 0
+ScriptsAskInBytes = (bytes : List ℕ) (asks : List Asked) → script bytes ≡ Ok asks → IsTrue (are_in_bytes asks)

@@ -1,7 +1,7 @@
 //! Laws on what becomes of a process that can put no veil any more, because it is locked or does not
 //! hold `unveil`, whatever is asked afterwards. Each is the contract of a function that does nothing.
 
-ghost use Rattle.pua_script.specs.Bytes.{ReplaysKeepTrees, RequestsKeepTrees};
+ghost use Rattle.pua_script.specs.Bytes.{ListingsListByteTrees, ReplaysKeepByteTrees, ReplaysKeepTrees, RequestsKeepTrees, ScriptsAskInBytes};
 ghost use Rattle.pua_script.specs.Confinement.{CpathChanges, EachRequestSpares, FamiliesConfine};
 ghost use Rattle.pua_script.specs.ErrorTables.{ErrorTables};
 ghost use Rattle.pua_script.specs.Futures.{StandardTableNarrows};
@@ -39,10 +39,14 @@ pub fn confined_law()
     ensures cpath { CpathChanges }
 {}
 
-/// Requests whose texts are bytes leave a tree, if the links of the tree before lead to bytes.
+/// Requests whose texts are bytes leave a tree whose links lead to bytes, if those of the tree before
+/// do. So do the links of each tree that is read as a listing, and the texts of each script are bytes.
 pub fn bytes_law()
     ensures one { RequestsKeepTrees }
     ensures many { ReplaysKeepTrees }
+    ensures last { ReplaysKeepByteTrees }
+    ensures listings { ListingsListByteTrees }
+    ensures scripts { ScriptsAskInBytes }
 {}
 
 /// The standard table is one of those that the laws speak of: no call needs `error`, rmdir and unlink

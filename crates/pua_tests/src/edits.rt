@@ -1,8 +1,9 @@
-//! Edits of a tree.
+//! Edits of a tree, of each kind.
 
 use crate::example::EXAMPLE;
 use crate::expect::{expect, expect_eq, expect_row};
-use pua_tree::{FileTree, Kind, ListTree, Name, NodeId, TreeFault, read_listing};
+use crate::told::ROOT;
+use pua_tree::{FileTree, Kind, Name, NodeId, TreeFault, read_listing, read_listing_slab};
 use std::alloc::Global;
 use std::process::Abort;
 use std::test::Fail;
@@ -30,7 +31,7 @@ enum Step {
 type Answer = Result<Option<u32>, TreeFault>;
 
 /// What a step answers; None where one of its names is none.
-fn answer(tree: &mut ListTree, step: Step) -> Option<Answer> {
+fn answer<T: FileTree>(tree: &mut T, step: Step) -> Option<Answer> {
     match step {
         Step::Add(kind, dir, name) => added(tree, kind, dir, name),
         Step::Tie(dir, name, node) => tied(tree, dir, name, node),
@@ -42,7 +43,7 @@ fn answer(tree: &mut ListTree, step: Step) -> Option<Answer> {
     }
 }
 
-fn added(tree: &mut ListTree, kind: Kind, dir: u32, name: &[u8]) -> Option<Answer> {
+fn added<T: FileTree>(tree: &mut T, kind: Kind, dir: u32, name: &[u8]) -> Option<Answer> {
     let name = Name::from_bytes(name)?;
     match kind {
         Kind::Link => None,
@@ -50,7 +51,7 @@ fn added(tree: &mut ListTree, kind: Kind, dir: u32, name: &[u8]) -> Option<Answe
     }
 }
 
-fn tied(tree: &mut ListTree, dir: u32, name: &[u8], node: u32) -> Option<Answer> {
+fn tied<T: FileTree>(tree: &mut T, dir: u32, name: &[u8], node: u32) -> Option<Answer> {
     let name = Name::from_bytes(name)?;
     match tree.tie(NodeId::new(dir), name, NodeId::new(node)) {
         Ok(()) => Some(Ok(None)),
@@ -58,13 +59,13 @@ fn tied(tree: &mut ListTree, dir: u32, name: &[u8], node: u32) -> Option<Answer>
     }
 }
 
-fn cut(tree: &mut ListTree, dir: u32, name: &[u8]) -> Option<Answer> {
+fn cut<T: FileTree>(tree: &mut T, dir: u32, name: &[u8]) -> Option<Answer> {
     let name = Name::from_bytes(name)?;
     Some(found(tree.cut(NodeId::new(dir), &name)))
 }
 
-fn shifted(
-    tree: &mut ListTree,
+fn shifted<T: FileTree>(
+    tree: &mut T,
     from: u32,
     name: &[u8],
     to: u32,
@@ -78,12 +79,12 @@ fn shifted(
     }
 }
 
-fn looked(tree: &ListTree, dir: u32, name: &[u8]) -> Option<Answer> {
+fn looked<T: FileTree>(tree: &T, dir: u32, name: &[u8]) -> Option<Answer> {
     let name = Name::from_bytes(name)?;
     Some(Ok(numbered(tree.look(NodeId::new(dir), &name))))
 }
 
-fn standing(tree: &ListTree, node: u32) -> Option<u32> {
+fn standing<T: FileTree>(tree: &T, node: u32) -> Option<u32> {
     match tree.kind(NodeId::new(node)) {
         Some(_) => Some(node),
         None => None,
@@ -104,13 +105,18 @@ fn found(node: Result<NodeId, TreeFault>) -> Answer {
     }
 }
 
-/// Takes steps one after the other, from the example on, and compares their answers.
+/// Takes steps one after the other, from the example on, and compares their answers: over each kind
+/// of tree.
 fn expect_steps(rt: &impl Abort, alloc: Global, steps: &[(Step, Answer)]) -> Result<(), Fail> {
-    let mut tree = read_listing(alloc, EXAMPLE)?;
-    for (number, (step, want)) in steps.iter().enumerate() {
-        expect_row(rt, number, &answer(&mut tree, *step), &Some(*want));
-    }
+    take_steps(rt, &mut read_listing(alloc, EXAMPLE)?, steps);
+    take_steps(rt, &mut read_listing_slab(alloc, EXAMPLE)?, steps);
     Ok(())
+}
+
+fn take_steps<T: FileTree>(rt: &impl Abort, tree: &mut T, steps: &[(Step, Answer)]) {
+    for (number, (step, want)) in steps.iter().enumerate() {
+        expect_row(rt, number, &answer(tree, *step), &Some(*want));
+    }
 }
 
 const GIVEN_ONCE: [(Step, Answer); 8] = [
@@ -212,32 +218,44 @@ fn edits_are_refused(rt: HostRuntime) -> Result<(), Fail> {
     expect_steps(&rt, rt.alloc(), &REFUSED)
 }
 
-#[test]
-fn targets_are_kept(rt: HostRuntime) -> Result<(), Fail> {
-    let mut tree = read_listing(rt.alloc(), EXAMPLE)?;
+/// Adds a link, and expects the next number and its target.
+fn expect_target<T: FileTree>(rt: &impl Abort, tree: &mut T) -> Result<(), Fail> {
     let name = Name::read(b"new")?;
     let node = tree.add(NodeId::new(3), name, Kind::Link, Some(b"sh"))?;
     let is_kept = tree.target(node) == Some(b"sh".as_slice());
-    expect(&rt, "node 8 is a link to sh", is_kept && node.number() == 8);
+    expect(rt, "node 8 is a link to sh", is_kept && node.number() == 8);
+    Ok(())
+}
+
+#[test]
+fn targets_are_kept(rt: HostRuntime) -> Result<(), Fail> {
+    expect_target(&rt, &mut read_listing(rt.alloc(), EXAMPLE)?)?;
+    expect_target(&rt, &mut read_listing_slab(rt.alloc(), EXAMPLE)?)
+}
+
+/// What a full tree answers.
+const FULL: [(Step, Answer); 5] = [
+    (Step::Add(Kind::File, 0, b"more"), Err(TreeFault::Full)),
+    (Step::Tie(0, b"more", 1), Err(TreeFault::Full)),
+    (Step::Tie(0, b"00001", 1), Err(TreeFault::Taken)),
+    (Step::Cut(0, b"65534"), Ok(Some(65_534))),
+    (Step::Add(Kind::File, 0, b"more"), Ok(Some(65_535))),
+];
+
+/// Fills the root of a tree, and expects what a full tree answers.
+fn expect_full<T: FileTree>(rt: &impl Abort, alloc: Global, tree: &mut T) -> Result<(), Fail> {
+    for number in 1..65_535 {
+        let name = format!(in alloc; "{number:05}")?;
+        let node = added(tree, Kind::File, 0, name.as_bytes());
+        expect_eq(rt, "each node is added", &node, &Some(Ok(Some(number))));
+    }
+    take_steps(rt, tree, &FULL);
     Ok(())
 }
 
 #[test]
 fn takes_65535_nodes_and_no_more(rt: HostRuntime) -> Result<(), Fail> {
-    let mut tree = read_listing(rt.alloc(), b"tree 1\n0 dir\n")?;
-    for number in 1..65_535 {
-        let name = format!(in rt.alloc(); "{number:05}")?;
-        let node = added(&mut tree, Kind::File, 0, name.as_bytes());
-        expect_eq(&rt, "each node is added", &node, &Some(Ok(Some(number))));
-    }
-    for (step, want) in [
-        (Step::Add(Kind::File, 0, b"more"), Err(TreeFault::Full)),
-        (Step::Tie(0, b"more", 1), Err(TreeFault::Full)),
-        (Step::Tie(0, b"00001", 1), Err(TreeFault::Taken)),
-        (Step::Cut(0, b"65534"), Ok(Some(65_534))),
-        (Step::Add(Kind::File, 0, b"more"), Ok(Some(65_535))),
-    ] {
-        expect_eq(&rt, "a full tree", &answer(&mut tree, step), &Some(want));
-    }
-    Ok(())
+    let alloc = rt.alloc();
+    expect_full(&rt, alloc, &mut read_listing(alloc, ROOT)?)?;
+    expect_full(&rt, alloc, &mut read_listing_slab(alloc, ROOT)?)
 }

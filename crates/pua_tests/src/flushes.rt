@@ -2,7 +2,9 @@
 
 use crate::expect::expect;
 use pua_tool::{PutFault, StreamSink, put_all};
-use std::io::{self, Write};
+use std::alloc::Global;
+use std::io::{self, BufWriter, Write};
+use std::test::Fail;
 
 /// Hands on at a flush what was written before it, or fails there.
 #[derive(Drop)]
@@ -27,28 +29,30 @@ impl Write for HoldingBack {
     }
 }
 
-/// Puts five bytes to a sink over this writer, and flushes it.
-fn put_and_flush(writer: &mut HoldingBack) -> Result<(), PutFault> {
-    let mut sink = StreamSink::new(writer);
-    put_all(&mut sink, b"1 ok\n")?;
-    sink.flush()
-}
-
-/// What the flush answers, and how many of the five bytes it hands on.
-fn flushed(fails: bool) -> (Result<(), PutFault>, usize) {
+/// What a flush answers behind which five bytes were put to a sink, whose buffer has room for them, and
+/// how many bytes the writer below the buffer has handed on then.
+fn flushed(alloc: Global, fails: bool) -> Result<(Result<(), PutFault>, usize), Fail> {
     let mut writer = HoldingBack {
         held: 0,
         handed_on: 0,
         fails,
     };
-    let done = put_and_flush(&mut writer);
-    (done, writer.handed_on)
+    let done = put_and_flush(BufWriter::new(alloc, &mut writer)?);
+    Ok((done, writer.handed_on))
+}
+
+/// Puts five bytes to a sink over this buffer, and flushes it.
+fn put_and_flush(buffer: BufWriter<&mut HoldingBack>) -> Result<(), PutFault> {
+    let mut sink = StreamSink::new(buffer);
+    put_all(&mut sink, b"1 ok\n")?;
+    sink.flush()
 }
 
 #[test]
-fn a_flush_hands_on_what_is_held_back_or_fails(rt: HostRuntime) {
-    let done = flushed(false) == (Ok(()), 5);
+fn a_flush_hands_on_what_is_held_back_or_fails(rt: HostRuntime) -> Result<(), Fail> {
+    let done = flushed(rt.alloc(), false)? == (Ok(()), 5);
     expect(&rt, "all five bytes are handed on", done);
-    let failed = flushed(true) == (Err(PutFault), 0);
+    let failed = flushed(rt.alloc(), true)? == (Err(PutFault), 0);
     expect(&rt, "a flush that fails is a fault", failed);
+    Ok(())
 }

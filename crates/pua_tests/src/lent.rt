@@ -5,7 +5,7 @@ ghost use Rattle.std.specs.Prelude.{◌≡◌, IfOk};
 use pua_audit::{Audit, AuditFault, Base};
 use pua_path::Counted;
 use pua_policy::Process;
-use pua_tree::ListTree;
+use pua_tree::{FileTree, ListTree};
 use std::alloc::{AllocError, Global};
 
 /// Begins the audit of a new process over a tree, with one candidate, which has a blank.
@@ -34,12 +34,12 @@ pub(crate) fn begun(
 }
 
 /// All lines that an audit has still to lend: each path in plain bytes, and the call behind a blank.
-pub(crate) fn lines_of(
+pub(crate) fn lines_of<T: FileTree>(
     alloc: Global,
-    tree: &ListTree,
+    tree: &T,
     audit: &mut Audit,
 ) -> Result<Vec<u8>, AllocError>
-    requires { audit.old.tree ≡ tree.now }
+    requires { audit.old.tree ≡ T.content tree.now }
     ensures { audit.new.tree ≡ audit.old.tree }
 {
     let mut lines = Vec::new(alloc);

@@ -25,6 +25,8 @@ mod lines;
 #[cfg(test)]
 mod listings;
 #[cfg(test)]
+mod live;
+#[cfg(test)]
 mod names;
 #[cfg(test)]
 mod objects;

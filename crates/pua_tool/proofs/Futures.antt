@@ -1,18 +1,25 @@
 -- What a family reaches and changes, by what its histories allow.
 use Rattle.std.proofs.Common.{◌≡◌, ℕ, List, [], ◌∷◌, ◌++◌, map, codes, Bool, true, refl, sym, ap, subst, ◌∙◌}
+use Rattle.std.specs.Prelude.{Ok}
+use Rattle.std.proofs.lemmas.Bool.{and_parts}
+use Rattle.std.proofs.lemmas.List.Folds.{list_all-append}
 use Rattle.pua_tree.specs.Tree.{Tree, distinct_names}
+use Rattle.pua_tree.specs.Listing.{listing}
 use Rattle.pua_path.specs.Paths.{is_absolute}
-use Rattle.pua_policy.specs.Calls.{CallTable}
+use Rattle.pua_policy.specs.Calls.{CallTable, standard_table}
 use Rattle.pua_policy.specs.History.{History, working_dir}
 use Rattle.pua_audit.specs.Reach.{path_of, alphabet_of}
 use Rattle.pua_audit.specs.SubLists.{SubList}
 use Rattle.pua_audit.specs.declared.base.Base.{Base}
 use Rattle.pua_audit.specs.declared.base.Base.TheVariants.{Root, Cwd}
 use Rattle.pua_audit.proofs.ForCallers.{fewer_reach_less, reach_needs_rows}
-use Rattle.pua_script.specs.Replay.{world_after}
+use Rattle.pua_script.specs.Requests.{Asked}
+use Rattle.pua_script.specs.Scripts.{script}
+use Rattle.pua_script.specs.Replay.{new_world, world_after}
+use Rattle.pua_script.specs.Bytes.{is_in_bytes, are_in_bytes, IsByteTree}
 use Rattle.pua_script.specs.Tightening.{AllowsNoMore}
-use Rattle.pua_script.proofs.ForCallers.{families_narrow, families_confine, replays_keep_trees}
-use Rattle.pua_tool.specs.Futures.{reach_over, ReachesNoMore, Narrowing, NarrowingNow, Confinement}
+use Rattle.pua_script.proofs.ForCallers.{families_narrow, families_confine, replays_keep_trees, replays_keep_byte_trees, listings_list_byte_trees, scripts_ask_in_bytes, standard_table_narrows}
+use Rattle.pua_tool.specs.Futures.{reach_over, ReachesNoMore, Narrowing, NarrowingNow, Confinement, NarrowingAsRead, ConfinementAsRead}
 
 root_path : (word : List (List ℕ)) → is_absolute (path_of Root word) ≡ true
 root_path [] = refl
@@ -66,3 +73,26 @@ confinement table w process now asks here confined none alone =
       spares = λ needs is_tree small. both.spares needs (replays_keep_trees table w asks is_tree small);
       unchanged = both.unchanged;
     }
+
+pub narrowing_as_read : NarrowingAsRead
+narrowing_as_read tree_bytes script_bytes t first asks listed scripted process now here confined none member belongs =
+    let w = world_after standard_table (new_world t) first in
+    let one = narrowing standard_table standard_table_narrows.error w process now asks here confined none member belongs in
+    (one.0, one.1, one.2.1 (world_after standard_table w asks).tree)
+
+-- all texts that are read are bytes: those of the tree, of the first lines, and of the others
+module _ (tree_bytes script_bytes : List ℕ) (t : Tree) (first asks : List Asked) (listed : listing tree_bytes ≡ Ok t) (scripted : script script_bytes ≡ Ok (first ++ asks)) where
+  both_in_bytes : (are_in_bytes first ≡ true) × (are_in_bytes asks ≡ true)
+  both_in_bytes = and_parts (are_in_bytes first) (are_in_bytes asks)
+      (sym (list_all-append (λ ask. is_in_bytes ask.action) first asks) ∙ scripts_ask_in_bytes script_bytes (first ++ asks) scripted)
+
+  tree_in_bytes : IsByteTree (world_after standard_table (new_world t) first).tree
+  tree_in_bytes = replays_keep_byte_trees standard_table (new_world t) first (listings_list_byte_trees tree_bytes t listed) both_in_bytes.0
+
+pub confinement_as_read : ConfinementAsRead
+confinement_as_read tree_bytes script_bytes t first asks listed scripted process now here confined none alone =
+    let w = world_after standard_table (new_world t) first in
+    let both = confinement standard_table w process now asks here confined none alone in (
+      both.spares standard_table_narrows.taking (tree_in_bytes tree_bytes script_bytes t first asks listed scripted) (both_in_bytes tree_bytes script_bytes t first asks listed scripted).1,
+      both.unchanged standard_table_narrows.changing,
+    )

@@ -2,3 +2,6 @@ pub mod Putting
 pub mod Replays
 pub mod Pairs
 pub mod Futures
+pub mod Alike
+pub mod Passing
+pub mod ObjectTexts

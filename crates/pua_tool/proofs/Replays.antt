@@ -1,7 +1,7 @@
 -- What is replayed and begun, step by step.
-use Rattle.std.proofs.Common.{◌≡◌, ℕ, List, refl, ◌∙◌}
+use Rattle.std.proofs.Common.{◌≡◌, ℕ, List, ◌++◌, refl, sym, ◌∙◌}
 use Rattle.std.proofs.lemmas.Bool.{false≢true}
-use Rattle.std.specs.Prelude.{Option, Some, None, Result, Ok, Err, ok_or}
+use Rattle.std.specs.Prelude.{Option, Some, None, Result, Ok, Err, OnOk, IfErr, ok_or}
 use Rattle.std.specs.Result.{IsOk}
 use Rattle.pua_tree.specs.Tree.{Tree}
 use Rattle.pua_tree.specs.Listing.{listing}
@@ -14,7 +14,9 @@ use Rattle.pua_script.specs.Replay.{new_world, history_of, answers, world_after}
 use Rattle.pua_script.specs.Worlds.{StandsAt}
 use Rattle.pua_audit.specs.Begin.{Beginning, beginning}
 use Rattle.pua_audit.specs.declared.fault.AuditFault.{AuditFault}
-use Rattle.pua_tool.specs.Texts.{Wanted, Replayed, Begun, as_listing, as_script, as_audit, replayed, begun}
+use Rattle.pua_tool.specs.Texts.{Wanted, Replayed, Begun, as_listing, as_script, as_audit, replayed, begun, audit_text, front_of, pair_lines, text_of}
+use Rattle.pua_tool.specs.Begun.{IsBegun, text_left}
+use Rattle.pua_tool.specs.declared.audit.Audited.{Audited}
 use Rattle.pua_tool.specs.declared.fault.ToolFault.{ToolFault}
 use Rattle.pua_tool.specs.declared.fault.ToolFault.TheVariants.{NoProcess, Audit}
 
@@ -83,6 +85,22 @@ module _ (table : CallTable) (tree_bytes script_bytes : List ℕ) where
         (λ i. r i >>= λ done. begun_by done (history_of done.world wanted.process))
         ∙ (λ i. begun_by done (m i))
         ∙ (λ i. begun_with done (as_audit (e i)))
+
+-- what is left to write of what was begun is the whole text
+pub text_is_left : (table : CallTable) (tree_bytes script_bytes : List ℕ) (wanted : Wanted) (audited : Audited) (b : Begun) → begun table tree_bytes script_bytes wanted ≡ Ok b
+    → IsBegun audited b → audit_text table tree_bytes script_bytes wanted ≡ Ok (text_left wanted audited)
+text_is_left table tree_bytes script_bytes wanted audited b begins is =
+    (λ i. begins i >>= λ b. Ok (text_of wanted b))
+    ∙ (λ i. Ok (front_of wanted.after wanted.process (sym is.told i) ++ pair_lines (sym is.base i) (sym is.left i)))
+
+-- what follows from what an answer or a fault says is said of it too
+pub on_ok : {T E P Q : Type 0} (r : Result T E) → (P → Q) → OnOk r P → OnOk r Q
+on_ok (Ok value) so p = so p
+on_ok (Err fault) so p = p
+
+pub if_err : {T E : Type 0} {P Q : E → Type 0} (r : Result T E) → ((fault : E) → P fault → Q fault) → IfErr r P → IfErr r Q
+if_err (Ok value) so p = p
+if_err (Err fault) so p = so fault p
 
 -- what a process stands for at a number is a history that was made
 pub record IsMade (p : ProcessState) (made : Option History) : Type 0 where

@@ -1,8 +1,8 @@
 -- What the code keeps of a replay and of an audit, as the definitions see it.
-use Rattle.std.specs.Prelude.{◌≡◌}
+use Rattle.std.specs.Prelude.{◌≡◌, ◌++◌, ℕ, List}
 use Rattle.pua_script.specs.Worlds.{StandsForWorld}
 use Rattle.pua_audit.specs.Begin.{still_to_come}
-use Rattle.pua_tool.specs.Texts.{Replayed, Begun}
+use Rattle.pua_tool.specs.Texts.{Replayed, Begun, Wanted, front_of, pair_lines}
 use Rattle.pua_tool.specs.declared.script.Replay.{Replay}
 use Rattle.pua_tool.specs.declared.audit.Audited.{Audited}
 
@@ -10,6 +10,10 @@ use Rattle.pua_tool.specs.declared.audit.Audited.{Audited}
 pub record IsReplay (replay : Replay) (done : Replayed) : Type 0 where
   pub told : replay.told.items ≡ done.told
   pub stands : StandsForWorld replay.world done.world
+
+-- the text that is still to be written
+abbrev pub text_left : Wanted → Audited → List ℕ
+text_left wanted audited = front_of wanted.after wanted.process audited.told.items ++ pair_lines audited.audit.base audited.audit.left
 
 -- the answers, the tree and the audit are those that were begun
 pub record IsBegun (audited : Audited) (b : Begun) : Type 0 where

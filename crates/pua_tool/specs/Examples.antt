@@ -8,6 +8,7 @@ use Rattle.pua_script.specs.declared.fault.ScriptFault.TheVariants.{BadCall}
 use Rattle.pua_audit.specs.declared.base.Base.TheVariants.{Root, Cwd}
 use Rattle.pua_audit.specs.declared.fault.AuditFault.TheVariants.{BadResume}
 use Rattle.pua_tool.specs.Texts.{Wanted, replayed, begun, run_text, audit_text}
+use Rattle.pua_tool.specs.ObjectTexts.{objects_text}
 use Rattle.pua_tool.specs.declared.fault.ToolFault.TheVariants.{Listing, Script, NoProcess, Audit}
 
 abbrev pub root_alone : List ℕ
@@ -38,13 +39,16 @@ pub record TextRows : Type 0 where
       ≡ Ok (text_of_lines (codes "1 ok" ∷ codes "2 killed" ∷ codes "3 gone" ∷ codes "reach 1" ∷ []))
   pub another_process : audit_text standard_table root_alone forking (record plain_job { limit = 0; process = 2; base = Cwd })
       ≡ Ok (text_of_lines (codes "1 ok" ∷ codes "2 ok" ∷ codes "reach 2" ∷ codes ". stat" ∷ codes ". lstat" ∷ codes ". open-r" ∷ codes ". chmod" ∷ codes ". chdir" ∷ []))
+  pub objects : objects_text standard_table root_alone creating_alone 1 ≡ Ok (text_of_lines (codes "1 ok" ∷ codes "objects 1" ∷ codes "other / mkdir,symlink" ∷ []))
+  pub ended_objects : objects_text standard_table root_alone ending 1 ≡ Ok (text_of_lines (codes "1 ok" ∷ codes "2 killed" ∷ codes "3 gone" ∷ codes "objects 1" ∷ []))
+  pub never_listed : objects_text standard_table root_alone [] 2 ≡ Err NoProcess
   pub bad_listing : audit_text standard_table (text_of_lines (codes "tree 1" ∷ codes "0 dir" ∷ codes "1 dir 0" ∷ [])) (codes "1") plain_job ≡ Err (Listing (BadLine 3))
   pub bad_script : audit_text standard_table root_alone (codes "1 stat") (record plain_job { process = 2 }) ≡ Err (Script (BadCall 1))
   pub never_made : audit_text standard_table root_alone [] (record plain_job { process = 2; limit = 17 }) ≡ Err NoProcess
   pub bad_resume : audit_text standard_table root_alone [] (record plain_job { after = Some (codes "stat:/nope") }) ≡ Err (Audit BadResume)
 
 pub text_rows : TextRows
-unfolding digits replayed begun
+unfolding digits replayed begun objects_text
 text_rows = record {
   run = refl;
   run_of_no_lines = refl;
@@ -53,6 +57,9 @@ text_rows = record {
   spelled = refl;
   ended_process = refl;
   another_process = refl;
+  objects = refl;
+  ended_objects = refl;
+  never_listed = refl;
   bad_listing = refl;
   bad_script = refl;
   never_made = refl;

@@ -1,11 +1,13 @@
 -- What a process that can put no veil any more may come to reach and to change, whatever is asked afterwards.
-use Rattle.std.specs.Prelude.{◌≡◌, ℕ, Bool, List, [], ◌∷◌, Some, IsTrue, IsFalse}
+use Rattle.std.specs.Prelude.{◌≡◌, ℕ, Bool, List, [], ◌∷◌, ◌++◌, Some, Ok, IsTrue, IsFalse}
 use Rattle.pua_tree.specs.Tree.{Tree}
+use Rattle.pua_tree.specs.Listing.{listing}
 use Rattle.pua_policy.specs.Promises.{holds, cpath}
-use Rattle.pua_policy.specs.Calls.{CallTable}
+use Rattle.pua_policy.specs.Calls.{CallTable, standard_table}
 use Rattle.pua_policy.specs.History.{History, held}
 use Rattle.pua_script.specs.Requests.{Asked}
-use Rattle.pua_script.specs.Replay.{World, history_of, world_after}
+use Rattle.pua_script.specs.Scripts.{script}
+use Rattle.pua_script.specs.Replay.{World, new_world, history_of, world_after}
 use Rattle.pua_script.specs.Laws.{IsConfined}
 use Rattle.pua_script.specs.Family.{is_exec, is_chdir, none_done, members_alone, family, is_member, HasHistoryOf}
 use Rattle.pua_script.specs.Tightening.{NoCallNeedsError, Tightens}
@@ -44,7 +46,8 @@ NarrowingNow = (table : CallTable) → NoCallNeedsError table → (w : World) (p
     SubList (reach_over (world_after table w asks).tree table last base (alphabet_of (world_after table w asks).tree candidates) limit)
     (reach_over w.tree table now base (alphabet_of w.tree candidates) limit))
 
--- the second part: each row that isn't covered with `c` stays, and without cpath the tree does
+-- the second part: each row that isn't covered with `c` stays, and without cpath the tree does. A text is a list of numbers here,
+-- and the first is so of texts that are bytes; those of a listing and a script are
 pub record Confines (table : CallTable) (w : World) (now : History) (asks : List Asked) : Type 0 where
   pub spares : TakingNeedsC table → IsByteTree w.tree → IsTrue (are_in_bytes asks) → UncoveredStay now w.tree (world_after table w asks).tree
   pub unchanged : ChangingNeedsCpath table → IsFalse (holds (held now) cpath) → (world_after table w asks).tree ≡ w.tree
@@ -54,3 +57,30 @@ abbrev pub Confinement : Type 0
 Confinement = (table : CallTable) (w : World) (process : ℕ) (now : History) (asks : List Asked) →
     history_of w process ≡ Some now → IsConfined now → IsTrue (none_done is_exec table w asks (process ∷ [])) →
     IsTrue (members_alone table w asks (process ∷ [])) → Confines table w now asks
+
+-- over a listing and a script as a command reads them: the script's first lines left a world, and the lines after them are the further requests
+abbrev pub AsRead : (World → List Asked → Type 0) → Type 0
+AsRead Holds = (tree_bytes script_bytes : List ℕ) (t : Tree) (first asks : List Asked) →
+    listing tree_bytes ≡ Ok t → script script_bytes ≡ Ok (first ++ asks) → Holds (world_after standard_table (new_world t) first) asks
+
+-- each member of the family of a confined process reaches no more, over the tree that the further requests leave
+abbrev pub IsNarrowed : World → List Asked → Type 0
+IsNarrowed w asks = (process : ℕ) (now : History) →
+    history_of w process ≡ Some now → IsConfined now → IsTrue (none_done is_exec standard_table w asks (process ∷ [])) →
+    (member : ℕ) → IsTrue (is_member (family standard_table w asks (process ∷ [])) member) →
+    HasHistoryOf (world_after standard_table w asks) member (λ last.
+    ReachesNoMore standard_table (world_after standard_table w asks).tree now last (none_done is_chdir standard_table w asks (process ∷ [])))
+
+abbrev pub NarrowingAsRead : Type 0
+NarrowingAsRead = AsRead IsNarrowed
+
+-- where its family alone asks, what the process can't touch with `c` stays, and without cpath all does
+abbrev pub IsConfining : World → List Asked → Type 0
+IsConfining w asks = (process : ℕ) (now : History) →
+    history_of w process ≡ Some now → IsConfined now → IsTrue (none_done is_exec standard_table w asks (process ∷ [])) →
+    IsTrue (members_alone standard_table w asks (process ∷ [])) →
+    UncoveredStay now w.tree (world_after standard_table w asks).tree
+    × (IsFalse (holds (held now) cpath) → (world_after standard_table w asks).tree ≡ w.tree)
+
+abbrev pub ConfinementAsRead : Type 0
+ConfinementAsRead = AsRead IsConfining

@@ -5,7 +5,9 @@ pub mod Named
 pub mod Held
 pub mod Statuses
 pub mod Texts
+pub mod ObjectTexts
 pub mod Begun
 pub mod Performed
 pub mod Futures
+pub mod Alike
 pub mod Examples

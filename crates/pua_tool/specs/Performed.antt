@@ -3,7 +3,7 @@ use Rattle.std.specs.Prelude.{◌≡◌, ◌⊎◌, ℕ, List, Option, Result, O
 use Rattle.pua_policy.specs.Calls.{standard_table}
 use Rattle.pua_words.specs.declared.command.Command.{Command}
 use Rattle.pua_words.specs.declared.command.Text.{Text}
-use Rattle.pua_words.specs.declared.command.Text.TheVariants.{Run, Audit}
+use Rattle.pua_words.specs.declared.command.Text.TheVariants.{Run, Audit, Objects}
 use Rattle.pua_tool.specs.declared.fault.ToolFault.{ToolFault}
 use Rattle.pua_tool.specs.declared.fault.ToolFault.TheVariants.{Write, OutOfMemory}
 use Rattle.pua_tool.specs.declared.outcome.CommandFault.{CommandFault}
@@ -13,11 +13,13 @@ use Rattle.pua_tool.specs.Held.{Held, Holds, HoldsNothing}
 use Rattle.pua_tool.specs.Sinks.{Adds, AddsFront, HasFailed}
 use Rattle.pua_tool.specs.Statuses.{status_of}
 use Rattle.pua_tool.specs.Texts.{run_text, audit_text, wanted_by}
+use Rattle.pua_tool.specs.ObjectTexts.{objects_text}
 
 -- the text that is asked for, of a listing and a script, or what refuses it
 abbrev pub text_asked : Text → List ℕ → List ℕ → Result (List ℕ) ToolFault
 text_asked Run tree script = run_text standard_table tree script
 text_asked (Audit words) tree script = audit_text standard_table tree script (wanted_by words)
+text_asked (Objects words) tree script = objects_text standard_table tree script words.process
 
 -- what is asked for, of the bytes that are held under the command's two names
 pub record Asks (held : Held) (command : Command) (answer : Result (List ℕ) ToolFault) : Type 0 where

@@ -3,7 +3,7 @@
 ghost use Rattle.std.specs.Prelude.{◌≡◌, ◌≢◌, ◌≤◌, ◌++◌, ℕ, List, [], Ok, Err, IfOk, IfErr, OnOk, vec_capacity};
 ghost use Rattle.pua_policy.specs.Calls.{standard_table};
 ghost use Rattle.pua_tool.specs.Texts.{Begun, wanted, begun, audit_text, pair_lines};
-ghost use Rattle.pua_tool.specs.Begun.{IsBegun};
+ghost use Rattle.pua_tool.specs.Begun.{IsBegun, text_left};
 ghost use Rattle.pua_tool.specs.Sinks.{Adds, AddsFront, HasFailed, Writes};
 
 use crate::answers::front_text;
@@ -42,24 +42,7 @@ pub fn audit_to<S: Sink>(
     ensures unwritten { IfErr result (λ fault. fault ≢ ToolFault.Write → S.written sink.new ≡ S.written sink.old) }
 {
     let mut audited = begin(alloc, tree_bytes, script_bytes, job)?;
-    let told = audited.told.as_slice();
-    let Ok(front) = front_text(alloc, told, job.process, job.after) else {
-        return Err(ToolFault::OutOfMemory);
-    };
-    let Ok(mut block) = Vec::with_capacity(alloc, BLOCK) else {
-        return Err(ToolFault::OutOfMemory);
-    };
-    let mut probe = Counted::new(audited.world.tree());
-    match write_text(
-        &mut audited.audit,
-        &mut probe,
-        front.as_str(),
-        &mut block,
-        sink,
-    ) {
-        Ok(()) => Ok(()),
-        Err(PutFault) => Err(ToolFault::Write),
-    }
+    audited.write(alloc, job, sink)
 }
 
 /// Writes the front of a text, and then a line for each pair that the audit has still to give. The
@@ -86,6 +69,44 @@ pub(crate) struct Audited {
     pub(crate) told: Vec<Answer>,
     pub(crate) world: World<ProgramTree>,
     pub(crate) audit: Audit,
+}
+
+impl Audited {
+    /// Writes the text of what was begun. `OutOfMemory` where a growth was refused, and nothing is
+    /// then written; `Write` where a put failed.
+    fn write<S: Sink>(
+        &mut self,
+        alloc: Global,
+        job: &Job<'_>,
+        sink: &mut S,
+    ) -> Result<(), ToolFault>
+        requires { self.old.world.tree ≡ self.old.audit.tree }
+        ensures whole { OnOk result (Adds (text_left (wanted job.now) self.old) (S.written sink.old) (S.written sink.new)) }
+        ensures unfailed { OnOk result (S.failed sink.new ≡ S.failed sink.old) }
+        ensures write { result ≡ Err ToolFault.Write → AddsFront (text_left (wanted job.now) self.old) (S.written sink.old) (S.written sink.new)
+            × HasFailed (S.failed sink.old) (S.failed sink.new) }
+        ensures memory { IfErr result (λ fault. fault ≢ ToolFault.Write → fault ≡ ToolFault.OutOfMemory) }
+        ensures unwritten { IfErr result (λ fault. fault ≢ ToolFault.Write → S.written sink.new ≡ S.written sink.old) }
+    {
+        let told = self.told.as_slice();
+        let Ok(front) = front_text(alloc, told, job.process, job.after) else {
+            return Err(ToolFault::OutOfMemory);
+        };
+        let Ok(mut block) = Vec::with_capacity(alloc, BLOCK) else {
+            return Err(ToolFault::OutOfMemory);
+        };
+        let mut probe = Counted::new(self.world.tree());
+        match write_text(
+            &mut self.audit,
+            &mut probe,
+            front.as_str(),
+            &mut block,
+            sink,
+        ) {
+            Ok(()) => Ok(()),
+            Err(PutFault) => Err(ToolFault::Write),
+        }
+    }
 }
 
 /// Serves the script and begins the audit, or answers the first fault.

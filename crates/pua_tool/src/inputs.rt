@@ -1,10 +1,10 @@
 //! Inputs by name.
 
-ghost use Rattle.std.specs.Prelude.{◌≡◌, ◌↔◌, ℕ, List, Option, None, Some, IfOk, Err, map, option_map};
+ghost use Rattle.std.specs.Prelude.{◌≡◌, ◌↔◌, ◌≤◌, ℕ, List, Option, None, Some, IfOk, Err, map, option_map, length};
 ghost use Rattle.pua_tool.specs.Held.{Holds, HoldsNothing};
 ghost use Rattle.pua_tool.specs.Named.{kept_under};
 
-use crate::source::{ReadSource, read_bytes};
+use crate::source::{MOST_INPUT_BYTES, ReadSource, read_bytes};
 use std::alloc::Global;
 use std::fs;
 use std::marker::Model;
@@ -87,8 +87,19 @@ fn first_named<'a>(entries: &'a [(&'a str, &'a [u8])], name: &str) -> Option<&'a
     None
 }
 
-/// The machine's files, by their paths. What they hold is known to no contract, so that a missing file
-/// is `Unreadable`, and not empty, is only tested.
+/// All bytes of one of the machine's files. `Unreadable` is answered where it can't be opened, where a
+/// read failed, and where it has more than 67,108,864 bytes.
+pub fn read_file<R: Files>(alloc: Global, rt: &R, name: &str) -> Result<Vec<u8>, InputFault>
+    ensures { IfOk result (λ bytes. length bytes.items ≤ MOST_INPUT_BYTES) }
+{
+    let Ok(file) = fs::open(rt, name) else {
+        return Err(InputFault::Unreadable);
+    };
+    read_bytes(alloc, &mut ReadSource::new(file))
+}
+
+/// The machine's files, by their paths; each is read by [`read_file`]. What they hold is known to no
+/// contract, so that a missing file is `Unreadable`, and not empty, is only tested.
 #[derive(Drop)]
 pub struct DiskInputs<'r, R: Files> {
     rt: &'r R,
@@ -105,9 +116,6 @@ impl<R: Files> Inputs for DiskInputs<'_, R> {
     ghost holds = { λ _. None };
 
     fn take(&mut self, alloc: Global, name: &str) -> Result<Vec<u8>, InputFault> {
-        let Ok(file) = fs::open(self.rt, name) else {
-            return Err(InputFault::Unreadable);
-        };
-        read_bytes(alloc, &mut ReadSource::new(file))
+        read_file(alloc, self.rt, name)
     }
 }

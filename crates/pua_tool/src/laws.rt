@@ -1,9 +1,13 @@
-//! Worked examples of texts, and laws on every future of a world, each the contract of a function
-//! that does nothing.
+//! Worked examples of texts, and laws on every future of a world and on trees of the same content,
+//! each the contract of a function that does nothing.
 
+ghost use Rattle.std.specs.Prelude.{◌≡◌};
+ghost use Rattle.pua_tool.specs.Alike.{AnswersAlike, LinesAlike};
 ghost use Rattle.pua_tool.specs.Examples.{TextRows};
-ghost use Rattle.pua_tool.specs.Futures.{Confinement, Narrowing, NarrowingNow};
+ghost use Rattle.pua_tool.specs.Futures.{Confinement, ConfinementAsRead, Narrowing, NarrowingAsRead, NarrowingNow};
 ghost use Rattle.pua_script.specs.Tightening.{OthersLeave, OthersLeaveAlways};
+
+use pua_tree::FileTree;
 
 /// Examples of whole texts, and of what refuses them.
 #[tactic(auto, using(crate::specs::Examples::text_rows))]
@@ -21,9 +25,13 @@ pub fn text_examples()
 /// So where rows, kinds and targets are again those of now, each member's reach lies within the
 /// process's reach now. And a request of another process leaves a process its history, so its
 /// promises, execpromises, veils, lock and working directory, and whether it has ended.
+///
+/// What a command reads meets all of this without a condition: cut a script anywhere, and a process
+/// that the lines before the cut left so reaches no more by the lines behind it.
 pub fn narrowing()
     ensures reach { Narrowing }
     ensures now { NarrowingNow }
+    ensures read { NarrowingAsRead }
     ensures others { OthersLeave }
     ensures alone { OthersLeaveAlways }
 {}
@@ -32,7 +40,20 @@ pub fn narrowing()
 /// can't touch with `c` by its history now stays, with its node, kind and target and with its cover;
 /// and where the process doesn't hold cpath the tree stays. The first is so for each table of calls
 /// in which rmdir and unlink need `c`, and a tree and requests whose texts are bytes; the second for
-/// each table by which the five calls that make a name or take one away need cpath.
+/// each table by which the five calls that make a name or take one away need cpath. What a command
+/// reads meets these conditions: its table does, and the texts of a listing and a script are bytes.
 pub fn confined()
-    ensures { Confinement }
+    ensures rows { Confinement }
+    ensures read { ConfinementAsRead }
 {}
+
+/// Over any two trees of the same content, however each is kept, a script is answered the same and
+/// leaves the same tree, and an audit of a process where it ends has the same lines.
+pub fn trees_alike<S: FileTree, T: FileTree>(first: &S, second: &T)
+    requires { S.content first.now ≡ T.content second.now }
+    ensures answers { AnswersAlike (S.content first.now) (T.content second.now) }
+    ensures lines { LinesAlike (S.content first.now) (T.content second.now) }
+{
+    first.known();
+    second.known();
+}

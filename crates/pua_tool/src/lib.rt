@@ -1,4 +1,4 @@
-//! Texts of runs and of audits, where they are written, and the whole program as a function over its
+//! Texts of runs, of audits and of lists of objects, where they are written, and the whole program as a function over its
 //! inputs.
 #![tactic(auto)]
 
@@ -10,6 +10,8 @@ mod inputs;
 mod job;
 mod laws;
 mod line;
+mod object_line;
+mod objects;
 mod outcome;
 mod run;
 mod script;
@@ -21,10 +23,11 @@ mod status;
 pub use audit::audit_to;
 pub use cli::command;
 pub use fault::ToolFault;
-pub use inputs::{DiskInputs, InputFault, Inputs, MemoryInputs};
+pub use inputs::{DiskInputs, InputFault, Inputs, MemoryInputs, read_file};
 pub use job::Job;
-pub use laws::{confined, narrowing, text_examples};
-pub use pua_words::{AuditWords, Command, Text, USAGE_LINE};
+pub use laws::{confined, narrowing, text_examples, trees_alike};
+pub use objects::objects_to;
+pub use pua_words::{AuditWords, Command, ObjectWords, Text, USAGE_LINE};
 pub use run::run_to;
 pub use service::perform;
 pub use sink::{MemorySink, PutFault, Sink, StreamSink, put_all};

@@ -18,7 +18,7 @@ use pua_tree::byte_spelling;
 const MOST_ENDING: usize = 10;
 
 /// How many bytes a line has at most: each byte of its path may be spelled by four.
-const MOST_LINE: usize = 4 * PATH_LIMIT + MOST_ENDING;
+pub(crate) const MOST_LINE: usize = 4 * PATH_LIMIT + MOST_ENDING;
 
 /// How many bytes a block has room for.
 pub(crate) const BLOCK: usize = 65_536;
@@ -45,7 +45,7 @@ pub(crate) fn write_lines<'t, P: Probe<'t>, S: Sink>(
 }
 
 /// Puts a block into which a line might not fit, and empties it.
-fn make_room<S: Sink>(block: &mut Vec<u8>, sink: &mut S) -> Result<(), PutFault>
+pub(crate) fn make_room<S: Sink>(block: &mut Vec<u8>, sink: &mut S) -> Result<(), PutFault>
     requires room { BLOCK ≤ vec_capacity block.old }
     ensures handed { OnOk result (HandsOn block.old.items block.new.items (S.written sink.old) (S.written sink.new)) }
     ensures unfailed { OnOk result (S.failed sink.new ≡ S.failed sink.old) }
@@ -92,7 +92,7 @@ fn add_path(block: &mut Vec<u8>, plain: bool, path: &[u8])
 }
 
 /// Adds the spelling of a path to a block that has room for it.
-fn spell(block: &mut Vec<u8>, path: &[u8])
+pub(crate) fn spell(block: &mut Vec<u8>, path: &[u8])
     requires { vec_len block.old + 4 * length path.now ≤ vec_capacity block.old }
     ensures spelled { block.new.items ≡ block.old.items ++ spelling path.now }
     ensures short { vec_len block.new ≤ vec_len block.old + 4 * length path.now }

@@ -9,11 +9,11 @@ ghost use Rattle.pua_tool.specs.Begun.{IsReplay};
 
 use crate::fault::ToolFault;
 use pua_script::{Answer, Script, ScriptFault, World, read_script};
-use pua_tree::{ListTree, ListingFault, read_listing};
+use pua_tree::{ListingFault, SlabTree, read_listing_slab};
 use std::alloc::Global;
 
 /// How the program keeps the tree of a listing.
-pub(crate) type ProgramTree = ListTree;
+pub(crate) type ProgramTree = SlabTree;
 
 /// The world that a script left, and what its lines were answered.
 #[derive(Drop)]
@@ -49,7 +49,7 @@ fn read_tree(alloc: Global, bytes: &[u8]) -> Result<ProgramTree, ToolFault>
     ensures refused { IfErr result (λ fault. fault ≢ ToolFault.OutOfMemory → (as_listing (listing bytes.now) ≡ Err fault)) }
     ensures unwritten { IfErr result (λ fault. fault ≢ ToolFault.Write) }
 {
-    match read_listing(alloc, bytes) {
+    match read_listing_slab(alloc, bytes) {
         Ok(tree) => Ok(tree),
         Err(ListingFault::OutOfMemory) => Err(ToolFault::OutOfMemory),
         Err(fault) => Err(ToolFault::Listing(fault)),

@@ -9,6 +9,7 @@ use crate::audit::audit_to;
 use crate::fault::ToolFault;
 use crate::inputs::{InputFault, Inputs};
 use crate::job::job_of;
+use crate::objects::objects_to;
 use crate::outcome::{CommandFault, finish};
 use crate::run::run_to;
 use crate::sink::Sink;
@@ -16,7 +17,8 @@ use crate::status::{DEVICE, DONE, MEMORY, REFUSED, USAGE};
 use pua_words::{Command, Text};
 use std::alloc::Global;
 
-/// Does what a command asks for: the text of a run or of an audit goes to `out`, and of a fault one
+/// Does what a command asks for: the text of a run, of an audit or of a
+/// list of objects goes to `out`, and of a fault one
 /// line goes to `err`, which is dropped where it can't be written. Both inputs are taken, the tree's
 /// first, before either is read as a listing or a script.
 ///
@@ -139,5 +141,6 @@ fn write_text<O: Sink>(
     match text {
         Text::Run => run_to(alloc, tree, script, out),
         Text::Audit(words) => audit_to(alloc, tree, script, &job_of(words), out),
+        Text::Objects(words) => objects_to(alloc, tree, script, words.process, out),
     }
 }

@@ -1,12 +1,13 @@
 //! Where texts are written.
 
 ghost use Rattle.std.specs.Prelude.{◌≡◌, ◌↔◌, ◌<◌, ◌≤◌, ◌-◌, ℕ, List, [], Option, Some, IfOk, IsErr, OnOk, OnErr, length, min};
+ghost use Rattle.std.specs.Io.Buffered.{writer_buffer, writer_contents};
 ghost use Rattle.std.specs.Io.KnownBytes.{Keeps};
 ghost use Rattle.pua_tool.specs.Sinks.{Adds, AddsFront, HasFailed, Puts, Memory, counted};
 
 use pua_tree::OutOfMemory;
 use std::alloc::Global;
-use std::io::Write;
+use std::io::{BufWriter, Write};
 use std::marker::Model;
 
 /// A put failed, and added nothing.
@@ -142,9 +143,21 @@ impl<W: Write + Drop> StreamSink<W> {
         StreamSink { writer, failed: 0 }
     }
 
-    /// Hands on what the writer still holds back. A flush that fails counts as a put that failed.
+    fn fault(&mut self) -> PutFault
+        ensures { self.new ≡ (self.old.0, counted self.old.1) }
+    {
+        self.failed = self.failed.saturating_add(1);
+        PutFault
+    }
+}
+
+impl<W: Write + Drop> StreamSink<BufWriter<W>> {
+    /// Hands on what the writer still holds back: after it nothing is, and all that was put was
+    /// written to the writer below. A flush that fails counts as a put that failed; what couldn't be
+    /// handed on is still held back.
     pub fn flush(&mut self) -> Result<(), PutFault>
-        ensures bytes { Keeps (W.contents self.old.0) (W.contents self.new.0) }
+        ensures handed { OnOk result (writer_buffer self.new.0 ≡ []) }
+        ensures bytes { Keeps (writer_contents W.contents self.old.0) (writer_contents W.contents self.new.0) }
         ensures unfailed { OnOk result (self.new.1 ≡ self.old.1) }
         ensures rises { OnErr result (self.new.1 ≡ counted self.old.1) }
     {
@@ -152,13 +165,6 @@ impl<W: Write + Drop> StreamSink<W> {
             Ok(()) => Ok(()),
             Err(_) => Err(self.fault()),
         }
-    }
-
-    fn fault(&mut self) -> PutFault
-        ensures { self.new ≡ (self.old.0, counted self.old.1) }
-    {
-        self.failed = self.failed.saturating_add(1);
-        PutFault
     }
 }
 

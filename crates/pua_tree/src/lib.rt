@@ -4,6 +4,7 @@
 mod fault;
 mod field;
 mod gathered;
+mod judgement;
 mod laws;
 mod line;
 mod link_target;

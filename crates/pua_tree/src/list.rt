@@ -2,10 +2,11 @@
 
 use crate::fault::{OutOfMemory, TreeFault};
 use crate::gathered::{Entry, Gathered, Made};
+use crate::judgement::{Judged, may_add, may_cut, may_shift, may_tie};
 use crate::list_edits::{copied_target, push_made, put_row, reserve_one, take_row, take_unnamed};
 use crate::name::Name;
 use crate::node::{Kind, NodeId};
-use crate::tree::{FileTree, LentRow, MOST_NAMES, NUMBER_END};
+use crate::tree::{FileTree, LentRow};
 use std::alloc::{AllocError, Global};
 use std::cmp::Ordering;
 use std::collections::BTreeSet;
@@ -47,15 +48,11 @@ impl Model for ListTree {
     ghost invariant = { λ a. WellFormed (held_tree a.rows.items a.nodes.items a.next) };
 }
 
-ghost use Rattle.std.specs.Prelude.{ℕ, ◌≡◌, ◌≢◌, ◌<◌, ◌≤◌, Some, None, Ok, Err, IsTrue, IfOk, IfErr, IfSome, OnOk, MatchResult, MatchOption, ◌==◌, unwrap_or, find, length, map, option_map};
+ghost use Rattle.std.specs.Prelude.{ℕ, ◌≡◌, ◌<◌, ◌≤◌, Some, None, IsTrue, IfOk, IfErr, ◌==◌, unwrap_or, find, length, map, option_map};
 ghost use Rattle.std.specs.List.{HoldsAt, insert, list_any};
 ghost use Rattle.std.specs.Ordering.{nat_cmp};
 ghost use Rattle.std.specs.FinMap.{is_sorted, find as find_key, put};
-ghost use Rattle.pua_tree.specs.Limits.{number_end};
-ghost use Rattle.pua_tree.specs.Names.{is_name};
-ghost use Rattle.pua_tree.specs.Tree as tree;
-ghost use Rattle.pua_tree.specs.Tree.{WellFormed, spot_cmp, is_dir, look, climb, distinct_names};
-ghost use Rattle.pua_tree.specs.Edits.{add, tie, cut, shift, is_full_dir, has_name_room, has_room, with_row, with_new, without_row, without_unnamed, moved};
+ghost use Rattle.pua_tree.specs.Tree.{spot_cmp, is_dir, distinct_names};
 ghost use Rattle.pua_tree.specs.LentRows.{lent_entry};
 ghost use Rattle.pua_tree.specs.ListTree.{row_entry, node_entry, made_of, held_tree};
 
@@ -67,26 +64,15 @@ impl FileTree for ListTree {
     }
 
     fn kind(&self, id: NodeId) -> Option<Kind> {
-        match node_place(&self.nodes, id) {
-            Ok(place) => Some(self.nodes[place].kind),
-            Err(_) => None,
-        }
+        self.kind_of(id)
     }
 
     fn look(&self, dir: NodeId, name: &Name) -> Option<NodeId> {
-        match row_place(&self.rows, dir, name) {
-            Ok(place) => Some(self.rows[place].node),
-            Err(_) => None,
-        }
+        self.node_at(dir, name)
     }
 
-    /// Goes over the rows once, since they are not in the order of their nodes.
     fn parent(&self, dir: NodeId) -> Option<NodeId> {
-        if self.is_dir(dir) {
-            Some(dir_above(&self.rows, dir))
-        } else {
-            None
-        }
+        self.dir_above(dir)
     }
 
     fn target(&self, id: NodeId) -> Option<&[u8]> {
@@ -100,7 +86,7 @@ impl FileTree for ListTree {
     }
 
     fn is_empty(&self, dir: NodeId) -> bool {
-        self.is_dir(dir) && !has_row(&self.rows, dir)
+        self.is_bare(dir)
     }
 
     #[tactic(auto, using(crate::proofs::Rows::entry_names))]
@@ -119,7 +105,7 @@ impl FileTree for ListTree {
         kind: Kind,
         target: Option<&[u8]>,
     ) -> Result<NodeId, TreeFault> {
-        self.may_add(dir, &name)?;
+        may_add(self, dir, &name)?;
         let alloc = *self.nodes.allocator();
         let target = copied_target(alloc, target).map_err(|_| TreeFault::OutOfMemory)?;
         let number = self.next;
@@ -138,7 +124,7 @@ impl FileTree for ListTree {
     }
 
     fn tie(&mut self, dir: NodeId, name: Name, node: NodeId) -> Result<(), TreeFault> {
-        self.may_tie(dir, &name, node)?;
+        may_tie(self, dir, &name, node)?;
         if self.rows.reserve(1).is_err() {
             return Err(TreeFault::OutOfMemory);
         }
@@ -147,7 +133,7 @@ impl FileTree for ListTree {
     }
 
     fn cut(&mut self, dir: NodeId, name: &Name) -> Result<NodeId, TreeFault> {
-        let node = self.may_cut(dir, name)?;
+        let node = may_cut(self, dir, name)?;
         take_row(&mut self.rows, dir, name);
         take_unnamed(&self.rows, &mut self.nodes, node);
         Ok(node)
@@ -161,7 +147,7 @@ impl FileTree for ListTree {
         to: NodeId,
         new_name: Name,
     ) -> Result<(), TreeFault> {
-        let Some(node) = self.may_shift(from, name, to, &new_name)? else {
+        let Some(node) = may_shift(self, from, name, to, &new_name)? else {
             return Ok(());
         };
         let displaced = self.look(to, &new_name);
@@ -217,144 +203,58 @@ impl Gathered for ListTree {
     }
 }
 
+impl Judged for ListTree {
+    ghost held = { λ t. t };
+
+    fn is_tree(&self) {
+        let _rows = &self.rows;
+    }
+
+    fn kind_of(&self, id: NodeId) -> Option<Kind> {
+        match node_place(&self.nodes, id) {
+            Ok(place) => Some(self.nodes[place].kind),
+            Err(_) => None,
+        }
+    }
+
+    fn node_at(&self, dir: NodeId, name: &Name) -> Option<NodeId> {
+        match row_place(&self.rows, dir, name) {
+            Ok(place) => Some(self.rows[place].node),
+            Err(_) => None,
+        }
+    }
+
+    /// Goes over the rows once, since they are not in the order of their nodes.
+    fn dir_above(&self, dir: NodeId) -> Option<NodeId> {
+        if self.is_dir(dir) {
+            Some(dir_above(&self.rows, dir))
+        } else {
+            None
+        }
+    }
+
+    fn is_bare(&self, dir: NodeId) -> bool {
+        self.is_dir(dir) && !has_row(&self.rows, dir)
+    }
+
+    fn row_count(&self) -> usize {
+        self.rows.len()
+    }
+
+    fn node_count(&self) -> usize {
+        self.nodes.len()
+    }
+
+    fn next_number(&self) -> u32 {
+        self.next
+    }
+}
+
 impl ListTree {
     fn is_dir(&self, id: NodeId) -> bool
         ensures { result ≡ is_dir self.now id }
     {
-        self.kind(id) == Some(Kind::Dir)
-    }
-
-    /// Whether this is a directory in which something stands.
-    fn is_full_dir(&self, id: NodeId) -> bool
-        ensures { result ≡ is_full_dir self.now id }
-    {
-        self.is_dir(id) && has_row(&self.rows, id)
-    }
-
-    /// Whether there is room for a further name.
-    fn has_name_room(&self) -> bool
-        ensures { result ≡ has_name_room self.now }
-    {
-        self.rows.len() + 1 < MOST_NAMES
-    }
-
-    /// Whether there is room for the name of a further node, and a number.
-    fn has_room(&self) -> bool
-        ensures { result ≡ has_room self.now }
-    {
-        self.has_name_room() && self.next < NUMBER_END
-    }
-
-    /// Whether the directory is this node, or stands beneath it.
-    fn is_within(&self, dir: NodeId, node: NodeId) -> bool
-        ensures { result ≡ list_any (λ d. d == node) (climb self.now dir) }
-    {
-        let mut at = dir;
-        for _ in 0..self.nodes.len() {
-            if at == node {
-                return true;
-            }
-            if at == NodeId::ROOT {
-                return false;
-            }
-            at = dir_above(&self.rows, at);
-        }
-        at == node
-    }
-
-    /// Whether a node may be added under this name, or else the first fault.
-    fn may_add(&self, dir: NodeId, name: &Name) -> Result<(), TreeFault>
-        ensures exact { MatchResult result
-            (λ _. (node : tree.Node) → add self.now dir name.now node ≡ Ok (self.now.next, with_new self.now dir name.now node))
-            (λ fault. (fault ≢ TreeFault.OutOfMemory) × ((node : tree.Node) → add self.now dir name.now node ≡ Err fault)) }
-        ensures number { OnOk result (self.now.next < number_end) }
-        ensures name { IsTrue (is_name name.now) }
-    {
-        name.known();
-        if !self.is_dir(dir) {
-            return Err(TreeFault::NotDir);
-        }
-        if self.look(dir, name).is_some() {
-            return Err(TreeFault::Taken);
-        }
-        if !self.has_room() {
-            return Err(TreeFault::Full);
-        }
-        Ok(())
-    }
-
-    /// Whether a node may be given this further name, or else the first fault.
-    fn may_tie(&self, dir: NodeId, name: &Name, node: NodeId) -> Result<(), TreeFault>
-        ensures exact { MatchResult result
-            (λ _. tie self.now dir name.now node ≡ Ok (with_row self.now dir name.now node))
-            (λ fault. (fault ≢ TreeFault.OutOfMemory) × (tie self.now dir name.now node ≡ Err fault)) }
-        ensures name { IsTrue (is_name name.now) }
-    {
-        name.known();
-        if !self.is_dir(dir) {
-            return Err(TreeFault::NotDir);
-        }
-        match self.kind(node) {
-            None => return Err(TreeFault::Missing),
-            Some(Kind::Dir) => return Err(TreeFault::IsDir),
-            Some(_) => {}
-        }
-        if self.look(dir, name).is_some() {
-            return Err(TreeFault::Taken);
-        }
-        if !self.has_name_room() {
-            return Err(TreeFault::Full);
-        }
-        Ok(())
-    }
-
-    /// The node of a row that may be taken away, or else the first fault.
-    fn may_cut(&self, dir: NodeId, name: &Name) -> Result<NodeId, TreeFault>
-        ensures exact { MatchResult result (λ node. cut self.now dir name.now ≡ Ok (node, without_unnamed (without_row self.now dir name.now) node)) (λ fault. cut self.now dir name.now ≡ Err fault) }
-        ensures found { IfOk result (λ node. look self.now dir name.now ≡ Some node) }
-    {
-        if !self.is_dir(dir) {
-            return Err(TreeFault::NotDir);
-        }
-        let node = self.look(dir, name).ok_or(TreeFault::Missing)?;
-        if self.is_full_dir(node) {
-            return Err(TreeFault::NotEmpty);
-        }
-        Ok(node)
-    }
-
-    /// The node of a row that may be moved, and None where it stands at the new place already, or
-    /// else the first fault.
-    fn may_shift(
-        &self,
-        from: NodeId,
-        name: &Name,
-        to: NodeId,
-        new_name: &Name,
-    ) -> Result<Option<NodeId>, TreeFault>
-        ensures exact { MatchResult result
-            (λ moves. MatchOption moves (shift self.now from name.now to new_name.now ≡ Ok self.now)
-            (λ node. shift self.now from name.now to new_name.now ≡ Ok (moved self.now from name.now to new_name.now node (look self.now to new_name.now))))
-            (λ fault. (fault ≢ TreeFault.OutOfMemory) × (shift self.now from name.now to new_name.now ≡ Err fault)) }
-        ensures found { IfOk result (λ moves. IfSome moves (λ node. look self.now from name.now ≡ Some node)) }
-        ensures name { IsTrue (is_name new_name.now) }
-    {
-        new_name.known();
-        if !(self.is_dir(from) && self.is_dir(to)) {
-            return Err(TreeFault::NotDir);
-        }
-        let node = self.look(from, name).ok_or(TreeFault::Missing)?;
-        let there = self.look(to, new_name);
-        if there == Some(node) {
-            return Ok(None);
-        }
-        if self.is_dir(node) && self.is_within(to, node) {
-            return Err(TreeFault::Inside);
-        }
-        if there.is_some_and(|displaced| self.is_full_dir(displaced)) {
-            return Err(TreeFault::NotEmpty);
-        }
-        Ok(Some(node))
+        self.kind_of(id) == Some(Kind::Dir)
     }
 }
 

@@ -18,8 +18,10 @@ pub struct Command<'a> {
 pub enum Text<'a> {
     /// What each line of the script is answered.
     Run,
-    /// The same, and then what a process may still do.
+    /// The same, and then what a process may still do, path by path.
     Audit(AuditWords<'a>),
+    /// The same as a run's, and then what a process may still do, object by object.
+    Objects(ObjectWords),
 }
 
 /// What an audit is asked for, besides its inputs.
@@ -35,4 +37,11 @@ pub struct AuditWords<'a> {
     pub after: Option<&'a [u8]>,
     /// Spellings of further names to try in paths. Audits take at most 1,024.
     pub names: Vec<&'a [u8]>,
+}
+
+/// What a list of objects is asked for, besides its inputs.
+#[derive(Clone, Copy, Debug)]
+pub struct ObjectWords {
+    /// The number of the process, 1 to 999,999 where the words of the command line named it.
+    pub process: u32,
 }

@@ -2,12 +2,15 @@
 
 /// How the program is used, in one line.
 pub const USAGE_LINE: &str =
-    "pua: usage: pua run TREE SCRIPT; pua audit --limit N [--process P] [--base root|cwd] [--after CALL:PATH] TREE SCRIPT [NAME...]";
+    "pua: usage: pua run TREE SCRIPT; pua objects [--process P] TREE SCRIPT; pua audit --limit N [--process P] [--base root|cwd] [--after CALL:PATH] TREE SCRIPT [NAME...]";
 
 pub(crate) const PUA: &str =
     "Lists what a pledged and unveiled process may still do to a file tree";
 
 pub(crate) const RUN: &str = "Serves the calls of a script over a tree, and prints each answer";
+
+pub(crate) const OBJECTS: &str =
+    "Serves a script, then lists each object and the calls still allowed";
 
 pub(crate) const AUDIT: &str = "Serves a script, then lists each path and call still allowed";
 
@@ -19,7 +22,7 @@ pub(crate) const NAMES: &str = "Further components to try, spelled as in TREE: a
 
 pub(crate) const LIMIT: &str = "Most components of a path, from 0 to 16";
 
-pub(crate) const PROCESS: &str = "Process to audit, from 1 to 999999";
+pub(crate) const PROCESS: &str = "Number of the process, from 1 to 999999";
 
 pub(crate) const BASE: &str = "Where paths begin";
 
@@ -49,10 +52,18 @@ unveil `-` is NULL; `=` is an empty text.
 In names and paths a blank, a backslash and each byte outside ASCII is written
 as a backslash and three octal digits: `a\\040b`.
 
-Example: pua audit --limit 2 TREE SCRIPT";
+Example: pua objects TREE SCRIPT";
 
 pub(crate) const RUN_OUTPUT: &str =
     "Prints `N ANSWER` for each line N: ok, the name of an error, killed or gone.";
+
+pub(crate) const OBJECTS_OUTPUT: &str = "\
+Prints what `pua run` prints, then `objects P`, then `KIND PATH CALLS` for each
+object on which a call is allowed. KIND is dir, file, prog or link; missing, a
+name that is not there but has a veil of its own; or other, all further names
+of the directory PATH. The calls stand in one order, with commas between them.
+
+Example: pua objects --process 2 TREE SCRIPT";
 
 pub(crate) const AUDIT_OUTPUT: &str = "\
 Prints what `pua run` prints, then `reach P`, then `PATH CALL` for each pair.

@@ -7,6 +7,6 @@ mod help;
 mod version;
 mod words;
 
-pub use command::{AuditWords, Command, Text};
+pub use command::{AuditWords, Command, ObjectWords, Text};
 pub use help::USAGE_LINE;
 pub use words::{Stop, read_words};

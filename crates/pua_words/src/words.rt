@@ -3,7 +3,7 @@
 ghost use Rattle.std.specs.Prelude.{◌≡◌, ◌↔◌, IfOk, Some, codes, option_map};
 ghost use Rattle.pua_words.specs.Commands.{AsksSoundly, IsProcessNumber};
 
-use crate::command::{AuditWords, Command, Text};
+use crate::command::{AuditWords, Command, ObjectWords, Text};
 use crate::help;
 use crate::version::VERSION;
 use clap::error::ErrorKind;
@@ -43,6 +43,7 @@ pub fn read_words<'a>(alloc: Global, words: &'a [&'a str]) -> Result<Command<'a>
     };
     match found.subcommand() {
         Some(("run", inner)) => read_inputs(inner, Text::Run),
+        Some(("objects", inner)) => read_inputs(inner, Text::Objects(read_objects(inner)?)),
         Some((_, inner)) => read_inputs(inner, Text::Audit(read_audit(alloc, inner)?)),
         None => Err(Stop::Usage),
     }
@@ -50,6 +51,7 @@ pub fn read_words<'a>(alloc: Global, words: &'a [&'a str]) -> Result<Command<'a>
 
 fn pua_command<'a>(alloc: Global) -> Result<clap::Command<'a>, AllocError> {
     let run = run_command(alloc)?;
+    let objects = objects_command(alloc)?;
     let audit = audit_command(alloc)?;
     clap::Command::new(alloc, "pua")
         .no_binary_name(true)
@@ -59,6 +61,7 @@ fn pua_command<'a>(alloc: Global) -> Result<clap::Command<'a>, AllocError> {
         .after_help(help::INPUTS)
         .subcommand_required(true)
         .subcommand(run)?
+        .subcommand(objects)?
         .subcommand(audit)
 }
 
@@ -66,6 +69,15 @@ fn run_command<'a>(alloc: Global) -> Result<clap::Command<'a>, AllocError> {
     clap::Command::new(alloc, "run")
         .about(help::RUN)
         .after_help(help::RUN_OUTPUT)
+        .arg(tree(alloc))?
+        .arg(script(alloc))
+}
+
+fn objects_command<'a>(alloc: Global) -> Result<clap::Command<'a>, AllocError> {
+    clap::Command::new(alloc, "objects")
+        .about(help::OBJECTS)
+        .after_help(help::OBJECTS_OUTPUT)
+        .arg(process(alloc))?
         .arg(tree(alloc))?
         .arg(script(alloc))
 }
@@ -152,7 +164,7 @@ fn stop_of(alloc: Global, error: &Error) -> Stop {
     }
 }
 
-/// The two operands that both commands have, and the text that is asked for.
+/// The two operands that all commands have, and the text that is asked for.
 fn read_inputs<'a>(found: &ArgMatches<'a>, text: Text<'a>) -> Result<Command<'a>, Stop>
     ensures { IfOk result (λ command. command.text ≡ text.entry) }
 {
@@ -160,6 +172,14 @@ fn read_inputs<'a>(found: &ArgMatches<'a>, text: Text<'a>) -> Result<Command<'a>
         (Some(tree), Some(script)) => Ok(Command { tree, script, text }),
         _ => Err(Stop::Usage),
     }
+}
+
+fn read_objects(found: &ArgMatches<'_>) -> Result<ObjectWords, Stop>
+    ensures { IfOk result (λ words. IsProcessNumber words.process) }
+{
+    Ok(ObjectWords {
+        process: read_process(found)?,
+    })
 }
 
 fn read_audit<'a>(alloc: Global, found: &ArgMatches<'a>) -> Result<AuditWords<'a>, Stop>

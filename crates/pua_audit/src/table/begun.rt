@@ -1,10 +1,11 @@
 //! The walk over the table of steps, before its first pair.
 
-ghost use Rattle.std.specs.Prelude.{◌≡◌, ◌<◌, ◌≤◌, ◌^◌, ◌*◌, suc, true, false, length, Option, option_map, IfOk, IfSome, IsTrue};
+ghost use Rattle.std.specs.Prelude.{◌≡◌, ◌<◌, ◌≤◌, ◌+◌, ◌^◌, ◌*◌, suc, true, false, length, Option, option_map, IfOk, IfSome, IsTrue};
 ghost use Rattle.std.specs.List.{AllByRecursion};
 ghost use Rattle.pua_tree.specs.Tree.{is_dir};
 ghost use Rattle.pua_policy.specs.CallSets.{has};
 ghost use Rattle.pua_policy.specs.declared.call.Call.{Call};
+ghost use Rattle.pua_audit.specs.Bounds.{object_cost, pairs_cost};
 ghost use Rattle.pua_audit.specs.Past.{history_of};
 ghost use Rattle.pua_audit.specs.Coming.{pairs_after, pairs_at};
 ghost use Rattle.pua_audit.specs.Reach.{Pair, rest_after};
@@ -57,6 +58,7 @@ impl Terms {
         ensures live { IfOk result (λ begun. begun.live ≡ length (live_states (scope_in self.now))) }
         ensures reads { IfOk result (λ begun. begun.walk.seen ≡ 0) }
         ensures tree { P.tree probe.new ≡ P.tree probe.old }
+        ensures cost { P.count probe.new ≤ P.count probe.old + pairs_cost self.now.seen.tree (length self.now.letters.items) }
     {
         if !self.is_open(probe) {
             return self.begun_closed(alloc);
@@ -85,6 +87,7 @@ impl Terms {
         ensures live { IfOk result (λ begun. begun.live ≡ length (live_states (scope_in self.now))) }
         ensures reads { IfOk result (λ begun. begun.walk.seen ≡ 0) }
         ensures tree { P.tree probe.new ≡ P.tree probe.old }
+        ensures cost { P.count probe.new + 1 ≤ P.count probe.old + pairs_cost self.now.seen.tree (length self.now.letters.items) }
     {
         let steps = self.table(alloc, probe, self.base_dir())?;
         let calls = self.base_calls(probe).bits();
@@ -128,6 +131,7 @@ impl Terms {
         requires living { IsTrue (is_dir self.now.seen.tree (base_dir self.now.base (history_of self.now.process))) }
         ensures own { (call : Call) → has result call ≡ (judge_in self.now).own Start call }
         ensures tree { P.tree probe.new ≡ P.tree probe.old }
+        ensures cost { P.count probe.new ≤ P.count probe.old + object_cost self.now.seen.tree }
     {
         let found = Ok(Found::Whole {
             dir: self.base_dir(),

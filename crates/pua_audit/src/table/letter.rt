@@ -1,11 +1,12 @@
 //! What a letter is in a directory.
 
-ghost use Rattle.std.specs.Prelude.{◌≡◌, ◌<◌, ◌≤◌, ◌&&◌, [], length, get_or, Ok, Err, IfSome, IsTrue};
+ghost use Rattle.std.specs.Prelude.{◌≡◌, ◌<◌, ◌≤◌, ◌+◌, ◌&&◌, [], length, get_or, Ok, Err, IfSome, IsTrue};
 ghost use Rattle.pua_tree.specs.Tree.{is_dir};
 ghost use Rattle.pua_policy.specs.Calls.{standard_table};
 ghost use Rattle.pua_policy.specs.CallSets.{has, keeps_link};
 ghost use Rattle.pua_policy.specs.declared.call.Call.{Call};
 ghost use Rattle.pua_policy.specs.Verdict.{FoundsFit, verdict_of, is_allowed};
+ghost use Rattle.pua_audit.specs.Bounds.{letter_cost, object_cost};
 ghost use Rattle.pua_audit.specs.Past.{history_of};
 ghost use Rattle.pua_audit.specs.Ready.{IsSound, judge_in, letters_of};
 ghost use Rattle.pua_audit.specs.Entries.{links_of, found_of, leads_to};
@@ -47,6 +48,7 @@ impl Terms {
         ensures links { result.links ≤ most_links }
         ensures lives { IfSome result.leads (λ to. IsTrue (is_dir self.now.seen.tree to)) }
         ensures tree { P.tree probe.new ≡ P.tree probe.old }
+        ensures cost { P.count probe.new ≤ P.count probe.old + letter_cost self.now.seen.tree }
     {
         let part = &self.letters[letter];
         let (followed, links) = counted(pua_path::follow(probe, dir, part));
@@ -72,6 +74,7 @@ impl Terms {
         requires fits { FoundsFit self.now.seen.tree found.now }
         ensures exact { (call : Call) → has result call ≡ is_allowed (verdict_of self.now.seen.tree standard_table (history_of self.now.process) call found.now) }
         ensures tree { P.tree probe.new ≡ P.tree probe.old }
+        ensures cost { P.count probe.new ≤ P.count probe.old + object_cost self.now.seen.tree }
     {
         let Ok(found) = found else {
             return Calls::NONE;

@@ -4,6 +4,7 @@ ghost use Rattle.std.specs.Prelude.{◌≡◌, ◌<◌, ◌≤◌, ◌+◌, ◌^
 ghost use Rattle.pua_tree.specs.Tree.{Tree, is_dir};
 ghost use Rattle.pua_policy.specs.CallSets.{has, keeps_link};
 ghost use Rattle.pua_policy.specs.declared.call.Call.{Call};
+ghost use Rattle.pua_audit.specs.Bounds.{missing_cost, row_cost};
 ghost use Rattle.pua_audit.specs.Judge.{Judge};
 ghost use Rattle.pua_audit.specs.Ready.{IsSound, judge_in, letters_of};
 ghost use Rattle.pua_audit.specs.Rows.{AreLiving, IsGrown, IsRow};
@@ -38,6 +39,7 @@ impl Terms {
         ensures grown { IfOk result (λ _. IsGrown dirs.old dirs.new) }
         ensures living { IfOk result (λ _. AreLiving self.now.seen.tree dirs.new) }
         ensures tree { P.tree probe.new ≡ P.tree probe.old }
+        ensures cost { P.count probe.new ≤ P.count probe.old + row_cost self.now.seen.tree (length self.now.letters.items) }
     {
         let missing = self.missing(probe, dir);
         let others = missing.bits();
@@ -60,6 +62,7 @@ impl Terms {
         requires sound { IsSound self.now }
         requires living { IsTrue (is_dir self.now.seen.tree dir) }
         ensures tree { P.tree probe.new ≡ P.tree probe.old }
+        ensures cost { P.count probe.new ≤ P.count probe.old + missing_cost self.now.seen.tree (length self.now.letters.items) }
     {
         for letter in &self.letters {
             let Part::Name(name) = *letter else {

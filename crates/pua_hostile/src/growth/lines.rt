@@ -5,11 +5,12 @@ ghost use Rattle.std.specs.Prelude.{◌≡◌, IfOk};
 
 use crate::LISTING;
 use crate::growth::readings::tree_read;
+use crate::trees::ListedTree;
 use anyhow::{Result, anyhow};
 use pua_audit::{Audit, AuditFault, Base, Line};
 use pua_path::Counted;
 use pua_policy::{Call, Perms, Place, Process};
-use pua_tree::{ListTree, Name, NodeId, read_listing};
+use pua_tree::{FileTree, ListTree, Name, NodeId, SlabTree};
 use std::alloc::Global;
 
 /// The reach of a process that may only read one file.
@@ -28,9 +29,14 @@ const LINES: [(&[u8], Call); 12] = [
     (b"/tmp/up/passwd", Call::OpenRead),
 ];
 
-/// Whether an audit that is begun lists its lines.
+/// Whether an audit that is begun lists its lines, over trees of both kinds.
 pub(crate) fn hold(alloc: Global, again: &mut u32) -> Result<bool> {
-    let tree = tree_read(alloc, LISTING, again)?;
+    Ok(is_whole::<ListTree>(alloc, again)? && is_whole::<SlabTree>(alloc, again)?)
+}
+
+/// Whether an audit that is begun over such a tree lists its lines.
+fn is_whole<T: ListedTree>(alloc: Global, again: &mut u32) -> Result<bool> {
+    let tree = tree_read::<T>(alloc, LISTING, again)?;
     let process = reader(alloc)?;
     match begun_again(alloc, &tree, &process, again) {
         Ok(mut audit) => Ok(is_listed(&tree, &mut audit)),
@@ -38,13 +44,13 @@ pub(crate) fn hold(alloc: Global, again: &mut u32) -> Result<bool> {
     }
 }
 
-fn begun_again(
+fn begun_again<T: FileTree>(
     alloc: Global,
-    tree: &ListTree,
+    tree: &T,
     process: &Process,
     again: &mut u32,
 ) -> Result<Audit, AuditFault>
-    ensures { IfOk result (λ audit. audit.tree ≡ tree.now) }
+    ensures { IfOk result (λ audit. audit.tree ≡ T.content tree.now) }
 {
     match begun(alloc, tree, process) {
         Err(AuditFault::OutOfMemory) => {
@@ -55,10 +61,10 @@ fn begun_again(
     }
 }
 
-/// How an audit is listed: refused before the first line, or whole, or otherwise. It takes memory
-/// before the first line alone.
-pub(crate) fn listed(alloc: Global) -> &'static str {
-    let (Ok(tree), Ok(process)) = (read_listing(alloc, LISTING), reader(alloc)) else {
+/// How an audit over such a tree is listed: refused before the first line, or whole, or otherwise. It
+/// takes memory before the first line alone.
+pub(crate) fn listed<T: ListedTree>(alloc: Global) -> &'static str {
+    let (Ok(tree), Ok(process)) = (T::read(alloc, LISTING), reader(alloc)) else {
         return "refused";
     };
     match begun(alloc, &tree, &process) {
@@ -87,16 +93,16 @@ fn reader(alloc: Global) -> Result<Process> {
     Ok(process)
 }
 
-fn begun(alloc: Global, tree: &ListTree, process: &Process) -> Result<Audit, AuditFault>
-    ensures { IfOk result (λ audit. audit.tree ≡ tree.now) }
+fn begun<T: FileTree>(alloc: Global, tree: &T, process: &Process) -> Result<Audit, AuditFault>
+    ensures { IfOk result (λ audit. audit.tree ≡ T.content tree.now) }
 {
     let mut probe = Counted::new(tree);
     Audit::begin(alloc, &mut probe, process, Base::Root, &[], 3, None)
 }
 
 /// Whether an audit lends each of the lines in turn, and then none.
-fn is_listed(tree: &ListTree, audit: &mut Audit) -> bool
-    requires { audit.old.tree ≡ tree.now }
+fn is_listed<T: FileTree>(tree: &T, audit: &mut Audit) -> bool
+    requires { audit.old.tree ≡ T.content tree.now }
 {
     let mut probe = Counted::new(tree);
     for (path, call) in &LINES {

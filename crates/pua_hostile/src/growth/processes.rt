@@ -15,7 +15,7 @@ const DIRS: [u32; 20] = [
 
 /// Whether a process is made, keeps its veils and is copied as it has to be.
 pub(crate) fn hold(alloc: Global, again: &mut u32) -> Result<bool> {
-    let tree = tree_read(alloc, LISTING, again)?;
+    let tree = tree_read::<ListTree>(alloc, LISTING, again)?;
     let mut process = process_made(alloc, again)?;
     pledge(&mut process)?;
     let mut is_kept = true;

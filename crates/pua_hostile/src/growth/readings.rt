@@ -2,27 +2,56 @@
 
 use crate::LISTING;
 use crate::dripping::DrippingReader;
-use crate::growth::worlds::SCRIPT;
+use crate::growth::worlds::{REQUESTS, SCRIPT};
 use crate::listed::listing_of;
+use crate::trees::ListedTree;
 use anyhow::{Result, anyhow};
 use pua_script::{Script, ScriptFault, read_script};
 use pua_tool::{InputFault, Inputs, MemoryInputs, ReadSource, read_bytes};
-use pua_tree::{FileTree, ListTree, ListingFault, Name, TreeFault, read_listing};
+use pua_tree::{FileTree, LentRow, ListTree, ListingFault, Name, OutOfMemory, SlabTree, TreeFault};
 use std::alloc::Global;
 
 /// The names in the tree, in the order of their bytes.
 const NAMES: [&[u8]; 7] = [b"etc", b"passwd", b"self", b"sh", b"t", b"tmp", b"up"];
 
+/// The rows of the tree, each with the number of its directory, its name and its node's number.
+const ROWS: [(u32, &[u8], u32); 7] = [
+    (0, b"etc", 1),
+    (0, b"t", 4),
+    (0, b"tmp", 3),
+    (1, b"passwd", 2),
+    (3, b"self", 6),
+    (3, b"sh", 7),
+    (3, b"up", 5),
+];
+
+/// A listing in which a file and a link have further names.
+const NAMED_TWICE: &[u8] =
+    b"tree 2\n0 dir\n1 dir 0 d\n2 file 1 f\n3 hard 0 g 2\n4 link 1 l g\n6 hard 1 k 4\n7 hard 1 h 2\n";
+
+/// The lines of its tree, one for each name.
+const NAMES_LISTED: &[u8] =
+    b"tree 1\n0 dir\n1 dir 0 d\n2 file 0 g\n2 file 1 f\n2 file 1 h\n4 link 1 k g\n4 link 1 l g\n";
+
 /// Whether everything is read as it has to be.
 pub(crate) fn hold(alloc: Global, again: &mut u32) -> Result<bool> {
     let bytes = bytes_read(alloc, again)?;
     let taken = input_taken(alloc, again)?;
-    let tree = tree_read(alloc, bytes.as_slice(), again)?;
-    let names = names_told(alloc, &tree, again)?;
     let script = script_read(alloc, again)?;
     let is_read = bytes.as_slice() == LISTING && taken.as_slice() == LISTING;
-    let is_listed = listing_of(alloc, &tree)?.as_slice() == LISTING;
-    Ok(is_read && is_listed && are_names(names.as_slice()) && script.requests().len() == 16)
+    let is_listed = is_listed::<ListTree>(alloc, again)? && is_listed::<SlabTree>(alloc, again)?;
+    Ok(is_read && is_listed && script.requests().len() == REQUESTS)
+}
+
+/// Whether a tree of this kind is read, and tells its names and its rows, as it has to be.
+fn is_listed<T: ListedTree>(alloc: Global, again: &mut u32) -> Result<bool> {
+    let tree = tree_read::<T>(alloc, LISTING, again)?;
+    let twice = tree_read::<T>(alloc, NAMED_TWICE, again)?;
+    let names = names_told(alloc, &tree, again)?;
+    let rows = rows_lent(alloc, &tree, again)?;
+    let is_read = listing_of(alloc, &tree)?.as_slice() == LISTING
+        && listing_of(alloc, &twice)?.as_slice() == NAMES_LISTED;
+    Ok(is_read && are_names(names.as_slice()) && are_rows(rows.as_slice()))
 }
 
 fn bytes_read(alloc: Global, again: &mut u32) -> Result<Vec<u8>> {
@@ -51,17 +80,17 @@ fn input_taken(alloc: Global, again: &mut u32) -> Result<Vec<u8>> {
 }
 
 /// The tree of a listing.
-pub(crate) fn tree_read(alloc: Global, bytes: &[u8], again: &mut u32) -> Result<ListTree> {
-    match read_listing(alloc, bytes) {
+pub(crate) fn tree_read<T: ListedTree>(alloc: Global, bytes: &[u8], again: &mut u32) -> Result<T> {
+    match T::read(alloc, bytes) {
         Err(ListingFault::OutOfMemory) => {
             *again = again.saturating_add(1);
-            read_listing(alloc, bytes).map_err(|fault| anyhow!("{fault}"))
+            T::read(alloc, bytes).map_err(|fault| anyhow!("{fault}"))
         }
         answer => answer.map_err(|fault| anyhow!("{fault}")),
     }
 }
 
-fn names_told(alloc: Global, tree: &ListTree, again: &mut u32) -> Result<Vec<Name>> {
+fn names_told<T: FileTree>(alloc: Global, tree: &T, again: &mut u32) -> Result<Vec<Name>> {
     match tree.names(alloc) {
         Err(TreeFault::OutOfMemory) => {
             *again = again.saturating_add(1);
@@ -75,6 +104,29 @@ fn names_told(alloc: Global, tree: &ListTree, again: &mut u32) -> Result<Vec<Nam
 fn are_names(names: &[Name]) -> bool {
     let mut pairs = names.iter().zip(NAMES.iter());
     names.len() == NAMES.len() && pairs.all(|(name, wanted)| name.bytes() == *wanted)
+}
+
+fn rows_lent<'t, T: FileTree>(
+    alloc: Global,
+    tree: &'t T,
+    again: &mut u32,
+) -> Result<Vec<LentRow<'t>>> {
+    match tree.rows(alloc) {
+        Err(OutOfMemory) => {
+            *again = again.saturating_add(1);
+            tree.rows(alloc).map_err(|fault| anyhow!("{fault}"))
+        }
+        answer => answer.map_err(|fault| anyhow!("{fault}")),
+    }
+}
+
+/// Whether these are the rows of the tree.
+fn are_rows(rows: &[LentRow<'_>]) -> bool {
+    let mut pairs = rows.iter().zip(ROWS.iter());
+    rows.len() == ROWS.len()
+        && pairs.all(|(row, (dir, name, node))| {
+            row.dir.number() == *dir && row.name.bytes() == *name && row.node.number() == *node
+        })
 }
 
 /// The script that worlds serve.

@@ -8,15 +8,15 @@ use pua_audit::{Audit, Base};
 use pua_path::Counted;
 use pua_policy::Process;
 use pua_script::World;
-use pua_tree::ListTree;
+use pua_tree::FileTree;
 use std::alloc::Global;
 
 /// Processes have numbers up to this one, in the worlds that are looked at here.
 const PROCESSES: u32 = 3;
 
 /// All lines that an audit has still to lend: each path in plain bytes, and the call behind a blank.
-fn lines_of(alloc: Global, tree: &ListTree, audit: &mut Audit) -> Result<Vec<u8>>
-    requires { audit.old.tree ≡ tree.now }
+fn lines_of<T: FileTree>(alloc: Global, tree: &T, audit: &mut Audit) -> Result<Vec<u8>>
+    requires { audit.old.tree ≡ T.content tree.now }
 {
     let mut lines = Vec::new(alloc);
     let mut probe = Counted::new(tree);
@@ -31,7 +31,11 @@ fn lines_of(alloc: Global, tree: &ListTree, audit: &mut Audit) -> Result<Vec<u8>
 
 /// The working directory of a process, whether it is locked or has ended, and its reach by paths of
 /// two components, one of which may be a name that nothing has.
-pub(crate) fn process_seen(alloc: Global, tree: &ListTree, process: &Process) -> Result<Vec<u8>> {
+pub(crate) fn process_seen<T: FileTree>(
+    alloc: Global,
+    tree: &T,
+    process: &Process,
+) -> Result<Vec<u8>> {
     let mut probe = Counted::new(tree);
     let begun = Audit::begin(alloc, &mut probe, process, Base::Root, &[b"new"], 2, None);
     let mut audit = begun.map_err(|fault| anyhow!("{fault}"))?;
@@ -44,7 +48,7 @@ pub(crate) fn process_seen(alloc: Global, tree: &ListTree, process: &Process) ->
 }
 
 /// The listing of a world's tree, and what can be seen of each of its processes.
-pub(crate) fn world_seen(alloc: Global, world: &World<ListTree>) -> Result<Vec<u8>> {
+pub(crate) fn world_seen<T: FileTree>(alloc: Global, world: &World<T>) -> Result<Vec<u8>> {
     let mut text = listing_of(alloc, world.tree())?;
     for number in 1..=PROCESSES {
         if let Some(process) = world.process(number) {

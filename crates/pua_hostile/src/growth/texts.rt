@@ -5,7 +5,8 @@ use crate::LISTING;
 use anyhow::{Result, anyhow};
 use pua_audit::Base;
 use pua_tool::{
-    DONE, Job, MEMORY, MemoryInputs, MemorySink, Sink, ToolFault, audit_to, command, run_to,
+    DONE, Job, MEMORY, MemoryInputs, MemorySink, Sink, ToolFault, audit_to, command, objects_to,
+    run_to,
 };
 use std::alloc::Global;
 
@@ -18,6 +19,9 @@ const RUN: &[u8] = b"1 ok\n2 ok\n";
 /// Its audit.
 const AUDIT: &[u8] =
     b"1 ok\n2 ok\nreach 1\n/../etc/passwd stat\n/../etc/passwd lstat\n/../etc/passwd open-r\n/etc/passwd stat\n/etc/passwd lstat\n/etc/passwd open-r\n/t/up/passwd stat\n/t/up/passwd lstat\n/t/up/passwd open-r\n/tmp/up/passwd stat\n/tmp/up/passwd lstat\n/tmp/up/passwd open-r\n";
+
+/// What it may touch.
+const OBJECTS: &[u8] = b"1 ok\n2 ok\nobjects 1\nfile /etc/passwd stat,lstat,open-r\n";
 
 /// What the audit is asked for.
 const JOB: Job<'static> = Job {
@@ -36,6 +40,7 @@ pub(crate) fn hold(alloc: Global, again: &mut u32) -> Result<bool> {
     Ok(
         is_filled(alloc, again)?
             && is_run(alloc, again)?
+            && is_listed(alloc, again)?
             && is_audited(alloc, again)?
             && is_done(alloc, again)?,
     )
@@ -69,6 +74,20 @@ fn is_run(alloc: Global, again: &mut u32) -> Result<bool> {
             Ok(is_empty && answer == Ok(()) && sink.bytes() == RUN)
         }
         answer => Ok(answer == Ok(()) && sink.bytes() == RUN),
+    }
+}
+
+/// Whether a list of objects is written whole.
+fn is_listed(alloc: Global, again: &mut u32) -> Result<bool> {
+    let mut sink = sink_made(alloc, again)?;
+    match objects_to(alloc, LISTING, SCRIPT, 1, &mut sink) {
+        Err(ToolFault::OutOfMemory) => {
+            *again = again.saturating_add(1);
+            let is_empty = sink.bytes().is_empty();
+            let answer = objects_to(alloc, LISTING, SCRIPT, 1, &mut sink);
+            Ok(is_empty && answer == Ok(()) && sink.bytes() == OBJECTS)
+        }
+        answer => Ok(answer == Ok(()) && sink.bytes() == OBJECTS),
     }
 }
 

@@ -4,6 +4,7 @@ use Rattle.std.specs.List.{list_all}
 use Rattle.std.proofs.lemmas.List.{length-map}
 use Rattle.pua_tree.specs.Tree.{name_cmp}
 use Rattle.pua_audit.specs.Reach.{alphabet_of}
+use Rattle.pua_audit.specs.Bounds.{names_in}
 use Rattle.pua_audit.specs.Begin.{longest}
 use Rattle.pua_audit.specs.Judge.{is_letter}
 use Rattle.pua_audit.specs.Laws.{Rises}
@@ -41,3 +42,10 @@ returns-clause-sound g c =
       rises = subst (Rises name_cmp) (sym same) (alphabet_rises t names);
       short = subst (λ n. n ≤ 1023) product c.if-from-longest-gt-PATH_LIMIT.false;
     }
+
+pub returns-clause-many : goal.returns-clause-many
+returns-clause-many g c =
+    let t = g.P.Probe.tree c.args.probe.now in
+    let names = c.in_ok-names.names.items in
+    let same : map part_bytes c.in-Ok.letters.items ≡ alphabet_of t names = c.in-Ok.ensures.letters ∙ ap (alphabet_of t) c.as_slice.ensures.value in
+    sym (length-map c.in-Ok.letters.items part_bytes) ∙ ap length same ∙ ap (λ r. length (alphabet_of t (names_in r))) (sym c.in_ok-names.ensures)

@@ -3,10 +3,10 @@ use Rattle.pua_tests.proofs.lent.lines_of.Given as goal
 
 -- the audit stays one of the probe's tree
 abbrev pub invariant-loop-line : goal.invariant-loop-line
-invariant-loop-line l = record {
+invariant-loop-line g l = record {
   tree : l.probe.tree ≡ l.audit.tree;
   same : l.audit.tree ≡ l.fn.audit.tree;
 }
 
 abbrev pub decreases-loop-line : goal.decreases-loop-line
-decreases-loop-line l = length l.audit.left
+decreases-loop-line g l = length l.audit.left

@@ -1,5 +1,5 @@
-use Rattle.pua_tool.proofs.Futures.{confinement}
+use Rattle.pua_tool.proofs.Futures.{confinement, confinement_as_read}
 use Rattle.pua_tool.proofs.laws.confined.Goals as goal
 
 pub returns : goal.returns
-returns c = confinement
+returns c = record { rows = confinement; read = confinement_as_read }

@@ -2,6 +2,7 @@ use Rattle.std.proofs.Common.{◌≡◌, ◌∙◌, ℕ, List, [], Bool, not, �
 use Rattle.std.specs.Prelude.{Result}
 use Rattle.std.proofs.lemmas.Grind.{common_steps}
 use Rattle.pua_tree.specs.Tree.{Tree}
+use Rattle.pua_path.specs.Bounds.{part_cost}
 use Rattle.pua_path.specs.Paths.{part_of}
 use Rattle.pua_path.specs.Resolution.{follow, last}
 use Rattle.pua_path.specs.declared.errno.Errno.{Errno}
@@ -49,3 +50,7 @@ returns-clause-exact g c =
     let told = letter_told t standard_table a.base h dir letter c.union-all.result c.keeping-2.result near far in
     subst (λ (n : ℕ). IsLetter (judge_in a) dir letter c.union-all.result c.keeping-2.result n c.directory_of.result) (sym links)
     (subst (λ (o : Option ℕ). IsLetter (judge_in a) dir letter c.union-all.result c.keeping-2.result (links_of r) o) (sym (c.directory_of.ensures ∙ ap leads_to found)) told)
+
+pub returns-clause-cost : goal.returns-clause-cost
+returns-clause-cost g c =
+    omega (arith, c.follow.ensures.cost, c.last-kept.ensures.cost, c.calls_on.ensures.cost, c.calls_on-2.ensures.cost, ap part_cost c.requires.tree, ap part_cost (c.follow.ensures.tree ∙ c.requires.tree))

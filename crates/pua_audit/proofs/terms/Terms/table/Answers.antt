@@ -1,7 +1,9 @@
-use Rattle.std.proofs.Common.{◌≡◌, ◌<◌, ◌∙◌, ℕ, List, [], ◌∷◌, ◌++◌, length, get_or, arith, sym, ap, subst}
+use Rattle.std.proofs.Common.{◌≡◌, ◌<◌, ◌≤◌, ◌∙◌, ◌+◌, ◌*◌, ℕ, suc, List, [], ◌∷◌, ◌++◌, length, get_or, arith, sym, ap, subst}
 use Rattle.std.proofs.lemmas.List.{length-append, length-map}
+use Rattle.pua_audit.specs.Bounds.{row_cost}
 use Rattle.pua_audit.specs.Ready.{part_bytes, judge_in, letters_of}
 use Rattle.pua_audit.specs.Rows.{AreNumbers, IsRow, AreRows}
+use Rattle.pua_audit.proofs.Costs.{next_within, one_row_more, rows_few, rows_within}
 use Rattle.pua_audit.proofs.Made.{rows_pushed, table_made, numbers_apart}
 use Rattle.pua_steps.specs.declared.steps.Row.{Row}
 use Rattle.pua_steps.specs.declared.steps.Steps.{Steps}
@@ -30,6 +32,10 @@ loop-dir-preserved g c =
       first = grown.same 0 l.invariant.some ∙ l.invariant.first;
       living = c.in_ok-row.ensures.living;
       tree = c.row.ensures.tree ∙ l.invariant.tree;
+      cost =
+          let n : ℕ = length a.letters.items in
+          let longer : length c.push.new.self.items ≡ suc (length rows) = omega (arith, ap length items, length-append rows (row ∷ [])) in
+          subst (λ m. g.P.Probe.count c.row.new.probe ≤ g.P.Probe.count c.args.probe.now + m * row_cost a.seen.tree n) (sym longer) (omega (arith, c.row.ensures.cost, l.invariant.cost, one_row_more a.seen.tree n (length rows)));
     }
 
 pub returns-clause-table : goal.returns-clause-table
@@ -42,3 +48,27 @@ returns-clause-table g c =
     let few : length (letters_of a) < 18446744073709551616 = omega (arith, many, c.len-2.type_inv) in
     let numbers : AreNumbers l.dirs = subst AreNumbers c.dirs-in-loop-dir.view_is c.dirs-in-loop-dir.invariant in
     (l.dirs, (table_made (judge_in a) (letters_of a) l.dirs t many few whole l.invariant.rows, numbers_apart l.dirs numbers, l.invariant.some, l.invariant.first))
+
+pub returns-clause-cost : goal.returns-clause-cost
+returns-clause-cost g c =
+    let a = c.args.self.now in
+    let l = c.loop-dir in
+    let numbers : AreNumbers l.dirs = subst AreNumbers c.dirs-in-loop-dir.view_is c.dirs-in-loop-dir.invariant in
+    let few : length l.rows.items ≤ length a.seen.tree.nodes = omega (arith, l.invariant.within, rows_few a.seen.tree l.dirs numbers l.invariant.living) in
+    omega (arith, l.invariant.cost, rows_within a.seen.tree (length a.letters.items) (length l.rows.items) few)
+
+pub returns-in_err-row-clause-cost : goal.returns-in_err-row-clause-cost
+returns-in_err-row-clause-cost g c =
+    let a = c.args.self.now in
+    let l = c.loop-dir in
+    let numbers : AreNumbers l.dirs = subst AreNumbers c.dirs-in-loop-dir.view_is c.dirs-in-loop-dir.invariant in
+    let inside : length l.rows.items < length l.dirs = omega (arith, c.in-Some.ensures.dir.0, c.len.ensures) in
+    omega (arith, c.row.ensures.cost, l.invariant.cost, next_within a.seen.tree (length a.letters.items) (length l.rows.items) l.dirs numbers l.invariant.living inside)
+
+pub returns-in_default-push-clause-cost : goal.returns-in_default-push-clause-cost
+returns-in_default-push-clause-cost g c =
+    let a = c.args.self.now in
+    let l = c.loop-dir in
+    let numbers : AreNumbers l.dirs = subst AreNumbers c.dirs-in-loop-dir.view_is c.dirs-in-loop-dir.invariant in
+    let inside : length l.rows.items < length l.dirs = omega (arith, c.in-Some.ensures.dir.0, c.len.ensures) in
+    omega (arith, c.row.ensures.cost, l.invariant.cost, next_within a.seen.tree (length a.letters.items) (length l.rows.items) l.dirs numbers l.invariant.living inside)

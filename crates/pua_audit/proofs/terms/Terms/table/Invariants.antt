@@ -1,4 +1,5 @@
-use Rattle.std.proofs.Common.{◌≡◌, ◌<◌, ◌≤◌, ◌-◌, length, get_or}
+use Rattle.std.proofs.Common.{◌≡◌, ◌<◌, ◌≤◌, ◌+◌, ◌*◌, ◌-◌, length, get_or}
+use Rattle.pua_audit.specs.Bounds.{row_cost}
 use Rattle.pua_audit.specs.Ready.{judge_in, letters_of}
 use Rattle.pua_audit.specs.Rows.{AreLiving, AreRows}
 use Rattle.pua_audit.proofs.terms.Terms.table.Given as goal
@@ -12,6 +13,7 @@ invariant-loop-dir g l = record {
   first : get_or l.dirs 0 0 ≡ l.fn.base;
   living : AreLiving l.self.seen.tree l.dirs;
   tree : g.P.Probe.tree l.probe ≡ l.self.seen.tree;
+  cost : g.P.Probe.count l.probe ≤ g.P.Probe.count l.fn.probe + length l.rows.items * row_cost l.self.seen.tree (length l.self.letters.items);
 }
 
 abbrev pub decreases-loop-dir : goal.decreases-loop-dir

@@ -3,4 +3,4 @@ use Rattle.pua_hostile.proofs.growth.lines.is_listed.Given as goal
 
 -- the audit stays one of the probe's tree
 abbrev pub invariant-loop-path : goal.invariant-loop-path
-invariant-loop-path l = l.probe.tree ≡ l.audit.tree
+invariant-loop-path g l = l.probe.tree ≡ l.audit.tree

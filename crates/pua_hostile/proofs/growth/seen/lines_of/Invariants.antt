@@ -3,7 +3,7 @@ use Rattle.pua_hostile.proofs.growth.seen.lines_of.Given as goal
 
 -- the audit stays one of the probe's tree
 abbrev pub invariant-loop-line : goal.invariant-loop-line
-invariant-loop-line l = l.probe.tree ≡ l.audit.tree
+invariant-loop-line g l = l.probe.tree ≡ l.audit.tree
 
 abbrev pub decreases-loop-line : goal.decreases-loop-line
-decreases-loop-line l = length l.audit.left
+decreases-loop-line g l = length l.audit.left

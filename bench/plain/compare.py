@@ -1,0 +1,76 @@
+#!/usr/bin/env python3
+"""Compares what a program writes with what `pua` has to write: python3 compare.py PROGRAM
+
+It runs each story of `examples/` and each row of `examples/rows.toml`, and prints a line for each whose standard
+output, fault line or status is another than expected; an audit that a row has whole is also resumed after each of its
+lines. Then it prints how many there were. PROGRAM can be the plain one or `pua` itself."""
+import pathlib
+import subprocess
+import sys
+import tempfile
+import tomllib
+
+DATA = pathlib.Path(__file__).resolve().parents[2] / "examples"
+PROGRAM = str(pathlib.Path(sys.argv[1]).resolve())
+counts = {"runs": 0, "differ": 0}
+
+
+def run(name, words, folder, output, fault="", status=0):
+    """Runs the program in a folder, and judges what it writes."""
+    ran = subprocess.run([PROGRAM, *words], cwd=folder, capture_output=True)
+    counts["runs"] += 1
+    if (ran.stdout, ran.stderr, ran.returncode) != (output.encode(), fault.encode(), status):
+        counts["differ"] += 1
+        print(f"differs: {name}: {' '.join(words)}: status {ran.returncode}, {ran.stderr.decode()!r}")
+
+
+def output_of(row):
+    """What a row's command writes, and how many lines stand before the pairs."""
+    lines = [f"{place} {answer}" for place, answer in enumerate(row.get("answers", "").split(), 1)]
+    lines += [f"reach {row['reach']}"] if "reach" in row else []
+    front = len(lines)
+    for line in row.get("pairs", "").splitlines():
+        path, *calls = line.split()
+        lines += [f"{path} {call}" for call in calls]
+    return [line + "\n" for line in lines], front
+
+
+def run_row(row, folder):
+    words = row["command"].split()
+    lines, front = output_of(row)
+    fault = row["fault"] + "\n" if "fault" in row else ""
+    run(row["name"], words, folder, "".join(lines), fault, row.get("status", 0))
+    if "reach" in row:
+        for place in range(front, len(lines)):
+            path, call = lines[place].split()
+            resuming = [words[0], "--after", f"{call}:{path}", *words[1:]]
+            run(row["name"], resuming, folder, "".join(lines[place + 1:]))
+
+
+def main():
+    table = tomllib.loads((DATA / "rows.toml").read_text())
+    for command in sorted(DATA.glob("*/command")):
+        output = (command.parent / "output").read_text()
+        run(command.parent.name, command.read_text().split()[1:], DATA, output)
+    with tempfile.TemporaryDirectory() as room:
+        folder = pathlib.Path(room)
+
+        def put(tree, script):
+            (folder / "TREE").write_bytes(tree.encode())
+            (folder / "SCRIPT").write_bytes(script.encode())
+
+        put("tree 1\n0 dir\n", "")
+        for misused in table["misused"]:
+            run(misused["name"], misused["command"].split(), folder, "", table["usage"] + "\n", 2)
+        for refused in table["refused"]:
+            put(refused.get("listing", "tree 1\n0 dir\n"), refused.get("script", "0"))
+            for words in ("run TREE SCRIPT", "audit --limit 1 TREE SCRIPT", "audit --limit 17 TREE SCRIPT"):
+                run(refused["name"], words.split(), folder, "", refused["fault"] + "\n", 1)
+        for row in table["row"]:
+            put(table["tree"][row["tree"]]["listing"], row.get("script", ""))
+            run_row(row, folder)
+    print(f"{counts['runs']} runs, {counts['differ']} differ")
+    sys.exit(counts["differ"] != 0)
+
+
+main()

@@ -1,0 +1,1232 @@
+// What `pua run` and `pua audit` do, in plain Rust of one file, to compare with: the same text to the byte, by the rules
+// of docs/DEFINITIONS.md. Nothing here is proved. Built by `rustc -O pua.rs`; its words are those of `pua`.
+
+use std::borrow::Cow;
+use std::collections::HashMap;
+use std::fs;
+use std::hash::{BuildHasherDefault, Hasher};
+use std::io::{self, Write};
+use std::process::ExitCode;
+
+// ---- Maps: those of std, with a hash for short keys
+
+#[derive(Clone, Default)]
+struct Mix(u64);
+
+impl Mix {
+    fn mix(&mut self, word: u64) {
+        self.0 = (self.0.rotate_left(5) ^ word).wrapping_mul(0x517c_c1b7_2722_0a95);
+    }
+}
+
+impl Hasher for Mix {
+    fn write(&mut self, bytes: &[u8]) {
+        let (words, rest) = bytes.as_chunks::<8>();
+        words.iter().for_each(|word| self.mix(u64::from_le_bytes(*word)));
+        rest.iter().for_each(|byte| self.mix(u64::from(*byte)));
+    }
+
+    fn write_u32(&mut self, number: u32) {
+        self.mix(u64::from(number));
+    }
+
+    fn write_usize(&mut self, number: usize) {
+        self.mix(number as u64);
+    }
+
+    fn finish(&self) -> u64 {
+        self.0.rotate_left(26)
+    }
+}
+
+type Map<K, V> = HashMap<K, V, BuildHasherDefault<Mix>>;
+
+// ---- Spellings
+
+const NAME_LIMIT: usize = 255;
+const PATH_LIMIT: usize = 1023;
+
+fn stands_for_itself(byte: u8) -> bool {
+    (0x21..=0x7e).contains(&byte) && byte != b'\\'
+}
+
+fn unspelled(field: &[u8]) -> Option<Cow<'_, [u8]>> {
+    if !field.contains(&b'\\') {
+        return Some(Cow::Borrowed(field));
+    }
+    let mut bytes = Vec::with_capacity(field.len());
+    let mut rest = field;
+    while let [first, more @ ..] = rest {
+        rest = more;
+        if *first != b'\\' {
+            bytes.push(*first);
+            continue;
+        }
+        let [a @ b'0'..=b'3', b @ b'0'..=b'7', c @ b'0'..=b'7', more @ ..] = rest else { return None };
+        let byte = (a - b'0') * 64 + (b - b'0') * 8 + (c - b'0');
+        if stands_for_itself(byte) {
+            return None;
+        }
+        bytes.push(byte);
+        rest = more;
+    }
+    Some(Cow::Owned(bytes))
+}
+
+fn spell(out: &mut Vec<u8>, bytes: &[u8]) {
+    for byte in bytes {
+        if stands_for_itself(*byte) {
+            out.push(*byte);
+        } else {
+            out.extend_from_slice(format!("\\{byte:03o}").as_bytes());
+        }
+    }
+}
+
+fn name(field: &[u8]) -> Option<Cow<'_, [u8]>> {
+    let bytes = unspelled(field)?;
+    let fits = (1..=NAME_LIMIT).contains(&bytes.len()) && !bytes.contains(&0) && !bytes.contains(&b'/');
+    (fits && *bytes != *b"." && *bytes != *b"..").then_some(bytes)
+}
+
+fn has_long_component(text: &[u8]) -> bool {
+    text.len() > NAME_LIMIT && text.split(|byte| *byte == b'/').any(|part| part.len() > NAME_LIMIT)
+}
+
+fn target(field: &[u8]) -> Option<Cow<'_, [u8]>> {
+    let bytes = unspelled(field)?;
+    let fits = (1..=PATH_LIMIT).contains(&bytes.len()) && !bytes.contains(&0);
+    (fits && !has_long_component(&bytes)).then_some(bytes)
+}
+
+fn number(field: &[u8]) -> Option<u32> {
+    let digits = !field.is_empty() && field.len() <= 6 && field.iter().all(u8::is_ascii_digit);
+    if !digits || (field[0] == b'0' && field.len() > 1) {
+        return None;
+    }
+    Some(field.iter().fold(0, |sum, digit| sum * 10 + u32::from(digit - b'0')))
+}
+
+fn lines(text: &[u8]) -> impl Iterator<Item = &[u8]> {
+    text.split_inclusive(|byte| *byte == b'\n').map(|line| match line {
+        [line @ .., b'\r', b'\n'] | [line @ .., b'\n'] => line,
+        line => line,
+    })
+}
+
+/// Splits a line into `fields`; whether it has as many as fit, each of visible bytes.
+fn split<'a>(line: &'a [u8], fields: &mut Vec<&'a [u8]>) -> bool {
+    fields.clear();
+    fields.extend(line.split(|byte| *byte == b' '));
+    fields.iter().all(|field| !field.is_empty() && field.iter().all(|byte| (0x21..=0x7e).contains(byte)))
+}
+
+// ---- Trees
+
+const ROOT: u32 = 0;
+const MOST_NAMES: usize = 65_535;
+const MOST_LINES: usize = 4_096;
+
+#[derive(Clone, Copy, PartialEq)]
+enum Kind {
+    Dir,
+    File,
+    Prog,
+    Link,
+}
+
+/// A node; a removed one has no links. `parent` is a directory's, `rows` are what stands in it.
+struct Node {
+    kind: Kind,
+    links: u32,
+    parent: u32,
+    rows: Map<Box<[u8]>, u32>,
+    target: Box<[u8]>,
+}
+
+/// Numbers of nodes are places in `nodes`, and are not used again.
+struct Tree {
+    nodes: Vec<Node>,
+    names: usize,
+}
+
+#[derive(Clone, Copy)]
+enum Way<'a> {
+    Named(u32, &'a [u8]),
+    Dots,
+    Top,
+}
+
+/// What a path names: a directory, or a name where there is none.
+#[derive(Clone, Copy)]
+enum Found<'a> {
+    Whole(u32, Way<'a>),
+    Slot(u32, &'a [u8], Option<u32>),
+}
+
+type Errno = &'static str;
+
+fn trimmed(text: &[u8]) -> &[u8] {
+    let start = text.iter().position(|byte| *byte != b'/').unwrap_or(text.len());
+    &text[start..]
+}
+
+/// The first part of a text, and what is behind it. A slash at the end counts as a part `.`.
+fn first_part(text: &[u8]) -> (&[u8], &[u8]) {
+    let end = text.iter().position(|byte| *byte == b'/').unwrap_or(text.len());
+    let (part, behind) = text.split_at(end);
+    let rest = trimmed(behind);
+    (part, if rest.is_empty() && !behind.is_empty() { b"." } else { rest })
+}
+
+impl Tree {
+    fn new() -> Tree {
+        let mut tree = Tree { nodes: Vec::new(), names: 1 };
+        tree.make(Kind::Dir, ROOT, &[]);
+        tree.nodes[0].links = 1;
+        tree
+    }
+
+    fn node(&self, id: u32) -> &Node {
+        &self.nodes[id as usize]
+    }
+
+    fn node_mut(&mut self, id: u32) -> &mut Node {
+        &mut self.nodes[id as usize]
+    }
+
+    fn make(&mut self, kind: Kind, parent: u32, target: &[u8]) -> u32 {
+        self.nodes.push(Node { kind, links: 0, parent, rows: Map::default(), target: target.into() });
+        self.nodes.len() as u32 - 1
+    }
+
+    fn is_full(&self) -> bool {
+        self.names == MOST_NAMES
+    }
+
+    fn tie(&mut self, dir: u32, name: &[u8], node: u32) {
+        self.node_mut(dir).rows.insert(name.into(), node);
+        self.node_mut(node).links += 1;
+        self.names += 1;
+    }
+
+    fn add(&mut self, dir: u32, name: &[u8], kind: Kind, target: &[u8]) -> u32 {
+        let node = self.make(kind, dir, target);
+        self.tie(dir, name, node);
+        node
+    }
+
+    fn cut(&mut self, dir: u32, name: &[u8]) -> Option<u32> {
+        let node = self.node_mut(dir).rows.remove(name)?;
+        self.node_mut(node).links -= 1;
+        self.names -= 1;
+        Some(node)
+    }
+
+    fn shift(&mut self, from: (u32, &[u8]), to: (u32, &[u8])) {
+        self.cut(to.0, to.1);
+        if let Some(node) = self.cut(from.0, from.1) {
+            self.tie(to.0, to.1, node);
+            self.node_mut(node).parent = to.0;
+        }
+    }
+
+    /// What a path names from a directory, and how many links were followed.
+    fn resolve<'a>(&'a self, from: u32, text: &'a [u8], follow: bool) -> Result<(Found<'a>, u8), Errno> {
+        let (mut dir, mut way, mut links) = (from, Way::Top, 0);
+        let mut later: Vec<&[u8]> = Vec::new();
+        let mut rest = trimmed(text);
+        loop {
+            if rest.is_empty() {
+                let Some(more) = later.pop() else { return Ok((Found::Whole(dir, way), links)) };
+                rest = more;
+            }
+            let (part, behind) = first_part(rest);
+            rest = behind;
+            if part == b"." {
+                way = Way::Dots;
+                continue;
+            } else if part == b".." {
+                (dir, way) = (self.node(dir).parent, Way::Dots);
+                continue;
+            }
+            let is_last = rest.is_empty() && later.is_empty();
+            let Some(&id) = self.node(dir).rows.get(part) else {
+                return if is_last { Ok((Found::Slot(dir, part, None), links)) } else { Err("ENOENT") };
+            };
+            let node = self.node(id);
+            match node.kind {
+                Kind::Dir => (dir, way) = (id, Way::Named(dir, part)),
+                Kind::Link if follow || !is_last => {
+                    if links == 32 {
+                        return Err("ELOOP");
+                    }
+                    links += 1;
+                    if !rest.is_empty() {
+                        later.push(rest);
+                    }
+                    if node.target[0] == b'/' {
+                        dir = ROOT;
+                    }
+                    (rest, way) = (trimmed(&node.target), Way::Top);
+                    if rest.is_empty() && later.is_empty() {
+                        return Ok((Found::Whole(dir, way), links));
+                    }
+                }
+                _ if is_last => return Ok((Found::Slot(dir, part, Some(id)), links)),
+                _ => return Err("ENOTDIR"),
+            }
+        }
+    }
+
+    /// What a path of a request names: a slash at its end is dropped where the call says so.
+    fn named<'a>(&'a self, cwd: u32, path: &'a [u8], is_dropped: bool, follow: bool) -> Result<Found<'a>, Errno> {
+        path_fault(path)?;
+        let from = if path[0] == b'/' { ROOT } else { cwd };
+        if self.node(from).links == 0 {
+            return Err("ENOENT");
+        }
+        let end = path.iter().rposition(|byte| *byte != b'/').map_or(0, |last| last + 1);
+        let text = if is_dropped { &path[..end] } else { path };
+        Ok(self.resolve(from, text, follow)?.0)
+    }
+}
+
+fn path_fault(path: &[u8]) -> Result<(), Errno> {
+    match path.len() {
+        0 => Err("ENOENT"),
+        1..=PATH_LIMIT if !has_long_component(path) => Ok(()),
+        _ => Err("ENAMETOOLONG"),
+    }
+}
+
+impl<'a> Found<'a> {
+    fn node(self) -> Option<u32> {
+        match self {
+            Found::Whole(dir, _) => Some(dir),
+            Found::Slot(_, _, node) => node,
+        }
+    }
+
+    fn spot(self) -> Option<(u32, &'a [u8])> {
+        match self {
+            Found::Whole(_, Way::Named(dir, name)) | Found::Slot(dir, name, _) => Some((dir, name)),
+            Found::Whole(..) => None,
+        }
+    }
+}
+
+/// The tree of a listing, or the fault of a line with its number from 1.
+fn read_listing(text: &[u8]) -> Result<Tree, String> {
+    let mut lines = lines(text).enumerate();
+    let Some((_, header @ (b"tree 1" | b"tree 2"))) = lines.next() else {
+        return Err("pua: listing: bad header".into());
+    };
+    if !matches!(lines.next(), Some((_, b"0 dir"))) {
+        return Err("pua: listing: line 2: bad line".into());
+    }
+    let mut tree = Tree::new();
+    let mut nodes = Map::from_iter([(0, ROOT)]);
+    let (mut fields, mut before) = (Vec::new(), 0);
+    for (at, line) in lines {
+        let read = if split(line, &mut fields) {
+            read_node(&mut tree, &mut nodes, &mut before, &fields, header == b"tree 2", at)
+        } else {
+            Err("bad line")
+        };
+        read.map_err(|fault| format!("pua: listing: line {}: {fault}", at + 1))?;
+    }
+    Ok(tree)
+}
+
+fn read_node(
+    tree: &mut Tree,
+    nodes: &mut Map<u32, u32>,
+    before: &mut u32,
+    fields: &[&[u8]],
+    has_hard: bool,
+    at: usize,
+) -> Result<(), &'static str> {
+    let (kind, count) = match fields.get(1) {
+        Some(&b"dir") => (Some(Kind::Dir), 4),
+        Some(&b"file") => (Some(Kind::File), 4),
+        Some(&b"prog") => (Some(Kind::Prog), 4),
+        Some(&b"link") => (Some(Kind::Link), 5),
+        Some(&b"hard") if has_hard => (None, 5),
+        _ => return Err("bad line"),
+    };
+    if fields.len() != count {
+        return Err("bad line");
+    }
+    let id = number(fields[0]).filter(|id| id > before).ok_or("bad number")?;
+    let known = |field: &[u8]| number(field).and_then(|id| nodes.get(&id)).copied();
+    let parent = known(fields[2]).filter(|dir| tree.node(*dir).kind == Kind::Dir).ok_or("bad parent")?;
+    let name = name(fields[3]).ok_or("bad name")?;
+    let to = match kind {
+        Some(Kind::Link) => target(fields[4]).ok_or("bad target")?,
+        _ => Cow::Borrowed(&[][..]),
+    };
+    let old = match kind {
+        None => known(fields[4]).filter(|node| tree.node(*node).kind != Kind::Dir).ok_or("bad node")?,
+        Some(_) => ROOT,
+    };
+    if tree.node(parent).rows.contains_key(&*name) {
+        return Err("name taken");
+    }
+    if at > MOST_LINES {
+        return Err("too many nodes");
+    }
+    match kind {
+        Some(kind) => drop(nodes.insert(id, tree.add(parent, &name, kind, &to))),
+        None => tree.tie(parent, &name, old),
+    }
+    *before = id;
+    Ok(())
+}
+
+// ---- Promises and calls
+
+const KEYWORDS: [&str; 36] = [
+    "audio", "bpf", "chown", "cpath", "disklabel", "dns", "dpath", "drm", "error", "exec", "fattr", "flock", "getpw",
+    "id", "inet", "mcast", "pf", "proc", "prot_exec", "ps", "recvfd", "route", "rpath", "sendfd", "settime", "stdio",
+    "tape", "tmppath", "tty", "unix", "unveil", "video", "vminfo", "vmm", "wpath", "wroute",
+];
+const CPATH: u64 = 1 << 3;
+const ERROR: u64 = 1 << 8;
+const EXEC: u64 = 1 << 9;
+const FATTR: u64 = 1 << 10;
+const PROC: u64 = 1 << 17;
+const RPATH: u64 = 1 << 22;
+const UNVEIL: u64 = 1 << 30;
+const WPATH: u64 = 1 << 34;
+const ALL_BUT_ERROR: u64 = ((1 << 36) - 1) & !ERROR;
+
+const R: u8 = 1;
+const W: u8 = 2;
+const X: u8 = 4;
+const C: u8 = 8;
+const ALL: u8 = R | W | X | C;
+
+#[derive(Clone, Copy, PartialEq)]
+#[repr(u8)]
+enum Call {
+    Stat,
+    Lstat,
+    Readlink,
+    OpenR,
+    OpenW,
+    OpenRw,
+    Create,
+    Mkdir,
+    Rmdir,
+    Unlink,
+    Symlink,
+    Chmod,
+    Chdir,
+    Exec,
+}
+
+/// Each call with its name, what it needs, and whether it follows a link at its path's end.
+const CALLS: [(Call, &str, u64, u8, bool); 14] = [
+    (Call::Stat, "stat", RPATH, R, true),
+    (Call::Lstat, "lstat", RPATH, R, false),
+    (Call::Readlink, "readlink", RPATH, R, false),
+    (Call::OpenR, "open-r", RPATH, R, true),
+    (Call::OpenW, "open-w", WPATH, W, true),
+    (Call::OpenRw, "open-rw", RPATH | WPATH, R | W, true),
+    (Call::Create, "create", WPATH | CPATH, W | C, true),
+    (Call::Mkdir, "mkdir", CPATH, C, false),
+    (Call::Rmdir, "rmdir", CPATH, C, false),
+    (Call::Unlink, "unlink", CPATH, C, false),
+    (Call::Symlink, "symlink", CPATH, C, false),
+    (Call::Chmod, "chmod", FATTR, W, true),
+    (Call::Chdir, "chdir", RPATH, R, true),
+    (Call::Exec, "exec", EXEC, X, true),
+];
+
+/// What a call is on; a directory with what is wrong with removing it.
+#[derive(Clone, Copy)]
+enum Object {
+    Missing,
+    Node(Kind),
+    Dir(Option<Errno>),
+}
+
+fn object(tree: &Tree, found: Found) -> Object {
+    match found {
+        Found::Slot(_, _, None) => Object::Missing,
+        Found::Slot(_, _, Some(node)) => Object::Node(tree.node(node).kind),
+        Found::Whole(_, Way::Dots) => Object::Dir(Some("EINVAL")),
+        Found::Whole(_, Way::Top) => Object::Dir(Some("EBUSY")),
+        Found::Whole(dir, _) => Object::Dir((!tree.node(dir).rows.is_empty()).then_some("ENOTEMPTY")),
+    }
+}
+
+fn object_fault(call: Call, object: Object) -> Option<Errno> {
+    use Call::*;
+    match (object, call) {
+        (Object::Missing, Create | Mkdir | Symlink) => None,
+        (Object::Missing, _) => Some("ENOENT"),
+        (_, Mkdir | Symlink) => Some("EEXIST"),
+        (Object::Dir(rmdir), Rmdir) => rmdir,
+        (Object::Dir(_), Readlink) => Some("EINVAL"),
+        (Object::Dir(_), OpenW | OpenRw | Create) => Some("EISDIR"),
+        (Object::Dir(_), Unlink) => Some("EPERM"),
+        (Object::Dir(_), Exec) => Some("EACCES"),
+        (Object::Dir(_), _) => None,
+        (Object::Node(kind), Readlink) if kind != Kind::Link => Some("EINVAL"),
+        (Object::Node(kind), Exec) if kind != Kind::Prog => Some("EACCES"),
+        (Object::Node(_), Rmdir | Chdir) => Some("ENOTDIR"),
+        (Object::Node(_), _) => None,
+    }
+}
+
+// ---- Processes
+
+/// What stays of a process's calls. Veils stand on directories, and on names in directories.
+#[derive(Clone, Default)]
+struct Process {
+    promises: Option<u64>,
+    execpromises: Option<u64>,
+    on_dirs: Map<u32, u8>,
+    on_names: Map<u32, Map<Box<[u8]>, u8>>,
+    veils: usize,
+    is_locked: bool,
+    has_ended: bool,
+    dir: u32,
+}
+
+/// What is left of an object: nothing, or these letters.
+type Cover = Option<u8>;
+
+fn cover_fault(cover: Cover, perms: u8) -> Option<Errno> {
+    match cover {
+        None => Some("ENOENT"),
+        Some(kept) if kept & perms == perms => None,
+        Some(_) => Some("EACCES"),
+    }
+}
+
+impl Process {
+    fn held(&self) -> u64 {
+        self.promises.unwrap_or(ALL_BUT_ERROR)
+    }
+
+    fn may(&self, promises: u64) -> Result<(), Errno> {
+        match self.held() {
+            held if held & promises == promises => Ok(()),
+            held if held & ERROR != 0 => Err("ENOSYS"),
+            _ => Err("killed"),
+        }
+    }
+
+    fn dir_cover(&self, tree: &Tree, dir: u32) -> Cover {
+        if self.veils == 0 {
+            return Some(ALL);
+        }
+        let mut at = dir;
+        loop {
+            if let Some(kept) = self.on_dirs.get(&at) {
+                return Some(*kept);
+            }
+            if at == ROOT {
+                return None;
+            }
+            at = tree.node(at).parent;
+        }
+    }
+
+    fn kept_on_name(&self, dir: u32, name: &[u8]) -> Cover {
+        self.on_names.get(&dir)?.get(name).copied()
+    }
+
+    fn cover(&self, tree: &Tree, found: Found) -> Cover {
+        match found {
+            Found::Whole(dir, _) => self.dir_cover(tree, dir),
+            Found::Slot(dir, name, _) => self.kept_on_name(dir, name).or_else(|| self.dir_cover(tree, dir)),
+        }
+    }
+
+    fn pledge(&mut self, promises: Option<u64>, execpromises: Option<u64>) -> Result<(), Errno> {
+        let adds = |old: Option<u64>, new: Option<u64>| new.unwrap_or(0) & !old.unwrap_or(u64::MAX) != 0;
+        let is_more = adds(self.promises, promises) || adds(self.execpromises, execpromises);
+        if is_more && self.held() & ERROR == 0 {
+            return Err("EPERM");
+        }
+        let both = |old: Option<u64>, new: Option<u64>| old.map_or(new, |old| Some(old & new.unwrap_or(old)));
+        self.promises = both(self.promises, promises);
+        self.execpromises = both(self.execpromises, execpromises);
+        Ok(())
+    }
+
+    fn unveil(&mut self, found: Found, perms: u8) -> Result<(), Errno> {
+        let kept = match found {
+            Found::Whole(dir, _) => self.on_dirs.get(&dir).copied(),
+            Found::Slot(dir, name, _) => self.kept_on_name(dir, name),
+        };
+        match kept {
+            Some(kept) if kept & perms != perms => return Err("EPERM"),
+            Some(_) => {}
+            None if self.veils == 128 => return Err("E2BIG"),
+            None => self.veils += 1,
+        }
+        match found {
+            Found::Whole(dir, _) => self.on_dirs.insert(dir, perms),
+            Found::Slot(dir, name, _) => self.on_names.entry(dir).or_default().insert(name.into(), perms),
+        };
+        Ok(())
+    }
+
+    fn exec(&mut self) {
+        self.promises = self.execpromises.take();
+        if self.promises.is_none() {
+            (self.on_dirs, self.on_names, self.veils, self.is_locked) = (Map::default(), Map::default(), 0, false);
+        }
+    }
+
+    /// What a call's path names, if the call is allowed on it.
+    fn judged<'a>(&self, tree: &'a Tree, call: Call, path: &'a [u8]) -> Result<Found<'a>, Errno> {
+        let (_, _, promises, perms, follow) = CALLS[call as usize];
+        self.may(promises)?;
+        let found = tree.named(self.dir, path, matches!(call, Call::Mkdir | Call::Rmdir), follow)?;
+        let fault = cover_fault(self.cover(tree, found), perms).or_else(|| object_fault(call, object(tree, found)));
+        fault.map_or(Ok(found), Err)
+    }
+
+    /// What two paths name, if both are covered with the letter c.
+    fn pair<'a>(
+        &self,
+        tree: &'a Tree,
+        old: &'a [u8],
+        new: &'a [u8],
+        is_dropped: bool,
+    ) -> Result<(Found<'a>, Found<'a>), Errno> {
+        self.may(CPATH)?;
+        let from = tree.named(self.dir, old, is_dropped, false)?;
+        let to = tree.named(self.dir, new, is_dropped, false)?;
+        let fault = cover_fault(self.cover(tree, from), C).or_else(|| cover_fault(self.cover(tree, to), C));
+        fault.map_or(Ok((from, to)), Err)
+    }
+}
+
+// ---- Scripts
+
+type Path<'a> = Cow<'a, [u8]>;
+
+/// A list of promises: none at all, a set, or one with an unknown keyword.
+enum Given {
+    Null,
+    Good(u64),
+    Unknown,
+}
+
+enum Action<'a> {
+    OnPath(Call, Path<'a>),
+    Symlink(Path<'a>, Path<'a>),
+    Rename(Path<'a>, Path<'a>),
+    Link(Path<'a>, Path<'a>),
+    Pledge(Given, Given),
+    Unveil(Path<'a>, Option<u8>),
+    Lock,
+    Fork(u32),
+    Exit,
+}
+
+fn read_path(field: &[u8]) -> Result<Path<'_>, &'static str> {
+    if field == b"=" {
+        return Ok(Cow::Borrowed(&[]));
+    }
+    unspelled(field).filter(|path| !path.contains(&0)).ok_or("bad path")
+}
+
+fn read_given(field: &[u8]) -> Result<Given, &'static str> {
+    match field {
+        b"-" => return Ok(Given::Null),
+        b"=" => return Ok(Given::Good(0)),
+        _ => {}
+    }
+    let (mut set, mut is_known) = (0, true);
+    for word in field.split(|byte| *byte == b',') {
+        if word.is_empty() {
+            return Err("bad list");
+        }
+        match KEYWORDS.iter().position(|keyword| keyword.as_bytes() == word) {
+            Some(bit) => set |= 1 << bit,
+            None => is_known = false,
+        }
+    }
+    Ok(if is_known { Given::Good(set) } else { Given::Unknown })
+}
+
+fn read_perms(field: &[u8]) -> Option<u8> {
+    let letter = |byte: &u8| b"rwxc".iter().position(|letter| letter == byte);
+    let letters = if field == b"=" { b"" } else { field };
+    letters.iter().try_fold(0, |perms, byte| Some(perms | 1 << letter(byte)?))
+}
+
+fn read_call(word: &[u8]) -> Option<Call> {
+    CALLS.iter().find(|row| row.1.as_bytes() == word).map(|row| row.0)
+}
+
+fn read_action<'a>(fields: &[&'a [u8]]) -> Result<Action<'a>, &'static str> {
+    let action = match *fields {
+        [b"exit"] => Action::Exit,
+        [b"fork", new] => Action::Fork(number(new).filter(|new| *new > 0).ok_or("bad call")?),
+        [call, path] => match read_call(call) {
+            None | Some(Call::Symlink) => return Err("bad call"),
+            Some(call) => Action::OnPath(call, read_path(path)?),
+        },
+        [b"symlink", target, path] => Action::Symlink(read_path(target)?, read_path(path)?),
+        [b"rename", old, new] => Action::Rename(read_path(old)?, read_path(new)?),
+        [b"link", old, new] => Action::Link(read_path(old)?, read_path(new)?),
+        [b"pledge", promises, execpromises] => Action::Pledge(read_given(promises)?, read_given(execpromises)?),
+        [b"unveil", b"-", b"-"] => Action::Lock,
+        [b"unveil", b"-", _] => return Err("bad list"),
+        [b"unveil", path, b"-"] => return read_path(path).and(Err("bad list")),
+        [b"unveil", path, perms] => Action::Unveil(read_path(path)?, read_perms(perms)),
+        _ => return Err("bad call"),
+    };
+    Ok(action)
+}
+
+fn read_script(text: &[u8]) -> Result<Vec<(u32, Action<'_>)>, String> {
+    let (mut requests, mut fields) = (Vec::new(), Vec::new());
+    for (at, line) in lines(text).enumerate() {
+        if at == 60_000 {
+            return Err("pua: script: too many lines".into());
+        }
+        let process = split(line, &mut fields).then(|| number(fields[0])).flatten().filter(|process| *process > 0);
+        let read = process.ok_or("bad line").and_then(|process| Ok((process, read_action(&fields[1..])?)));
+        requests.push(read.map_err(|fault| format!("pua: script: line {}: {fault}", at + 1))?);
+    }
+    Ok(requests)
+}
+
+// ---- The replay
+
+struct World {
+    tree: Tree,
+    processes: Map<u32, Process>,
+}
+
+impl World {
+    fn serve(&mut self, number: u32, action: &Action) -> &'static str {
+        let made = &self.processes;
+        let is_refused = matches!(action, Action::Fork(new) if made.contains_key(new) || made.len() == 256);
+        let Some(process) = self.processes.get_mut(&number).filter(|process| !process.has_ended) else {
+            return "gone";
+        };
+        let done = match action {
+            Action::Fork(_) if is_refused => process.may(PROC).and(Err("EAGAIN")),
+            Action::Fork(new) if process.may(PROC).is_ok() => {
+                let copy = process.clone();
+                self.processes.insert(*new, copy);
+                return "ok";
+            }
+            Action::Fork(_) => process.may(PROC),
+            action => act(&mut self.tree, process, action),
+        };
+        if done == Err("killed") {
+            process.has_ended = true;
+        }
+        done.err().unwrap_or("ok")
+    }
+}
+
+fn act(tree: &mut Tree, process: &mut Process, action: &Action) -> Result<(), Errno> {
+    match action {
+        Action::OnPath(call, path) => {
+            let found = process.judged(tree, *call, path)?;
+            change(tree, process, *call, found.node(), found.spot().map(owned))
+        }
+        Action::Symlink(target, path) => {
+            process.may(CPATH)?;
+            path_fault(target)?;
+            let spot = process.judged(tree, Call::Symlink, path)?.spot().map(owned);
+            add(tree, spot, Kind::Link, target)
+        }
+        Action::Rename(old, new) => {
+            let (from, to) = process.pair(tree, old, new, true)?;
+            if let Some((from, to)) = move_of(tree, from, to)? {
+                tree.shift((from.0, &from.1), (to.0, &to.1));
+            }
+            Ok(())
+        }
+        Action::Link(old, new) => {
+            let (from, to) = process.pair(tree, old, new, false)?;
+            let node = from.node().ok_or("ENOENT")?;
+            match (from, to) {
+                (Found::Whole(..), _) => Err("EPERM"),
+                (_, Found::Slot(_, _, None)) if tree.is_full() => Err("ENOSPC"),
+                (_, Found::Slot(dir, name, None)) => {
+                    let name = name.to_vec();
+                    tree.tie(dir, &name, node);
+                    Ok(())
+                }
+                _ => Err("EEXIST"),
+            }
+        }
+        Action::Pledge(Given::Unknown, _) | Action::Pledge(_, Given::Unknown) => Err("EINVAL"),
+        Action::Pledge(promises, execpromises) => process.pledge(set(promises), set(execpromises)),
+        Action::Unveil(path, perms) => {
+            process.may(UNVEIL)?;
+            if process.is_locked {
+                return Err("EPERM");
+            }
+            let perms = perms.ok_or("EINVAL")?;
+            let found = tree.named(process.dir, path, false, true)?;
+            process.unveil(found, perms)
+        }
+        Action::Lock => {
+            process.may(UNVEIL)?;
+            process.is_locked = true;
+            Ok(())
+        }
+        Action::Exit => {
+            process.has_ended = true;
+            Ok(())
+        }
+        Action::Fork(_) => unreachable!(),
+    }
+}
+
+fn set(given: &Given) -> Option<u64> {
+    match given {
+        Given::Good(set) => Some(*set),
+        _ => None,
+    }
+}
+
+type Spot = (u32, Vec<u8>);
+
+fn owned((dir, name): (u32, &[u8])) -> Spot {
+    (dir, name.to_vec())
+}
+
+fn add(tree: &mut Tree, spot: Option<Spot>, kind: Kind, target: &[u8]) -> Result<(), Errno> {
+    if tree.is_full() {
+        return Err("ENOSPC");
+    }
+    if let Some((dir, name)) = spot {
+        tree.add(dir, &name, kind, target);
+    }
+    Ok(())
+}
+
+/// What an allowed call does to what its path names.
+fn change(
+    tree: &mut Tree,
+    process: &mut Process,
+    call: Call,
+    node: Option<u32>,
+    spot: Option<Spot>,
+) -> Result<(), Errno> {
+    match (call, node) {
+        (Call::Create, None) => return add(tree, spot, Kind::File, &[]),
+        (Call::Mkdir, _) => return add(tree, spot, Kind::Dir, &[]),
+        (Call::Rmdir | Call::Unlink, _) => {
+            if let Some((dir, name)) = spot {
+                tree.cut(dir, &name);
+            }
+        }
+        (Call::Chdir, Some(dir)) => process.dir = dir,
+        (Call::Exec, _) => process.exec(),
+        _ => {}
+    }
+    Ok(())
+}
+
+/// The row that a rename moves, and its new place, if it has to move; or what is wrong with that.
+fn move_of(tree: &Tree, from: Found, to: Found) -> Result<Option<(Spot, Spot)>, Errno> {
+    let node = from.node().ok_or("ENOENT")?;
+    let (Some(old), Some(new)) = (from.spot(), to.spot()) else {
+        let is_dots = |found| matches!(found, Found::Whole(_, Way::Dots));
+        return Err(if is_dots(from) || is_dots(to) { "EINVAL" } else { "EBUSY" });
+    };
+    if to.node() == Some(node) {
+        return Ok(None);
+    }
+    let is_dir = matches!(from, Found::Whole(..));
+    let mut above = new.0;
+    while is_dir && above != ROOT && above != node {
+        above = tree.node(above).parent;
+    }
+    match to {
+        _ if is_dir && above == node => Err("EINVAL"),
+        Found::Slot(_, _, Some(_)) if is_dir => Err("ENOTDIR"),
+        Found::Whole(..) if !is_dir => Err("EISDIR"),
+        Found::Whole(dir, _) if !tree.node(dir).rows.is_empty() => Err("ENOTEMPTY"),
+        _ => Ok(Some((owned(old), owned(new)))),
+    }
+}
+
+// ---- Audits
+
+/// What a letter does in a directory: how many links it follows, the directory to which it leads, and the calls that are
+/// allowed on it where the links may be followed (`all`) and where they may not (`kept`).
+#[derive(Clone, Copy)]
+struct Step {
+    letter: u32,
+    to: u32,
+    all: u16,
+    kept: u16,
+    links: u8,
+    /// The walk goes on below where fewer links than this were used.
+    enter: u8,
+}
+
+const NOWHERE: u32 = u32::MAX;
+const KEPT: u16 = 0b00_0111_1000_0110;
+
+/// For each directory the calls that are allowed on names that it doesn't have, and for each number of letters left, from
+/// 1, and each directory the steps that are of use.
+struct Tables {
+    missing: Vec<u16>,
+    lists: Vec<Vec<Vec<Step>>>,
+}
+
+/// The pair that an audit is resumed after: what is left of its letters, and the number of its call.
+type After<'a> = Option<(&'a [u32], u32)>;
+
+struct Walk<'a> {
+    tables: &'a Tables,
+    /// Each letter as it is printed, behind a slash.
+    letters: Vec<Vec<u8>>,
+    /// A relative path is printed without the slash with which it begins here.
+    from_root: bool,
+    path: Vec<u8>,
+    out: Vec<u8>,
+}
+
+fn allowed(held: u64, cover: Cover, object: Object) -> u16 {
+    let allows = |(call, _, promises, perms, _): &&(Call, &str, u64, u8, bool)| {
+        held & promises == *promises && cover_fault(cover, *perms).is_none() && object_fault(*call, object).is_none()
+    };
+    CALLS.iter().filter(allows).fold(0, |calls, row| calls | 1 << row.0 as u16)
+}
+
+/// All names of a tree, `..` and the candidates, by their bytes.
+fn alphabet(tree: &Tree, candidates: &[Vec<u8>]) -> Vec<Vec<u8>> {
+    let living = tree.nodes.iter().filter(|node| node.links > 0);
+    let rows = living.flat_map(|node| node.rows.keys().map(|name| &**name));
+    let mut letters: Vec<&[u8]> = rows.chain(candidates.iter().map(|name| &**name)).chain([&b".."[..]]).collect();
+    letters.sort_unstable();
+    letters.dedup();
+    letters.into_iter().map(<[u8]>::to_vec).collect()
+}
+
+/// The steps of a directory, by their letters.
+fn steps(tree: &Tree, process: &Process, letters: &Map<&[u8], u32>, dir: u32) -> Vec<Step> {
+    let held = process.held();
+    let calls = |found| allowed(held, process.cover(tree, found), object(tree, found));
+    let node = tree.node(dir);
+    let veiled = process.on_names.get(&dir).into_iter().flat_map(|names| names.keys());
+    let absent = veiled.filter(|name| !node.rows.contains_key(*name)).map(|name| &**name);
+    let names = node.rows.keys().map(|name| &**name).chain(absent).chain([&b".."[..]]);
+    let mut steps = Vec::with_capacity(node.rows.len() + 1);
+    for name in names {
+        let Some(&letter) = letters.get(name) else { continue };
+        let mut step = Step { letter, to: NOWHERE, all: 0, kept: 0, links: 0, enter: 0 };
+        if let Ok((found, _)) = tree.resolve(dir, name, false) {
+            step.kept = calls(found);
+        }
+        if node.rows.get(name).is_some_and(|node| tree.node(*node).kind == Kind::Link) {
+            step.kept &= KEPT;
+        }
+        step.all = step.kept;
+        if let Ok((found, links)) = tree.resolve(dir, name, true) {
+            step.links = links;
+            if links > 0 {
+                step.all |= calls(found) & !KEPT;
+            }
+            if let Found::Whole(to, _) = found {
+                step.to = to;
+            }
+        }
+        steps.push(step);
+    }
+    steps.sort_unstable_by_key(|step| step.letter);
+    steps
+}
+
+impl Tables {
+    fn new(tree: &Tree, process: &Process, letters: &[Vec<u8>], limit: usize) -> Tables {
+        let places = letters.iter().zip(0..).map(|(letter, place)| (&**letter, place)).collect();
+        let is_dir = |dir: u32| tree.node(dir).kind == Kind::Dir && tree.node(dir).links > 0;
+        let mut missing = vec![0; tree.nodes.len()];
+        let mut table = vec![Vec::new(); tree.nodes.len()];
+        for dir in (0..tree.nodes.len() as u32).filter(|dir| is_dir(*dir)) {
+            missing[dir as usize] = allowed(process.held(), process.dir_cover(tree, dir), Object::Missing);
+            table[dir as usize] = steps(tree, process, &places, dir);
+        }
+        let lists = lists(&table, &missing, limit);
+        Tables { missing, lists }
+    }
+}
+
+impl Walk<'_> {
+    /// The lines of the word that stands in `path`.
+    fn lines(&mut self, mut calls: u16) -> io::Result<()> {
+        let path = if self.from_root { &self.path } else { self.path.strip_prefix(b"/").unwrap_or(&self.path) };
+        while calls != 0 {
+            self.out.extend_from_slice(path);
+            self.out.extend_from_slice(ENDINGS[calls.trailing_zeros() as usize]);
+            calls &= calls - 1;
+        }
+        if self.out.len() >= BLOCK { flush(&mut self.out) } else { Ok(()) }
+    }
+
+    fn lines_of(&mut self, letter: u32, calls: u16) -> io::Result<()> {
+        self.path.extend_from_slice(&self.letters[letter as usize]);
+        self.lines(calls)
+    }
+
+    /// All words that go on from a directory, where so many letters are left and so many links were followed.
+    fn walk(&mut self, left: usize, dir: u32, used: u8, after: After) -> io::Result<()> {
+        if left == 0 {
+            return Ok(());
+        }
+        let (list, missing) = (&self.tables.lists[left - 1][dir as usize], self.tables.missing[dir as usize]);
+        let len = self.path.len();
+        let mut next = after.map_or(0, |(word, _)| word.first().copied().unwrap_or(0));
+        for step in &list[list.partition_point(|step| step.letter < next)..] {
+            if missing != 0 {
+                self.walk_missing(next..step.letter, missing, after)?;
+                next = step.letter + 1;
+            }
+            let rest = rest_after(after, step.letter);
+            let calls = if used + step.links <= 32 { step.all } else { step.kept };
+            let calls = calls & calls_after(rest);
+            if calls != 0 || used < step.enter {
+                self.lines_of(step.letter, calls)?;
+                if used < step.enter {
+                    self.walk(left - 1, step.to, used + step.links, rest)?;
+                }
+                self.path.truncate(len);
+            }
+        }
+        if missing != 0 {
+            self.walk_missing(next..self.letters.len() as u32, missing, after)?;
+        }
+        Ok(())
+    }
+
+    fn walk_missing(&mut self, letters: std::ops::Range<u32>, missing: u16, after: After) -> io::Result<()> {
+        let len = self.path.len();
+        for letter in letters {
+            self.lines_of(letter, missing & calls_after(rest_after(after, letter)))?;
+            self.path.truncate(len);
+        }
+        Ok(())
+    }
+}
+
+/// What is left of a pair's letters behind this one, if it is the first of them.
+fn rest_after(after: After, letter: u32) -> After {
+    after.and_then(|(word, call)| Some((word.strip_prefix(&[letter])?, call)))
+}
+
+/// The calls on a word that are still to come behind a pair: all, those behind its own call, or none.
+fn calls_after(rest: After) -> u16 {
+    match rest {
+        None => u16::MAX,
+        Some(([], call)) => !((2 << call) - 1),
+        Some(_) => 0,
+    }
+}
+
+/// For each number of letters left, from 1, and each directory, the steps that lead to a line.
+fn lists(table: &[Vec<Step>], missing: &[u16], limit: usize) -> Vec<Vec<Vec<Step>>> {
+    let own = |dir: usize| match (missing[dir], &table[dir]) {
+        (0, steps) => steps.iter().map(|step| own_bound(step)).max().unwrap_or(0),
+        _ => 33,
+    };
+    let own: Vec<u8> = (0..table.len()).map(own).collect();
+    let mut bounds = vec![0; table.len()];
+    let mut lists: Vec<Vec<Vec<Step>>> = Vec::new();
+    for _ in 0..limit {
+        let entered = |step: &Step| match step.to {
+            NOWHERE => *step,
+            to => Step { enter: u8::saturating_sub(bounds[to as usize], step.links), ..*step },
+        };
+        let is_of_use = |dir: usize, step: &Step| missing[dir] != 0 || step.all | step.kept != 0 || step.enter > 0;
+        let list = |dir: usize| table[dir].iter().map(entered).filter(|step| is_of_use(dir, step)).collect();
+        let layer: Vec<Vec<Step>> = (0..table.len()).map(list).collect();
+        let bound = |dir: usize| layer[dir].iter().map(|step: &Step| step.enter).max().unwrap_or(0).max(own[dir]);
+        let above = (0..table.len()).map(bound).collect();
+        lists.push(layer);
+        bounds = above;
+    }
+    lists
+}
+
+fn own_bound(step: &Step) -> u8 {
+    match (step.kept, step.all) {
+        (0, 0) => 0,
+        (0, _) => 33 - step.links,
+        _ => 33,
+    }
+}
+
+const BLOCK: usize = 65_536;
+const ENDINGS: [&[u8]; 14] = [
+    b" stat\n", b" lstat\n", b" readlink\n", b" open-r\n", b" open-w\n", b" open-rw\n", b" create\n", b" mkdir\n",
+    b" rmdir\n", b" unlink\n", b" symlink\n", b" chmod\n", b" chdir\n", b" exec\n",
+];
+
+/// The letters and the call of the text `CALL:PATH`.
+fn read_pair(text: &[u8], letters: &[Vec<u8>], limit: usize, from_root: bool) -> Option<(Vec<u32>, u32)> {
+    let colon = text.iter().position(|byte| *byte == b':')?;
+    let (call, path) = (read_call(&text[..colon])?, &text[colon + 1..]);
+    let pieces = if from_root { path.strip_prefix(b"/")? } else { path };
+    if (from_root && pieces.is_empty()) || (!from_root && path == b".") {
+        return Some((Vec::new(), call as u32));
+    }
+    let letter = |piece: &[u8]| {
+        let bytes = if piece == b".." { Cow::Borrowed(piece) } else { name(piece)? };
+        letters.binary_search_by(|letter| (**letter).cmp(&*bytes)).ok().map(|place| place as u32)
+    };
+    let word: Vec<u32> = pieces.split(|byte| *byte == b'/').map(letter).collect::<Option<_>>()?;
+    (word.len() <= limit).then_some((word, call as u32))
+}
+
+// ---- The command
+
+fn flush(out: &mut Vec<u8>) -> io::Result<()> {
+    let written = io::stdout().write_all(out);
+    out.clear();
+    written
+}
+
+struct Words<'a> {
+    limit: Option<u8>,
+    process: u32,
+    from_root: bool,
+    after: Option<&'a str>,
+    operands: Vec<&'a str>,
+}
+
+fn read_words(words: &[String]) -> Option<(bool, Words<'_>)> {
+    let (command, mut rest) = words.split_first()?;
+    let is_audit = command == "audit";
+    let mut read = Words { limit: None, process: 1, from_root: true, after: None, operands: Vec::new() };
+    let mut has_options = is_audit;
+    while let [word, more @ ..] = rest {
+        rest = more;
+        if !has_options || !word.starts_with("--") {
+            read.operands.push(word);
+            continue;
+        } else if word == "--" {
+            has_options = false;
+            continue;
+        }
+        let (option, value) = match word.split_once('=') {
+            Some(both) => both,
+            None => (&word[..], &rest.split_off_first()?[..]),
+        };
+        match option {
+            "--limit" if read.limit.is_none() => read.limit = Some(value.parse().ok()?),
+            "--process" => read.process = value.parse().ok().filter(|process| (1..=999_999).contains(process))?,
+            "--base" => read.from_root = *["root", "cwd"].iter().find(|base| value == **base)? == "root",
+            "--after" => read.after = Some(value),
+            _ => return None,
+        }
+    }
+    let has_enough = if is_audit { read.limit.is_some() && read.operands.len() >= 2 } else { read.operands.len() == 2 };
+    ((is_audit || command == "run") && has_enough).then_some((is_audit, read))
+}
+
+fn audit(world: &World, words: &Words, front: Vec<u8>) -> Result<(), (u8, String)> {
+    let refused = |fault: String| (1, format!("pua: {fault}"));
+    let limit = usize::from(words.limit.unwrap_or(0));
+    let process = world.processes.get(&words.process).ok_or_else(|| refused("no such process".into()))?;
+    let names = &words.operands[2..];
+    if limit > 16 {
+        return Err(refused("audit: limit too large".into()));
+    } else if names.len() > 1024 {
+        return Err(refused("audit: too many names".into()));
+    }
+    let mut candidates = Vec::new();
+    for (place, field) in names.iter().enumerate() {
+        let name = name(field.as_bytes()).ok_or_else(|| refused(format!("audit: bad candidate {}", place + 1)))?;
+        candidates.push(name.into_owned());
+    }
+    let letters = alphabet(&world.tree, &candidates);
+    if limit * (letters.iter().map(Vec::len).max().unwrap_or(0) + 1) > PATH_LIMIT {
+        return Err(refused("audit: paths too long".into()));
+    }
+    let after = words.after.map(|text| read_pair(text.as_bytes(), &letters, limit, words.from_root));
+    let after = after.map(|pair| pair.ok_or_else(|| refused("audit: bad resume".into()))).transpose()?;
+    let base = if words.from_root { ROOT } else { process.dir };
+    let is_empty = process.has_ended || world.tree.node(base).links == 0;
+    let cannot_write = |_| (3, "pua: cannot write".to_string());
+    let mut front = front;
+    if after.is_some() {
+        front.clear();
+    } else {
+        let _ = writeln!(front, "reach {}", words.process);
+    }
+    flush(&mut front).map_err(cannot_write)?;
+    if is_empty {
+        return Ok(());
+    }
+    let tables = Tables::new(&world.tree, process, &letters, limit);
+    let mut walk = Walk {
+        tables: &tables,
+        letters: letters.iter().map(|letter| printed(letter)).collect(),
+        from_root: words.from_root,
+        path: if words.from_root { b"/".to_vec() } else { b".".to_vec() },
+        out: Vec::with_capacity(2 * BLOCK),
+    };
+    let after = after.as_ref().map(|(word, call)| (&word[..], *call));
+    let calls = allowed(process.held(), process.dir_cover(&world.tree, base), Object::Dir(Some("EINVAL")));
+    walk.lines(calls & calls_after(after)).map_err(cannot_write)?;
+    walk.path.clear();
+    walk.walk(limit, base, 0, after).map_err(cannot_write)?;
+    flush(&mut walk.out).map_err(cannot_write)
+}
+
+/// A letter as it is printed in a path, behind a slash.
+fn printed(letter: &[u8]) -> Vec<u8> {
+    let mut text = vec![b'/'];
+    spell(&mut text, letter);
+    text
+}
+
+fn perform(is_audit: bool, words: &Words) -> Result<(), (u8, String)> {
+    let take = |file: &str| match fs::read(file) {
+        Ok(bytes) if bytes.len() <= 64 << 20 => Ok(bytes),
+        _ => Err((3, format!("pua: cannot read {file}"))),
+    };
+    let (listing, text) = (take(words.operands[0])?, take(words.operands[1])?);
+    let tree = read_listing(&listing).map_err(|fault| (1, fault))?;
+    let script = read_script(&text).map_err(|fault| (1, fault))?;
+    let mut world = World { tree, processes: Map::from_iter([(1, Process::default())]) };
+    let mut out = Vec::new();
+    for (at, (process, action)) in script.iter().enumerate() {
+        let answer = world.serve(*process, action);
+        let _ = writeln!(out, "{} {answer}", at + 1);
+    }
+    if is_audit {
+        return audit(&world, words, out);
+    }
+    flush(&mut out).map_err(|_| (3, "pua: cannot write".into()))
+}
+
+const USAGE: &str = "pua: usage: pua run TREE SCRIPT; pua audit --limit N [--process P] [--base root|cwd] \
+                     [--after CALL:PATH] TREE SCRIPT [NAME...]";
+
+fn main() -> ExitCode {
+    let words: Vec<String> = std::env::args().skip(1).collect();
+    let done = match read_words(&words) {
+        Some((is_audit, words)) => perform(is_audit, &words),
+        None => Err((2, USAGE.into())),
+    };
+    match done {
+        Ok(()) => ExitCode::SUCCESS,
+        Err((status, fault)) => {
+            eprintln!("{fault}");
+            ExitCode::from(status)
+        }
+    }
+}

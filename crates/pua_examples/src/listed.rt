@@ -1,0 +1,62 @@
+//! The lines of a list of objects, by calls of the libraries over a tree that is kept in any way.
+
+use crate::trees::spell;
+use pua_objects::{ObjectKind, ObjectLine, Objects};
+use pua_policy::{Call, Calls};
+use pua_tree::{FileTree, Name};
+use std::alloc::AllocError;
+
+/// A text, and after it a line for each object that a list has still to give.
+pub(crate) fn object_lines<T: FileTree>(
+    list: &mut Objects<'_, T>,
+    front: Vec<u8>,
+) -> Result<Vec<u8>, AllocError> {
+    let mut text = front;
+    while let Some(line) = list.next_line() {
+        add_line(&mut text, line, list.word())?;
+    }
+    Ok(text)
+}
+
+/// Adds the line of what stands at the end of these names.
+fn add_line(text: &mut Vec<u8>, line: ObjectLine, word: &[&Name]) -> Result<(), AllocError> {
+    text.extend_from_slice(kind_bytes(line.kind))?;
+    add_path(text, word)?;
+    add_calls(text, line.calls)
+}
+
+fn kind_bytes(kind: ObjectKind) -> &'static [u8] {
+    match kind {
+        ObjectKind::Dir => b"dir ",
+        ObjectKind::File => b"file ",
+        ObjectKind::Prog => b"prog ",
+        ObjectKind::Link => b"link ",
+        ObjectKind::Missing => b"missing ",
+        ObjectKind::Other => b"other ",
+    }
+}
+
+fn add_path(text: &mut Vec<u8>, word: &[&Name]) -> Result<(), AllocError> {
+    if word.is_empty() {
+        text.push(b'/')?;
+    }
+    for name in word {
+        text.push(b'/')?;
+        spell(text, name.bytes())?;
+    }
+    Ok(())
+}
+
+/// Adds what separates the first call from the path and each other from the one before, and the calls.
+fn add_calls(text: &mut Vec<u8>, calls: Calls) -> Result<(), AllocError> {
+    let mut before = b' ';
+    for call in Call::ALL {
+        if calls.contains(call) {
+            text.push(before)?;
+            text.extend_from_slice(call.name().as_bytes())?;
+            before = b',';
+        }
+    }
+    text.push(b'\n')?;
+    Ok(())
+}

@@ -1,0 +1,195 @@
+//! What commands write, by calls of the libraries over a tree that is kept in any way. The program
+//! keeps its tree in slots; what it writes is to be the same over a tree of two sorted lists.
+
+ghost use Rattle.std.specs.Prelude.{◌≡◌};
+
+use crate::listed::object_lines;
+use crate::written::Files;
+use anyhow::{Result, anyhow};
+use pua_audit::Audit;
+use pua_objects::Objects;
+use pua_path::{Counted, Probe};
+use pua_script::{Answer, World, read_script};
+use pua_tool::{AuditWords, ObjectWords, Text, ToolFault};
+use pua_tree::{FileTree, ListingFault, byte_spelling, read_listing, read_listing_slab};
+use pua_words::read_words;
+use std::alloc::{AllocError, Global};
+
+/// Whether a command over these files writes this output, or reports this fault, over each kind of
+/// tree.
+pub(crate) fn are_alike(
+    alloc: Global,
+    words: &[&str],
+    files: &Files<'_>,
+    output: &str,
+    fault: &str,
+) -> Result<bool> {
+    let Ok(command) = read_words(alloc, words) else {
+        return Err(anyhow!("these words are no command"));
+    };
+    let text = &command.text;
+    let listed = text_over(alloc, read_listing(alloc, files.tree), files.script, text);
+    let slotted = text_over(
+        alloc,
+        read_listing_slab(alloc, files.tree),
+        files.script,
+        text,
+    );
+    Ok(is_written(alloc, &listed, output, fault)? && is_written(alloc, &slotted, output, fault)?)
+}
+
+/// Whether this is the output, or the fault with this line.
+fn is_written(
+    alloc: Global,
+    written: &Result<Vec<u8>, ToolFault>,
+    output: &str,
+    line: &str,
+) -> Result<bool> {
+    match written {
+        Ok(text) => Ok(line.is_empty() && text.as_slice() == output.as_bytes()),
+        Err(fault) => {
+            let told = format!(in alloc; "{fault}\n")?;
+            Ok(output.is_empty() && told.as_str() == line)
+        }
+    }
+}
+
+/// The text that is asked for over a tree, if it was read; or the first fault.
+fn text_over<T: FileTree + Drop>(
+    alloc: Global,
+    tree: Result<T, ListingFault>,
+    script: &[u8],
+    asked: &Text<'_>,
+) -> Result<Vec<u8>, ToolFault> {
+    let tree = match tree {
+        Ok(tree) => tree,
+        Err(fault) => return Err(ToolFault::Listing(fault)),
+    };
+    let script = match read_script(alloc, script) {
+        Ok(script) => script,
+        Err(fault) => return Err(ToolFault::Script(fault)),
+    };
+    let Ok(mut world) = World::new(alloc, tree) else {
+        return Err(ToolFault::OutOfMemory);
+    };
+    let Ok(told) = world.run(alloc, &script) else {
+        return Err(ToolFault::OutOfMemory);
+    };
+    match asked {
+        Text::Run => or_memory(answer_lines(alloc, told.as_slice())),
+        Text::Objects(words) => object_text(alloc, &world, told.as_slice(), words),
+        Text::Audit(words) => audit_lines(alloc, &world, told.as_slice(), words),
+    }
+}
+
+fn or_memory(text: Result<Vec<u8>, AllocError>) -> Result<Vec<u8>, ToolFault> {
+    text.map_err(|_| ToolFault::OutOfMemory)
+}
+
+/// A line for each answer.
+fn answer_lines(alloc: Global, told: &[Answer]) -> Result<Vec<u8>, AllocError> {
+    let mut text = Vec::new(alloc);
+    for (place, answer) in told.iter().enumerate() {
+        let line = format!(in alloc; "{} {answer}\n", place.saturating_add(1))?;
+        text.extend_from_slice(line.as_bytes())?;
+    }
+    Ok(text)
+}
+
+/// The answers and the heading, and a line for each object.
+fn object_text<T: FileTree>(
+    alloc: Global,
+    world: &World<T>,
+    told: &[Answer],
+    words: &ObjectWords,
+) -> Result<Vec<u8>, ToolFault> {
+    let Some(process) = world.process(words.process) else {
+        return Err(ToolFault::NoProcess);
+    };
+    let Ok(mut list) = Objects::begin(alloc, world.tree(), process) else {
+        return Err(ToolFault::OutOfMemory);
+    };
+    let front = or_memory(headed_lines(alloc, told, "objects", words.process))?;
+    or_memory(object_lines(&mut list, front))
+}
+
+/// The answers and the heading, unless the audit is resumed, and a line for each pair.
+fn audit_lines<T: FileTree>(
+    alloc: Global,
+    world: &World<T>,
+    told: &[Answer],
+    words: &AuditWords<'_>,
+) -> Result<Vec<u8>, ToolFault> {
+    let Some(process) = world.process(words.process) else {
+        return Err(ToolFault::NoProcess);
+    };
+    let mut probe = Counted::new(world.tree());
+    let names = words.names.as_slice();
+    let begun = Audit::begin(
+        alloc,
+        &mut probe,
+        process,
+        words.base,
+        names,
+        words.limit,
+        words.after,
+    );
+    match begun {
+        Ok(mut audit) => {
+            let front = or_memory(front_lines(alloc, told, words))?;
+            or_memory(pair_lines(&mut audit, &mut probe, front))
+        }
+        Err(fault) => Err(ToolFault::Audit(fault)),
+    }
+}
+
+/// What stands before the pairs.
+fn front_lines(
+    alloc: Global,
+    told: &[Answer],
+    words: &AuditWords<'_>,
+) -> Result<Vec<u8>, AllocError> {
+    if words.after.is_some() {
+        return Ok(Vec::new(alloc));
+    }
+    headed_lines(alloc, told, "reach", words.process)
+}
+
+/// A line for each answer, and the heading of a process.
+fn headed_lines(
+    alloc: Global,
+    told: &[Answer],
+    heading: &str,
+    process: u32,
+) -> Result<Vec<u8>, AllocError> {
+    let mut text = answer_lines(alloc, told)?;
+    let heading = format!(in alloc; "{heading} {process}\n")?;
+    text.extend_from_slice(heading.as_bytes())?;
+    Ok(text)
+}
+
+/// A text, and after it a line for each pair that an audit has still to give.
+fn pair_lines<'t, P: Probe<'t>>(
+    audit: &mut Audit,
+    probe: &mut P,
+    front: Vec<u8>,
+) -> Result<Vec<u8>, AllocError>
+    requires { P.tree probe.old ≡ audit.old.tree }
+{
+    let mut text = front;
+    while let Some(line) = audit.next_line(probe) {
+        spell(&mut text, line.path)?;
+        text.push(b' ')?;
+        text.extend_from_slice(line.call.name().as_bytes())?;
+        text.push(b'\n')?;
+    }
+    Ok(text)
+}
+
+/// Adds the spelling of a path.
+pub(crate) fn spell(text: &mut Vec<u8>, path: &[u8]) -> Result<(), AllocError> {
+    for byte in path {
+        text.extend_from_slice(byte_spelling(*byte).as_bytes())?;
+    }
+    Ok(())
+}

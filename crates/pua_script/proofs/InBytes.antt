@@ -1,0 +1,96 @@
+-- What is read as a listing or as a script is made of bytes, and requests in bytes leave bytes.
+use Rattle.std.proofs.Common.{◌≡◌, ℕ, List, [], ◌∷◌, ◌++◌, Bool, true, refl, sym, ap, ◌∙◌}
+use Rattle.std.specs.Prelude.{Option, Some, None, filter_map, option_map, option_and_then}
+use Rattle.std.specs.List.{list_all, cons_option}
+use Rattle.std.specs.Ordering.{nat_cmp}
+use Rattle.std.specs.Cmp.{nat_cmp_total}
+use Rattle.std.specs.FinMap.{nat_cmp-IsAntisymmetric}
+use Rattle.std.specs.Str.Lines.{lines}
+use Rattle.std.proofs.lemmas.Bool.{and_parts, and_from}
+use Rattle.pua_tree.specs.Names.{is_target}
+use Rattle.pua_tree.specs.Tree.{Tree, Node, node_at, target_at}
+use Rattle.pua_tree.specs.Listing.{Entry, node_entry}
+use Rattle.pua_tree.specs.Grammar.{entry_fits, entries_fit, made_fits, target_stands}
+use Rattle.pua_tree.specs.declared.node.Kind.{Kind}
+use Rattle.pua_tree.specs.declared.node.Kind.TheVariants.{Dir, File, Prog, Link as LinkKind}
+use Rattle.pua_tree.proofs.ForCallers.{None≢Some, all_found, listings_are_read, listings_list_trees, fits_parts}
+use Rattle.pua_script.specs.Requests.{Asked}
+use Rattle.pua_script.specs.ScriptGrammar.{SpellsPath, empty, spelled, SpellsAction, on_path, symlink, rename, link, pledge, unveil, lock, fork, exit, SpellRequests}
+use Rattle.pua_script.specs.Replay.{apply}
+use Rattle.pua_script.specs.Bytes.{is_bytes, is_in_bytes, are_in_bytes, ReplaysKeepByteTrees, ListingsListByteTrees, ScriptsAskInBytes}
+use Rattle.pua_script.specs.declared.request.Action.{Action}
+use Rattle.pua_script.proofs.KeepTrees.{requests_keep_trees}
+use Rattle.pua_script.proofs.Grammar.{scripts_are_read}
+
+-- a target, where there is one, is bytes
+abbrev leads_to_bytes : Option (List ℕ) → Bool
+leads_to_bytes None = true
+leads_to_bytes (Some target) = is_bytes target
+
+abbrev node_leads : (ℕ × Node) → Bool
+node_leads entry = leads_to_bytes entry.1.target
+
+stands_in_bytes : (kind : Kind) (target : Option (List ℕ)) → target_stands kind target ≡ true → leads_to_bytes target ≡ true
+stands_in_bytes LinkKind (Some target) h = (and_parts (is_target target) (is_bytes target) h).1
+stands_in_bytes Dir (Some target) h = cc
+stands_in_bytes File (Some target) h = cc
+stands_in_bytes Prog (Some target) h = cc
+stands_in_bytes kind None h = refl
+
+made_leads : (hard : Bool) (earlier : List Entry) (e : Entry) (made : Option Node) (rest : List (ℕ × Node)) → made_fits hard earlier e made ≡ true
+    → list_all node_leads rest ≡ true → list_all node_leads (cons_option (option_map (λ node. (e.number, node)) made) rest) ≡ true
+made_leads hard earlier e None rest fits all = all
+made_leads hard earlier e (Some node) rest fits all =
+    and_from (leads_to_bytes node.target) _ (stands_in_bytes node.kind node.target (and_parts _ (target_stands node.kind node.target) fits).1) all
+
+entries_lead : (hard : Bool) (earlier es : List Entry) → entries_fit hard earlier es ≡ true → list_all node_leads (filter_map node_entry es) ≡ true
+entries_lead hard earlier [] fit = refl
+entries_lead hard earlier (e ∷ es) fit =
+    let parts = and_parts (entry_fits hard earlier e) (entries_fit hard (earlier ++ e ∷ []) es) fit in
+    made_leads hard earlier e e.made (filter_map node_entry es) (fits_parts hard earlier e parts.0).made (entries_lead hard (earlier ++ e ∷ []) es parts.1)
+
+targets_lead : (t : Tree) → list_all node_leads t.nodes ≡ true → (x : ℕ) (target : List ℕ) → target_at t x ≡ Some target → is_bytes target ≡ true
+targets_lead t all x target = by (node_at t x) refl
+  where
+    by : (o : Option Node) → node_at t x ≡ o → option_and_then (λ n. n.target) o ≡ Some target → is_bytes target ≡ true
+    by None e is = absurd (None≢Some target is)
+    by (Some n) e is = sym (ap leads_to_bytes is) ∙ all_found nat_cmp nat_cmp_total nat_cmp-IsAntisymmetric node_leads t.nodes all x n e
+
+pub listings_list_byte_trees : ListingsListByteTrees
+listings_list_byte_trees bytes t read =
+    let is = (listings_are_read bytes t).0 read in
+    record {
+      tree = listings_list_trees bytes t is;
+      targets = targets_lead t (ap (λ (u : Tree). list_all node_leads u.nodes) is.4 ∙ entries_lead is.0 [] is.1 is.2);
+    }
+
+path_bytes : (field text : List ℕ) → SpellsPath field text → is_bytes text ≡ true
+path_bytes _ _ (empty is) = refl
+path_bytes _ _ (spelled other bytes no_nul is) = bytes
+
+action_bytes : (more : List (List ℕ)) (action : Action) → SpellsAction more action → is_in_bytes action ≡ true
+action_bytes _ _ (on_path {a = a} {path = path} other named spells) = path_bytes a path spells
+action_bytes _ _ (symlink {a = a} {b = b} {target = x} {path = y} named first second) = and_from _ _ (path_bytes a x first) (path_bytes b y second)
+action_bytes _ _ (rename {a = a} {b = b} {old = x} {new = y} named first second) = and_from _ _ (path_bytes a x first) (path_bytes b y second)
+action_bytes _ _ (link {a = a} {b = b} {old = x} {new = y} named first second) = and_from _ _ (path_bytes a x first) (path_bytes b y second)
+action_bytes _ _ (pledge named first second) = refl
+action_bytes _ _ (unveil {a = a} {path = path} named no_a no_b first second) = path_bytes a path first
+action_bytes _ _ (lock named first second) = refl
+action_bytes _ _ (fork named first low high) = refl
+action_bytes _ _ (exit named) = refl
+
+requests_bytes : (texts : List (List ℕ)) (asks : List Asked) → SpellRequests texts asks → are_in_bytes asks ≡ true
+requests_bytes [] [] spells = refl
+requests_bytes [] (ask ∷ asks) spells = absurd spells
+requests_bytes (text ∷ texts) [] spells = absurd spells
+requests_bytes (text ∷ texts) (ask ∷ asks) spells =
+    and_from (is_in_bytes ask.action) _ (action_bytes spells.0.more ask.action spells.0.spells) (requests_bytes texts asks spells.1)
+
+pub scripts_ask_in_bytes : ScriptsAskInBytes
+scripts_ask_in_bytes bytes asks read = requests_bytes (lines bytes) asks ((scripts_are_read bytes asks).0 read).1
+
+pub replays_keep_byte_trees : ReplaysKeepByteTrees
+replays_keep_byte_trees table w [] is_tree small = is_tree
+replays_keep_byte_trees table w (ask ∷ asks) is_tree small =
+    let two = and_parts (is_in_bytes ask.action) (are_in_bytes asks) small in
+    replays_keep_byte_trees table (apply table w ask).1 asks (requests_keep_trees table w ask is_tree two.0) two.1

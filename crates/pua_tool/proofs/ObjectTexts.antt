@@ -1,0 +1,190 @@
+-- The text of the objects of a process, step by step.
+use Rattle.std.proofs.Common.{◌≡◌, ℕ, ◌+◌, List, [], ◌∷◌, ◌++◌, ◌<◌, ◌≤◌, ◌∙◌, slice_index_or, get_or, subst, refl, sym, ap, map, drop, length, append_assoc, append-nil, arith, Bool, true, false, cond}
+use Rattle.std.specs.Prelude.{Option, Some, None, Result, Ok, Err, ok_or, filter, ◌==◌, ◌≢◌, OnOk, IfErr}
+use Rattle.std.proofs.lemmas.Grind.{flat_map-append}
+use Rattle.std.proofs.lemmas.Bool.{true≢false}
+use Rattle.std.proofs.lemmas.List.{drop_more}
+use Rattle.std.proofs.Math.ListN.{drop_of_length-le}
+use Rattle.pua_tree.specs.Steps.{◌>>=◌}
+use Rattle.pua_tree.specs.Spelling.{byte_spelling, spelling}
+use Rattle.pua_policy.specs.Calls.{CallTable, call_name, calls}
+use Rattle.pua_policy.specs.CallSets.{has, calls_in}
+use Rattle.pua_policy.specs.declared.call.Call.{Call}
+use Rattle.pua_policy.specs.declared.call.Call.TheVariants.{Stat, Lstat, Readlink, OpenRead, OpenWrite, OpenBoth, Create, Mkdir, Rmdir, Unlink, Symlink, Chmod, Chdir, Exec}
+use Rattle.pua_policy.specs.History.{History, ProcessState, StandsFor}
+use Rattle.pua_tree.specs.Tree.{Tree}
+use Rattle.pua_script.specs.Replay.{history_of}
+use Rattle.pua_audit.specs.Reach.{Word, from_root, printed_path}
+use Rattle.pua_audit.specs.declared.base.Base.TheVariants.{Root}
+use Rattle.pua_objects.specs.Lines.{kind_word}
+use Rattle.pua_objects.specs.Objects.{Item, objects, with_commas}
+use Rattle.pua_objects.specs.Ready.{IsListed, HasNoLine, lines_of}
+use Rattle.pua_objects.specs.declared.line.ObjectLine.{ObjectLine}
+use Rattle.std.specs.Borrow.{Bor}
+use Rattle.pua_tool.specs.Texts.{Replayed, replayed, ended}
+use Rattle.pua_tool.specs.Sinks.{Adds, AddsFront, HasFailed}
+use Rattle.pua_tool.specs.ObjectTexts.{object_lines, objects_after, objects_text, Tells}
+use Rattle.pua_tool.specs.declared.fault.ToolFault.{ToolFault}
+use Rattle.pua_tool.specs.declared.fault.ToolFault.TheVariants.{Listing, Script, NoProcess, Audit, Write, OutOfMemory}
+
+module _ (table : CallTable) (tree_bytes script_bytes : List ℕ) (process : ℕ) where
+  abbrev listed_by : Replayed → Option History → Result (List ℕ) ToolFault
+  listed_by done made = ok_or made NoProcess >>= λ h. Ok (objects_after table process done.told done.world.tree h)
+
+  pub objects_are : (done : Replayed) (h : History) → replayed table tree_bytes script_bytes ≡ Ok done → history_of done.world process ≡ Some h
+      → objects_text table tree_bytes script_bytes process ≡ Ok (objects_after table process done.told done.world.tree h)
+  unfolding objects_text
+  objects_are done h r m = (λ i. r i >>= λ done. listed_by done (history_of done.world process)) ∙ (λ i. listed_by done (m i))
+
+  -- what refuses the replay comes first
+  pub replay_refuses : (fault : ToolFault) → replayed table tree_bytes script_bytes ≡ Err fault → objects_text table tree_bytes script_bytes process ≡ Err fault
+  unfolding objects_text
+  replay_refuses fault r = λ i. r i >>= λ done. listed_by done (history_of done.world process)
+
+  -- a process never made comes where the replay is not refused
+  pub process_refuses : (done : Replayed) → replayed table tree_bytes script_bytes ≡ Ok done → history_of done.world process ≡ None → objects_text table tree_bytes script_bytes process ≡ Err NoProcess
+  unfolding objects_text
+  process_refuses done r m = (λ i. r i >>= λ done. listed_by done (history_of done.world process)) ∙ (λ i. listed_by done (m i))
+
+-- a path from the root goes on with a slash and a spelled name
+pub name_next : (name : List ℕ) (word : Word) → spelling (from_root (name ∷ word)) ≡ (47 ∷ spelling name) ++ spelling (from_root word)
+name_next name word = ap (λ t. 47 ∷ t) (flat_map-append byte_spelling name (from_root word))
+
+-- what a path has still to come from a place among its names on, and a blank
+abbrev pub path_left : List (Bor (List ℕ)) → ℕ → List ℕ
+path_left names i = spelling (from_root (map (λ name. name.now) (drop i names))) ++ 32 ∷ []
+
+pub path_more : (names : List (Bor (List ℕ))) (name : Bor (List ℕ)) (i : ℕ) → i < length names → name ≡ slice_index_or names i name → path_left names i ≡ (47 ∷ spelling name.now) ++ path_left names (i + 1)
+path_more names name i within is =
+    ap (λ ns. spelling (from_root (map (λ n. n.now) ns)) ++ 32 ∷ []) (drop_more names i name within ∙ ap (λ n. n ∷ drop (i + 1) names) (sym is))
+    ∙ ap (λ t. t ++ 32 ∷ []) (name_next name.now (map (λ n. n.now) (drop (i + 1) names)))
+    ∙ append_assoc (47 ∷ spelling name.now) (spelling (from_root (map (λ n. n.now) (drop (i + 1) names)))) (32 ∷ [])
+
+pub path_done : (names : List (Bor (List ℕ))) (i : ℕ) → length names ≤ i → path_left names i ≡ 32 ∷ []
+path_done names i past = ap (λ ns. spelling (from_root (map (λ n. n.now) ns)) ++ 32 ∷ []) (drop_of_length-le names past)
+
+-- a path with names is printed as they are spelled, behind a slash each
+pub path_printed : (names : List (Bor (List ℕ))) → (length names == 0) ≡ false → path_left names 0 ≡ printed_path Root (map (λ name. name.now) names) ++ 32 ∷ []
+path_printed [] some = absurd (true≢false some)
+path_printed (name ∷ names) some = refl
+
+-- the kind, the path and the calls make the line
+pub line_parts : (kind path names : List ℕ) → (kind ++ 32 ∷ []) ++ ((path ++ 32 ∷ []) ++ (names ++ 10 ∷ [])) ≡ ended (kind ++ 32 ∷ path ++ 32 ∷ names)
+line_parts kind path names =
+    append_assoc kind (32 ∷ []) ((path ++ 32 ∷ []) ++ (names ++ 10 ∷ []))
+    ∙ ap (λ t. kind ++ 32 ∷ t) (append_assoc path (32 ∷ []) (names ++ 10 ∷ []))
+    ∙ sym (append_assoc kind (32 ∷ path) (32 ∷ (names ++ 10 ∷ [])))
+    ∙ sym (append_assoc (kind ++ 32 ∷ path) (32 ∷ names) (10 ∷ []))
+
+-- names with a separator before the first, and commas before the others
+abbrev pub joined : List ℕ → List (List ℕ) → List ℕ
+joined before [] = []
+joined before (name ∷ more) = before ++ name ++ joined (44 ∷ []) more
+
+pub joined_is : (names : List (List ℕ)) → with_commas names ≡ joined [] names
+joined_is [] = refl
+joined_is (name ∷ more) = after name more
+  where
+    after : (name : List ℕ) (more : List (List ℕ)) → with_commas (name ∷ more) ≡ name ++ joined (44 ∷ []) more
+    after name [] = sym (append-nil name)
+    after name (other ∷ more) = ap (λ t. name ++ 44 ∷ t) (after other more)
+
+-- what the names of a set's calls have still to come from a place among all calls on, and LF
+abbrev pub calls_left : ℕ → List ℕ → ℕ → List ℕ
+calls_left set before i = joined before (map call_name (filter (has set) (drop i calls))) ++ 10 ∷ []
+
+pub calls_all : (set : ℕ) → calls_left set [] 0 ≡ with_commas (map call_name (filter (has set) calls)) ++ 10 ∷ []
+calls_all set = ap (λ t. t ++ 10 ∷ []) (sym (joined_is (map call_name (filter (has set) calls))))
+
+kept_or_not : (set : ℕ) (before : List ℕ) (call : Call) (more : List Call) (own : Bool) → has set call ≡ own →
+    joined before (map call_name (filter (has set) (call ∷ more))) ≡ cond own (before ++ call_name call ++ joined (44 ∷ []) (map call_name (filter (has set) more))) (joined before (map call_name (filter (has set) more)))
+kept_or_not set before call more true is = ap (λ b. joined before (map call_name (cond b (call ∷ filter (has set) more) (filter (has set) more)))) is
+kept_or_not set before call more false is = ap (λ b. joined before (map call_name (cond b (call ∷ filter (has set) more) (filter (has set) more)))) is
+
+-- a call of the set comes next
+pub call_taken : (set : ℕ) (before : List ℕ) (i : ℕ) → i < length calls → has set (get_or calls i Stat) ≡ true → calls_left set before i ≡ (before ++ call_name (get_or calls i Stat)) ++ calls_left set (44 ∷ []) (i + 1)
+call_taken set before i within own =
+    ap (λ cs. joined before (map call_name (filter (has set) cs)) ++ 10 ∷ []) (drop_more calls i Stat within)
+    ∙ ap (λ t. t ++ 10 ∷ []) (kept_or_not set before (get_or calls i Stat) (drop (i + 1) calls) true own)
+    ∙ append_assoc (before ++ call_name (get_or calls i Stat)) (joined (44 ∷ []) (map call_name (filter (has set) (drop (i + 1) calls)))) (10 ∷ [])
+
+-- another one adds nothing
+pub call_left : (set : ℕ) (before : List ℕ) (i : ℕ) → i < length calls → has set (get_or calls i Stat) ≡ false → calls_left set before i ≡ calls_left set before (i + 1)
+call_left set before i within own =
+    ap (λ cs. joined before (map call_name (filter (has set) cs)) ++ 10 ∷ []) (drop_more calls i Stat within)
+    ∙ ap (λ t. t ++ 10 ∷ []) (kept_or_not set before (get_or calls i Stat) (drop (i + 1) calls) false own)
+
+pub calls_done : (set : ℕ) (before : List ℕ) (i : ℕ) → length calls ≤ i → calls_left set before i ≡ 10 ∷ []
+calls_done set before i past = ap (λ cs. joined before (map call_name (filter (has set) cs)) ++ 10 ∷ []) (drop_of_length-le calls past)
+
+pub name_short : (call : Call) → length (call_name call) ≤ 8
+name_short Stat = omega arith
+name_short Lstat = omega arith
+name_short Readlink = omega arith
+name_short OpenRead = omega arith
+name_short OpenWrite = omega arith
+name_short OpenBoth = omega arith
+name_short Create = omega arith
+name_short Mkdir = omega arith
+name_short Rmdir = omega arith
+name_short Unlink = omega arith
+name_short Symlink = omega arith
+name_short Chmod = omega arith
+name_short Chdir = omega arith
+name_short Exec = omega arith
+
+-- the line of an object, by what the code gives of it
+abbrev pub text_given : ObjectLine → List (Bor (List ℕ)) → List ℕ
+text_given given names = ended (kind_word given.kind ++ 32 ∷ printed_path Root (map (λ name. name.now) names) ++ 32 ∷ with_commas (map call_name (calls_in given.calls)))
+
+-- the line that a list gives stands before those that it has still to give
+pub line_next : (t u : Tree) (p q : ProcessState) (h : History) (old new : List Item) (word : Word) (given : ObjectLine) (names : List (Bor (List ℕ)))
+    → t ≡ u → p ≡ q → StandsFor q h → IsListed t p old new word given → map (λ name. name.now) names ≡ word
+    → object_lines u (lines_of u h old) ≡ text_given given names ++ object_lines u (lines_of u h new)
+line_next t u p q h old new word given names same alike stands listed is =
+    subst (λ (v : Tree). object_lines v (lines_of v h old) ≡ text_given given names ++ object_lines v (lines_of v h new)) same
+    (ap (object_lines t) (listed.lines h (subst (λ (r : ProcessState). StandsFor r h) (sym alike) stands))
+    ∙ ap (λ kind. ended (kind ++ 32 ∷ printed_path Root word ++ 32 ∷ with_commas (map call_name (calls_in given.calls))) ++ object_lines t (lines_of t h new)) (sym listed.kind)
+    ∙ ap (λ (w : Word). ended (kind_word given.kind ++ 32 ∷ printed_path Root w ++ 32 ∷ with_commas (map call_name (calls_in given.calls))) ++ object_lines t (lines_of t h new)) (sym is))
+
+pub no_line : (t u : Tree) (p q : ProcessState) (h : History) (left : List Item) → t ≡ u → p ≡ q → StandsFor q h → HasNoLine t p left → object_lines u (lines_of u h left) ≡ []
+no_line t u p q h left same alike stands none =
+    subst (λ (v : Tree). object_lines v (lines_of v h left) ≡ []) same (ap (object_lines t) (none h (subst (λ (r : ProcessState). StandsFor r h) (sym alike) stands)))
+
+-- the same text by other names
+pub told_as : (table : CallTable) (h : History) (front told : List ℕ) (t u : Tree) (r : Result (Unit {0}) ToolFault) (a b : Option (List ℕ)) (n m : ℕ) → front ≡ told → t ≡ u
+    → Tells (front ++ object_lines t (objects t table h)) r a b n m → Tells (told ++ object_lines u (objects u table h)) r a b n m
+told_as table h front told t u r a b n m same alike tells = subst (λ (text : List ℕ). Tells text r a b n m) (λ i. same i ++ object_lines (alike i) (objects (alike i) table h)) tells
+
+-- what the telling of a text leaves, where that text is the answer
+module _ (answer : Result (List ℕ) ToolFault) (text : List ℕ) (a b : Option (List ℕ)) (n m : ℕ) (is : answer ≡ Ok text) where
+  pub tells_whole : (r : Result (Unit {0}) ToolFault) → Tells text r a b n m → OnOk r ((t : List ℕ) × (answer ≡ Ok t) × Adds t a b)
+  tells_whole (Ok done) told = (text, is, told.0)
+  tells_whole (Err fault) told = tt
+
+  pub tells_unfailed : (r : Result (Unit {0}) ToolFault) → Tells text r a b n m → OnOk r (m ≡ n)
+  tells_unfailed (Ok done) told = told.1
+  tells_unfailed (Err fault) told = tt
+
+  pub tells_write : (r : Result (Unit {0}) ToolFault) → Tells text r a b n m → r ≡ Err Write → (t : List ℕ) × (answer ≡ Ok t) × AddsFront t a b × HasFailed n m
+  tells_write r told cut =
+      let short = subst (λ (s : Result (Unit {0}) ToolFault). Tells text s a b n m) cut told in
+      (text, is, short.0, short.1)
+
+  pub tells_refused : (r : Result (Unit {0}) ToolFault) → Tells text r a b n m → IfErr r (λ fault. fault ≢ Write → fault ≢ OutOfMemory → answer ≡ Err fault)
+  tells_refused (Ok done) told = tt
+  tells_refused (Err Write) told = λ written room. absurd (written refl)
+  tells_refused (Err OutOfMemory) told = λ written room. absurd (room refl)
+  tells_refused (Err (Listing fault)) told = absurd told
+  tells_refused (Err (Script fault)) told = absurd told
+  tells_refused (Err NoProcess) told = absurd told
+  tells_refused (Err (Audit fault)) told = absurd told
+
+  pub tells_unwritten : (r : Result (Unit {0}) ToolFault) → Tells text r a b n m → IfErr r (λ fault. fault ≢ Write → b ≡ a)
+  tells_unwritten (Ok done) told = tt
+  tells_unwritten (Err Write) told = λ written. absurd (written refl)
+  tells_unwritten (Err OutOfMemory) told = λ written. told
+  tells_unwritten (Err (Listing fault)) told = absurd told
+  tells_unwritten (Err (Script fault)) told = absurd told
+  tells_unwritten (Err NoProcess) told = absurd told
+  tells_unwritten (Err (Audit fault)) told = absurd told

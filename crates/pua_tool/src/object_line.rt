@@ -1,0 +1,148 @@
+//! The lines of the objects of a list, written in blocks.
+
+ghost use Rattle.std.specs.Prelude.{◌≡◌, ◌≤◌, ◌++◌, ◌∷◌, [], length, map, vec_capacity};
+ghost use Rattle.pua_policy.specs.Calls.{call_name};
+ghost use Rattle.pua_policy.specs.CallSets.{calls_in};
+ghost use Rattle.pua_policy.specs.History.{History, StandsFor};
+ghost use Rattle.pua_audit.specs.Reach.{printed_path};
+ghost use Rattle.pua_audit.specs.declared.base.Base.TheVariants as base;
+ghost use Rattle.pua_objects.specs.Lines.{kind_word};
+ghost use Rattle.pua_objects.specs.Objects.{with_commas};
+ghost use Rattle.pua_objects.specs.Ready.{lines_of};
+ghost use Rattle.pua_tree.specs.Spelling.{spelling};
+ghost use Rattle.pua_tool.specs.Blocks.{Passes};
+ghost use Rattle.pua_tool.specs.ObjectTexts.{object_lines};
+ghost use Rattle.pua_tool.specs.Sinks.{Writes};
+ghost use Rattle.pua_tool.specs.Texts.{ended};
+
+use crate::line::{BLOCK, MOST_LINE, make_room, spell};
+use crate::sink::{PutFault, Sink, put_all};
+use pua_objects::{ObjectKind, ObjectLine, Objects};
+use pua_policy::{Call, Calls};
+use pua_tree::{FileTree, Name};
+
+/// Writes a line for each object that a list has still to give: many of them in a block, which is
+/// put where the next part of a line might not fit, and after the last. Its memory is used again, so
+/// a path may be as long as it is.
+pub(crate) fn write_objects<T: FileTree, S: Sink>(
+    list: &mut Objects<'_, T>,
+    block: &mut Vec<u8>,
+    sink: &mut S,
+) -> Result<(), PutFault>
+    requires empty { block.old.items ≡ [] }
+    requires room { BLOCK ≤ vec_capacity block.old }
+    ensures { (h : History) → StandsFor list.old.process h → Writes (object_lines list.old.tree (lines_of list.old.tree h list.old.left)) result (S.written sink.old) (S.written sink.new) (S.failed sink.old) (S.failed sink.new) }
+{
+    while let Some(line) = list.next_line() {
+        add_line(block, line, list.word(), sink)?;
+    }
+    put_all(sink, block.as_slice())
+}
+
+/// Adds the line of what stands at the end of these names.
+fn add_line<S: Sink>(
+    block: &mut Vec<u8>,
+    line: ObjectLine,
+    word: &[&Name],
+    sink: &mut S,
+) -> Result<(), PutFault>
+    requires { BLOCK ≤ vec_capacity block.old }
+    ensures line { Passes (ended (kind_word line.kind ++ 32 ∷ printed_path base.Root (map (λ name. name.now) word.now) ++ 32 ∷ with_commas (map call_name (calls_in line.calls)))) result
+        block.old.items block.new.items (S.written sink.old) (S.written sink.new) (S.failed sink.old) (S.failed sink.new) }
+    ensures room { BLOCK ≤ vec_capacity block.new }
+{
+    add_bytes(block, kind_bytes(line.kind), sink)?;
+    add_path(block, word, sink)?;
+    add_calls(block, line.calls, sink)
+}
+
+/// The word of a kind, and a blank.
+fn kind_bytes(kind: ObjectKind) -> &'static [u8]
+    ensures bytes { result.now ≡ kind_word kind ++ 32 ∷ [] }
+    ensures short { length result.now ≤ MOST_LINE }
+{
+    match kind {
+        ObjectKind::Dir => b"dir ",
+        ObjectKind::File => b"file ",
+        ObjectKind::Prog => b"prog ",
+        ObjectKind::Link => b"link ",
+        ObjectKind::Missing => b"missing ",
+        ObjectKind::Other => b"other ",
+    }
+}
+
+/// Adds the path that leads by these names from the root, as it is printed, and a blank.
+fn add_path<S: Sink>(block: &mut Vec<u8>, word: &[&Name], sink: &mut S) -> Result<(), PutFault>
+    requires { BLOCK ≤ vec_capacity block.old }
+    ensures path { Passes (printed_path base.Root (map (λ name. name.now) word.now) ++ 32 ∷ []) result
+        block.old.items block.new.items (S.written sink.old) (S.written sink.new) (S.failed sink.old) (S.failed sink.new) }
+    ensures room { BLOCK ≤ vec_capacity block.new }
+{
+    if word.is_empty() {
+        return add_bytes(block, b"/ ", sink);
+    }
+    for name in word {
+        add_name(block, name, sink)?;
+    }
+    add_bytes(block, b" ", sink)
+}
+
+/// Adds a slash and a name as it is spelled.
+fn add_name<S: Sink>(block: &mut Vec<u8>, name: &Name, sink: &mut S) -> Result<(), PutFault>
+    requires { BLOCK ≤ vec_capacity block.old }
+    ensures name { Passes (47 ∷ spelling name.now) result
+        block.old.items block.new.items (S.written sink.old) (S.written sink.new) (S.failed sink.old) (S.failed sink.new) }
+    ensures room { BLOCK ≤ vec_capacity block.new }
+{
+    make_room(block, sink)?;
+    block.push_reserved(b'/');
+    spell(block, name.bytes());
+    Ok(())
+}
+
+/// Adds the names of calls with commas between them, and LF.
+fn add_calls<S: Sink>(block: &mut Vec<u8>, calls: Calls, sink: &mut S) -> Result<(), PutFault>
+    requires { BLOCK ≤ vec_capacity block.old }
+    ensures calls { Passes (with_commas (map call_name (calls_in calls)) ++ 10 ∷ []) result
+        block.old.items block.new.items (S.written sink.old) (S.written sink.new) (S.failed sink.old) (S.failed sink.new) }
+    ensures room { BLOCK ≤ vec_capacity block.new }
+{
+    let mut before: &[u8] = b"";
+    for call in Call::ALL {
+        if calls.contains(call) {
+            add_call(block, before, call, sink)?;
+            before = b",";
+        }
+    }
+    add_bytes(block, b"\n", sink)
+}
+
+/// Adds the name of a call, behind what separates it from the one before.
+fn add_call<S: Sink>(
+    block: &mut Vec<u8>,
+    before: &[u8],
+    call: Call,
+    sink: &mut S,
+) -> Result<(), PutFault>
+    requires short { length before.now ≤ 1 }
+    requires room { BLOCK ≤ vec_capacity block.old }
+    ensures call { Passes (before.now ++ call_name call) result
+        block.old.items block.new.items (S.written sink.old) (S.written sink.new) (S.failed sink.old) (S.failed sink.new) }
+    ensures room { BLOCK ≤ vec_capacity block.new }
+{
+    add_bytes(block, before, sink)?;
+    add_bytes(block, call.name().as_bytes(), sink)
+}
+
+/// Adds bytes that are no more than the longest line of an audit.
+fn add_bytes<S: Sink>(block: &mut Vec<u8>, bytes: &[u8], sink: &mut S) -> Result<(), PutFault>
+    requires short { length bytes.now ≤ MOST_LINE }
+    requires room { BLOCK ≤ vec_capacity block.old }
+    ensures bytes { Passes bytes.now result
+        block.old.items block.new.items (S.written sink.old) (S.written sink.new) (S.failed sink.old) (S.failed sink.new) }
+    ensures room { BLOCK ≤ vec_capacity block.new }
+{
+    make_room(block, sink)?;
+    block.extend_from_slice(bytes).unwrap();
+    Ok(())
+}

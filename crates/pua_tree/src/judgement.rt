@@ -1,0 +1,206 @@
+//! Whether an edit of a tree may be made, or else its first fault: one judgement of every tree.
+
+use crate::fault::TreeFault;
+use crate::name::Name;
+use crate::node::{Kind, NodeId};
+use crate::tree::{MOST_NAMES, NUMBER_END};
+
+/// What a judgement asks of a tree. The edits of `FileTree` are judged by these answers, so it is no
+/// part of `FileTree`.
+pub(crate) trait Judged {
+    ghost use Rattle.std.specs.Prelude.{◌≡◌, ◌<◌, ◌^◌, length};
+    ghost use Rattle.pua_tree.specs.Tree.{Tree, WellFormed, kind_at, look, parent, is_empty};
+
+    /// What the tree holds.
+    ghost held: { Self → Tree };
+
+    /// Does nothing. A caller learns from it what is true of what the tree holds.
+    fn is_tree(&self)
+        ensures { WellFormed (held self.now) };
+
+    /// The kind of a living node.
+    fn kind_of(&self, id: NodeId) -> Option<Kind>
+        ensures { result ≡ kind_at (held self.now) id };
+
+    /// The node that has this name in this directory.
+    fn node_at(&self, dir: NodeId, name: &Name) -> Option<NodeId>
+        ensures { result ≡ look (held self.now) dir name.now };
+
+    /// The directory above a living directory.
+    fn dir_above(&self, dir: NodeId) -> Option<NodeId>
+        ensures { result ≡ parent (held self.now) dir };
+
+    /// Whether this is a living directory without rows.
+    fn is_bare(&self, dir: NodeId) -> bool
+        ensures { result ≡ is_empty (held self.now) dir };
+
+    /// How many rows there are.
+    fn row_count(&self) -> usize
+        ensures count { result ≡ length (held self.now).rows }
+        ensures small { result < 2 ^ 63 };
+
+    /// How many nodes there are.
+    fn node_count(&self) -> usize
+        ensures { result ≡ length (held self.now).nodes };
+
+    /// The number of the next node.
+    fn next_number(&self) -> u32
+        ensures { result ≡ (held self.now).next };
+}
+
+ghost use Rattle.std.specs.Prelude.{◌≡◌, ◌≢◌, ◌<◌, Some, None, Ok, Err, IsTrue, IfOk, IfSome, OnOk, MatchResult, MatchOption, ◌==◌, false};
+ghost use Rattle.std.specs.List.{list_any};
+ghost use Rattle.pua_tree.specs.Limits.{number_end};
+ghost use Rattle.pua_tree.specs.Names.{is_name};
+ghost use Rattle.pua_tree.specs.Tree.{Node, is_dir, look, climb};
+ghost use Rattle.pua_tree.specs.Edits.{add, tie, cut, shift, is_full_dir, has_name_room, has_room, with_row, with_new, without_row, without_unnamed, moved};
+
+/// Whether a node may be added under this name, or else the first fault.
+pub(crate) fn may_add<T: Judged>(tree: &T, dir: NodeId, name: &Name) -> Result<(), TreeFault>
+    ensures exact { let held = T.held tree.now in MatchResult result
+        (λ _. (node : Node) → add held dir name.now node ≡ Ok (held.next, with_new held dir name.now node))
+        (λ fault. (fault ≢ TreeFault.OutOfMemory) × ((node : Node) → add held dir name.now node ≡ Err fault)) }
+    ensures number { OnOk result ((T.held tree.now).next < number_end) }
+    ensures name { IsTrue (is_name name.now) }
+{
+    name.known();
+    if !is_dir(tree, dir) {
+        return Err(TreeFault::NotDir);
+    }
+    if tree.node_at(dir, name).is_some() {
+        return Err(TreeFault::Taken);
+    }
+    if !has_room(tree) {
+        return Err(TreeFault::Full);
+    }
+    Ok(())
+}
+
+/// Whether a node may be given this further name, or else the first fault.
+pub(crate) fn may_tie<T: Judged>(
+    tree: &T,
+    dir: NodeId,
+    name: &Name,
+    node: NodeId,
+) -> Result<(), TreeFault>
+    ensures exact { let held = T.held tree.now in MatchResult result
+        (λ _. tie held dir name.now node ≡ Ok (with_row held dir name.now node))
+        (λ fault. (fault ≢ TreeFault.OutOfMemory) × (tie held dir name.now node ≡ Err fault)) }
+    ensures free { OnOk result (look (T.held tree.now) dir name.now ≡ None) }
+    ensures no_dir { OnOk result (is_dir (T.held tree.now) node ≡ false) }
+    ensures name { IsTrue (is_name name.now) }
+{
+    name.known();
+    if !is_dir(tree, dir) {
+        return Err(TreeFault::NotDir);
+    }
+    match tree.kind_of(node) {
+        None => return Err(TreeFault::Missing),
+        Some(Kind::Dir) => return Err(TreeFault::IsDir),
+        Some(_) => {}
+    }
+    if tree.node_at(dir, name).is_some() {
+        return Err(TreeFault::Taken);
+    }
+    if !has_name_room(tree) {
+        return Err(TreeFault::Full);
+    }
+    Ok(())
+}
+
+/// The node of a row that may be taken away, or else the first fault.
+pub(crate) fn may_cut<T: Judged>(tree: &T, dir: NodeId, name: &Name) -> Result<NodeId, TreeFault>
+    ensures exact { let held = T.held tree.now in MatchResult result
+        (λ node. cut held dir name.now ≡ Ok (node, without_unnamed (without_row held dir name.now) node))
+        (λ fault. cut held dir name.now ≡ Err fault) }
+    ensures found { IfOk result (λ node. look (T.held tree.now) dir name.now ≡ Some node) }
+{
+    if !is_dir(tree, dir) {
+        return Err(TreeFault::NotDir);
+    }
+    let node = tree.node_at(dir, name).ok_or(TreeFault::Missing)?;
+    if is_full_dir(tree, node) {
+        return Err(TreeFault::NotEmpty);
+    }
+    Ok(node)
+}
+
+/// The node of a row that may be moved, and None where it stands at the new place already, or else
+/// the first fault.
+pub(crate) fn may_shift<T: Judged>(
+    tree: &T,
+    from: NodeId,
+    name: &Name,
+    to: NodeId,
+    new_name: &Name,
+) -> Result<Option<NodeId>, TreeFault>
+    ensures exact { let held = T.held tree.now in MatchResult result
+        (λ moves. MatchOption moves (shift held from name.now to new_name.now ≡ Ok held)
+        (λ node. shift held from name.now to new_name.now ≡ Ok (moved held from name.now to new_name.now node (look held to new_name.now))))
+        (λ fault. (fault ≢ TreeFault.OutOfMemory) × (shift held from name.now to new_name.now ≡ Err fault)) }
+    ensures found { let held = T.held tree.now in IfOk result (λ moves. IfSome moves (λ node. (look held from name.now ≡ Some node) × (look held to new_name.now ≢ Some node))) }
+    ensures name { IsTrue (is_name new_name.now) }
+{
+    new_name.known();
+    if !(is_dir(tree, from) && is_dir(tree, to)) {
+        return Err(TreeFault::NotDir);
+    }
+    let node = tree.node_at(from, name).ok_or(TreeFault::Missing)?;
+    let there = tree.node_at(to, new_name);
+    if there == Some(node) {
+        return Ok(None);
+    }
+    if is_dir(tree, node) && is_within(tree, to, node) {
+        return Err(TreeFault::Inside);
+    }
+    if there.is_some_and(|displaced| is_full_dir(tree, displaced)) {
+        return Err(TreeFault::NotEmpty);
+    }
+    Ok(Some(node))
+}
+
+fn is_dir<T: Judged>(tree: &T, id: NodeId) -> bool
+    ensures { result ≡ is_dir (T.held tree.now) id }
+{
+    tree.kind_of(id) == Some(Kind::Dir)
+}
+
+/// Whether this is a directory in which something stands.
+fn is_full_dir<T: Judged>(tree: &T, id: NodeId) -> bool
+    ensures { result ≡ is_full_dir (T.held tree.now) id }
+{
+    is_dir(tree, id) && !tree.is_bare(id)
+}
+
+/// Whether there is room for a further name.
+fn has_name_room<T: Judged>(tree: &T) -> bool
+    ensures { result ≡ has_name_room (T.held tree.now) }
+{
+    tree.row_count() + 1 < MOST_NAMES
+}
+
+/// Whether there is room for the name of a further node, and a number.
+fn has_room<T: Judged>(tree: &T) -> bool
+    ensures { result ≡ has_room (T.held tree.now) }
+{
+    has_name_room(tree) && tree.next_number() < NUMBER_END
+}
+
+/// Whether the directory is this node, or stands beneath it.
+fn is_within<T: Judged>(tree: &T, dir: NodeId, node: NodeId) -> bool
+    requires { IsTrue (is_dir (T.held tree.now) dir) }
+    ensures { result ≡ list_any (λ d. d == node) (climb (T.held tree.now) dir) }
+{
+    tree.is_tree();
+    let mut at = dir;
+    for _ in 0..tree.node_count() {
+        if at == node {
+            return true;
+        }
+        if at == NodeId::ROOT {
+            return false;
+        }
+        at = tree.dir_above(at).unwrap_or(NodeId::ROOT);
+    }
+    at == node
+}
