@@ -27,11 +27,12 @@ def run(name, words, folder, output, fault="", status=0):
 def output_of(row):
     """What a row's command writes, and how many lines stand before the pairs."""
     lines = [f"{place} {answer}" for place, answer in enumerate(row.get("answers", "").split(), 1)]
-    lines += [f"reach {row['reach']}"] if "reach" in row else []
+    lines += [f"{heading} {row[heading]}" for heading in ("reach", "objects") if heading in row]
     front = len(lines)
     for line in row.get("pairs", "").splitlines():
         path, *calls = line.split()
         lines += [f"{path} {call}" for call in calls]
+    lines += row.get("lines", "").splitlines()
     return [line + "\n" for line in lines], front
 
 
@@ -49,8 +50,8 @@ def run_row(row, folder):
 
 def main():
     table = tomllib.loads((DATA / "rows.toml").read_text())
-    for command in sorted(DATA.glob("*/command")):
-        output = (command.parent / "output").read_text()
+    for command in sorted(DATA.glob("*/*command")):
+        output = command.with_name(command.name.replace("command", "output")).read_text()
         run(command.parent.name, command.read_text().split()[1:], DATA, output)
     with tempfile.TemporaryDirectory() as room:
         folder = pathlib.Path(room)
@@ -64,8 +65,8 @@ def main():
             run(misused["name"], misused["command"].split(), folder, "", table["usage"] + "\n", 2)
         for refused in table["refused"]:
             put(refused.get("listing", "tree 1\n0 dir\n"), refused.get("script", "0"))
-            for words in ("run TREE SCRIPT", "audit --limit 1 TREE SCRIPT", "audit --limit 17 TREE SCRIPT"):
-                run(refused["name"], words.split(), folder, "", refused["fault"] + "\n", 1)
+            for words in ("run", "objects", "audit --limit 1", "audit --limit 17"):
+                run(refused["name"], [*words.split(), "TREE", "SCRIPT"], folder, "", refused["fault"] + "\n", 1)
         for row in table["row"]:
             put(table["tree"][row["tree"]]["listing"], row.get("script", ""))
             run_row(row, folder)

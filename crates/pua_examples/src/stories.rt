@@ -8,7 +8,7 @@ use std::fs;
 use std::rt::Files;
 
 /// The folders of the stories.
-const STORIES: [&str; 11] = [
+pub(crate) const STORIES: [&str; 11] = [
     "first-run",
     "links",
     "wide-veil",
