@@ -5,7 +5,7 @@ ghost use Rattle.std.specs.Prelude.{◌≡◌};
 use anyhow::{Result, anyhow};
 use pua_audit::{Audit, Base};
 use pua_path::Counted;
-use pua_policy::Process;
+use pua_policy::{CallTable, Process};
 use pua_tree::ListTree;
 use std::alloc::Global;
 
@@ -23,7 +23,10 @@ pub(crate) fn reached(
     base: Base,
 ) -> Result<Vec<u8>> {
     let mut probe = Counted::new(tree);
-    let begun = Audit::begin(alloc, &mut probe, process, base, &LETTERS, LIMIT, None);
+    let table = CallTable::standard();
+    let begun = Audit::begin(
+        alloc, &mut probe, process, &table, base, &LETTERS, LIMIT, None,
+    );
     let mut audit = begun.map_err(|fault| anyhow!("{fault}"))?;
     lines_of(alloc, tree, &mut audit)
 }

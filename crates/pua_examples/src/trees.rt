@@ -9,6 +9,7 @@ use anyhow::{Result, anyhow};
 use pua_audit::Audit;
 use pua_objects::Objects;
 use pua_path::{Counted, Probe};
+use pua_policy::CallTable;
 use pua_script::{Answer, World, read_script};
 use pua_tool::{AuditWords, ObjectWords, Text, ToolFault};
 use pua_tree::{FileTree, ListingFault, byte_spelling, read_listing, read_listing_slab};
@@ -69,7 +70,7 @@ fn text_over<T: FileTree + Drop>(
         Ok(script) => script,
         Err(fault) => return Err(ToolFault::Script(fault)),
     };
-    let Ok(mut world) = World::new(alloc, tree) else {
+    let Ok(mut world) = World::new(alloc, tree, CallTable::standard()) else {
         return Err(ToolFault::OutOfMemory);
     };
     let Ok(told) = world.run(alloc, &script) else {
@@ -106,7 +107,8 @@ fn object_text<T: FileTree>(
     let Some(process) = world.process(words.process) else {
         return Err(ToolFault::NoProcess);
     };
-    let Ok(mut list) = Objects::begin(alloc, world.tree(), process) else {
+    let table = CallTable::standard();
+    let Ok(mut list) = Objects::begin(alloc, world.tree(), process, &table) else {
         return Err(ToolFault::OutOfMemory);
     };
     let front = or_memory(headed_lines(alloc, told, "objects", words.process))?;
@@ -129,6 +131,7 @@ fn audit_lines<T: FileTree>(
         alloc,
         &mut probe,
         process,
+        &CallTable::standard(),
         words.base,
         names,
         words.limit,

@@ -1,5 +1,7 @@
 pub mod Sets
 pub mod CallBits
+pub mod Rows
+pub mod Refusals
 pub mod Keywords
 pub mod Climbs
 pub mod Veils

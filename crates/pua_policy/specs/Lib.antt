@@ -2,6 +2,7 @@ pub mod Limits
 pub mod Promises
 pub mod Calls
 pub mod CallSets
+pub mod Tables
 pub mod History
 pub mod Verdict
 pub mod Objects

@@ -4,7 +4,7 @@ ghost use Rattle.std.specs.Prelude.{◌≡◌, IfOk};
 
 use pua_audit::{Audit, AuditFault, Base};
 use pua_path::Counted;
-use pua_policy::Process;
+use pua_policy::{CallTable, Process};
 use pua_tree::{FileTree, ListTree};
 use std::alloc::{AllocError, Global};
 
@@ -26,6 +26,7 @@ pub(crate) fn begun(
         alloc,
         &mut probe,
         &process,
+        &CallTable::standard(),
         base,
         &[b"a\\040b"],
         limit,

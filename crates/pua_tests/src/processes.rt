@@ -58,6 +58,24 @@ fn a_promise_is_missed_with_error_alone(rt: HostRuntime) -> Result<(), Fail> {
     Ok(())
 }
 
+#[test]
+fn one_of_two_sets_of_promises_is_enough(rt: HostRuntime) -> Result<(), Fail> {
+    let mut process = Process::new(rt.alloc())?;
+    process.pledge(Some(Promises::WPATH), None)?;
+    let both = Promises::WPATH.union(Promises::CPATH);
+    for (row, (sets, want)) in [
+        ([Promises::CPATH, Promises::WPATH], May::Yes),
+        ([Promises::WPATH, both], May::Yes),
+        ([Promises::CPATH, both], May::Death),
+    ]
+    .iter()
+    .enumerate()
+    {
+        expect_row(&rt, row, &process.may_any(sets.as_slice()), want);
+    }
+    Ok(())
+}
+
 /// The place of the directory of this number.
 fn place(number: u32) -> Place {
     Place::Dir(NodeId::new(number))

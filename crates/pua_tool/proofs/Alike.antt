@@ -5,7 +5,7 @@ use Rattle.pua_tree.specs.Tree.{Tree}
 use Rattle.pua_policy.specs.Calls.{standard_table}
 use Rattle.pua_policy.specs.History.{History}
 use Rattle.pua_script.specs.Requests.{Asked}
-use Rattle.pua_script.specs.Replay.{World, new_world, history_of, world_after}
+use Rattle.pua_script.specs.Replay.{World, new_world, answers, history_of, world_after}
 use Rattle.pua_script.specs.Worlds.{StandsForWorld, StandsAt}
 use Rattle.pua_audit.specs.AuditState.{AuditState}
 use Rattle.pua_audit.specs.Reach.{Pair}
@@ -13,13 +13,15 @@ use Rattle.pua_audit.specs.Begin.{Beginning, beginning, still_to_come}
 use Rattle.pua_audit.specs.declared.fault.AuditFault.{AuditFault}
 use Rattle.pua_tool.specs.Alike.{IsAuditedOver, AnswersAlike, LinesAlike}
 use Rattle.pua_tool.specs.Texts.{Wanted, pair_lines}
-use Rattle.pua_tool.proofs.Replays.{is_made}
+use Rattle.pua_tool.proofs.Replays.{is_made, left_by_same}
 
 answers_over : (t : Tree) → AnswersAlike t t
 answers_over t asks told said after left run other =
     let one = run.served (new_world t) run.new in
-    let two = other.served (new_world t) other.new in
-    (one.0 ∙ sym two.0, one.1.tree ∙ sym two.1.tree)
+    let two = other.served (new_world t) other.new in (
+      one.0 ∙ ap (λ table. answers table (new_world t) asks) (run.table ∙ sym other.table) ∙ sym two.0,
+      one.1.tree ∙ ap (λ table. (world_after table (new_world t) asks).tree) (run.table ∙ sym other.table) ∙ sym two.1.tree,
+    )
 
 left_of : Result Beginning AuditFault → List Pair
 left_of (Ok b) = still_to_come b
@@ -34,7 +36,7 @@ module _ (t : Tree) (asks : List Asked) (wanted : Wanted) where
   pairs_of left h = left_of (beginning left standard_table h wanted.base wanted.candidates wanted.limit wanted.after)
 
   stands_in : (audit : AuditState) (a : IsAuditedOver t asks wanted audit) → StandsForWorld a.after left_by
-  stands_in audit a = (a.run.served (new_world t) a.run.new).1
+  stands_in audit a = left_by_same a.run.before.table standard_table (new_world t) asks a.run.table (a.run.served (new_world t) a.run.new).1
 
   process_in : (audit : AuditState) (a : IsAuditedOver t asks wanted audit) → StandsAt (Some a.process) (history_of left_by wanted.process)
   process_in audit a =

@@ -138,18 +138,21 @@ abbrev pub text_given : ObjectLine → List (Bor (List ℕ)) → List ℕ
 text_given given names = ended (kind_word given.kind ++ 32 ∷ printed_path Root (map (λ name. name.now) names) ++ 32 ∷ with_commas (map call_name (calls_in given.calls)))
 
 -- the line that a list gives stands before those that it has still to give
-pub line_next : (t u : Tree) (p q : ProcessState) (h : History) (old new : List Item) (word : Word) (given : ObjectLine) (names : List (Bor (List ℕ)))
-    → t ≡ u → p ≡ q → StandsFor q h → IsListed t p old new word given → map (λ name. name.now) names ≡ word
-    → object_lines u (lines_of u h old) ≡ text_given given names ++ object_lines u (lines_of u h new)
-line_next t u p q h old new word given names same alike stands listed is =
-    subst (λ (v : Tree). object_lines v (lines_of v h old) ≡ text_given given names ++ object_lines v (lines_of v h new)) same
+pub line_next : (t u : Tree) (a b : CallTable) (p q : ProcessState) (h : History) (old new : List Item) (word : Word) (given : ObjectLine) (names : List (Bor (List ℕ)))
+    → t ≡ u → a ≡ b → p ≡ q → StandsFor q h → IsListed t a p old new word given → map (λ name. name.now) names ≡ word
+    → object_lines u (lines_of u b h old) ≡ text_given given names ++ object_lines u (lines_of u b h new)
+line_next t u a b p q h old new word given names same equal alike stands listed is =
+    subst (λ (v : Tree). object_lines v (lines_of v b h old) ≡ text_given given names ++ object_lines v (lines_of v b h new)) same
+    (subst (λ (c : CallTable). object_lines t (lines_of t c h old) ≡ text_given given names ++ object_lines t (lines_of t c h new)) equal
     (ap (object_lines t) (listed.lines h (subst (λ (r : ProcessState). StandsFor r h) (sym alike) stands))
-    ∙ ap (λ kind. ended (kind ++ 32 ∷ printed_path Root word ++ 32 ∷ with_commas (map call_name (calls_in given.calls))) ++ object_lines t (lines_of t h new)) (sym listed.kind)
-    ∙ ap (λ (w : Word). ended (kind_word given.kind ++ 32 ∷ printed_path Root w ++ 32 ∷ with_commas (map call_name (calls_in given.calls))) ++ object_lines t (lines_of t h new)) (sym is))
+    ∙ ap (λ kind. ended (kind ++ 32 ∷ printed_path Root word ++ 32 ∷ with_commas (map call_name (calls_in given.calls))) ++ object_lines t (lines_of t a h new)) (sym listed.kind)
+    ∙ ap (λ (w : Word). ended (kind_word given.kind ++ 32 ∷ printed_path Root w ++ 32 ∷ with_commas (map call_name (calls_in given.calls))) ++ object_lines t (lines_of t a h new)) (sym is)))
 
-pub no_line : (t u : Tree) (p q : ProcessState) (h : History) (left : List Item) → t ≡ u → p ≡ q → StandsFor q h → HasNoLine t p left → object_lines u (lines_of u h left) ≡ []
-no_line t u p q h left same alike stands none =
-    subst (λ (v : Tree). object_lines v (lines_of v h left) ≡ []) same (ap (object_lines t) (none h (subst (λ (r : ProcessState). StandsFor r h) (sym alike) stands)))
+pub no_line : (t u : Tree) (a b : CallTable) (p q : ProcessState) (h : History) (left : List Item) → t ≡ u → a ≡ b → p ≡ q → StandsFor q h → HasNoLine t a p left → object_lines u (lines_of u b h left) ≡ []
+no_line t u a b p q h left same equal alike stands none =
+    subst (λ (v : Tree). object_lines v (lines_of v b h left) ≡ []) same
+    (subst (λ (c : CallTable). object_lines t (lines_of t c h left) ≡ []) equal
+    (ap (object_lines t) (none h (subst (λ (r : ProcessState). StandsFor r h) (sym alike) stands))))
 
 -- the same text by other names
 pub told_as : (table : CallTable) (h : History) (front told : List ℕ) (t u : Tree) (r : Result (Unit {0}) ToolFault) (a b : Option (List ℕ)) (n m : ℕ) → front ≡ told → t ≡ u

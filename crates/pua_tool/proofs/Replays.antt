@@ -1,5 +1,5 @@
 -- What is replayed and begun, step by step.
-use Rattle.std.proofs.Common.{◌≡◌, ℕ, List, ◌++◌, refl, sym, ◌∙◌}
+use Rattle.std.proofs.Common.{◌≡◌, ℕ, List, ◌++◌, refl, sym, subst, ◌∙◌}
 use Rattle.std.proofs.lemmas.Bool.{false≢true}
 use Rattle.std.specs.Prelude.{Option, Some, None, Result, Ok, Err, OnOk, IfErr, ok_or}
 use Rattle.std.specs.Result.{IsOk}
@@ -10,8 +10,8 @@ use Rattle.pua_policy.specs.Calls.{CallTable}
 use Rattle.pua_policy.specs.History.{History, ProcessState, StandsFor}
 use Rattle.pua_script.specs.Requests.{Asked}
 use Rattle.pua_script.specs.Scripts.{script}
-use Rattle.pua_script.specs.Replay.{new_world, history_of, answers, world_after}
-use Rattle.pua_script.specs.Worlds.{StandsAt}
+use Rattle.pua_script.specs.Replay.{World, new_world, history_of, answers, world_after}
+use Rattle.pua_script.specs.Worlds.{StandsAt, StandsForWorld, WorldState}
 use Rattle.pua_audit.specs.Begin.{Beginning, beginning}
 use Rattle.pua_audit.specs.declared.fault.AuditFault.{AuditFault}
 use Rattle.pua_tool.specs.Texts.{Wanted, Replayed, Begun, as_listing, as_script, as_audit, replayed, begun, audit_text, front_of, pair_lines, text_of}
@@ -19,6 +19,10 @@ use Rattle.pua_tool.specs.Begun.{IsBegun, text_left}
 use Rattle.pua_tool.specs.declared.audit.Audited.{Audited}
 use Rattle.pua_tool.specs.declared.fault.ToolFault.{ToolFault}
 use Rattle.pua_tool.specs.declared.fault.ToolFault.TheVariants.{NoProcess, Audit}
+
+-- a world that stands for what one table leaves stands for what the same table leaves
+pub left_by_same : {state : WorldState} (a b : CallTable) (w : World) (asks : List Asked) → a ≡ b → StandsForWorld state (world_after a w asks) → StandsForWorld state (world_after b w asks)
+left_by_same {state} a b w asks same = subst (λ (t : CallTable). StandsForWorld state (world_after t w asks)) same
 
 module _ (table : CallTable) (tree_bytes script_bytes : List ℕ) where
   abbrev left_by : Tree → List Asked → Replayed

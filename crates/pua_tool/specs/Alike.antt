@@ -11,10 +11,11 @@ use Rattle.pua_audit.specs.AuditState.{AuditState}
 use Rattle.pua_audit.specs.Begin.{Beginning, beginning, still_to_come}
 use Rattle.pua_tool.specs.Texts.{Wanted, pair_lines}
 
--- a script was served over a tree, by a world that was new
+-- a script was served over a tree, by a world that was new and answers by the standard table
 pub record IsRunOver (t : Tree) (asks : List Asked) (told : List Answer) (after : WorldState) : Type 0 where
   pub before : WorldState
   pub new : StandsForWorld before (new_world t)
+  pub table : before.table ≡ standard_table
   pub served : AreServed before asks told after
 
 -- and then an audit of a process began, over the tree that was left

@@ -14,6 +14,7 @@ use crate::script::{ProgramTree, Replay, replay_script};
 use crate::sink::{PutFault, Sink, put_all};
 use pua_audit::{Audit, AuditFault};
 use pua_path::{Counted, Probe};
+use pua_policy::CallTable;
 use pua_script::{Answer, World};
 use std::alloc::Global;
 
@@ -124,11 +125,13 @@ fn begin(
     let Some(process) = world.process(job.process) else {
         return Err(ToolFault::NoProcess);
     };
+    let table = CallTable::standard();
     let mut probe = Counted::new(world.tree());
     let audit = Audit::begin(
         alloc,
         &mut probe,
         process,
+        &table,
         job.base,
         job.candidates,
         job.limit,

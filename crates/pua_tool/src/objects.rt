@@ -15,7 +15,7 @@ use crate::object_line::write_objects;
 use crate::script::{Replay, replay_script};
 use crate::sink::{PutFault, Sink, put_all};
 use pua_objects::Objects;
-use pua_policy::Process;
+use pua_policy::{CallTable, Process};
 use pua_tree::FileTree;
 use std::alloc::Global;
 
@@ -67,7 +67,8 @@ fn list_to<T: FileTree, S: Sink>(
     ensures { (h : History) → StandsFor process.now h → Tells (front.now ++ object_lines (T.content tree.now) (objects (T.content tree.now) standard_table h)) result
         (S.written sink.old) (S.written sink.new) (S.failed sink.old) (S.failed sink.new) }
 {
-    let Ok(mut list) = Objects::begin(alloc, tree, process) else {
+    let table = CallTable::standard();
+    let Ok(mut list) = Objects::begin(alloc, tree, process, &table) else {
         return Err(ToolFault::OutOfMemory);
     };
     let Ok(mut block) = Vec::with_capacity(alloc, BLOCK) else {
@@ -96,7 +97,7 @@ fn write_text<T: FileTree, S: Sink>(
 ) -> Result<(), PutFault>
     requires empty { block.old.items ≡ [] }
     requires room { BLOCK ≤ vec_capacity block.old }
-    ensures { (h : History) → StandsFor list.old.process h → Writes (front.now ++ object_lines list.old.tree (lines_of list.old.tree h list.old.left)) result
+    ensures { (h : History) → StandsFor list.old.process h → Writes (front.now ++ object_lines list.old.tree (lines_of list.old.tree list.old.table h list.old.left)) result
         (S.written sink.old) (S.written sink.new) (S.failed sink.old) (S.failed sink.new) }
 {
     put_all(sink, front.as_bytes())?;

@@ -8,6 +8,7 @@ ghost use Rattle.pua_tool.specs.Texts.{Replayed, as_listing, as_script, replayed
 ghost use Rattle.pua_tool.specs.Begun.{IsReplay};
 
 use crate::fault::ToolFault;
+use pua_policy::CallTable;
 use pua_script::{Answer, Script, ScriptFault, World, read_script};
 use pua_tree::{ListingFault, SlabTree, read_listing_slab};
 use std::alloc::Global;
@@ -35,7 +36,8 @@ pub(crate) fn replay_script(
 {
     let tree = read_tree(alloc, tree_bytes)?;
     let script = read_requests(alloc, script_bytes)?;
-    let Ok(mut world) = World::new(alloc, tree) else {
+    let table = CallTable::standard();
+    let Ok(mut world) = World::new(alloc, tree, table) else {
         return Err(ToolFault::OutOfMemory);
     };
     let Ok(told) = world.run(alloc, &script) else {

@@ -6,7 +6,7 @@ use crate::listed::listing_of;
 use anyhow::{Result, anyhow};
 use pua_audit::{Audit, Base};
 use pua_path::Counted;
-use pua_policy::Process;
+use pua_policy::{CallTable, Process};
 use pua_script::World;
 use pua_tree::FileTree;
 use std::alloc::Global;
@@ -37,7 +37,18 @@ pub(crate) fn process_seen<T: FileTree>(
     process: &Process,
 ) -> Result<Vec<u8>> {
     let mut probe = Counted::new(tree);
-    let begun = Audit::begin(alloc, &mut probe, process, Base::Root, &[b"new"], 2, None);
+    let table = CallTable::standard();
+    let names = &[b"new".as_slice()];
+    let begun = Audit::begin(
+        alloc,
+        &mut probe,
+        process,
+        &table,
+        Base::Root,
+        names,
+        2,
+        None,
+    );
     let mut audit = begun.map_err(|fault| anyhow!("{fault}"))?;
     let mut text = lines_of(alloc, tree, &mut audit)?;
     let dir = process.dir().number();

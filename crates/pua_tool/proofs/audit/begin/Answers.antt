@@ -1,7 +1,7 @@
 use Rattle.std.proofs.Common.{◌≡◌, ◌≢◌, sym, ◌∙◌, subst, Ok, Err}
 use Rattle.std.proofs.lemmas.Result.{err_from_is_err_and}
 use Rattle.pua_tree.specs.Tree.{Tree}
-use Rattle.pua_policy.specs.Calls.{standard_table}
+use Rattle.pua_policy.specs.Calls.{CallTable, standard_table}
 use Rattle.pua_script.specs.Replay.{history_of}
 use Rattle.pua_audit.specs.Begin.{beginning}
 use Rattle.pua_audit.specs.declared.fault.AuditFault.TheVariants as audit_fault
@@ -18,8 +18,9 @@ returns-in-Ok-clause-begun c =
     let begins = c.in-Ok.ensures.begun made.history made.stands in
     let of = c.in-Ok.ensures.of in
     let tree : c.new-probe.result.tree ≡ done.0.world.tree = c.new-probe.ensures.tree ∙ c.tree.ensures ∙ done.2.stands.tree in
+    let by_table = subst (λ (table : CallTable). beginning c.new-probe.result.tree table made.history w.base w.candidates w.limit w.after ≡ Ok begins.0) c.standard-table.ensures begins.1.0 in
     let same : beginning done.0.world.tree standard_table made.history w.base w.candidates w.limit w.after ≡ Ok begins.0 =
-    subst (λ (t : Tree). beginning t standard_table made.history w.base w.candidates w.limit w.after ≡ Ok begins.0) tree begins.1.0 in (
+    subst (λ (t : Tree). beginning t standard_table made.history w.base w.candidates w.limit w.after ≡ Ok begins.0) tree by_table in (
       record { told = done.0.told; beginning = begins.0 },
       begun_is standard_table c.args.tree_bytes.now c.args.script_bytes.now w done.0 made.history begins.0 done.1 made.is same,
       record {
@@ -56,8 +57,9 @@ returns-in-Err-clause-refused c =
     let told = c.of_audit.ensures in
     λ other. (
     let known : c.in-Err.fault ≢ audit_fault.OutOfMemory = λ is. other (told.memory is) in
+    let by_table = subst (λ (table : CallTable). beginning c.new-probe.result.tree table made.history w.base w.candidates w.limit w.after ≡ Err c.in-Err.fault) c.standard-table.ensures (c.in-Err.ensures.refused known made.history) in
     let same : beginning done.0.world.tree standard_table made.history w.base w.candidates w.limit w.after ≡ Err c.in-Err.fault =
-    subst (λ (t : Tree). beginning t standard_table made.history w.base w.candidates w.limit w.after ≡ Err c.in-Err.fault) tree (c.in-Err.ensures.refused known made.history) in
+    subst (λ (t : Tree). beginning t standard_table made.history w.base w.candidates w.limit w.after ≡ Err c.in-Err.fault) tree by_table in
     subst (λ fault. begun standard_table c.args.tree_bytes.now c.args.script_bytes.now w ≡ Err fault) (sym (told.audit known))
     (audit_refuses standard_table c.args.tree_bytes.now c.args.script_bytes.now w done.0 made.history c.in-Err.fault done.1 made.is same)
     )
