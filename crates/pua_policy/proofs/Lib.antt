@@ -1,6 +1,7 @@
 pub mod Sets
 pub mod CallBits
 pub mod Rows
+pub mod TableTexts
 pub mod Refusals
 pub mod Keywords
 pub mod Climbs

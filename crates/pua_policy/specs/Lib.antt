@@ -3,6 +3,7 @@ pub mod Promises
 pub mod Calls
 pub mod CallSets
 pub mod Tables
+pub mod TableTexts
 pub mod History
 pub mod Verdict
 pub mod Objects

@@ -1,9 +1,12 @@
 //! The table of calls: what each of them needs, as a value.
 
+mod read;
+
 use crate::call::Call;
 use crate::needs;
 use crate::perms::Perms;
 use crate::promises::Promises;
+pub use read::TableFault;
 use std::marker::Model;
 
 /// A call has at most so many sets of promises of which it needs one.
@@ -55,11 +58,28 @@ impl Model for CallTable {
     ghost inverse = { λ rules. record { rows = rules } };
 }
 
-ghost use Rattle.std.specs.Prelude.{◌≡◌, length};
+ghost use Rattle.std.specs.Prelude.{◌≡◌, ◌<◌, [], ◌∷◌, ◌++◌, length};
 ghost use Rattle.pua_policy.specs.Calls.{standard_rule, standard_table, rule_of};
-ghost use Rattle.pua_policy.specs.Tables.{NoCallNeedsError};
+ghost use Rattle.pua_policy.specs.Tables.{NeedsNoError, NoCallNeedsError, alternative_limit};
+ghost use Rattle.pua_policy.specs.TableTexts.{with_rule};
 
 impl Row {
+    /// A row without alternatives, and without permissions.
+    const NONE: Row = Row {
+        sets: [Promises::NONE; ALTERNATIVE_LIMIT],
+        count: 0,
+        perms: Perms::NONE,
+    };
+
+    /// Adds a set to the alternatives, behind the others.
+    fn add(&mut self, set: Promises)
+        requires { length self.old.alternatives < alternative_limit }
+        ensures { self.new ≡ record self.old { alternatives = self.old.alternatives ++ set ∷ [] } }
+    {
+        self.sets[self.count as usize] = set;
+        self.count += 1;
+    }
+
     /// What a call needs by this project's own table.
     fn standard(call: Call) -> Row
         ensures { result ≡ standard_rule call }
@@ -83,6 +103,14 @@ impl CallTable {
         CallTable {
             rows: Call::ALL.map(Row::standard),
         }
+    }
+
+    /// Puts a row in the place of a call's.
+    fn set(&mut self, call: Call, row: Row)
+        requires { NeedsNoError row }
+        ensures { self.new ≡ with_rule self.old call row }
+    {
+        self.rows[call.number() as usize - 1] = row;
     }
 
     /// The sets of promises of which a call needs one, each promise in it. At most 8.
