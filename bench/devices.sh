@@ -31,6 +31,14 @@ run run missing script
 expect 'no such file' 3 'pua: cannot read missing'
 run run tree missing
 expect 'no such script' 3 'pua: cannot read missing'
+run run --table missing tree script
+expect 'no such table' 3 'pua: cannot read missing'
+run run --table . tree script
+expect 'a directory as a table' 3 'pua: cannot read .'
+run run --table longer tree script
+expect 'a table one byte too long' 3 'pua: cannot read longer'
+run run --table longest tree script
+expect 'a table as long as may be' 1 'pua: table: bad toml'
 run run . script
 expect 'a directory' 3 'pua: cannot read .'
 run run longer script
@@ -39,7 +47,7 @@ run run longest script
 expect 'as long as may be' 1 'pua: listing: bad header'
 run run "$(printf '\377')" script
 expect 'a word that is no text' 2 \
-    'pua: usage: pua run TREE SCRIPT; pua objects [--process P] TREE SCRIPT; pua audit --limit N [--process P] [--base root|cwd] [--after CALL:PATH] TREE SCRIPT [NAME...]'
+    'pua: usage: pua run [--table FILE] TREE SCRIPT; pua objects [--process P] [--table FILE] TREE SCRIPT; pua audit --limit N [--process P] [--base root|cwd] [--after CALL:PATH] [--table FILE] TREE SCRIPT [NAME...]'
 "$program" audit --limit 1 tree script > /dev/full 2> told
 status=$?
 expect 'a full device' 3 'pua: cannot write'

@@ -26,6 +26,8 @@ printf '%s\n' '1 fork 2' '1 unveil /d rwc' '1 link /d/f /d/h' '2 link /g /d/i' '
 printf '%s\n' '1 unveil /etc/passwd r' '1 unveil - -' > one
 printf '%s\n' '1 pledge stdio,cpath -' '1 mkdir /d' '1 chdir /d' > makes
 printf '%s\n' '1 pledge stdio,,rpath -' > list
+printf '%s\n' '[chmod]' 'promises = ["fattr", "rpath"]' 'veil = "r"' 'stat = { promises = [""], veil = "" }' > nested
+printf '%s\n' 'stat = { promises = [""], veil = "" }' '[chmod]' 'promises = ["fattr", "rpath"]' 'veil = "r"' > calls
 : > none
 
 # Counts the run's answer, or prints that it is wrong.
@@ -81,12 +83,17 @@ sweep 'an audit of many lines' 0 audit --limit 6 tree none
 sweep 'an audit of further names' 0 audit --limit 2 --process 2 twice links
 sweep 'objects' 0 objects tree one
 sweep 'objects of another process' 0 objects --process 2 twice links
+sweep 'a run by a table' 0 run --table calls tree veils
+sweep 'an audit by a table' 0 audit --limit 3 --table calls tree one
+sweep 'objects by a table' 0 objects --table calls tree one
 sweep 'help' 0 --help
 sweep 'help of an audit' 0 audit --help
 sweep 'help of objects' 0 objects --help
 sweep 'the version' 0 --version
 sweep 'no words' 2
 sweep 'words of no command' 2 audit --limit x tree one
+sweep 'a table that is none' 1 run --table tree tree none
+sweep 'a table with a bad row' 1 run --table nested tree none
 sweep 'a listing that is cut' 1 run cut none
 sweep 'a further name of no node' 1 run lost none
 sweep 'a list with an empty word' 1 run tree list
@@ -94,5 +101,6 @@ sweep 'no such process' 1 audit --limit 1 --process 9 tree none
 sweep 'no such pair' 1 audit --limit 3 --after stat:/nope tree one
 sweep 'a limit too large' 1 audit --limit 17 tree none
 sweep 'no such file' 3 run tree missing
+sweep 'no such table' 3 run --table missing tree none
 echo "$runs runs, $wrong wrong"
 [ "$wrong" = 0 ]

@@ -144,6 +144,15 @@ def audits():
             row(f"`{name}`, limit {limit}", words, lines=300_000, less=NOTHING, count=True)
 
 
+def objects():
+    table("Lists of objects", "Lines")
+    row("4,096 nodes in 63 directories (`wide`)", ["objects", "wide", "empty"], count=True)
+    row("4,096 nodes, names in no order (`mixed`)", ["objects", "mixed", "empty"], count=True)
+    row("4,096 nodes, as many different names (`names`)", ["objects", "names", "empty"], count=True)
+    row("4,000 directories, each in the one before (`tower`)", ["objects", "tower", "empty"], count=True)
+    row("`names`, a veil on a file", ["objects", "names", "veil-names"], count=True)
+
+
 def peaks():
     print("\n| Peak memory | `pua` | plain Rust |\n|---|---|---|")
     memory("a run over an empty tree", list(NOTHING))
@@ -175,4 +184,5 @@ with tempfile.TemporaryDirectory() as room:
         print(f"`{name}`: {sum(1 for _ in open(name)) - 1} names")
     runs()
     audits()
+    objects()
     peaks()

@@ -1,5 +1,6 @@
-// What `pua run` and `pua audit` do, in plain Rust of one file, to compare with: the same text to the byte, by the rules
-// of docs/DEFINITIONS.md. Nothing here is proved. Built by `rustc -O pua.rs`; its words are those of `pua`.
+// What `pua run`, `pua audit` and `pua objects` do, in plain Rust of one file, to compare with: the same text to the
+// byte, by the rules of docs/DEFINITIONS.md. Nothing here is proved. Built by `rustc -O --edition 2024 pua.rs`; its
+// words are those of `pua`.
 
 use std::borrow::Cow;
 use std::collections::HashMap;
@@ -1098,6 +1099,13 @@ fn flush(out: &mut Vec<u8>) -> io::Result<()> {
     written
 }
 
+#[derive(Clone, Copy, PartialEq)]
+enum Command {
+    Run,
+    Objects,
+    Audit,
+}
+
 struct Words<'a> {
     limit: Option<u8>,
     process: u32,
@@ -1106,11 +1114,17 @@ struct Words<'a> {
     operands: Vec<&'a str>,
 }
 
-fn read_words(words: &[String]) -> Option<(bool, Words<'_>)> {
+fn read_words(words: &[String]) -> Option<(Command, Words<'_>)> {
     let (command, mut rest) = words.split_first()?;
-    let is_audit = command == "audit";
+    let command = match &command[..] {
+        "run" => Command::Run,
+        "objects" => Command::Objects,
+        "audit" => Command::Audit,
+        _ => return None,
+    };
+    let is_audit = command == Command::Audit;
     let mut read = Words { limit: None, process: 1, from_root: true, after: None, operands: Vec::new() };
-    let mut has_options = is_audit;
+    let mut has_options = command != Command::Run;
     while let [word, more @ ..] = rest {
         rest = more;
         if !has_options || !word.starts_with("--") {
@@ -1125,15 +1139,116 @@ fn read_words(words: &[String]) -> Option<(bool, Words<'_>)> {
             None => (&word[..], &rest.split_off_first()?[..]),
         };
         match option {
-            "--limit" if read.limit.is_none() => read.limit = Some(value.parse().ok()?),
             "--process" => read.process = value.parse().ok().filter(|process| (1..=999_999).contains(process))?,
+            _ if !is_audit => return None,
+            "--limit" if read.limit.is_none() => read.limit = Some(value.parse().ok()?),
             "--base" => read.from_root = *["root", "cwd"].iter().find(|base| value == **base)? == "root",
             "--after" => read.after = Some(value),
             _ => return None,
         }
     }
     let has_enough = if is_audit { read.limit.is_some() && read.operands.len() >= 2 } else { read.operands.len() == 2 };
-    ((is_audit || command == "run") && has_enough).then_some((is_audit, read))
+    has_enough.then_some((command, read))
+}
+
+/// A directory that is open: its names that are still to come, how long its path is, and what is left of names in it.
+struct OpenDir<'a> {
+    dir: u32,
+    names: std::vec::IntoIter<&'a [u8]>,
+    len: usize,
+    cover: Cover,
+}
+
+/// A list of objects.
+struct List<'a> {
+    tree: &'a Tree,
+    process: &'a Process,
+    path: Vec<u8>,
+    out: Vec<u8>,
+}
+
+impl<'a> List<'a> {
+    /// The line of what `path` leads to, if a call is allowed on it.
+    fn line(&mut self, kind: &str, cover: Cover, object: Object) -> io::Result<()> {
+        let mut calls = allowed(self.process.held(), cover, object);
+        if let Object::Node(Kind::Link) = object {
+            calls &= KEPT;
+        }
+        if calls == 0 {
+            return Ok(());
+        }
+        self.out.extend_from_slice(kind.as_bytes());
+        self.out.extend_from_slice(if self.path.is_empty() { b"/" } else { &self.path });
+        let mut before = b' ';
+        for (call, name, ..) in CALLS {
+            if calls & 1 << call as u16 != 0 {
+                self.out.push(before);
+                self.out.extend_from_slice(name.as_bytes());
+                before = b',';
+            }
+        }
+        self.out.push(b'\n');
+        if self.out.len() >= BLOCK { flush(&mut self.out) } else { Ok(()) }
+    }
+
+    /// The line of a directory and that of its further names; and the directory, open.
+    fn open(&mut self, dir: u32, rmdir: Option<Errno>, over: Cover) -> io::Result<OpenDir<'a>> {
+        let cover = self.process.on_dirs.get(&dir).copied().or(over);
+        self.line("dir ", cover, Object::Dir(rmdir))?;
+        self.line("other ", cover, Object::Missing)?;
+        let rows = self.tree.node(dir).rows.keys().map(|name| &**name);
+        let veiled = self.process.on_names.get(&dir).into_iter().flat_map(|names| names.keys().map(|name| &**name));
+        let mut names: Vec<&[u8]> = rows.chain(veiled).collect();
+        names.sort_unstable();
+        names.dedup();
+        Ok(OpenDir { dir, names: names.into_iter(), len: self.path.len(), cover })
+    }
+
+    /// The line of a name in a directory; and the directory, open, if it is one.
+    fn name(&mut self, dir: u32, name: &[u8], over: Cover) -> io::Result<Option<OpenDir<'a>>> {
+        self.path.push(b'/');
+        spell(&mut self.path, name);
+        let node = self.tree.node(dir).rows.get(name).copied();
+        let found = match node {
+            Some(node) if self.tree.node(node).kind == Kind::Dir => Found::Whole(node, Way::Named(dir, name)),
+            node => Found::Slot(dir, name, node),
+        };
+        let object = object(self.tree, found);
+        let kind = match object {
+            Object::Dir(rmdir) => return self.open(node.unwrap_or(ROOT), rmdir, over).map(Some),
+            Object::Missing => "missing ",
+            Object::Node(Kind::Prog) => "prog ",
+            Object::Node(Kind::Link) => "link ",
+            Object::Node(_) => "file ",
+        };
+        self.line(kind, self.process.kept_on_name(dir, name).or(over), object)?;
+        Ok(None)
+    }
+
+    fn write(mut self) -> io::Result<()> {
+        let over = if self.process.veils == 0 { Some(ALL) } else { None };
+        let mut open = vec![self.open(ROOT, Some("EBUSY"), over)?];
+        while let Some(inner) = open.last_mut() {
+            self.path.truncate(inner.len);
+            let (dir, cover) = (inner.dir, inner.cover);
+            match inner.names.next() {
+                Some(name) => open.extend(self.name(dir, name, cover)?),
+                None => drop(open.pop()),
+            }
+        }
+        flush(&mut self.out)
+    }
+}
+
+fn objects(world: &World, words: &Words, mut front: Vec<u8>) -> Result<(), (u8, String)> {
+    let process = world.processes.get(&words.process).ok_or_else(|| (1, "pua: no such process".to_string()))?;
+    let _ = writeln!(front, "objects {}", words.process);
+    let cannot_write = |_| (3, "pua: cannot write".to_string());
+    if process.has_ended {
+        return flush(&mut front).map_err(cannot_write);
+    }
+    let list = List { tree: &world.tree, process, path: Vec::new(), out: front };
+    list.write().map_err(cannot_write)
 }
 
 fn audit(world: &World, words: &Words, front: Vec<u8>) -> Result<(), (u8, String)> {
@@ -1193,7 +1308,7 @@ fn printed(letter: &[u8]) -> Vec<u8> {
     text
 }
 
-fn perform(is_audit: bool, words: &Words) -> Result<(), (u8, String)> {
+fn perform(command: Command, words: &Words) -> Result<(), (u8, String)> {
     let take = |file: &str| match fs::read(file) {
         Ok(bytes) if bytes.len() <= 64 << 20 => Ok(bytes),
         _ => Err((3, format!("pua: cannot read {file}"))),
@@ -1207,19 +1322,21 @@ fn perform(is_audit: bool, words: &Words) -> Result<(), (u8, String)> {
         let answer = world.serve(*process, action);
         let _ = writeln!(out, "{} {answer}", at + 1);
     }
-    if is_audit {
-        return audit(&world, words, out);
+    match command {
+        Command::Run => flush(&mut out).map_err(|_| (3, "pua: cannot write".into())),
+        Command::Objects => objects(&world, words, out),
+        Command::Audit => audit(&world, words, out),
     }
-    flush(&mut out).map_err(|_| (3, "pua: cannot write".into()))
 }
 
-const USAGE: &str = "pua: usage: pua run TREE SCRIPT; pua audit --limit N [--process P] [--base root|cwd] \
-                     [--after CALL:PATH] TREE SCRIPT [NAME...]";
+/// That of the program beside which this one stands. Here no table is read.
+const USAGE: &str = "pua: usage: pua run [--table FILE] TREE SCRIPT; pua objects [--process P] [--table FILE] TREE SCRIPT; \
+                     pua audit --limit N [--process P] [--base root|cwd] [--after CALL:PATH] [--table FILE] TREE SCRIPT [NAME...]";
 
 fn main() -> ExitCode {
     let words: Vec<String> = std::env::args().skip(1).collect();
     let done = match read_words(&words) {
-        Some((is_audit, words)) => perform(is_audit, &words),
+        Some((command, words)) => perform(command, &words),
         None => Err((2, USAGE.into())),
     };
     match done {

@@ -5,7 +5,6 @@ use Rattle.pua_tree.specs.Tree.{WellFormed}
 use Rattle.pua_path.specs.Paths.{part_of}
 use Rattle.pua_path.specs.declared.found.Part.{Part}
 use Rattle.pua_path.specs.declared.found.Part.TheVariants as part
-use Rattle.pua_policy.specs.Calls.{standard_table}
 use Rattle.pua_policy.specs.History.{StandsFor}
 use Rattle.pua_audit.specs.Past.{history_of}
 use Rattle.pua_audit.specs.Limits.{path_limit}
@@ -26,11 +25,11 @@ abbrev pub letters_of : Terms → List (List ℕ)
 letters_of a = map part_bytes a.letters.items
 
 abbrev pub judge_in : Terms → Judge
-judge_in a = judge_of a.seen.tree standard_table a.base (history_of a.process)
+judge_in a = judge_of a.seen.tree a.table a.base (history_of a.process)
 
 -- what is audited
 abbrev pub scope_in : Terms → Scope
-scope_in a = record { tree = a.seen.tree; table = standard_table; history = history_of a.process; base = a.base; alphabet = letters_of a; limit = a.limit }
+scope_in a = record { tree = a.seen.tree; table = a.table; history = history_of a.process; base = a.base; alphabet = letters_of a; limit = a.limit }
 
 -- the letters at some places of the alphabet
 unfoldable pub word_of : List (List ℕ) → List ℕ → Word

@@ -2,7 +2,6 @@
 
 ghost use Rattle.std.specs.Prelude.{◌≡◌, ◌≢◌, ◌≤◌, ◌+◌, Ok, Err, IfOk, IfErr, IfSome, IsTrue, length, map, option_map};
 ghost use Rattle.std.specs.Borrow.{sem};
-ghost use Rattle.pua_policy.specs.Calls.{standard_table};
 ghost use Rattle.pua_policy.specs.History.{History, StandsFor};
 ghost use Rattle.pua_audit.specs.Limits.{path_limit};
 ghost use Rattle.pua_audit.specs.Bounds.{begin_cost, letter_count};
@@ -20,7 +19,7 @@ use crate::pairs::Pairs;
 use crate::path::lent_path;
 use crate::terms::Terms;
 use pua_path::Probe;
-use pua_policy::Process;
+use pua_policy::{CallTable, Process};
 use std::alloc::Global;
 use std::marker::Model;
 
@@ -58,8 +57,8 @@ impl Model for Audit {
 impl Audit {
     /// Begins the audit of a process over the tree of a probe: by paths from this base, of at most
     /// `limit` letters, each a name of the tree's rows, `..` or a candidate; from its first line, or
-    /// from the one behind the pair that a text `CALL:PATH` names. The process is copied, so what
-    /// becomes of it later changes nothing. What is to come is the same for each history that the
+    /// from the one behind the pair that a text `CALL:PATH` names. What a call needs is told by the
+    /// table. The process and the table are copied, so what becomes of them later changes nothing. What is to come is the same for each history that the
     /// process stands for.
     ///
     /// The errors come in the order of `AuditFault`'s page, but that `OutOfMemory` comes wherever a
@@ -73,20 +72,21 @@ impl Audit {
         alloc: Global,
         probe: &mut P,
         process: &Process,
+        table: &CallTable,
         base: Base,
         candidates: &[&[u8]],
         limit: u8,
         after: Option<&[u8]>,
     ) -> Result<Audit, AuditFault>
         ensures begun { IfOk result (λ audit. (h : History) → StandsFor process.now h → (b : Beginning) ×
-            ((beginning (P.tree probe.old) standard_table h base (map (λ s. s.now) candidates.now) limit (option_map (λ s. s.now) after.entry) ≡ Ok b) × (audit.left ≡ still_to_come b) × (b.scope.base ≡ base))) }
+            ((beginning (P.tree probe.old) table.now h base (map (λ s. s.now) candidates.now) limit (option_map (λ s. s.now) after.entry) ≡ Ok b) × (audit.left ≡ still_to_come b) × (b.scope.base ≡ base))) }
         ensures of { IfOk result (λ audit. (audit.tree ≡ P.tree probe.old) × (audit.base ≡ base)) }
         ensures refused { IfErr result (λ fault. fault ≢ AuditFault.OutOfMemory → (h : History) →
-            beginning (P.tree probe.old) standard_table h base (map (λ s. s.now) candidates.now) limit (option_map (λ s. s.now) after.entry) ≡ Err fault) }
+            beginning (P.tree probe.old) table.now h base (map (λ s. s.now) candidates.now) limit (option_map (λ s. s.now) after.entry) ≡ Err fault) }
         ensures letters { IfOk result (λ audit. (h : History) (b : Beginning) →
-            beginning (P.tree probe.old) standard_table h base (map (λ s. s.now) candidates.now) limit (option_map (λ s. s.now) after.entry) ≡ Ok b → audit.alphabet ≡ b.scope.alphabet) }
+            beginning (P.tree probe.old) table.now h base (map (λ s. s.now) candidates.now) limit (option_map (λ s. s.now) after.entry) ≡ Ok b → audit.alphabet ≡ b.scope.alphabet) }
         ensures live { IfOk result (λ audit. (h : History) → StandsFor process.now h → (b : Beginning) →
-            beginning (P.tree probe.old) standard_table h base (map (λ s. s.now) candidates.now) limit (option_map (λ s. s.now) after.entry) ≡ Ok b → audit.live ≡ length (live_states b.scope)) }
+            beginning (P.tree probe.old) table.now h base (map (λ s. s.now) candidates.now) limit (option_map (λ s. s.now) after.entry) ≡ Ok b → audit.live ≡ length (live_states b.scope)) }
         ensures reads { IfOk result (λ audit. audit.reads ≡ 0) }
         ensures limit { IfOk result (λ audit. audit.limit ≡ limit) }
         ensures tree { P.tree probe.new ≡ P.tree probe.old }
@@ -96,7 +96,7 @@ impl Audit {
         let Checked { letters, after } = beginning::check(
             alloc, probe, base, candidates, limit, after,
         )?;
-        let Ok(terms) = Terms::new(alloc, &*probe, process, base, limit, letters) else {
+        let Ok(terms) = Terms::new(alloc, &*probe, process, table, base, limit, letters) else {
             return Err(AuditFault::OutOfMemory);
         };
         let Ok(pairs) = Pairs::begin(alloc, probe, terms, after) else {

@@ -1,7 +1,6 @@
 //! What an audit is of.
 
 ghost use Rattle.std.specs.Prelude.{◌≡◌, ◌≤◌, ◌+◌, ◌*◌, suc, map, IfOk};
-ghost use Rattle.pua_policy.specs.Calls.{standard_table};
 ghost use Rattle.pua_policy.specs.History.{StandsFor};
 ghost use Rattle.pua_audit.specs.Alphabets.{AreParts};
 ghost use Rattle.pua_audit.specs.Limits.{path_limit};
@@ -15,28 +14,31 @@ use crate::alphabet::longest;
 use crate::base::Base;
 use crate::content::Content;
 use pua_path::{Part, Probe, Way};
-use pua_policy::Process;
+use pua_policy::{CallTable, Process};
 use pua_tree::{Kind, NodeId, OutOfMemory};
 use std::alloc::Global;
 
-/// What an audit is of: a process, where paths begin, the most letters of a word, and the letters in
-/// the order of their bytes.
+/// What an audit is of: a process, the table of what calls need, where paths begin, the most letters
+/// of a word, and the letters in the order of their bytes.
 #[derive(Drop)]
 pub(crate) struct Terms {
     pub(crate) seen: Content,
     pub(crate) process: Process,
+    pub(crate) table: CallTable,
     pub(crate) base: Base,
     pub(crate) limit: usize,
     pub(crate) letters: Vec<Part>,
 }
 
 impl Terms {
-    /// What an audit of a copy of a process is of, over the tree of a probe, by words of at most so
-    /// many of these letters. `OutOfMemory` where the growth for the copy was refused.
+    /// What an audit of a copy of a process is of, by a copy of a table, over the tree of a probe, by
+    /// words of at most so many of these letters. `OutOfMemory` where the growth for the process was
+    /// refused.
     pub(crate) fn new<'t, P: Probe<'t>>(
         alloc: Global,
         probe: &P,
         process: &Process,
+        table: &CallTable,
         base: Base,
         limit: u8,
         letters: Vec<Part>,
@@ -45,7 +47,7 @@ impl Terms {
         requires parts { AreParts letters.items }
         requires short { limit * suc (longest (map part_bytes letters.items)) ≤ path_limit }
         ensures sound { IfOk result (λ terms. IsSound terms) }
-        ensures scope { IfOk result (λ terms. scope_in terms ≡ scope_with (P.tree probe.now) standard_table (history_of process.now) base limit letters.items) }
+        ensures scope { IfOk result (λ terms. scope_in terms ≡ scope_with (P.tree probe.now) table.now (history_of process.now) base limit letters.items) }
         ensures letters { IfOk result (λ terms. (terms.limit ≡ limit) × (terms.letters ≡ letters)) }
     {
         probe.known();
@@ -53,6 +55,7 @@ impl Terms {
         Ok(Terms {
             seen: Content::of(probe),
             process,
+            table: *table,
             base,
             limit: usize::from(limit),
             letters,

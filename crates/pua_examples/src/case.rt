@@ -111,7 +111,13 @@ impl Case {
         let Ok(mut sink) = MemorySink::new(alloc, ROOM) else {
             return Err(anyhow!("out of memory"));
         };
-        match run_to(alloc, self.listing.as_bytes(), script.as_bytes(), &mut sink) {
+        match run_to(
+            alloc,
+            self.listing.as_bytes(),
+            script.as_bytes(),
+            None,
+            &mut sink,
+        ) {
             Ok(()) => Ok(sink),
             Err(_) => Err(anyhow!("not run: {script}")),
         }
@@ -195,10 +201,7 @@ impl Case {
         if let Some(after) = after {
             words.extend_from_slice(&["--after", after])?;
         }
-        let files = Files {
-            tree: self.listing.as_bytes(),
-            script: self.script.as_bytes(),
-        };
+        let files = Files::new(self.listing.as_bytes(), self.script.as_bytes());
         let written = files.written(alloc, words.as_slice(), ROOM)?;
         let is_whole = written.status == 0 && written.err.bytes().is_empty();
         Ok(if is_whole { Some(written.out) } else { None })

@@ -65,10 +65,7 @@ fn are_names(alloc: Global) -> Result<bool> {
 
 /// Whether an audit with a limit writes this.
 fn writes(alloc: Global, tree: &str, script: &str, limit: &str, output: &str) -> Result<bool> {
-    let files = Files {
-        tree: tree.as_bytes(),
-        script: script.as_bytes(),
-    };
+    let files = Files::new(tree.as_bytes(), script.as_bytes());
     let words = ["audit", "--limit", limit, "TREE", "SCRIPT"];
     let written = files.written(alloc, &words, ROOM)?;
     Ok(written.is(0, output.as_bytes(), b""))

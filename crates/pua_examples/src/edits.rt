@@ -4,6 +4,7 @@
 use crate::generator::{NAMES, Random};
 use crate::written::as_expected;
 use anyhow::{Result, anyhow};
+use pua_policy::CallTable;
 use pua_script::{Answer, World, read_script};
 use pua_tree::{FileTree, Kind, Name, NodeId, TreeFault, read_listing, read_listing_slab};
 use std::alloc::Global;
@@ -53,7 +54,8 @@ fn are_new(alloc: Global) -> Result<bool> {
 
 /// Whether the script is answered `ok` throughout, and gives numbers that were never given.
 fn are_given_once<T: FileTree + Drop>(alloc: Global, tree: T) -> Result<bool> {
-    let mut world = World::new(alloc, tree).map_err(|fault| anyhow!("{fault}"))?;
+    let table = CallTable::standard();
+    let mut world = World::new(alloc, tree, table).map_err(|fault| anyhow!("{fault}"))?;
     let script = read_script(alloc, SCRIPT).map_err(|fault| anyhow!("{fault}"))?;
     let told = world
         .run(alloc, &script)

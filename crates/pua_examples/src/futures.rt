@@ -8,7 +8,7 @@ use crate::reached::{is_within, reached};
 use crate::spared::spared;
 use anyhow::{Result, anyhow};
 use pua_audit::Base;
-use pua_policy::{Call, May, Process, Promises};
+use pua_policy::{Call, CallTable, May, Process, Promises};
 use pua_script::{Action, Answer, Request, World, read_script};
 use pua_tree::{ListTree, read_listing};
 use std::alloc::Global;
@@ -61,7 +61,8 @@ pub(crate) fn run(rt: &HostRuntime) -> Result<()> {
 fn is_held(alloc: Global, listing: &str, script: &str, counts: &mut Counts) -> Result<bool> {
     let tree = read_listing(alloc, listing.as_bytes()).map_err(|fault| anyhow!("{fault}"))?;
     let script = read_script(alloc, script.as_bytes()).map_err(|fault| anyhow!("{fault}"))?;
-    let mut world = World::new(alloc, tree).map_err(|fault| anyhow!("{fault}"))?;
+    let table = CallTable::standard();
+    let mut world = World::new(alloc, tree, table).map_err(|fault| anyhow!("{fault}"))?;
     for request in script.requests() {
         if !is_served(alloc, &mut world, request, counts)? {
             return Ok(false);

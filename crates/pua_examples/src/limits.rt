@@ -63,10 +63,7 @@ impl Case {
         output: &str,
         fault: &str,
     ) -> Result<bool> {
-        let files = Files {
-            tree: self.tree.as_bytes(),
-            script: self.script.as_bytes(),
-        };
+        let files = Files::new(self.tree.as_bytes(), self.script.as_bytes());
         let written = files.written(alloc, words, LARGE)?;
         Ok(written.is(status, output.as_bytes(), fault.as_bytes()))
     }

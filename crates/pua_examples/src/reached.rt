@@ -5,7 +5,7 @@ ghost use Rattle.std.specs.Prelude.{◌≡◌};
 use anyhow::{Result, anyhow};
 use pua_audit::{Audit, Base};
 use pua_path::Counted;
-use pua_policy::Process;
+use pua_policy::{CallTable, Process};
 use pua_tree::ListTree;
 use std::alloc::Global;
 
@@ -23,12 +23,15 @@ pub(crate) fn reached(
     base: Base,
 ) -> Result<Vec<u8>> {
     let mut probe = Counted::new(tree);
-    let begun = Audit::begin(alloc, &mut probe, process, base, &LETTERS, LIMIT, None);
+    let table = CallTable::standard();
+    let begun = Audit::begin(
+        alloc, &mut probe, process, &table, base, &LETTERS, LIMIT, None,
+    );
     let mut audit = begun.map_err(|fault| anyhow!("{fault}"))?;
     lines_of(alloc, tree, &mut audit)
 }
 
-/// All lines that an audit has still to lend: each path in plain bytes, and the call behind a blank.
+/// All lines that an audit has still to lend: each path in plain bytes, and the call after a blank.
 fn lines_of(alloc: Global, tree: &ListTree, audit: &mut Audit) -> Result<Vec<u8>>
     requires { audit.old.tree ≡ tree.now }
 {

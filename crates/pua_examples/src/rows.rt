@@ -1,4 +1,4 @@
-//! The table of rows: what commands over small listings and scripts write. Each command whose inputs
+//! The table of rows: what commands over small listings, scripts and tables of calls write. Each command whose inputs
 //! are there is also done by calls of the libraries, over each kind of tree. Each audit that a row has
 //! whole is also cut after each of its lines and resumed there.
 
@@ -10,8 +10,7 @@ use pua_tool::DEVICE;
 use std::alloc::Global;
 use std::fs;
 
-/// The words before the operands of the commands that refuse an input. The last one's limit is
-/// refused too, though later.
+/// The words of the commands that refuse an input. The last one's limit is refused too, though later.
 const REFUSING: [&[&str]; 4] = [
     &["run", "TREE", "SCRIPT"],
     &["objects", "TREE", "SCRIPT"],
@@ -19,10 +18,16 @@ const REFUSING: [&[&str]; 4] = [
     &["audit", "--limit", "17", "TREE", "SCRIPT"],
 ];
 
+/// What they have in addition where there is a table of calls.
+const WITH_TABLE: [&str; 2] = ["--table", "TABLE"];
+
 /// The listing beside a script with a fault.
 const ROOT: &str = "tree 1\n0 dir\n";
 
-/// The script beside a listing with a fault: it has one too.
+/// The listing beside a table with a fault: it has one too.
+const NO_LISTING: &str = "tree 0";
+
+/// The script beside a listing or a table with a fault: it has one too.
 const NO_SCRIPT: &str = "0";
 
 /// Prints a line for each part of the table that is not as expected, over either kind of tree, or
@@ -59,10 +64,7 @@ fn run_rows(rt: &HostRuntime, table: &Table) -> Result<()> {
         let Some(tree) = table.tree.get(row.tree.as_str()) else {
             return Err(anyhow!("{}: there is no tree {}", row.name, row.tree));
         };
-        let files = Files {
-            tree: tree.listing.as_bytes(),
-            script: row.script.as_bytes(),
-        };
+        let files = row.files(tree);
         match judged(alloc, row, &files)? {
             Some(lines) => resumed = resumed.saturating_add(lines),
             None => println!(rt; "not as expected ({}): {}", row.from, row.name)?,
@@ -75,25 +77,22 @@ fn run_rows(rt: &HostRuntime, table: &Table) -> Result<()> {
 /// Whether words are answered as no command.
 fn is_misused(alloc: Global, misused: &Misused, usage: &str) -> Result<bool> {
     let words: Vec<&str> = misused.command.as_str().split_whitespace().collect(alloc)?;
-    let files = Files {
-        tree: ROOT.as_bytes(),
-        script: b"",
-    };
+    let files = Files::new(ROOT.as_bytes(), b"");
     let usage = ended(alloc, usage)?;
     let written = files.written(alloc, words.as_slice(), SMALL)?;
     Ok(written.is(2, b"", usage.as_bytes()))
 }
 
-/// Whether a listing or a script is refused by each command.
+/// Whether a listing, a script or a table is refused by each command.
 fn is_refused(alloc: Global, refused: &Refused) -> Result<bool> {
-    let tree = refused.listing.as_ref().map_or(ROOT, String::as_str);
-    let script = refused.script.as_ref().map_or(NO_SCRIPT, String::as_str);
-    let files = Files {
-        tree: tree.as_bytes(),
-        script: script.as_bytes(),
-    };
+    let files = refused_files(refused);
     let fault = ended(alloc, refused.fault.as_str())?;
-    for words in &REFUSING {
+    for command in &REFUSING {
+        let mut words = Vec::from_slice(alloc, command)?;
+        if files.table.is_some() {
+            words.extend_from_slice(&WITH_TABLE)?;
+        }
+        let words = words.as_slice();
         let written = files.written(alloc, words, SMALL)?;
         let is_reported = written.is(1, b"", fault.as_bytes());
         if !is_reported || !are_alike(alloc, words, &files, "", fault.as_str())? {
@@ -101,6 +100,19 @@ fn is_refused(alloc: Global, refused: &Refused) -> Result<bool> {
         }
     }
     Ok(true)
+}
+
+/// The files of which the one that is given has a fault. So have those that are judged after it.
+fn refused_files(refused: &Refused) -> Files<'_> {
+    let table = refused.table.as_ref().map(String::as_bytes);
+    let tree = if table.is_some() { NO_LISTING } else { ROOT };
+    let tree = refused.listing.as_ref().map_or(tree, String::as_str);
+    let script = refused.script.as_ref().map_or(NO_SCRIPT, String::as_str);
+    Files {
+        tree: tree.as_bytes(),
+        script: script.as_bytes(),
+        table,
+    }
 }
 
 /// After how many lines a row's audit was resumed: none where the row has no whole audit. None

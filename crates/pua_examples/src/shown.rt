@@ -26,6 +26,7 @@ const COLUMNS: usize = 80;
 const NO_FILES: Files<'static> = Files {
     tree: b"",
     script: b"",
+    table: None,
 };
 
 /// Prints a line for the version, and one for help.

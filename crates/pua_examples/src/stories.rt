@@ -1,5 +1,5 @@
 //! The stories: each folder has a listing, a script, the words of a command over them, and what it
-//! writes; and the same of a list of objects.
+//! writes; and the same of a list of objects. One has a table of calls too, and further commands.
 
 use crate::written::{SMALL, as_expected, run_command};
 use anyhow::Result;
@@ -8,28 +8,41 @@ use std::fs;
 use std::rt::Files;
 
 /// The folders of the stories.
-const STORIES: [&str; 11] = [
+pub(crate) const STORIES: [&str; 12] = [
     "first-run",
     "links",
     "wide-veil",
     "narrow-veil",
     "link-out",
-    "made-again",
+    "new-spool",
     "separated-pair",
     "web-logger",
     "dhcp-client",
     "patch",
     "second-name",
+    "free-stat",
 ];
 
-/// Prints a line for each folder, which says whether its two commands write what the folder has; and
-/// one for a command whose listing isn't there.
+/// The further commands of the story with a table: a run, the objects of its child, and its objects by
+/// the standard table.
+const WITH_TABLE: [(&str, &str); 3] = [
+    ("run-command", "run-output"),
+    ("child-command", "child-output"),
+    ("standard-command", "standard-output"),
+];
+
+/// Prints a line for each folder, which says whether its two commands write what the folder has; one
+/// for each further command of the story with a table; and one for a command whose listing isn't there.
 pub(crate) fn run(rt: &HostRuntime) -> Result<()> {
     for story in &STORIES {
         let is_told = is_so(rt, story, "command", "output")?;
         let is_listed = is_so(rt, story, "objects-command", "objects-output")?;
         let seen = as_expected(is_told && is_listed);
         println!(rt; "{story}: {seen}")?;
+    }
+    for (command, output) in &WITH_TABLE {
+        let seen = as_expected(is_so(rt, "free-stat", command, output)?);
+        println!(rt; "free-stat, {command}: {seen}")?;
     }
     let seen = as_expected(is_missed(rt)?);
     println!(rt; "a listing that is not there: {seen}")?;

@@ -1,5 +1,6 @@
 //! The table of rows, as its file has it.
 
+use crate::written::Files;
 use anyhow::Result;
 use serde::Deserialize;
 use std::alloc::Global;
@@ -29,7 +30,7 @@ pub(crate) struct Misused {
     pub(crate) command: String,
 }
 
-/// A listing or a script with a fault.
+/// A listing, a script or a table of calls with a fault.
 #[derive(Drop, Deserialize)]
 pub(crate) struct Refused {
     pub(crate) name: String,
@@ -37,10 +38,11 @@ pub(crate) struct Refused {
     pub(crate) from: String,
     pub(crate) listing: Option<String>,
     pub(crate) script: Option<String>,
+    pub(crate) table: Option<String>,
     pub(crate) fault: String,
 }
 
-/// A command over the files TREE and SCRIPT, and what it writes.
+/// A command over the files TREE and SCRIPT, and TABLE if there is one, and what it writes.
 #[derive(Drop, Deserialize)]
 pub(crate) struct Row {
     pub(crate) name: String,
@@ -50,6 +52,7 @@ pub(crate) struct Row {
     pub(crate) tree: String,
     #[serde(default)]
     pub(crate) script: String,
+    pub(crate) table: Option<String>,
     #[serde(default)]
     pub(crate) answers: String,
     pub(crate) reach: Option<u32>,
@@ -65,7 +68,16 @@ pub(crate) struct Row {
 }
 
 impl Row {
-    /// The text that the row's command writes: each answer behind the number of its line; of an audit
+    /// The files that the row's command reads, over a listing.
+    pub(crate) fn files<'a>(&'a self, tree: &'a Tree) -> Files<'a> {
+        Files {
+            tree: tree.listing.as_bytes(),
+            script: self.script.as_bytes(),
+            table: self.table.as_ref().map(String::as_bytes),
+        }
+    }
+
+    /// The text that the row's command writes: each answer after the number of its line; of an audit
     /// the line `reach P`, and a line for each pair; of a list of objects the line `objects P`, and
     /// its lines.
     pub(crate) fn output(&self, alloc: Global) -> Result<String> {

@@ -9,8 +9,9 @@ use anyhow::{Result, anyhow};
 use pua_audit::Audit;
 use pua_objects::Objects;
 use pua_path::{Counted, Probe};
+use pua_policy::CallTable;
 use pua_script::{Answer, World, read_script};
-use pua_tool::{AuditWords, ObjectWords, Text, ToolFault};
+use pua_tool::{AuditWords, Command, ObjectWords, Text, ToolFault};
 use pua_tree::{FileTree, ListingFault, byte_spelling, read_listing, read_listing_slab};
 use pua_words::read_words;
 use std::alloc::{AllocError, Global};
@@ -27,14 +28,8 @@ pub(crate) fn are_alike(
     let Ok(command) = read_words(alloc, words) else {
         return Err(anyhow!("these words are no command"));
     };
-    let text = &command.text;
-    let listed = text_over(alloc, read_listing(alloc, files.tree), files.script, text);
-    let slotted = text_over(
-        alloc,
-        read_listing_slab(alloc, files.tree),
-        files.script,
-        text,
-    );
+    let listed = text_over(alloc, read_listing(alloc, files.tree), files, &command);
+    let slotted = text_over(alloc, read_listing_slab(alloc, files.tree), files, &command);
     Ok(is_written(alloc, &listed, output, fault)? && is_written(alloc, &slotted, output, fault)?)
 }
 
@@ -58,27 +53,40 @@ fn is_written(
 fn text_over<T: FileTree + Drop>(
     alloc: Global,
     tree: Result<T, ListingFault>,
-    script: &[u8],
-    asked: &Text<'_>,
+    files: &Files<'_>,
+    command: &Command<'_>,
 ) -> Result<Vec<u8>, ToolFault> {
+    let table = table_of(alloc, files, command)?;
     let tree = match tree {
         Ok(tree) => tree,
         Err(fault) => return Err(ToolFault::Listing(fault)),
     };
-    let script = match read_script(alloc, script) {
+    let script = match read_script(alloc, files.script) {
         Ok(script) => script,
         Err(fault) => return Err(ToolFault::Script(fault)),
     };
-    let Ok(mut world) = World::new(alloc, tree) else {
+    let Ok(mut world) = World::new(alloc, tree, table) else {
         return Err(ToolFault::OutOfMemory);
     };
     let Ok(told) = world.run(alloc, &script) else {
         return Err(ToolFault::OutOfMemory);
     };
-    match asked {
+    match &command.text {
         Text::Run => or_memory(answer_lines(alloc, told.as_slice())),
         Text::Objects(words) => object_text(alloc, &world, told.as_slice(), words),
         Text::Audit(words) => audit_lines(alloc, &world, told.as_slice(), words),
+    }
+}
+
+/// The table of calls that a command names, or the standard one where it names none.
+pub(crate) fn table_of(
+    alloc: Global,
+    files: &Files<'_>,
+    command: &Command<'_>,
+) -> Result<CallTable, ToolFault> {
+    match (command.table, files.table) {
+        (Some(_), Some(text)) => CallTable::read(alloc, text).map_err(ToolFault::Table),
+        _ => Ok(CallTable::standard()),
     }
 }
 
@@ -106,7 +114,7 @@ fn object_text<T: FileTree>(
     let Some(process) = world.process(words.process) else {
         return Err(ToolFault::NoProcess);
     };
-    let Ok(mut list) = Objects::begin(alloc, world.tree(), process) else {
+    let Ok(mut list) = Objects::begin(alloc, world.tree(), process, world.table()) else {
         return Err(ToolFault::OutOfMemory);
     };
     let front = or_memory(headed_lines(alloc, told, "objects", words.process))?;
@@ -129,6 +137,7 @@ fn audit_lines<T: FileTree>(
         alloc,
         &mut probe,
         process,
+        world.table(),
         words.base,
         names,
         words.limit,

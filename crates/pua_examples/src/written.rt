@@ -37,17 +37,36 @@ pub(crate) fn run_command<I: Inputs>(
     Ok(Written { status, out, err })
 }
 
-/// The bytes of the files TREE and SCRIPT.
+/// The bytes of the files TREE and SCRIPT, and of the file TABLE, if there is one.
 #[derive(Clone, Copy)]
 pub(crate) struct Files<'a> {
     pub(crate) tree: &'a [u8],
     pub(crate) script: &'a [u8],
+    pub(crate) table: Option<&'a [u8]>,
 }
 
-impl Files<'_> {
+impl<'a> Files<'a> {
+    /// A listing and a script, and no table of calls.
+    pub(crate) fn new(tree: &'a [u8], script: &'a [u8]) -> Files<'a> {
+        Files {
+            tree,
+            script,
+            table: None,
+        }
+    }
+
     /// Runs a command over these files, with room for so many bytes of output.
     pub(crate) fn written(&self, alloc: Global, words: &[&str], room: usize) -> Result<Written> {
-        let entries = [("TREE", self.tree), ("SCRIPT", self.script)];
+        let Some(table) = self.table else {
+            let entries = [("TREE", self.tree), ("SCRIPT", self.script)];
+            let mut inputs = MemoryInputs::new(&entries);
+            return run_command(alloc, words, &mut inputs, room);
+        };
+        let entries = [
+            ("TREE", self.tree),
+            ("SCRIPT", self.script),
+            ("TABLE", table),
+        ];
         let mut inputs = MemoryInputs::new(&entries);
         run_command(alloc, words, &mut inputs, room)
     }

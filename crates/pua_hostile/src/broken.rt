@@ -27,6 +27,7 @@ const SHORT: Audited<'static> = Audited {
         process: 1,
         base: Base::Root,
         after: None,
+        table: None,
         candidates: &[b"a"],
     },
 };
@@ -44,6 +45,7 @@ const LONG: Audited<'static> = Audited {
         process: 1,
         base: Base::Root,
         after: None,
+        table: None,
         candidates: &[],
     },
 };

@@ -1,7 +1,9 @@
-//! Each front of a listing and of a script: it is accepted, or refused with its named fault.
+//! Each front of a listing, of a script and of a table of calls: it is accepted, or refused with its
+//! named fault.
 
 use crate::listed::listing_of;
 use crate::rows::read_row;
+use crate::tables::{TABLE, is_table};
 use crate::trees::ListedTree;
 use crate::{LISTING, SCRIPT};
 use anyhow::Result;
@@ -15,6 +17,7 @@ use std::fs;
 enum Whole {
     Listing,
     Script,
+    Table,
 }
 
 impl Whole {
@@ -22,6 +25,7 @@ impl Whole {
         match self {
             Whole::Listing => LISTING,
             Whole::Script => SCRIPT,
+            Whole::Table => TABLE,
         }
     }
 
@@ -33,6 +37,7 @@ impl Whole {
                 Ok(is_listed && is_listing::<SlabTree>(alloc, front, answer)?)
             }
             Whole::Script => is_script(alloc, front, answer),
+            Whole::Table => is_table(alloc, front, answer),
         }
     }
 }
@@ -40,7 +45,8 @@ impl Whole {
 /// Prints a line for each front that is answered otherwise than its table says, and how many there are.
 pub(crate) fn run(rt: &HostRuntime) -> Result<()> {
     fronts(rt, "listing-fronts", Whole::Listing)?;
-    fronts(rt, "script-fronts", Whole::Script)
+    fronts(rt, "script-fronts", Whole::Script)?;
+    fronts(rt, "table-fronts", Whole::Table)
 }
 
 /// The fronts of a table, from the empty one to the whole text.

@@ -40,6 +40,12 @@ impl Write for EndingPipe {
     }
 }
 
+/// Files that are no table of calls, since they can't be read.
+const NO_TABLES: [(&str, &[u8]); 2] = [
+    ("missing", b"pua: cannot read missing\n"),
+    (".", b"pua: cannot read .\n"),
+];
+
 /// Prints a line for each output and each file that is not answered as it has to be, and how many
 /// there were.
 pub(crate) fn run(rt: &HostRuntime) -> Result<()> {
@@ -140,5 +146,21 @@ fn files(rt: &HostRuntime) -> Result<()> {
         }
     }
     println!(rt; "files: {} that can't be read", UNREADABLE.len())?;
+    tables(rt)
+}
+
+/// Tables of calls that can't be read, beside a listing and a script that can.
+fn tables(rt: &HostRuntime) -> Result<()> {
+    let mut inputs = DiskInputs::new(rt);
+    for (name, line) in &NO_TABLES {
+        let words = ["run", "--table", name, "/dev/null", "/dev/null"];
+        let mut out = MemorySink::new(rt.alloc(), 256).map_err(|fault| anyhow!("{fault}"))?;
+        let mut err = MemorySink::new(rt.alloc(), 256).map_err(|fault| anyhow!("{fault}"))?;
+        let status = command(rt.alloc(), &words, &mut inputs, &mut out, &mut err);
+        if status != DEVICE || !out.bytes().is_empty() || err.bytes() != *line {
+            println!(rt; "{name}, as a table: wrong")?;
+        }
+    }
+    println!(rt; "tables: {} that can't be read", NO_TABLES.len())?;
     Ok(())
 }

@@ -15,6 +15,7 @@ mod growth;
 mod listed;
 mod nets;
 mod rows;
+mod tables;
 mod trees;
 mod variants;
 

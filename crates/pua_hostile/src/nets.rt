@@ -76,6 +76,7 @@ fn job_of(limit: u8) -> Job<'static> {
         process: 1,
         base: Base::Root,
         after: None,
+        table: None,
         candidates: &[],
     }
 }

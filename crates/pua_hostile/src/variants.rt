@@ -1,8 +1,9 @@
-//! The listing and the script with each byte replaced by each of sixteen others: what comes of them is
-//! compared with a table.
+//! The listing, the script and the table of calls with each byte replaced by each of sixteen others: what
+//! comes of them is compared with a table.
 
 use crate::listed::listing_of;
 use crate::rows::read_row;
+use crate::tables::{TABLE, is_table};
 use crate::trees::ListedTree;
 use crate::{LISTING, SCRIPT};
 use anyhow::{Result, anyhow, bail};
@@ -21,6 +22,7 @@ const OTHERS: [u8; 16] = [
 enum Varied {
     Listing,
     Script,
+    Table,
 }
 
 impl Varied {
@@ -28,6 +30,7 @@ impl Varied {
         match self {
             Varied::Listing => LISTING,
             Varied::Script => SCRIPT,
+            Varied::Table => TABLE,
         }
     }
 
@@ -39,6 +42,7 @@ impl Varied {
                 Ok(is_listed && is_listing::<SlabTree>(alloc, variant, at, answer)?)
             }
             Varied::Script => is_script(alloc, variant, answer),
+            Varied::Table => is_table(alloc, variant, answer),
         }
     }
 }
@@ -47,7 +51,8 @@ impl Varied {
 /// are.
 pub(crate) fn run(rt: &HostRuntime) -> Result<()> {
     variants(rt, "listing-variants", Varied::Listing)?;
-    variants(rt, "script-variants", Varied::Script)
+    variants(rt, "script-variants", Varied::Script)?;
+    variants(rt, "table-variants", Varied::Table)
 }
 
 /// The variants of a table.
@@ -129,7 +134,7 @@ fn with_line(alloc: Global, at: usize, line: &[u8]) -> Result<Vec<u8>> {
 /// after another.
 fn is_script(alloc: Global, variant: &[u8], answer: &str) -> Result<bool> {
     let mut sink = MemorySink::new(alloc, 1_024).map_err(|fault| anyhow!("{fault}"))?;
-    match run_to(alloc, LISTING, variant, &mut sink) {
+    match run_to(alloc, LISTING, variant, None, &mut sink) {
         Ok(()) => {
             let Some(words) = answer.strip_prefix("is ") else {
                 return Ok(false);
@@ -142,7 +147,7 @@ fn is_script(alloc: Global, variant: &[u8], answer: &str) -> Result<bool> {
 }
 
 /// The text of a run whose requests are answered with these words.
-fn run_text(alloc: Global, words: &str) -> Result<String> {
+pub(crate) fn run_text(alloc: Global, words: &str) -> Result<String> {
     let mut text = String::new(alloc);
     for (before, word) in words.split(' ').enumerate() {
         let number = before.saturating_add(1);

@@ -6,6 +6,7 @@ use Rattle.pua_tree.specs.Tree.{Tree, Spot, is_dir, look}
 use Rattle.pua_tree.proofs.ForCallers.{Sound, sound_from, row_says, above_is, climb_ends}
 use Rattle.pua_path.specs.declared.found.Way.TheVariants.{Named}
 use Rattle.pua_path.specs.declared.found.Found.TheVariants.{Whole, Slot}
+use Rattle.pua_policy.specs.Calls.{CallTable}
 use Rattle.pua_policy.specs.History.{History, ProcessState, StandsFor, kept}
 use Rattle.pua_policy.specs.declared.place.Place.{Place}
 use Rattle.pua_policy.specs.declared.place.Place.TheVariants as place
@@ -105,8 +106,8 @@ module _ (t : Tree) (p : ProcessState) (a b : Walk) (dir : ℕ) (name : List ℕ
         start = λ root. absurd (names_no_root c.coming (coming ∙ names) root);
       }
 
-      pub stood : (node : Option ℕ) (line : ObjectLine) → look t dir name ≡ node → ((x : ℕ) → node ≡ Some x → is_dir t x ≡ false) → ((h : History) → StandsFor p h → IsLineOn t h (At (Slot dir name node)) line) → IsGiven t p a c line
-      stood node line row other on = record {
+      pub stood : (table : CallTable) (node : Option ℕ) (line : ObjectLine) → look t dir name ≡ node → ((x : ℕ) → node ≡ Some x → is_dir t x ≡ false) → ((h : History) → StandsFor p h → IsLineOn t table h (At (Slot dir name node)) line) → IsGiven t table p a c line
+      stood table node line row other on = record {
         subject = At (Slot dir name node);
         left =
             stands_at node row other
@@ -183,8 +184,8 @@ module _ (t : Tree) (p : ProcessState) (a b : Walk) (dir : ℕ) (name : List ℕ
       left_now : left_in t p.veils c ≡ others_item longer x ∷ to_come t p.veils (frames_at t spots longer (new ∷ inner ∷ taken.around))
       left_now = (λ i. own_items (coming i) (word_more i) (dirs_now i) ++ to_come t p.veils (frames_at t (spots_same i) (word_more i) (dirs_now i)))
 
-      pub gave : (line : ObjectLine) → ((h : History) → StandsFor p h → IsLineOn t h (At (Whole x (Named dir name))) line) → IsGiven t p a c line
-      gave line on = record {
+      pub gave : (table : CallTable) (line : ObjectLine) → ((h : History) → StandsFor p h → IsLineOn t table h (At (Whole x (Named dir name))) line) → IsGiven t table p a c line
+      gave table line on = record {
         subject = At (Whole x (Named dir name));
         left = came ∙ (λ i. record { word = sym word_more i; subject = At (Whole x (Named dir name)) } ∷ sym left_now i);
         line = on;

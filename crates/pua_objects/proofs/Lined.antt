@@ -6,7 +6,7 @@ use Rattle.pua_tree.specs.declared.node.Kind.{Kind}
 use Rattle.pua_tree.specs.declared.node.Kind.TheVariants as kinds
 use Rattle.pua_path.specs.declared.found.Found.{Found}
 use Rattle.pua_path.specs.declared.found.Found.TheVariants.{Whole, Slot}
-use Rattle.pua_policy.specs.Calls.{standard_table}
+use Rattle.pua_policy.specs.Calls.{CallTable}
 use Rattle.pua_policy.specs.CallSets.{has, keeps_link}
 use Rattle.pua_policy.specs.History.{History}
 use Rattle.pua_policy.specs.Objects.{object_seen}
@@ -79,9 +79,9 @@ kept_or_not true a = refl
 kept_or_not false a = refl
 
 -- a line by what is seen of the object
-pub lined : (t : Tree) (h : History) (found : Found) (object : seen.Object) (line : ObjectLine) → object ≡ seen_of t found → line.kind ≡ kind_seen object
-    → ((call : Call) → has line.calls call ≡ ((keeps_link call || not (is_link_seen object)) && is_allowed (verdict t standard_table h call found))) → IsLineOn t h (At found) line
-lined t h found object line is kind calls = record {
+pub lined : (t : Tree) (table : CallTable) (h : History) (found : Found) (object : seen.Object) (line : ObjectLine) → object ≡ seen_of t found → line.kind ≡ kind_seen object
+    → ((call : Call) → has line.calls call ≡ ((keeps_link call || not (is_link_seen object)) && is_allowed (verdict t table h call found))) → IsLineOn t table h (At found) line
+lined t table h found object line is kind calls = record {
   kind = ap kind_word (kind ∙ ap kind_seen is) ∙ word_seen t found;
-  calls = λ call. calls call ∙ ap (λ b. (keeps_link call || not b) && is_allowed (verdict t standard_table h call found)) (ap is_link_seen is ∙ link_seen t found);
+  calls = λ call. calls call ∙ ap (λ b. (keeps_link call || not b) && is_allowed (verdict t table h call found)) (ap is_link_seen is ∙ link_seen t found);
 }

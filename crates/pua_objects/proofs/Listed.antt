@@ -3,7 +3,7 @@ use Rattle.std.proofs.Common.{◌≡◌, ◌≢◌, List, [], ◌∷◌, Bool, t
 use Rattle.std.specs.Prelude.{filter, nat_lt, IsTrue, ◌↔◌}
 use Rattle.std.proofs.lemmas.Bool.{lt-ltb}
 use Rattle.pua_tree.specs.Tree.{Tree}
-use Rattle.pua_policy.specs.Calls.{calls, standard_table}
+use Rattle.pua_policy.specs.Calls.{CallTable, calls}
 use Rattle.pua_policy.specs.CallSets.{calls_in}
 use Rattle.pua_policy.specs.History.{History}
 use Rattle.pua_policy.specs.declared.call.Call.{Call}
@@ -13,8 +13,8 @@ use Rattle.pua_objects.specs.Lines.{IsLineOn}
 use Rattle.pua_objects.specs.Ready.{lines_of}
 use Rattle.pua_objects.specs.declared.line.ObjectLine.{ObjectLine}
 
-module _ (t : Tree) (h : History) (subject : Subject) (given : ObjectLine) (on : IsLineOn t h subject given) where
-  same_calls : calls_on t standard_table h subject ≡ calls_in given.calls
+module _ (t : Tree) (table : CallTable) (h : History) (subject : Subject) (given : ObjectLine) (on : IsLineOn t table h subject given) where
+  same_calls : calls_on t table h subject ≡ calls_in given.calls
   same_calls = (λ i. filter (λ call. sym (on.calls call) i) calls)
 
   module _ (word : Word) where
@@ -24,17 +24,17 @@ module _ (t : Tree) (h : History) (subject : Subject) (given : ObjectLine) (on :
     abbrev line : Line
     line = record { word = word; subject = subject; calls = calls_in given.calls }
 
-    line_is : line_of t standard_table h item ≡ line
+    line_is : line_of t table h item ≡ line
     line_is = (λ i. record { word = word; subject = subject; calls = same_calls i })
 
-    by_calls : (items : List Item) (b : Bool) → has_calls line ≡ b → lines_of t h (item ∷ items) ≡ cond b (line ∷ lines_of t h items) (lines_of t h items)
-    by_calls items b is = (λ i. cond (has_calls (line_is i)) (line_is i ∷ lines_of t h items) (lines_of t h items)) ∙ ap (λ c. cond c (line ∷ lines_of t h items) (lines_of t h items)) is
+    by_calls : (items : List Item) (b : Bool) → has_calls line ≡ b → lines_of t table h (item ∷ items) ≡ cond b (line ∷ lines_of t table h items) (lines_of t table h items)
+    by_calls items b is = (λ i. cond (has_calls (line_is i)) (line_is i ∷ lines_of t table h items) (lines_of t table h items)) ∙ ap (λ c. cond c (line ∷ lines_of t table h items) (lines_of t table h items)) is
 
     -- a line without calls is left out
-    pub left_out : (items : List Item) → calls_in given.calls ≡ [] → lines_of t h (item ∷ items) ≡ lines_of t h items
+    pub left_out : (items : List Item) → calls_in given.calls ≡ [] → lines_of t table h (item ∷ items) ≡ lines_of t table h items
     left_out items none = by_calls items false (ap (λ cs. nat_lt 0 (length cs)) none)
 
-    pub kept_in : (items : List Item) → calls_in given.calls ≢ [] → lines_of t h (item ∷ items) ≡ line ∷ lines_of t h items
+    pub kept_in : (items : List Item) → calls_in given.calls ≢ [] → lines_of t table h (item ∷ items) ≡ line ∷ lines_of t table h items
     kept_in items some = by_calls items true (some_calls (calls_in given.calls) some)
       where
         some_calls : (cs : List Call) → cs ≢ [] → nat_lt 0 (length cs) ≡ true

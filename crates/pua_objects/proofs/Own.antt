@@ -5,6 +5,7 @@ use Rattle.pua_tree.specs.Tree.{Tree}
 use Rattle.pua_path.specs.declared.found.Way.TheVariants.{Top}
 use Rattle.pua_path.specs.declared.found.Found.{Found}
 use Rattle.pua_path.specs.declared.found.Found.TheVariants.{Whole}
+use Rattle.pua_policy.specs.Calls.{CallTable}
 use Rattle.pua_policy.specs.History.{History, ProcessState, StandsFor}
 use Rattle.pua_policy.specs.Objects.{object_seen}
 use Rattle.pua_policy.specs.Verdict.{object_of, cover}
@@ -42,18 +43,18 @@ module _ (t : Tree) (p : ProcessState) (a : Walk) (ready : IsReady t p a) (more 
   opened = subst (AreOpen t p (spots_in a)) dirs ready.entered
 
   -- the further names of the innermost directory
-  pub others_given : (line : ObjectLine) (left : Cover) → a.coming ≡ Others → ((d : OpenDir) (ds : List OpenDir) → dirs_in a ≡ d ∷ ds → left ≡ d.cover)
-      → ((h : History) (dir : ℕ) → StandsFor p h → left ≡ cover_in t h dir → IsLineOn t h (subject.Others dir) line) → IsGiven t p a (record a { coming = Names }) line
-  others_given line left others own on = record {
+  pub others_given : (table : CallTable) (line : ObjectLine) (left : Cover) → a.coming ≡ Others → ((d : OpenDir) (ds : List OpenDir) → dirs_in a ≡ d ∷ ds → left ≡ d.cover)
+      → ((h : History) (dir : ℕ) → StandsFor p h → left ≡ cover_in t h dir → IsLineOn t table h (subject.Others dir) line) → IsGiven t table p a (record a { coming = Names }) line
+  others_given table line left others own on = record {
     subject = subject.Others inner.dir;
     left = (λ i. own_items (others i) (word_in a) (dirs_in a) ++ names_left t p.veils a) ∙ ap (λ ds. others_in (word_in a) ds ++ names_left t p.veils a) dirs;
     line = λ h stands. on h inner.dir stands (own inner around dirs ∙ opened.0.cover h stands);
   }
 
   -- the root itself
-  pub root_given : (line : ObjectLine) (left : Cover) → a.coming ≡ Root → ((d : OpenDir) (ds : List OpenDir) → dirs_in a ≡ d ∷ ds → left ≡ d.cover)
-      → ((h : History) (found : Found) → StandsFor p h → left ≡ cover t h found → see.Directory ≡ object_seen t (object_of t found) → IsLineOn t h (At found) line) → IsGiven t p a (record a { coming = Others }) line
-  root_given line left root own on =
+  pub root_given : (table : CallTable) (line : ObjectLine) (left : Cover) → a.coming ≡ Root → ((d : OpenDir) (ds : List OpenDir) → dirs_in a ≡ d ∷ ds → left ≡ d.cover)
+      → ((h : History) (found : Found) → StandsFor p h → left ≡ cover t h found → see.Directory ≡ object_seen t (object_of t found) → IsLineOn t table h (At found) line) → IsGiven t table p a (record a { coming = Others }) line
+  root_given table line left root own on =
       let alone : length around ≡ 0 = omega (arith, ap length dirs, length-reverse a.dirs.items, ready.exact more, ap length (ready.start root)) in
       let at_root : inner.dir ≡ 0 = subst (λ (n : ℕ). IsBelow t n inner.dir) alone opened.0.reaches in
       record {

@@ -1,7 +1,7 @@
 -- A line of the code, beside the definition's.
 use Rattle.std.specs.Prelude.{◌≡◌, List, ℕ, ◌&&◌, codes}
 use Rattle.pua_tree.specs.Tree.{Tree}
-use Rattle.pua_policy.specs.Calls.{standard_table}
+use Rattle.pua_policy.specs.Calls.{CallTable}
 use Rattle.pua_policy.specs.CallSets.{has}
 use Rattle.pua_policy.specs.History.{History}
 use Rattle.pua_policy.specs.Verdict.{is_allowed}
@@ -32,6 +32,6 @@ kind_seen see.Directory = kind.Dir
 kind_seen see.Removable = kind.Dir
 
 -- the line tells what its subject is, and has each call that names it and is allowed on it
-pub record IsLineOn (t : Tree) (h : History) (subject : Subject) (line : ObjectLine) : Type 0 where
+pub record IsLineOn (t : Tree) (table : CallTable) (h : History) (subject : Subject) (line : ObjectLine) : Type 0 where
   pub kind : kind_word line.kind ≡ subject_word t subject
-  pub calls : (call : Call) → has line.calls call ≡ (is_named_by t call subject && is_allowed (subject_verdict t standard_table h call subject))
+  pub calls : (call : Call) → has line.calls call ≡ (is_named_by t call subject && is_allowed (subject_verdict t table h call subject))

@@ -4,7 +4,7 @@ use Rattle.std.specs.List.{AllByRecursion}
 use Rattle.pua_tree.specs.Tree.{Tree, WellFormed, Spot, is_dir, spot_cmp}
 use Rattle.pua_path.specs.declared.found.Way.TheVariants.{Top}
 use Rattle.pua_path.specs.declared.found.Found.TheVariants.{Whole}
-use Rattle.pua_policy.specs.Calls.{standard_table}
+use Rattle.pua_policy.specs.Calls.{CallTable}
 use Rattle.pua_policy.specs.CallSets.{calls_in}
 use Rattle.pua_policy.specs.History.{History, StandsFor, ProcessState, kept}
 use Rattle.pua_policy.specs.declared.place.Place.{Place}
@@ -113,27 +113,27 @@ pub record IsEntered (process : ProcessState) (old new : Walk) (id : ℕ) : Type
   pub covered : (h : History) (inner : OpenDir) (around : List OpenDir) → StandsFor process h → dirs_in old ≡ inner ∷ around → cover ≡ own_or (kept h (place.Dir id)) inner.cover
 
 -- a line is about the first thing that is to come, and the others stay to come
-pub record IsGiven (t : Tree) (process : ProcessState) (old new : Walk) (given : ObjectLine) : Type 0 where
+pub record IsGiven (t : Tree) (table : CallTable) (process : ProcessState) (old new : Walk) (given : ObjectLine) : Type 0 where
   pub subject : Subject
   pub left : left_in t process.veils old ≡ record { word = word_in new; subject = subject } ∷ left_in t process.veils new
-  pub line : (h : History) → StandsFor process h → IsLineOn t h subject given
+  pub line : (h : History) → StandsFor process h → IsLineOn t table h subject given
 
 -- the lines of what is to come, but for those without calls
-abbrev pub lines_of : Tree → History → List Item → List Line
-lines_of t h items = filter has_calls (map (line_of t standard_table h) items)
+abbrev pub lines_of : Tree → CallTable → History → List Item → List Line
+lines_of t table h items = filter has_calls (map (line_of t table h) items)
 
 -- the first of the lines is given, and the others stay
-pub record IsListed (t : Tree) (process : ProcessState) (old new : List Item) (word : Word) (given : ObjectLine) : Type 0 where
+pub record IsListed (t : Tree) (table : CallTable) (process : ProcessState) (old new : List Item) (word : Word) (given : ObjectLine) : Type 0 where
   pub subject : Subject
   pub kind : kind_word given.kind ≡ subject_word t subject
-  pub lines : (h : History) → StandsFor process h → lines_of t h old ≡ record { word = word; subject = subject; calls = calls_in given.calls } ∷ lines_of t h new
+  pub lines : (h : History) → StandsFor process h → lines_of t table h old ≡ record { word = word; subject = subject; calls = calls_in given.calls } ∷ lines_of t table h new
 
-abbrev pub HasNoLine : Tree → ProcessState → List Item → Type 0
-HasNoLine t process items = (h : History) → StandsFor process h → lines_of t h items ≡ []
+abbrev pub HasNoLine : Tree → CallTable → ProcessState → List Item → Type 0
+HasNoLine t table process items = (h : History) → StandsFor process h → lines_of t table h items ≡ []
 
-abbrev pub IsNextListed : Tree → ProcessState → List Item → Option ObjectLine → Word → List Item → Type 0
-IsNextListed t process old result word new = MatchOption result (HasNoLine t process old × HasNoLine t process new) (IsListed t process old new word)
+abbrev pub IsNextListed : Tree → CallTable → ProcessState → List Item → Option ObjectLine → Word → List Item → Type 0
+IsNextListed t table process old result word new = MatchOption result (HasNoLine t table process old × HasNoLine t table process new) (IsListed t table process old new word)
 
-abbrev pub IsNextLine : Tree → ProcessState → Walk → Option ObjectLine → Walk → Type 0
-IsNextLine t process old result new =
-    MatchOption result ((left_in t process.veils old ≡ []) × (left_in t process.veils new ≡ [])) (IsGiven t process old new)
+abbrev pub IsNextLine : Tree → CallTable → ProcessState → Walk → Option ObjectLine → Walk → Type 0
+IsNextLine t table process old result new =
+    MatchOption result ((left_in t process.veils old ≡ []) × (left_in t process.veils new ≡ [])) (IsGiven t table process old new)

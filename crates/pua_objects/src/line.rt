@@ -10,7 +10,7 @@ ghost use Rattle.pua_objects.specs.Objects.{At, Others, cover_in};
 ghost use Rattle.pua_objects.specs.Lines.{IsLineOn, kind_seen};
 
 use crate::kind::ObjectKind;
-use pua_policy::{Calls, Cover, Object, Process, judge};
+use pua_policy::{CallTable, Calls, Cover, Object, Process, judge};
 
 /// A line of the list, but for the names that lead there.
 #[derive(Clone, Copy, Debug, PartialEq, Eq)]
@@ -23,11 +23,16 @@ pub struct ObjectLine {
 
 /// The line of what stands somewhere, or of a name where nothing stands, by what the veils leave of
 /// it. On a link only those calls are listed that keep it.
-pub(crate) fn line_at(process: &Process, cover: &Cover, object: Object) -> ObjectLine
+pub(crate) fn line_at(
+    process: &Process,
+    table: &CallTable,
+    cover: &Cover,
+    object: Object,
+) -> ObjectLine
     ensures { (t : Tree) (h : History) (found : FoundThing) → StandsFor process.now h → cover.now ≡ cover_of t h found → object ≡ object_seen t (object_of t found) →
-        IsLineOn t h (At found) result }
+        IsLineOn t table.now h (At found) result }
 {
-    let calls = judge::allowed(process, *cover, object);
+    let calls = judge::allowed(process, table, *cover, object);
     let calls = if object == Object::Link {
         calls.keeping()
     } else {
@@ -40,12 +45,12 @@ pub(crate) fn line_at(process: &Process, cover: &Cover, object: Object) -> Objec
 }
 
 /// The line of a directory's further names, by what the veils leave of them.
-pub(crate) fn line_of_others(process: &Process, cover: &Cover) -> ObjectLine
-    ensures { (t : Tree) (h : History) (dir : ℕ) → StandsFor process.now h → cover.now ≡ cover_in t h dir → IsLineOn t h (Others dir) result }
+pub(crate) fn line_of_others(process: &Process, table: &CallTable, cover: &Cover) -> ObjectLine
+    ensures { (t : Tree) (h : History) (dir : ℕ) → StandsFor process.now h → cover.now ≡ cover_in t h dir → IsLineOn t table.now h (Others dir) result }
 {
     ObjectLine {
         kind: ObjectKind::Other,
-        calls: judge::allowed(process, *cover, Object::Missing),
+        calls: judge::allowed(process, table, *cover, Object::Missing),
     }
 }
 

@@ -1,7 +1,6 @@
 //! The objects that a process can touch, line by line.
 
 ghost use Rattle.std.specs.Prelude.{◌≡◌, ◌<◌, IfOk, OnOk, OnSome, length, map};
-ghost use Rattle.pua_policy.specs.Calls.{standard_table};
 ghost use Rattle.pua_policy.specs.History.{History, StandsFor};
 ghost use Rattle.pua_objects.specs.Laws.{HasPlaces};
 ghost use Rattle.pua_objects.specs.Objects.{items, objects};
@@ -9,18 +8,19 @@ ghost use Rattle.pua_objects.specs.Ready.{lines_of, IsNextListed};
 
 use crate::line::ObjectLine;
 use crate::walk::Walk;
-use pua_policy::Process;
+use pua_policy::{CallTable, Process};
 use pua_tree::{FileTree, Name, OutOfMemory};
 use std::alloc::Global;
 use std::marker::Model;
 
 /// What a process is allowed in a tree, by object: a line for each object on which some call is
-/// allowed. Contracts see the tree and the process, the names that lead to what the line given last
-/// is about, and what a line may still be about.
+/// allowed. Contracts see the tree, the process and the table, the names that lead to what the line
+/// given last is about, and what a line may still be about.
 #[derive(Drop)]
 pub struct Objects<'t, T: FileTree> {
     tree: &'t T,
     process: &'t Process,
+    table: CallTable,
     walk: Walk<'t>,
 }
 
@@ -34,6 +34,7 @@ impl<'t, T: FileTree> Model for Objects<'t, T> {
     ghost view = { λ a. record {
       tree = T.content a.tree.now;
       process = a.process.now;
+      table = a.table;
       word = word_in a.walk;
       left = left_in (T.content a.tree.now) a.process.now.veils a.walk;
     } };
@@ -42,24 +43,26 @@ impl<'t, T: FileTree> Model for Objects<'t, T> {
 }
 
 impl<'t, T: FileTree> Objects<'t, T> {
-    /// Begins the list. Its lines are the same for each history that the process stands for, and each
-    /// veil that is not at a directory is at a name, as the law on lines asks. The only error is that a
-    /// growth was refused: later calls take no memory.
+    /// Begins the list, by a copy of a table of what calls need. Its lines are the same for each
+    /// history that the process stands for, and each veil that is not at a directory is at a name, as
+    /// the law on lines asks. The only error is that a growth was refused: later calls take no memory.
     pub fn begin(
         alloc: Global,
         tree: &'t T,
         process: &'t Process,
+        table: &CallTable,
     ) -> Result<Objects<'t, T>, OutOfMemory>
-        ensures of { IfOk result (λ list. (list.tree ≡ T.content tree.now) × (list.process ≡ process.now)) }
+        ensures of { IfOk result (λ list. (list.tree ≡ T.content tree.now) × (list.process ≡ process.now) × (list.table ≡ table.now)) }
         ensures left { IfOk result (λ list. list.left ≡ items (T.content tree.now) process.now.veils) }
         ensures lines { IfOk result (λ list. (h : History) → StandsFor process.now h →
-            lines_of (T.content tree.now) h list.left ≡ objects (T.content tree.now) standard_table h) }
+            lines_of (T.content tree.now) table.now h list.left ≡ objects (T.content tree.now) table.now h) }
         ensures places { OnOk result ((h : History) → StandsFor process.now h → HasPlaces h) }
     {
         let walk = Walk::new(alloc, tree, process)?;
         Ok(Objects {
             tree,
             process,
+            table: *table,
             walk,
         })
     }
@@ -68,11 +71,11 @@ impl<'t, T: FileTree> Objects<'t, T> {
     /// first, then its further names, then what has or could have a name in it by the bytes of the
     /// names, each directory followed by what is below it.
     pub fn next_line(&mut self) -> Option<ObjectLine>
-        ensures of { (self.new.tree ≡ self.old.tree) × (self.new.process ≡ self.old.process) }
-        ensures line { IsNextListed self.old.tree self.old.process self.old.left result self.new.word self.new.left }
+        ensures of { (self.new.tree ≡ self.old.tree) × (self.new.process ≡ self.old.process) × (self.new.table ≡ self.old.table) }
+        ensures line { IsNextListed self.old.tree self.old.table self.old.process self.old.left result self.new.word self.new.left }
         ensures fewer { OnSome result (length self.new.left < length self.old.left) }
     {
-        self.walk.next_line(self.tree, self.process)
+        self.walk.next_line(self.tree, self.process, &self.table)
     }
 
     /// The names that lead from the root to what the line given last is about; none for the root. Where

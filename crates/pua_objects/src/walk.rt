@@ -18,7 +18,7 @@ ghost use Rattle.pua_objects.specs.Ready.{IsReady, spots_in, dirs_in, IsTaken, I
 use crate::line::{ObjectLine, line_at, line_of_others};
 use crate::open_dir::{Coming, OpenDir};
 use crate::spots::spots;
-use pua_policy::{Cover, Object, Place, Process};
+use pua_policy::{CallTable, Cover, Object, Place, Process};
 use pua_tree::{FileTree, Kind, Name, NodeId, OutOfMemory};
 use std::alloc::Global;
 
@@ -127,6 +127,7 @@ impl<'t> Walk<'t> {
     fn stand_at(
         &mut self,
         process: &Process,
+        table: &CallTable,
         dir: NodeId,
         name: &'t Name,
         object: Object,
@@ -138,11 +139,11 @@ impl<'t> Walk<'t> {
         ensures kept { (self.new.spots ≡ self.old.spots) × (self.new.dirs ≡ self.old.dirs) × (self.new.coming ≡ self.old.coming) }
         ensures line { (t : Tree) (h : History) (inner : OpenDir) (around : List OpenDir) (node : Option ℕ) → WellFormed t → StandsFor process.now h →
             dirs_in self.old ≡ inner ∷ around → inner.cover ≡ cover_in t h dir → object ≡ object_seen t (object_of t (found.Slot dir name.entry.now node)) →
-            IsLineOn t h (At (found.Slot dir name.entry.now node)) result }
+            IsLineOn t table.now h (At (found.Slot dir name.entry.now node)) result }
     {
         let cover = own_cover(process, &Place::Slot(dir, *name), self.cover());
         self.word.push_reserved(name);
-        line_at(process, &cover, object)
+        line_at(process, table, &cover, object)
     }
 
     /// Enters a directory that has this name in the innermost one, and gives its line.
@@ -150,6 +151,7 @@ impl<'t> Walk<'t> {
         &mut self,
         tree: &T,
         process: &Process,
+        table: &CallTable,
         id: NodeId,
         name: &'t Name,
     ) -> ObjectLine
@@ -163,10 +165,10 @@ impl<'t> Walk<'t> {
         ensures entered { IsEntered process.now self.old self.new id }
         ensures line { (h : History) (inner : OpenDir) (around : List OpenDir) (dir : ℕ) → WellFormed (T.content tree.now) → StandsFor process.now h →
             dirs_in self.old ≡ inner ∷ around → inner.cover ≡ cover_in (T.content tree.now) h dir → look (T.content tree.now) dir name.entry.now ≡ Some id → is_dir (T.content tree.now) id ≡ true →
-            IsLineOn (T.content tree.now) h (At (found.Whole id (way.Named dir name.entry.now))) result }
+            IsLineOn (T.content tree.now) table.now h (At (found.Whole id (way.Named dir name.entry.now))) result }
     {
         let cover = own_cover(process, &Place::Dir(id), self.cover());
-        let line = line_at(process, &cover, directory(tree, id));
+        let line = line_at(process, table, &cover, directory(tree, id));
         let next = self.start_of(id);
         self.word.push_reserved(name);
         self.dirs.push_reserved(OpenDir {
@@ -179,44 +181,54 @@ impl<'t> Walk<'t> {
     }
 
     /// Goes to the next name, and gives its line; None where no name is left.
-    fn next_entry<T: FileTree>(&mut self, tree: &T, process: &Process) -> Option<ObjectLine>
+    fn next_entry<T: FileTree>(
+        &mut self,
+        tree: &T,
+        process: &Process,
+        table: &CallTable,
+    ) -> Option<ObjectLine>
         requires ready { IsReady (T.content tree.now) process.now self.old }
         requires names { self.old.coming ≡ Coming.Names }
         ensures ready { IsReady (T.content tree.now) process.now self.new }
-        ensures line { IsNextLine (T.content tree.now) process.now self.old result self.new }
+        ensures line { IsNextLine (T.content tree.now) table.now process.now self.old result self.new }
     {
         let Some(next) = self.next_name() else {
             return None;
         };
         let (dir, name) = next;
         let Some(id) = tree.look(dir, name) else {
-            return Some(self.stand_at(process, dir, name, Object::Missing));
+            return Some(self.stand_at(process, table, dir, name, Object::Missing));
         };
         let kind = tree.kind(id);
         if is_directory(kind) {
-            return Some(self.enter(tree, process, id, name));
+            return Some(self.enter(tree, process, table, id, name));
         }
-        Some(self.stand_at(process, dir, name, object_at(kind)))
+        Some(self.stand_at(process, table, dir, name, object_at(kind)))
     }
 
     /// Goes to the next thing that a line may be about, and gives its line; None where nothing is left.
-    fn next_item<T: FileTree>(&mut self, tree: &T, process: &Process) -> Option<ObjectLine>
+    fn next_item<T: FileTree>(
+        &mut self,
+        tree: &T,
+        process: &Process,
+        table: &CallTable,
+    ) -> Option<ObjectLine>
         requires ready { IsReady (T.content tree.now) process.now self.old }
         ensures ready { IsReady (T.content tree.now) process.now self.new }
-        ensures line { IsNextLine (T.content tree.now) process.now self.old result self.new }
+        ensures line { IsNextLine (T.content tree.now) table.now process.now self.old result self.new }
     {
         match self.coming {
             Coming::Root => {
                 self.coming = Coming::Others;
                 let cover = self.cover();
-                Some(line_at(process, &cover, Object::Directory))
+                Some(line_at(process, table, &cover, Object::Directory))
             }
             Coming::Others => {
                 self.coming = Coming::Names;
                 let cover = self.cover();
-                Some(line_of_others(process, &cover))
+                Some(line_of_others(process, table, &cover))
             }
-            Coming::Names => self.next_entry(tree, process),
+            Coming::Names => self.next_entry(tree, process, table),
         }
     }
 
@@ -226,16 +238,17 @@ impl<'t> Walk<'t> {
         &mut self,
         tree: &T,
         process: &Process,
+        table: &CallTable,
     ) -> Option<ObjectLine>
         requires ready { IsReady (T.content tree.now) process.now self.old }
         ensures ready { IsReady (T.content tree.now) process.now self.new }
         ensures line { let left = left_in (T.content tree.now) process.now.veils in
-            IsNextListed (T.content tree.now) process.now (left self.old) result (word_in self.new) (left self.new) }
+            IsNextListed (T.content tree.now) table.now process.now (left self.old) result (word_in self.new) (left self.new) }
         ensures fewer { OnSome result (length (left_in (T.content tree.now) process.now.veils self.new) < length (left_in (T.content tree.now) process.now.veils self.old)) }
     {
         process.known();
         loop {
-            let Some(line) = self.next_item(tree, process) else {
+            let Some(line) = self.next_item(tree, process, table) else {
                 return None;
             };
             if !line.calls.is_empty() {

@@ -1,19 +1,21 @@
 -- What a part names where no link was used before tells it for any number of links used before.
-use Rattle.std.proofs.Common.{◌≡◌, ℕ, ◌+◌, ◌-◌, ◌≤◌, List, [], ◌∷◌, Some, None, refl, sym, ap, ◌∙◌, subst, arith, inl, inr, Result, Ok, Err}
+use Rattle.std.proofs.Common.{◌≡◌, ℕ, ◌+◌, ◌-◌, ◌≤◌, List, [], ◌∷◌, ◌++◌, Some, None, refl, sym, ap, ◌∙◌, subst, arith, inl, inr, Result, Ok, Err}
 use Rattle.std.proofs.lemmas.Bool.{cases_lt}
-use Rattle.pua_tree.specs.Tree.{Tree, above}
+use Rattle.pua_tree.specs.Tree.{Tree, above, look}
 use Rattle.pua_tree.specs.Steps.{◌>>=◌}
-use Rattle.pua_path.specs.Resolution.{Resolved, Standing, Directory, Linked, Plain, Nothing, standing_at, resolve_parts, counted, step, last, link_limit}
+use Rattle.pua_path.specs.Paths.{parts_of}
+use Rattle.pua_path.specs.Resolution.{Resolved, Standing, Directory, Linked, Plain, Nothing, standing_at, start_of, resolve_parts, counted, step, last, follow, link_limit}
 use Rattle.pua_path.specs.Laws.{IsDecidedByLinks, FollowsLinks, entered, IsFollowed, Fails, IsToldBy, FollowDecides, KeptFollowsNone}
 use Rattle.pua_path.specs.declared.errno.Errno.{Errno}
 use Rattle.pua_path.specs.declared.errno.Errno.TheVariants.{ELOOP}
+use Rattle.pua_path.specs.declared.text.Ending.TheVariants as ending
 use Rattle.pua_path.specs.declared.found.Part.{Part}
 use Rattle.pua_path.specs.declared.found.Part.TheVariants as parts
 use Rattle.pua_path.specs.declared.found.Last.TheVariants.{Followed, Kept}
 use Rattle.pua_path.specs.declared.found.Way.TheVariants as ways
 use Rattle.pua_path.specs.declared.found.Found.{Found}
 use Rattle.pua_path.specs.declared.found.Found.TheVariants.{Whole, Slot}
-use Rattle.pua_path.proofs.Steps.{resolve_end, resolve_dot, resolve_dotdot, resolve_directory, resolve_name, resolve_kept}
+use Rattle.pua_path.proofs.Steps.{resolve_end, resolve_dot, resolve_dotdot, resolve_directory, resolve_name, resolve_kept, resolve_linked}
 use Rattle.pua_path.proofs.Arrival.{arrived, step_arrives}
 use Rattle.pua_path.proofs.LinksLaw.{links_decide}
 
@@ -88,3 +90,51 @@ pub kept_follows_none : KeptFollowsNone
 kept_follows_none t dir used part =
     let after : (links : ℕ) → (resolve_parts links t Kept dir ways.Top (part ∷ []) >>= λ found. Ok found.0) ≡ Ok (kept_found t dir part) = λ links. ap (λ (r : Resolved). r >>= λ found. Ok found.0) (kept_free t links dir part) in
     after (link_limit - used) ∙ sym (after (link_limit - 0))
+
+-- a name where nothing stands is found as such, by no link
+pub missing_follows : (t : Tree) (dir : ℕ) (name : List ℕ) → look t dir name ≡ None → follow t dir (parts.Name name) ≡ Ok (Slot dir name None, 0)
+missing_follows t dir name none = ap (λ (r : Resolved). r >>= counted) (resolve_name t Followed link_limit dir ways.Top name [] Nothing (by none))
+  where
+    by : look t dir name ≡ None → Nothing ≡ standing_at t dir name
+    by e = rw e refl
+
+-- a link that is followed counts
+abbrev count_of : Result (Found × ℕ) Errno → ℕ
+count_of (Ok found) = found.1
+count_of (Err errno) = 1
+
+module _ (t : Tree) (from : ℕ) (ps : List Part) where
+  counts_some : (outcome : Result Found Errno) (count : ℕ) → count_of ((outcome >>= λ found. Ok (found, 31 - count)) >>= counted) ≡ 0 → ⊥
+  counts_some (Ok found) count e = omega (arith, e)
+  counts_some (Err errno) count e = omega (arith, e)
+
+  link_counts : count_of (resolve_parts 31 t Followed from ways.Top ps >>= counted) ≡ 0 → ⊥
+  link_counts = by (links_decide t Followed from ways.Top ps 31)
+    where
+      by : IsDecidedByLinks (λ links. resolve_parts links t Followed from ways.Top ps) 31 → count_of (resolve_parts 31 t Followed from ways.Top ps >>= counted) ≡ 0 → ⊥
+      by (inl loops) e = let no : 1 ≡ 0 = sym (ap (λ (r : Resolved). count_of (r >>= counted)) (loops 31 (omega arith))) ∙ e in omega (arith, no)
+      by (inr (count, (outcome, (within, h)))) e = counts_some outcome count (sym (ap (λ (r : Resolved). count_of (r >>= counted)) (h.enough 31 within)) ∙ e)
+
+abbrev without_count : Result (Found × ℕ) Errno → Result Found Errno
+without_count (Ok found) = Ok found.0
+without_count (Err errno) = Err errno
+
+-- what is found without a link is what is found where the last part is kept
+module _ (t : Tree) (dir : ℕ) where
+  found_at : (name : List ℕ) (found : Found) (s : Standing) → s ≡ standing_at t dir name → follow t dir (parts.Name name) ≡ Ok (found, 0) → ◌≡◌ {A = Result Found Errno} (Ok found) (Ok (kept_at dir name s))
+  unfolding kept_at
+  found_at name found (Directory x) same e =
+      ap without_count (sym e ∙ ap (λ (r : Resolved). r >>= counted) (resolve_directory t Followed link_limit dir ways.Top name [] x same ∙ resolve_end t Followed link_limit x (ways.Named dir name)))
+  found_at name found (Linked x target) same e =
+      absurd (link_counts t (start_of target dir) (parts_of ending.Dot target ++ []) (ap count_of (sym (ap (λ (r : Resolved). r >>= counted) (resolve_linked t Followed link_limit dir ways.Top name [] x target same refl)) ∙ e)))
+  found_at name found (Plain x) same e = ap without_count (sym e ∙ ap (λ (r : Resolved). r >>= counted) (resolve_name t Followed link_limit dir ways.Top name [] (Plain x) same))
+  found_at name found Nothing same e = ap without_count (sym e ∙ ap (λ (r : Resolved). r >>= counted) (resolve_name t Followed link_limit dir ways.Top name [] Nothing same))
+
+  found_kept : (part : Part) (found : Found) → follow t dir part ≡ Ok (found, 0) → ◌≡◌ {A = Result Found Errno} (Ok found) (Ok (kept_found t dir part))
+  unfolding kept_found
+  found_kept parts.Dot found e = ap without_count (sym e ∙ ap (λ (r : Resolved). r >>= counted) (resolve_dot t Followed link_limit dir ways.Top [] ∙ resolve_end t Followed link_limit dir ways.Dot))
+  found_kept parts.DotDot found e = ap without_count (sym e ∙ ap (λ (r : Resolved). r >>= counted) (resolve_dotdot t Followed link_limit dir ways.Top [] ∙ resolve_end t Followed link_limit (above t dir) ways.DotDot))
+  found_kept (parts.Name name) found e = found_at name found (standing_at t dir name) refl e
+
+pub unlinked_alike : (t : Tree) (dir : ℕ) (part : Part) (found : Found) → follow t dir part ≡ Ok (found, 0) → last t dir 0 part Kept ≡ Ok found
+unlinked_alike t dir part found e = ap (λ (r : Resolved). r >>= λ found. Ok found.0) (kept_free t link_limit dir part) ∙ sym (found_kept t dir part found e)

@@ -1,13 +1,14 @@
 //! Counted looks at a tree.
 
-use pua_tree::{FileTree, Kind, Name, NodeId, TreeFault};
+use pua_tree::{FileTree, Kind, LentRow, Name, NodeId, OutOfMemory, TreeFault};
 use std::alloc::Global;
 use std::marker::Model;
 
 /// A tree that is asked one thing at a time, and counts what it was asked. Targets live as long as
 /// the tree.
 pub trait Probe<'t> {
-    ghost use Rattle.std.specs.Prelude.{◌≡◌, ℕ, IfOk, IfErr, option_copied};
+    ghost use Rattle.std.specs.Prelude.{◌≡◌, ℕ, IfOk, IfErr, map, option_copied};
+    ghost use Rattle.pua_tree.specs.LentRows.{lent_entry};
     ghost use Rattle.pua_tree.specs.Tree.{Tree, WellFormed, kind_at, look, parent, target_at, is_empty, names};
     ghost use Rattle.pua_path.specs.Counts.{one_more};
 
@@ -60,6 +61,13 @@ pub trait Probe<'t> {
     fn names(&mut self, alloc: Global) -> Result<Vec<Name>, TreeFault>
         ensures names { IfOk result (λ all. all.items ≡ names (tree self.old)) }
         ensures memory { IfErr result (λ fault. fault ≡ TreeFault.OutOfMemory) }
+        ensures tree { tree self.new ≡ tree self.old }
+        ensures count { count self.new ≡ one_more (count self.old) };
+
+    /// Lends all rows: each once, by directory and then by the bytes of the name. The only error is
+    /// that the memory for the list is refused.
+    fn rows(&mut self, alloc: Global) -> Result<Vec<LentRow<'t>>, OutOfMemory>
+        ensures rows { IfOk result (λ rows. map lent_entry rows.items ≡ (tree self.old).rows) }
         ensures tree { tree self.new ≡ tree self.old }
         ensures count { count self.new ≡ one_more (count self.old) };
 }
@@ -141,5 +149,11 @@ impl<'t, T: FileTree> Probe<'t> for Counted<'t, T> {
     fn names(&mut self, alloc: Global) -> Result<Vec<Name>, TreeFault> {
         self.ask();
         self.tree.names(alloc)
+    }
+
+    fn rows(&mut self, alloc: Global) -> Result<Vec<LentRow<'t>>, OutOfMemory> {
+        self.ask();
+        let tree: &'t T = self.tree;
+        tree.rows(alloc)
     }
 }

@@ -1,5 +1,9 @@
 pub mod Sets
 pub mod CallBits
+pub mod Rows
+pub mod TableTexts
+pub mod TableExamples
+pub mod Refusals
 pub mod Keywords
 pub mod Climbs
 pub mod Veils
@@ -10,4 +14,5 @@ pub mod Standing
 pub mod Covers
 pub mod Unveiled
 pub mod Histories
+pub mod SoundTexts
 pub mod ForCallers

@@ -10,7 +10,8 @@ use Rattle.pua_policy.specs.declared.answer.Verdict.TheVariants.{Allowed}
 use Rattle.pua_policy.specs.Promises.{holds, error}
 use Rattle.pua_policy.specs.History.{History, Event, Pledged, Unveiled, kept, veils, held, veil_at, pledge_fault, unveil_fault, may_any, ProcessState, StandsFor}
 use Rattle.pua_policy.specs.Verdict.{place_of, directories_over, cover, cover_fault, is_unveil, verdict, verdict_on}
-use Rattle.pua_policy.specs.Calls.{CallTable, standard_table}
+use Rattle.pua_policy.specs.Calls.{CallTable}
+use Rattle.pua_policy.specs.Tables.{NoCallNeedsError}
 use Rattle.pua_policy.specs.declared.call.Call.{Call}
 
 -- the veils are exactly the places kept with their permissions
@@ -47,10 +48,10 @@ abbrev pub KeptPlacesNarrow : Type 0
 KeptPlacesNarrow = (h : History) (place : Place) (old perms : ℕ) → kept h place ≡ Some old → unveil_fault h place perms ≡ None →
     (t : Tree) (object : Found) (wanted : ℕ) → cover_fault (cover t (Unveiled place perms ∷ h) object) wanted ≡ None → cover_fault (cover t h object) wanted ≡ None
 
--- no pledge makes a call allowed, whether or not it names `error`
+-- no pledge makes a call allowed, whether or not it names `error`, where no row of the table names it
 abbrev pub PledgesNarrow : Type 0
-PledgesNarrow = (promises execpromises : Option ℕ) (h : History) (t : Tree) (call : Call) (object : Found) →
-    verdict t standard_table (Pledged promises execpromises ∷ h) call object ≡ Allowed → verdict t standard_table h call object ≡ Allowed
+PledgesNarrow = (table : CallTable) → NoCallNeedsError table → (promises execpromises : Option ℕ) (h : History) (t : Tree) (call : Call) (object : Found) →
+    verdict t table (Pledged promises execpromises ∷ h) call object ≡ Allowed → verdict t table h call object ≡ Allowed
 
 -- what a process keeps decides what it may do, whichever history it stands for
 abbrev pub ProcessesDecide : Type 0

@@ -2,8 +2,11 @@ pub mod Limits
 pub mod Promises
 pub mod Calls
 pub mod CallSets
+pub mod Tables
+pub mod TableTexts
 pub mod History
 pub mod Verdict
 pub mod Objects
 pub mod Laws
 pub mod Examples
+pub mod TableExamples

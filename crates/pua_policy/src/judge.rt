@@ -2,7 +2,7 @@
 
 ghost use Rattle.std.specs.Prelude.{◌≡◌, ◌+◌, ◌≤◌, [], ◌∷◌, ℕ, length, Some, None, is_none, MatchResult};
 ghost use Rattle.pua_tree.specs.Tree.{Tree};
-ghost use Rattle.pua_policy.specs.Calls.{standard_table};
+ghost use Rattle.pua_policy.specs.Calls.{rule_of};
 ghost use Rattle.pua_policy.specs.CallSets.{has};
 ghost use Rattle.pua_policy.specs.History.{History, StandsFor, may_any};
 ghost use Rattle.pua_policy.specs.Objects.{object_seen};
@@ -12,71 +12,93 @@ ghost use Rattle.pua_path.specs.declared.found.Way as way;
 use crate::answer::{Cover, May, Refusal, Verdict};
 use crate::call::Call;
 use crate::calls::Calls;
-use crate::needs;
 use crate::object::Object;
 use crate::perms::Perms;
 use crate::process::Process;
 use crate::promises::Promises;
+use crate::table::CallTable;
 use pua_path::{Errno, Found, Probe, Way};
 use pua_tree::{Kind, NodeId};
 
-/// Whether a process may do what needs all of these promises. Promises are asked here and nowhere
-/// else. Without them the call fails with `ENOSYS` where `error` is held, and else the process is
-/// killed; one that has ended may do nothing.
+/// Whether a process may do what needs all of these promises. Without them the call fails with
+/// `ENOSYS` where `error` is held, and else the process is killed; one that has ended may do nothing.
 pub fn promised(process: &Process, promises: Promises) -> Result<(), Refusal>
     ensures exact { (h : History) → StandsFor process.now h → MatchResult result
         (λ _. may_any h (promises ∷ []) ≡ May.Yes)
         (λ refusal. refusal_of (may_any h (promises ∷ [])) ≡ Some refusal) }
 {
-    match process.may(promises) {
+    promised_any(process, &[promises])
+}
+
+/// Whether a process holds what a call needs by a table: all promises of one of its alternatives.
+/// Without them the call fails, or the process is killed, as without those of `promised`.
+pub fn promised_for(process: &Process, table: &CallTable, call: Call) -> Result<(), Refusal>
+    ensures exact { (h : History) → StandsFor process.now h → MatchResult result
+        (λ _. may_any h (rule_of table.now call).alternatives ≡ May.Yes)
+        (λ refusal. refusal_of (may_any h (rule_of table.now call).alternatives) ≡ Some refusal) }
+{
+    promised_any(process, table.alternatives(call))
+}
+
+/// Whether a process may do what needs all promises of one of these sets. Promises are asked here
+/// and nowhere else. Where it holds none of the sets the call fails with `ENOSYS` if `error` is
+/// held, and else the process is killed; one that has ended may do nothing.
+fn promised_any(process: &Process, alternatives: &[Promises]) -> Result<(), Refusal>
+    ensures exact { (h : History) → StandsFor process.now h → MatchResult result
+        (λ _. may_any h alternatives.now ≡ May.Yes)
+        (λ refusal. refusal_of (may_any h alternatives.now) ≡ Some refusal) }
+{
+    match process.may_any(alternatives) {
         May::Yes => Ok(()),
         May::Enosys => Err(Refusal::Failed(Errno::ENOSYS)),
         May::Death => Err(Refusal::Killed),
     }
 }
 
-/// The verdict on a call, on what its path names: first the promises, then the cover, the
+/// The verdict on a call by a table, on what its path names: first the promises, then the cover, the
 /// permissions that it lacks, and what was found. Whether there is room for a new node is not
 /// asked. What was found is of the probe's tree as it stands. At most four more looks at the tree
 /// than it has nodes.
 pub fn verdict<'t, P: Probe<'t>>(
     probe: &mut P,
     process: &Process,
+    table: &CallTable,
     call: Call,
     found: &Found,
 ) -> Verdict
     requires { FoundFits (P.tree probe.old) found.now }
-    ensures exact { (h : History) → StandsFor process.now h → result ≡ verdict (P.tree probe.old) standard_table h call found.now }
+    ensures exact { (h : History) → StandsFor process.now h → result ≡ verdict (P.tree probe.old) table.now h call found.now }
     ensures tree { P.tree probe.new ≡ P.tree probe.old }
     ensures cost { P.count probe.new ≤ P.count probe.old + length (P.tree probe.old).nodes + 4 }
 {
-    if let Err(refusal) = promised(process, needs::need(call).promises) {
+    if let Err(refusal) = promised_for(process, table, call) {
         return refusal.verdict();
     }
-    match object_verdict(probe, process, call, found) {
+    match object_verdict(probe, process, table, call, found) {
         Ok(()) => Verdict::Allowed,
         Err(errno) => Verdict::Failed(errno),
     }
 }
 
-/// The verdict on a call whose path may have failed: without its promises the call fails by them,
+/// The verdict on a call by a table, where its path may have failed: without its promises the call fails by them,
 /// and else by its path.
 pub fn verdict_of<'t, P: Probe<'t>>(
     probe: &mut P,
     process: &Process,
+    table: &CallTable,
     call: Call,
     found: Result<Found, Errno>,
 ) -> Verdict
     requires { FoundsFit (P.tree probe.old) found }
-    ensures exact { (h : History) → StandsFor process.now h → result ≡ verdict_of (P.tree probe.old) standard_table h call found }
+    ensures exact { (h : History) → StandsFor process.now h → result ≡ verdict_of (P.tree probe.old) table.now h call found }
     ensures tree { P.tree probe.new ≡ P.tree probe.old }
     ensures cost { P.count probe.new ≤ P.count probe.old + length (P.tree probe.old).nodes + 4 }
 {
     let errno = match found {
-        Ok(found) => return verdict(probe, process, call, &found),
+        Ok(found) => return verdict(probe, process, table, call, &found),
         Err(errno) => errno,
     };
-    match promised(process, needs::need(call).promises) {
+    match promised_for(process, table, call) {
         Ok(()) => Verdict::Failed(errno),
         Err(refusal) => refusal.verdict(),
     }
@@ -89,18 +111,19 @@ pub fn verdict_of<'t, P: Probe<'t>>(
 pub fn object_verdict<'t, P: Probe<'t>>(
     probe: &mut P,
     process: &Process,
+    table: &CallTable,
     call: Call,
     found: &Found,
 ) -> Result<(), Errno>
     requires { FoundFits (P.tree probe.old) found.now }
     ensures exact { (h : History) → StandsFor process.now h → MatchResult result
-        (λ _. found_fault (P.tree probe.old) standard_table h call found.now ≡ None)
-        (λ errno. found_fault (P.tree probe.old) standard_table h call found.now ≡ Some errno) }
+        (λ _. found_fault (P.tree probe.old) table.now h call found.now ≡ None)
+        (λ errno. found_fault (P.tree probe.old) table.now h call found.now ≡ Some errno) }
     ensures tree { P.tree probe.new ≡ P.tree probe.old }
     ensures cost { P.count probe.new ≤ P.count probe.old + length (P.tree probe.old).nodes + 4 }
 {
     let cover = process.cover(probe, found);
-    if let Some(errno) = cover_fault(cover, needs::need(call).perms) {
+    if let Some(errno) = cover_fault(cover, table.perms(call)) {
         return Err(errno);
     }
     match object_fault(probe, call, found) {
@@ -112,13 +135,13 @@ pub fn object_verdict<'t, P: Probe<'t>>(
 /// The calls that are allowed on an object, by what the veils of the process leave of it: those on
 /// which the verdict is `Verdict::Allowed`, wherever such an object stands that has this cover. The
 /// tree is not asked. `Process::cover` tells the cover, and `object` what the object is.
-pub fn allowed(process: &Process, cover: Cover, object: Object) -> Calls
+pub fn allowed(process: &Process, table: &CallTable, cover: Cover, object: Object) -> Calls
     ensures { (t : Tree) (h : History) (judged : Judged) → StandsFor process.now h → object ≡ object_seen t judged →
-        (call : Call) → has result call ≡ is_allowed (covered_verdict t standard_table h call cover judged) }
+        (call : Call) → has result call ≡ is_allowed (covered_verdict t table.now h call cover judged) }
 {
     let mut calls = Calls::NONE;
     for call in Call::ALL {
-        if allows(process, call, &cover, object) {
+        if allows(process, table, call, &cover, object) {
             calls = calls.with(call);
         }
     }
@@ -127,24 +150,28 @@ pub fn allowed(process: &Process, cover: Cover, object: Object) -> Calls
 
 /// The calls that are allowed on what a path named. What was found is of the probe's tree as it
 /// stands. At most one more look at the tree than it has nodes.
-pub fn allowed_on<'t, P: Probe<'t>>(probe: &mut P, process: &Process, found: &Found) -> Calls
+pub fn allowed_on<'t, P: Probe<'t>>(
+    probe: &mut P,
+    process: &Process,
+    table: &CallTable,
+    found: &Found,
+) -> Calls
     requires { FoundFits (P.tree probe.old) found.now }
-    ensures exact { (h : History) → StandsFor process.now h → (call : Call) → has result call ≡ is_allowed (verdict (P.tree probe.old) standard_table h call found.now) }
+    ensures exact { (h : History) → StandsFor process.now h → (call : Call) → has result call ≡ is_allowed (verdict (P.tree probe.old) table.now h call found.now) }
     ensures tree { P.tree probe.new ≡ P.tree probe.old }
     ensures cost { P.count probe.new ≤ P.count probe.old + length (P.tree probe.old).nodes + 1 }
 {
     let object = object(probe, found);
-    allowed(process, process.cover(probe, found), object)
+    allowed(process, table, process.cover(probe, found), object)
 }
 
 /// Whether a call is allowed on an object that has this cover.
-fn allows(process: &Process, call: Call, cover: &Cover, object: Object) -> bool
+fn allows(process: &Process, table: &CallTable, call: Call, cover: &Cover, object: Object) -> bool
     ensures { (t : Tree) (h : History) (judged : Judged) → StandsFor process.now h → object ≡ object_seen t judged →
-        result ≡ is_allowed (covered_verdict t standard_table h call cover.now judged) }
+        result ≡ is_allowed (covered_verdict t table.now h call cover.now judged) }
 {
-    let need = needs::need(call);
-    promised(process, need.promises).is_ok()
-        && cover_fault(*cover, need.perms).is_none()
+    promised_for(process, table, call).is_ok()
+        && cover_fault(*cover, table.perms(call)).is_none()
         && suits(call, object)
 }
 

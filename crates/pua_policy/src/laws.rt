@@ -5,13 +5,16 @@ ghost use Rattle.std.specs.Prelude.{◌≡◌, [], ◌∷◌, Ok, codes, map};
 ghost use Rattle.pua_policy.specs.Laws.{VeilsAreKept, CoverNeedsUnveil, NearestCounts, KeptPlacesNarrow, HeldNeverGrows, PledgesNarrow, ProcessesDecide};
 ghost use Rattle.pua_policy.specs.Calls.{calls};
 ghost use Rattle.pua_policy.specs.Limits.{place_limit};
+ghost use Rattle.pua_policy.specs.Tables.{alternative_limit};
 ghost use Rattle.pua_policy.specs.Promises.{promises_of, other_promises, perms_of};
 ghost use Rattle.pua_policy.specs.Examples.{CoverRows, VerdictRows, LastCheckRows, SetRows};
+ghost use Rattle.pua_policy.specs.TableExamples.{TableRows};
 
 use crate::call::Call;
 use crate::perms::Perms;
 use crate::process::PLACE_LIMIT;
 use crate::promises::Promises;
+use crate::table::ALTERNATIVE_LIMIT;
 
 /// The constants of `Promises` that are one promise, in the order of their keywords: each is what
 /// its keyword names.
@@ -53,11 +56,12 @@ pub fn permission_constants() -> [Perms; 5]
     ]
 }
 
-/// Every call is listed, in the order of their numbers, and there may be as many places as the
-/// definition says.
+/// Every call is listed, in the order of their numbers, and there may be as many places, and as many
+/// alternatives of a call, as the definitions say.
 pub fn limits_law()
     ensures calls { Call.ALL ≡ calls }
     ensures places { PLACE_LIMIT ≡ place_limit }
+    ensures alternatives { ALTERNATIVE_LIMIT ≡ alternative_limit }
 {}
 
 /// Examples of what veils leave.
@@ -74,6 +78,12 @@ pub fn verdict_examples()
     ensures sets { SetRows }
 {}
 
+/// Examples of texts and of the tables that they give, or what refuses them.
+#[tactic(auto, using(crate::proofs::TableExamples::table_rows))]
+pub fn table_examples()
+    ensures { TableRows }
+{}
+
 /// The veils of a process are exactly the places with their last permissions. Of all events only
 /// an unveil changes what they leave; a successful exec is no event, and may drop them all. The
 /// nearest veil alone counts, and an unveil at a kept place leaves no object more than it had.
@@ -84,7 +94,8 @@ pub fn cover_laws()
     ensures narrows { KeptPlacesNarrow }
 {}
 
-/// No event brings back a promise but `error`, so no pledge makes a call allowed.
+/// No event brings back a promise but `error`, so no pledge makes a call allowed by a table that does
+/// not ask for it.
 pub fn promise_laws()
     ensures held { HeldNeverGrows }
     ensures allowed { PledgesNarrow }

@@ -13,6 +13,7 @@ mod perms;
 mod place;
 mod process;
 mod promises;
+mod table;
 
 pub use answer::{Cover, May, Refusal, UnveilFault, Verdict};
 pub use call::{Call, Need};
@@ -26,3 +27,4 @@ pub use perms::Perms;
 pub use place::Place;
 pub use process::{PLACE_LIMIT, Process};
 pub use promises::Promises;
+pub use table::{ALTERNATIVE_LIMIT, CallTable, TableFault};

@@ -39,7 +39,8 @@ impl Model for Process {
 }
 
 ghost use Rattle.std.specs.Prelude.{◌≡◌, ◌≢◌, ◌-◌, [], ◌∷◌, length, map, Option, Some, None, Err, IfOk, OnOk, OnErr, IfErr, IfSome, if◌then◌else◌, false, MatchResult, unwrap_or};
-ghost use Rattle.pua_policy.specs.Promises.{all_promises, error};
+ghost use Rattle.std.specs.List.{list_any};
+ghost use Rattle.pua_policy.specs.Promises.{holds, all_promises, error};
 ghost use Rattle.pua_policy.specs.History.{History, StandsFor, Pledged, Unveiled, Locked, Moved, Ended, new_history, HasHistory, after_exec, pledge_fault, unveil_fault, place_fault, is_within, narrowed, may_any, is_locked, is_ended, working_dir, kept, veil_at, has_veil};
 
 impl Process {
@@ -199,10 +200,19 @@ impl Process {
     pub fn may(&self, promises: Promises) -> May
         ensures { (h : History) → StandsFor self.now h → result ≡ may_any h (promises ∷ []) }
     {
+        self.may_any(&[promises])
+    }
+
+    /// Whether it may do what needs all promises of one of these sets: `Yes` where it holds one of
+    /// the sets, `Enosys` where it holds none and holds `error`, and else `Death`. One that has ended
+    /// may do nothing.
+    pub fn may_any(&self, alternatives: &[Promises]) -> May
+        ensures { (h : History) → StandsFor self.now h → result ≡ may_any h alternatives.now }
+    {
         let held = self.held();
         if self.ended {
             May::Death
-        } else if held.contains(promises) {
+        } else if holds_one(held, alternatives) {
             May::Yes
         } else if held.contains(Promises::ERROR) {
             May::Enosys
@@ -265,6 +275,13 @@ fn lent_places(alloc: Global, veils: &IndexMap<Place, Perms>) -> Result<Vec<&Pla
     ensures { IfOk result (λ places. map (λ place. place.now) places.items ≡ map (λ veil. veil.0) veils.now.entries) }
 {
     veils.keys().collect(alloc)
+}
+
+/// Whether these promises hold one of the sets.
+fn holds_one(held: Promises, sets: &[Promises]) -> bool
+    ensures { result ≡ list_any (holds held) sets.now }
+{
+    sets.iter().any(|set| held.contains(*set))
 }
 
 /// Whether a request names nothing beyond what was given before; before the first it may name

@@ -20,7 +20,7 @@ use Rattle.pua_path.specs.declared.found.Found.TheVariants.{Whole, Slot}
 use Rattle.pua_path.specs.declared.found.Last.TheVariants.{Followed, Kept}
 use Rattle.pua_path.specs.declared.found.Way.TheVariants as way
 use Rattle.pua_policy.specs.Promises.{cpath, proc, unveil, creating}
-use Rattle.pua_policy.specs.Calls.{CallTable, rule_of, standard_table, ending_of, last_of}
+use Rattle.pua_policy.specs.Calls.{CallTable, rule_of, ending_of, last_of}
 use Rattle.pua_policy.specs.History.{History, Pledged, Unveiled, Locked, Moved, Ended, ProcessState, is_locked, is_ended, working_dir, may_any, pledge_fault, unveil_fault}
 use Rattle.pua_policy.specs.Verdict.{place_of, cover, cover_fault, or_fault, object_fault, object_of, object_named, allowed_unless, verdict_of}
 use Rattle.pua_policy.specs.Verdict.{if_promised as verdict_if}
@@ -253,18 +253,18 @@ module _ (v w : World) (same : SameWorlds v w) where
       (λ i. if_promised ((allow h k a).promises (proc ∷ []) i) (cond (same_known _ _ (same.at new) i || nat_le process_limit (same.count i)) (Fails EAGAIN) (Copies new)))
       (same_promised _ _ _ (same_if (is_some (history_of w new) || nat_le process_limit (length w.histories)) _ _ _ _ fails copies))
 
-  same_effect : (h k : History) → Same h k → (action : Action) → SameEffect (effect standard_table v h action) (effect standard_table w k action)
-  same_effect h k a (OnPath c path) = subst (λ t. SameEffect (effect standard_table v h (OnPath c path)) (path_call standard_table t k c path)) same.tree (same_path_call h k a standard_table v.tree c path)
-  same_effect h k a (Symlink target path) = subst (λ t. SameEffect (effect standard_table v h (Symlink target path)) (symlink_effect standard_table t k target path)) same.tree (same_symlink h k a standard_table v.tree target path)
-  same_effect h k a (Rename old new) = subst (λ t. SameEffect (effect standard_table v h (Rename old new)) (on_two_paths t k ending.Dropped old new (λ x y. rename_found t k x y (node_named x)))) same.tree
+  same_effect : (table : CallTable) (h k : History) → Same h k → (action : Action) → SameEffect (effect table v h action) (effect table w k action)
+  same_effect table h k a (OnPath c path) = subst (λ t. SameEffect (effect table v h (OnPath c path)) (path_call table t k c path)) same.tree (same_path_call h k a table v.tree c path)
+  same_effect table h k a (Symlink target path) = subst (λ t. SameEffect (effect table v h (Symlink target path)) (symlink_effect table t k target path)) same.tree (same_symlink h k a table v.tree target path)
+  same_effect table h k a (Rename old new) = subst (λ t. SameEffect (effect table v h (Rename old new)) (on_two_paths t k ending.Dropped old new (λ x y. rename_found t k x y (node_named x)))) same.tree
       (same_two_paths h k a v.tree ending.Dropped old new _ _ (λ x y. same_rename h k a v.tree x y (node_named x)))
-  same_effect h k a (Link old new) = subst (λ t. SameEffect (effect standard_table v h (Link old new)) (on_two_paths t k ending.Dot old new (λ x y. link_found t k x y (node_named x)))) same.tree
+  same_effect table h k a (Link old new) = subst (λ t. SameEffect (effect table v h (Link old new)) (on_two_paths t k ending.Dot old new (λ x y. link_found t k x y (node_named x)))) same.tree
       (same_two_paths h k a v.tree ending.Dot old new _ _ (λ x y. same_link h k a v.tree x y (node_named x)))
-  same_effect h k a (Pledge p e) = subst (λ t. SameEffect (effect standard_table v h (Pledge p e)) (pledge_effect t k p e)) same.tree (same_pledge h k a v.tree p e)
-  same_effect h k a (Unveil path perms) = subst (λ t. SameEffect (effect standard_table v h (Unveil path perms)) (if_promised (may_any k (unveil ∷ [])) (cond (is_locked k) (Fails EPERM) (veil_on t k path perms (veil_put t k))))) same.tree (same_unveil h k a v.tree path perms)
-  same_effect h k a Lock = subst (λ t. SameEffect (effect standard_table v h Lock) (if_promised (may_any k (unveil ∷ [])) (Leaves t (Locked ∷ k)))) same.tree (same_lock h k a v.tree)
-  same_effect h k a (Fork new) = same_fork new h k a
-  same_effect h k a Exit = subst (λ t. SameEffect (Leaves v.tree (Ended ∷ h)) (Leaves t (Ended ∷ k))) same.tree (leaves (same_more Ended h k a))
+  same_effect table h k a (Pledge p e) = subst (λ t. SameEffect (effect table v h (Pledge p e)) (pledge_effect t k p e)) same.tree (same_pledge h k a v.tree p e)
+  same_effect table h k a (Unveil path perms) = subst (λ t. SameEffect (effect table v h (Unveil path perms)) (if_promised (may_any k (unveil ∷ [])) (cond (is_locked k) (Fails EPERM) (veil_on t k path perms (veil_put t k))))) same.tree (same_unveil h k a v.tree path perms)
+  same_effect table h k a Lock = subst (λ t. SameEffect (effect table v h Lock) (if_promised (may_any k (unveil ∷ [])) (Leaves t (Locked ∷ k)))) same.tree (same_lock h k a v.tree)
+  same_effect table h k a (Fork new) = same_fork new h k a
+  same_effect table h k a Exit = subst (λ t. SameEffect (Leaves v.tree (Ended ∷ h)) (Leaves t (Ended ∷ k))) same.tree (leaves (same_more Ended h k a))
 
   abbrev SameDone : (Answer × World) → (Answer × World) → Type 0
   SameDone c d = (c.0 ≡ d.0) × SameWorlds c.1 d.1
@@ -279,28 +279,28 @@ module _ (v w : World) (same : SameWorlds v w) where
   same_gone_if true c d done = (refl, same)
   same_gone_if false c d done = done
 
-  same_served : (ask : Asked) (o g : Option History) → SameAt o g → SameDone (served standard_table v ask o) (served standard_table w ask g)
-  same_served ask None None at = (refl, same)
-  same_served ask None (Some k) at = absurd at
-  same_served ask (Some h) None at = absurd at
-  same_served ask (Some h) (Some k) at =
-      let d = effect standard_table v h ask.action in
-      let e = effect standard_table w k ask.action in
-      subst (λ b. SameDone (cond b (Gone, v) (answer_to d, left_by v ask.process h d)) (served standard_table w ask (Some k))) (sym at.ended)
-      (same_gone_if (is_ended k) _ _ (same_left ask.process h k at d e (same_effect h k at ask.action)))
+  same_served : (table : CallTable) (ask : Asked) (o g : Option History) → SameAt o g → SameDone (served table v ask o) (served table w ask g)
+  same_served table ask None None at = (refl, same)
+  same_served table ask None (Some k) at = absurd at
+  same_served table ask (Some h) None at = absurd at
+  same_served table ask (Some h) (Some k) at =
+      let d = effect table v h ask.action in
+      let e = effect table w k ask.action in
+      subst (λ b. SameDone (cond b (Gone, v) (answer_to d, left_by v ask.process h d)) (served table w ask (Some k))) (sym at.ended)
+      (same_gone_if (is_ended k) _ _ (same_left ask.process h k at d e (same_effect table h k at ask.action)))
 
-  same_step : (ask : Asked) → SameDone (apply standard_table v ask) (apply standard_table w ask)
-  same_step ask = same_served ask _ _ (same.at ask.process)
+  same_step : (table : CallTable) (ask : Asked) → SameDone (apply table v ask) (apply table w ask)
+  same_step table ask = same_served table ask _ _ (same.at ask.process)
 
-record SameEnd (v w : World) (asks : List Asked) : Type 0 where
-  told : answers standard_table v asks ≡ answers standard_table w asks
-  left : SameWorlds (world_after standard_table v asks) (world_after standard_table w asks)
+record SameEnd (table : CallTable) (v w : World) (asks : List Asked) : Type 0 where
+  told : answers table v asks ≡ answers table w asks
+  left : SameWorlds (world_after table v asks) (world_after table w asks)
 
-same_run : (asks : List Asked) (v w : World) → SameWorlds v w → SameEnd v w asks
-same_run [] v w same = record { told = refl; left = same }
-same_run (ask ∷ asks) v w same =
-    let step = same_step v w same ask in
-    let rest = same_run asks (apply standard_table v ask).1 (apply standard_table w ask).1 step.1 in
+same_run : (table : CallTable) (asks : List Asked) (v w : World) → SameWorlds v w → SameEnd table v w asks
+same_run table [] v w same = record { told = refl; left = same }
+same_run table (ask ∷ asks) v w same =
+    let step = same_step v w same table ask in
+    let rest = same_run table asks (apply table v ask).1 (apply table w ask).1 step.1 in
     record { told = λ i. step.0 i ∷ rest.told i; left = rest.left }
 
 -- a world of processes that stand for the histories
@@ -332,12 +332,12 @@ same_at_self : (o : Option History) → SameAt o o
 same_at_self None = tt
 same_at_self (Some h) = same_self h
 
-own_world : World → WorldState
-own_world v = record { tree = v.tree; processes = own_processes v.histories }
+own_world : CallTable → World → WorldState
+own_world table v = record { tree = v.tree; table = table; processes = own_processes v.histories }
 
-own_stands_for : (v w : World) → v.tree ≡ w.tree → ((n : ℕ) → SameAt (history_of v n) (history_of w n)) → length v.histories ≡ length w.histories → IsTrue (is_sorted nat_cmp w.histories) → StandsForWorld (own_world v) w
+own_stands_for : (table : CallTable) (v w : World) → v.tree ≡ w.tree → ((n : ℕ) → SameAt (history_of v n) (history_of w n)) → length v.histories ≡ length w.histories → IsTrue (is_sorted nat_cmp w.histories) → StandsForWorld (own_world table v) w
 unfolding own_world
-own_stands_for v w trees at counts sorted = record {
+own_stands_for table v w trees at counts sorted = record {
   tree = trees;
   processes = λ n. subst (λ o. StandsAt o (history_of w n)) (sym (own_at n v.histories)) (own_stands _ _ (at n));
   count = own_count v.histories ∙ counts;
@@ -361,10 +361,10 @@ worlds_answer_alike s v w asks first second =
       first_order = first.in_order;
       second_order = second.in_order;
     } in
-    let end = same_run asks v w same in
-    let x = world_after standard_table v asks in
-    let y = world_after standard_table w asks in
+    let end = same_run s.table asks v w same in
+    let x = world_after s.table v asks in
+    let y = world_after s.table w asks in
     record {
       told = end.told;
-      left = (own_world x, own_stands_for x x refl (λ n. same_at_self _) refl end.left.first_order, own_stands_for x y end.left.tree end.left.at end.left.count end.left.second_order);
+      left = (own_world s.table x, own_stands_for s.table x x refl (λ n. same_at_self _) refl end.left.first_order, own_stands_for s.table x y end.left.tree end.left.at end.left.count end.left.second_order);
     }

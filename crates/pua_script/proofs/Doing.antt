@@ -3,15 +3,21 @@ use Rattle.std.proofs.Common.{◌≡◌, ℕ, Some, Result, Ok, Err, IsOk, refl,
 use Rattle.std.proofs.lemmas.Option.{same_Some}
 use Rattle.pua_tree.specs.Tree.{Tree}
 use Rattle.pua_tree.specs.declared.fault.TreeFault.{TreeFault}
-use Rattle.pua_policy.specs.History.{History, ProcessState, StandsFor}
-use Rattle.pua_policy.specs.Verdict.{refusal_of}
+use Rattle.pua_path.specs.declared.errno.Errno.{Errno}
+use Rattle.pua_path.specs.declared.found.Found.{Found}
+use Rattle.pua_policy.specs.Calls.{CallTable, rule_of}
+use Rattle.pua_policy.specs.declared.call.Call.{Call}
+use Rattle.pua_policy.specs.History.{History, ProcessState, StandsFor, may_any}
+use Rattle.pua_policy.specs.Verdict.{refusal_of, verdict_of}
+use Rattle.pua_policy.specs.Verdict.{if_promised as unless_refused}
+use Rattle.pua_policy.specs.declared.answer.Verdict.{Verdict}
 use Rattle.pua_policy.specs.declared.answer.May.{May}
 use Rattle.pua_policy.specs.declared.answer.May.TheVariants as may
 use Rattle.pua_policy.specs.declared.answer.Refusal.{Refusal}
 use Rattle.pua_script.specs.declared.answer.Answer.{Answer}
 use Rattle.pua_script.specs.declared.answer.Answer.TheVariants.{Okay}
 use Rattle.pua_script.specs.declared.fault.WorldFault.{WorldFault}
-use Rattle.pua_script.specs.Replay.{Effect, if_promised, edited, edited_tree, answer_to}
+use Rattle.pua_script.specs.Replay.{Effect, by_verdict, on_found, if_promised, edited, edited_tree, answer_to}
 use Rattle.pua_script.specs.Judged.{refused}
 use Rattle.pua_script.specs.Worlds.{Does, Edits, Attempts, AttemptsEdit}
 
@@ -20,6 +26,17 @@ pub promises_refuse : (m : May) (refusal : Refusal) (e : Effect) → refusal_of 
 promises_refuse may.Yes refusal e is = cc
 promises_refuse may.Enosys refusal e is = ap refused (same_Some _ _ is)
 promises_refuse may.Death refusal e is = ap refused (same_Some _ _ is)
+
+-- and so it is for a call, whatever its path names
+by_refusal : (m : May) (v : Verdict) (e : Effect) (refusal : Refusal) → refusal_of m ≡ Some refusal → by_verdict (unless_refused m v) e ≡ refused refusal
+by_refusal may.Yes v e refusal is = cc
+by_refusal may.Enosys v e refusal is = ap refused (same_Some _ _ is)
+by_refusal may.Death v e refusal is = ap refused (same_Some _ _ is)
+
+pub call_refused : (t : Tree) (table : CallTable) (h : History) (call : Call) (object : Result Found Errno) (f : Found → Effect) (refusal : Refusal)
+    → refusal_of (may_any h (rule_of table call).alternatives) ≡ Some refusal → by_verdict (verdict_of t table h call object) (on_found object f) ≡ refused refusal
+call_refused t table h call (Ok x) f refusal is = by_refusal _ _ _ refusal is
+call_refused t table h call (Err errno) f refusal is = by_refusal _ _ _ refusal is
 
 module _ (t u : Tree) (h : History) (a : Answer) (q : ProcessState) where
   -- by an equal effect

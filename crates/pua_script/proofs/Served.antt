@@ -42,14 +42,14 @@ standard_table_narrows = record {
 }
 
 pub is_narrowing : (before : WorldState) (ask : Asked) → IsNarrowing before ask
-is_narrowing before ask w stands = each_narrows standard_table w ask
+is_narrowing before ask w stands = each_narrows before.table w ask
 
 -- both worlds have a tree
 pub is_sparing : (before : WorldState) (ask : Asked) (answer : Answer) (after : WorldState) → WellFormed before.tree → WellFormed after.tree → IsServed before ask answer after → IsSparing before ask after
-is_sparing before ask answer after well well_then served w stands h here =
+is_sparing before ask answer after well well_then served needs w stands h here =
     let left = (served w stands).1 in
-    let stays = each_spares standard_table standard_table_narrows.taking w ask h (subst WellFormed stands.tree well) (subst WellFormed left.tree well_then) here in
-    subst (λ u. UncoveredStay h before.tree u) (sym left.tree) (subst (λ t. UncoveredStay h t (apply standard_table w ask).1.tree) (sym stands.tree) stays)
+    let stays = each_spares before.table needs w ask h (subst WellFormed stands.tree well) (subst WellFormed left.tree well_then) here in
+    subst (λ u. UncoveredStay h before.tree u) (sym left.tree) (subst (λ t. UncoveredStay h t (apply before.table w ask).1.tree) (sym stands.tree) stays)
 
 -- the trees on the way of one request more
 more_trees : (table : CallTable) (w : World) (asks : List Asked) (ask : Asked) → TreesAlong table w asks → WellFormed (apply table (world_after table w asks) ask).1.tree → TreesAlong table w (asks ++ ask ∷ [])
@@ -61,8 +61,10 @@ done_more : (before mid after : WorldState) (asks : List Asked) (told : List Ans
 done_more before mid after asks told ask answer well first next = (
   served_more before mid after asks told ask answer first.0 next,
   λ w stands.
-      let left = (next (world_after standard_table w asks) (first.0 w stands).1).1 in
-      more_trees standard_table w asks ask (first.1 w stands) (subst WellFormed left.tree well),
+      let done = first.0 w stands in
+      let v = world_after before.table w asks in
+      let left = subst (λ (table : CallTable). StandsForWorld after (apply table v ask).1) done.2 (next v done.1).1 in
+      more_trees before.table w asks ask (first.1 w stands) (subst WellFormed left.tree well),
 )
 
 -- the next of a list of requests
@@ -78,34 +80,34 @@ pub done_before : (before mid after : WorldState) (asks own : List Asked) (i : �
 done_before before mid after asks own i told is same first = (
   i,
   λ w stands. (
-    subst (λ x. StandsForWorld x (world_after standard_table w (take i asks))) (sym same) (subst (λ xs. StandsForWorld mid (world_after standard_table w (take i xs))) is (first.0 w stands).1),
-    subst (λ xs. TreesAlong standard_table w (take i xs)) is (first.1 w stands),
+    subst (λ x. StandsForWorld x (world_after before.table w (take i asks))) (sym same) (subst (λ xs. StandsForWorld mid (world_after before.table w (take i xs))) is (first.0 w stands).1),
+    ap (λ (x : WorldState). x.table) same ∙ (first.0 w stands).2,
+    subst (λ xs. TreesAlong before.table w (take i xs)) is (first.1 w stands),
   ),
 )
 
 -- none was served yet
 pub done_none : (s : WorldState) → WellFormed s.tree → AreDone s [] [] s
-done_none s well = (λ w stands. (refl, stands), λ w stands. subst WellFormed stands.tree well)
+done_none s well = (λ w stands. (refl, stands, refl), λ w stands. subst WellFormed stands.tree well)
 
 -- what was served holds the families
-held_by : (before after : WorldState) (asks : List Asked) → ((w : World) → StandsForWorld before w → StandsForWorld after (world_after standard_table w asks) × TreesAlong standard_table w asks) → AreHeld before asks after
+held_by : (before after : WorldState) (asks : List Asked) → ((w : World) → StandsForWorld before w → StandsForWorld after (world_after before.table w asks) × TreesAlong before.table w asks) → AreHeld before asks after
 held_by before after asks done = record {
-  narrows = λ w stands. families_narrow standard_table w asks;
+  narrows = λ w stands. families_narrow before.table w asks;
   confines = λ w stands process now here confined none alone.
-      let both = families_confine standard_table w asks process now here confined none alone in
+      let both = families_confine before.table w asks process now here confined none alone in
       let left = done w stands in
-      let stays = both.spares standard_table_narrows.taking left.1 in
       record {
-        spares = subst (λ u. UncoveredStay now before.tree u) (sym left.0.tree) (subst (λ t. UncoveredStay now t (world_after standard_table w asks).tree) (sym stands.tree) stays);
-        unchanged = λ lacks. left.0.tree ∙ both.unchanged standard_table_narrows.changing lacks ∙ sym stands.tree;
+        spares = λ needs. subst (λ u. UncoveredStay now before.tree u) (sym left.0.tree) (subst (λ t. UncoveredStay now t (world_after before.table w asks).tree) (sym stands.tree) (both.spares needs left.1));
+        unchanged = λ needs lacks. left.0.tree ∙ both.unchanged needs lacks ∙ sym stands.tree;
       };
 }
 
 module _ {A E : Type 0} (before after : WorldState) (asks : List Asked) (told : A → List Answer) where
   pub run_served : (r : Result A E) → MatchResult r (λ a. AreDone before asks (told a) after) (λ _. AreDoneInPart before asks after) → MatchResult r (λ a. AreServed before asks (told a) after) (λ _. AreServedInPart before asks after)
   run_served (Ok a) done = done.0
-  run_served (Err e) done = (done.0, λ w stands. (done.1 w stands).0)
+  run_served (Err e) done = (done.0, λ w stands. ((done.1 w stands).0, (done.1 w stands).1))
 
   pub run_held : (r : Result A E) → MatchResult r (λ a. AreDone before asks (told a) after) (λ _. AreDoneInPart before asks after) → MatchResult r (λ _. AreHeld before asks after) (λ _. AreHeldInPart before asks after)
   run_held (Ok a) done = held_by before after asks (λ w stands. ((done.0 w stands).1, done.1 w stands))
-  run_held (Err e) done = (done.0, held_by before after (take done.0 asks) done.1)
+  run_held (Err e) done = (done.0, held_by before after (take done.0 asks) (λ w stands. ((done.1 w stands).0, (done.1 w stands).2)))

@@ -6,7 +6,7 @@ use Rattle.std.specs.Prelude.{nat_le}
 use Rattle.std.specs.Map.{lookup, set_value}
 use Rattle.std.proofs.lemmas.Map.Steps.{set_value_same}
 use Rattle.pua_tree.specs.Tree.{Tree}
-use Rattle.pua_policy.specs.Calls.{standard_table}
+use Rattle.pua_policy.specs.Calls.{CallTable}
 use Rattle.pua_policy.specs.Promises.{proc}
 use Rattle.pua_policy.specs.History.{History, ProcessState, StandsFor, Ended, is_ended, may_any}
 use Rattle.pua_policy.specs.declared.answer.May.TheVariants as may
@@ -15,6 +15,7 @@ use Rattle.pua_script.specs.Requests.{Asked}
 use Rattle.pua_script.specs.declared.answer.Answer.{Answer}
 use Rattle.pua_script.specs.declared.fault.WorldFault.{WorldFault}
 use Rattle.pua_script.specs.declared.answer.Answer.TheVariants.{Okay, Gone}
+use Rattle.pua_script.specs.declared.request.Action.{Action}
 use Rattle.pua_script.specs.declared.request.Action.TheVariants.{Fork}
 use Rattle.pua_script.specs.Replay.{World, Effect, Fails, Kills, Leaves, Copies, if_promised, history_of, effect, answer_to, left_by, served, apply, world_after}
 use Rattle.pua_script.specs.Limits.{process_limit}
@@ -26,9 +27,9 @@ use Rattle.pua_script.proofs.StoodFor.{same_numbers, stands_changed, stands_made
 module _ (s : WorldState) (ask : Asked) (answer : Answer) (t : Tree) (p q : ProcessState) (more : List (ℕ × ProcessState))
     (there : process_at s ask.process ≡ Some p) (living : p.ended ≡ false)
     (changed : (n : ℕ) → lookup (nat_eq n) more ≡ cond (nat_eq ask.process n) (Some q) (process_at s n)) (counted : length more ≡ length s.processes)
-    (acts : (w : World) (h : History) → StandsForWorld s w → StandsFor p h → Does s.tree h (effect standard_table w h ask.action) answer t q) where
+    (acts : (w : World) (h : History) → StandsForWorld s w → StandsFor p h → Does s.tree h (effect s.table w h ask.action) answer t q) where
   abbrev pub left_world : WorldState
-  left_world = record { tree = t; processes = more }
+  left_world = record { tree = t; table = s.table; processes = more }
 
   module _ (w : World) (stands : StandsForWorld s w) (h : History) (known : history_of w ask.process ≡ Some h) where
     -- the caller's history stays as it was
@@ -48,12 +49,12 @@ module _ (s : WorldState) (ask : Asked) (answer : Answer) (t : Tree) (p q : Proc
     left (Fails errno) does = (does.told, stays w.tree (does.left ∙ stands.tree) does.stands)
     left Kills does = (
       does.told,
-      subst (λ x. StandsForWorld (record { tree = x; processes = more }) (left_by w ask.process h Kills)) (sym (does.left ∙ stands.tree))
+      subst (λ x. StandsForWorld (record { tree = x; table = s.table; processes = more }) (left_by w ask.process h Kills)) (sym (does.left ∙ stands.tree))
           (stands_changed s w stands ask.process w.tree q (Ended ∷ h) more does.stands changed (ap is_some known) counted),
     )
     left (Leaves tree g) does = (
       does.told,
-      subst (λ x. StandsForWorld (record { tree = x; processes = more }) (left_by w ask.process h (Leaves tree g))) (sym does.left)
+      subst (λ x. StandsForWorld (record { tree = x; table = s.table; processes = more }) (left_by w ask.process h (Leaves tree g))) (sym does.left)
           (stands_changed s w stands ask.process tree q g more does.stands changed (ap is_some known) counted),
     )
     left (Copies new) does = absurd (true≢false does.alone)
@@ -61,19 +62,19 @@ module _ (s : WorldState) (ask : Asked) (answer : Answer) (t : Tree) (p q : Proc
   pub serves : IsServed s ask answer left_world
   serves w stands = by (history_of w ask.process) refl (stands.processes ask.process)
     where
-      lives : (h : History) (b : Bool) (d : Answer × World) → b ≡ false → (answer ≡ d.0) × StandsForWorld left_world d.1 → (answer ≡ (cond b (Gone, w) d).0) × StandsForWorld left_world (cond b (Gone, w) d).1
+      lives : (h : History) (b : Bool) (d : Answer × World) → b ≡ false → (answer ≡ d.0) × StandsForWorld left_world d.1 → (answer ≡ (cond b (Gone, w) d).0) × StandsForWorld left_world (cond b (Gone, w) d).1 × (s.table ≡ s.table)
       lives h true d e done = absurd (true≢false e)
-      lives h false d e done = done
+      lives h false d e done = (done.0, done.1, refl)
 
-      by : (g : Option History) → history_of w ask.process ≡ g → StandsAt (process_at s ask.process) g → (answer ≡ (served standard_table w ask g).0) × StandsForWorld left_world (served standard_table w ask g).1
+      by : (g : Option History) → history_of w ask.process ≡ g → StandsAt (process_at s ask.process) g → (answer ≡ (served s.table w ask g).0) × StandsForWorld left_world (served s.table w ask g).1 × (s.table ≡ s.table)
       by None known at = absurd (subst (λ o. StandsAt o None) there at)
       by (Some h) known at =
           let own : StandsFor p h = subst (λ o. StandsAt o (Some h)) there at in
-          lives h (is_ended h) _ (sym own.ended ∙ living) (left w stands h known (effect standard_table w h ask.action) (acts w h stands own))
+          lives h (is_ended h) _ (sym own.ended ∙ living) (left w stands h known (effect s.table w h ask.action) (acts w h stands own))
 
 -- a living process that would be told `ok` is answered so
 module _ (s : WorldState) (ask : Asked) (p : ProcessState) (there : process_at s ask.process ≡ Some p) (living : p.ended ≡ false)
-    (okay : (w : World) (h : History) → StandsForWorld s w → StandsFor p h → answer_to (effect standard_table w h ask.action) ≡ Okay) where
+    (okay : (w : World) (h : History) → StandsForWorld s w → StandsFor p h → answer_to (effect s.table w h ask.action) ≡ Okay) where
   pub is_okay : IsOkay s ask
   is_okay w stands = by (history_of w ask.process) (stands.processes ask.process)
     where
@@ -81,7 +82,7 @@ module _ (s : WorldState) (ask : Asked) (p : ProcessState) (there : process_at s
       lives true d e done = absurd (true≢false e)
       lives false d e done = done
 
-      by : (g : Option History) → StandsAt (process_at s ask.process) g → (served standard_table w ask g).0 ≡ Okay
+      by : (g : Option History) → StandsAt (process_at s ask.process) g → (served s.table w ask g).0 ≡ Okay
       by None at = absurd (subst (λ o. StandsAt o None) there at)
       by (Some h) at =
           let own : StandsFor p h = subst (λ o. StandsAt o (Some h)) there at in
@@ -89,7 +90,7 @@ module _ (s : WorldState) (ask : Asked) (p : ProcessState) (there : process_at s
 
 -- where a fork is refused, so it is in the replay
 pub refused_alike : (s : WorldState) (w : World) → StandsForWorld s w → (h : History) (new : ℕ) (b : Bool) → b ≡ (is_some (process_at s new) || nat_le process_limit (length s.processes))
-    → effect standard_table w h (Fork new) ≡ if_promised (may_any h (proc ∷ [])) (cond b (Fails EAGAIN) (Copies new))
+    → effect s.table w h (Fork new) ≡ if_promised (may_any h (proc ∷ [])) (cond b (Fails EAGAIN) (Copies new))
 refused_alike s w stands h new b is = λ i. if_promised (may_any h (proc ∷ [])) (cond (sym (is ∙ (λ j. same_numbers _ _ (stands.processes new) j || nat_le process_limit (stands.count j))) i) (Fails EAGAIN) (Copies new))
 
 unset : (b c : Bool) → (b || c) ≡ false → b ≡ false
@@ -112,25 +113,26 @@ module _ (s : WorldState) (number new : ℕ) (p copy : ProcessState) (mid more :
   one_more : length more ≡ length s.processes + 1
   one_more = counted ∙ (λ i. length (same i) + cond ((ap is_some (was ∙ ap (lookup (nat_eq new)) same) ∙ is_new) i) 0 1)
 
-  pub forks : IsServed s (record { process = number; action = Fork new }) Okay (record { tree = s.tree; processes = more })
+  pub forks : IsServed s (record { process = number; action = Fork new }) Okay (record { tree = s.tree; table = s.table; processes = more })
   forks w stands = by (history_of w number) (stands.processes number)
     where
       copies : (h : History) (b : Bool) (e : Effect) → b ≡ false → e ≡ Copies new → StandsFor p h
-          → (Okay ≡ (cond {A = Answer × World} b (Gone, w) (answer_to e, left_by w number h e)).0) × StandsForWorld (record { tree = s.tree; processes = more }) (cond {A = Answer × World} b (Gone, w) (answer_to e, left_by w number h e)).1
+          → (Okay ≡ (cond {A = Answer × World} b (Gone, w) (answer_to e, left_by w number h e)).0) × StandsForWorld (record { tree = s.tree; table = s.table; processes = more }) (cond {A = Answer × World} b (Gone, w) (answer_to e, left_by w number h e)).1 × (s.table ≡ s.table)
       copies h true e ended is own = absurd (true≢false ended)
       copies h false e living is own =
-          subst (λ e. (Okay ≡ answer_to e) × StandsForWorld (record { tree = s.tree; processes = more }) (left_by w number h e)) (sym is) (
+          subst (λ e. (Okay ≡ answer_to e) × StandsForWorld (record { tree = s.tree; table = s.table; processes = more }) (left_by w number h e) × (s.table ≡ s.table)) (sym is) (
             refl,
-            subst (λ t. StandsForWorld (record { tree = t; processes = more }) (left_by w number h (Copies new))) (sym stands.tree)
+            subst (λ t. StandsForWorld (record { tree = t; table = s.table; processes = more }) (left_by w number h (Copies new))) (sym stands.tree)
                 (stands_made s w stands new w.tree p h more own copied_at (sym (same_numbers _ _ (stands.processes new)) ∙ is_new) one_more),
+            refl,
           )
 
       by : (g : Option History) → StandsAt (process_at s number) g
-          → (Okay ≡ (served standard_table w (record { process = number; action = Fork new }) g).0) × StandsForWorld (record { tree = s.tree; processes = more }) (served standard_table w (record { process = number; action = Fork new }) g).1
+          → (Okay ≡ (served s.table w (record { process = number; action = Fork new }) g).0) × StandsForWorld (record { tree = s.tree; table = s.table; processes = more }) (served s.table w (record { process = number; action = Fork new }) g).1 × (s.table ≡ s.table)
       by None at = absurd (subst (λ o. StandsAt o None) there at)
       by (Some h) at =
           let own : StandsFor p h = subst (λ o. StandsAt o (Some h)) there at in
-          copies h (is_ended h) (effect standard_table w h (Fork new)) (sym own.ended ∙ living)
+          copies h (is_ended h) (effect s.table w h (Fork new)) (sym own.ended ∙ living)
           (refused_alike s w stands h new false (sym free) ∙ ap (λ m. if_promised m (Copies new)) (promised h own)) own
 
 -- one request more
@@ -138,9 +140,10 @@ pub served_more : (before mid after : WorldState) (asks : List Asked) (told : Li
     → AreServed before (asks ++ ask ∷ []) (told ++ answer ∷ []) after
 served_more before mid after asks told ask answer first next w stands =
     let done = first w stands in
-    let last = next (world_after standard_table w asks) done.1 in
-    let composed = replay_composes standard_table w asks (ask ∷ []) in
-    ((λ i. done.0 i ++ last.0 i ∷ []) ∙ sym composed.0, subst (StandsForWorld after) (sym composed.1) last.1)
+    let v = world_after before.table w asks in
+    let last = subst (λ (table : CallTable). (answer ≡ (apply table v ask).0) × StandsForWorld after (apply table v ask).1 × (after.table ≡ table)) done.2 (next v done.1) in
+    let composed = replay_composes before.table w asks (ask ∷ []) in
+    ((λ i. done.0 i ++ last.0 i ∷ []) ∙ sym composed.0, subst (StandsForWorld after) (sym composed.1) last.1, last.2)
 
 -- the next of a list of requests
 pub served_next : (before mid after : WorldState) (asks : List Asked) (i : ℕ) (told more : List Answer) (ask : Asked) (answer : Answer) → i < length asks → ask ≡ get_or asks i ask → more ≡ told ++ answer ∷ []
@@ -154,39 +157,55 @@ served_next before mid after asks i told more ask answer within is pushed first 
 pub served_before : (before mid after : WorldState) (asks own : List Asked) (i : ℕ) (told : List Answer) → own ≡ asks → after ≡ mid → AreServed before (take i own) told mid → AreServedInPart before asks after
 served_before before mid after asks own i told is same first = (
   i,
-  λ w stands. subst (λ x. StandsForWorld x (world_after standard_table w (take i asks))) (sym same)
-      (subst (λ xs. StandsForWorld mid (world_after standard_table w (take i xs))) is (first w stands).1),
+  λ w stands. (
+    subst (λ x. StandsForWorld x (world_after before.table w (take i asks))) (sym same) (subst (λ xs. StandsForWorld mid (world_after before.table w (take i xs))) is (first w stands).1),
+    ap (λ (x : WorldState). x.table) same ∙ (first w stands).2,
+  ),
 )
 
 -- where a growth may have been refused
 pub all_serve : (s : WorldState) (ask : Asked) (r : Result Answer WorldFault) (t : Tree) (p q : ProcessState) (more : List (ℕ × ProcessState)) → Some p ≡ process_at s ask.process → p.ended ≡ false
     → ((n : ℕ) → lookup (nat_eq n) more ≡ cond (nat_eq ask.process n) (Some q) (process_at s n)) → length more ≡ length s.processes
-    → Acts s.tree p ask.action r t q → IfOk r (λ answer. IsServed s ask answer (record { tree = t; processes = more }))
+    → Acts s.table s.tree p ask.action r t q → IfOk r (λ answer. IsServed s ask answer (record { tree = t; table = s.table; processes = more }))
 all_serve s ask (Ok answer) t p q more there living changed counted acts = serves s ask answer t p q more (sym there) living changed counted (λ w h stands own. acts w h (sym stands.tree) own)
 all_serve s ask (Err fault) t p q more there living changed counted acts = tt
 
 -- where a growth was refused, the replay answers `ok`
 pub all_okay : (s : WorldState) (ask : Asked) (r : Result Answer WorldFault) (t : Tree) (p q : ProcessState) → Some p ≡ process_at s ask.process → p.ended ≡ false
-    → Acts s.tree p ask.action r t q → OnErr r (IsOkay s ask)
+    → Acts s.table s.tree p ask.action r t q → OnErr r (IsOkay s ask)
 all_okay s ask (Ok answer) t p q there living acts = tt
 all_okay s ask (Err fault) t p q there living acts = is_okay s ask p (sym there) living (λ w h stands own. acts w h (sym stands.tree) own)
 
 -- where it was not, the replay goes on
 pub goes_on : (r : Result Answer WorldFault) (s after : WorldState) (ask : Asked) → HasReplay s → IfOk r (λ answer. IsServed s ask answer after) → OnErr r (after ≡ s) → HasReplay after
-goes_on (Ok answer) s after ask has done same = record { world = (apply standard_table has.world ask).1; stands = (done has.world has.stands).1 }
+goes_on (Ok answer) s after ask has done same = record { world = (apply s.table has.world ask).1; stands = (done has.world has.stands).1 }
 goes_on (Err fault) s after ask has done same = subst HasReplay (sym same) has
 
-pub all_fork : (r : Result Answer WorldFault) (s : WorldState) (t : Tree) (before after : List (ℕ × ProcessState)) (ask asked : Asked) → record { tree = t; processes = before } ≡ s → ask ≡ asked
-    → IfOk r (λ answer. (t : Tree) → IsServed (record { tree = t; processes = before }) ask answer (record { tree = t; processes = after }))
-    → IfOk r (λ answer. IsServed s asked answer (record { tree = t; processes = after }))
-all_fork (Ok answer) s t before after ask asked is same served = subst (λ s. IsServed s asked answer (record { tree = t; processes = after })) is
-    (subst (λ a. IsServed (record { tree = t; processes = before }) a answer (record { tree = t; processes = after })) same (served t))
-all_fork (Err fault) s t before after ask asked is same served = tt
+pub all_fork : (r : Result Answer WorldFault) (s : WorldState) (t : Tree) (table : CallTable) (before after : List (ℕ × ProcessState)) (ask asked : Asked) → record { tree = t; table = table; processes = before } ≡ s → ask ≡ asked
+    → IfOk r (λ answer. (t : Tree) (table : CallTable) → IsServed (record { tree = t; table = table; processes = before }) ask answer (record { tree = t; table = table; processes = after }))
+    → IfOk r (λ answer. IsServed s asked answer (record { tree = t; table = table; processes = after }))
+all_fork (Ok answer) s t table before after ask asked is same served = subst (λ s. IsServed s asked answer (record { tree = t; table = table; processes = after })) is
+    (subst (λ a. IsServed (record { tree = t; table = table; processes = before }) a answer (record { tree = t; table = table; processes = after })) same (served t table))
+all_fork (Err fault) s t table before after ask asked is same served = tt
 
-pub all_fork_okay : (r : Result Answer WorldFault) (s : WorldState) (t : Tree) (before : List (ℕ × ProcessState)) (ask asked : Asked) → record { tree = t; processes = before } ≡ s → ask ≡ asked
-    → OnErr r ((t : Tree) → IsOkay (record { tree = t; processes = before }) ask) → OnErr r (IsOkay s asked)
-all_fork_okay (Ok answer) s t before ask asked is same okay = tt
-all_fork_okay (Err fault) s t before ask asked is same okay = subst (λ s. IsOkay s asked) is (subst (IsOkay (record { tree = t; processes = before })) same (okay t))
+pub all_fork_okay : (r : Result Answer WorldFault) (s : WorldState) (t : Tree) (table : CallTable) (before : List (ℕ × ProcessState)) (ask asked : Asked) → record { tree = t; table = table; processes = before } ≡ s → ask ≡ asked
+    → OnErr r ((t : Tree) (table : CallTable) → IsOkay (record { tree = t; table = table; processes = before }) ask) → OnErr r (IsOkay s asked)
+all_fork_okay (Ok answer) s t table before ask asked is same okay = tt
+all_fork_okay (Err fault) s t table before ask asked is same okay = subst (λ s. IsOkay s asked) is (subst (IsOkay (record { tree = t; table = table; processes = before })) same (okay t table))
+
+-- a request of a world is one of the same world, by its number and what it asks for
+as_asked : (n : ℕ) (a : Action) (ask : Asked) → n ≡ ask.process → a ≡ ask.action → record { process = n; action = a } ≡ ask
+as_asked n a ask number action = (λ i. record { process = number i; action = action i })
+
+pub all_serve_as : (r : Result Answer WorldFault) (s same after : WorldState) (n : ℕ) (a : Action) (ask : Asked) → s ≡ same → IfOk r (λ answer. IsServed s (record { process = n; action = a }) answer after)
+    → n ≡ ask.process → a ≡ ask.action → IfOk r (λ answer. IsServed same ask answer after)
+all_serve_as (Ok answer) s same after n a ask is served number action = subst (λ x. IsServed x ask answer after) is (subst (λ x. IsServed s x answer after) (as_asked n a ask number action) served)
+all_serve_as (Err fault) s same after n a ask is served number action = tt
+
+pub all_okay_as : (r : Result Answer WorldFault) (s same : WorldState) (n : ℕ) (a : Action) (ask : Asked) → s ≡ same → OnErr r (IsOkay s (record { process = n; action = a }))
+    → n ≡ ask.process → a ≡ ask.action → OnErr r (IsOkay same ask)
+all_okay_as (Ok answer) s same n a ask is okay number action = tt
+all_okay_as (Err fault) s same n a ask is okay number action = subst (λ x. IsOkay x ask) is (subst (IsOkay s) (as_asked n a ask number action) okay)
 
 -- a process written back as it was
 pub same_entries : (n : ℕ) (p q : ProcessState) (entries more : List (ℕ × ProcessState)) → Some p ≡ lookup (nat_eq n) entries → more ≡ set_value (nat_eq n) entries q → q ≡ p → more ≡ entries
@@ -198,12 +217,12 @@ pub all_kept : (r : Result Answer WorldFault) (t u : Tree) (n : ℕ) (p q : Proc
 all_kept (Ok answer) t u n p q entries more there wrote same = tt
 all_kept (Err fault) t u n p q entries more there wrote same = (same.0, same_entries n p q entries more there wrote same.1)
 
-pub world_kept : (r : Result Answer WorldFault) (t u : Tree) (entries more : List (ℕ × ProcessState)) (s : WorldState) → record { tree = t; processes = entries } ≡ s
-    → OnErr r ((u ≡ t) × (more ≡ entries)) → OnErr r (record { tree = u; processes = more } ≡ s)
-world_kept (Ok answer) t u entries more s is same = tt
-world_kept (Err fault) t u entries more s is same = (λ i. record { tree = same.0 i; processes = same.1 i }) ∙ is
+pub world_kept : (r : Result Answer WorldFault) (t u : Tree) (table : CallTable) (entries more : List (ℕ × ProcessState)) (s : WorldState) → record { tree = t; table = table; processes = entries } ≡ s
+    → OnErr r ((u ≡ t) × (more ≡ entries)) → OnErr r (record { tree = u; table = table; processes = more } ≡ s)
+world_kept (Ok answer) t u table entries more s is same = tt
+world_kept (Err fault) t u table entries more s is same = (λ i. record { tree = same.0 i; table = table; processes = same.1 i }) ∙ is
 
-pub processes_kept : (r : Result Answer WorldFault) (t : Tree) (entries more : List (ℕ × ProcessState)) (s : WorldState) → record { tree = t; processes = entries } ≡ s
-    → OnErr r (more ≡ entries) → OnErr r (record { tree = t; processes = more } ≡ s)
-processes_kept (Ok answer) t entries more s is same = tt
-processes_kept (Err fault) t entries more s is same = ap (λ es. record { tree = t; processes = es }) same ∙ is
+pub processes_kept : (r : Result Answer WorldFault) (t : Tree) (table : CallTable) (entries more : List (ℕ × ProcessState)) (s : WorldState) → record { tree = t; table = table; processes = entries } ≡ s
+    → OnErr r (more ≡ entries) → OnErr r (record { tree = t; table = table; processes = more } ≡ s)
+processes_kept (Ok answer) t table entries more s is same = tt
+processes_kept (Err fault) t table entries more s is same = ap (λ es. record { tree = t; table = table; processes = es }) same ∙ is

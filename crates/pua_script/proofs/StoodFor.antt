@@ -12,6 +12,7 @@ use Rattle.std.specs.FinMap.{put, find as find_key, is_sorted}
 use Rattle.std.specs.FinMap.Entries.{find-put, is_sorted-put, length-put}
 use Rattle.std.specs.Map.{lookup}
 use Rattle.pua_tree.specs.Tree.{Tree}
+use Rattle.pua_policy.specs.Calls.{CallTable}
 use Rattle.pua_policy.specs.History.{History, ProcessState, StandsFor, new_history}
 use Rattle.pua_script.specs.Replay.{World, history_of, new_world}
 use Rattle.pua_script.specs.Worlds.{WorldState, StandsAt, StandsForWorld, process_at}
@@ -37,9 +38,9 @@ stands_chosen true p h o g new old = new
 stands_chosen false p h o g new old = old
 
 -- process 1 alone
-pub stands_new : (t : Tree) (p : ProcessState) (entries : List (ℕ × ProcessState)) → entries ≡ (1, p) ∷ [] → StandsFor p new_history
-    → StandsForWorld (record { tree = t; processes = entries }) (new_world t)
-stands_new t p entries is own = rw is (record {
+pub stands_new : (t : Tree) (table : CallTable) (p : ProcessState) (entries : List (ℕ × ProcessState)) → entries ≡ (1, p) ∷ [] → StandsFor p new_history
+    → StandsForWorld (record { tree = t; table = table; processes = entries }) (new_world t)
+stands_new t table p entries is own = rw is (record {
   tree = refl;
   processes = λ n. subst (λ b. StandsAt (cond b (Some p) None) (history_of (new_world t) n)) (sym (nat_turned n 1 ∙ sym (nat_tie n 1)))
       (stands_chosen (eq_by_cmp nat_cmp n 1) p new_history None None own tt);
@@ -67,7 +68,7 @@ module _ (s : WorldState) (w : World) (stands : StandsForWorld s w) (n : ℕ) (t
   in_order = true_from_T _ (is_sorted-put nat_cmp nat_cmp_total n h w.histories (T_from_true _ stands.in_order))
 
   -- where the process was there before
-  pub stands_changed : is_some (history_of w n) ≡ true → length more ≡ length s.processes → StandsForWorld (record { tree = t; processes = more }) (record { tree = t; histories = put nat_cmp n h w.histories })
+  pub stands_changed : is_some (history_of w n) ≡ true → length more ≡ length s.processes → StandsForWorld (record { tree = t; table = s.table; processes = more }) (record { tree = t; histories = put nat_cmp n h w.histories })
   stands_changed there same = record {
     tree = refl;
     processes = at_each;
@@ -76,7 +77,7 @@ module _ (s : WorldState) (w : World) (stands : StandsForWorld s w) (n : ℕ) (t
   }
 
   -- where the number is new
-  pub stands_made : is_some (history_of w n) ≡ false → length more ≡ length s.processes + 1 → StandsForWorld (record { tree = t; processes = more }) (record { tree = t; histories = put nat_cmp n h w.histories })
+  pub stands_made : is_some (history_of w n) ≡ false → length more ≡ length s.processes + 1 → StandsForWorld (record { tree = t; table = s.table; processes = more }) (record { tree = t; histories = put nat_cmp n h w.histories })
   stands_made absent one = record {
     tree = refl;
     processes = at_each;

@@ -20,15 +20,15 @@ pub record StandardTableNarrows : Type 0 where
 
 -- each confined process is narrowed, but by its own exec
 abbrev pub IsNarrowing : WorldState → Asked → Type 0
-IsNarrowing before ask = (w : World) → StandsForWorld before w → RequestNarrows standard_table w ask
+IsNarrowing before ask = (w : World) → StandsForWorld before w → RequestNarrows before.table w ask
 
--- by the history of the one that asks, each row that isn't covered with `c` stays
+-- by the history of the one that asks, each row that isn't covered with `c` stays, if the table asks for `c` where a name is taken away
 abbrev pub IsSparing : WorldState → Asked → WorldState → Type 0
-IsSparing before ask after = (w : World) → StandsForWorld before w → (h : History) → history_of w ask.process ≡ Some h → UncoveredStay h before.tree after.tree
+IsSparing before ask after = TakingNeedsC before.table → (w : World) → StandsForWorld before w → (h : History) → history_of w ask.process ≡ Some h → UncoveredStay h before.tree after.tree
 
 -- a list of requests was served, and each world on the way has a tree
 abbrev pub HaveTrees : WorldState → List Asked → Type 0
-HaveTrees before asks = (w : World) → StandsForWorld before w → TreesAlong standard_table w asks
+HaveTrees before asks = (w : World) → StandsForWorld before w → TreesAlong before.table w asks
 
 abbrev pub AreDone : WorldState → List Asked → List Answer → WorldState → Type 0
 AreDone before asks told after = AreServed before asks told after × HaveTrees before asks
@@ -36,19 +36,19 @@ AreDone before asks told after = AreServed before asks told after × HaveTrees b
 -- some first ones of the requests were
 abbrev pub AreDoneInPart : WorldState → List Asked → WorldState → Type 0
 AreDoneInPart before asks after = (count : ℕ)
-    × ((w : World) → StandsForWorld before w → StandsForWorld after (world_after standard_table w (take count asks)) × TreesAlong standard_table w (take count asks))
+    × ((w : World) → StandsForWorld before w → StandsForWorld after (world_after before.table w (take count asks)) × (after.table ≡ before.table) × TreesAlong before.table w (take count asks))
 
--- by the history of a confined process at the beginning: each row that isn't covered with `c` stays, and without cpath the tree does
+-- by the history of a confined process at the beginning, and if the table asks for `c` and for cpath where it has to: each row that isn't covered with `c` stays, and without cpath the tree does
 pub record IsConfining (before : WorldState) (now : History) (after : WorldState) : Type 0 where
-  pub spares : UncoveredStay now before.tree after.tree
-  pub unchanged : IsFalse (holds (held now) cpath) → after.tree ≡ before.tree
+  pub spares : TakingNeedsC before.table → UncoveredStay now before.tree after.tree
+  pub unchanged : ChangingNeedsCpath before.table → IsFalse (holds (held now) cpath) → after.tree ≡ before.tree
 
 -- what a list of requests leaves: each family is narrowed, and confined where it alone asks, as long as no exec of a member is answered ok
 pub record AreHeld (before : WorldState) (asks : List Asked) (after : WorldState) : Type 0 where
-  pub narrows : (w : World) → StandsForWorld before w → FamilyNarrows standard_table w asks
+  pub narrows : (w : World) → StandsForWorld before w → FamilyNarrows before.table w asks
   pub confines : (w : World) → StandsForWorld before w → (process : ℕ) (now : History) →
-      history_of w process ≡ Some now → IsConfined now → IsTrue (none_done is_exec standard_table w asks (process ∷ [])) →
-      IsTrue (members_alone standard_table w asks (process ∷ [])) → IsConfining before now after
+      history_of w process ≡ Some now → IsConfined now → IsTrue (none_done is_exec before.table w asks (process ∷ [])) →
+      IsTrue (members_alone before.table w asks (process ∷ [])) → IsConfining before now after
 
 abbrev pub AreHeldInPart : WorldState → List Asked → WorldState → Type 0
 AreHeldInPart before asks after = (count : ℕ) × AreHeld before (take count asks) after

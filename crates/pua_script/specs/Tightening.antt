@@ -1,10 +1,11 @@
 -- The first part of narrowing: a process that can put no veil any more reaches no more, whatever is asked afterwards.
-use Rattle.std.specs.Prelude.{◌≡◌, ℕ, ◌<◌, ◌^◌, List, [], ◌∷◌, Some, IsTrue, IsFalse, bit_and, filter}
+use Rattle.std.specs.Prelude.{◌≡◌, ℕ, List, [], ◌∷◌, Some, IsTrue, IsFalse, filter}
 use Rattle.std.specs.List.{AllByRecursion}
 use Rattle.pua_tree.specs.Tree.{Tree}
 use Rattle.pua_path.specs.Paths.{is_absolute}
-use Rattle.pua_policy.specs.Promises.{holds, error}
-use Rattle.pua_policy.specs.Calls.{CallTable, rule_of}
+use Rattle.pua_policy.specs.Promises.{holds}
+use Rattle.pua_policy.specs.Calls.{CallTable}
+pub use Rattle.pua_policy.specs.Tables.{NamesNoError, NoCallNeedsError}
 use Rattle.pua_policy.specs.History.{History, held, working_dir}
 use Rattle.pua_policy.specs.Verdict.{is_unveil, verdict_on, is_allowed}
 use Rattle.pua_policy.specs.declared.call.Call.{Call}
@@ -14,14 +15,6 @@ use Rattle.pua_script.specs.Laws.{IsConfined}
 use Rattle.pua_script.specs.Family.{family, is_member, is_done, none_done, is_exec, is_chdir, HasHistoryOf}
 use Rattle.pua_script.specs.declared.request.Action.TheVariants.{Fork}
 use Rattle.pua_script.specs.declared.answer.Answer.TheVariants.{Okay}
-
--- a set of keywords without `error`, which a process can gain
-abbrev pub NamesNoError : ℕ → Type 0
-NamesNoError set = (set < 2 ^ 36) × (bit_and set error ≡ 0)
-
--- no alternative of any call names `error`
-abbrev pub NoCallNeedsError : CallTable → Type 0
-NoCallNeedsError table = (call : Call) → AllByRecursion NamesNoError (rule_of table call).alternatives
 
 -- the later history has the unveils of the earlier one as they are, adds no promise but `error`, and can put no veil
 pub record Tightens (before after : History) : Type 0 where

@@ -4,7 +4,7 @@ use Rattle.std.specs.Ordering.{nat_cmp}
 use Rattle.std.specs.FinMap.{is_sorted}
 use Rattle.std.specs.Map.{lookup}
 use Rattle.pua_tree.specs.Tree.{Tree}
-use Rattle.pua_policy.specs.Calls.{standard_table}
+use Rattle.pua_policy.specs.Calls.{CallTable}
 use Rattle.pua_policy.specs.History.{History, ProcessState, StandsFor}
 use Rattle.pua_script.specs.Requests.{Asked}
 use Rattle.pua_script.specs.Replay.{World, Effect, Kills, Leaves, Copies, history_of, apply, effect, answers, world_after, answer_to}
@@ -15,9 +15,10 @@ use Rattle.pua_script.specs.declared.fault.WorldFault.{WorldFault}
 use Rattle.pua_script.specs.declared.request.Action.{Action}
 use Rattle.pua_script.specs.declared.request.Action.TheVariants.{Fork}
 
--- a tree, and all processes ever made with their numbers, in the order in which they were made
+-- a tree, the table of calls, and all processes ever made with their numbers, in the order in which they were made
 pub record WorldState : Type 0 where
   pub tree : Tree
+  pub table : CallTable
   pub processes : List (ℕ × ProcessState)
 
 abbrev pub process_at : WorldState → ℕ → Option ProcessState
@@ -44,21 +45,21 @@ pub record HasReplay (s : WorldState) : Type 0 where
 
 -- the replay's answer is `ok`, whichever world it stands for
 abbrev pub IsOkay : WorldState → Asked → Type 0
-IsOkay s ask = (w : World) → StandsForWorld s w → (apply standard_table w ask).0 ≡ Okay
+IsOkay s ask = (w : World) → StandsForWorld s w → (apply s.table w ask).0 ≡ Okay
 
--- the answer is the replay's, and the world afterwards stands for the replay's, whichever world it stood for
+-- the answer is the replay's by the world's table, and the world afterwards stands for the replay's, whichever world it stood for; the table stays
 abbrev pub IsServed : WorldState → Asked → Answer → WorldState → Type 0
 IsServed before ask answer after =
-    (w : World) → StandsForWorld before w → (answer ≡ (apply standard_table w ask).0) × StandsForWorld after (apply standard_table w ask).1
+    (w : World) → StandsForWorld before w → (answer ≡ (apply before.table w ask).0) × StandsForWorld after (apply before.table w ask).1 × (after.table ≡ before.table)
 
 -- the same for a list of requests
 abbrev pub AreServed : WorldState → List Asked → List Answer → WorldState → Type 0
 AreServed before asks told after =
-    (w : World) → StandsForWorld before w → (told ≡ answers standard_table w asks) × StandsForWorld after (world_after standard_table w asks)
+    (w : World) → StandsForWorld before w → (told ≡ answers before.table w asks) × StandsForWorld after (world_after before.table w asks) × (after.table ≡ before.table)
 
 -- some first ones of the requests were served
 abbrev pub AreServedInPart : WorldState → List Asked → WorldState → Type 0
-AreServedInPart before asks after = (count : ℕ) × ((w : World) → StandsForWorld before w → StandsForWorld after (world_after standard_table w (take count asks)))
+AreServedInPart before asks after = (count : ℕ) × ((w : World) → StandsForWorld before w → StandsForWorld after (world_after before.table w (take count asks)) × (after.table ≡ before.table))
 
 -- what the world keeps at a number stands for the history at that number, in each world for which it stands
 abbrev pub IsProcessOf : WorldState → ℕ → Option ProcessState → Type 0
@@ -108,14 +109,14 @@ AttemptsEdit t h effect (Ok answer) tree = Edits t h effect answer tree
 AttemptsEdit t h effect (Err fault) tree = answer_to effect ≡ Okay
 
 -- a living process did what it asked for, whichever history it stands for
-abbrev pub Acts : Tree → ProcessState → Action → Result Answer WorldFault → Tree → ProcessState → Type 0
-Acts t before action result tree after =
-    (w : World) (h : History) → w.tree ≡ t → StandsFor before h → Attempts t h (effect standard_table w h action) result tree after
+abbrev pub Acts : CallTable → Tree → ProcessState → Action → Result Answer WorldFault → Tree → ProcessState → Type 0
+Acts table t before action result tree after =
+    (w : World) (h : History) → w.tree ≡ t → StandsFor before h → Attempts t h (effect table w h action) result tree after
 
--- two worlds of the replay for which one world stands answer alike, and one world stands for both afterwards
-pub record AnswerAlike (v w : World) (asks : List Asked) : Type 0 where
-  pub told : answers standard_table v asks ≡ answers standard_table w asks
-  pub left : (after : WorldState) × StandsForWorld after (world_after standard_table v asks) × StandsForWorld after (world_after standard_table w asks)
+-- two worlds of the replay for which one world stands answer alike by each table, and one world stands for both afterwards
+pub record AnswerAlike (table : CallTable) (v w : World) (asks : List Asked) : Type 0 where
+  pub told : answers table v asks ≡ answers table w asks
+  pub left : (after : WorldState) × StandsForWorld after (world_after table v asks) × StandsForWorld after (world_after table w asks)
 
 abbrev pub WorldsAnswerAlike : Type 0
-WorldsAnswerAlike = (s : WorldState) (v w : World) (asks : List Asked) → StandsForWorld s v → StandsForWorld s w → AnswerAlike v w asks
+WorldsAnswerAlike = (s : WorldState) (v w : World) (asks : List Asked) → StandsForWorld s v → StandsForWorld s w → AnswerAlike s.table v w asks

@@ -3,6 +3,7 @@
 ghost use Rattle.std.specs.Prelude.{◌≡◌, ◌∷◌, [], ◌||◌, IfOk, OnOk, OnErr, false, if◌then◌else◌, is_some, length, nat_eq, nat_le};
 ghost use Rattle.std.specs.Map.{lookup};
 ghost use Rattle.pua_tree.specs.Tree.{Tree};
+ghost use Rattle.pua_policy.specs.Calls.{CallTable};
 ghost use Rattle.pua_policy.specs.History.{History, StandsFor, may_any};
 ghost use Rattle.pua_policy.specs.Promises.{proc};
 ghost use Rattle.pua_policy.specs.declared.answer.May.TheVariants as may;
@@ -31,9 +32,9 @@ pub(crate) fn fork(
     number: u32,
     new: u32,
 ) -> Result<Answer, WorldFault>
-    ensures served { IfOk result (λ answer. (t : Tree) → IsServed (record { tree = t; processes = processes.old.entries })
-        (record { process = number; action = actions.Fork new }) answer (record { tree = t; processes = processes.new.entries })) }
-    ensures memory { OnErr result ((t : Tree) → IsOkay (record { tree = t; processes = processes.old.entries })
+    ensures served { IfOk result (λ answer. (t : Tree) (table : CallTable) → IsServed (record { tree = t; table = table; processes = processes.old.entries })
+        (record { process = number; action = actions.Fork new }) answer (record { tree = t; table = table; processes = processes.new.entries })) }
+    ensures memory { OnErr result ((t : Tree) (table : CallTable) → IsOkay (record { tree = t; table = table; processes = processes.old.entries })
         (record { process = number; action = actions.Fork new })) }
     ensures unchanged { OnErr result (processes.new.entries ≡ processes.old.entries) }
 {

@@ -4,7 +4,7 @@ ghost use Rattle.std.specs.Prelude.{◌≡◌, ℕ, None, IfOk, OnOk};
 ghost use Rattle.pua_path.specs.Paths.{path_fault};
 ghost use Rattle.pua_path.specs.Resolution.{resolution_of_text};
 ghost use Rattle.pua_path.specs.declared.found.Found as founds;
-ghost use Rattle.pua_policy.specs.Calls.{standard_table, rule_of};
+ghost use Rattle.pua_policy.specs.Calls.{rule_of};
 ghost use Rattle.pua_policy.specs.History.{History, StandsFor, may_any};
 ghost use Rattle.pua_policy.specs.Verdict.{object_named, place_of, verdict_of};
 ghost use Rattle.pua_policy.specs.declared.call.Call.TheVariants as calls;
@@ -13,9 +13,9 @@ ghost use Rattle.pua_script.specs.Replay.{Effect, by_verdict, if_promised, on_fo
 ghost use Rattle.pua_script.specs.Judged.{NameFits, IsFor, effect_on};
 
 use pua_path::{Counted, Ending, Errno, Found, Last, PathText, Probe, resolve};
-use pua_policy::judge::{object_verdict, promised};
+use pua_policy::judge::{object_verdict, promised, promised_for};
 use pua_policy::needs::{ending, need};
-use pua_policy::{Call, Perms, Place, Process, Promises, Refusal};
+use pua_policy::{Call, CallTable, Perms, Place, Process, Promises, Refusal};
 use pua_tree::{FileTree, NodeId};
 
 /// What a path names from a directory.
@@ -38,25 +38,26 @@ pub(crate) fn named<'t, P: Probe<'t>>(
 /// What becomes of a call of a process: its promises are judged before its path is read.
 pub(crate) fn judge_call<T: FileTree>(
     tree: &T,
+    table: &CallTable,
     process: &Process,
     call: Call,
     path: &[u8],
 ) -> Result<Found, Refusal>
     ensures exact { (h : History) → StandsFor process.now h → (f : founds.Found → Effect) →
         let object = object_named (T.content tree.now) h call path.now in
-        by_verdict (verdict_of (T.content tree.now) standard_table h call object) (on_found object f)
+        by_verdict (verdict_of (T.content tree.now) table.now h call object) (on_found object f)
         ≡ effect_on result f }
     ensures fits { IfOk result (IsFor (T.content tree.now) call) }
 {
-    let need = need(call);
-    promised(process, need.promises)?;
+    promised_for(process, table, call)?;
     let mut probe = Counted::new(tree);
-    let found = match named(&mut probe, process.dir(), path, ending(call), need.last) {
+    let last = need(call).last;
+    let found = match named(&mut probe, process.dir(), path, ending(call), last) {
         Ok(found) => found,
         Err(errno) => return Err(Refusal::Failed(errno)),
     };
     process.known();
-    match object_verdict(&mut probe, process, call, &found) {
+    match object_verdict(&mut probe, process, table, call, &found) {
         Ok(()) => Ok(found),
         Err(errno) => Err(Refusal::Failed(errno)),
     }
@@ -65,24 +66,25 @@ pub(crate) fn judge_call<T: FileTree>(
 /// What becomes of a symlink: the promise, then the target's text, then the path.
 pub(crate) fn judge_symlink<T: FileTree>(
     tree: &T,
+    table: &CallTable,
     process: &Process,
     target: &[u8],
     path: &[u8],
 ) -> Result<Found, Refusal>
     ensures exact { (h : History) → StandsFor process.now h → (f : founds.Found → Effect) →
         let object = object_named (T.content tree.now) h calls.Symlink path.now in
-        let verdict = verdict_of (T.content tree.now) standard_table h calls.Symlink object in
-        if_promised (may_any h (rule_of standard_table calls.Symlink).alternatives)
+        let verdict = verdict_of (T.content tree.now) table.now h calls.Symlink object in
+        if_promised (may_any h (rule_of table.now calls.Symlink).alternatives)
         (unless (path_fault target.now) (by_verdict verdict (on_found object f)))
         ≡ effect_on result f }
     ensures target { OnOk result (path_fault target.now ≡ None) }
     ensures fits { IfOk result (IsFor (T.content tree.now) calls.Symlink) }
 {
-    promised(process, need(Call::Symlink).promises)?;
+    promised_for(process, table, Call::Symlink)?;
     if let Err(errno) = PathText::read(target, Ending::Dot) {
         return Err(Refusal::Failed(errno));
     }
-    judge_call(tree, process, Call::Symlink, path)
+    judge_call(tree, table, process, Call::Symlink, path)
 }
 
 /// What becomes of an unveil, before it is put: the promise, the lock, the letters, and the path. A

@@ -2,7 +2,6 @@
 
 ghost use Rattle.std.specs.Prelude.{◌≡◌, OnErr, false};
 ghost use Rattle.pua_tree.specs.Tree.{Tree};
-ghost use Rattle.pua_policy.specs.Calls.{standard_table};
 ghost use Rattle.pua_policy.specs.History.{History, StandsFor};
 ghost use Rattle.pua_script.specs.Replay.{path_call, symlink_effect, unveil_request, veil_put};
 ghost use Rattle.pua_script.specs.Worlds.{Attempts};
@@ -13,23 +12,24 @@ use crate::fault::WorldFault;
 use crate::judged::{judge_call, judge_symlink, judge_unveil};
 use crate::process::refuse;
 use pua_path::Errno;
-use pua_policy::{Call, Perms, Place, Process, UnveilFault};
+use pua_policy::{Call, CallTable, Perms, Place, Process, UnveilFault};
 use pua_tree::{FileTree, Kind};
 
 /// A call of the table, except symlink.
 pub(crate) fn on_path<T: FileTree>(
     tree: &mut T,
+    table: &CallTable,
     process: &mut Process,
     call: Call,
     path: &[u8],
 ) -> Result<Answer, WorldFault>
     requires { process.old.ended ≡ false }
     ensures exact { (h : History) → StandsFor process.old h →
-        Attempts (T.content tree.old) h (path_call standard_table (T.content tree.old) h call path.now)
+        Attempts (T.content tree.old) h (path_call table.now (T.content tree.old) h call path.now)
         result (T.content tree.new) process.new }
     ensures unchanged { OnErr result ((T.content tree.new ≡ T.content tree.old) × (process.new ≡ process.old)) }
 {
-    match judge_call(tree, process, call, path) {
+    match judge_call(tree, table, process, call, path) {
         Ok(found) => change(tree, process, call, &found),
         Err(refusal) => Ok(refuse(process, refusal)),
     }
@@ -38,17 +38,18 @@ pub(crate) fn on_path<T: FileTree>(
 /// A symlink.
 pub(crate) fn symlink<T: FileTree>(
     tree: &mut T,
+    table: &CallTable,
     process: &mut Process,
     target: &[u8],
     path: &[u8],
 ) -> Result<Answer, WorldFault>
     ensures exact { (h : History) → StandsFor process.old h →
         Attempts (T.content tree.old) h
-        (symlink_effect standard_table (T.content tree.old) h target.now path.now)
+        (symlink_effect table.now (T.content tree.old) h target.now path.now)
         result (T.content tree.new) process.new }
     ensures unchanged { OnErr result ((T.content tree.new ≡ T.content tree.old) × (process.new ≡ process.old)) }
 {
-    match judge_symlink(tree, process, target, path) {
+    match judge_symlink(tree, table, process, target, path) {
         Ok(found) => add(tree, &found, Kind::Link, Some(target)),
         Err(refusal) => Ok(refuse(process, refusal)),
     }

@@ -7,7 +7,7 @@ use crate::fork::fork;
 use crate::request::{Action, Request};
 use crate::script::Script;
 use indexmap::IndexMap;
-use pua_policy::Process;
+use pua_policy::{CallTable, Process};
 use pua_tree::{FileTree, OutOfMemory};
 use std::alloc::Global;
 use std::marker::Model;
@@ -15,11 +15,12 @@ use std::marker::Model;
 /// The number of the process that a new world has.
 const FIRST_PROCESS: u32 = 1;
 
-/// A tree, and all processes that were ever made, ended ones too. It keeps no histories; contracts
-/// say for which worlds of the replay it stands.
+/// A tree, the table of what calls need, and all processes that were ever made, ended ones too. It
+/// keeps no histories; contracts say for which worlds of the replay it stands.
 #[derive(Drop)]
 pub struct World<T: FileTree> {
     tree: T,
+    table: CallTable,
     processes: IndexMap<u32, Process>,
     alloc: Global,
 }
@@ -29,24 +30,26 @@ impl<T: FileTree> Model for World<T> {
 
     ghost Value = { WorldState };
 
-    ghost view = { λ a. record { tree = T.content a.tree; processes = a.processes.entries } };
+    ghost view = { λ a. record { tree = T.content a.tree; table = a.table; processes = a.processes.entries } };
 
-    ghost invariant = { λ a. HasReplay (record { tree = T.content a.tree; processes = a.processes.entries }) };
+    ghost invariant = { λ a. HasReplay (record { tree = T.content a.tree; table = a.table; processes = a.processes.entries }) };
 }
 
 ghost use Rattle.std.specs.Prelude.{◌≡◌, IfOk, OnErr, MatchResult, IsFalse, option_copied};
 ghost use Rattle.pua_tree.specs.Tree.{WellFormed};
+ghost use Rattle.pua_policy.specs.Tables.{NoCallNeedsError};
 ghost use Rattle.pua_script.specs.Futures.{AreDone, AreDoneInPart, AreHeld, AreHeldInPart, IsNarrowing, IsSparing};
 ghost use Rattle.pua_script.specs.Replay.{new_world};
 ghost use Rattle.pua_script.specs.Worlds.{HasReplay, StandsForWorld, IsProcessOf, IsOkay, IsServed, AreServed, AreServedInPart, is_fork, process_at};
 
 impl<T: FileTree> World<T> {
-    /// A world over this tree with process 1 alone, which is new. `OutOfMemory` where a growth was
-    /// refused; the tree is then given up.
-    pub fn new(alloc: Global, tree: T) -> Result<World<T>, OutOfMemory>
+    /// A world over this tree with process 1 alone, which is new. It answers calls by this table.
+    /// `OutOfMemory` where a growth was refused; the tree is then given up.
+    pub fn new(alloc: Global, tree: T, table: CallTable) -> Result<World<T>, OutOfMemory>
     where
         T: Drop,
-        ensures { IfOk result (λ world. StandsForWorld world (new_world (T.content tree))) }
+        ensures replay { IfOk result (λ world. StandsForWorld world (new_world (T.content tree))) }
+        ensures table { IfOk result (λ world. world.table ≡ table) }
     {
         let process = Process::new(alloc)?;
         let mut processes = IndexMap::new(alloc);
@@ -55,17 +58,27 @@ impl<T: FileTree> World<T> {
         };
         Ok(World {
             tree,
+            table,
             processes,
             alloc,
         })
     }
 
     /// Does nothing: its contract says that some world of the replay left what the world keeps, so
-    /// that what is promised for each world it stands for is promised for one at least.
+    /// that what is promised for each world it stands for is promised for one at least; and that no
+    /// call needs `error` by its table.
     pub fn known(&self)
-        ensures { HasReplay self.now }
+        ensures replay { HasReplay self.now }
+        ensures no_error { NoCallNeedsError self.now.table }
     {
-        let _ = &self.alloc;
+        self.table.known();
+    }
+
+    /// The table by which it answers calls, always the same.
+    pub fn table(&self) -> &CallTable
+        ensures { result.now ≡ self.now.table }
+    {
+        &self.table
     }
 
     /// The tree as it is now.
@@ -89,7 +102,8 @@ impl<T: FileTree> World<T> {
     ///
     /// A process that is locked or doesn't hold `unveil` reaches no more afterwards, whoever asks:
     /// its veils stay, and it is given no promise but `error`, except by its own exec. A row that the
-    /// one that asks can't touch with `c` stays, with its node and, by the history that was, its cover.
+    /// one that asks can't touch with `c` stays, with its node and, by the history that was, its
+    /// cover, if the table asks for `c` where a name is taken away.
     pub fn apply(&mut self, request: &Request) -> Result<Answer, WorldFault>
         ensures served { IfOk result (λ answer. IsServed self.old request.now answer self.new) }
         ensures memory { OnErr result (IsOkay self.old request.now) }
@@ -111,9 +125,16 @@ impl<T: FileTree> World<T> {
         ensures unchanged { OnErr result (self.new ≡ self.old) }
     {
         let number = request.process();
-        match request.action() {
+        let action = request.action();
+        match action {
             Action::Fork(new) => fork(self.alloc, &mut self.processes, number, *new),
-            action => serve(&mut self.tree, &mut self.processes, number, action),
+            _ => serve(
+                &mut self.tree,
+                &self.table,
+                &mut self.processes,
+                number,
+                action,
+            ),
         }
     }
 
@@ -124,7 +145,8 @@ impl<T: FileTree> World<T> {
     /// What is true of a single request (see [`World::apply`]) is true of those that were served
     /// together, for a process and its family: itself, and those that a member forks from then on.
     /// As long as no member's exec succeeds, each member reaches no more than the process did; and
-    /// where members alone ask, each row that the process couldn't touch with `c` stays.
+    /// where members alone ask, each row that the process couldn't touch with `c` stays, if the table
+    /// asks for `c` where a name is taken away.
     pub fn run(&mut self, alloc: Global, script: &Script) -> Result<Vec<Answer>, WorldFault>
         ensures served { MatchResult result (λ told. AreServed self.old script.now told.items self.new) (λ _. AreServedInPart self.old script.now self.new) }
         ensures held { MatchResult result (λ _. AreHeld self.old script.now self.new) (λ _. AreHeldInPart self.old script.now self.new) }
@@ -154,19 +176,20 @@ impl<T: FileTree> World<T> {
 /// Serves a request that makes no process.
 fn serve<T: FileTree>(
     tree: &mut T,
+    table: &CallTable,
     processes: &mut IndexMap<u32, Process>,
     number: u32,
     action: &Action,
 ) -> Result<Answer, WorldFault>
     requires { IsFalse (is_fork action.now) }
-    ensures served { IfOk result (λ answer. IsServed (record { tree = T.content tree.old; processes = processes.old.entries })
-        (record { process = number; action = action.now }) answer (record { tree = T.content tree.new; processes = processes.new.entries })) }
-    ensures memory { OnErr result (IsOkay (record { tree = T.content tree.old; processes = processes.old.entries })
+    ensures served { IfOk result (λ answer. IsServed (record { tree = T.content tree.old; table = table.now; processes = processes.old.entries })
+        (record { process = number; action = action.now }) answer (record { tree = T.content tree.new; table = table.now; processes = processes.new.entries })) }
+    ensures memory { OnErr result (IsOkay (record { tree = T.content tree.old; table = table.now; processes = processes.old.entries })
         (record { process = number; action = action.now })) }
     ensures unchanged { OnErr result ((T.content tree.new ≡ T.content tree.old) × (processes.new.entries ≡ processes.old.entries)) }
 {
     match processes.get_mut(&number) {
-        Some(process) if !process.ended() => act(tree, process, action),
+        Some(process) if !process.ended() => act(tree, table, process, action),
         _ => Ok(Answer::Gone),
     }
 }

@@ -6,7 +6,7 @@ use crate::sets::set_of;
 use crate::verdicts::{BY_KIND, KINDS};
 use pua_path::{Counted, Ending, Errno, Last};
 use pua_policy::judge::{allowed, allowed_on, object};
-use pua_policy::{Call, Calls, Cover, Object, Perms, Process, Promises};
+use pua_policy::{Call, CallTable, Calls, Cover, Object, Perms, Process, Promises};
 use pua_tree::{ListTree, read_listing};
 use std::process::Abort;
 use std::test::Fail;
@@ -43,7 +43,8 @@ fn allowed_at(tree: &ListTree, process: &Process, text: &[u8], mode: Last) -> Ca
     let Ok(found) = found(tree, text, Ending::Dot, mode) else {
         return Calls::NONE;
     };
-    allowed_on(&mut Counted::new(tree), process, &found)
+    let table = CallTable::standard();
+    allowed_on(&mut Counted::new(tree), process, &table, &found)
 }
 
 /// The calls that are answered without an error.
@@ -82,7 +83,7 @@ const ON_FILE: [Call; 6] = [
 
 /// Expects that just these calls are allowed.
 fn allows(rt: &impl Abort, process: &Process, cover: Cover, object: Object, want: &[Call]) {
-    let calls = allowed(process, cover, object);
+    let calls = allowed(process, &CallTable::standard(), cover, object);
     expect_eq(rt, "by cover and promises", &calls, &set_of(want));
 }
 
@@ -117,7 +118,8 @@ fn allows_by_promises(rt: HostRuntime) -> Result<(), Fail> {
 fn allows_nothing_once_ended(rt: HostRuntime) -> Result<(), Fail> {
     let mut process = Process::new(rt.alloc())?;
     process.end();
-    let calls = allowed(&process, Cover::All, Object::Program);
+    let table = CallTable::standard();
+    let calls = allowed(&process, &table, Cover::All, Object::Program);
     expect_eq(&rt, "an ended process", &calls.is_empty(), &true);
     Ok(())
 }

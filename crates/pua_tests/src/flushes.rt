@@ -29,7 +29,7 @@ impl Write for HoldingBack {
     }
 }
 
-/// What a flush answers behind which five bytes were put to a sink, whose buffer has room for them, and
+/// What a flush answers after five bytes were put to a sink whose buffer has room for them, and
 /// how many bytes the writer below the buffer has handed on then.
 fn flushed(alloc: Global, fails: bool) -> Result<(Result<(), PutFault>, usize), Fail> {
     let mut writer = HoldingBack {

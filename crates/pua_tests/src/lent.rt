@@ -4,7 +4,7 @@ ghost use Rattle.std.specs.Prelude.{◌≡◌, IfOk};
 
 use pua_audit::{Audit, AuditFault, Base};
 use pua_path::Counted;
-use pua_policy::Process;
+use pua_policy::{CallTable, Process};
 use pua_tree::{FileTree, ListTree};
 use std::alloc::{AllocError, Global};
 
@@ -26,6 +26,7 @@ pub(crate) fn begun(
         alloc,
         &mut probe,
         &process,
+        &CallTable::standard(),
         base,
         &[b"a\\040b"],
         limit,
@@ -33,7 +34,7 @@ pub(crate) fn begun(
     )
 }
 
-/// All lines that an audit has still to lend: each path in plain bytes, and the call behind a blank.
+/// All lines that an audit has still to lend: each path in plain bytes, and the call after a blank.
 pub(crate) fn lines_of<T: FileTree>(
     alloc: Global,
     tree: &T,

@@ -41,6 +41,8 @@ mod sets;
 #[cfg(test)]
 mod steps;
 #[cfg(test)]
+mod tables;
+#[cfg(test)]
 mod told;
 #[cfg(test)]
 mod verdicts;

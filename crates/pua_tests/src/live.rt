@@ -6,7 +6,7 @@ use crate::lent::lines_of;
 use crate::told::ROOT;
 use pua_audit::{Audit, Base};
 use pua_path::{Counted, Probe};
-use pua_policy::Call;
+use pua_policy::{Call, CallTable};
 use pua_script::{World, read_script};
 use pua_tree::{FileTree, read_listing, read_listing_slab};
 use std::alloc::Global;
@@ -31,7 +31,7 @@ fn world_after<T: FileTree + Drop>(
     script: &[u8],
 ) -> Result<World<T>, Fail> {
     let script = read_script(alloc, script)?;
-    let mut world = World::new(alloc, tree)?;
+    let mut world = World::new(alloc, tree, CallTable::standard())?;
     let _ = world.run(alloc, &script)?;
     Ok(world)
 }
@@ -50,6 +50,7 @@ fn counted<T: FileTree + Drop>(
         alloc,
         &mut Counted::new(world.tree()),
         process,
+        &CallTable::standard(),
         Base::Root,
         asked.candidates,
         asked.limit,
@@ -156,7 +157,17 @@ fn first_stat<T: FileTree + Drop>(
         return Ok(None);
     };
     let mut probe = Counted::new(world.tree());
-    let mut audit = Audit::begin(alloc, &mut probe, process, Base::Root, &[], 16, None)?;
+    let table = CallTable::standard();
+    let mut audit = Audit::begin(
+        alloc,
+        &mut probe,
+        process,
+        &table,
+        Base::Root,
+        &[],
+        16,
+        None,
+    )?;
     let begun = probe.probes();
     let mut path = Vec::new(alloc);
     match audit.next_line(&mut probe) {

@@ -3,7 +3,7 @@
 use crate::example::EXAMPLE;
 use crate::expect::expect_bytes;
 use pua_objects::{ObjectKind, Objects};
-use pua_policy::{Call, Calls, Perms, Place, Process, Promises};
+use pua_policy::{Call, CallTable, Calls, Perms, Place, Process, Promises};
 use pua_tree::{ListTree, Name, NodeId, read_listing};
 use std::alloc::Global;
 use std::process::Abort;
@@ -57,7 +57,7 @@ fn add_calls(text: &mut Vec<u8>, calls: Calls) -> Result<(), Fail> {
 /// The lines of all objects.
 fn listed(alloc: Global, tree: &ListTree, process: &Process) -> Result<Vec<u8>, Fail> {
     let mut text = Vec::new(alloc);
-    let mut objects = Objects::begin(alloc, tree, process)?;
+    let mut objects = Objects::begin(alloc, tree, process, &CallTable::standard())?;
     while let Some(line) = objects.next_line() {
         text.extend_from_slice(kind_word(line.kind))?;
         text.push(b' ')?;

@@ -58,6 +58,43 @@ fn a_promise_is_missed_with_error_alone(rt: HostRuntime) -> Result<(), Fail> {
     Ok(())
 }
 
+#[test]
+fn one_of_two_sets_of_promises_is_enough(rt: HostRuntime) -> Result<(), Fail> {
+    let mut process = Process::new(rt.alloc())?;
+    process.pledge(Some(Promises::WPATH), None)?;
+    let both = Promises::WPATH.union(Promises::CPATH);
+    for (row, (sets, want)) in [
+        ([Promises::CPATH, Promises::WPATH], May::Yes),
+        ([Promises::WPATH, both], May::Yes),
+        ([Promises::CPATH, both], May::Death),
+    ]
+    .iter()
+    .enumerate()
+    {
+        expect_row(&rt, row, &process.may_any(sets.as_slice()), want);
+    }
+    Ok(())
+}
+
+#[test]
+fn no_set_of_promises_held_is_an_error_or_the_end(rt: HostRuntime) -> Result<(), Fail> {
+    let sets = [Promises::CPATH, Promises::WPATH];
+    let mut process = Process::new(rt.alloc())?;
+    let with_error = Promises::RPATH.union(Promises::ERROR);
+    process.pledge(Some(with_error), None)?;
+    let may = process.may_any(&sets);
+    expect_eq(&rt, "with error", &may, &May::Enosys);
+    let may = process.may_any(&[Promises::CPATH, Promises::NONE]);
+    expect_eq(&rt, "nothing is needed", &may, &May::Yes);
+    process.pledge(Some(Promises::RPATH), None)?;
+    let may = process.may_any(&sets);
+    expect_eq(&rt, "without error", &may, &May::Death);
+    process.end();
+    let may = process.may_any(&[Promises::NONE]);
+    expect_eq(&rt, "after its end", &may, &May::Death);
+    Ok(())
+}
+
 /// The place of the directory of this number.
 fn place(number: u32) -> Place {
     Place::Dir(NodeId::new(number))

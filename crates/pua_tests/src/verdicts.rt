@@ -4,7 +4,7 @@ use crate::example::{EXAMPLE, found};
 use crate::expect::{expect_eq, expect_text};
 use pua_path::{Counted, Ending, Errno, Last};
 use pua_policy::judge::{verdict, verdict_of};
-use pua_policy::{Call, Cover, Perms, Place, Process, Promises, Verdict, needs};
+use pua_policy::{Call, CallTable, Cover, Perms, Place, Process, Promises, Verdict, needs};
 use pua_tree::{ListTree, Name, NodeId, read_listing};
 use std::test::Fail;
 
@@ -35,7 +35,13 @@ const ENOTEMPTY: Option<Errno> = Some(Errno::ENOTEMPTY);
 /// The verdict on a call of a path from the root.
 fn judged(tree: &ListTree, process: &Process, call: Call, text: &[u8]) -> Verdict {
     let found = found(tree, text, needs::ending(call), needs::need(call).last);
-    verdict_of(&mut Counted::new(tree), process, call, found)
+    verdict_of(
+        &mut Counted::new(tree),
+        process,
+        &CallTable::standard(),
+        call,
+        found,
+    )
 }
 
 /// The first call that isn't answered as told here, in the order of the calls: stat, lstat,
@@ -205,7 +211,8 @@ fn judged_if_found(tree: &ListTree, process: &Process, call: Call, text: &[u8]) 
     let Ok(found) = found(tree, text, Ending::Dot, Last::Followed) else {
         return None;
     };
-    Some(verdict(&mut Counted::new(tree), process, call, &found))
+    let table = CallTable::standard();
+    Some(verdict(&mut Counted::new(tree), process, &table, call, &found))
 }
 
 #[test]

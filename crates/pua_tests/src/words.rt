@@ -3,7 +3,7 @@
 use crate::expect::{expect, expect_eq, expect_row, expect_text};
 use pua_path::{Ending, Errno, Last};
 use pua_policy::judge::cover_fault;
-use pua_policy::{Call, Cover, Perms, Promises, needs};
+use pua_policy::{Call, CallTable, Cover, Perms, Promises, needs};
 
 #[test]
 fn keywords_are_read(rt: HostRuntime) {
@@ -77,6 +77,17 @@ fn calls_are_named(rt: HostRuntime) {
         &others,
         &(None, None),
     );
+}
+
+#[test]
+fn the_standard_table_is_what_calls_need(rt: HostRuntime) {
+    let table = CallTable::standard();
+    for call in Call::ALL {
+        let need = needs::need(call);
+        let is_row = table.alternatives(call) == [need.promises].as_slice()
+            && table.perms(call) == need.perms;
+        expect(&rt, call.name(), is_row);
+    }
 }
 
 #[test]

@@ -4,7 +4,7 @@ use crate::example::EXAMPLE;
 use crate::expect::{expect, expect_eq, expect_row};
 use crate::told::ROOT;
 use pua_path::Errno;
-use pua_policy::{Call, May, Promises};
+use pua_policy::{Call, CallTable, May, Promises};
 use pua_script::{Action, Answer, Request, ScriptFault, World, read_script};
 use pua_tree::{FileTree, Kind, ListTree, Name, NodeId, read_listing};
 use std::alloc::Global;
@@ -12,7 +12,8 @@ use std::test::Fail;
 
 /// A world over a listing.
 fn world(alloc: Global, listing: &[u8]) -> Result<World<ListTree>, Fail> {
-    Ok(World::new(alloc, read_listing(alloc, listing)?)?)
+    let tree = read_listing(alloc, listing)?;
+    Ok(World::new(alloc, tree, CallTable::standard())?)
 }
 
 /// The working directory of a process.
@@ -95,7 +96,8 @@ fn full_tree(alloc: Global) -> Result<ListTree, Fail> {
 
 #[test]
 fn a_full_tree_has_no_space(rt: HostRuntime) -> Result<(), Fail> {
-    let mut world = World::new(rt.alloc(), full_tree(rt.alloc())?)?;
+    let table = CallTable::standard();
+    let mut world = World::new(rt.alloc(), full_tree(rt.alloc())?, table)?;
     let script = read_script(
         rt.alloc(),
         b"1 mkdir /x\n1 symlink a /x\n1 create /x\n1 create /00001\n1 unlink /00001\n1 create /x\n",

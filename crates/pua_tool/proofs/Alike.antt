@@ -2,10 +2,10 @@
 use Rattle.std.proofs.Common.{◌≡◌, List, [], sym, ap, ◌∙◌, subst}
 use Rattle.std.specs.Prelude.{Some, Result, Ok, Err}
 use Rattle.pua_tree.specs.Tree.{Tree}
-use Rattle.pua_policy.specs.Calls.{standard_table}
+use Rattle.pua_policy.specs.Calls.{CallTable}
 use Rattle.pua_policy.specs.History.{History}
 use Rattle.pua_script.specs.Requests.{Asked}
-use Rattle.pua_script.specs.Replay.{World, new_world, history_of, world_after}
+use Rattle.pua_script.specs.Replay.{World, new_world, answers, history_of, world_after}
 use Rattle.pua_script.specs.Worlds.{StandsForWorld, StandsAt}
 use Rattle.pua_audit.specs.AuditState.{AuditState}
 use Rattle.pua_audit.specs.Reach.{Pair}
@@ -13,41 +13,43 @@ use Rattle.pua_audit.specs.Begin.{Beginning, beginning, still_to_come}
 use Rattle.pua_audit.specs.declared.fault.AuditFault.{AuditFault}
 use Rattle.pua_tool.specs.Alike.{IsAuditedOver, AnswersAlike, LinesAlike}
 use Rattle.pua_tool.specs.Texts.{Wanted, pair_lines}
-use Rattle.pua_tool.proofs.Replays.{is_made}
+use Rattle.pua_tool.proofs.Replays.{is_made, left_by_same}
 
 answers_over : (t : Tree) → AnswersAlike t t
-answers_over t asks told said after left run other =
+answers_over t rules asks told said after left run other =
     let one = run.served (new_world t) run.new in
-    let two = other.served (new_world t) other.new in
-    (one.0 ∙ sym two.0, one.1.tree ∙ sym two.1.tree)
+    let two = other.served (new_world t) other.new in (
+      one.0 ∙ ap (λ table. answers table (new_world t) asks) (run.table ∙ sym other.table) ∙ sym two.0,
+      one.1.tree ∙ ap (λ table. (world_after table (new_world t) asks).tree) (run.table ∙ sym other.table) ∙ sym two.1.tree,
+    )
 
 left_of : Result Beginning AuditFault → List Pair
 left_of (Ok b) = still_to_come b
 left_of (Err fault) = []
 
-module _ (t : Tree) (asks : List Asked) (wanted : Wanted) where
+module _ (rules : CallTable) (t : Tree) (asks : List Asked) (wanted : Wanted) where
   abbrev left_by : World
-  left_by = world_after standard_table (new_world t) asks
+  left_by = world_after rules (new_world t) asks
 
   -- what the replay leaves to come
   abbrev pairs_of : Tree → History → List Pair
-  pairs_of left h = left_of (beginning left standard_table h wanted.base wanted.candidates wanted.limit wanted.after)
+  pairs_of left h = left_of (beginning left rules h wanted.base wanted.candidates wanted.limit wanted.after)
 
-  stands_in : (audit : AuditState) (a : IsAuditedOver t asks wanted audit) → StandsForWorld a.after left_by
-  stands_in audit a = (a.run.served (new_world t) a.run.new).1
+  stands_in : (audit : AuditState) (a : IsAuditedOver rules t asks wanted audit) → StandsForWorld a.after left_by
+  stands_in audit a = left_by_same a.run.before.table rules (new_world t) asks a.run.table (a.run.served (new_world t) a.run.new).1
 
-  process_in : (audit : AuditState) (a : IsAuditedOver t asks wanted audit) → StandsAt (Some a.process) (history_of left_by wanted.process)
+  process_in : (audit : AuditState) (a : IsAuditedOver rules t asks wanted audit) → StandsAt (Some a.process) (history_of left_by wanted.process)
   process_in audit a =
       subst (λ kept. StandsAt kept (history_of left_by wanted.process)) a.there ((stands_in audit a).processes wanted.process)
 
-  pairs_are : (audit : AuditState) (a : IsAuditedOver t asks wanted audit) (h : History) → history_of left_by wanted.process ≡ Some h
+  pairs_are : (audit : AuditState) (a : IsAuditedOver rules t asks wanted audit) (h : History) → history_of left_by wanted.process ≡ Some h
       → audit.left ≡ pairs_of left_by.tree h
   unfolding left_of
   pairs_are audit a h is =
       let begun = a.begun h (subst (λ made. StandsAt (Some a.process) made) is (process_in audit a)) in
       begun.2 ∙ ap left_of (sym begun.1) ∙ ap (λ left. pairs_of left h) (stands_in audit a).tree
 
-  lines_over : (audit other : AuditState) → IsAuditedOver t asks wanted audit → IsAuditedOver t asks wanted other
+  lines_over : (audit other : AuditState) → IsAuditedOver rules t asks wanted audit → IsAuditedOver rules t asks wanted other
       → pair_lines audit.base audit.left ≡ pair_lines other.base other.left
   lines_over audit other a b =
       let made = is_made a.process (history_of left_by wanted.process) (process_in audit a) in
@@ -59,4 +61,4 @@ pub answers_alike : (t u : Tree) → t ≡ u → AnswersAlike t u
 answers_alike t u same = subst (λ u. AnswersAlike t u) same (answers_over t)
 
 pub lines_alike : (t u : Tree) → t ≡ u → LinesAlike t u
-lines_alike t u same = subst (λ u. LinesAlike t u) same (lines_over t)
+lines_alike t u same = subst (λ u. LinesAlike t u) same (λ rules. lines_over rules t)

@@ -6,7 +6,7 @@ use Rattle.std.proofs.lemmas.List.Folds.{list_all-append}
 use Rattle.pua_tree.specs.Tree.{Tree, distinct_names}
 use Rattle.pua_tree.specs.Listing.{listing}
 use Rattle.pua_path.specs.Paths.{is_absolute}
-use Rattle.pua_policy.specs.Calls.{CallTable, standard_table}
+use Rattle.pua_policy.specs.Calls.{CallTable}
 use Rattle.pua_policy.specs.History.{History, working_dir}
 use Rattle.pua_audit.specs.Reach.{path_of, alphabet_of}
 use Rattle.pua_audit.specs.SubLists.{SubList}
@@ -18,7 +18,8 @@ use Rattle.pua_script.specs.Scripts.{script}
 use Rattle.pua_script.specs.Replay.{new_world, world_after}
 use Rattle.pua_script.specs.Bytes.{is_in_bytes, are_in_bytes, IsByteTree}
 use Rattle.pua_script.specs.Tightening.{AllowsNoMore}
-use Rattle.pua_script.proofs.ForCallers.{families_narrow, families_confine, replays_keep_trees, replays_keep_byte_trees, listings_list_byte_trees, scripts_ask_in_bytes, standard_table_narrows}
+use Rattle.pua_script.proofs.ForCallers.{families_narrow, families_confine, replays_keep_trees, replays_keep_byte_trees, listings_list_byte_trees, scripts_ask_in_bytes}
+use Rattle.pua_tool.proofs.Tables.{tables_need_no_error}
 use Rattle.pua_tool.specs.Futures.{reach_over, ReachesNoMore, Narrowing, NarrowingNow, Confinement, NarrowingAsRead, ConfinementAsRead}
 
 root_path : (word : List (List ℕ)) → is_absolute (path_of Root word) ≡ true
@@ -75,24 +76,24 @@ confinement table w process now asks here confined none alone =
     }
 
 pub narrowing_as_read : NarrowingAsRead
-narrowing_as_read tree_bytes script_bytes t first asks listed scripted process now here confined none member belongs =
-    let w = world_after standard_table (new_world t) first in
-    let one = narrowing standard_table standard_table_narrows.error w process now asks here confined none member belongs in
-    (one.0, one.1, one.2.1 (world_after standard_table w asks).tree)
+narrowing_as_read table_bytes tree_bytes script_bytes table t first asks given listed scripted process now here confined none member belongs =
+    let w = world_after table (new_world t) first in
+    let one = narrowing table (tables_need_no_error table_bytes table given) w process now asks here confined none member belongs in
+    (one.0, one.1, one.2.1 (world_after table w asks).tree)
 
 -- all texts that are read are bytes: those of the tree, of the first lines, and of the others
-module _ (tree_bytes script_bytes : List ℕ) (t : Tree) (first asks : List Asked) (listed : listing tree_bytes ≡ Ok t) (scripted : script script_bytes ≡ Ok (first ++ asks)) where
+module _ (tree_bytes script_bytes : List ℕ) (table : CallTable) (t : Tree) (first asks : List Asked) (listed : listing tree_bytes ≡ Ok t) (scripted : script script_bytes ≡ Ok (first ++ asks)) where
   both_in_bytes : (are_in_bytes first ≡ true) × (are_in_bytes asks ≡ true)
   both_in_bytes = and_parts (are_in_bytes first) (are_in_bytes asks)
       (sym (list_all-append (λ ask. is_in_bytes ask.action) first asks) ∙ scripts_ask_in_bytes script_bytes (first ++ asks) scripted)
 
-  tree_in_bytes : IsByteTree (world_after standard_table (new_world t) first).tree
-  tree_in_bytes = replays_keep_byte_trees standard_table (new_world t) first (listings_list_byte_trees tree_bytes t listed) both_in_bytes.0
+  tree_in_bytes : IsByteTree (world_after table (new_world t) first).tree
+  tree_in_bytes = replays_keep_byte_trees table (new_world t) first (listings_list_byte_trees tree_bytes t listed) both_in_bytes.0
 
 pub confinement_as_read : ConfinementAsRead
-confinement_as_read tree_bytes script_bytes t first asks listed scripted process now here confined none alone =
-    let w = world_after standard_table (new_world t) first in
-    let both = confinement standard_table w process now asks here confined none alone in (
-      both.spares standard_table_narrows.taking (tree_in_bytes tree_bytes script_bytes t first asks listed scripted) (both_in_bytes tree_bytes script_bytes t first asks listed scripted).1,
-      both.unchanged standard_table_narrows.changing,
+confinement_as_read table_bytes tree_bytes script_bytes table t first asks given listed scripted process now here confined none alone =
+    let w = world_after table (new_world t) first in
+    let both = confinement table w process now asks here confined none alone in (
+      λ taking. both.spares taking (tree_in_bytes tree_bytes script_bytes table t first asks listed scripted) (both_in_bytes tree_bytes script_bytes table t first asks listed scripted).1,
+      both.unchanged,
     )

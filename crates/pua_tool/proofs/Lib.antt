@@ -1,6 +1,7 @@
 pub mod Putting
 pub mod Replays
 pub mod Pairs
+pub mod Tables
 pub mod Futures
 pub mod Alike
 pub mod Passing

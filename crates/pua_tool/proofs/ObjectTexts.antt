@@ -25,24 +25,24 @@ use Rattle.pua_tool.specs.Texts.{Replayed, replayed, ended}
 use Rattle.pua_tool.specs.Sinks.{Adds, AddsFront, HasFailed}
 use Rattle.pua_tool.specs.ObjectTexts.{object_lines, objects_after, objects_text, Tells}
 use Rattle.pua_tool.specs.declared.fault.ToolFault.{ToolFault}
-use Rattle.pua_tool.specs.declared.fault.ToolFault.TheVariants.{Listing, Script, NoProcess, Audit, Write, OutOfMemory}
+use Rattle.pua_tool.specs.declared.fault.ToolFault.TheVariants.{Listing, Script, NoProcess, Audit, Write, OutOfMemory, Table}
 
-module _ (table : CallTable) (tree_bytes script_bytes : List ℕ) (process : ℕ) where
+module _ (table_bytes : Option (List ℕ)) (tree_bytes script_bytes : List ℕ) (process : ℕ) where
   abbrev listed_by : Replayed → Option History → Result (List ℕ) ToolFault
-  listed_by done made = ok_or made NoProcess >>= λ h. Ok (objects_after table process done.told done.world.tree h)
+  listed_by done made = ok_or made NoProcess >>= λ h. Ok (objects_after done.table process done.told done.world.tree h)
 
-  pub objects_are : (done : Replayed) (h : History) → replayed table tree_bytes script_bytes ≡ Ok done → history_of done.world process ≡ Some h
-      → objects_text table tree_bytes script_bytes process ≡ Ok (objects_after table process done.told done.world.tree h)
+  pub objects_are : (done : Replayed) (h : History) → replayed table_bytes tree_bytes script_bytes ≡ Ok done → history_of done.world process ≡ Some h
+      → objects_text table_bytes tree_bytes script_bytes process ≡ Ok (objects_after done.table process done.told done.world.tree h)
   unfolding objects_text
   objects_are done h r m = (λ i. r i >>= λ done. listed_by done (history_of done.world process)) ∙ (λ i. listed_by done (m i))
 
   -- what refuses the replay comes first
-  pub replay_refuses : (fault : ToolFault) → replayed table tree_bytes script_bytes ≡ Err fault → objects_text table tree_bytes script_bytes process ≡ Err fault
+  pub replay_refuses : (fault : ToolFault) → replayed table_bytes tree_bytes script_bytes ≡ Err fault → objects_text table_bytes tree_bytes script_bytes process ≡ Err fault
   unfolding objects_text
   replay_refuses fault r = λ i. r i >>= λ done. listed_by done (history_of done.world process)
 
   -- a process never made comes where the replay is not refused
-  pub process_refuses : (done : Replayed) → replayed table tree_bytes script_bytes ≡ Ok done → history_of done.world process ≡ None → objects_text table tree_bytes script_bytes process ≡ Err NoProcess
+  pub process_refuses : (done : Replayed) → replayed table_bytes tree_bytes script_bytes ≡ Ok done → history_of done.world process ≡ None → objects_text table_bytes tree_bytes script_bytes process ≡ Err NoProcess
   unfolding objects_text
   process_refuses done r m = (λ i. r i >>= λ done. listed_by done (history_of done.world process)) ∙ (λ i. listed_by done (m i))
 
@@ -138,23 +138,26 @@ abbrev pub text_given : ObjectLine → List (Bor (List ℕ)) → List ℕ
 text_given given names = ended (kind_word given.kind ++ 32 ∷ printed_path Root (map (λ name. name.now) names) ++ 32 ∷ with_commas (map call_name (calls_in given.calls)))
 
 -- the line that a list gives stands before those that it has still to give
-pub line_next : (t u : Tree) (p q : ProcessState) (h : History) (old new : List Item) (word : Word) (given : ObjectLine) (names : List (Bor (List ℕ)))
-    → t ≡ u → p ≡ q → StandsFor q h → IsListed t p old new word given → map (λ name. name.now) names ≡ word
-    → object_lines u (lines_of u h old) ≡ text_given given names ++ object_lines u (lines_of u h new)
-line_next t u p q h old new word given names same alike stands listed is =
-    subst (λ (v : Tree). object_lines v (lines_of v h old) ≡ text_given given names ++ object_lines v (lines_of v h new)) same
+pub line_next : (t u : Tree) (a b : CallTable) (p q : ProcessState) (h : History) (old new : List Item) (word : Word) (given : ObjectLine) (names : List (Bor (List ℕ)))
+    → t ≡ u → a ≡ b → p ≡ q → StandsFor q h → IsListed t a p old new word given → map (λ name. name.now) names ≡ word
+    → object_lines u (lines_of u b h old) ≡ text_given given names ++ object_lines u (lines_of u b h new)
+line_next t u a b p q h old new word given names same equal alike stands listed is =
+    subst (λ (v : Tree). object_lines v (lines_of v b h old) ≡ text_given given names ++ object_lines v (lines_of v b h new)) same
+    (subst (λ (c : CallTable). object_lines t (lines_of t c h old) ≡ text_given given names ++ object_lines t (lines_of t c h new)) equal
     (ap (object_lines t) (listed.lines h (subst (λ (r : ProcessState). StandsFor r h) (sym alike) stands))
-    ∙ ap (λ kind. ended (kind ++ 32 ∷ printed_path Root word ++ 32 ∷ with_commas (map call_name (calls_in given.calls))) ++ object_lines t (lines_of t h new)) (sym listed.kind)
-    ∙ ap (λ (w : Word). ended (kind_word given.kind ++ 32 ∷ printed_path Root w ++ 32 ∷ with_commas (map call_name (calls_in given.calls))) ++ object_lines t (lines_of t h new)) (sym is))
+    ∙ ap (λ kind. ended (kind ++ 32 ∷ printed_path Root word ++ 32 ∷ with_commas (map call_name (calls_in given.calls))) ++ object_lines t (lines_of t a h new)) (sym listed.kind)
+    ∙ ap (λ (w : Word). ended (kind_word given.kind ++ 32 ∷ printed_path Root w ++ 32 ∷ with_commas (map call_name (calls_in given.calls))) ++ object_lines t (lines_of t a h new)) (sym is)))
 
-pub no_line : (t u : Tree) (p q : ProcessState) (h : History) (left : List Item) → t ≡ u → p ≡ q → StandsFor q h → HasNoLine t p left → object_lines u (lines_of u h left) ≡ []
-no_line t u p q h left same alike stands none =
-    subst (λ (v : Tree). object_lines v (lines_of v h left) ≡ []) same (ap (object_lines t) (none h (subst (λ (r : ProcessState). StandsFor r h) (sym alike) stands)))
+pub no_line : (t u : Tree) (a b : CallTable) (p q : ProcessState) (h : History) (left : List Item) → t ≡ u → a ≡ b → p ≡ q → StandsFor q h → HasNoLine t a p left → object_lines u (lines_of u b h left) ≡ []
+no_line t u a b p q h left same equal alike stands none =
+    subst (λ (v : Tree). object_lines v (lines_of v b h left) ≡ []) same
+    (subst (λ (c : CallTable). object_lines t (lines_of t c h left) ≡ []) equal
+    (ap (object_lines t) (none h (subst (λ (r : ProcessState). StandsFor r h) (sym alike) stands))))
 
 -- the same text by other names
-pub told_as : (table : CallTable) (h : History) (front told : List ℕ) (t u : Tree) (r : Result (Unit {0}) ToolFault) (a b : Option (List ℕ)) (n m : ℕ) → front ≡ told → t ≡ u
-    → Tells (front ++ object_lines t (objects t table h)) r a b n m → Tells (told ++ object_lines u (objects u table h)) r a b n m
-told_as table h front told t u r a b n m same alike tells = subst (λ (text : List ℕ). Tells text r a b n m) (λ i. same i ++ object_lines (alike i) (objects (alike i) table h)) tells
+pub told_as : (table rules : CallTable) (h : History) (front told : List ℕ) (t u : Tree) (r : Result (Unit {0}) ToolFault) (a b : Option (List ℕ)) (n m : ℕ) → table ≡ rules → front ≡ told → t ≡ u
+    → Tells (front ++ object_lines t (objects t table h)) r a b n m → Tells (told ++ object_lines u (objects u rules h)) r a b n m
+told_as table rules h front told t u r a b n m ruled same alike tells = subst (λ (text : List ℕ). Tells text r a b n m) (λ i. same i ++ object_lines (alike i) (objects (alike i) (ruled i) h)) tells
 
 -- what the telling of a text leaves, where that text is the answer
 module _ (answer : Result (List ℕ) ToolFault) (text : List ℕ) (a b : Option (List ℕ)) (n m : ℕ) (is : answer ≡ Ok text) where
@@ -179,6 +182,7 @@ module _ (answer : Result (List ℕ) ToolFault) (text : List ℕ) (a b : Option 
   tells_refused (Err (Script fault)) told = absurd told
   tells_refused (Err NoProcess) told = absurd told
   tells_refused (Err (Audit fault)) told = absurd told
+  tells_refused (Err (Table fault)) told = absurd told
 
   pub tells_unwritten : (r : Result (Unit {0}) ToolFault) → Tells text r a b n m → IfErr r (λ fault. fault ≢ Write → b ≡ a)
   tells_unwritten (Ok done) told = tt
@@ -188,3 +192,4 @@ module _ (answer : Result (List ℕ) ToolFault) (text : List ℕ) (a b : Option 
   tells_unwritten (Err (Script fault)) told = absurd told
   tells_unwritten (Err NoProcess) told = absurd told
   tells_unwritten (Err (Audit fault)) told = absurd told
+  tells_unwritten (Err (Table fault)) told = absurd told

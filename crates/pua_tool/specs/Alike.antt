@@ -1,7 +1,7 @@
 -- What is served and audited over a tree, as the contracts of worlds and audits have it: only the tree's content matters.
 use Rattle.std.specs.Prelude.{◌≡◌, List, Some, Ok}
 use Rattle.pua_tree.specs.Tree.{Tree}
-use Rattle.pua_policy.specs.Calls.{standard_table}
+use Rattle.pua_policy.specs.Calls.{CallTable}
 use Rattle.pua_policy.specs.History.{History, ProcessState, StandsFor}
 use Rattle.pua_script.specs.Requests.{Asked}
 use Rattle.pua_script.specs.Replay.{new_world}
@@ -11,29 +11,30 @@ use Rattle.pua_audit.specs.AuditState.{AuditState}
 use Rattle.pua_audit.specs.Begin.{Beginning, beginning, still_to_come}
 use Rattle.pua_tool.specs.Texts.{Wanted, pair_lines}
 
--- a script was served over a tree, by a world that was new
-pub record IsRunOver (t : Tree) (asks : List Asked) (told : List Answer) (after : WorldState) : Type 0 where
+-- a script was served over a tree, by a world that was new and answers by this table
+pub record IsRunOver (rules : CallTable) (t : Tree) (asks : List Asked) (told : List Answer) (after : WorldState) : Type 0 where
   pub before : WorldState
   pub new : StandsForWorld before (new_world t)
+  pub table : before.table ≡ rules
   pub served : AreServed before asks told after
 
 -- and then an audit of a process began, over the tree that was left
-pub record IsAuditedOver (t : Tree) (asks : List Asked) (wanted : Wanted) (audit : AuditState) : Type 0 where
+pub record IsAuditedOver (rules : CallTable) (t : Tree) (asks : List Asked) (wanted : Wanted) (audit : AuditState) : Type 0 where
   pub told : List Answer
   pub after : WorldState
-  pub run : IsRunOver t asks told after
+  pub run : IsRunOver rules t asks told after
   pub process : ProcessState
   pub there : process_at after wanted.process ≡ Some process
   pub begun : (h : History) → StandsFor process h → (b : Beginning) ×
-      (beginning after.tree standard_table h wanted.base wanted.candidates wanted.limit wanted.after ≡ Ok b) × (audit.left ≡ still_to_come b)
+      (beginning after.tree rules h wanted.base wanted.candidates wanted.limit wanted.after ≡ Ok b) × (audit.left ≡ still_to_come b)
   pub base : audit.base ≡ wanted.base
 
 -- over both trees the answers are the same, and so are the trees that are left
 abbrev pub AnswersAlike : Tree → Tree → Type 0
-AnswersAlike t u = (asks : List Asked) (told said : List Answer) (after left : WorldState) →
-    IsRunOver t asks told after → IsRunOver u asks said left → (told ≡ said) × (after.tree ≡ left.tree)
+AnswersAlike t u = (rules : CallTable) (asks : List Asked) (told said : List Answer) (after left : WorldState) →
+    IsRunOver rules t asks told after → IsRunOver rules u asks said left → (told ≡ said) × (after.tree ≡ left.tree)
 
 -- and so are the lines of an audit
 abbrev pub LinesAlike : Tree → Tree → Type 0
-LinesAlike t u = (asks : List Asked) (wanted : Wanted) (audit other : AuditState) →
-    IsAuditedOver t asks wanted audit → IsAuditedOver u asks wanted other → pair_lines audit.base audit.left ≡ pair_lines other.base other.left
+LinesAlike t u = (rules : CallTable) (asks : List Asked) (wanted : Wanted) (audit other : AuditState) →
+    IsAuditedOver rules t asks wanted audit → IsAuditedOver rules u asks wanted other → pair_lines audit.base audit.left ≡ pair_lines other.base other.left

@@ -6,9 +6,10 @@ use Rattle.pua_tool.specs.Texts.{Replayed, Begun, Wanted, front_of, pair_lines}
 use Rattle.pua_tool.specs.declared.script.Replay.{Replay}
 use Rattle.pua_tool.specs.declared.audit.Audited.{Audited}
 
--- the answers are those of the replay, and the world stands for the one that it left
+-- the answers are those of the replay, and the world keeps its table and stands for the one that it left
 pub record IsReplay (replay : Replay) (done : Replayed) : Type 0 where
   pub told : replay.told.items ≡ done.told
+  pub table : replay.world.table ≡ done.table
   pub stands : StandsForWorld replay.world done.world
 
 -- the text that is still to be written

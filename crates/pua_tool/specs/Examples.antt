@@ -3,7 +3,6 @@ use Rattle.std.specs.Prelude.{◌≡◌, ℕ, List, [], ◌∷◌, None, Some, O
 use Rattle.std.specs.Fmt.{digits}
 use Rattle.pua_tree.specs.Examples.{text_of_lines}
 use Rattle.pua_tree.specs.declared.fault.ListingFault.TheVariants.{BadLine}
-use Rattle.pua_policy.specs.Calls.{standard_table}
 use Rattle.pua_script.specs.declared.fault.ScriptFault.TheVariants.{BadCall}
 use Rattle.pua_audit.specs.declared.base.Base.TheVariants.{Root, Cwd}
 use Rattle.pua_audit.specs.declared.fault.AuditFault.TheVariants.{BadResume}
@@ -27,25 +26,25 @@ abbrev pub plain_job : Wanted
 plain_job = record { limit = 2; process = 1; base = Root; after = None; candidates = codes "a" ∷ [] }
 
 pub record TextRows : Type 0 where
-  pub run : run_text standard_table root_alone ending ≡ Ok (text_of_lines (codes "1 ok" ∷ codes "2 killed" ∷ codes "3 gone" ∷ []))
-  pub run_of_no_lines : run_text standard_table root_alone [] ≡ Ok []
-  pub audit : audit_text standard_table root_alone creating_alone plain_job
+  pub run : run_text None root_alone ending ≡ Ok (text_of_lines (codes "1 ok" ∷ codes "2 killed" ∷ codes "3 gone" ∷ []))
+  pub run_of_no_lines : run_text None root_alone [] ≡ Ok []
+  pub audit : audit_text None root_alone creating_alone plain_job
       ≡ Ok (text_of_lines (codes "1 ok" ∷ codes "reach 1" ∷ codes "/../a mkdir" ∷ codes "/../a symlink" ∷ codes "/a mkdir" ∷ codes "/a symlink" ∷ []))
-  pub resumed : audit_text standard_table root_alone creating_alone (record plain_job { after = Some (codes "symlink:/../a") })
+  pub resumed : audit_text None root_alone creating_alone (record plain_job { after = Some (codes "symlink:/../a") })
       ≡ Ok (text_of_lines (codes "/a mkdir" ∷ codes "/a symlink" ∷ []))
-  pub spelled : audit_text standard_table root_alone creating_alone (record plain_job { limit = 1; candidates = codes "a\\040b" ∷ [] })
+  pub spelled : audit_text None root_alone creating_alone (record plain_job { limit = 1; candidates = codes "a\\040b" ∷ [] })
       ≡ Ok (text_of_lines (codes "1 ok" ∷ codes "reach 1" ∷ codes "/a\\040b mkdir" ∷ codes "/a\\040b symlink" ∷ []))
-  pub ended_process : audit_text standard_table root_alone ending plain_job
+  pub ended_process : audit_text None root_alone ending plain_job
       ≡ Ok (text_of_lines (codes "1 ok" ∷ codes "2 killed" ∷ codes "3 gone" ∷ codes "reach 1" ∷ []))
-  pub another_process : audit_text standard_table root_alone forking (record plain_job { limit = 0; process = 2; base = Cwd })
+  pub another_process : audit_text None root_alone forking (record plain_job { limit = 0; process = 2; base = Cwd })
       ≡ Ok (text_of_lines (codes "1 ok" ∷ codes "2 ok" ∷ codes "reach 2" ∷ codes ". stat" ∷ codes ". lstat" ∷ codes ". open-r" ∷ codes ". chmod" ∷ codes ". chdir" ∷ []))
-  pub objects : objects_text standard_table root_alone creating_alone 1 ≡ Ok (text_of_lines (codes "1 ok" ∷ codes "objects 1" ∷ codes "other / mkdir,symlink" ∷ []))
-  pub ended_objects : objects_text standard_table root_alone ending 1 ≡ Ok (text_of_lines (codes "1 ok" ∷ codes "2 killed" ∷ codes "3 gone" ∷ codes "objects 1" ∷ []))
-  pub never_listed : objects_text standard_table root_alone [] 2 ≡ Err NoProcess
-  pub bad_listing : audit_text standard_table (text_of_lines (codes "tree 1" ∷ codes "0 dir" ∷ codes "1 dir 0" ∷ [])) (codes "1") plain_job ≡ Err (Listing (BadLine 3))
-  pub bad_script : audit_text standard_table root_alone (codes "1 stat") (record plain_job { process = 2 }) ≡ Err (Script (BadCall 1))
-  pub never_made : audit_text standard_table root_alone [] (record plain_job { process = 2; limit = 17 }) ≡ Err NoProcess
-  pub bad_resume : audit_text standard_table root_alone [] (record plain_job { after = Some (codes "stat:/nope") }) ≡ Err (Audit BadResume)
+  pub objects : objects_text None root_alone creating_alone 1 ≡ Ok (text_of_lines (codes "1 ok" ∷ codes "objects 1" ∷ codes "other / mkdir,symlink" ∷ []))
+  pub ended_objects : objects_text None root_alone ending 1 ≡ Ok (text_of_lines (codes "1 ok" ∷ codes "2 killed" ∷ codes "3 gone" ∷ codes "objects 1" ∷ []))
+  pub never_listed : objects_text None root_alone [] 2 ≡ Err NoProcess
+  pub bad_listing : audit_text None (text_of_lines (codes "tree 1" ∷ codes "0 dir" ∷ codes "1 dir 0" ∷ [])) (codes "1") plain_job ≡ Err (Listing (BadLine 3))
+  pub bad_script : audit_text None root_alone (codes "1 stat") (record plain_job { process = 2 }) ≡ Err (Script (BadCall 1))
+  pub never_made : audit_text None root_alone [] (record plain_job { process = 2; limit = 17 }) ≡ Err NoProcess
+  pub bad_resume : audit_text None root_alone [] (record plain_job { after = Some (codes "stat:/nope") }) ≡ Err (Audit BadResume)
 
 pub text_rows : TextRows
 unfolding digits replayed begun objects_text

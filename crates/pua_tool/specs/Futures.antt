@@ -1,9 +1,9 @@
 -- What a process that can put no veil any more may come to reach and to change, whatever is asked afterwards.
-use Rattle.std.specs.Prelude.{◌≡◌, ℕ, Bool, List, [], ◌∷◌, ◌++◌, Some, Ok, IsTrue, IsFalse}
+use Rattle.std.specs.Prelude.{◌≡◌, ℕ, Bool, List, [], ◌∷◌, ◌++◌, Option, Some, Ok, IsTrue, IsFalse}
 use Rattle.pua_tree.specs.Tree.{Tree}
 use Rattle.pua_tree.specs.Listing.{listing}
 use Rattle.pua_policy.specs.Promises.{holds, cpath}
-use Rattle.pua_policy.specs.Calls.{CallTable, standard_table}
+use Rattle.pua_policy.specs.Calls.{CallTable}
 use Rattle.pua_policy.specs.History.{History, held}
 use Rattle.pua_script.specs.Requests.{Asked}
 use Rattle.pua_script.specs.Scripts.{script}
@@ -17,6 +17,7 @@ use Rattle.pua_audit.specs.Reach.{Pair, alphabet_of, reach}
 use Rattle.pua_audit.specs.SubLists.{SubList}
 use Rattle.pua_audit.specs.declared.base.Base.{Base}
 use Rattle.pua_audit.specs.declared.base.Base.TheVariants.{Root, Cwd}
+use Rattle.pua_tool.specs.Texts.{table_by}
 
 -- what a process reaches by its history over a tree
 abbrev pub reach_over : Tree → CallTable → History → Base → List (List ℕ) → ℕ → List Pair
@@ -58,29 +59,30 @@ Confinement = (table : CallTable) (w : World) (process : ℕ) (now : History) (a
     history_of w process ≡ Some now → IsConfined now → IsTrue (none_done is_exec table w asks (process ∷ [])) →
     IsTrue (members_alone table w asks (process ∷ [])) → Confines table w now asks
 
--- over a listing and a script as a command reads them: the script's first lines left a world, and the lines after them are the further requests
-abbrev pub AsRead : (World → List Asked → Type 0) → Type 0
-AsRead Holds = (tree_bytes script_bytes : List ℕ) (t : Tree) (first asks : List Asked) →
-    listing tree_bytes ≡ Ok t → script script_bytes ≡ Ok (first ++ asks) → Holds (world_after standard_table (new_world t) first) asks
+-- over a table, a listing and a script as a command reads them: the script's first lines left a world, and the lines after them are the further requests
+abbrev pub AsRead : (CallTable → World → List Asked → Type 0) → Type 0
+AsRead Holds = (table_bytes : Option (List ℕ)) (tree_bytes script_bytes : List ℕ) (table : CallTable) (t : Tree) (first asks : List Asked) →
+    table_by table_bytes ≡ Ok table → listing tree_bytes ≡ Ok t → script script_bytes ≡ Ok (first ++ asks) →
+    Holds table (world_after table (new_world t) first) asks
 
 -- each member of the family of a confined process reaches no more, over the tree that the further requests leave
-abbrev pub IsNarrowed : World → List Asked → Type 0
-IsNarrowed w asks = (process : ℕ) (now : History) →
-    history_of w process ≡ Some now → IsConfined now → IsTrue (none_done is_exec standard_table w asks (process ∷ [])) →
-    (member : ℕ) → IsTrue (is_member (family standard_table w asks (process ∷ [])) member) →
-    HasHistoryOf (world_after standard_table w asks) member (λ last.
-    ReachesNoMore standard_table (world_after standard_table w asks).tree now last (none_done is_chdir standard_table w asks (process ∷ [])))
+abbrev pub IsNarrowed : CallTable → World → List Asked → Type 0
+IsNarrowed table w asks = (process : ℕ) (now : History) →
+    history_of w process ≡ Some now → IsConfined now → IsTrue (none_done is_exec table w asks (process ∷ [])) →
+    (member : ℕ) → IsTrue (is_member (family table w asks (process ∷ [])) member) →
+    HasHistoryOf (world_after table w asks) member (λ last.
+    ReachesNoMore table (world_after table w asks).tree now last (none_done is_chdir table w asks (process ∷ [])))
 
 abbrev pub NarrowingAsRead : Type 0
 NarrowingAsRead = AsRead IsNarrowed
 
--- where its family alone asks, what the process can't touch with `c` stays, and without cpath all does
-abbrev pub IsConfining : World → List Asked → Type 0
-IsConfining w asks = (process : ℕ) (now : History) →
-    history_of w process ≡ Some now → IsConfined now → IsTrue (none_done is_exec standard_table w asks (process ∷ [])) →
-    IsTrue (members_alone standard_table w asks (process ∷ [])) →
-    UncoveredStay now w.tree (world_after standard_table w asks).tree
-    × (IsFalse (holds (held now) cpath) → (world_after standard_table w asks).tree ≡ w.tree)
+-- where its family alone asks, what the process can't touch with `c` stays, and without cpath all does, each by the tables of which it is so
+abbrev pub IsConfining : CallTable → World → List Asked → Type 0
+IsConfining table w asks = (process : ℕ) (now : History) →
+    history_of w process ≡ Some now → IsConfined now → IsTrue (none_done is_exec table w asks (process ∷ [])) →
+    IsTrue (members_alone table w asks (process ∷ [])) →
+    (TakingNeedsC table → UncoveredStay now w.tree (world_after table w asks).tree)
+    × (ChangingNeedsCpath table → IsFalse (holds (held now) cpath) → (world_after table w asks).tree ≡ w.tree)
 
 abbrev pub ConfinementAsRead : Type 0
 ConfinementAsRead = AsRead IsConfining

@@ -22,12 +22,12 @@ objects_line process = ended (codes "objects " ++ decimal process)
 abbrev pub objects_after : CallTable → ℕ → List Answer → Tree → History → List ℕ
 objects_after table process told t h = (answer_lines 1 told ++ objects_line process) ++ object_lines t (objects t table h)
 
--- the objects of a process at the end of a script over a listing, or the first fault: the listing's, the script's, or a process never made
-unfoldable pub objects_text : CallTable → List ℕ → List ℕ → ℕ → Result (List ℕ) ToolFault
-objects_text table tree_bytes script_bytes process = do
-  done ← replayed table tree_bytes script_bytes
+-- the objects of a process at the end of a script over a listing, or the first fault: the table's, the listing's, the script's, or a process never made
+unfoldable pub objects_text : Option (List ℕ) → List ℕ → List ℕ → ℕ → Result (List ℕ) ToolFault
+objects_text table_bytes tree_bytes script_bytes process = do
+  done ← replayed table_bytes tree_bytes script_bytes
   h ← ok_or (history_of done.world process) NoProcess
-  Ok (objects_after table process done.told done.world.tree h)
+  Ok (objects_after done.table process done.told done.world.tree h)
 
 -- why a text was not told, or not whole: a put failed behind a front of it, or memory was refused before it
 abbrev pub IsUntold : List ℕ → ToolFault → Option (List ℕ) → Option (List ℕ) → ℕ → ℕ → Type 0

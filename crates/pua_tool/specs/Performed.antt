@@ -1,6 +1,6 @@
 -- What the performance of a command promises.
-use Rattle.std.specs.Prelude.{◌≡◌, ◌⊎◌, ℕ, List, Option, Result, Ok, Err}
-use Rattle.pua_policy.specs.Calls.{standard_table}
+use Rattle.std.specs.Prelude.{◌≡◌, ◌⊎◌, ⊤, ℕ, List, Option, Some, None, Result, Ok, Err}
+use Rattle.std.specs.Borrow.{Bor}
 use Rattle.pua_words.specs.declared.command.Command.{Command}
 use Rattle.pua_words.specs.declared.command.Text.{Text}
 use Rattle.pua_words.specs.declared.command.Text.TheVariants.{Run, Audit, Objects}
@@ -12,22 +12,31 @@ use Rattle.pua_tool.specs.declared.status.TheConstants.{REFUSED}
 use Rattle.pua_tool.specs.Held.{Held, Holds, HoldsNothing}
 use Rattle.pua_tool.specs.Sinks.{Adds, AddsFront, HasFailed}
 use Rattle.pua_tool.specs.Statuses.{status_of}
-use Rattle.pua_tool.specs.Texts.{run_text, audit_text, wanted_by}
+use Rattle.pua_tool.specs.Texts.{given, run_text, audit_text, wanted_by}
 use Rattle.pua_tool.specs.ObjectTexts.{objects_text}
 
--- the text that is asked for, of a listing and a script, or what refuses it
-abbrev pub text_asked : Text → List ℕ → List ℕ → Result (List ℕ) ToolFault
-text_asked Run tree script = run_text standard_table tree script
-text_asked (Audit words) tree script = audit_text standard_table tree script (wanted_by words)
-text_asked (Objects words) tree script = objects_text standard_table tree script words.process
+-- the text that is asked for, of a table, a listing and a script, or what refuses it
+abbrev pub text_asked : Text → Option (List ℕ) → List ℕ → List ℕ → Result (List ℕ) ToolFault
+text_asked Run table tree script = run_text table tree script
+text_asked (Audit words) table tree script = audit_text table tree script (wanted_by words)
+text_asked (Objects words) table tree script = objects_text table tree script words.process
 
--- what is asked for, of the bytes that are held under the command's two names
+-- the table's bytes are held under its name, or no table is named and there are none
+abbrev pub HoldsTable : Held → Option (Bor (List ℕ)) → Option (List ℕ) → Type 0
+HoldsTable held None None = ⊤
+HoldsTable held None (Some bytes) = ⊥
+HoldsTable held (Some name) None = ⊥
+HoldsTable held (Some name) (Some bytes) = Holds held name.now bytes
+
+-- what is asked for, of the bytes that are held under the command's names
 pub record Asks (held : Held) (command : Command) (answer : Result (List ℕ) ToolFault) : Type 0 where
+  pub table : Option (List ℕ)
   pub tree : List ℕ
   pub script : List ℕ
+  pub table_held : HoldsTable held command.table table
   pub tree_held : Holds held command.tree.now tree
   pub script_held : Holds held command.script.now script
-  pub answers : text_asked command.text tree script ≡ answer
+  pub answers : text_asked command.text table tree script ≡ answer
 
 -- the whole text that is asked for was written
 pub record IsDone (held : Held) (command : Command) (old new : Option (List ℕ)) : Type 0 where
@@ -54,15 +63,25 @@ pub record LacksScript (held : Held) (command : Command) : Type 0 where
   pub tree_held : Holds held command.tree.now tree
   pub nothing : HoldsNothing held command.script.now
 
--- one of the two inputs is missing: the tree's, or else the script's
+-- nothing is held under the name of the table, where the tree's input and the script's are there
+pub record LacksTable (held : Held) (command : Command) (name : List ℕ) : Type 0 where
+  pub tree : List ℕ
+  pub script : List ℕ
+  pub tree_held : Holds held command.tree.now tree
+  pub script_held : Holds held command.script.now script
+  pub named : given command.table ≡ Some name
+  pub nothing : HoldsNothing held name
+
+-- one of the inputs is missing: the tree's, or else the script's, or else the table's
 abbrev pub LacksInput : Held → Command → Type 0
-LacksInput held command = HoldsNothing held command.tree.now ⊎ LacksScript held command
+LacksInput held command = HoldsNothing held command.tree.now ⊎ (LacksScript held command ⊎ ((name : List ℕ) × LacksTable held command name))
 
 -- this is the name of the first input that is missing
 abbrev pub Lacks : Held → Command → List ℕ → Type 0
 Lacks held command name =
     ((name ≡ command.tree.now) × HoldsNothing held command.tree.now)
-    ⊎ ((name ≡ command.script.now) × LacksScript held command)
+    ⊎ (((name ≡ command.script.now) × LacksScript held command)
+    ⊎ LacksTable held command name)
 
 -- why one input was not taken
 abbrev pub IsUnheld : Held → List ℕ → CommandFault → Type 0
@@ -70,7 +89,13 @@ IsUnheld held name Usage = ⊥
 IsUnheld held name (Unreadable other) = (other.now ≡ name) × HoldsNothing held name
 IsUnheld held name (Tool fault) = fault ≡ OutOfMemory
 
--- why the two inputs were not taken
+-- why the table's input, which is named so, was not taken
+abbrev pub IsTableUnheld : Held → Option (List ℕ) → CommandFault → Type 0
+IsTableUnheld held name Usage = ⊥
+IsTableUnheld held name (Unreadable other) = (name ≡ Some other.now) × HoldsNothing held other.now
+IsTableUnheld held name (Tool fault) = fault ≡ OutOfMemory
+
+-- why the inputs were not taken
 abbrev pub IsUntaken : Held → Command → CommandFault → Type 0
 IsUntaken held command Usage = ⊥
 IsUntaken held command (Unreadable name) = Lacks held command name.now

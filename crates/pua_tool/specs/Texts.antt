@@ -4,7 +4,10 @@ use Rattle.pua_tree.specs.Tree.{Tree}
 use Rattle.pua_tree.specs.Listing.{listing}
 use Rattle.pua_tree.specs.Steps.{◌>>=◌}
 use Rattle.pua_tree.specs.declared.fault.ListingFault.{ListingFault}
-use Rattle.pua_policy.specs.Calls.{CallTable, call_name}
+use Rattle.std.specs.Borrow.{Bor}
+use Rattle.pua_policy.specs.Calls.{CallTable, call_name, standard_table}
+use Rattle.pua_policy.specs.TableTexts.{table_of}
+use Rattle.pua_policy.specs.declared.table.read.TableFault.{TableFault}
 use Rattle.pua_script.specs.Requests.{Asked}
 use Rattle.pua_script.specs.Scripts.{script}
 use Rattle.pua_script.specs.Replay.{World, new_world, history_of, answers, world_after}
@@ -18,7 +21,7 @@ use Rattle.pua_audit.specs.declared.fault.AuditFault.{AuditFault}
 use Rattle.pua_words.specs.declared.command.AuditWords.{AuditWords}
 use Rattle.pua_tool.specs.declared.job.Job.{Job}
 use Rattle.pua_tool.specs.declared.fault.ToolFault.{ToolFault}
-use Rattle.pua_tool.specs.declared.fault.ToolFault.TheVariants.{Listing, Script, NoProcess, Audit}
+use Rattle.pua_tool.specs.declared.fault.ToolFault.TheVariants.{Table, Listing, Script, NoProcess, Audit}
 
 -- each line of a text ends in LF
 abbrev pub ended : List ℕ → List ℕ
@@ -41,7 +44,7 @@ pair_lines base pairs = flat_map (pair_line base) pairs
 abbrev pub reach_line : ℕ → List ℕ
 reach_line process = ended (codes "reach " ++ decimal process)
 
--- what a whole audit is asked for, besides the table and the two texts
+-- what a whole audit is asked for, besides the texts of the table, the listing and the script
 pub record Wanted : Type 0 where
   pub limit : ℕ
   pub process : ℕ
@@ -56,6 +59,19 @@ wanted job = record { limit = job.limit; process = job.process; base = job.base;
 abbrev pub wanted_by : AuditWords → Wanted
 wanted_by words = record { limit = words.limit; process = words.process; base = words.base; after = option_map (λ text. text.now) words.after; candidates = map (λ text. text.now) words.names.items }
 
+-- the bytes of a text that may be given
+abbrev pub given : Option (Bor (List ℕ)) → Option (List ℕ)
+given text = option_map (λ text. text.now) text
+
+abbrev pub as_table : Result CallTable TableFault → Result CallTable ToolFault
+as_table (Ok table) = Ok table
+as_table (Err fault) = Err (Table fault)
+
+-- the table that a text gives, or its fault; the standard one where no text is given
+abbrev pub table_by : Option (List ℕ) → Result CallTable ToolFault
+table_by None = Ok standard_table
+table_by (Some text) = as_table (table_of text)
+
 abbrev pub as_listing : Result Tree ListingFault → Result Tree ToolFault
 as_listing (Ok t) = Ok t
 as_listing (Err fault) = Err (Listing fault)
@@ -68,22 +84,24 @@ abbrev pub as_audit : Result Beginning AuditFault → Result Beginning ToolFault
 as_audit (Ok b) = Ok b
 as_audit (Err fault) = Err (Audit fault)
 
--- what a script was answered over a listing, and the world that it left
+-- the table of calls, what a script was answered by it over a listing, and the world that it left
 pub record Replayed : Type 0 where
+  pub table : CallTable
   pub told : List Answer
   pub world : World
 
--- the replay of a script over a listing, or the first fault: the listing's, or the script's
-unfoldable pub replayed : CallTable → List ℕ → List ℕ → Result Replayed ToolFault
-replayed table tree_bytes script_bytes = do
+-- the replay of a script over a listing, by the table that a text gives, or the first fault: the table's, the listing's, or the script's
+unfoldable pub replayed : Option (List ℕ) → List ℕ → List ℕ → Result Replayed ToolFault
+replayed table_bytes tree_bytes script_bytes = do
+  table ← table_by table_bytes
   t ← as_listing (listing tree_bytes)
   asks ← as_script (script script_bytes)
-  Ok (record { told = answers table (new_world t) asks; world = world_after table (new_world t) asks })
+  Ok (record { table = table; told = answers table (new_world t) asks; world = world_after table (new_world t) asks })
 
 -- a line for each answer of a script over a listing
-abbrev pub run_text : CallTable → List ℕ → List ℕ → Result (List ℕ) ToolFault
-run_text table tree_bytes script_bytes = do
-  done ← replayed table tree_bytes script_bytes
+abbrev pub run_text : Option (List ℕ) → List ℕ → List ℕ → Result (List ℕ) ToolFault
+run_text table_bytes tree_bytes script_bytes = do
+  done ← replayed table_bytes tree_bytes script_bytes
   Ok (answer_lines 1 done.told)
 
 -- a replay, and the audit that begins where it ends
@@ -91,12 +109,12 @@ pub record Begun : Type 0 where
   pub told : List Answer
   pub beginning : Beginning
 
--- the audit of a process at the end of a script over a listing, or the first fault: the listing's, the script's, a process never made, or what no audit begins with
-unfoldable pub begun : CallTable → List ℕ → List ℕ → Wanted → Result Begun ToolFault
-begun table tree_bytes script_bytes wanted = do
-  done ← replayed table tree_bytes script_bytes
+-- the audit of a process at the end of a script over a listing, or the first fault: the table's, the listing's, the script's, a process never made, or what no audit begins with
+unfoldable pub begun : Option (List ℕ) → List ℕ → List ℕ → Wanted → Result Begun ToolFault
+begun table_bytes tree_bytes script_bytes wanted = do
+  done ← replayed table_bytes tree_bytes script_bytes
   h ← ok_or (history_of done.world wanted.process) NoProcess
-  b ← as_audit (beginning done.world.tree table h wanted.base wanted.candidates wanted.limit wanted.after)
+  b ← as_audit (beginning done.world.tree done.table h wanted.base wanted.candidates wanted.limit wanted.after)
   Ok (record { told = done.told; beginning = b })
 
 -- the answers and the heading, which an audit that is resumed doesn't write again
@@ -109,5 +127,5 @@ abbrev pub text_of : Wanted → Begun → List ℕ
 text_of wanted b = front_of wanted.after wanted.process b.told ++ pair_lines b.beginning.scope.base (still_to_come b.beginning)
 
 -- the whole text of an audit, or what refuses it
-abbrev pub audit_text : CallTable → List ℕ → List ℕ → Wanted → Result (List ℕ) ToolFault
-audit_text table tree_bytes script_bytes wanted = begun table tree_bytes script_bytes wanted >>= λ b. Ok (text_of wanted b)
+abbrev pub audit_text : Option (List ℕ) → List ℕ → List ℕ → Wanted → Result (List ℕ) ToolFault
+audit_text table_bytes tree_bytes script_bytes wanted = begun table_bytes tree_bytes script_bytes wanted >>= λ b. Ok (text_of wanted b)

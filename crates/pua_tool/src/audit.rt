@@ -1,8 +1,7 @@
 //! The text of an audit.
 
 ghost use Rattle.std.specs.Prelude.{◌≡◌, ◌≢◌, ◌≤◌, ◌++◌, ℕ, List, [], Ok, Err, IfOk, IfErr, OnOk, vec_capacity};
-ghost use Rattle.pua_policy.specs.Calls.{standard_table};
-ghost use Rattle.pua_tool.specs.Texts.{Begun, wanted, begun, audit_text, pair_lines};
+ghost use Rattle.pua_tool.specs.Texts.{Begun, given, wanted, begun, audit_text, pair_lines};
 ghost use Rattle.pua_tool.specs.Begun.{IsBegun, text_left};
 ghost use Rattle.pua_tool.specs.Sinks.{Adds, AddsFront, HasFailed, Writes};
 
@@ -21,9 +20,10 @@ use std::alloc::Global;
 /// then `reach P`, and then a line for each pair of a path and a call that the process is allowed
 /// where the script ends, over all paths of at most so many letters, each pair once, in the order of
 /// the paths' letters and then of the calls. An audit that is resumed after a pair writes the lines
-/// of the pairs behind it alone.
+/// of the pairs after it alone. What a call needs is said by the job's text with the table of calls,
+/// or by the standard table where there is none.
 ///
-/// The first that holds of `Listing`, `Script`, `NoProcess` and `Audit` is answered before anything
+/// The first that holds of `Table`, `Listing`, `Script`, `NoProcess` and `Audit` is answered before anything
 /// is written. So is `OutOfMemory`, wherever a growth was refused. `Write` is answered only where a
 /// put failed in this call, and a front of the text is then written.
 pub fn audit_to<S: Sink>(
@@ -33,12 +33,12 @@ pub fn audit_to<S: Sink>(
     job: &Job<'_>,
     sink: &mut S,
 ) -> Result<(), ToolFault>
-    ensures whole { OnOk result ((text : List ℕ) × (audit_text standard_table tree_bytes.now script_bytes.now (wanted job.now) ≡ Ok text) × Adds text (S.written sink.old) (S.written sink.new)) }
+    ensures whole { OnOk result ((text : List ℕ) × (audit_text (given job.now.table) tree_bytes.now script_bytes.now (wanted job.now) ≡ Ok text) × Adds text (S.written sink.old) (S.written sink.new)) }
     ensures unfailed { OnOk result (S.failed sink.new ≡ S.failed sink.old) }
-    ensures write { result ≡ Err ToolFault.Write → (text : List ℕ) × (audit_text standard_table tree_bytes.now script_bytes.now (wanted job.now) ≡ Ok text)
+    ensures write { result ≡ Err ToolFault.Write → (text : List ℕ) × (audit_text (given job.now.table) tree_bytes.now script_bytes.now (wanted job.now) ≡ Ok text)
         × AddsFront text (S.written sink.old) (S.written sink.new) × HasFailed (S.failed sink.old) (S.failed sink.new) }
     ensures refused { IfErr result (λ fault. fault ≢ ToolFault.Write → fault ≢ ToolFault.OutOfMemory →
-        (audit_text standard_table tree_bytes.now script_bytes.now (wanted job.now) ≡ Err fault)) }
+        (audit_text (given job.now.table) tree_bytes.now script_bytes.now (wanted job.now) ≡ Err fault)) }
     ensures unwritten { IfErr result (λ fault. fault ≢ ToolFault.Write → S.written sink.new ≡ S.written sink.old) }
 {
     let mut audited = begin(alloc, tree_bytes, script_bytes, job)?;
@@ -116,11 +116,11 @@ fn begin(
     script_bytes: &[u8],
     job: &Job<'_>,
 ) -> Result<Audited, ToolFault>
-    ensures begun { IfOk result (λ audited. (b : Begun) × (begun standard_table tree_bytes.now script_bytes.now (wanted job.now) ≡ Ok b) × IsBegun audited b) }
-    ensures refused { IfErr result (λ fault. fault ≢ ToolFault.OutOfMemory → (begun standard_table tree_bytes.now script_bytes.now (wanted job.now) ≡ Err fault)) }
+    ensures begun { IfOk result (λ audited. (b : Begun) × (begun (given job.now.table) tree_bytes.now script_bytes.now (wanted job.now) ≡ Ok b) × IsBegun audited b) }
+    ensures refused { IfErr result (λ fault. fault ≢ ToolFault.OutOfMemory → (begun (given job.now.table) tree_bytes.now script_bytes.now (wanted job.now) ≡ Err fault)) }
     ensures unwritten { IfErr result (λ fault. fault ≢ ToolFault.Write) }
 {
-    let Replay { world, told } = replay_script(alloc, tree_bytes, script_bytes)?;
+    let Replay { world, told } = replay_script(alloc, tree_bytes, script_bytes, job.table)?;
     let Some(process) = world.process(job.process) else {
         return Err(ToolFault::NoProcess);
     };
@@ -129,6 +129,7 @@ fn begin(
         alloc,
         &mut probe,
         process,
+        world.table(),
         job.base,
         job.candidates,
         job.limit,

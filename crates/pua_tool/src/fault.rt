@@ -5,6 +5,7 @@ ghost use Rattle.pua_tool.specs.Statuses.{status_of};
 
 use crate::status::{DEVICE, MEMORY, REFUSED};
 use pua_audit::AuditFault;
+use pua_policy::TableFault;
 use pua_script::ScriptFault;
 use pua_tree::ListingFault;
 use thiserror::Error;
@@ -31,6 +32,9 @@ pub enum ToolFault {
     /// A growth of memory was refused, and nothing was written.
     #[error("pua: out of memory")]
     OutOfMemory,
+    /// The table's bytes give no table of calls.
+    #[error("pua: table: {0}")]
+    Table(TableFault),
 }
 
 impl ToolFault {

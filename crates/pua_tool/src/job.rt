@@ -1,7 +1,7 @@
 //! What an audit is asked for.
 
 ghost use Rattle.std.specs.Prelude.{◌≡◌};
-ghost use Rattle.pua_tool.specs.Texts.{wanted, wanted_by};
+ghost use Rattle.pua_tool.specs.Texts.{given, wanted, wanted_by};
 
 use pua_audit::Base;
 use pua_words::AuditWords;
@@ -19,11 +19,14 @@ pub struct Job<'a> {
     pub after: Option<&'a [u8]>,
     /// Spellings of names that are letters, whether or not the tree has them; at most 1,024.
     pub candidates: &'a [&'a [u8]],
+    /// The text with the table of calls; None for the standard table.
+    pub table: Option<&'a [u8]>,
 }
 
-/// What the words of an audit ask for.
-pub(crate) fn job_of<'w>(words: &'w AuditWords<'_>) -> Job<'w>
-    ensures { wanted result ≡ wanted_by words.now }
+/// What the words of an audit ask for, with these bytes of a table.
+pub(crate) fn job_of<'w>(words: &'w AuditWords<'_>, table: Option<&'w [u8]>) -> Job<'w>
+    ensures wanted { wanted result ≡ wanted_by words.now }
+    ensures table { given result.table ≡ given table.entry }
 {
     Job {
         limit: words.limit,
@@ -31,5 +34,6 @@ pub(crate) fn job_of<'w>(words: &'w AuditWords<'_>) -> Job<'w>
         base: words.base,
         after: words.after,
         candidates: words.names.as_slice(),
+        table,
     }
 }

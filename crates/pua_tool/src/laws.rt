@@ -5,6 +5,7 @@ ghost use Rattle.std.specs.Prelude.{◌≡◌};
 ghost use Rattle.pua_tool.specs.Alike.{AnswersAlike, LinesAlike};
 ghost use Rattle.pua_tool.specs.Examples.{TextRows};
 ghost use Rattle.pua_tool.specs.Futures.{Confinement, ConfinementAsRead, Narrowing, NarrowingAsRead, NarrowingNow};
+ghost use Rattle.pua_script.specs.Futures.{StandardTableNarrows};
 ghost use Rattle.pua_script.specs.Tightening.{OthersLeave, OthersLeaveAlways};
 
 use pua_tree::FileTree;
@@ -26,8 +27,9 @@ pub fn text_examples()
 /// process's reach now. And a request of another process leaves a process its history, so its
 /// promises, execpromises, veils, lock and working directory, and whether it has ended.
 ///
-/// What a command reads meets all of this without a condition: cut a script anywhere, and a process
-/// that the lines before the cut left so reaches no more by the lines behind it.
+/// What a command reads meets all of this without a condition, by each table that a text gives: cut a
+/// script anywhere, and a process that the lines before the cut left so reaches no more by the lines
+/// after it.
 pub fn narrowing()
     ensures reach { Narrowing }
     ensures now { NarrowingNow }
@@ -40,15 +42,17 @@ pub fn narrowing()
 /// can't touch with `c` by its history now stays, with its node, kind and target and with its cover;
 /// and where the process doesn't hold cpath the tree stays. The first is so for each table of calls
 /// in which rmdir and unlink need `c`, and a tree and requests whose texts are bytes; the second for
-/// each table by which the five calls that make a name or take one away need cpath. What a command
-/// reads meets these conditions: its table does, and the texts of a listing and a script are bytes.
+/// each table by which the five calls that make a name or take one away need cpath. The standard table
+/// is both, and so both hold of what a command reads without a table of its own: the texts of a
+/// listing and a script are bytes.
 pub fn confined()
     ensures rows { Confinement }
     ensures read { ConfinementAsRead }
+    ensures standard { StandardTableNarrows }
 {}
 
-/// Over any two trees of the same content, however each is kept, a script is answered the same and
-/// leaves the same tree, and an audit of a process where it ends has the same lines.
+/// Over any two trees of the same content, however each is kept, a script is answered the same by a
+/// table of calls and leaves the same tree, and an audit of a process where it ends has the same lines.
 pub fn trees_alike<S: FileTree, T: FileTree>(first: &S, second: &T)
     requires { S.content first.now ≡ T.content second.now }
     ensures answers { AnswersAlike (S.content first.now) (T.content second.now) }

@@ -31,7 +31,7 @@ pub(crate) fn write_objects<T: FileTree, S: Sink>(
 ) -> Result<(), PutFault>
     requires empty { block.old.items ≡ [] }
     requires room { BLOCK ≤ vec_capacity block.old }
-    ensures { (h : History) → StandsFor list.old.process h → Writes (object_lines list.old.tree (lines_of list.old.tree h list.old.left)) result (S.written sink.old) (S.written sink.new) (S.failed sink.old) (S.failed sink.new) }
+    ensures { (h : History) → StandsFor list.old.process h → Writes (object_lines list.old.tree (lines_of list.old.tree list.old.table h list.old.left)) result (S.written sink.old) (S.written sink.new) (S.failed sink.old) (S.failed sink.new) }
 {
     while let Some(line) = list.next_line() {
         add_line(block, line, list.word(), sink)?;

@@ -1,11 +1,11 @@
 //! The text of the objects of a process.
 
 ghost use Rattle.std.specs.Prelude.{◌≡◌, ◌≢◌, ◌≤◌, ◌++◌, ℕ, List, [], Option, Ok, Err, IfErr, OnOk, vec_capacity};
-ghost use Rattle.pua_policy.specs.Calls.{standard_table};
 ghost use Rattle.pua_policy.specs.History.{History, StandsFor};
 ghost use Rattle.pua_objects.specs.Objects.{objects};
 ghost use Rattle.pua_objects.specs.Ready.{lines_of};
 ghost use Rattle.pua_tool.specs.ObjectTexts.{Tells, object_lines, objects_text};
+ghost use Rattle.pua_tool.specs.Texts.{given};
 ghost use Rattle.pua_tool.specs.Sinks.{Adds, AddsFront, HasFailed, Writes};
 
 use crate::answers::objects_front;
@@ -15,7 +15,7 @@ use crate::object_line::write_objects;
 use crate::script::{Replay, replay_script};
 use crate::sink::{PutFault, Sink, put_all};
 use pua_objects::Objects;
-use pua_policy::Process;
+use pua_policy::{CallTable, Process};
 use pua_tree::FileTree;
 use std::alloc::Global;
 
@@ -24,50 +24,60 @@ use std::alloc::Global;
 /// object on which a call is allowed where the script ends, each once: a directory, its further
 /// names, then what has or could have a name in it by the bytes of the names, each directory
 /// followed by what is below it. Paths begin at the root and may have any length. A process that has
-/// ended has no lines.
+/// ended has no lines. What a call needs is said by the text with the table of calls, or by the
+/// standard table where there is none.
 ///
-/// The first that holds of `Listing`, `Script` and `NoProcess` is answered before anything is
+/// The first that holds of `Table`, `Listing`, `Script` and `NoProcess` is answered before anything is
 /// written. So is `OutOfMemory`, wherever a growth was refused. `Write` is answered only where a put
 /// failed in this call, and a front of the text is then written.
 pub fn objects_to<S: Sink>(
     alloc: Global,
     tree_bytes: &[u8],
     script_bytes: &[u8],
+    table: Option<&[u8]>,
     process: u32,
     sink: &mut S,
 ) -> Result<(), ToolFault>
-    ensures whole { OnOk result ((text : List ℕ) × (objects_text standard_table tree_bytes.now script_bytes.now process ≡ Ok text) × Adds text (S.written sink.old) (S.written sink.new)) }
+    ensures whole { OnOk result ((text : List ℕ) × (objects_text (given table.entry) tree_bytes.now script_bytes.now process ≡ Ok text) × Adds text (S.written sink.old) (S.written sink.new)) }
     ensures unfailed { OnOk result (S.failed sink.new ≡ S.failed sink.old) }
-    ensures write { result ≡ Err ToolFault.Write → (text : List ℕ) × (objects_text standard_table tree_bytes.now script_bytes.now process ≡ Ok text)
+    ensures write { result ≡ Err ToolFault.Write → (text : List ℕ) × (objects_text (given table.entry) tree_bytes.now script_bytes.now process ≡ Ok text)
         × AddsFront text (S.written sink.old) (S.written sink.new) × HasFailed (S.failed sink.old) (S.failed sink.new) }
     ensures refused { IfErr result (λ fault. fault ≢ ToolFault.Write → fault ≢ ToolFault.OutOfMemory →
-        (objects_text standard_table tree_bytes.now script_bytes.now process ≡ Err fault)) }
+        (objects_text (given table.entry) tree_bytes.now script_bytes.now process ≡ Err fault)) }
     ensures unwritten { IfErr result (λ fault. fault ≢ ToolFault.Write → S.written sink.new ≡ S.written sink.old) }
 {
-    let Replay { world, told } = replay_script(alloc, tree_bytes, script_bytes)?;
+    let Replay { world, told } = replay_script(alloc, tree_bytes, script_bytes, table)?;
     let Some(known) = world.process(process) else {
         return Err(ToolFault::NoProcess);
     };
     let Ok(front) = objects_front(alloc, told.as_slice(), process) else {
         return Err(ToolFault::OutOfMemory);
     };
-    list_to(alloc, world.tree(), known, front.as_str(), sink)
+    list_to(
+        alloc,
+        world.tree(),
+        known,
+        world.table(),
+        front.as_str(),
+        sink,
+    )
 }
 
 /// Writes the front of a text, and then a line for each object of a tree on which a process is
-/// allowed a call. `OutOfMemory` is answered before anything is written, and no other fault but
+/// allowed a call by a table. `OutOfMemory` is answered before anything is written, and no other fault but
 /// `Write`.
 fn list_to<T: FileTree, S: Sink>(
     alloc: Global,
     tree: &T,
     process: &Process,
+    table: &CallTable,
     front: &str,
     sink: &mut S,
 ) -> Result<(), ToolFault>
-    ensures { (h : History) → StandsFor process.now h → Tells (front.now ++ object_lines (T.content tree.now) (objects (T.content tree.now) standard_table h)) result
+    ensures { (h : History) → StandsFor process.now h → Tells (front.now ++ object_lines (T.content tree.now) (objects (T.content tree.now) table.now h)) result
         (S.written sink.old) (S.written sink.new) (S.failed sink.old) (S.failed sink.new) }
 {
-    let Ok(mut list) = Objects::begin(alloc, tree, process) else {
+    let Ok(mut list) = Objects::begin(alloc, tree, process, table) else {
         return Err(ToolFault::OutOfMemory);
     };
     let Ok(mut block) = Vec::with_capacity(alloc, BLOCK) else {
@@ -96,7 +106,7 @@ fn write_text<T: FileTree, S: Sink>(
 ) -> Result<(), PutFault>
     requires empty { block.old.items ≡ [] }
     requires room { BLOCK ≤ vec_capacity block.old }
-    ensures { (h : History) → StandsFor list.old.process h → Writes (front.now ++ object_lines list.old.tree (lines_of list.old.tree h list.old.left)) result
+    ensures { (h : History) → StandsFor list.old.process h → Writes (front.now ++ object_lines list.old.tree (lines_of list.old.tree list.old.table h list.old.left)) result
         (S.written sink.old) (S.written sink.new) (S.failed sink.old) (S.failed sink.new) }
 {
     put_all(sink, front.as_bytes())?;

@@ -1,8 +1,7 @@
 //! The text of a run.
 
 ghost use Rattle.std.specs.Prelude.{◌≡◌, ◌≢◌, ℕ, List, Ok, Err, IfErr, OnOk};
-ghost use Rattle.pua_policy.specs.Calls.{standard_table};
-ghost use Rattle.pua_tool.specs.Texts.{run_text};
+ghost use Rattle.pua_tool.specs.Texts.{given, run_text};
 ghost use Rattle.pua_tool.specs.Sinks.{Adds, AddsFront, HasFailed};
 
 use crate::answers::answer_text;
@@ -12,26 +11,28 @@ use crate::sink::{Sink, put_all};
 use std::alloc::Global;
 
 /// Writes the text of a run: for each line of the script its number and what it was answered, where
-/// all lines are served one after another over the tree of the listing.
+/// all lines are served one after another over the tree of the listing. What a call needs is said by
+/// the text with the table of calls, or by the standard table where there is none.
 ///
-/// The first that holds of `Listing` and `Script` is answered before anything is written. So is
+/// The first that holds of `Table`, `Listing` and `Script` is answered before anything is written. So is
 /// `OutOfMemory`, wherever a growth was refused. `Write` is answered only where a put failed in this
 /// call, and a front of the text is then written.
 pub fn run_to<S: Sink>(
     alloc: Global,
     tree_bytes: &[u8],
     script_bytes: &[u8],
+    table: Option<&[u8]>,
     sink: &mut S,
 ) -> Result<(), ToolFault>
-    ensures whole { OnOk result ((text : List ℕ) × (run_text standard_table tree_bytes.now script_bytes.now ≡ Ok text) × Adds text (S.written sink.old) (S.written sink.new)) }
+    ensures whole { OnOk result ((text : List ℕ) × (run_text (given table.entry) tree_bytes.now script_bytes.now ≡ Ok text) × Adds text (S.written sink.old) (S.written sink.new)) }
     ensures unfailed { OnOk result (S.failed sink.new ≡ S.failed sink.old) }
-    ensures write { result ≡ Err ToolFault.Write → (text : List ℕ) × (run_text standard_table tree_bytes.now script_bytes.now ≡ Ok text)
+    ensures write { result ≡ Err ToolFault.Write → (text : List ℕ) × (run_text (given table.entry) tree_bytes.now script_bytes.now ≡ Ok text)
         × AddsFront text (S.written sink.old) (S.written sink.new) × HasFailed (S.failed sink.old) (S.failed sink.new) }
     ensures refused { IfErr result (λ fault. fault ≢ ToolFault.Write → fault ≢ ToolFault.OutOfMemory →
-        (run_text standard_table tree_bytes.now script_bytes.now ≡ Err fault)) }
+        (run_text (given table.entry) tree_bytes.now script_bytes.now ≡ Err fault)) }
     ensures unwritten { IfErr result (λ fault. fault ≢ ToolFault.Write → S.written sink.new ≡ S.written sink.old) }
 {
-    let replay = replay_script(alloc, tree_bytes, script_bytes)?;
+    let replay = replay_script(alloc, tree_bytes, script_bytes, table)?;
     let Ok(text) = answer_text(alloc, replay.told.as_slice()) else {
         return Err(ToolFault::OutOfMemory);
     };

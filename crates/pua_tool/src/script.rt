@@ -1,13 +1,13 @@
 //! The replay of a script over the tree of a listing.
 
 ghost use Rattle.std.specs.Prelude.{◌≡◌, ◌≢◌, Ok, Err, IfOk, IfErr};
-ghost use Rattle.pua_policy.specs.Calls.{standard_table};
 ghost use Rattle.pua_tree.specs.Listing.{listing};
 ghost use Rattle.pua_script.specs.Scripts.{script};
-ghost use Rattle.pua_tool.specs.Texts.{Replayed, as_listing, as_script, replayed};
+ghost use Rattle.pua_tool.specs.Texts.{Replayed, as_listing, as_script, given, replayed, table_by};
 ghost use Rattle.pua_tool.specs.Begun.{IsReplay};
 
 use crate::fault::ToolFault;
+use pua_policy::{CallTable, TableFault};
 use pua_script::{Answer, Script, ScriptFault, World, read_script};
 use pua_tree::{ListingFault, SlabTree, read_listing_slab};
 use std::alloc::Global;
@@ -22,26 +22,45 @@ pub(crate) struct Replay {
     pub(crate) told: Vec<Answer>,
 }
 
-/// Serves a script over the tree of a listing, or answers the first fault: the listing's, or the
-/// script's. `OutOfMemory` where a growth was refused.
+/// Serves a script over the tree of a listing, by the table of a text or the standard one, or
+/// answers the first fault: the table's, the listing's, or the script's. `OutOfMemory` where a
+/// growth was refused.
 pub(crate) fn replay_script(
     alloc: Global,
     tree_bytes: &[u8],
     script_bytes: &[u8],
+    table_bytes: Option<&[u8]>,
 ) -> Result<Replay, ToolFault>
-    ensures done { IfOk result (λ replay. (done : Replayed) × (replayed standard_table tree_bytes.now script_bytes.now ≡ Ok done) × IsReplay replay done) }
-    ensures refused { IfErr result (λ fault. fault ≢ ToolFault.OutOfMemory → (replayed standard_table tree_bytes.now script_bytes.now ≡ Err fault)) }
+    ensures done { IfOk result (λ replay. (done : Replayed) × (replayed (given table_bytes.entry) tree_bytes.now script_bytes.now ≡ Ok done) × IsReplay replay done) }
+    ensures refused { IfErr result (λ fault. fault ≢ ToolFault.OutOfMemory → (replayed (given table_bytes.entry) tree_bytes.now script_bytes.now ≡ Err fault)) }
     ensures unwritten { IfErr result (λ fault. fault ≢ ToolFault.Write) }
 {
+    let table = read_table(alloc, table_bytes)?;
     let tree = read_tree(alloc, tree_bytes)?;
     let script = read_requests(alloc, script_bytes)?;
-    let Ok(mut world) = World::new(alloc, tree) else {
+    let Ok(mut world) = World::new(alloc, tree, table) else {
         return Err(ToolFault::OutOfMemory);
     };
     let Ok(told) = world.run(alloc, &script) else {
         return Err(ToolFault::OutOfMemory);
     };
     Ok(Replay { world, told })
+}
+
+/// The table that a text gives; the standard one where no text is given.
+fn read_table(alloc: Global, bytes: Option<&[u8]>) -> Result<CallTable, ToolFault>
+    ensures read { IfOk result (λ table. table_by (given bytes.entry) ≡ Ok table) }
+    ensures refused { IfErr result (λ fault. fault ≢ ToolFault.OutOfMemory → (table_by (given bytes.entry) ≡ Err fault)) }
+    ensures unwritten { IfErr result (λ fault. fault ≢ ToolFault.Write) }
+{
+    let Some(bytes) = bytes else {
+        return Ok(CallTable::standard());
+    };
+    match CallTable::read(alloc, bytes) {
+        Ok(table) => Ok(table),
+        Err(TableFault::OutOfMemory) => Err(ToolFault::OutOfMemory),
+        Err(fault) => Err(ToolFault::Table(fault)),
+    }
 }
 
 fn read_tree(alloc: Global, bytes: &[u8]) -> Result<ProgramTree, ToolFault>

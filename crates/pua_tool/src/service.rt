@@ -1,9 +1,10 @@
-//! What a command asks for, done: its two inputs are taken, and its text is written.
+//! What a command asks for, done: its inputs are taken, and its text is written.
 
-ghost use Rattle.std.specs.Prelude.{◌≡◌, ◌≢◌, ◌≤◌, ◌⊎◌, ℕ, List, Ok, Err, OnOk, IfOk, IfErr};
+ghost use Rattle.std.specs.Prelude.{◌≡◌, ◌≢◌, ◌≤◌, ◌⊎◌, ℕ, List, Ok, Err, OnOk, IfOk, IfErr, option_map};
 ghost use Rattle.pua_tool.specs.Held.{Holds};
-ghost use Rattle.pua_tool.specs.Performed.{IsCutShort, IsDone, IsRefused, IsStopped, IsUnheld, IsUntaken, LacksInput, text_asked};
+ghost use Rattle.pua_tool.specs.Performed.{HoldsTable, IsCutShort, IsDone, IsRefused, IsStopped, IsTableUnheld, IsUnheld, IsUntaken, LacksInput, text_asked};
 ghost use Rattle.pua_tool.specs.Sinks.{Adds, AddsFront, HasFailed};
+ghost use Rattle.pua_tool.specs.Texts.{given};
 
 use crate::audit::audit_to;
 use crate::fault::ToolFault;
@@ -17,13 +18,13 @@ use crate::status::{DEVICE, DONE, MEMORY, REFUSED, USAGE};
 use pua_words::{Command, Text};
 use std::alloc::Global;
 
-/// Does what a command asks for: the text of a run, of an audit or of a
-/// list of objects goes to `out`, and of a fault one
-/// line goes to `err`, which is dropped where it can't be written. Both inputs are taken, the tree's
-/// first, before either is read as a listing or a script.
+/// Does what a command asks for: the text of a run, of an audit or of a list of objects goes to
+/// `out`, and of a fault one line goes to `err`, which is dropped where it can't be written. The
+/// inputs are taken, first the tree's, then the script's, then the table's where one is named, before
+/// any of them is read as a listing, a script or a table.
 ///
 /// It answers the status. [`DONE`]: the text that is asked for, of the bytes that the inputs hold
-/// under the command's two names, was written, and nothing to `err`. [`REFUSED`]: these bytes, or
+/// under the command's names, was written, and nothing to `err`. [`REFUSED`]: these bytes, or
 /// what the audit is asked for, are refused. [`DEVICE`]: an input is missing, and nothing was
 /// written; or a put failed, and a front of the text was written. [`MEMORY`]: a growth of memory was
 /// refused. After [`REFUSED`] and [`MEMORY`] nothing was written.
@@ -63,28 +64,23 @@ fn serve<'c, I: Inputs, O: Sink>(
     ensures stopped { IfErr result (λ fault. IsStopped (I.holds inputs.old) command.now fault
         (O.written out.old) (O.written out.new) (O.failed out.old) (O.failed out.new)) }
 {
-    let Taken { tree, script } = take_both(alloc, command, inputs)?;
-    match write_text(
-        alloc,
-        tree.as_slice(),
-        script.as_slice(),
-        &command.text,
-        out,
-    ) {
+    let taken = take_all(alloc, command, inputs)?;
+    match write_text(alloc, &taken, &command.text, out) {
         Ok(()) => Ok(()),
         Err(fault) => Err(CommandFault::Tool(fault)),
     }
 }
 
-/// The bytes of both inputs.
+/// The bytes of the inputs.
 #[derive(Drop)]
 pub(crate) struct Taken {
     tree: Vec<u8>,
     script: Vec<u8>,
+    table: Option<Vec<u8>>,
 }
 
-/// Takes both inputs, the tree's first.
-fn take_both<'c, I: Inputs>(
+/// Takes the inputs, the tree's first and the table's last.
+fn take_all<'c, I: Inputs>(
     alloc: Global,
     command: &Command<'c>,
     inputs: &mut I,
@@ -93,11 +89,32 @@ fn take_both<'c, I: Inputs>(
         Holds (I.holds inputs.old) command.now.tree.now taken.tree.items) }
     ensures script { IfOk result (λ taken.
         Holds (I.holds inputs.old) command.now.script.now taken.script.items) }
+    ensures table { IfOk result (λ taken. HoldsTable (I.holds inputs.old) command.now.table (option_map (λ bytes. bytes.items) taken.table)) }
     ensures untaken { IfErr result (λ fault. IsUntaken (I.holds inputs.old) command.now fault) }
 {
     let tree = take_named(alloc, command.tree, inputs)?;
     let script = take_named(alloc, command.script, inputs)?;
-    Ok(Taken { tree, script })
+    let table = take_table(alloc, command.table, inputs)?;
+    Ok(Taken {
+        tree,
+        script,
+        table,
+    })
+}
+
+/// Takes the input of the table's name, where one is named.
+fn take_table<'c, I: Inputs>(
+    alloc: Global,
+    name: Option<&'c str>,
+    inputs: &mut I,
+) -> Result<Option<Vec<u8>>, CommandFault<'c>>
+    ensures held { IfOk result (λ bytes. HoldsTable (I.holds inputs.old) name.entry (option_map (λ bytes. bytes.items) bytes)) }
+    ensures unheld { IfErr result (λ fault. IsTableUnheld (I.holds inputs.old) (given name.entry) fault) }
+{
+    match name {
+        Some(name) => Ok(Some(take_named(alloc, name, inputs)?)),
+        None => Ok(None),
+    }
 }
 
 /// Takes the input of this name.
@@ -117,30 +134,31 @@ fn take_named<'c, I: Inputs>(
     }
 }
 
-/// Writes the text that is asked for, of these bytes of a listing and a script.
+/// Writes the text that is asked for, of these bytes of a listing, a script and a table.
 fn write_text<O: Sink>(
     alloc: Global,
-    tree: &[u8],
-    script: &[u8],
+    taken: &Taken,
     text: &Text<'_>,
     out: &mut O,
 ) -> Result<(), ToolFault>
-    ensures whole { OnOk result ((t : List ℕ) × (text_asked text.now tree.now script.now ≡ Ok t)
+    ensures whole { OnOk result ((t : List ℕ) × (text_asked text.now (option_map (λ bytes. bytes.items) taken.now.table) taken.now.tree.items taken.now.script.items ≡ Ok t)
         × Adds t (O.written out.old) (O.written out.new)) }
     ensures unfailed { OnOk result (O.failed out.new ≡ O.failed out.old) }
     ensures write { result ≡ Err ToolFault.Write →
-        (t : List ℕ) × (text_asked text.now tree.now script.now ≡ Ok t)
+        (t : List ℕ) × (text_asked text.now (option_map (λ bytes. bytes.items) taken.now.table) taken.now.tree.items taken.now.script.items ≡ Ok t)
         × AddsFront t (O.written out.old) (O.written out.new)
         × HasFailed (O.failed out.old) (O.failed out.new) }
     ensures refused { IfErr result (λ fault.
         fault ≢ ToolFault.Write → fault ≢ ToolFault.OutOfMemory →
-        text_asked text.now tree.now script.now ≡ Err fault) }
+        text_asked text.now (option_map (λ bytes. bytes.items) taken.now.table) taken.now.tree.items taken.now.script.items ≡ Err fault) }
     ensures unwritten { IfErr result (λ fault.
         fault ≢ ToolFault.Write → O.written out.new ≡ O.written out.old) }
 {
+    let (tree, script) = (taken.tree.as_slice(), taken.script.as_slice());
+    let table = taken.table.as_ref().map(|bytes| bytes.as_slice());
     match text {
-        Text::Run => run_to(alloc, tree, script, out),
-        Text::Audit(words) => audit_to(alloc, tree, script, &job_of(words), out),
-        Text::Objects(words) => objects_to(alloc, tree, script, words.process, out),
+        Text::Run => run_to(alloc, tree, script, table, out),
+        Text::Audit(words) => audit_to(alloc, tree, script, &job_of(words, table), out),
+        Text::Objects(words) => objects_to(alloc, tree, script, table, words.process, out),
     }
 }

@@ -2,13 +2,15 @@
 
 use pua_audit::Base;
 
-/// A command: a text that is asked for, and the names of the two inputs that it is made of.
+/// A command: a text that is asked for, and the names of the inputs that it is made of.
 #[derive(Debug, Drop)]
 pub struct Command<'a> {
     /// The name of the input with the listing of the tree.
     pub tree: &'a str,
     /// The name of the input with the script.
     pub script: &'a str,
+    /// The name of the input with the table of calls; None for the standard table.
+    pub table: Option<&'a str>,
     /// Which text is asked for.
     pub text: Text<'a>,
 }

@@ -2,7 +2,7 @@
 
 /// How the program is used, in one line.
 pub const USAGE_LINE: &str =
-    "pua: usage: pua run TREE SCRIPT; pua objects [--process P] TREE SCRIPT; pua audit --limit N [--process P] [--base root|cwd] [--after CALL:PATH] TREE SCRIPT [NAME...]";
+    "pua: usage: pua run [--table FILE] TREE SCRIPT; pua objects [--process P] [--table FILE] TREE SCRIPT; pua audit --limit N [--process P] [--base root|cwd] [--after CALL:PATH] [--table FILE] TREE SCRIPT [NAME...]";
 
 pub(crate) const PUA: &str =
     "Lists what a pledged and unveiled process may still do to a file tree";
@@ -13,6 +13,8 @@ pub(crate) const OBJECTS: &str =
     "Serves a script, then lists each object and the calls still allowed";
 
 pub(crate) const AUDIT: &str = "Serves a script, then lists each path and call still allowed";
+
+pub(crate) const TABLE: &str = "File with what the calls need, in TOML";
 
 pub(crate) const TREE: &str = "File with the listing of the tree";
 
@@ -28,7 +30,7 @@ pub(crate) const BASE: &str = "Where paths begin";
 
 pub(crate) const AFTER: &str = "Print only what comes after this pair";
 
-/// The formats of both inputs.
+/// The formats of the inputs.
 pub(crate) const INPUTS: &str = "\
 TREE has a line for each directory, file, program and link; numbers rise:
   tree 2
@@ -48,6 +50,12 @@ SCRIPT has a line for each call: a process, the call, and its arguments.
   1 stat /etc/passwd
 Process 1 is there from the start; `1 fork 2` makes process 2. For pledge and
 unveil `-` is NULL; `=` is an empty text.
+
+FILE, of `--table`, has a row for each call that needs something else than by
+the standard table: all promises of one of some lists, and letters of a veil.
+  [mkdir]
+  promises = [\"cpath\", \"dpath\"]
+  veil = \"c\"
 
 In names and paths a blank, a backslash and each byte outside ASCII is written
 as a backslash and three octal digits: `a\\040b`.

@@ -69,6 +69,7 @@ fn run_command<'a>(alloc: Global) -> Result<clap::Command<'a>, AllocError> {
     clap::Command::new(alloc, "run")
         .about(help::RUN)
         .after_help(help::RUN_OUTPUT)
+        .arg(table(alloc))?
         .arg(tree(alloc))?
         .arg(script(alloc))
 }
@@ -78,6 +79,7 @@ fn objects_command<'a>(alloc: Global) -> Result<clap::Command<'a>, AllocError> {
         .about(help::OBJECTS)
         .after_help(help::OBJECTS_OUTPUT)
         .arg(process(alloc))?
+        .arg(table(alloc))?
         .arg(tree(alloc))?
         .arg(script(alloc))
 }
@@ -95,6 +97,7 @@ fn audit_command<'a>(alloc: Global) -> Result<clap::Command<'a>, AllocError> {
         .arg(process(alloc))?
         .arg(base(alloc))?
         .arg(after(alloc))?
+        .arg(table(alloc))?
         .arg(tree(alloc))?
         .arg(script(alloc))?
         .arg(names)
@@ -139,6 +142,14 @@ fn after<'a>(alloc: Global) -> Arg<'a> {
         .help(help::AFTER)
 }
 
+fn table<'a>(alloc: Global) -> Arg<'a> {
+    Arg::new(alloc, "table")
+        .long("table")
+        .action(ArgAction::Set)
+        .value_name("FILE")
+        .help(help::TABLE)
+}
+
 fn tree<'a>(alloc: Global) -> Arg<'a> {
     Arg::new(alloc, "tree")
         .required(true)
@@ -164,12 +175,17 @@ fn stop_of(alloc: Global, error: &Error) -> Stop {
     }
 }
 
-/// The two operands that all commands have, and the text that is asked for.
+/// The inputs that all commands have, and the text that is asked for.
 fn read_inputs<'a>(found: &ArgMatches<'a>, text: Text<'a>) -> Result<Command<'a>, Stop>
     ensures { IfOk result (λ command. command.text ≡ text.entry) }
 {
     match (found.get_str("tree"), found.get_str("script")) {
-        (Some(tree), Some(script)) => Ok(Command { tree, script, text }),
+        (Some(tree), Some(script)) => Ok(Command {
+            tree,
+            script,
+            table: found.get_str("table"),
+            text,
+        }),
         _ => Err(Stop::Usage),
     }
 }

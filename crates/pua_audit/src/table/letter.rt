@@ -2,7 +2,6 @@
 
 ghost use Rattle.std.specs.Prelude.{◌≡◌, ◌<◌, ◌≤◌, ◌+◌, ◌&&◌, [], length, get_or, Ok, Err, IfSome, IsTrue};
 ghost use Rattle.pua_tree.specs.Tree.{is_dir};
-ghost use Rattle.pua_policy.specs.Calls.{standard_table};
 ghost use Rattle.pua_policy.specs.CallSets.{has, keeps_link};
 ghost use Rattle.pua_policy.specs.declared.call.Call.{Call};
 ghost use Rattle.pua_policy.specs.Verdict.{FoundsFit, verdict_of, is_allowed};
@@ -72,7 +71,7 @@ impl Terms {
         requires tree { P.tree probe.old ≡ self.now.seen.tree }
         requires sound { IsSound self.now }
         requires fits { FoundsFit self.now.seen.tree found.now }
-        ensures exact { (call : Call) → has result call ≡ is_allowed (verdict_of self.now.seen.tree standard_table (history_of self.now.process) call found.now) }
+        ensures exact { (call : Call) → has result call ≡ is_allowed (verdict_of self.now.seen.tree self.now.table (history_of self.now.process) call found.now) }
         ensures tree { P.tree probe.new ≡ P.tree probe.old }
         ensures cost { P.count probe.new ≤ P.count probe.old + object_cost self.now.seen.tree }
     {
@@ -81,7 +80,7 @@ impl Terms {
         };
         let cover = self.process.cover(probe, found);
         let object = judge::object(probe, found);
-        judge::allowed(&self.process, cover, object)
+        judge::allowed(&self.process, &self.table, cover, object)
     }
 }
 

@@ -9,7 +9,7 @@ use crate::trees::ListedTree;
 use anyhow::{Result, anyhow};
 use pua_audit::{Audit, AuditFault, Base, Line};
 use pua_path::Counted;
-use pua_policy::{Call, Perms, Place, Process};
+use pua_policy::{Call, CallTable, Perms, Place, Process};
 use pua_tree::{FileTree, ListTree, Name, NodeId, SlabTree};
 use std::alloc::Global;
 
@@ -97,7 +97,8 @@ fn begun<T: FileTree>(alloc: Global, tree: &T, process: &Process) -> Result<Audi
     ensures { IfOk result (λ audit. audit.tree ≡ T.content tree.now) }
 {
     let mut probe = Counted::new(tree);
-    Audit::begin(alloc, &mut probe, process, Base::Root, &[], 3, None)
+    let table = CallTable::standard();
+    Audit::begin(alloc, &mut probe, process, &table, Base::Root, &[], 3, None)
 }
 
 /// Whether an audit lends each of the lines in turn, and then none.

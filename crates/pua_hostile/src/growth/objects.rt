@@ -6,7 +6,7 @@ use crate::growth::readings::tree_read;
 use crate::trees::ListedTree;
 use anyhow::{Result, anyhow};
 use pua_objects::{ObjectKind, ObjectLine, Objects};
-use pua_policy::{Call, Calls, Perms, Place, Process};
+use pua_policy::{Call, CallTable, Calls, Perms, Place, Process};
 use pua_tree::{FileTree, ListTree, Name, NodeId, OutOfMemory, SlabTree};
 use std::alloc::Global;
 
@@ -52,10 +52,11 @@ fn begun_again<'t, T: FileTree>(
     process: &'t Process,
     again: &mut u32,
 ) -> Result<Objects<'t, T>> {
-    match Objects::begin(alloc, tree, process) {
+    let table = CallTable::standard();
+    match Objects::begin(alloc, tree, process, &table) {
         Err(OutOfMemory) => {
             *again = again.saturating_add(1);
-            Objects::begin(alloc, tree, process).map_err(|fault| anyhow!("{fault}"))
+            Objects::begin(alloc, tree, process, &table).map_err(|fault| anyhow!("{fault}"))
         }
         answer => answer.map_err(|fault| anyhow!("{fault}")),
     }
@@ -67,7 +68,7 @@ pub(crate) fn listed<T: ListedTree>(alloc: Global) -> &'static str {
     let (Ok(tree), Ok(process)) = (T::read(alloc, LISTING), spooler(alloc)) else {
         return "refused";
     };
-    let Ok(mut objects) = Objects::begin(alloc, &tree, &process) else {
+    let Ok(mut objects) = Objects::begin(alloc, &tree, &process, &CallTable::standard()) else {
         return "refused";
     };
     if is_listed(&mut objects) {

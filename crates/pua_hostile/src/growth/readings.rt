@@ -1,11 +1,13 @@
-//! Inputs, listings, names and scripts, each read once more where a growth was refused.
+//! Inputs, listings, names, scripts and tables of calls, each read once more where a growth was refused.
 
 use crate::LISTING;
 use crate::dripping::DrippingReader;
 use crate::growth::worlds::{REQUESTS, SCRIPT};
 use crate::listed::listing_of;
+use crate::tables::TABLE;
 use crate::trees::ListedTree;
 use anyhow::{Result, anyhow};
+use pua_policy::{Call, CallTable, Perms, TableFault};
 use pua_script::{Script, ScriptFault, read_script};
 use pua_tool::{InputFault, Inputs, MemoryInputs, ReadSource, read_bytes};
 use pua_tree::{FileTree, LentRow, ListTree, ListingFault, Name, OutOfMemory, SlabTree, TreeFault};
@@ -38,9 +40,12 @@ pub(crate) fn hold(alloc: Global, again: &mut u32) -> Result<bool> {
     let bytes = bytes_read(alloc, again)?;
     let taken = input_taken(alloc, again)?;
     let script = script_read(alloc, again)?;
+    let table = table_read(alloc, again)?;
     let is_read = bytes.as_slice() == LISTING && taken.as_slice() == LISTING;
     let is_listed = is_listed::<ListTree>(alloc, again)? && is_listed::<SlabTree>(alloc, again)?;
-    Ok(is_read && is_listed && script.requests().len() == REQUESTS)
+    let are_sets = table.alternatives(Call::Mkdir).len() == 2
+        && table.perms(Call::Mkdir) == Perms::CREATE;
+    Ok(is_read && is_listed && are_sets && script.requests().len() == REQUESTS)
 }
 
 /// Whether a tree of this kind is read, and tells its names and its rows, as it has to be.
@@ -127,6 +132,16 @@ fn are_rows(rows: &[LentRow<'_>]) -> bool {
         && pairs.all(|(row, (dir, name, node))| {
             row.dir.number() == *dir && row.name.bytes() == *name && row.node.number() == *node
         })
+}
+
+fn table_read(alloc: Global, again: &mut u32) -> Result<CallTable> {
+    match CallTable::read(alloc, TABLE) {
+        Err(TableFault::OutOfMemory) => {
+            *again = again.saturating_add(1);
+            CallTable::read(alloc, TABLE).map_err(|fault| anyhow!("{fault}"))
+        }
+        answer => answer.map_err(|fault| anyhow!("{fault}")),
+    }
 }
 
 /// The script that worlds serve.

@@ -6,7 +6,7 @@ use crate::listed::listing_of;
 use anyhow::{Result, anyhow};
 use pua_audit::{Audit, Base};
 use pua_path::Counted;
-use pua_policy::Process;
+use pua_policy::{CallTable, Process};
 use pua_script::World;
 use pua_tree::FileTree;
 use std::alloc::Global;
@@ -14,7 +14,7 @@ use std::alloc::Global;
 /// Processes have numbers up to this one, in the worlds that are looked at here.
 const PROCESSES: u32 = 3;
 
-/// All lines that an audit has still to lend: each path in plain bytes, and the call behind a blank.
+/// All lines that an audit has still to lend: each path in plain bytes, and the call after a blank.
 fn lines_of<T: FileTree>(alloc: Global, tree: &T, audit: &mut Audit) -> Result<Vec<u8>>
     requires { audit.old.tree ≡ T.content tree.now }
 {
@@ -37,7 +37,18 @@ pub(crate) fn process_seen<T: FileTree>(
     process: &Process,
 ) -> Result<Vec<u8>> {
     let mut probe = Counted::new(tree);
-    let begun = Audit::begin(alloc, &mut probe, process, Base::Root, &[b"new"], 2, None);
+    let table = CallTable::standard();
+    let names = &[b"new".as_slice()];
+    let begun = Audit::begin(
+        alloc,
+        &mut probe,
+        process,
+        &table,
+        Base::Root,
+        names,
+        2,
+        None,
+    );
     let mut audit = begun.map_err(|fault| anyhow!("{fault}"))?;
     let mut text = lines_of(alloc, tree, &mut audit)?;
     let dir = process.dir().number();

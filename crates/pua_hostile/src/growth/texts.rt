@@ -10,18 +10,21 @@ use pua_tool::{
 };
 use std::alloc::Global;
 
-/// A script of a process that may then read one file alone.
+/// A script of a process that may then only read one file, and change its mode.
 const SCRIPT: &[u8] = b"1 unveil /etc/passwd r\n1 unveil - -\n";
+
+/// The table by which it may change the mode.
+const TABLE: &[u8] = b"[chmod]\npromises = [\"fattr\", \"rpath\"]\nveil = \"r\"\n";
 
 /// The answers to it.
 const RUN: &[u8] = b"1 ok\n2 ok\n";
 
 /// Its audit.
 const AUDIT: &[u8] =
-    b"1 ok\n2 ok\nreach 1\n/../etc/passwd stat\n/../etc/passwd lstat\n/../etc/passwd open-r\n/etc/passwd stat\n/etc/passwd lstat\n/etc/passwd open-r\n/t/up/passwd stat\n/t/up/passwd lstat\n/t/up/passwd open-r\n/tmp/up/passwd stat\n/tmp/up/passwd lstat\n/tmp/up/passwd open-r\n";
+    b"1 ok\n2 ok\nreach 1\n/../etc/passwd stat\n/../etc/passwd lstat\n/../etc/passwd open-r\n/../etc/passwd chmod\n/etc/passwd stat\n/etc/passwd lstat\n/etc/passwd open-r\n/etc/passwd chmod\n/t/up/passwd stat\n/t/up/passwd lstat\n/t/up/passwd open-r\n/t/up/passwd chmod\n/tmp/up/passwd stat\n/tmp/up/passwd lstat\n/tmp/up/passwd open-r\n/tmp/up/passwd chmod\n";
 
 /// What it may touch.
-const OBJECTS: &[u8] = b"1 ok\n2 ok\nobjects 1\nfile /etc/passwd stat,lstat,open-r\n";
+const OBJECTS: &[u8] = b"1 ok\n2 ok\nobjects 1\nfile /etc/passwd stat,lstat,open-r,chmod\n";
 
 /// What the audit is asked for.
 const JOB: Job<'static> = Job {
@@ -29,6 +32,7 @@ const JOB: Job<'static> = Job {
     process: 1,
     base: Base::Root,
     after: None,
+    table: Some(TABLE),
     candidates: &[],
 };
 
@@ -66,11 +70,11 @@ fn is_filled(alloc: Global, again: &mut u32) -> Result<bool> {
 /// Whether a run is written whole.
 fn is_run(alloc: Global, again: &mut u32) -> Result<bool> {
     let mut sink = sink_made(alloc, again)?;
-    match run_to(alloc, LISTING, SCRIPT, &mut sink) {
+    match run_to(alloc, LISTING, SCRIPT, Some(TABLE), &mut sink) {
         Err(ToolFault::OutOfMemory) => {
             *again = again.saturating_add(1);
             let is_empty = sink.bytes().is_empty();
-            let answer = run_to(alloc, LISTING, SCRIPT, &mut sink);
+            let answer = run_to(alloc, LISTING, SCRIPT, Some(TABLE), &mut sink);
             Ok(is_empty && answer == Ok(()) && sink.bytes() == RUN)
         }
         answer => Ok(answer == Ok(()) && sink.bytes() == RUN),
@@ -80,11 +84,11 @@ fn is_run(alloc: Global, again: &mut u32) -> Result<bool> {
 /// Whether a list of objects is written whole.
 fn is_listed(alloc: Global, again: &mut u32) -> Result<bool> {
     let mut sink = sink_made(alloc, again)?;
-    match objects_to(alloc, LISTING, SCRIPT, 1, &mut sink) {
+    match objects_to(alloc, LISTING, SCRIPT, Some(TABLE), 1, &mut sink) {
         Err(ToolFault::OutOfMemory) => {
             *again = again.saturating_add(1);
             let is_empty = sink.bytes().is_empty();
-            let answer = objects_to(alloc, LISTING, SCRIPT, 1, &mut sink);
+            let answer = objects_to(alloc, LISTING, SCRIPT, Some(TABLE), 1, &mut sink);
             Ok(is_empty && answer == Ok(()) && sink.bytes() == OBJECTS)
         }
         answer => Ok(answer == Ok(()) && sink.bytes() == OBJECTS),
@@ -107,8 +111,8 @@ fn is_audited(alloc: Global, again: &mut u32) -> Result<bool> {
 
 /// Whether the program writes the audit whole, and reports the refusal alone where there is one.
 fn is_done(alloc: Global, again: &mut u32) -> Result<bool> {
-    let words = ["audit", "--limit", "3", "T", "S"];
-    let entries = [("T", LISTING), ("S", SCRIPT)];
+    let words = ["audit", "--limit", "3", "--table", "C", "T", "S"];
+    let entries = [("T", LISTING), ("S", SCRIPT), ("C", TABLE)];
     let mut inputs = MemoryInputs::new(&entries);
     let (mut out, mut err) = (sink_made(alloc, again)?, sink_made(alloc, again)?);
     let mut status = command(alloc, &words, &mut inputs, &mut out, &mut err);

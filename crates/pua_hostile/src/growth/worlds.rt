@@ -8,6 +8,7 @@ use crate::listed::listing_of;
 use crate::trees::ListedTree;
 use anyhow::{Result, anyhow};
 use pua_path::Errno;
+use pua_policy::CallTable;
 use pua_script::{Answer, Request, Script, World, WorldFault};
 use pua_tree::{ListTree, SlabTree};
 use std::alloc::Global;
@@ -63,12 +64,13 @@ fn are_served<T: ListedTree>(alloc: Global, again: &mut u32) -> Result<bool> {
 /// A world of the tree; where it is refused a growth, the tree is gone and read once more.
 fn world_made<T: ListedTree>(alloc: Global, again: &mut u32) -> Result<World<T>> {
     let tree = tree_read::<T>(alloc, LISTING, again)?;
-    match World::new(alloc, tree) {
+    let table = CallTable::standard();
+    match World::new(alloc, tree, table) {
         Ok(world) => Ok(world),
         Err(_) => {
             *again = again.saturating_add(1);
             let tree = tree_read::<T>(alloc, LISTING, again)?;
-            World::new(alloc, tree).map_err(|fault| anyhow!("{fault}"))
+            World::new(alloc, tree, table).map_err(|fault| anyhow!("{fault}"))
         }
     }
 }

@@ -1,6 +1,5 @@
 use Rattle.std.proofs.Common.{◌≡◌, Bool, false, not, sym, ap, ◌∙◌, rules}
 use Rattle.std.specs.Prelude.{◌&&◌, ◌||◌}
-use Rattle.pua_policy.specs.Calls.{standard_table}
 use Rattle.pua_policy.specs.CallSets.{has, keeps_link}
 use Rattle.pua_policy.specs.Verdict.{object_of, covered_verdict, verdict, is_allowed}
 use Rattle.pua_policy.specs.declared.call.Call.{Call}
@@ -13,9 +12,9 @@ use Rattle.pua_objects.proofs.line.line_at.Goals as goal
 pub returns : goal.returns
 returns c = λ t h found stands covered seen.
     let object = c.args.object in
-    let allows : Call → Bool = λ call. is_allowed (verdict t standard_table h call found) in
+    let allows : Call → Bool = λ call. is_allowed (verdict t c.args.table.now h call found) in
     let judged : (call : Call) → has c.allowed-calls.result call ≡ allows call =
-    λ call. c.allowed-calls.ensures t h (object_of t found) stands seen call ∙ ap (λ (left : Cover). is_allowed (covered_verdict t standard_table h call left (object_of t found))) covered in
+    λ call. c.allowed-calls.ensures t h (object_of t found) stands seen call ∙ ap (λ (left : Cover). is_allowed (covered_verdict t c.args.table.now h call left (object_of t found))) covered in
     let listed : (call : Call) → has c.if-eq.calls call ≡ ((keeps_link call || not (is_link_seen object)) && allows call) =
     elim c.if-eq.branch [
       | then-eq w ↦ λ call.
@@ -27,4 +26,4 @@ returns c = λ t h found stands covered seen.
           ap (λ set. has set call) w.calls-is ∙ judged call ∙ kept_or_not (keeps_link call) (allows call)
           ∙ ap (λ b. (keeps_link call || not b) && allows call) (sym other)
     ] in
-    lined t h found object (record { kind = c.kind_seen.result; calls = c.if-eq.calls }) seen c.kind_seen.ensures listed
+    lined t c.args.table.now h found object (record { kind = c.kind_seen.result; calls = c.if-eq.calls }) seen c.kind_seen.ensures listed

@@ -1,5 +1,5 @@
 use Rattle.std.proofs.Common.{◌≡◌, ℕ, Bool, get_or, sym, ◌∙◌}
-use Rattle.pua_policy.specs.Calls.{calls, standard_table}
+use Rattle.pua_policy.specs.Calls.{calls}
 use Rattle.pua_policy.specs.Verdict.{covered_verdict, is_allowed}
 use Rattle.pua_policy.specs.declared.call.Call.{Call}
 use Rattle.pua_policy.specs.declared.call.Call.TheVariants.{Stat}
@@ -8,12 +8,12 @@ use Rattle.pua_policy.proofs.judge.allowed.Goals.{then-allows, else-allows}
 use Rattle.pua_policy.proofs.judge.allowed.Goals as goal
 
 pub loop-call-init : goal.loop-call-init
-loop-call-init c = record { decided = λ t h judged stands seen. decides_none (λ call. is_allowed (covered_verdict t standard_table h call c.args.cover judged)) }
+loop-call-init c = record { decided = λ t h judged stands seen. decides_none (λ call. is_allowed (covered_verdict t c.args.table.now h call c.args.cover judged)) }
 
 pub loop-call-preserved : goal.loop-call-preserved
 loop-call-preserved c = record {
   decided = λ t h judged stands seen.
-      let f : Call → Bool = λ call. is_allowed (covered_verdict t standard_table h call c.args.cover judged) in
+      let f : Call → Bool = λ call. is_allowed (covered_verdict t c.args.table.now h call c.args.cover judged) in
       let i : ℕ = c.loop-call.call-index in
       let call : Call = get_or calls i Stat in
       let at = bit_of_call_at i c.loop-call-test.true in
@@ -29,4 +29,4 @@ loop-call-preserved c = record {
 
 pub returns : goal.returns
 returns c = λ t h judged stands seen.
-    decides_all (λ call. is_allowed (covered_verdict t standard_table h call c.args.cover judged)) c.loop-call.calls c.loop-call.call-index (c.loop-call.invariant.decided t h judged stands seen) c.loop-call-test.false
+    decides_all (λ call. is_allowed (covered_verdict t c.args.table.now h call c.args.cover judged)) c.loop-call.calls c.loop-call.call-index (c.loop-call.invariant.decided t h judged stands seen) c.loop-call-test.false

@@ -1,6 +1,5 @@
 use Rattle.std.proofs.Common.{◌≡◌}
 use Rattle.pua_tree.specs.Tree.{Tree}
-use Rattle.pua_policy.specs.Calls.{standard_table}
 use Rattle.pua_policy.specs.History.{History, StandsFor}
 use Rattle.pua_policy.specs.Objects.{object_seen}
 use Rattle.pua_policy.specs.Verdict.{Object, covered_verdict, is_allowed}
@@ -11,5 +10,5 @@ use Rattle.pua_policy.proofs.judge.allowed.Given as goal
 abbrev pub invariant-loop-call : goal.invariant-loop-call
 invariant-loop-call l = record {
   decided : (t : Tree) (h : History) (judged : Object) → StandsFor l.process h → l.object ≡ object_seen t judged
-      → Decides (λ call. is_allowed (covered_verdict t standard_table h call l.cover judged)) l.calls l.call-index;
+      → Decides (λ call. is_allowed (covered_verdict t l.table h call l.cover judged)) l.calls l.call-index;
 }

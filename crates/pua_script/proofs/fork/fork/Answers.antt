@@ -17,10 +17,10 @@ returns-in_default-insert-clause-unchanged c =
     ∙ same_entries c.args.number c.in-Some.process.now c.in-Some.process.now c.args.processes.now.entries _ c.in-Some.ensures.value (c.get_mut.follows.holds c.in-Some.process.now).0 refl
 
 pub returns-in-Err-clause-served : goal.returns-in-Err-clause-served
-returns-in-Err-clause-served c = λ t.
+returns-in-Err-clause-served c = λ t table.
     let wrote = c.get_mut.follows.holds c.refuse.new.process in
     let there = c.in-Some.ensures.value in
-    let s : WorldState = record { tree = t; processes = c.args.processes.now.entries } in
+    let s : WorldState = record { tree = t; table = table; processes = c.args.processes.now.entries } in
     serves s (record { process = c.args.number; action = Fork c.args.new }) c.refuse.result t c.in-Some.process.now c.refuse.new.process _
     (sym there) (sym c.ended.ensures.state ∙ c.if-ended.false) (wrote.3 (sym (ap is_some there))).0 wrote.2
     (λ w h stands own. as_same t t h _ _ _ _
@@ -28,10 +28,10 @@ returns-in-Err-clause-served c = λ t.
     (c.refuse.ensures h t own))
 
 pub returns-clause-served : goal.returns-clause-served
-returns-clause-served c = λ t.
+returns-clause-served c = λ t table.
     let there = c.in-Some.ensures.value in
     let inserted = c.in-Ok-insert.ensures in
     let same = same_entries c.args.number c.in-Some.process.now c.in-Some.process.now c.args.processes.now.entries _ there (c.get_mut.follows.holds c.in-Some.process.now).0 refl in
-    forks (record { tree = t; processes = c.args.processes.now.entries }) c.args.number c.args.new c.in-Some.process.now c.in-Ok-fork.copy _ _ c.in-Ok-insert.field-0
+    forks (record { tree = t; table = table; processes = c.args.processes.now.entries }) c.args.number c.args.new c.in-Some.process.now c.in-Ok-fork.copy _ _ c.in-Ok-insert.field-0
     (sym there) (sym c.ended.ensures.state ∙ c.if-ended.false) c.in-Ok.ensures.promise (sym c.is_refused-is_refused.ensures ∙ c.in-Ok.ensures.number)
     c.in-Ok-fork.ensures same inserted.updates.0 inserted.old inserted.len

@@ -6,7 +6,7 @@ pub returns-in-Some-clause-served : goal.returns-in-Some-clause-served
 returns-in-Some-clause-served g c =
     let wrote = c.get_mut.follows.holds c.act.new.process in
     let there = c.in-Some.ensures.value in
-    all_serve (record { tree = g.T.FileTree.content c.args.tree.now; processes = c.args.processes.now.entries }) (record { process = c.args.number; action = c.args.action.now })
+    all_serve (record { tree = g.T.FileTree.content c.args.tree.now; table = c.args.table.now; processes = c.args.processes.now.entries }) (record { process = c.args.number; action = c.args.action.now })
     c.act.result _ c.in-Some.process.now c.act.new.process _ there (sym c.ended.ensures.state ∙ c.if-not-ended.true) (wrote.3 (sym (ap is_some there))).0 wrote.2 c.act.ensures.exact
 
 pub returns-in-Some-clause-unchanged : goal.returns-in-Some-clause-unchanged
@@ -15,5 +15,5 @@ returns-in-Some-clause-unchanged g c =
 
 pub returns-in-Some-clause-memory : goal.returns-in-Some-clause-memory
 returns-in-Some-clause-memory g c =
-    all_okay (record { tree = g.T.FileTree.content c.args.tree.now; processes = c.args.processes.now.entries }) (record { process = c.args.number; action = c.args.action.now })
+    all_okay (record { tree = g.T.FileTree.content c.args.tree.now; table = c.args.table.now; processes = c.args.processes.now.entries }) (record { process = c.args.number; action = c.args.action.now })
     c.act.result _ c.in-Some.process.now c.act.new.process c.in-Some.ensures.value (sym c.ended.ensures.state ∙ c.if-not-ended.true) c.act.ensures.exact

@@ -1,7 +1,6 @@
 use Rattle.std.proofs.Common.{◌≡◌}
 use Rattle.std.specs.Prelude.{Ok}
-use Rattle.pua_policy.specs.Calls.{standard_table}
-use Rattle.pua_tool.specs.Texts.{audit_text, wanted}
+use Rattle.pua_tool.specs.Texts.{audit_text, given, wanted}
 use Rattle.pua_tool.specs.Begun.{text_left}
 use Rattle.pua_tool.proofs.Replays.{text_is_left, on_ok, if_err}
 use Rattle.pua_tool.proofs.audit.audit_to.Goals as goal
@@ -11,8 +10,8 @@ returns-clause-whole g c =
     let w = wanted c.args.job.now in
     let audited = c.in_ok-audited.audited in
     let b = c.in_ok-audited.ensures.begun in
-    let is : audit_text standard_table c.args.tree_bytes.now c.args.script_bytes.now w ≡ Ok (text_left w audited) =
-    text_is_left standard_table c.args.tree_bytes.now c.args.script_bytes.now w audited b.0 b.1 b.2 in
+    let is : audit_text (given c.args.job.now.table) c.args.tree_bytes.now c.args.script_bytes.now w ≡ Ok (text_left w audited) =
+    text_is_left (given c.args.job.now.table) c.args.tree_bytes.now c.args.script_bytes.now w audited b.0 b.1 b.2 in
     on_ok c.write.result (λ adds. (text_left w audited, is, adds)) c.write.ensures.whole
 
 pub returns-clause-write : goal.returns-clause-write
@@ -22,7 +21,7 @@ returns-clause-write g c =
     let b = c.in_ok-audited.ensures.begun in
     λ failed. (
     let put = c.write.ensures.write failed in
-    (text_left w audited, text_is_left standard_table c.args.tree_bytes.now c.args.script_bytes.now w audited b.0 b.1 b.2, put.0, put.1)
+    (text_left w audited, text_is_left (given c.args.job.now.table) c.args.tree_bytes.now c.args.script_bytes.now w audited b.0 b.1 b.2, put.0, put.1)
     )
 
 pub returns-clause-refused : goal.returns-clause-refused

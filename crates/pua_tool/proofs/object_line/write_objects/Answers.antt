@@ -10,16 +10,17 @@ use Rattle.pua_tool.proofs.object_line.write_objects.Goals as goal
 pub loop-line-preserved : goal.loop-line-preserved
 loop-line-preserved g c =
     let t = c.args.list.now.tree in
-    let all = λ (h : History). object_lines t (lines_of t h c.args.list.now.left) in
-    let left = λ (h : History). object_lines t (lines_of t h c.loop-line.list.left) in
-    let more = λ (h : History). object_lines t (lines_of t h c.next_line.new.self.left) in
+    let all = λ (h : History). object_lines t (lines_of t c.args.list.now.table h c.args.list.now.left) in
+    let left = λ (h : History). object_lines t (lines_of t c.args.list.now.table h c.loop-line.list.left) in
+    let more = λ (h : History). object_lines t (lines_of t c.args.list.now.table h c.next_line.new.self.left) in
     let given = text_given c.in-Some.line c.word.result.now in
     let next = λ (h : History) (stands : StandsFor c.args.list.now.process h).
-    line_next c.loop-line.list.tree t c.loop-line.list.process c.args.list.now.process h c.loop-line.list.left c.next_line.new.self.left c.next_line.new.self.word c.in-Some.line c.word.result.now
-    c.loop-line.invariant.tree c.loop-line.invariant.process stands c.in-Some.ensures.line c.word.ensures in
+    line_next c.loop-line.list.tree t c.loop-line.list.table c.args.list.now.table c.loop-line.list.process c.args.list.now.process h c.loop-line.list.left c.next_line.new.self.left c.next_line.new.self.word c.in-Some.line c.word.result.now
+    c.loop-line.invariant.tree c.loop-line.invariant.table c.loop-line.invariant.process stands c.in-Some.ensures.line c.word.ensures in
     record {
       tree = c.next_line.ensures.of.0 ∙ c.loop-line.invariant.tree;
       process = c.next_line.ensures.of.1 ∙ c.loop-line.invariant.process;
+      table = c.next_line.ensures.of.2 ∙ c.loop-line.invariant.table;
       room = c.add_line.ensures.room;
       lines = λ h stands. passing_more (all h) (left h) given (more h) [] c.loop-line.block.items c.add_line.new.block.items
           (g.S.Sink.written c.args.sink.now) (g.S.Sink.written c.loop-line.sink) (g.S.Sink.written c.add_line.new.sink) (g.S.Sink.failed c.args.sink.now) (g.S.Sink.failed c.loop-line.sink) (g.S.Sink.failed c.add_line.new.sink)
@@ -29,13 +30,13 @@ loop-line-preserved g c =
 pub returns-in_err-add_line : goal.returns-in_err-add_line
 returns-in_err-add_line g c =
     let t = c.args.list.now.tree in
-    let all = λ (h : History). object_lines t (lines_of t h c.args.list.now.left) in
-    let left = λ (h : History). object_lines t (lines_of t h c.loop-line.list.left) in
-    let more = λ (h : History). object_lines t (lines_of t h c.next_line.new.self.left) in
+    let all = λ (h : History). object_lines t (lines_of t c.args.list.now.table h c.args.list.now.left) in
+    let left = λ (h : History). object_lines t (lines_of t c.args.list.now.table h c.loop-line.list.left) in
+    let more = λ (h : History). object_lines t (lines_of t c.args.list.now.table h c.next_line.new.self.left) in
     let given = text_given c.in-Some.line c.word.result.now in
     let next = λ (h : History) (stands : StandsFor c.args.list.now.process h).
-    line_next c.loop-line.list.tree t c.loop-line.list.process c.args.list.now.process h c.loop-line.list.left c.next_line.new.self.left c.next_line.new.self.word c.in-Some.line c.word.result.now
-    c.loop-line.invariant.tree c.loop-line.invariant.process stands c.in-Some.ensures.line c.word.ensures in
+    line_next c.loop-line.list.tree t c.loop-line.list.table c.args.list.now.table c.loop-line.list.process c.args.list.now.process h c.loop-line.list.left c.next_line.new.self.left c.next_line.new.self.word c.in-Some.line c.word.result.now
+    c.loop-line.invariant.tree c.loop-line.invariant.table c.loop-line.invariant.process stands c.in-Some.ensures.line c.word.ensures in
     let p = err_from_is_err_and c.from_residual.result c.from_residual.ensures.1 in
     rw p.1 (λ h stands. passing_unput (all h) (left h) given (more h) c.loop-line.block.items [] p.0
     (g.S.Sink.written c.args.sink.now) (g.S.Sink.written c.loop-line.sink) (g.S.Sink.written c.add_line.new.sink) (g.S.Sink.failed c.args.sink.now) (g.S.Sink.failed c.loop-line.sink) (g.S.Sink.failed c.add_line.new.sink)
@@ -44,11 +45,11 @@ returns-in_err-add_line g c =
 pub returns : goal.returns
 returns g c =
     let t = c.args.list.now.tree in
-    let all = λ (h : History). object_lines t (lines_of t h c.args.list.now.left) in
-    let left = λ (h : History). object_lines t (lines_of t h c.loop-line.list.left) in
+    let all = λ (h : History). object_lines t (lines_of t c.args.list.now.table h c.args.list.now.left) in
+    let left = λ (h : History). object_lines t (lines_of t c.args.list.now.table h c.loop-line.list.left) in
     λ h stands.
     let begun = subst (λ (b : List ℕ). Passing (all h) (left h) [] b (g.S.Sink.written c.args.sink.now) (g.S.Sink.written c.loop-line.sink) (g.S.Sink.failed c.args.sink.now) (g.S.Sink.failed c.loop-line.sink)) (sym c.as_slice.ensures.value) (c.loop-line.invariant.lines h stands) in
     passing_put (all h) (left h) c.as_slice.result.now c.put_all.result
     (g.S.Sink.written c.args.sink.now) (g.S.Sink.written c.loop-line.sink) (g.S.Sink.written c.put_all.new.sink) (g.S.Sink.failed c.args.sink.now) (g.S.Sink.failed c.loop-line.sink) (g.S.Sink.failed c.put_all.new.sink) begun
-    (no_line c.loop-line.list.tree t c.loop-line.list.process c.args.list.now.process h c.loop-line.list.left c.loop-line.invariant.tree c.loop-line.invariant.process stands c.in_default.ensures.line.0)
+    (no_line c.loop-line.list.tree t c.loop-line.list.table c.args.list.now.table c.loop-line.list.process c.args.list.now.process h c.loop-line.list.left c.loop-line.invariant.tree c.loop-line.invariant.table c.loop-line.invariant.process stands c.in_default.ensures.line.0)
     c.put_all.ensures.whole c.put_all.ensures.unfailed c.put_all.ensures.front c.put_all.ensures.failed

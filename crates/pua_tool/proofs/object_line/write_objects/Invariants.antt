@@ -10,8 +10,9 @@ abbrev pub invariant-loop-line : goal.invariant-loop-line
 invariant-loop-line g l = record {
   tree : l.list.tree ≡ l.fn.list.tree;
   process : l.list.process ≡ l.fn.list.process;
+  table : l.list.table ≡ l.fn.list.table;
   room : 65536 ≤ vec_capacity l.block;
-  lines : (h : History) → StandsFor l.fn.list.process h → Passing (object_lines l.fn.list.tree (lines_of l.fn.list.tree h l.fn.list.left)) (object_lines l.fn.list.tree (lines_of l.fn.list.tree h l.list.left))
+  lines : (h : History) → StandsFor l.fn.list.process h → Passing (object_lines l.fn.list.tree (lines_of l.fn.list.tree l.fn.list.table h l.fn.list.left)) (object_lines l.fn.list.tree (lines_of l.fn.list.tree l.fn.list.table h l.list.left))
       [] l.block.items (g.S.Sink.written l.fn.sink) (g.S.Sink.written l.sink) (g.S.Sink.failed l.fn.sink) (g.S.Sink.failed l.sink);
 }
 

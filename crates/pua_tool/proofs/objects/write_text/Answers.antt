@@ -7,7 +7,7 @@ use Rattle.pua_tool.proofs.objects.write_text.Goals as goal
 
 pub returns : goal.returns
 returns g c = λ h stands.
-    writes_then c.args.front.now (object_lines c.args.list.now.tree (lines_of c.args.list.now.tree h c.args.list.now.left)) c.write_objects.result
+    writes_then c.args.front.now (object_lines c.args.list.now.tree (lines_of c.args.list.now.tree c.args.list.now.table h c.args.list.now.left)) c.write_objects.result
     (g.S.Sink.written c.args.sink.now) (g.S.Sink.written c.put_all.new.sink) (g.S.Sink.written c.write_objects.new.sink)
     (g.S.Sink.failed c.args.sink.now) (g.S.Sink.failed c.put_all.new.sink) (g.S.Sink.failed c.write_objects.new.sink)
     (subst (λ (b : List ℕ). Adds b (g.S.Sink.written c.args.sink.now) (g.S.Sink.written c.put_all.new.sink)) c.as_bytes.ensures.value c.in_ok-put_all.ensures.whole)

@@ -2,7 +2,6 @@ use Rattle.std.proofs.Common.{◌≡◌, refl, rules, ℕ, List, [], sym, ap, �
 use Rattle.std.specs.Prelude.{Result, Ok, Err, option_map}
 use Rattle.pua_tree.specs.Tree.{Tree}
 use Rattle.pua_path.specs.declared.found.Part.{Part}
-use Rattle.pua_policy.specs.Calls.{standard_table}
 use Rattle.pua_policy.specs.History.{StandsFor}
 use Rattle.pua_audit.specs.Past.{history_of}
 use Rattle.pua_audit.specs.Reach.{Scope, rest_after}
@@ -33,17 +32,17 @@ returns-clause-begun g c = λ h stands.
     let limit = c.args.limit in
     let after = c.in_ok-letters.field-0.after in
     let letters : List Part = c.in_ok-letters.field-0.letters.items in
-    let b : Beginning = beginning_with t standard_table h base limit c.in_ok-letters.field-0 in
+    let b : Beginning = beginning_with t c.args.table.now h base limit c.in_ok-letters.field-0 in
     let past = stands_for_past p c.known.ensures.history c.known.ensures.stands in
     let known : c.in-Ok.terms.letters.items ≡ letters = ap (λ v. v.items) c.in-Ok.ensures.letters.1 in (
       b,
       (
-        c.in_ok-letters.ensures.begun standard_table h,
+        c.in_ok-letters.ensures.begun c.args.table.now h,
         c.in-Ok-begin.ensures.left
             ∙ ap (λ (ls : List Part). rest_after (scope_in c.in-Ok.terms) (option_map (pair_in (map part_bytes ls)) after)) known
             ∙ ap (λ (s : Scope). rest_after s (option_map (pair_in (map part_bytes letters)) after)) c.in-Ok.ensures.scope
-            ∙ ap (λ (u : Tree). rest_after (scope_with u standard_table (history_of p) base limit letters) (option_map (pair_in (map part_bytes letters)) after)) c.in_ok-letters.ensures.tree
-            ∙ rest_by_process t standard_table base (map part_bytes letters) limit p (history_of p) h past stands (option_map (pair_in (map part_bytes letters)) after),
+            ∙ ap (λ (u : Tree). rest_after (scope_with u c.args.table.now (history_of p) base limit letters) (option_map (pair_in (map part_bytes letters)) after)) c.in_ok-letters.ensures.tree
+            ∙ rest_by_process t c.args.table.now base (map part_bytes letters) limit p (history_of p) h past stands (option_map (pair_in (map part_bytes letters)) after),
         refl,
       ),
     )
@@ -63,7 +62,7 @@ pub returns-clause-letters : goal.returns-clause-letters
 returns-clause-letters g c = λ h b is.
     ap (λ (u : Terms). letters_of u) c.in-Ok-begin.ensures.terms
     ∙ ap (λ (v : List Part). map part_bytes v) (ap (λ v. v.items) c.in-Ok.ensures.letters.1)
-    ∙ ap alphabet_in (sym (c.in_ok-letters.ensures.begun standard_table h) ∙ is)
+    ∙ ap alphabet_in (sym (c.in_ok-letters.ensures.begun c.args.table.now h) ∙ is)
 
 abbrev live_in : Result Beginning AuditFault → ℕ
 live_in (Ok b) = length (live_states b.scope)
@@ -79,6 +78,6 @@ returns-clause-live g c = λ h stands b is.
     let past = stands_for_past p c.known.ensures.history c.known.ensures.stands in
     c.in-Ok-begin.ensures.live
     ∙ ap (λ (s : Scope). length (live_states s)) c.in-Ok.ensures.scope
-    ∙ ap (λ (u : Tree). length (live_states (scope_with u standard_table (history_of p) base limit letters))) c.in_ok-letters.ensures.tree
-    ∙ ap length (live_by_process t standard_table base (map part_bytes letters) limit p (history_of p) h past stands)
-    ∙ ap live_in (sym (c.in_ok-letters.ensures.begun standard_table h) ∙ is)
+    ∙ ap (λ (u : Tree). length (live_states (scope_with u c.args.table.now (history_of p) base limit letters))) c.in_ok-letters.ensures.tree
+    ∙ ap length (live_by_process t c.args.table.now base (map part_bytes letters) limit p (history_of p) h past stands)
+    ∙ ap live_in (sym (c.in_ok-letters.ensures.begun c.args.table.now h) ∙ is)

@@ -10,7 +10,7 @@ use Rattle.pua_path.specs.declared.found.Found.{Found}
 use Rattle.pua_path.specs.declared.found.Last.TheVariants.{Followed, Kept}
 use Rattle.pua_path.specs.declared.found.Part.{Part}
 use Rattle.pua_path.specs.declared.found.Part.TheVariants.{Dot}
-use Rattle.pua_policy.specs.Calls.{standard_table, last_of}
+use Rattle.pua_policy.specs.Calls.{last_of}
 use Rattle.pua_policy.specs.CallSets.{has, keeps_link}
 use Rattle.pua_policy.specs.History.{History}
 use Rattle.pua_policy.specs.Verdict.{verdict_of, is_allowed}
@@ -38,16 +38,16 @@ returns-clause-exact g c =
     let links : c.counted-followed.result.1 ≡ links_of r = c.counted-followed.ensures.links ∙ ap links_of followed in
     let kept : c.last-kept.result ≡ last t dir 0 (part_of letter) Kept =
     c.last-kept.ensures.exact ∙ ap (λ (u : Tree). last u dir 0 c.index-part.result.now Kept) (c.follow.ensures.tree ∙ c.requires.tree) ∙ ap (λ (p : Part). last t dir 0 p Kept) part in
-    let on = λ (call : Call). c.calls_on.ensures.exact call ∙ ap (λ (x : Result Found Errno). is_allowed (verdict_of t standard_table h call x)) found in
-    let on_kept = λ (call : Call). c.calls_on-2.ensures.exact call ∙ ap (λ (x : Result Found Errno). is_allowed (verdict_of t standard_table h call x)) kept in
-    let near : (call : Call) → has c.union-all.result call ≡ allowed_near t standard_table h dir letter r call =
+    let on = λ (call : Call). c.calls_on.ensures.exact call ∙ ap (λ (x : Result Found Errno). is_allowed (verdict_of t a.table h call x)) found in
+    let on_kept = λ (call : Call). c.calls_on-2.ensures.exact call ∙ ap (λ (x : Result Found Errno). is_allowed (verdict_of t a.table h call x)) kept in
+    let near : (call : Call) → has c.union-all.result call ≡ allowed_near t a.table h dir letter r call =
     λ call. c.union-all.ensures call ∙ ap (λ b. b || has c.keeping.result call) (c.following-near.ensures call) ∙ ap (λ b. (has c.calls_on.result call && not (keeps_link call)) || b) (c.keeping.ensures call)
     ∙ by_both (last_of call) (has c.calls_on.result call) (has c.calls_on-2.result call)
     ∙ ap (λ (b : Bool). elim (last_of call) [ Followed ↦ b | Kept ↦ has c.calls_on-2.result call ]) (on call)
-    ∙ ap (λ (b : Bool). elim (last_of call) [ Followed ↦ is_allowed (verdict_of t standard_table h call (found_of r)) | Kept ↦ b ]) (on_kept call) in
-    let far : (call : Call) → has c.keeping-2.result call ≡ allowed_far t standard_table h dir letter call =
-    λ call. c.keeping-2.ensures call ∙ ap (λ b. b && keeps_link call) (near call) ∙ by_kept (last_of call) (is_allowed (verdict_of t standard_table h call (found_of r))) (allowed_kept t standard_table h dir letter call) in
-    let told = letter_told t standard_table a.base h dir letter c.union-all.result c.keeping-2.result near far in
+    ∙ ap (λ (b : Bool). elim (last_of call) [ Followed ↦ is_allowed (verdict_of t a.table h call (found_of r)) | Kept ↦ b ]) (on_kept call) in
+    let far : (call : Call) → has c.keeping-2.result call ≡ allowed_far t a.table h dir letter call =
+    λ call. c.keeping-2.ensures call ∙ ap (λ b. b && keeps_link call) (near call) ∙ by_kept (last_of call) (is_allowed (verdict_of t a.table h call (found_of r))) (allowed_kept t a.table h dir letter call) in
+    let told = letter_told t a.table a.base h dir letter c.union-all.result c.keeping-2.result near far in
     subst (λ (n : ℕ). IsLetter (judge_in a) dir letter c.union-all.result c.keeping-2.result n c.directory_of.result) (sym links)
     (subst (λ (o : Option ℕ). IsLetter (judge_in a) dir letter c.union-all.result c.keeping-2.result (links_of r) o) (sym (c.directory_of.ensures ∙ ap leads_to found)) told)
 

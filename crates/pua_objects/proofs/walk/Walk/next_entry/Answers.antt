@@ -27,7 +27,7 @@ returns-in_default-look-clause-line g c =
     let done = c.stand_at.ensures in
     stood t p c.args.self.now b _ _ c.requires.names ready names taken c.stand_at.new.self
     (ap (λ v. map spot_now v.items) done.kept.0) (ap (map (λ name. name.now)) done.word ∙ map-append (λ name. name.now) b.word.items (c.in-Some.next.1 ∷ [])) done.room done.kept.1 done.kept.2
-    None _ (sym c.in_default-look.ensures) (λ x e. absurd (None≢Some x e))
+    c.args.table.now None _ (sym c.in_default-look.ensures) (λ x e. absurd (None≢Some x e))
     (λ h stands. done.line t h (entered _ (taken.next + 1) taken.cover) taken.around None ready.tree stands taken.dirs (covered t p c.args.self.now b _ _ c.requires.names ready names taken h stands) refl)
 
 pub enter-requires-clause-word_room : goal.enter-requires-clause-word_room
@@ -73,7 +73,7 @@ returns-then-is_directory-clause-line g c =
     let living : is_dir t c.in-Some-look.id ≡ true = ap is_dir_kind (sym c.kind-kind.ensures) ∙ sym c.is_directory.ensures ∙ c.if-is_directory.true in
     let done = c.enter.ensures in
     gave t p c.args.self.now b _ _ c.requires.names ready names taken c.in-Some-look.id row living c.enter.new.self
-    (ap (λ v. map spot_now v.items) done.kept) (ap (map (λ name. name.now)) done.word ∙ map-append (λ name. name.now) b.word.items (c.in-Some.next.1 ∷ [])) done.room.0 done.room.1 done.coming done.entered _
+    (ap (λ v. map spot_now v.items) done.kept) (ap (map (λ name. name.now)) done.word ∙ map-append (λ name. name.now) b.word.items (c.in-Some.next.1 ∷ [])) done.room.0 done.room.1 done.coming done.entered c.args.table.now _
     (λ h stands. done.line h (entered _ (taken.next + 1) taken.cover) taken.around _ ready.tree stands taken.dirs (covered t p c.args.self.now b _ _ c.requires.names ready names taken h stands) row living)
 
 pub returns-clause-line : goal.returns-clause-line
@@ -90,5 +90,5 @@ returns-clause-line g c =
     let plain : is_dir t id ≡ false = ap is_dir_kind (sym c.kind-kind.ensures) ∙ sym c.is_directory.ensures ∙ c.if-is_directory.false in
     stood t p c.args.self.now b _ _ c.requires.names ready names taken c.stand_at-2.new.self
     (ap (λ v. map spot_now v.items) done.kept.0) (ap (map (λ name. name.now)) done.word ∙ map-append (λ name. name.now) b.word.items (c.in-Some.next.1 ∷ [])) done.room done.kept.1 done.kept.2
-    (Some id) _ (sym c.in-Some-look.ensures) (λ x e. ap (is_dir t) (sym (same_Some id x e)) ∙ plain)
+    c.args.table.now (Some id) _ (sym c.in-Some-look.ensures) (λ x e. ap (is_dir t) (sym (same_Some id x e)) ∙ plain)
     (λ h stands. done.line t h (entered _ (taken.next + 1) taken.cover) taken.around (Some id) ready.tree stands taken.dirs (covered t p c.args.self.now b _ _ c.requires.names ready names taken h stands) seen)

@@ -14,7 +14,7 @@ pub returns-in_default-clause-line : goal.returns-in_default-clause-line
 returns-in_default-clause-line g c =
     let t = g.T.FileTree.content c.args.tree.now in
     let none = c.in_default.ensures.line in
-    (λ h stands. c.loop-line.invariant.so_far h stands ∙ ap (lines_of t h) none.0, λ h stands. ap (lines_of t h) none.1)
+    (λ h stands. c.loop-line.invariant.so_far h stands ∙ ap (lines_of t c.args.table.now h) none.0, λ h stands. ap (lines_of t c.args.table.now h) none.1)
 
 pub returns-then-not-is_empty-clause-line : goal.returns-then-not-is_empty-clause-line
 returns-then-not-is_empty-clause-line g c =
@@ -25,7 +25,7 @@ returns-then-not-is_empty-clause-line g c =
     record {
       subject = given.subject;
       kind = (given.line c.known.ensures.history c.known.ensures.stands).kind;
-      lines = λ h stands. c.loop-line.invariant.so_far h stands ∙ ap (lines_of t h) given.left ∙ kept_in t h given.subject line (given.line h stands) (word_in c.next_item.new.self) (left_in t c.args.process.now.veils c.next_item.new.self) some;
+      lines = λ h stands. c.loop-line.invariant.so_far h stands ∙ ap (lines_of t c.args.table.now h) given.left ∙ kept_in t c.args.table.now h given.subject line (given.line h stands) (word_in c.next_item.new.self) (left_in t c.args.process.now.veils c.next_item.new.self) some;
     }
 
 pub loop-line-smaller : goal.loop-line-smaller
@@ -40,7 +40,7 @@ loop-line-preserved g c =
     record {
       ready = c.next_item.ensures.ready;
       fewer = omega (arith, ap length given.left, c.loop-line.invariant.fewer);
-      so_far = λ h stands. c.loop-line.invariant.so_far h stands ∙ ap (lines_of t h) given.left ∙ left_out t h given.subject line (given.line h stands) (word_in c.next_item.new.self) (left_in t c.args.process.now.veils c.next_item.new.self) none;
+      so_far = λ h stands. c.loop-line.invariant.so_far h stands ∙ ap (lines_of t c.args.table.now h) given.left ∙ left_out t c.args.table.now h given.subject line (given.line h stands) (word_in c.next_item.new.self) (left_in t c.args.process.now.veils c.next_item.new.self) none;
     }
 
 pub returns-then-not-is_empty-clause-fewer : goal.returns-then-not-is_empty-clause-fewer

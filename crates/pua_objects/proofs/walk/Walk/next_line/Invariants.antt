@@ -8,7 +8,7 @@ invariant-loop-line g l = record {
   ready : IsReady (g.T.FileTree.content l.tree) l.process l.self;
   fewer : length (left_in (g.T.FileTree.content l.tree) l.process.veils l.self) ≤ length (left_in (g.T.FileTree.content l.tree) l.process.veils l.fn.self);
   so_far : (h : History) → StandsFor l.process h →
-      lines_of (g.T.FileTree.content l.tree) h (left_in (g.T.FileTree.content l.tree) l.process.veils l.fn.self) ≡ lines_of (g.T.FileTree.content l.tree) h (left_in (g.T.FileTree.content l.tree) l.process.veils l.self);
+      lines_of (g.T.FileTree.content l.tree) l.table h (left_in (g.T.FileTree.content l.tree) l.process.veils l.fn.self) ≡ lines_of (g.T.FileTree.content l.tree) l.table h (left_in (g.T.FileTree.content l.tree) l.process.veils l.self);
 }
 
 abbrev pub decreases-loop-line : goal.decreases-loop-line

@@ -1,5 +1,4 @@
-use Rattle.std.proofs.Common.{rules}
 use Rattle.pua_policy.proofs.process.Process.may.Goals as goal
 
-pub returns-then-contains-2 : goal.returns-then-contains-2
-returns-then-contains-2 c = search rules
+pub returns : goal.returns
+returns c = c.may_any.ensures

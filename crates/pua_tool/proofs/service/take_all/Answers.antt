@@ -1,5 +1,5 @@
 use Rattle.std.proofs.Common.{rules}
-use Rattle.pua_tool.proofs.service.take_both.Goals as goal
+use Rattle.pua_tool.proofs.service.take_all.Goals as goal
 
 pub returns-in_err-tree-clause-untaken : goal.returns-in_err-tree-clause-untaken
 returns-in_err-tree-clause-untaken g c = search rules

@@ -1,0 +1,190 @@
+//! Audits and lists of objects side by side: of the stories, of the rows, and of random worlds by a fixed
+//! seed.
+
+use crate::compared::{Asked, Counts, is_listed};
+use crate::deep::are_deep_listed;
+use crate::generator::{Random, listing, nodes, script};
+use crate::stories::STORIES;
+use crate::table::{Row, Table};
+use crate::trees::table_of;
+use crate::written::Files;
+use anyhow::{Result, anyhow};
+use pua_policy::{CallTable, Process};
+use pua_script::{World, read_script};
+use pua_tool::{AuditWords, Text};
+use pua_tree::{ListTree, read_listing};
+use pua_words::read_words;
+use std::alloc::Global;
+use std::fs;
+
+/// How many random worlds are tried.
+const WORLDS: usize = 50;
+
+/// Prints a line for each story, row and world in which an audit is not as the list of objects says,
+/// and then how much was compared: by the standard table of calls, and by the tables that commands name.
+pub(crate) fn run(rt: &HostRuntime) -> Result<()> {
+    let mut counts = Counts::none();
+    run_stories(rt, false, &mut counts)?;
+    run_rows(rt, false, &mut counts)?;
+    run_worlds(rt, &mut counts)?;
+    print(rt, "audits beside lists of objects", &counts)?;
+    let mut counts = Counts::none();
+    run_stories(rt, true, &mut counts)?;
+    run_rows(rt, true, &mut counts)?;
+    print(rt, "audits by other tables", &counts)
+}
+
+/// Prints how much was compared.
+fn print(rt: &HostRuntime, what: &str, counts: &Counts) -> Result<()> {
+    println!(rt;
+        "{} {what}: {} pairs, {} lines of {} found whole; in {} audits all of them",
+        counts.audits, counts.pairs, counts.whole, counts.lines, counts.equal
+    )?;
+    Ok(())
+}
+
+/// Compares what those commands of the stories ask for that name a table, or that name none.
+fn run_stories(rt: &HostRuntime, by_table: bool, counts: &mut Counts) -> Result<()> {
+    let alloc = rt.alloc();
+    for story in &STORIES {
+        let line = fs::read_to_string(rt, format!(in alloc; "{story}/command")?.as_str())?;
+        let tree = fs::read(rt, format!(in alloc; "{story}/listing")?.as_str())?;
+        let script = fs::read(rt, format!(in alloc; "{story}/script")?.as_str())?;
+        let table_bytes = fs::read(rt, format!(in alloc; "{story}/table")?.as_str()).ok();
+        let words: Vec<&str> = line.as_str().split_whitespace().skip(1).collect(alloc)?;
+        let table = table_bytes.as_ref().map(Vec::as_slice);
+        let files = Files {
+            tree: tree.as_slice(),
+            script: script.as_slice(),
+            table,
+        };
+        if !is_as_listed(alloc, words.as_slice(), &files, by_table, counts)? {
+            println!(rt; "not as the objects: {story}")?;
+        }
+    }
+    Ok(())
+}
+
+/// Compares what those rows ask for whose commands name a table, or name none, and report no fault.
+fn run_rows(rt: &HostRuntime, by_table: bool, counts: &mut Counts) -> Result<()> {
+    let alloc = rt.alloc();
+    let text = fs::read_to_string(rt, "rows.toml")?;
+    let table: Table = toml::from_str(alloc, text.as_str())?;
+    for row in &table.row {
+        if row.fault.is_empty() && !is_row_listed(alloc, &table, row, by_table, counts)? {
+            println!(rt; "not as the objects: {}", row.name)?;
+        }
+    }
+    Ok(())
+}
+
+/// Whether what a row asks for is as the list of objects says.
+fn is_row_listed(
+    alloc: Global,
+    table: &Table,
+    row: &Row,
+    by_table: bool,
+    counts: &mut Counts,
+) -> Result<bool> {
+    let Some(tree) = table.tree.get(row.tree.as_str()) else {
+        return Err(anyhow!("{}: there is no tree {}", row.name, row.tree));
+    };
+    let words: Vec<&str> = row.command.as_str().split_whitespace().collect(alloc)?;
+    is_as_listed(alloc, words.as_slice(), &row.files(tree), by_table, counts)
+}
+
+/// Compares audits of both processes of random worlds.
+fn run_worlds(rt: &HostRuntime, counts: &mut Counts) -> Result<()> {
+    let alloc = rt.alloc();
+    let mut random = Random::new();
+    for number in 1..=WORLDS {
+        let nodes = nodes(alloc, &mut random)?;
+        let listing = listing(alloc, nodes.as_slice())?;
+        let script = script(alloc, &mut random)?;
+        let files = Files::new(listing.as_bytes(), script.as_bytes());
+        let world = world_of(alloc, &files, CallTable::standard())?;
+        for process in [1, 2] {
+            if !is_deep_listed(alloc, &world, process, &[], counts)? {
+                println!(rt; "not as the objects: process {process} of world {number}:")?;
+                println!(rt; "{listing}{script}")?;
+            }
+        }
+    }
+    Ok(())
+}
+
+/// Whether audits of the process that a command asks about are as its list of objects says: the one
+/// that the command asks for, if it does, and those at the longest limit that is cheap. A run asks
+/// about none: process 1 stands for it. Nothing is compared where the command names a table and is not to,
+/// or names none and is to.
+fn is_as_listed(
+    alloc: Global,
+    words: &[&str],
+    files: &Files<'_>,
+    by_table: bool,
+    counts: &mut Counts,
+) -> Result<bool> {
+    let Ok(command) = read_words(alloc, words) else {
+        return Err(anyhow!("these words are no command"));
+    };
+    if command.table.is_some() != by_table {
+        return Ok(true);
+    }
+    let table = table_of(alloc, files, &command).map_err(|fault| anyhow!("{fault}"))?;
+    let world = world_of(alloc, files, table)?;
+    match &command.text {
+        Text::Run => is_deep_listed(alloc, &world, 1, &[], counts),
+        Text::Objects(words) => is_deep_listed(alloc, &world, words.process, &[], counts),
+        Text::Audit(words) => {
+            let names = words.names.as_slice();
+            let is_listed = is_audit_listed(alloc, &world, words, counts)?;
+            Ok(is_listed && is_deep_listed(alloc, &world, words.process, names, counts)?)
+        }
+    }
+}
+
+/// Whether an audit with these words, from its first line on, is as the list says.
+fn is_audit_listed(
+    alloc: Global,
+    world: &World<ListTree>,
+    words: &AuditWords<'_>,
+    counts: &mut Counts,
+) -> Result<bool> {
+    let asked = Asked {
+        base: words.base,
+        names: words.names.as_slice(),
+        limit: words.limit,
+    };
+    let process = process_of(world, words.process)?;
+    is_listed(alloc, world, process, &asked, counts)
+}
+
+/// Whether audits with these names, at the longest limit that is cheap, are as the list says.
+fn is_deep_listed(
+    alloc: Global,
+    world: &World<ListTree>,
+    process: u32,
+    names: &[&[u8]],
+    counts: &mut Counts,
+) -> Result<bool> {
+    let process = process_of(world, process)?;
+    are_deep_listed(alloc, world, process, names, counts)
+}
+
+fn process_of(world: &World<ListTree>, number: u32) -> Result<&Process> {
+    match world.process(number) {
+        Some(process) => Ok(process),
+        None => Err(anyhow!("there is no process {number}")),
+    }
+}
+
+/// The world that a script leaves over a listing, by a table of calls.
+fn world_of(alloc: Global, files: &Files<'_>, table: CallTable) -> Result<World<ListTree>> {
+    let tree = read_listing(alloc, files.tree).map_err(|fault| anyhow!("{fault}"))?;
+    let script = read_script(alloc, files.script).map_err(|fault| anyhow!("{fault}"))?;
+    let mut world = World::new(alloc, tree, table).map_err(|fault| anyhow!("{fault}"))?;
+    let _answers = world
+        .run(alloc, &script)
+        .map_err(|fault| anyhow!("{fault}"))?;
+    Ok(world)
+}

@@ -1,0 +1,33 @@
+-- The worked examples of tables, by computing each text.
+use Rattle.std.proofs.Common.{refl}
+use Rattle.std.specs.Str.{chars, is_utf8}
+use Rattle.toml.proofs.OnLiterals.{toml_on_literals}
+use Rattle.pua_policy.specs.TableExamples.{TableRows}
+
+pub table_rows : TableRows
+unfolding toml_on_literals chars is_utf8
+table_rows = record {
+  no_text = refl;
+  two_alternatives = refl;
+  needs_nothing = refl;
+  eight_alternatives = refl;
+  nine_alternatives = refl;
+  no_alternatives = refl;
+  unknown_call = refl;
+  call_of_scripts = refl;
+  one_key = refl;
+  third_key = refl;
+  unknown_promise = refl;
+  error_promise = refl;
+  unknown_letter = refl;
+  promises_before_veil = refl;
+  first_key = refl;
+  first_row = refl;
+  quoted = refl;
+  dotted = refl;
+  inline = refl;
+  array_of_tables = refl;
+  named_twice = refl;
+  open_bracket = refl;
+  no_utf8 = refl;
+}

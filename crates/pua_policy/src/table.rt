@@ -1,0 +1,139 @@
+//! The table of calls: what each of them needs, as a value.
+
+mod read;
+
+use crate::call::Call;
+use crate::needs;
+use crate::perms::Perms;
+use crate::promises::Promises;
+pub use read::TableFault;
+use std::marker::Model;
+
+/// A call has at most so many sets of promises of which it needs one.
+pub const ALTERNATIVE_LIMIT: usize = 8;
+
+/// What one call needs: one of these sets of promises, and each of these permissions. Behind the
+/// sets stand empty ones. Contracts see the sets as a list.
+#[derive(Clone, Copy)]
+struct Row {
+    sets: [Promises; ALTERNATIVE_LIMIT],
+    count: u8,
+    perms: Perms,
+}
+
+impl Model for Row {
+    ghost use Rattle.std.specs.Prelude.{◌≡◌, ◌≤◌, length, take};
+    ghost use Rattle.pua_policy.specs.Calls.{Rule};
+    ghost use Rattle.pua_policy.specs.Tables.{alternative_limit, padded};
+
+    ghost Value = { Rule };
+
+    ghost view = { λ a. record { alternatives = take a.count a.sets; perms = a.perms } };
+
+    ghost invariant = { λ a. (padded (take a.count a.sets) ≡ a.sets) × (length (take a.count a.sets) ≡ a.count) × (a.count ≤ alternative_limit) };
+
+    ghost inverse = { λ r. record { sets = padded r.alternatives; count = length r.alternatives; perms = r.perms } };
+
+    ghost inverse_ok = { λ a h i. record { sets = h.0 i; count = h.1 i; perms = a.perms } };
+}
+
+/// What each of the fourteen calls needs. It is kept inline, so that a copy takes no memory.
+/// Contracts see a list of fourteen rules, in the order of the calls' numbers, of which none has an
+/// alternative that names `error`: a process can gain that promise, and no other.
+#[derive(Clone, Copy)]
+pub struct CallTable {
+    rows: [Row; 14],
+}
+
+impl Model for CallTable {
+    ghost use Rattle.pua_policy.specs.Calls.{CallTable as Rules};
+    ghost use Rattle.pua_policy.specs.Tables.{IsTable};
+
+    ghost Value = { Rules };
+
+    ghost view = { λ a. a.rows };
+
+    ghost invariant = { λ a. IsTable a.rows };
+
+    ghost inverse = { λ rules. record { rows = rules } };
+}
+
+ghost use Rattle.std.specs.Prelude.{◌≡◌, ◌<◌, [], ◌∷◌, ◌++◌, length};
+ghost use Rattle.pua_policy.specs.Calls.{standard_rule, standard_table, rule_of};
+ghost use Rattle.pua_policy.specs.Tables.{NeedsNoError, NoCallNeedsError, alternative_limit};
+ghost use Rattle.pua_policy.specs.TableTexts.{with_rule};
+
+impl Row {
+    /// A row without alternatives, and without permissions.
+    const NONE: Row = Row {
+        sets: [Promises::NONE; ALTERNATIVE_LIMIT],
+        count: 0,
+        perms: Perms::NONE,
+    };
+
+    /// Adds a set to the alternatives, behind the others.
+    fn add(&mut self, set: Promises)
+        requires { length self.old.alternatives < alternative_limit }
+        ensures { self.new ≡ record self.old { alternatives = self.old.alternatives ++ set ∷ [] } }
+    {
+        self.sets[self.count as usize] = set;
+        self.count += 1;
+    }
+
+    /// What a call needs by this project's own table.
+    fn standard(call: Call) -> Row
+        ensures { result ≡ standard_rule call }
+    {
+        let need = needs::need(call);
+        let mut sets = [Promises::NONE; ALTERNATIVE_LIMIT];
+        sets[0] = need.promises;
+        Row {
+            sets,
+            count: 1,
+            perms: need.perms,
+        }
+    }
+}
+
+impl CallTable {
+    /// This project's own table: each call needs what `needs::need` tells.
+    pub fn standard() -> CallTable
+        ensures { result ≡ standard_table }
+    {
+        CallTable {
+            rows: Call::ALL.map(Row::standard),
+        }
+    }
+
+    /// Puts a row in the place of a call's.
+    fn set(&mut self, call: Call, row: Row)
+        requires { NeedsNoError row }
+        ensures { self.new ≡ with_rule self.old call row }
+    {
+        self.rows[call.number() as usize - 1] = row;
+    }
+
+    /// The sets of promises of which a call needs one, each promise in it. At most 8.
+    pub fn alternatives(&self, call: Call) -> &[Promises]
+        ensures { result.now ≡ (rule_of self.now call).alternatives }
+    {
+        let row = &self.rows[call.number() as usize - 1];
+        &row.sets[..row.count as usize]
+    }
+
+    /// The permissions that a call needs, each of them.
+    pub fn perms(&self, call: Call) -> Perms
+        ensures { result ≡ (rule_of self.now call).perms }
+    {
+        let row = &self.rows[call.number() as usize - 1];
+        row.perms
+    }
+
+    /// Does nothing. A caller learns from it what is true of each table.
+    pub fn known(&self)
+        ensures fourteen { length self.now ≡ 14 }
+        ensures no_error { NoCallNeedsError self.now }
+    {
+        let _rows = &self.rows;
+    }
+}
