@@ -61,7 +61,7 @@ calls_alike c n low =
     nat_alike (call_number c) (call_number (call_at n)) (bit_of c) n (λ h. omega (arith, h, first, second)) (λ e. omega (arith, e, first, second)) (λ h. omega (arith, h, first, second))
 
 module _ (letters : List (List ℕ)) (rises : Rises name_cmp letters) where
-  letters_alike : (i j : ℕ) → i < length letters → j < length letters → name_cmp (get_or letters i []) (get_or letters j []) ≡ nat_cmp i j
+  pub letters_alike : (i j : ℕ) → i < length letters → j < length letters → name_cmp (get_or letters i []) (get_or letters j []) ≡ nat_cmp i j
   letters_alike i j here there =
       elim (cases_lt i j) [
         | inl h ↦ later letters rises i j h there ∙ nat_cmp_is i j Less h

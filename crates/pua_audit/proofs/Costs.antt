@@ -48,11 +48,11 @@ rows_few t dirs numbers living =
 pub one_row_more : (t : Tree) (letters n : ℕ) → n * row_cost t letters + row_cost t letters ≡ suc n * row_cost t letters
 one_row_more t letters n = omega (arith, suc-mul n (row_cost t letters))
 
-pub rows_within : (t : Tree) (letters n : ℕ) → n ≤ length t.nodes → n * row_cost t letters ≤ table_cost t letters
-rows_within t letters n few = mul-le n (row_cost t letters) (length t.nodes) (row_cost t letters) few (omega arith)
+pub rows_within : (t : Tree) (letters n : ℕ) → n ≤ length t.nodes → suc (n * row_cost t letters) ≤ table_cost t letters
+rows_within t letters n few = let all = mul-le n (row_cost t letters) (length t.nodes) (row_cost t letters) few (omega arith) in omega (arith, all)
 
 -- a row more while there is a directory for it
-pub next_within : (t : Tree) (letters n : ℕ) (dirs : List ℕ) → AreNumbers dirs → AreLiving t dirs → n < length dirs → n * row_cost t letters + row_cost t letters ≤ table_cost t letters
+pub next_within : (t : Tree) (letters n : ℕ) (dirs : List ℕ) → AreNumbers dirs → AreLiving t dirs → n < length dirs → suc (n * row_cost t letters + row_cost t letters) ≤ table_cost t letters
 next_within t letters n dirs numbers living inside =
     let all = rows_within t letters (suc n) (omega (arith, inside, rows_few t dirs numbers living)) in
     omega (arith, all, one_row_more t letters n)

@@ -1,15 +1,12 @@
 -- Places of directories.
-use Rattle.std.proofs.Common.{ℕ, ◌<◌, ◌≤◌, ◌≡◌, List, [], ◌∷◌, ◌++◌, Option, Some, None, ◌&&◌, true, false, ◌||◌, refl, ap, arith, sym, ◌∙◌, length, get_or, nat_eq, subst}
-use Rattle.std.specs.Prelude.{is_none, slice_get, if◌then◌else◌}
+use Rattle.std.proofs.Common.{ℕ, ◌<◌, ◌≤◌, ◌≡◌, List, [], ◌∷◌, ◌++◌, Some, true, false, ◌||◌, refl, arith, sym, ◌∙◌, length, get_or, nat_eq, subst}
+use Rattle.std.specs.Prelude.{slice_get, if◌then◌else◌}
 use Rattle.std.specs.List.{AllByRecursion, list_any}
 use Rattle.std.proofs.lemmas.Bool.{eqb-true}
 use Rattle.std.proofs.lemmas.List.{length-append}
 use Rattle.std.proofs.lemmas.Map.Steps.{length-le_from_distinct_below}
 use Rattle.std.proofs.lemmas.Option.{get_or_from_slice_get}
 use Rattle.std.proofs.Math.ListN.{get_or-append}
-use Rattle.pua_tree.specs.Tree.{Tree, is_dir, look}
-use Rattle.pua_path.specs.Fits.{found_fits}
-use Rattle.pua_path.specs.declared.found.Found.TheVariants.{Slot}
 use Rattle.indexmap.specs.IndexSet.{insert_key}
 use Rattle.pua_audit.specs.Rows.{AreNumbers, IsGrown}
 use Rattle.pua_audit.proofs.Rising.{all_joined}
@@ -40,7 +37,3 @@ grown_inserted ns n = elim (list_any (nat_eq n) ns) as (λ b. IsGrown ns (if b t
 
 pub placed : (ns : List ℕ) (place n : ℕ) → (k : ℕ) × (slice_get ns place ≡ Some k) × (nat_eq n k ≡ true) → get_or ns place 0 ≡ n
 placed ns place n found = get_or_from_slice_get ns place found.0 0 found.1 ∙ sym (eqb-true n found.0 found.2)
-
--- a name that is not there is missing in its directory
-pub missing_fits : (t : Tree) (dir : ℕ) (name : List ℕ) (found : Option ℕ) → is_dir t dir ≡ true → found ≡ look t dir name → is_none found ≡ true → found_fits t (Slot dir name None) ≡ true
-missing_fits t dir name found living same none = ap (λ b. b && is_none (look t dir name)) living ∙ ap is_none (sym same) ∙ none

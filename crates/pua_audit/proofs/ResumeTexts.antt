@@ -31,7 +31,7 @@ letter_bytes a h = elim (letter_is a h) [ inl n ↦ name_is_bytes a n | inr d �
 
 -- where a letter was looked for by its bytes
 
-found : (q : List ℕ) (ms : List (List ℕ)) (i : ℕ) → i < length ms → get_or ms i [] ≡ q → find (same_bytes q) ms ≡ Some q
+pub found : (q : List ℕ) (ms : List (List ℕ)) (i : ℕ) → i < length ms → get_or ms i [] ≡ q → find (same_bytes q) ms ≡ Some q
 found q [] i short e = absurd (omega (arith, short))
 found q (m ∷ ms) i short e = by i (same_bytes q m) refl short e (found q ms)
   where

@@ -14,17 +14,13 @@ object_cost t = length t.nodes + 1
 abbrev pub letter_cost : Tree → ℕ
 letter_cost t = 2 * (part_cost t + object_cost t)
 
--- a name that a directory lacks: letters are looked up until one is missing, and that one is judged
-abbrev pub missing_cost : Tree → ℕ → ℕ
-missing_cost t letters = letters + object_cost t
-
--- the row of a directory
+-- the row of a directory: the names that it lacks are judged once
 abbrev pub row_cost : Tree → ℕ → ℕ
-row_cost t letters = missing_cost t letters + letters * letter_cost t
+row_cost t letters = object_cost t + letters * letter_cost t
 
--- a row for each directory
+-- all rows of the tree, and a row of the table for each directory
 abbrev pub table_cost : Tree → ℕ → ℕ
-table_cost t letters = length t.nodes * row_cost t letters
+table_cost t letters = suc (length t.nodes * row_cost t letters)
 
 -- a table, and the base itself: whether it is there, and what is allowed on it
 abbrev pub pairs_cost : Tree → ℕ → ℕ

@@ -22,3 +22,4 @@ pub mod Entries
 pub mod Live
 pub mod Table
 pub mod Rows
+pub mod Spots

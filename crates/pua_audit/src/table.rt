@@ -1,9 +1,10 @@
 //! The making of the table of steps.
 
 ghost use Rattle.std.specs.Prelude.{◌≡◌, ◌<◌, ◌≤◌, ◌+◌, ◌^◌, ℕ, List, length, get_or, IfOk, IsTrue};
-ghost use Rattle.pua_tree.specs.Tree.{is_dir};
+ghost use Rattle.pua_tree.specs.Tree.{is_dir, name_cmp};
 ghost use Rattle.pua_audit.specs.Bounds.{table_cost};
 ghost use Rattle.pua_audit.specs.Graphs.{AreApart};
+ghost use Rattle.pua_audit.specs.Laws.{Rises};
 ghost use Rattle.pua_audit.specs.Ready.{IsSound, judge_in, letters_of};
 ghost use Rattle.pua_audit.specs.Table.{IsTableOf};
 
@@ -11,6 +12,7 @@ pub(crate) mod begun;
 mod directories;
 mod letter;
 mod row;
+mod spots;
 
 use crate::table::directories::Directories;
 use crate::terms::Terms;
@@ -31,17 +33,19 @@ impl Terms {
     ) -> Result<Steps, OutOfMemory>
         requires tree { P.tree probe.old ≡ self.now.seen.tree }
         requires sound { IsSound self.now }
+        requires rises { Rises name_cmp (letters_of self.now) }
         requires living { IsTrue (is_dir self.now.seen.tree base) }
         ensures table { IfOk result (λ steps. (names : List ℕ) × (IsTableOf (judge_in self.now) (letters_of self.now) names steps × AreApart names × (0 < length names) × (get_or names 0 0 ≡ base))) }
         ensures few { IfOk result (λ steps. length steps.rows.items ≤ 2 ^ 32) }
         ensures tree { P.tree probe.new ≡ P.tree probe.old }
         ensures cost { P.count probe.new ≤ P.count probe.old + table_cost self.now.seen.tree (length self.now.letters.items) }
     {
+        let spots = self.spots(alloc, probe)?;
         let mut dirs = Directories::new(alloc);
         dirs.place(base)?;
         let mut rows = Vec::new(alloc);
         while let Some(dir) = dirs.at(rows.len()) {
-            let row = self.row(alloc, probe, &mut dirs, dir)?;
+            let row = self.row(alloc, probe, spots.as_slice(), &mut dirs, dir)?;
             let Ok(()) = rows.push(row) else {
                 return Err(OutOfMemory);
             };

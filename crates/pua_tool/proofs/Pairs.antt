@@ -1,8 +1,11 @@
 -- The lines of pairs, in blocks.
-use Rattle.std.proofs.Common.{◌≡◌, ℕ, List, [], ◌∷◌, ◌++◌, Option, Result, refl, sym, ap, ◌∙◌, subst, append_assoc, append-nil}
-use Rattle.std.specs.Prelude.{OnOk, OnErr}
+use Rattle.std.proofs.Common.{◌≡◌, ℕ, ◌+◌, List, [], ◌∷◌, ◌++◌, length, take, Option, Result, refl, sym, ap, ◌∙◌, subst, append_assoc, append-nil}
+use Rattle.std.specs.Prelude.{OnOk, OnErr, IsTrue}
+use Rattle.std.specs.List.{list_all}
+use Rattle.std.proofs.lemmas.Bool.{and_parts}
+use Rattle.std.proofs.Math.Seq.{take-append-add}
 use Rattle.std.proofs.KnownBytes.{Appends-nil, Appends-trans}
-use Rattle.pua_tree.specs.Spelling.{spelling}
+use Rattle.pua_tree.specs.Spelling.{is_plain, byte_spelling, spelling}
 use Rattle.pua_policy.specs.Calls.{call_name}
 use Rattle.pua_policy.specs.declared.call.Call.{Call}
 use Rattle.pua_audit.specs.Reach.{Word, Pair, path_of}
@@ -28,9 +31,27 @@ first_plain base word call path left more p l plain = ap spelling p ∙ (subst (
 pub more_plain : (base : Base) (word : Word) (call : Call) (left more : List Pair) → left ≡ (word, call) ∷ more → ArePlain base left → ArePlain base more
 more_plain base word call left more l plain = (subst (λ (ps : List Pair). ArePlain base ps) l plain).1
 
--- an ending stands after a spelled path
-pub line_ends : (front path name : List ℕ) → (front ++ path) ++ ended (32 ∷ name) ≡ front ++ ended (path ++ 32 ∷ name)
-line_ends front path name = append_assoc front path (ended (32 ∷ name)) ∙ ap (λ r. front ++ r) (sym (append_assoc path (32 ∷ name) (10 ∷ [])))
+-- a blank, a name and LF stand after a spelled path
+pub line_ends : (front path name : List ℕ) → (((front ++ path) ++ 32 ∷ []) ++ name) ++ 10 ∷ [] ≡ front ++ ended (path ++ 32 ∷ name)
+line_ends front path name =
+    append_assoc ((front ++ path) ++ 32 ∷ []) name (10 ∷ [])
+    ∙ append_assoc (front ++ path) (32 ∷ []) (name ++ 10 ∷ [])
+    ∙ append_assoc front path (32 ∷ name ++ 10 ∷ [])
+    ∙ ap (λ r. front ++ r) (sym (append_assoc path (32 ∷ name) (10 ∷ [])))
+
+-- what stands behind a name is cut off
+pub name_kept : (n : ℕ) (block padded name : List ℕ) → n ≡ length block + length name → take (length name) padded ≡ name → take n (block ++ padded) ≡ block ++ name
+name_kept n block padded name many is = ap (λ k. take k (block ++ padded)) many ∙ take-append-add block padded (length name) ∙ ap (λ t. block ++ t) is
+
+-- bytes that stand for themselves are their own spelling
+pub spelling_plain : (bytes : List ℕ) → IsTrue (list_all is_plain bytes) → spelling bytes ≡ bytes
+spelling_plain [] all = refl
+spelling_plain (b ∷ bytes) all =
+    let parts = and_parts (is_plain b) (list_all is_plain bytes) all in
+    front b parts.0 (spelling bytes) ∙ ap (λ bs. b ∷ bs) (spelling_plain bytes parts.1)
+  where
+    front : (c : ℕ) → IsTrue (is_plain c) → (more : List ℕ) → byte_spelling c ++ more ≡ c ∷ more
+    front c plain more = rw plain refl
 
 -- a block that stays as it is hands nothing on
 pub hands_nothing : (block : List ℕ) (a : Option (List ℕ)) → HandsOn block block a a

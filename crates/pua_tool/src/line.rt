@@ -1,6 +1,6 @@
 //! The lines of the pairs of an audit's text, written in blocks.
 
-ghost use Rattle.std.specs.Prelude.{◌≡◌, ◌≤◌, ◌+◌, ◌*◌, ◌++◌, ◌∷◌, [], length, IsTrue, IfOk, OnOk, OnErr, vec_len, vec_capacity};
+ghost use Rattle.std.specs.Prelude.{◌≡◌, ◌≤◌, ◌+◌, ◌*◌, ◌++◌, ◌∷◌, [], length, IsTrue, IfOk, OnOk, OnErr, take, vec_len, vec_capacity};
 ghost use Rattle.pua_tree.specs.Spelling.{spelling};
 ghost use Rattle.pua_path.specs.Limits.{path_limit};
 ghost use Rattle.pua_policy.specs.Calls.{call_name};
@@ -14,11 +14,12 @@ use pua_path::{PATH_LIMIT, Probe};
 use pua_policy::Call;
 use pua_tree::byte_spelling;
 
-/// How many bytes stand after a path in its line at most.
-const MOST_ENDING: usize = 10;
+/// How many bytes the name of a call has at most.
+const MOST_NAME: usize = 8;
 
-/// How many bytes a line has at most: each byte of its path may be spelled by four.
-pub(crate) const MOST_LINE: usize = 4 * PATH_LIMIT + MOST_ENDING;
+/// How many bytes a line has at most: each byte of its path may be spelled by four, and a blank, the
+/// name of a call and LF stand behind it.
+pub(crate) const MOST_LINE: usize = 4 * PATH_LIMIT + MOST_NAME + 2;
 
 /// How many bytes a block has room for.
 pub(crate) const BLOCK: usize = 65_536;
@@ -71,12 +72,15 @@ fn add_line(block: &mut Vec<u8>, plain: bool, path: &[u8], call: Call)
     ensures line { block.new.items ≡ block.old.items ++ ended (spelling path.now ++ 32 ∷ call_name call) }
     ensures room { vec_capacity block.old ≤ vec_capacity block.new }
 {
-    add_path(block, plain, path);
-    block.extend_from_slice(ending(call)).unwrap();
+    add_printed(block, plain, path);
+    block.push_reserved(b' ');
+    add_call(block, call);
+    block.push_reserved(b'\n');
 }
 
-/// Adds a path to a block as it is printed.
-fn add_path(block: &mut Vec<u8>, plain: bool, path: &[u8])
+/// Adds a path, or a name of one, to a block as it is printed.
+#[inline(always)]
+pub(crate) fn add_printed(block: &mut Vec<u8>, plain: bool, path: &[u8])
     requires short { length path.now ≤ path_limit }
     requires plain { IsTrue plain → spelling path.now ≡ path.now }
     requires free { vec_len block.old + 4 * path_limit ≤ vec_capacity block.old }
@@ -92,7 +96,7 @@ fn add_path(block: &mut Vec<u8>, plain: bool, path: &[u8])
 }
 
 /// Adds the spelling of a path to a block that has room for it.
-pub(crate) fn spell(block: &mut Vec<u8>, path: &[u8])
+fn spell(block: &mut Vec<u8>, path: &[u8])
     requires { vec_len block.old + 4 * length path.now ≤ vec_capacity block.old }
     ensures spelled { block.new.items ≡ block.old.items ++ spelling path.now }
     ensures short { vec_len block.new ≤ vec_len block.old + 4 * length path.now }
@@ -105,25 +109,41 @@ pub(crate) fn spell(block: &mut Vec<u8>, path: &[u8])
     }
 }
 
-/// What stands after a path in its line: a blank, the call's name and LF.
-fn ending(call: Call) -> &'static [u8]
-    ensures bytes { result.now ≡ ended (32 ∷ call_name call) }
-    ensures short { length result.now ≤ MOST_ENDING }
+/// Adds the name of a call to a block that has room for the longest. A copy of so many bytes as the
+/// program knows beforehand is quick, so those behind the name are copied too, and cut off again.
+#[inline(always)]
+pub(crate) fn add_call(block: &mut Vec<u8>, call: Call)
+    requires { vec_len block.old + MOST_NAME ≤ vec_capacity block.old }
+    ensures name { block.new.items ≡ block.old.items ++ call_name call }
+    ensures short { vec_len block.new ≤ vec_len block.old + MOST_NAME }
+    ensures room { vec_capacity block.old ≤ vec_capacity block.new }
+{
+    let padded = padded_name(call);
+    let end = block.len() + call.name().len();
+    block.extend_from_slice(padded).unwrap();
+    block.truncate(end);
+}
+
+/// The name of a call with blanks behind it.
+fn padded_name(call: Call) -> &'static [u8]
+    ensures name { take (length (call_name call)) result.now ≡ call_name call }
+    ensures width { length result.now ≡ MOST_NAME }
+    ensures short { length (call_name call) ≤ MOST_NAME }
 {
     match call {
-        Call::Stat => b" stat\n",
-        Call::Lstat => b" lstat\n",
-        Call::Readlink => b" readlink\n",
-        Call::OpenRead => b" open-r\n",
-        Call::OpenWrite => b" open-w\n",
-        Call::OpenBoth => b" open-rw\n",
-        Call::Create => b" create\n",
-        Call::Mkdir => b" mkdir\n",
-        Call::Rmdir => b" rmdir\n",
-        Call::Unlink => b" unlink\n",
-        Call::Symlink => b" symlink\n",
-        Call::Chmod => b" chmod\n",
-        Call::Chdir => b" chdir\n",
-        Call::Exec => b" exec\n",
+        Call::Stat => b"stat    ",
+        Call::Lstat => b"lstat   ",
+        Call::Readlink => b"readlink",
+        Call::OpenRead => b"open-r  ",
+        Call::OpenWrite => b"open-w  ",
+        Call::OpenBoth => b"open-rw ",
+        Call::Create => b"create  ",
+        Call::Mkdir => b"mkdir   ",
+        Call::Rmdir => b"rmdir   ",
+        Call::Unlink => b"unlink  ",
+        Call::Symlink => b"symlink ",
+        Call::Chmod => b"chmod   ",
+        Call::Chdir => b"chdir   ",
+        Call::Exec => b"exec    ",
     }
 }

@@ -1,6 +1,7 @@
 //! The lines of the objects of a list, written in blocks.
 
-ghost use Rattle.std.specs.Prelude.{◌≡◌, ◌≤◌, ◌++◌, ◌∷◌, [], length, map, vec_capacity};
+ghost use Rattle.std.specs.Prelude.{◌≡◌, ◌≤◌, ◌+◌, ◌++◌, ◌∷◌, [], if◌then◌else◌, length, map, vec_capacity, vec_len};
+ghost use Rattle.std.specs.List.{list_all};
 ghost use Rattle.pua_policy.specs.Calls.{call_name};
 ghost use Rattle.pua_policy.specs.CallSets.{calls_in};
 ghost use Rattle.pua_policy.specs.History.{History, StandsFor};
@@ -9,17 +10,17 @@ ghost use Rattle.pua_audit.specs.declared.base.Base.TheVariants as base;
 ghost use Rattle.pua_objects.specs.Lines.{kind_word};
 ghost use Rattle.pua_objects.specs.Objects.{with_commas};
 ghost use Rattle.pua_objects.specs.Ready.{lines_of};
-ghost use Rattle.pua_tree.specs.Spelling.{spelling};
+ghost use Rattle.pua_tree.specs.Spelling.{is_plain, spelling};
 ghost use Rattle.pua_tool.specs.Blocks.{Passes};
 ghost use Rattle.pua_tool.specs.ObjectTexts.{object_lines};
 ghost use Rattle.pua_tool.specs.Sinks.{Writes};
 ghost use Rattle.pua_tool.specs.Texts.{ended};
 
-use crate::line::{BLOCK, MOST_LINE, make_room, spell};
+use crate::line::{BLOCK, MOST_LINE, add_call, add_printed, make_room};
 use crate::sink::{PutFault, Sink, put_all};
 use pua_objects::{ObjectKind, ObjectLine, Objects};
 use pua_policy::{Call, Calls};
-use pua_tree::{FileTree, Name};
+use pua_tree::{FileTree, Name, byte_spelling};
 
 /// Writes a line for each object that a list has still to give: many of them in a block, which is
 /// put where the next part of a line might not fit, and after the last. Its memory is used again, so
@@ -96,8 +97,18 @@ fn add_name<S: Sink>(block: &mut Vec<u8>, name: &Name, sink: &mut S) -> Result<(
 {
     make_room(block, sink)?;
     block.push_reserved(b'/');
-    spell(block, name.bytes());
+    let bytes = name.bytes();
+    add_printed(block, are_plain(bytes), bytes);
     Ok(())
+}
+
+/// Whether each of some bytes is spelled by itself.
+fn are_plain(bytes: &[u8]) -> bool
+    ensures { result ≡ list_all is_plain bytes.now }
+{
+    bytes
+        .iter()
+        .all(|byte| byte_spelling(*byte).as_bytes().len() == 1)
 }
 
 /// Adds the names of calls with commas between them, and LF.
@@ -107,31 +118,38 @@ fn add_calls<S: Sink>(block: &mut Vec<u8>, calls: Calls, sink: &mut S) -> Result
         block.old.items block.new.items (S.written sink.old) (S.written sink.new) (S.failed sink.old) (S.failed sink.new) }
     ensures room { BLOCK ≤ vec_capacity block.new }
 {
-    let mut before: &[u8] = b"";
-    for call in Call::ALL {
-        if calls.contains(call) {
-            add_call(block, before, call, sink)?;
-            before = b",";
-        }
-    }
-    add_bytes(block, b"\n", sink)
+    make_room(block, sink)?;
+    add_names(block, calls);
+    Ok(())
 }
 
-/// Adds the name of a call, behind what separates it from the one before.
-fn add_call<S: Sink>(
-    block: &mut Vec<u8>,
-    before: &[u8],
-    call: Call,
-    sink: &mut S,
-) -> Result<(), PutFault>
-    requires short { length before.now ≤ 1 }
-    requires room { BLOCK ≤ vec_capacity block.old }
-    ensures call { Passes (before.now ++ call_name call) result
-        block.old.items block.new.items (S.written sink.old) (S.written sink.new) (S.failed sink.old) (S.failed sink.new) }
-    ensures room { BLOCK ≤ vec_capacity block.new }
+/// Adds the names of calls with commas between them, and LF, to a block that has room for a line.
+fn add_names(block: &mut Vec<u8>, calls: Calls)
+    requires { vec_len block.old + MOST_LINE ≤ vec_capacity block.old }
+    ensures names { block.new.items ≡ block.old.items ++ (with_commas (map call_name (calls_in calls)) ++ 10 ∷ []) }
+    ensures room { vec_capacity block.old ≤ vec_capacity block.new }
 {
-    add_bytes(block, before, sink)?;
-    add_bytes(block, call.name().as_bytes(), sink)
+    let mut is_first = true;
+    for call in Call::ALL {
+        if calls.contains(call) {
+            add_next(block, is_first, call);
+            is_first = false;
+        }
+    }
+    block.push_reserved(b'\n');
+}
+
+/// Adds the name of a call, with a comma before it unless it is the first of its line.
+fn add_next(block: &mut Vec<u8>, is_first: bool, call: Call)
+    requires { vec_len block.old + 9 ≤ vec_capacity block.old }
+    ensures name { block.new.items ≡ block.old.items ++ ((if is_first then [] else 44 ∷ []) ++ call_name call) }
+    ensures short { vec_len block.new ≤ vec_len block.old + 9 }
+    ensures room { vec_capacity block.old ≤ vec_capacity block.new }
+{
+    if !is_first {
+        block.push_reserved(b',');
+    }
+    add_call(block, call);
 }
 
 /// Adds bytes that are no more than the longest line of an audit.

@@ -4,35 +4,42 @@ ghost use Rattle.std.specs.Prelude.{◌≡◌, ◌<◌, ◌≤◌, ◌+◌, ◌^
 ghost use Rattle.pua_tree.specs.Tree.{Tree, is_dir};
 ghost use Rattle.pua_policy.specs.CallSets.{has, keeps_link};
 ghost use Rattle.pua_policy.specs.declared.call.Call.{Call};
-ghost use Rattle.pua_audit.specs.Bounds.{missing_cost, row_cost};
+ghost use Rattle.pua_audit.specs.Bounds.{object_cost, row_cost};
+ghost use Rattle.pua_audit.specs.Entries.{allowed_bare};
 ghost use Rattle.pua_audit.specs.Judge.{Judge};
+ghost use Rattle.pua_audit.specs.Past.{history_of};
 ghost use Rattle.pua_audit.specs.Ready.{IsSound, judge_in, letters_of};
 ghost use Rattle.pua_audit.specs.Rows.{AreLiving, IsGrown, IsRow};
+ghost use Rattle.pua_audit.specs.Spots.{AreSpots};
 ghost use Rattle.pua_audit.specs.Table.{IsLetter};
 ghost use Rattle.pua_steps.specs.Limits.{most_links};
 
 use crate::table::directories::Directories;
 use crate::table::letter::Letter;
+use crate::table::spots::LetterSpot;
 use crate::terms::Terms;
-use pua_path::{Found, Part, Probe};
-use pua_policy::Calls;
+use pua_path::{Found, Probe, Way};
+use pua_policy::{Calls, Object, judge};
 use pua_steps::{Entry, Row};
 use pua_tree::{NodeId, OutOfMemory};
 use std::alloc::Global;
 
 impl Terms {
-    /// The row of a living directory. What its letters lead to is put behind the other directories.
-    /// The error is that a growth was refused.
+    /// The row of a living directory. Its letters without a spot are not looked up: one set of calls
+    /// tells them all. What the others lead to is put behind the other directories. The error is that
+    /// a growth was refused.
     #[tactic(auto, using(crate::proofs::Rowed::row_empty, crate::proofs::Rowed::grown_itself, crate::proofs::Rowed::grown_further))]
     pub(crate) fn row<'t, P: Probe<'t>>(
         &self,
         alloc: Global,
         probe: &mut P,
+        spots: &[LetterSpot],
         dirs: &mut Directories,
         dir: NodeId,
     ) -> Result<Row, OutOfMemory>
         requires tree { P.tree probe.old ≡ self.now.seen.tree }
         requires sound { IsSound self.now }
+        requires spots { AreSpots self.now.seen.tree (history_of self.now.process) (letters_of self.now) spots.now }
         requires living { IsTrue (is_dir self.now.seen.tree dir) }
         requires dirs { AreLiving self.now.seen.tree dirs.old }
         ensures row { IfOk result (λ row. IsRow (judge_in self.now) (letters_of self.now) dirs.new dir (length self.now.letters.items) row.missing row.entries.items) }
@@ -43,8 +50,12 @@ impl Terms {
     {
         let missing = self.missing(probe, dir);
         let others = missing.bits();
+        let marks = self.marks(alloc, spots, dir)?;
         let mut entries = Vec::new(alloc);
         for letter in 0..self.letters.len() {
+            if !marks[letter] {
+                continue;
+            }
             let found = self.letter(probe, dir, letter);
             found.put(letter, missing, dirs, &mut entries)?;
         }
@@ -54,30 +65,19 @@ impl Terms {
         })
     }
 
-    /// Calls for the letters that have no entry in a living directory: those on the first name that is
-    /// missing there. A letter on which they are not just these has an entry.
-    #[tactic(auto, using(crate::proofs::Places::missing_fits))]
+    /// The calls that are allowed in a living directory on each name where nothing stands, and at which
+    /// no veil is kept: what the veils leave of such names is what they leave of the directory.
     fn missing<'t, P: Probe<'t>>(&self, probe: &mut P, dir: NodeId) -> Calls
         requires tree { P.tree probe.old ≡ self.now.seen.tree }
         requires sound { IsSound self.now }
         requires living { IsTrue (is_dir self.now.seen.tree dir) }
+        ensures exact { (call : Call) → has result call ≡ allowed_bare self.now.seen.tree self.now.table (history_of self.now.process) dir call }
         ensures tree { P.tree probe.new ≡ P.tree probe.old }
-        ensures cost { P.count probe.new ≤ P.count probe.old + missing_cost self.now.seen.tree (length self.now.letters.items) }
+        ensures cost { P.count probe.new ≤ P.count probe.old + object_cost self.now.seen.tree }
     {
-        for letter in &self.letters {
-            let Part::Name(name) = *letter else {
-                continue;
-            };
-            if probe.look(dir, &name).is_none() {
-                let found = Found::Slot {
-                    dir,
-                    name,
-                    node: None,
-                };
-                return self.calls_on(probe, &Ok(found));
-            }
-        }
-        Calls::NONE
+        let whole = Found::Whole { dir, way: Way::Top };
+        let cover = self.process.cover(probe, &whole);
+        judge::allowed(&self.process, &self.table, cover, Object::Missing)
     }
 }
 

@@ -1,5 +1,5 @@
-use Rattle.std.proofs.Common.{◌≡◌, ◌≤◌, ◌+◌, ◌*◌, length}
-use Rattle.pua_audit.specs.Bounds.{letter_cost, missing_cost}
+use Rattle.std.proofs.Common.{◌≡◌, ◌≤◌, ◌+◌, ◌*◌}
+use Rattle.pua_audit.specs.Bounds.{letter_cost, object_cost}
 use Rattle.pua_audit.specs.Ready.{judge_in, letters_of}
 use Rattle.pua_audit.specs.Rows.{AreLiving, IsGrown, IsRow}
 use Rattle.pua_audit.proofs.terms.Terms.row.Given as goal
@@ -11,5 +11,5 @@ invariant-loop-letter g l = record {
   grown : IsGrown l.fn.dirs l.dirs;
   living : AreLiving l.self.seen.tree l.dirs;
   tree : g.P.Probe.tree l.probe ≡ l.self.seen.tree;
-  cost : g.P.Probe.count l.probe ≤ g.P.Probe.count l.fn.probe + (missing_cost l.self.seen.tree (length l.self.letters.items) + l.letter * letter_cost l.self.seen.tree);
+  cost : g.P.Probe.count l.probe ≤ g.P.Probe.count l.fn.probe + (object_cost l.self.seen.tree + l.letter * letter_cost l.self.seen.tree);
 }

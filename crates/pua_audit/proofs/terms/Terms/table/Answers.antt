@@ -35,7 +35,7 @@ loop-dir-preserved g c =
       cost =
           let n : ℕ = length a.letters.items in
           let longer : length c.push.new.self.items ≡ suc (length rows) = omega (arith, ap length items, length-append rows (row ∷ [])) in
-          subst (λ m. g.P.Probe.count c.row.new.probe ≤ g.P.Probe.count c.args.probe.now + m * row_cost a.seen.tree n) (sym longer) (omega (arith, c.row.ensures.cost, l.invariant.cost, one_row_more a.seen.tree n (length rows)));
+          subst (λ m. g.P.Probe.count c.row.new.probe ≤ g.P.Probe.count c.args.probe.now + suc (m * row_cost a.seen.tree n)) (sym longer) (omega (arith, c.row.ensures.cost, l.invariant.cost, one_row_more a.seen.tree n (length rows)));
     }
 
 pub returns-clause-table : goal.returns-clause-table

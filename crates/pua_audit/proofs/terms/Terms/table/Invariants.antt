@@ -1,4 +1,4 @@
-use Rattle.std.proofs.Common.{◌≡◌, ◌<◌, ◌≤◌, ◌+◌, ◌*◌, ◌-◌, length, get_or}
+use Rattle.std.proofs.Common.{◌≡◌, ◌<◌, ◌≤◌, ◌+◌, ◌*◌, ◌-◌, suc, length, get_or}
 use Rattle.pua_audit.specs.Bounds.{row_cost}
 use Rattle.pua_audit.specs.Ready.{judge_in, letters_of}
 use Rattle.pua_audit.specs.Rows.{AreLiving, AreRows}
@@ -13,7 +13,7 @@ invariant-loop-dir g l = record {
   first : get_or l.dirs 0 0 ≡ l.fn.base;
   living : AreLiving l.self.seen.tree l.dirs;
   tree : g.P.Probe.tree l.probe ≡ l.self.seen.tree;
-  cost : g.P.Probe.count l.probe ≤ g.P.Probe.count l.fn.probe + length l.rows.items * row_cost l.self.seen.tree (length l.self.letters.items);
+  cost : g.P.Probe.count l.probe ≤ g.P.Probe.count l.fn.probe + suc (length l.rows.items * row_cost l.self.seen.tree (length l.self.letters.items));
 }
 
 abbrev pub decreases-loop-dir : goal.decreases-loop-dir

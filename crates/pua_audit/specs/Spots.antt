@@ -1,0 +1,37 @@
+-- The letters that directories tell apart from names that they lack.
+use Rattle.std.specs.Prelude.{◌≡◌, ◌≢◌, ◌<◌, ℕ, Bool, true, false, List, [], length, get_or, None}
+use Rattle.std.specs.List.{AllByRecursion}
+use Rattle.pua_tree.specs.Tree.{Tree, Spot, look}
+use Rattle.pua_path.specs.declared.found.Part.{Part}
+use Rattle.pua_path.specs.declared.found.Part.TheVariants as part
+use Rattle.pua_policy.specs.History.{History, kept}
+use Rattle.pua_policy.specs.declared.place.Place.{Place}
+use Rattle.pua_policy.specs.declared.place.Place.TheVariants.{Slot}
+use Rattle.pua_audit.specs.declared.table.spots.LetterSpot.{LetterSpot}
+
+-- none of some spots is that of a letter in a directory
+abbrev pub IsUnmarked : ℕ → ℕ → List LetterSpot → Type 0
+IsUnmarked dir letter spots = AllByRecursion (λ s. s.dir ≡ dir → s.letter ≢ letter) spots
+
+-- the spots are of letters
+abbrev pub AreAtLetters : List (List ℕ) → List LetterSpot → Type 0
+AreAtLetters letters spots = AllByRecursion (λ s. s.letter < length letters) spots
+
+-- no row is at a name
+abbrev pub IsNowhere : ℕ → List ℕ → List (Spot × ℕ) → Type 0
+IsNowhere dir name rows = AllByRecursion (λ row. row.0.0 ≡ dir → row.0.1 ≢ name) rows
+
+-- none of some places is this one
+abbrev pub AreApartFrom : Place → List Place → Type 0
+AreApartFrom place places = AllByRecursion (λ other. other ≢ place) places
+
+-- spots of letters: where a letter has none, nothing stands at its name, and no veil is kept at it
+pub record AreSpots (t : Tree) (h : History) (letters : List (List ℕ)) (spots : List LetterSpot) : Type 0 where
+  pub within : AreAtLetters letters spots
+  pub none : (dir letter : ℕ) → letter < length letters → IsUnmarked dir letter spots → look t dir (get_or letters letter []) ≡ None
+  pub unveiled : (dir letter : ℕ) → letter < length letters → IsUnmarked dir letter spots → kept h (Slot dir (get_or letters letter [])) ≡ None
+
+-- a letter that is no name
+abbrev pub is_dots : Part → Bool
+is_dots (part.Name name) = false
+is_dots _ = true
