@@ -5,6 +5,7 @@ use Rattle.pua_tree.specs.Tree.{Tree, is_dir}
 use Rattle.pua_tree.specs.Steps.{◌>>=◌}
 use Rattle.pua_path.specs.Paths.{parts_of, is_absolute}
 use Rattle.pua_path.specs.Resolution.{Resolved, Standing, Directory, Linked, Plain, Nothing, standing_at, walk, start_of, resolve_parts, resolution, reached, step, link_limit}
+use Rattle.pua_path.specs.Walks.{ended}
 use Rattle.pua_path.specs.declared.errno.Errno.{Errno}
 use Rattle.pua_path.specs.declared.errno.Errno.TheVariants.{ENOENT, ENOTDIR, ELOOP}
 use Rattle.pua_path.specs.declared.text.Ending.{Ending}
@@ -72,3 +73,14 @@ pub resolution_starts : (t : Tree) (from : ℕ) (end : Ending) (text : List ℕ)
 resolution_starts t from end text mode start found s e =
     ap (λ r. r >>= λ f. Ok f.0) e
     ∙ starts_at (not (is_absolute text) && not (is_dir t from)) start (start_of text from) (λ begin. resolve_parts link_limit t mode begin ways.Top (parts_of end text) >>= λ f. Ok f.0) s
+
+-- an answer, apart from the links left
+pub ended_found : (r : Result Found Errno) (left : ℕ) → (ended r left >>= λ f. Ok f.0) ≡ r
+ended_found (Ok found) left = refl
+ended_found (Err errno) left = refl
+
+-- what a walk from there answers
+pub resolution_ends : (t : Tree) (from : ℕ) (end : Ending) (text : List ℕ) (mode : Last) (start : ℕ) (r : Result Found Errno) (left : ℕ) →
+    Some start ≡ (if not (is_absolute text) && not (is_dir t from) then None else Some (start_of text from)) →
+    ended r left ≡ resolve_parts link_limit t mode start ways.Top (parts_of end text) → r ≡ resolution t from end text mode
+resolution_ends t from end text mode start r left s e = sym (ended_found r left) ∙ resolution_starts t from end text mode start (ended r left) s e

@@ -169,3 +169,7 @@ parts_named t links mode (Err errno) is = tt
 pub founds_fit : (t : Tree) → WellFormed t → (from : ℕ) (ending : Ending) (text : List ℕ) (mode : Last) (found : Result Found Errno) → found ≡ resolution t from ending text mode → FoundsFit t found
 founds_fit t fits from ending text mode (Ok object) e = (whole_fits t fits from ending text mode object (sym e)).fits
 founds_fit t fits from ending text mode (Err errno) e = tt
+
+pub founds_named : (t : Tree) → WellFormed t → (from : ℕ) (ending : Ending) (text : List ℕ) (mode : Last) (found : Result Found Errno) → found ≡ resolution t from ending text mode → IfOk found (StandsAsNamed t)
+founds_named t fits from ending text mode (Ok object) e = (whole_fits t fits from ending text mode object (sym e)).named
+founds_named t fits from ending text mode (Err errno) e = tt

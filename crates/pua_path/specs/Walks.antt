@@ -32,6 +32,11 @@ goes_on (Ok None) left further = further
 goes_on (Ok (Some found)) left further = Ok (found, left)
 goes_on (Err errno) left further = Err errno
 
+-- what a resolution answers, and the links left then
+abbrev pub ended : Result Found Errno → ℕ → Resolved
+ended (Ok found) left = Ok (found, left)
+ended (Err errno) left = Err errno
+
 -- the parts that are left, and those that links can still add
 abbrev pub potential : Tree → ℕ → Remaining → ℕ
 potential t left rest = length rest.parts + most_parts t * left

@@ -6,9 +6,6 @@ ghost use Rattle.pua_path.specs.Paths.{ends_in_slash, part_of};
 ghost use Rattle.pua_path.specs.Remaining.{after_slashes, is_piece, is_readable, rest_parts};
 ghost use Rattle.pua_path.specs.Pieces.{IsCutAtSlash};
 
-use crate::found::Part;
-use pua_tree::Name;
-
 /// The text from its first byte other than a slash on.
 pub(crate) fn after_slashes(text: &[u8]) -> &[u8]
     ensures { result.now ≡ after_slashes text.now }
@@ -53,31 +50,17 @@ fn cut_at_slash(text: &[u8]) -> (&[u8], &[u8])
     }
 }
 
-/// The part that a piece between slashes is.
-fn read_part(piece: &[u8]) -> Part
-    requires { IsTrue (is_piece piece.now) }
-    ensures { result ≡ part_of piece.now }
-{
-    if piece == b".".as_slice() {
-        Part::Dot
-    } else if piece == b"..".as_slice() {
-        Part::DotDot
-    } else {
-        Part::Name(Name::from_bytes(piece).unwrap())
-    }
-}
-
-/// The first part of what is left of a text, and what is left behind it.
-pub(crate) fn next_part(text: &[u8]) -> (Part, &[u8])
+/// The piece that is the first part of what is left of a text, and what is left behind it.
+pub(crate) fn next_piece(text: &[u8]) -> (&[u8], &[u8])
     requires some { 0 < length text.now }
     requires readable { IsTrue (is_readable text.now) }
-    ensures parts { rest_parts text.now ≡ result.0 ∷ rest_parts result.1.now }
+    ensures parts { rest_parts text.now ≡ part_of result.0.now ∷ rest_parts result.1.now }
+    ensures piece { IsTrue (is_piece result.0.now) }
     ensures readable { IsTrue (is_readable result.1.now) }
 {
     let text = after_slashes(text);
     if text.is_empty() {
-        return (Part::Dot, text);
+        return (b".".as_slice(), text);
     }
-    let (piece, rest) = cut_at_slash(text);
-    (read_part(piece), rest)
+    cut_at_slash(text)
 }

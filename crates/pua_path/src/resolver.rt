@@ -1,14 +1,15 @@
 //! Resolution: what parts name in a tree.
 
-ghost use Rattle.std.specs.Prelude.{◌≡◌, ◌≤◌, ◌<◌, ◌+◌, ◌-◌, ◌*◌, ◌∷◌, ◌++◌, IsTrue, IfOk, IfErr, IfSome, OnOk, is_some, not, ◌&&◌, ◌==◌, Ok, Err, Some, None, [], if◌then◌else◌};
+ghost use Rattle.std.specs.Prelude.{◌≡◌, ◌≤◌, ◌<◌, ◌+◌, ◌-◌, ◌*◌, ◌∷◌, ◌++◌, IsTrue, IfOk, IfErr, IfSome, OnOk, is_some, not, false, ◌&&◌, ◌==◌, Ok, Err, Some, None, [], if◌then◌else◌};
+ghost use Rattle.pua_tree.specs.Names.{is_name};
 ghost use Rattle.pua_tree.specs.Tree.{is_dir};
 ghost use Rattle.pua_path.specs.Resolution.{resolution, resolve_parts, standing_at, is_followed, start_of, step, last, follow};
 ghost use Rattle.pua_path.specs.Limits.{link_limit};
-ghost use Rattle.pua_path.specs.Paths.{is_absolute, parts_of};
-ghost use Rattle.pua_path.specs.Walks.{standing_seen, StandsIn, CanGoOn, goes_on, potential};
+ghost use Rattle.pua_path.specs.Paths.{is_absolute, part_of, parts_of};
+ghost use Rattle.pua_path.specs.Walks.{standing_seen, StandsIn, CanGoOn, goes_on, ended, potential};
 ghost use Rattle.pua_path.specs.Bounds.{part_cost};
 ghost use Rattle.pua_path.specs.Fits.{FoundFits, FoundsFit, StandsAsNamed};
-ghost use Rattle.pua_path.specs.Remaining.{Remaining, is_done, is_readable};
+ghost use Rattle.pua_path.specs.Remaining.{Remaining, is_done, is_piece, is_readable};
 ghost use Rattle.pua_path.specs.declared.errno.Errno.TheVariants.{ELOOP, ENOENT, ENOTDIR};
 ghost use Rattle.pua_path.specs.declared.found.Way.TheVariants as ways;
 ghost use Rattle.pua_path.specs.declared.found.Part.TheVariants as parts;
@@ -43,9 +44,8 @@ pub fn resolve<'t, P: Probe<'t>>(
     let Some(start) = start_of(probe, from, text.bytes()) else {
         return Err(Errno::ENOENT);
     };
-    let walk = Walk::new(start, LINK_LIMIT, Rest::of_text(text));
-    let (found, _) = walk.finish(probe, mode)?;
-    Ok(found)
+    let mut walk = Walk::new(start, LINK_LIMIT, Rest::of_text(text));
+    walk.finish(probe, mode)
 }
 
 /// What one part that another follows leads to, `used` links having been followed before it: the
@@ -151,7 +151,7 @@ fn resolve_part<'t, P: Probe<'t>>(
     let mut walk = Walk::new(dir, left, Rest::none());
     match walk.enter(probe, part, mode)? {
         Some(found) => Ok((found, walk.left)),
-        None => walk.finish(probe, mode),
+        None => walk.finish_counted(probe, mode),
     }
 }
 
@@ -226,27 +226,95 @@ impl<'a> Walk<'a> {
     }
 
     /// Resolves the parts that are left.
-    fn finish<'t: 'a, P: Probe<'t>>(
-        mut self,
+    fn finish<'t: 'a, P: Probe<'t>>(&mut self, probe: &mut P, mode: Last) -> Result<Found, Errno>
+        requires ready { CanGoOn (P.tree probe.old) self.old.here self.old.left self.old.rest }
+        ensures exact { ended result self.new.left ≡ resolve_parts self.old.left (P.tree probe.old) mode self.old.here self.old.way self.old.rest.parts }
+        ensures left { self.new.left ≤ self.old.left }
+        ensures tree { P.tree probe.new ≡ P.tree probe.old }
+        ensures count { P.count probe.new ≤ P.count probe.old + 3 * potential (P.tree probe.old) self.old.left self.old.rest }
+    {
+        while let Some(piece) = self.rest.next() {
+            match self.enter_piece(probe, piece, mode) {
+                Ok(None) => {}
+                Ok(Some(found)) => return Ok(found),
+                Err(errno) => return Err(errno),
+            }
+        }
+        Ok(Found::Whole {
+            dir: self.here,
+            way: self.way,
+        })
+    }
+
+    /// Resolves the parts that are left, and answers how many links are left too.
+    fn finish_counted<'t: 'a, P: Probe<'t>>(
+        &mut self,
         probe: &mut P,
         mode: Last,
     ) -> Result<(Found, u8), Errno>
-        requires ready { CanGoOn (P.tree probe.old) self.here self.left self.rest }
-        ensures exact { result ≡ resolve_parts self.entry.left (P.tree probe.old) mode self.entry.here self.entry.way self.entry.rest.parts }
-        ensures left { IfOk result (λ found. found.1 ≤ self.entry.left) }
+        requires ready { CanGoOn (P.tree probe.old) self.old.here self.old.left self.old.rest }
+        ensures exact { result ≡ resolve_parts self.old.left (P.tree probe.old) mode self.old.here self.old.way self.old.rest.parts }
+        ensures left { IfOk result (λ found. found.1 ≤ self.old.left) }
         ensures tree { P.tree probe.new ≡ P.tree probe.old }
-        ensures count { P.count probe.new ≤ P.count probe.old + 3 * potential (P.tree probe.old) self.entry.left self.entry.rest }
+        ensures count { P.count probe.new ≤ P.count probe.old + 3 * potential (P.tree probe.old) self.old.left self.old.rest }
     {
-        while let Some(part) = self.rest.next() {
-            if let Some(found) = self.enter(probe, &part, mode)? {
-                return Ok((found, self.left));
-            }
+        match self.finish(probe, mode) {
+            Ok(found) => Ok((found, self.left)),
+            Err(errno) => Err(errno),
         }
-        let whole = Found::Whole {
-            dir: self.here,
-            way: self.way,
-        };
-        Ok((whole, self.left))
+    }
+
+    /// Resolves the part that a piece is, as `enter` does. Its name is lent from here on.
+    #[tactic(auto, using(crate::proofs::Pieces::piece_named, crate::proofs::Pieces::no_name))]
+    fn enter_piece<'t: 'a, P: Probe<'t>>(
+        &mut self,
+        probe: &mut P,
+        piece: &[u8],
+        mode: Last,
+    ) -> Result<Option<Found>, Errno>
+        requires piece { IsTrue (is_piece piece.now) }
+        requires ready { CanGoOn (P.tree probe.old) self.old.here self.old.left self.old.rest }
+        ensures exact { let t = P.tree probe.old in
+            resolve_parts self.old.left t mode self.old.here self.old.way (part_of piece.now ∷ self.old.rest.parts)
+            ≡ goes_on result self.new.left (resolve_parts self.new.left t mode self.new.here self.new.way self.new.rest.parts) }
+        ensures ready { CanGoOn (P.tree probe.old) self.new.here self.new.left self.new.rest }
+        ensures left { self.new.left ≤ self.old.left }
+        ensures potential { potential (P.tree probe.old) self.new.left self.new.rest ≤ potential (P.tree probe.old) self.old.left self.old.rest }
+        ensures tree { P.tree probe.new ≡ P.tree probe.old }
+        ensures count { P.count probe.new ≤ P.count probe.old + 3 }
+    {
+        match &Name::from_bytes(piece) {
+            Some(name) => self.enter_name(probe, name, mode),
+            None => self.enter_dots(probe, piece, mode),
+        }
+    }
+
+    /// Resolves the part that a piece of one dot or two is, as `enter` does.
+    #[inline(never)]
+    #[tactic(auto, using(crate::proofs::Pieces::piece_dot, crate::proofs::Pieces::piece_dots))]
+    fn enter_dots<'t: 'a, P: Probe<'t>>(
+        &mut self,
+        probe: &mut P,
+        piece: &[u8],
+        mode: Last,
+    ) -> Result<Option<Found>, Errno>
+        requires piece { IsTrue (is_piece piece.now) }
+        requires dots { is_name piece.now ≡ false }
+        requires ready { CanGoOn (P.tree probe.old) self.old.here self.old.left self.old.rest }
+        ensures exact { let t = P.tree probe.old in
+            resolve_parts self.old.left t mode self.old.here self.old.way (part_of piece.now ∷ self.old.rest.parts)
+            ≡ goes_on result self.new.left (resolve_parts self.new.left t mode self.new.here self.new.way self.new.rest.parts) }
+        ensures ready { CanGoOn (P.tree probe.old) self.new.here self.new.left self.new.rest }
+        ensures left { self.new.left ≤ self.old.left }
+        ensures potential { potential (P.tree probe.old) self.new.left self.new.rest ≤ potential (P.tree probe.old) self.old.left self.old.rest }
+        ensures tree { P.tree probe.new ≡ P.tree probe.old }
+        ensures count { P.count probe.new ≤ P.count probe.old + 3 }
+    {
+        if piece == b".".as_slice() {
+            self.enter(probe, &Part::Dot, mode)
+        } else {
+            self.enter(probe, &Part::DotDot, mode)
+        }
     }
 
     /// Resolves one part; the answer is what was found, where it ends the resolution.
@@ -300,10 +368,12 @@ impl<'a> Walk<'a> {
         match standing_at(probe, dir, name) {
             Standing::Directory(node) => {
                 self.here = node;
-                self.way = Way::Named {
-                    parent: dir,
-                    name: *name,
-                };
+                if self.rest.is_done() {
+                    self.way = Way::Named {
+                        parent: dir,
+                        name: *name,
+                    };
+                }
                 Ok(None)
             }
             Standing::Linked(node, target) => {

@@ -1,8 +1,7 @@
 //! What is left of a path while it is resolved.
 
-use crate::found::Part;
 use crate::limits::LINK_LIMIT;
-use crate::piece::{after_slashes, before_slashes, next_part};
+use crate::piece::{after_slashes, before_slashes, next_piece};
 use crate::text::{Ending, PathText};
 use std::marker::Model;
 
@@ -31,10 +30,10 @@ impl<'a> Model for Rest<'a> {
     ghost invariant = { λ a. (a.depth ≤ link_limit) × IsTrue (is_stack a.top.now (take a.depth a.below)) };
 }
 
-ghost use Rattle.std.specs.Prelude.{◌≡◌, ◌≤◌, ◌<◌, ◌+◌, ◌∷◌, ◌++◌, [], IsTrue, MatchOption};
+ghost use Rattle.std.specs.Prelude.{◌≡◌, ◌≤◌, ◌<◌, ◌+◌, ◌∷◌, ◌++◌, [], IsTrue, IfSome, MatchOption};
 ghost use Rattle.pua_path.specs.Limits.{link_limit};
-ghost use Rattle.pua_path.specs.Paths.{parts_of};
-ghost use Rattle.pua_path.specs.Remaining.{is_done, is_readable, rest_parts};
+ghost use Rattle.pua_path.specs.Paths.{part_of, parts_of};
+ghost use Rattle.pua_path.specs.Remaining.{is_done, is_piece, is_readable, rest_parts};
 ghost use Rattle.pua_path.specs.declared.text.Ending.TheVariants as ending;
 
 impl<'a> Rest<'a> {
@@ -77,22 +76,23 @@ impl<'a> Rest<'a> {
         self.top.is_empty()
     }
 
-    /// Takes the first part off; None where no part is left.
-    pub(crate) fn next(&mut self) -> Option<Part>
-        ensures parts { MatchOption result ((self.old.parts ≡ []) × (self.new.parts ≡ [])) (λ part. self.old.parts ≡ part ∷ self.new.parts) }
+    /// Takes the first part off, and answers the piece that it is; None where no part is left.
+    pub(crate) fn next(&mut self) -> Option<&'a [u8]>
+        ensures parts { MatchOption result ((self.old.parts ≡ []) × (self.new.parts ≡ [])) (λ piece. self.old.parts ≡ part_of piece.now ∷ self.new.parts) }
+        ensures piece { IfSome result (λ piece. IsTrue (is_piece piece.now)) }
         ensures depth { self.new.depth ≤ self.old.depth }
     {
         if self.top.is_empty() {
             return None;
         }
-        let (part, rest) = next_part(self.top);
+        let (piece, rest) = next_piece(self.top);
         if rest.is_empty() && self.depth > 0 {
             self.depth -= 1;
             self.top = self.below[self.depth];
         } else {
             self.top = rest;
         }
-        Some(part)
+        Some(piece)
     }
 
     /// Puts the parts of a link's target in front of the others.

@@ -49,13 +49,13 @@ fn remove<T: FileTree>(tree: &mut T, found: &Found) -> Answer
     requires { IsRemovable (T.content tree.old) found.now }
     ensures { (h : History) → Edits (T.content tree.old) h (removed (T.content tree.old) h found.now) result (T.content tree.new) }
 {
-    match *found {
+    match found {
         Found::Whole { way, .. } => match way {
-            Way::Named { parent, name } => cut(tree, parent, &name),
+            Way::Named { parent, name } => cut(tree, *parent, name),
             Way::Dot | Way::DotDot | Way::Top => Answer::Okay,
         },
         Found::Slot { dir, name, node } => match node {
-            Some(_) => cut(tree, dir, &name),
+            Some(_) => cut(tree, *dir, name),
             None => Answer::Okay,
         },
     }

@@ -52,14 +52,13 @@ pub(crate) fn judge_call<T: FileTree>(
     promised_for(process, table, call)?;
     let mut probe = Counted::new(tree);
     let last = need(call).last;
-    let found = match named(&mut probe, process.dir(), path, ending(call), last) {
-        Ok(found) => found,
-        Err(errno) => return Err(Refusal::Failed(errno)),
-    };
     process.known();
-    match object_verdict(&mut probe, process, table, call, &found) {
-        Ok(()) => Ok(found),
-        Err(errno) => Err(Refusal::Failed(errno)),
+    match &named(&mut probe, process.dir(), path, ending(call), last) {
+        Ok(found) => match object_verdict(&mut probe, process, table, call, found) {
+            Ok(()) => Ok(*found),
+            Err(errno) => Err(Refusal::Failed(errno)),
+        },
+        Err(errno) => Err(Refusal::Failed(*errno)),
     }
 }
 
@@ -106,17 +105,17 @@ pub(crate) fn judge_unveil<T: FileTree>(
         return Err(Refusal::Failed(Errno::EINVAL));
     };
     let mut probe = Counted::new(tree);
-    match named(&mut probe, process.dir(), path, Ending::Dot, Last::Followed) {
+    match &named(&mut probe, process.dir(), path, Ending::Dot, Last::Followed) {
         Ok(found) => Ok((place_of(found), perms)),
-        Err(errno) => Err(Refusal::Failed(errno)),
+        Err(errno) => Err(Refusal::Failed(*errno)),
     }
 }
 
 /// The place of what was found.
-fn place_of(found: Found) -> Place
-    ensures { result ≡ place_of found }
+fn place_of(found: &Found) -> Place
+    ensures { result ≡ place_of found.now }
 {
-    match found {
+    match *found {
         Found::Whole { dir, .. } => Place::Dir(dir),
         Found::Slot { dir, name, .. } => Place::Slot(dir, name),
     }

@@ -32,9 +32,9 @@ pub(crate) fn link<T: FileTree>(
         result (T.content tree.new) process.new }
     ensures unchanged { OnErr result ((T.content tree.new ≡ T.content tree.old) × (process.new ≡ process.old)) }
 {
-    match judge_pair(tree, process, Ending::Dot, old, new) {
+    match &judge_pair(tree, process, Ending::Dot, old, new) {
         Ok(pair) => link_found(tree, &pair.from, &pair.to),
-        Err(refusal) => Ok(refuse(process, refusal)),
+        Err(refusal) => Ok(refuse(process, *refusal)),
     }
 }
 

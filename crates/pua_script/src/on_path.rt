@@ -29,9 +29,9 @@ pub(crate) fn on_path<T: FileTree>(
         result (T.content tree.new) process.new }
     ensures unchanged { OnErr result ((T.content tree.new ≡ T.content tree.old) × (process.new ≡ process.old)) }
 {
-    match judge_call(tree, table, process, call, path) {
-        Ok(found) => change(tree, process, call, &found),
-        Err(refusal) => Ok(refuse(process, refusal)),
+    match &judge_call(tree, table, process, call, path) {
+        Ok(found) => change(tree, process, call, found),
+        Err(refusal) => Ok(refuse(process, *refusal)),
     }
 }
 
@@ -49,9 +49,9 @@ pub(crate) fn symlink<T: FileTree>(
         result (T.content tree.new) process.new }
     ensures unchanged { OnErr result ((T.content tree.new ≡ T.content tree.old) × (process.new ≡ process.old)) }
 {
-    match judge_symlink(tree, table, process, target, path) {
-        Ok(found) => add(tree, &found, Kind::Link, Some(target)),
-        Err(refusal) => Ok(refuse(process, refusal)),
+    match &judge_symlink(tree, table, process, target, path) {
+        Ok(found) => add(tree, found, Kind::Link, Some(target)),
+        Err(refusal) => Ok(refuse(process, *refusal)),
     }
 }
 

@@ -34,9 +34,9 @@ pub(crate) fn rename<T: FileTree>(
         result (T.content tree.new) process.new }
     ensures unchanged { OnErr result ((T.content tree.new ≡ T.content tree.old) × (process.new ≡ process.old)) }
 {
-    match judge_pair(tree, process, Ending::Dropped, old, new) {
+    match &judge_pair(tree, process, Ending::Dropped, old, new) {
         Ok(pair) => rename_found(tree, &pair.from, &pair.to),
-        Err(refusal) => Ok(refuse(process, refusal)),
+        Err(refusal) => Ok(refuse(process, *refusal)),
     }
 }
 

@@ -33,6 +33,13 @@ unspelled_plain b more h =
     ap (λ t. with_front (cond t (escaped_byte more) (cond (is_plain b) (Some b) None)) (unspelled_from (cond t 3 0) more)) (no_backslash b h)
     ∙ ap (λ t. with_front (cond t (Some b) None) (unspelled_from 0 more)) h
 
+-- a text of plain bytes spells itself
+pub unspelled_as_it_stands : (text : List ℕ) → IsTrue (list_all is_plain text) → unspelled text ≡ Some text
+unspelled_as_it_stands [] h = refl
+unspelled_as_it_stands (b ∷ more) h =
+    let parts = and_parts (is_plain b) (list_all is_plain more) h in
+    unspelled_plain b more parts.0 ∙ ap (with_front (Some b)) (unspelled_as_it_stands more parts.1)
+
 unspelled_escaped : (b : ℕ) (more : List ℕ) → b < 256 → is_plain b ≡ false → unspelled ((92 ∷ (48 + b / 64) ∷ (48 + b / 8 % 8) ∷ (48 + b % 8) ∷ []) ++ more) ≡ with_front (Some b) (unspelled more)
 unspelled_escaped b more h p = ap (λ o. with_front o (unspelled more)) (go _ value)
   where

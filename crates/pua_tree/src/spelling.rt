@@ -23,7 +23,8 @@ impl Model for SpelledByte {
     ghost invariant = { λ a. a.len ≤ 4 };
 }
 
-ghost use Rattle.std.specs.Prelude.{◌≡◌, ◌<◌, ◌≤◌, ◌&&◌, nat_le, ℕ, List, Some, None, length, option_map, IfSome, OnSome, IfOk, MatchOption};
+ghost use Rattle.std.specs.Prelude.{◌≡◌, ◌<◌, ◌≤◌, ◌&&◌, nat_le, ℕ, List, Some, None, length, option_map, IfSome, OnSome, IfOk, IsTrue, MatchOption};
+ghost use Rattle.std.specs.List.{list_all};
 ghost use Rattle.pua_tree.specs.Spelling.{byte_spelling, escaped_byte, is_octal, is_plain, unspelled, with_front};
 ghost use Rattle.pua_tree.specs.Writes.{overwritten};
 
@@ -59,6 +60,9 @@ pub fn byte_spelling(byte: u8) -> SpelledByte
 pub fn unspelled(alloc: Global, text: &[u8]) -> Result<Option<Vec<u8>>, OutOfMemory>
     ensures { IfOk result (λ o. option_map (λ v. v.items) o ≡ unspelled text.now) }
 {
+    if are_plain(text) {
+        return as_it_stands(alloc, text);
+    }
     let Some(len) = unspell_into(text, &mut []) else {
         return Ok(None);
     };
@@ -66,6 +70,21 @@ pub fn unspelled(alloc: Global, text: &[u8]) -> Result<Option<Vec<u8>>, OutOfMem
         return Err(OutOfMemory);
     };
     unspell_into(text, bytes.as_mut_slice());
+    Ok(Some(bytes))
+}
+
+/// The bytes that a text of plain bytes spells, which are its own.
+#[tactic(auto, using(crate::proofs::Spellings::unspelled_as_it_stands))]
+fn as_it_stands(alloc: Global, text: &[u8]) -> Result<Option<Vec<u8>>, OutOfMemory>
+    requires { IsTrue (list_all is_plain text.now) }
+    ensures { IfOk result (λ o. option_map (λ v. v.items) o ≡ unspelled text.now) }
+{
+    let Ok(mut bytes) = Vec::with_capacity(alloc, text.len()) else {
+        return Err(OutOfMemory);
+    };
+    if bytes.extend_from_slice(text).is_err() {
+        return Err(OutOfMemory);
+    }
     Ok(Some(bytes))
 }
 
@@ -139,6 +158,13 @@ fn is_plain(byte: u8) -> bool
     ensures { result ≡ is_plain byte }
 {
     is_visible(byte) && byte != b'\\'
+}
+
+/// Whether each byte stands for itself.
+fn are_plain(bytes: &[u8]) -> bool
+    ensures { result ≡ list_all is_plain bytes.now }
+{
+    bytes.iter().all(|byte| is_plain(*byte))
 }
 
 /// Whether a byte is a visible character of ASCII, as each byte of a field is.

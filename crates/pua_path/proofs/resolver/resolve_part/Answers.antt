@@ -24,13 +24,13 @@ returns-in-Some-clause-named g c =
 pub returns-in-None-clause-fits : goal.returns-in-None-clause-fits
 returns-in-None-clause-fits g c =
     let t = g.P.Probe.tree c.args.probe.now in
-    let e : resolve_parts c.args.left t c.args.mode c.args.dir Top (c.args.part.now ∷ []) ≡ c.finish.result =
-    (rw (c.new-walk.ensures, c.none.ensures.parts, c.in-None.is) at c.in_ok-found.ensures.exact) ∙ sym (rw c.enter.ensures.tree at c.finish.ensures.exact) in
-    parts_fit t c.args.left c.args.mode c.finish.result (subst (Lands t c.args.mode c.args.left) e ((resolutions_fit t c.known.ensures).parts c.args.left c.args.dir c.args.mode (c.args.part.now ∷ []) c.requires.dir))
+    let e : resolve_parts c.args.left t c.args.mode c.args.dir Top (c.args.part.now ∷ []) ≡ c.finish_counted.result =
+    (rw (c.new-walk.ensures, c.none.ensures.parts, c.in-None.is) at c.in_ok-found.ensures.exact) ∙ sym (rw c.enter.ensures.tree at c.finish_counted.ensures.exact) in
+    parts_fit t c.args.left c.args.mode c.finish_counted.result (subst (Lands t c.args.mode c.args.left) e ((resolutions_fit t c.known.ensures).parts c.args.left c.args.dir c.args.mode (c.args.part.now ∷ []) c.requires.dir))
 
 pub returns-in-None-clause-named : goal.returns-in-None-clause-named
 returns-in-None-clause-named g c =
     let t = g.P.Probe.tree c.args.probe.now in
-    let e : resolve_parts c.args.left t c.args.mode c.args.dir Top (c.args.part.now ∷ []) ≡ c.finish.result =
-    (rw (c.new-walk.ensures, c.none.ensures.parts, c.in-None.is) at c.in_ok-found.ensures.exact) ∙ sym (rw c.enter.ensures.tree at c.finish.ensures.exact) in
-    parts_named t c.args.left c.args.mode c.finish.result (subst (Lands t c.args.mode c.args.left) e ((resolutions_fit t c.known.ensures).parts c.args.left c.args.dir c.args.mode (c.args.part.now ∷ []) c.requires.dir))
+    let e : resolve_parts c.args.left t c.args.mode c.args.dir Top (c.args.part.now ∷ []) ≡ c.finish_counted.result =
+    (rw (c.new-walk.ensures, c.none.ensures.parts, c.in-None.is) at c.in_ok-found.ensures.exact) ∙ sym (rw c.enter.ensures.tree at c.finish_counted.ensures.exact) in
+    parts_named t c.args.left c.args.mode c.finish_counted.result (subst (Lands t c.args.mode c.args.left) e ((resolutions_fit t c.known.ensures).parts c.args.left c.args.dir c.args.mode (c.args.part.now ∷ []) c.requires.dir))

@@ -5,10 +5,10 @@ use Rattle.pua_script.proofs.on_path.symlink.Goals as goal
 pub returns-in-Ok-clause-exact : goal.returns-in-Ok-clause-exact
 returns-in-Ok-clause-exact g c = λ h s.
     let t = g.T.FileTree.content c.args.tree.now in
-    attempts_same t _ h c.add.result _ _ _ (c.in-Ok.ensures.exact h s (added t h (link_node c.args.target.now)))
+    attempts_same t _ h c.add.result _ _ _ (rw c.in-Ok.is at (c.judge_symlink.ensures.exact h s (added t h (link_node c.args.target.now))))
     (attempts_edit t _ h c.add.result _ _ (c.add.ensures.exact h) s)
 
 pub returns-in-Err-clause-exact : goal.returns-in-Err-clause-exact
 returns-in-Err-clause-exact g c = λ h s.
     let t = g.T.FileTree.content c.args.tree.now in
-    as_same t t h _ _ _ _ (c.in-Err.ensures.exact h s (added t h (link_node c.args.target.now))) (c.refuse.ensures h t s)
+    as_same t t h _ _ _ _ (rw c.in-Err.is at (c.judge_symlink.ensures.exact h s (added t h (link_node c.args.target.now)))) (c.refuse.ensures h t s)

@@ -3,8 +3,8 @@ use Rattle.pua_path.specs.Resolution.{resolve_parts}
 use Rattle.pua_path.specs.Walks.{CanGoOn, potential}
 use Rattle.pua_path.proofs.resolver.Walk.finish.Given as goal
 
-abbrev pub invariant-loop-part : goal.invariant-loop-part
-invariant-loop-part g l =
+abbrev pub invariant-loop-piece : goal.invariant-loop-piece
+invariant-loop-piece g l =
     let t = g.P.Probe.tree l.fn.probe in
     record {
       tree : g.P.Probe.tree l.probe ≡ t;
@@ -14,5 +14,5 @@ invariant-loop-part g l =
       count : g.P.Probe.count l.probe + 3 * potential t l.self.left l.self.rest ≤ g.P.Probe.count l.fn.probe + 3 * potential t l.fn.self.left l.fn.self.rest;
     }
 
-abbrev pub decreases-loop-part : goal.decreases-loop-part
-decreases-loop-part g l = potential (g.P.Probe.tree l.fn.probe) l.self.left l.self.rest
+abbrev pub decreases-loop-piece : goal.decreases-loop-piece
+decreases-loop-piece g l = potential (g.P.Probe.tree l.fn.probe) l.self.left l.self.rest

@@ -1,5 +1,6 @@
 use Rattle.std.proofs.Common.{ℕ, List, ◌∷◌, [], sym, ap, ◌∙◌, take, arith}
 use Rattle.std.specs.Borrow.{Bor}
+use Rattle.pua_path.specs.Paths.{part_of}
 use Rattle.pua_path.specs.Remaining.{Remaining}
 use Rattle.pua_path.proofs.Stack.{taken_off, taken_off_last}
 use Rattle.pua_path.proofs.rest.Rest.next.Goals.{then-is_empty-2+then-self-gt0, else-is_empty-2}
@@ -11,11 +12,11 @@ returns-clause-parts c =
       | then-is_empty-2+then-self-gt0 w ↦
           let nothing : Bor (List ℕ) = record { ref_ptr = (0, 0); now = [] } in
           sym (ap (λ (rest : Remaining). rest.parts) c.self.view_is)
-          ∙ taken_off_last c.self.inside.top.now c.next_part-part.result.1.now c.next_part-part.result.0 c.self.inside.depth c.self.inside.below nothing
-          c.next_part-part.ensures.parts (sym c.is_empty-2.ensures ∙ w.if-is_empty-2.true) w.if-self-gt0.true (omega arith)
-          ∙ sym (ap (λ (rest : Remaining). c.next_part-part.result.0 ∷ rest.parts) w.self-is)
+          ∙ taken_off_last c.self.inside.top.now c.next_piece.result.1.now (part_of c.next_piece.result.0.now) c.self.inside.depth c.self.inside.below nothing
+          c.next_piece.ensures.parts (sym c.is_empty-2.ensures ∙ w.if-is_empty-2.true) w.if-self-gt0.true (omega arith)
+          ∙ sym (ap (λ (rest : Remaining). part_of c.next_piece.result.0.now ∷ rest.parts) w.self-is)
       | else-is_empty-2 w ↦
           sym (ap (λ (rest : Remaining). rest.parts) c.self.view_is)
-          ∙ taken_off c.self.inside.top.now c.next_part-part.result.1.now c.next_part-part.result.0 (take c.self.inside.depth c.self.inside.below) c.next_part-part.ensures.parts
-          ∙ sym (ap (λ (rest : Remaining). c.next_part-part.result.0 ∷ rest.parts) w.self-is)
+          ∙ taken_off c.self.inside.top.now c.next_piece.result.1.now (part_of c.next_piece.result.0.now) (take c.self.inside.depth c.self.inside.below) c.next_piece.ensures.parts
+          ∙ sym (ap (λ (rest : Remaining). part_of c.next_piece.result.0.now ∷ rest.parts) w.self-is)
     ]
