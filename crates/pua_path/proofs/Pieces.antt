@@ -1,5 +1,5 @@
 -- Pieces of texts: components, a slash at the end, and whether a text can be read, along a cut.
-use Rattle.std.proofs.Common.{◌≡◌, ℕ, zero, suc, Bool, true, false, not, ◌&&◌, ◌||◌, cond, List, [], ◌∷◌, ◌++◌, length, map, refl, sym, ap, ◌∙◌, append-nil, arith, lt-ltb, get_or, take, drop, ◌<◌, ◌≤◌, Some, None, position, drop-cons, ltb-false, take_all, ne_eqb, eqb-true, Fits, w8, IsSome, Option, true≢false}
+use Rattle.std.proofs.Common.{IsTrue, ◌≡◌, ℕ, zero, suc, Bool, true, false, not, ◌&&◌, ◌||◌, cond, List, [], ◌∷◌, ◌++◌, length, map, refl, sym, ap, ◌∙◌, append-nil, arith, lt-ltb, get_or, take, drop, ◌<◌, ◌≤◌, Some, None, position, drop-cons, ltb-false, take_all, ne_eqb, eqb-true, Fits, w8}
 use Rattle.std.specs.Prelude.{◌==◌, if◌then◌else◌, nat_lt, nat_le}
 use Rattle.std.specs.List.{All, filter, slice_split, onto_first, list_any, list_all}
 use Rattle.std.proofs.lemmas.List.Splits.{slice_split_none, slice_split_at}
@@ -9,7 +9,7 @@ use Rattle.std.proofs.lemmas.List.{take-append-drop}
 use Rattle.std.specs.List.{position_or_len}
 use Rattle.std.proofs.lemmas.List.Sums.{fails_before_first}
 use Rattle.std.proofs.lemmas.List.Quantifiers.{position-Some}
-use Rattle.std.proofs.lemmas.Bool.{and_parts, or_parts, not-true}
+use Rattle.std.proofs.lemmas.Bool.{and_parts, or_parts}
 use Rattle.std.proofs.lemmas.Bool.Decides.{nat_tests}
 use Rattle.std.proofs.Math.Bool.{or-false}
 use Rattle.pua_tree.specs.Names.{is_name, is_name_byte, same_bytes, has_byte, components, has_short_components}
@@ -349,52 +349,22 @@ trimmed_readable path trimmed text h same nul e =
     ∙ ap (λ pieces. not (has_byte 0 path) && list_all (λ piece. nat_le (length piece) 255) pieces) same
     ∙ path_readable path h
 
--- a piece that is neither one dot nor two is a name
-pub piece_is_name : (piece : List ℕ) (name : Option (List ℕ)) → name ≡ (if is_name piece then Some piece else None) → is_piece piece ≡ true → same_bytes piece (46 ∷ []) ≡ false → same_bytes piece (46 ∷ 46 ∷ []) ≡ false → IsSome name
-piece_is_name piece name e h one two =
-    let a = and_parts (nat_lt 0 (length piece)) (nat_le (length piece) 255 && list_all is_name_byte piece) h in
-    let b = and_parts (nat_le (length piece) 255) (list_all is_name_byte piece) a.1 in
-    let named : is_name piece ≡ true = rw (a.0, b.0, b.1, one, two) refl in
-    let is : name ≡ Some piece = e ∙ ap (λ v. if v then Some piece else None) named in
-    rw is refl
-
--- the part that a piece is, by the name that was made of it
-pub piece_named : (piece name : List ℕ) → Some name ≡ (if is_name piece then Some piece else None) → part_of piece ≡ Name name
-piece_named piece name h = by (is_name piece) refl h
-  where
-    by : (v : Bool) → is_name piece ≡ v → Some name ≡ (if v then Some piece else None) → part_of piece ≡ Name name
-    by true is e =
-        let a = and_parts (nat_lt 0 (length piece)) _ is in
-        let b = and_parts (nat_le (length piece) 255) _ a.1 in
-        let c = and_parts (list_all is_name_byte piece) _ b.1 in
-        let d = and_parts (not (same_bytes piece (46 ∷ []))) _ c.1 in
-        let one : same_bytes piece (46 ∷ []) ≡ false = not-true _ d.0 in
-        let two : same_bytes piece (46 ∷ 46 ∷ []) ≡ false = not-true _ d.1 in
-        let same : name ≡ piece = cc in
-        rw (one, two, same) refl
-    by false is e = cc
-
--- and where none was made
-pub no_name : (piece : List ℕ) → None ≡ (if is_name piece then Some piece else None) → is_name piece ≡ false
-no_name piece h = by (is_name piece) refl h
-  where
-    by : (v : Bool) → is_name piece ≡ v → None ≡ (if v then Some piece else None) → is_name piece ≡ false
-    by true is e = cc
-    by false is e = is
-
+-- the part that a piece is
 pub piece_dot : (piece : List ℕ) → same_bytes piece (46 ∷ []) ≡ true → part_of piece ≡ Dot
 piece_dot piece one = rw one refl
 
-pub piece_dots : (piece : List ℕ) → is_piece piece ≡ true → is_name piece ≡ false → same_bytes piece (46 ∷ []) ≡ false → part_of piece ≡ DotDot
-piece_dots piece h n one = by (same_bytes piece (46 ∷ 46 ∷ [])) refl
-  where
-    by : (v : Bool) → same_bytes piece (46 ∷ 46 ∷ []) ≡ v → part_of piece ≡ DotDot
-    by true two = rw (one, two) refl
-    by false two =
-        let a = and_parts (nat_lt 0 (length piece)) (nat_le (length piece) 255 && list_all is_name_byte piece) h in
-        let b = and_parts (nat_le (length piece) 255) (list_all is_name_byte piece) a.1 in
-        let named : is_name piece ≡ true = rw (a.0, b.0, b.1, one, two) refl in
-        absurd (true≢false (sym named ∙ n))
+pub piece_dots : (piece : List ℕ) → same_bytes piece (46 ∷ []) ≡ false → same_bytes piece (46 ∷ 46 ∷ []) ≡ true → part_of piece ≡ DotDot
+piece_dots piece one two = rw (one, two) refl
+
+pub piece_named : (piece : List ℕ) → same_bytes piece (46 ∷ []) ≡ false → same_bytes piece (46 ∷ 46 ∷ []) ≡ false → part_of piece ≡ Name piece
+piece_named piece one two = rw (one, two) refl
+
+-- one that is neither one dot nor two is a name
+pub piece_is_name : (piece : List ℕ) → is_piece piece ≡ true → same_bytes piece (46 ∷ []) ≡ false → same_bytes piece (46 ∷ 46 ∷ []) ≡ false → IsTrue (is_name piece)
+piece_is_name piece h one two =
+    let a = and_parts (nat_lt 0 (length piece)) (nat_le (length piece) 255 && list_all is_name_byte piece) h in
+    let b = and_parts (nat_le (length piece) 255) (list_all is_name_byte piece) a.1 in
+    rw (a.0, b.0, b.1, one, two) refl
 
 pub text_readable : (target text : List ℕ) → is_readable target ≡ true → text ≡ after_slashes target → is_readable text ≡ true
 text_readable target text r e = ap is_readable e ∙ is_readable-after_slashes target ∙ r

@@ -1,5 +1,6 @@
 -- A resolution on its way: what stands at a name, and how one part leads on to the next.
 use Rattle.std.specs.Prelude.{ℕ, ◌+◌, ◌*◌, ◌≤◌, length, Option, Some, None, Result, Ok, Err, IsTrue}
+use Rattle.pua_tree.specs.Names.{is_name}
 use Rattle.pua_tree.specs.Tree.{Tree, WellFormed, is_dir}
 use Rattle.pua_path.specs.Limits.{link_limit}
 use Rattle.pua_path.specs.Paths.{parts_of}
@@ -9,6 +10,8 @@ use Rattle.pua_path.specs.Bounds.{most_parts}
 use Rattle.pua_path.specs.declared.errno.Errno.{Errno}
 use Rattle.pua_path.specs.declared.text.Ending.TheVariants.{Dot}
 use Rattle.pua_path.specs.declared.found.Found.{Found}
+use Rattle.pua_path.specs.declared.found.Found.TheVariants.{Slot}
+use Rattle.pua_path.specs.declared.resolver.LentSlot.{LentSlot}
 use Rattle.pua_path.specs.declared.resolver.Standing as seen
 use Rattle.pua_path.specs.declared.resolver.Standing.TheVariants as see
 
@@ -25,6 +28,20 @@ StandsIn t (see.Directory x) = IsTrue (is_dir t x)
 StandsIn t (see.Linked x target) = IsTrue (is_readable target.now) × (length (parts_of Dot target.now) ≤ most_parts t)
 StandsIn t (see.Plain x) = Unit {0}
 StandsIn t see.Nothing = Unit {0}
+
+-- what a part that is no directory names, its name being lent
+abbrev pub slot_found : LentSlot → Found
+slot_found slot = Slot slot.dir slot.name.now slot.node
+
+abbrev pub slots_found : Result (Option LentSlot) Errno → Result (Option Found) Errno
+slots_found (Ok None) = Ok None
+slots_found (Ok (Some slot)) = Ok (Some (slot_found slot))
+slots_found (Err errno) = Err errno
+
+-- the bytes that are lent as a name are one
+abbrev pub AreNamed : Option LentSlot → Type 0
+AreNamed None = Unit {0}
+AreNamed (Some slot) = IsTrue (is_name slot.name.now)
 
 -- a part ends the resolution, or leaves it to the further parts
 abbrev pub goes_on : Result (Option Found) Errno → ℕ → Resolved → Resolved

@@ -9,7 +9,7 @@ use std::marker::Model;
 pub trait Probe<'t> {
     ghost use Rattle.std.specs.Prelude.{◌≡◌, ℕ, IfOk, IfErr, map, option_copied};
     ghost use Rattle.pua_tree.specs.LentRows.{lent_entry};
-    ghost use Rattle.pua_tree.specs.Tree.{Tree, WellFormed, kind_at, look, parent, target_at, is_empty, names};
+    ghost use Rattle.pua_tree.specs.Tree.{Tree, WellFormed, kind_at, look, found_at, parent, target_at, is_empty, names};
     ghost use Rattle.pua_path.specs.Counts.{one_more};
 
     /// The tree that answers.
@@ -37,6 +37,14 @@ pub trait Probe<'t> {
         ensures node { result ≡ look (tree self.old) dir name.now }
         ensures tree { tree self.new ≡ tree self.old }
         ensures count { count self.new ≡ one_more (count self.old) };
+
+    /// The node whose name in this directory has these bytes, if there is one, and its kind: what
+    /// `look` and `kind` answer for the name. It counts as these two. Bytes that are no name's are
+    /// found nowhere.
+    fn find(&mut self, dir: NodeId, bytes: &[u8]) -> Option<(NodeId, Kind)>
+        ensures found { result ≡ found_at (tree self.old) dir bytes.now }
+        ensures tree { tree self.new ≡ tree self.old }
+        ensures count { count self.new ≡ one_more (one_more (count self.old)) };
 
     /// The directory above a directory; None for what is no living directory.
     fn parent(&mut self, dir: NodeId) -> Option<NodeId>
@@ -128,6 +136,12 @@ impl<'t, T: FileTree> Probe<'t> for Counted<'t, T> {
     fn look(&mut self, dir: NodeId, name: &Name) -> Option<NodeId> {
         self.ask();
         self.tree.look(dir, name)
+    }
+
+    fn find(&mut self, dir: NodeId, bytes: &[u8]) -> Option<(NodeId, Kind)> {
+        self.ask();
+        self.ask();
+        self.tree.find(dir, bytes)
     }
 
     fn parent(&mut self, dir: NodeId) -> Option<NodeId> {

@@ -2,11 +2,11 @@
 
 ghost use Rattle.std.specs.Prelude.{◌≡◌, ◌≤◌, ◌<◌, ◌+◌, ◌-◌, ◌*◌, ◌∷◌, ◌++◌, IsTrue, IfOk, IfErr, IfSome, OnOk, is_some, not, false, ◌&&◌, ◌==◌, Ok, Err, Some, None, [], if◌then◌else◌};
 ghost use Rattle.pua_tree.specs.Names.{is_name};
-ghost use Rattle.pua_tree.specs.Tree.{is_dir};
+ghost use Rattle.pua_tree.specs.Tree.{above, is_dir};
 ghost use Rattle.pua_path.specs.Resolution.{resolution, resolve_parts, standing_at, is_followed, start_of, step, last, follow};
 ghost use Rattle.pua_path.specs.Limits.{link_limit};
 ghost use Rattle.pua_path.specs.Paths.{is_absolute, part_of, parts_of};
-ghost use Rattle.pua_path.specs.Walks.{standing_seen, StandsIn, CanGoOn, goes_on, ended, potential};
+ghost use Rattle.pua_path.specs.Walks.{slot_found, slots_found, AreNamed, standing_seen, StandsIn, CanGoOn, goes_on, ended, potential};
 ghost use Rattle.pua_path.specs.Bounds.{part_cost};
 ghost use Rattle.pua_path.specs.Fits.{FoundFits, FoundsFit, StandsAsNamed};
 ghost use Rattle.pua_path.specs.Remaining.{Remaining, is_done, is_piece, is_readable};
@@ -29,6 +29,7 @@ use pua_tree::{Kind, Name, NodeId};
 /// none, or a part before the last one is missing; `ENOTDIR` where such a part is no directory;
 /// `ELOOP` where a 33rd link would be followed. What is found is of the tree as it stands: its
 /// directory lives, and what was found by a name stands at that name. Takes no memory.
+#[inline(always)]
 pub fn resolve<'t, P: Probe<'t>>(
     probe: &mut P,
     from: NodeId,
@@ -149,9 +150,10 @@ fn resolve_part<'t, P: Probe<'t>>(
 {
     probe.known();
     let mut walk = Walk::new(dir, left, Rest::none());
-    match walk.enter(probe, part, mode)? {
-        Some(found) => Ok((found, walk.left)),
-        None => walk.finish_counted(probe, mode),
+    match walk.enter(probe, part, mode) {
+        Ok(Some(slot)) => Ok((slot.found(), walk.left)),
+        Ok(None) => walk.finish_counted(probe, mode),
+        Err(errno) => Err(errno),
     }
 }
 
@@ -177,6 +179,15 @@ fn is_absolute(text: &[u8]) -> bool
     text.first() == Some(&b'/')
 }
 
+/// The name that some bytes are.
+#[inline(always)]
+fn name_of(bytes: &[u8]) -> Name
+    requires { IsTrue (is_name bytes.now) }
+    ensures { result ≡ bytes.now }
+{
+    Name::from_bytes(bytes).unwrap()
+}
+
 /// What stands at a name in a directory.
 enum Standing<'t> {
     Directory(NodeId),
@@ -185,21 +196,43 @@ enum Standing<'t> {
     Nothing,
 }
 
-fn standing_at<'t, P: Probe<'t>>(probe: &mut P, dir: NodeId, name: &Name) -> Standing<'t>
+fn standing_at<'t, P: Probe<'t>>(probe: &mut P, dir: NodeId, name: &[u8]) -> Standing<'t>
     ensures standing { standing_seen result ≡ standing_at (P.tree probe.old) dir name.now }
     ensures stands { StandsIn (P.tree probe.old) result }
     ensures tree { P.tree probe.new ≡ P.tree probe.old }
     ensures count { P.count probe.new ≤ P.count probe.old + 3 }
 {
     probe.known();
-    let Some(node) = probe.look(dir, name) else {
+    let Some((node, kind)) = probe.find(dir, name) else {
         return Standing::Nothing;
     };
-    match probe.kind(node) {
-        Some(Kind::Dir) => Standing::Directory(node),
-        Some(Kind::Link) => Standing::Linked(node, probe.target(node).unwrap_or(&[])),
-        Some(Kind::File | Kind::Prog) => Standing::Plain(node),
-        None => Standing::Nothing,
+    match kind {
+        Kind::Dir => Standing::Directory(node),
+        Kind::Link => Standing::Linked(node, probe.target(node).unwrap_or(&[])),
+        Kind::File | Kind::Prog => Standing::Plain(node),
+    }
+}
+
+/// What a path names that is no directory: a name in a directory, and the node there; or nothing. The
+/// name is lent, and copied once.
+#[derive(Clone, Copy)]
+struct LentSlot<'a> {
+    dir: NodeId,
+    name: &'a [u8],
+    node: Option<NodeId>,
+}
+
+impl LentSlot<'_> {
+    #[inline(always)]
+    fn found(&self) -> Found
+        requires { IsTrue (is_name self.now.name.now) }
+        ensures { result ≡ slot_found self.now }
+    {
+        Found::Slot {
+            dir: self.dir,
+            name: name_of(self.name),
+            node: self.node,
+        }
     }
 }
 
@@ -214,6 +247,7 @@ struct Walk<'a> {
 }
 
 impl<'a> Walk<'a> {
+    #[inline(always)]
     fn new(dir: NodeId, left: u8, rest: Rest<'a>) -> Walk<'a>
         ensures { result ≡ record { here = dir; way = ways.Top; left = left; rest = rest.entry } }
     {
@@ -236,7 +270,7 @@ impl<'a> Walk<'a> {
         while let Some(piece) = self.rest.next() {
             match self.enter_piece(probe, piece, mode) {
                 Ok(None) => {}
-                Ok(Some(found)) => return Ok(found),
+                Ok(Some(slot)) => return Ok(slot.found()),
                 Err(errno) => return Err(errno),
             }
         }
@@ -264,75 +298,54 @@ impl<'a> Walk<'a> {
         }
     }
 
-    /// Resolves the part that a piece is, as `enter` does. Its name is lent from here on.
-    #[tactic(auto, using(crate::proofs::Pieces::piece_named, crate::proofs::Pieces::no_name))]
-    fn enter_piece<'t: 'a, P: Probe<'t>>(
+    /// Resolves the part that a piece is, as `enter` does.
+    #[tactic(auto, using(crate::proofs::Pieces::piece_dot, crate::proofs::Pieces::piece_dots, crate::proofs::Pieces::piece_named, crate::proofs::Pieces::piece_is_name))]
+    fn enter_piece<'n, 't: 'a, P: Probe<'t>>(
         &mut self,
         probe: &mut P,
-        piece: &[u8],
+        piece: &'n [u8],
         mode: Last,
-    ) -> Result<Option<Found>, Errno>
+    ) -> Result<Option<LentSlot<'n>>, Errno>
         requires piece { IsTrue (is_piece piece.now) }
         requires ready { CanGoOn (P.tree probe.old) self.old.here self.old.left self.old.rest }
         ensures exact { let t = P.tree probe.old in
             resolve_parts self.old.left t mode self.old.here self.old.way (part_of piece.now ∷ self.old.rest.parts)
-            ≡ goes_on result self.new.left (resolve_parts self.new.left t mode self.new.here self.new.way self.new.rest.parts) }
+            ≡ goes_on (slots_found result) self.new.left (resolve_parts self.new.left t mode self.new.here self.new.way self.new.rest.parts) }
         ensures ready { CanGoOn (P.tree probe.old) self.new.here self.new.left self.new.rest }
         ensures left { self.new.left ≤ self.old.left }
         ensures potential { potential (P.tree probe.old) self.new.left self.new.rest ≤ potential (P.tree probe.old) self.old.left self.old.rest }
         ensures tree { P.tree probe.new ≡ P.tree probe.old }
         ensures count { P.count probe.new ≤ P.count probe.old + 3 }
-    {
-        match &Name::from_bytes(piece) {
-            Some(name) => self.enter_name(probe, name, mode),
-            None => self.enter_dots(probe, piece, mode),
-        }
-    }
-
-    /// Resolves the part that a piece of one dot or two is, as `enter` does.
-    #[inline(never)]
-    #[tactic(auto, using(crate::proofs::Pieces::piece_dot, crate::proofs::Pieces::piece_dots))]
-    fn enter_dots<'t: 'a, P: Probe<'t>>(
-        &mut self,
-        probe: &mut P,
-        piece: &[u8],
-        mode: Last,
-    ) -> Result<Option<Found>, Errno>
-        requires piece { IsTrue (is_piece piece.now) }
-        requires dots { is_name piece.now ≡ false }
-        requires ready { CanGoOn (P.tree probe.old) self.old.here self.old.left self.old.rest }
-        ensures exact { let t = P.tree probe.old in
-            resolve_parts self.old.left t mode self.old.here self.old.way (part_of piece.now ∷ self.old.rest.parts)
-            ≡ goes_on result self.new.left (resolve_parts self.new.left t mode self.new.here self.new.way self.new.rest.parts) }
-        ensures ready { CanGoOn (P.tree probe.old) self.new.here self.new.left self.new.rest }
-        ensures left { self.new.left ≤ self.old.left }
-        ensures potential { potential (P.tree probe.old) self.new.left self.new.rest ≤ potential (P.tree probe.old) self.old.left self.old.rest }
-        ensures tree { P.tree probe.new ≡ P.tree probe.old }
-        ensures count { P.count probe.new ≤ P.count probe.old + 3 }
+        ensures named { IfOk result AreNamed }
     {
         if piece == b".".as_slice() {
-            self.enter(probe, &Part::Dot, mode)
+            self.way = Way::Dot;
+            Ok(None)
+        } else if piece == b"..".as_slice() {
+            self.climb(probe);
+            Ok(None)
         } else {
-            self.enter(probe, &Part::DotDot, mode)
+            self.enter_name(probe, piece, mode)
         }
     }
 
     /// Resolves one part; the answer is what was found, where it ends the resolution.
-    fn enter<'t: 'a, P: Probe<'t>>(
+    fn enter<'n, 't: 'a, P: Probe<'t>>(
         &mut self,
         probe: &mut P,
-        part: &Part,
+        part: &'n Part,
         mode: Last,
-    ) -> Result<Option<Found>, Errno>
+    ) -> Result<Option<LentSlot<'n>>, Errno>
         requires ready { CanGoOn (P.tree probe.old) self.old.here self.old.left self.old.rest }
         ensures exact { let t = P.tree probe.old in
             resolve_parts self.old.left t mode self.old.here self.old.way (part.now ∷ self.old.rest.parts)
-            ≡ goes_on result self.new.left (resolve_parts self.new.left t mode self.new.here self.new.way self.new.rest.parts) }
+            ≡ goes_on (slots_found result) self.new.left (resolve_parts self.new.left t mode self.new.here self.new.way self.new.rest.parts) }
         ensures ready { CanGoOn (P.tree probe.old) self.new.here self.new.left self.new.rest }
         ensures left { self.new.left ≤ self.old.left }
         ensures potential { potential (P.tree probe.old) self.new.left self.new.rest ≤ potential (P.tree probe.old) self.old.left self.old.rest }
         ensures tree { P.tree probe.new ≡ P.tree probe.old }
         ensures count { P.count probe.new ≤ P.count probe.old + 3 }
+        ensures named { IfOk result AreNamed }
     {
         match part {
             Part::Dot => {
@@ -340,29 +353,46 @@ impl<'a> Walk<'a> {
                 Ok(None)
             }
             Part::DotDot => {
-                self.here = probe.parent(self.here).unwrap_or(NodeId::ROOT);
-                self.way = Way::DotDot;
+                self.climb(probe);
                 Ok(None)
             }
-            Part::Name(name) => self.enter_name(probe, name, mode),
+            Part::Name(name) => self.enter_name(probe, name.bytes(), mode),
         }
     }
 
-    fn enter_name<'t: 'a, P: Probe<'t>>(
+    /// Goes to the directory above.
+    fn climb<'t, P: Probe<'t>>(&mut self, probe: &mut P)
+        requires ready { CanGoOn (P.tree probe.old) self.old.here self.old.left self.old.rest }
+        ensures above { self.new.here ≡ above (P.tree probe.old) self.old.here }
+        ensures way { self.new.way ≡ ways.DotDot }
+        ensures left { self.new.left ≡ self.old.left }
+        ensures rest { self.new.rest ≡ self.old.rest }
+        ensures ready { CanGoOn (P.tree probe.old) self.new.here self.new.left self.new.rest }
+        ensures tree { P.tree probe.new ≡ P.tree probe.old }
+        ensures count { P.count probe.new ≤ P.count probe.old + 1 }
+    {
+        self.here = probe.parent(self.here).unwrap_or(NodeId::ROOT);
+        self.way = Way::DotDot;
+    }
+
+    /// Resolves a name, as `enter` does.
+    fn enter_name<'n, 't: 'a, P: Probe<'t>>(
         &mut self,
         probe: &mut P,
-        name: &Name,
+        name: &'n [u8],
         mode: Last,
-    ) -> Result<Option<Found>, Errno>
+    ) -> Result<Option<LentSlot<'n>>, Errno>
+        requires name { IsTrue (is_name name.now) }
         requires ready { CanGoOn (P.tree probe.old) self.old.here self.old.left self.old.rest }
         ensures exact { let t = P.tree probe.old in
             resolve_parts self.old.left t mode self.old.here self.old.way (parts.Name name.now ∷ self.old.rest.parts)
-            ≡ goes_on result self.new.left (resolve_parts self.new.left t mode self.new.here self.new.way self.new.rest.parts) }
+            ≡ goes_on (slots_found result) self.new.left (resolve_parts self.new.left t mode self.new.here self.new.way self.new.rest.parts) }
         ensures ready { CanGoOn (P.tree probe.old) self.new.here self.new.left self.new.rest }
         ensures left { self.new.left ≤ self.old.left }
         ensures potential { potential (P.tree probe.old) self.new.left self.new.rest ≤ potential (P.tree probe.old) self.old.left self.old.rest }
         ensures tree { P.tree probe.new ≡ P.tree probe.old }
         ensures count { P.count probe.new ≤ P.count probe.old + 3 }
+        ensures named { IfOk result AreNamed }
     {
         let dir = self.here;
         match standing_at(probe, dir, name) {
@@ -371,16 +401,16 @@ impl<'a> Walk<'a> {
                 if self.rest.is_done() {
                     self.way = Way::Named {
                         parent: dir,
-                        name: *name,
+                        name: name_of(name),
                     };
                 }
                 Ok(None)
             }
             Standing::Linked(node, target) => {
                 if !self.is_followed(mode) {
-                    return Ok(Some(Found::Slot {
+                    return Ok(Some(LentSlot {
                         dir,
-                        name: *name,
+                        name,
                         node: Some(node),
                     }));
                 }
@@ -402,20 +432,22 @@ impl<'a> Walk<'a> {
     }
 
     /// What is no directory is found where no part is left.
-    fn end_at(
+    fn end_at<'n>(
         &self,
-        name: &Name,
+        name: &'n [u8],
         node: Option<NodeId>,
         errno: Errno,
-    ) -> Result<Option<Found>, Errno>
-        ensures { result ≡ (if is_done self.now.rest.parts then Ok (Some (Slot self.now.here name.now node)) else Err errno) }
+    ) -> Result<Option<LentSlot<'n>>, Errno>
+        requires { IsTrue (is_name name.now) }
+        ensures exact { slots_found result ≡ (if is_done self.now.rest.parts then Ok (Some (Slot self.now.here name.now node)) else Err errno) }
+        ensures named { IfOk result AreNamed }
     {
         if !self.rest.is_done() {
             return Err(errno);
         }
-        Ok(Some(Found::Slot {
+        Ok(Some(LentSlot {
             dir: self.here,
-            name: *name,
+            name,
             node,
         }))
     }

@@ -38,6 +38,7 @@ ghost use Rattle.pua_path.specs.declared.text.Ending.TheVariants as ending;
 
 impl<'a> Rest<'a> {
     /// No part.
+    #[inline(always)]
     pub(crate) fn none() -> Rest<'a>
         ensures parts { result.parts ≡ [] }
         ensures depth { result.depth ≡ 0 }
@@ -46,6 +47,7 @@ impl<'a> Rest<'a> {
     }
 
     /// The parts of a path.
+    #[inline(always)]
     pub(crate) fn of_text(text: &PathText<'a>) -> Rest<'a>
         ensures parts { result.parts ≡ parts_of text.now.ending text.now.bytes }
         ensures depth { result.depth ≡ 0 }
@@ -57,6 +59,7 @@ impl<'a> Rest<'a> {
         }
     }
 
+    #[inline(always)]
     fn of_top(top: &'a [u8]) -> Rest<'a>
         requires { IsTrue (is_readable top.now) }
         ensures parts { result.parts ≡ rest_parts top.now }

@@ -71,7 +71,7 @@ impl Row {
         perms: Perms::NONE,
     };
 
-    /// Adds a set to the alternatives, behind the others.
+    /// Adds a set to the alternatives, after the others.
     fn add(&mut self, set: Promises)
         requires { length self.old.alternatives < alternative_limit }
         ensures { self.new ≡ record self.old { alternatives = self.old.alternatives ++ set ∷ [] } }

@@ -19,6 +19,7 @@ use pua_policy::{Call, CallTable, Perms, Place, Process, Promises, Refusal};
 use pua_tree::{FileTree, NodeId};
 
 /// What a path names from a directory.
+#[inline(always)]
 pub(crate) fn named<'t, P: Probe<'t>>(
     probe: &mut P,
     from: NodeId,

@@ -3,7 +3,9 @@
 use crate::example::EXAMPLE;
 use crate::expect::{expect, expect_bytes, expect_eq, expect_text};
 use crate::told::ROOT;
-use pua_tree::{FileTree, Kind, ListingFault as Fault, Name, NodeId, read_listing};
+use pua_tree::{
+    FileTree, Kind, ListingFault as Fault, Name, NodeId, read_listing, read_listing_slab,
+};
 use std::alloc::Global;
 use std::test::Fail;
 
@@ -41,6 +43,29 @@ fn in_root(alloc: Global, text: &[u8], name: &[u8]) -> Result<Option<NodeId>, Fa
     let tree = read_listing(alloc, text)?;
     let name = Name::read(name)?;
     Ok(tree.look(NodeId::ROOT, &name))
+}
+
+#[test]
+fn finds_nodes_by_bytes(rt: HostRuntime) -> Result<(), Fail> {
+    let list = read_listing(rt.alloc(), EXAMPLE)?;
+    let slab = read_listing_slab(rt.alloc(), EXAMPLE)?;
+    for (label, dir, bytes, want) in [
+        ("a directory", 0, b"tmp".as_slice(), Some((3, Kind::Dir))),
+        ("a file", 1, b"passwd".as_slice(), Some((2, Kind::File))),
+        ("a program", 3, b"sh".as_slice(), Some((7, Kind::Prog))),
+        ("a link", 0, b"t".as_slice(), Some((4, Kind::Link))),
+        ("another directory's name", 3, b"tmp".as_slice(), None),
+        ("a file's number", 2, b"tmp".as_slice(), None),
+        ("the front of a name", 0, b"tm".as_slice(), None),
+        ("no bytes", 0, b"".as_slice(), None),
+        ("two dots", 3, b"..".as_slice(), None),
+        ("a slash", 0, b"tmp/".as_slice(), None),
+    ] {
+        let want = want.map(|(node, kind)| (NodeId::new(node), kind));
+        expect_eq(&rt, label, &list.find(NodeId::new(dir), bytes), &want);
+        expect_eq(&rt, label, &slab.find(NodeId::new(dir), bytes), &want);
+    }
+    Ok(())
 }
 
 #[test]

@@ -12,6 +12,7 @@ fn probes_answer_as_their_tree_and_are_counted(rt: HostRuntime) -> Result<(), Fa
     expect_eq(&rt, "four looks at nodes", &asks_of_nodes(&tree), &4);
     let named = asks_for_names(rt.alloc(), &tree)?;
     expect_eq(&rt, "two looks for names", &named, &2);
+    expect_eq(&rt, "a search by bytes", &asks_by_bytes(&tree), &2);
     Ok(())
 }
 
@@ -40,4 +41,14 @@ fn asks_for_names(alloc: Global, tree: &ListTree) -> Result<u64, Fail> {
     } else {
         0
     })
+}
+
+/// How many looks a search by bytes counts as; 0 where it is answered otherwise than by the listing.
+fn asks_by_bytes(tree: &ListTree) -> u64 {
+    let mut probe = Counted::new(tree);
+    if probe.find(NodeId::ROOT, b"l") == Some((NodeId::new(1), Kind::Link)) {
+        probe.probes()
+    } else {
+        0
+    }
 }

@@ -18,7 +18,7 @@ use pua_tree::byte_spelling;
 const MOST_NAME: usize = 8;
 
 /// How many bytes a line has at most: each byte of its path may be spelled by four, and a blank, the
-/// name of a call and LF stand behind it.
+/// name of a call and LF stand after it.
 pub(crate) const MOST_LINE: usize = 4 * PATH_LIMIT + MOST_NAME + 2;
 
 /// How many bytes a block has room for.
@@ -110,7 +110,7 @@ fn spell(block: &mut Vec<u8>, path: &[u8])
 }
 
 /// Adds the name of a call to a block that has room for the longest. A copy of so many bytes as the
-/// program knows beforehand is quick, so those behind the name are copied too, and cut off again.
+/// program knows beforehand is quick, so those after the name are copied too, and cut off again.
 #[inline(always)]
 pub(crate) fn add_call(block: &mut Vec<u8>, call: Call)
     requires { vec_len block.old + MOST_NAME ≤ vec_capacity block.old }
@@ -124,7 +124,7 @@ pub(crate) fn add_call(block: &mut Vec<u8>, call: Call)
     block.truncate(end);
 }
 
-/// The name of a call with blanks behind it.
+/// The name of a call with blanks after it.
 fn padded_name(call: Call) -> &'static [u8]
     ensures name { take (length (call_name call)) result.now ≡ call_name call }
     ensures width { length result.now ≡ MOST_NAME }

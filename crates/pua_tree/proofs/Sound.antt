@@ -1,5 +1,6 @@
 -- A well-formed tree by its look-ups, and climbing by the number of steps to the root.
 use Rattle.std.proofs.Common.{◌≡◌, ◌≢◌, ℕ, zero, suc, ◌+◌, ◌≤◌, ◌<◌, true, false, ◌||◌, cond, T, List, length, Option, Some, None, option_map, unwrap_or, is_some, ◌==◌, refl, sym, ap, subst, ◌∙◌, arith, inl, inr, eqb-true, eq-eqb, leb-true, le-leb, ltb-true, lt-ltb}
+use Rattle.std.specs.Prelude.{option_and_then}
 use Rattle.std.specs.Bool.{passes}
 use Rattle.std.specs.List.{list_any}
 use Rattle.std.specs.Ordering.{nat_cmp}
@@ -8,7 +9,7 @@ use Rattle.std.specs.FinMap.{find as find_key, is_sorted, nat_cmp-IsAntisymmetri
 use Rattle.std.specs.FinMap.Entries.{length_without, is_sorted-where_key}
 use Rattle.std.proofs.lemmas.Bool.{and_parts, and_from, or_cases, or_from, or_left, or_right, false≢true, not-true}
 use Rattle.pua_tree.specs.Names.{is_name}
-use Rattle.pua_tree.specs.Tree.{Node, Spot, Tree, WellFormed, spot_cmp, node_at, is_dir, is_dir_kind, is_living, above, climb_within, rows_of, row_fits, node_fits, target_fits, rows_fit_kind}
+use Rattle.pua_tree.specs.Tree.{Node, Spot, Tree, WellFormed, spot_cmp, node_at, kind_at, look, found_at, is_dir, is_dir_kind, is_living, above, climb_within, rows_of, row_fits, node_fits, target_fits, rows_fit_kind}
 use Rattle.pua_tree.specs.declared.node.Kind.{Kind}
 use Rattle.pua_tree.specs.declared.node.Kind.TheVariants.{Dir, File, Prog, Link}
 use Rattle.pua_tree.proofs.Base.{holds}
@@ -218,3 +219,11 @@ well_formed_from t f = record {
       (λ x n e. and_from _ _ (lt-ltb x t.next (f.node x n e).0) (and_from _ _ (f.node x n e).1
       (fits_by t f x n.kind (ap is_some e) (λ k. ap (λ o. is_dir_kind (option_map (λ m. m.kind) o)) e ∙ ap (λ j. is_dir_kind (Some j)) k))));
 }
+
+-- bytes that are no name's are found nowhere
+pub only_names_found : (t : Tree) (dir : ℕ) (bytes : List ℕ) → WellFormed t → is_name bytes ≡ false → found_at t dir bytes ≡ None
+only_names_found t dir bytes w other = by (look t dir bytes) refl
+  where
+    by : (o : Option ℕ) → look t dir bytes ≡ o → option_and_then {U = ℕ × Kind} (λ x. option_map (λ kind. (x, kind)) (kind_at t x)) o ≡ None
+    by None here = refl
+    by (Some x) here = absurd (false≢true (sym other ∙ (row_says t (sound_from t w) (dir, bytes) x here).1))

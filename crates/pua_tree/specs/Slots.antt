@@ -89,10 +89,6 @@ pub record Restands (old new : Slots) (change : ℕ → Standing → Standing) :
 abbrev pub one_at : ℕ → ℕ → ℕ
 one_at x y = if x == y then 1 else 0
 
--- a standing written at one node
-abbrev pub standing_set : ℕ → Standing → ℕ → Standing → Standing
-standing_set at written x standing = if at == x then written else standing
-
 -- one row more, or fewer, in a directory
 abbrev pub row_gained : ℕ → ℕ → Standing → Standing
 row_gained dir x standing = record standing { rows = standing.rows + one_at dir x }

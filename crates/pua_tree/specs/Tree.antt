@@ -58,6 +58,10 @@ is_living t x = is_some (node_at t x)
 abbrev pub look : Tree → ℕ → List ℕ → Option ℕ
 look t dir name = find_key spot_cmp (dir, name) t.rows
 
+-- the node in a row, and what it is
+abbrev pub found_at : Tree → ℕ → List ℕ → Option (ℕ × Kind)
+found_at t dir name = option_and_then (λ x. option_map (λ kind. (x, kind)) (kind_at t x)) (look t dir name)
+
 -- a row whose node it is; a directory has one at most
 abbrev pub spot_of : Tree → ℕ → Option Spot
 spot_of t x = option_map (λ row. row.0) (find (λ row. row.1 == x) t.rows)

@@ -1,4 +1,5 @@
-//! Whether an edit of a tree may be made, or else its first fault: one judgement of every tree.
+//! Whether an edit of a tree may be made, or else its first fault: one judgement of every tree. And
+//! what is found by bytes.
 
 use crate::fault::TreeFault;
 use crate::name::Name;
@@ -52,8 +53,21 @@ ghost use Rattle.std.specs.Prelude.{◌≡◌, ◌≢◌, ◌<◌, Some, None, O
 ghost use Rattle.std.specs.List.{list_any};
 ghost use Rattle.pua_tree.specs.Limits.{number_end};
 ghost use Rattle.pua_tree.specs.Names.{is_name};
-ghost use Rattle.pua_tree.specs.Tree.{Node, is_dir, look, climb};
+ghost use Rattle.pua_tree.specs.Tree.{Node, is_dir, look, found_at, climb};
 ghost use Rattle.pua_tree.specs.Edits.{add, tie, cut, shift, is_full_dir, has_name_room, has_room, with_row, with_new, without_row, without_unnamed, moved};
+
+/// The node whose name in a directory has these bytes, and its kind.
+pub(crate) fn find<T: Judged>(tree: &T, dir: NodeId, bytes: &[u8]) -> Option<(NodeId, Kind)>
+    ensures { result ≡ found_at (T.held tree.now) dir bytes.now }
+{
+    tree.is_tree();
+    let Some(name) = Name::from_bytes(bytes) else {
+        return None;
+    };
+    let node = tree.node_at(dir, &name)?;
+    let kind = tree.kind_of(node)?;
+    Some((node, kind))
+}
 
 /// Whether a node may be added under this name, or else the first fault.
 pub(crate) fn may_add<T: Judged>(tree: &T, dir: NodeId, name: &Name) -> Result<(), TreeFault>

@@ -2,7 +2,7 @@
 
 use crate::fault::{OutOfMemory, TreeFault};
 use crate::gathered::{Entry, Gathered, Made};
-use crate::judgement::{Judged, may_add, may_cut, may_shift, may_tie};
+use crate::judgement::{self, Judged, may_add, may_cut, may_shift, may_tie};
 use crate::list_edits::{copied_target, push_made, put_row, reserve_one, take_row, take_unnamed};
 use crate::name::Name;
 use crate::node::{Kind, NodeId};
@@ -69,6 +69,10 @@ impl FileTree for ListTree {
 
     fn look(&self, dir: NodeId, name: &Name) -> Option<NodeId> {
         self.node_at(dir, name)
+    }
+
+    fn find(&self, dir: NodeId, bytes: &[u8]) -> Option<(NodeId, Kind)> {
+        judgement::find(self, dir, bytes)
     }
 
     fn parent(&self, dir: NodeId) -> Option<NodeId> {

@@ -1,7 +1,7 @@
 //! Names in directories.
 
 use crate::fault::NameFault;
-use crate::spelling::unspell_into;
+use crate::spelling::{are_plain, unspell_into};
 use std::cmp::Ordering;
 use std::fmt;
 use std::hash::{Hash, Hasher};
@@ -39,14 +39,26 @@ ghost use Rattle.std.specs.Cmp.Lexicographic.{slice_cmp, pointwise};
 ghost use Rattle.std.specs.List.{list_all};
 ghost use Rattle.pua_tree.specs.Limits.{most_name};
 ghost use Rattle.pua_tree.specs.Names.{is_name, is_name_byte, padded};
-ghost use Rattle.pua_tree.specs.Spelling.{name_of};
+ghost use Rattle.pua_tree.specs.Spelling.{name_of, name_of_bytes};
 
 impl Name {
     /// The most bytes that a name has.
     pub const MOST: usize = 255;
 
     /// The name that a text spells, or the first of its faults.
+    #[tactic(auto, using(crate::proofs::Spellings::unspelled_as_it_stands))]
     pub fn read(spelling: &[u8]) -> Result<Name, NameFault>
+        ensures { result ≡ name_of spelling.now }
+    {
+        if are_plain(spelling) {
+            Name::judged(spelling)
+        } else {
+            Name::read_escaped(spelling)
+        }
+    }
+
+    /// The same for any text, byte by byte.
+    fn read_escaped(spelling: &[u8]) -> Result<Name, NameFault>
         ensures { result ≡ name_of spelling.now }
     {
         let mut bytes = [0; Name::MOST];
@@ -56,16 +68,30 @@ impl Name {
         if spelling.contains(&b'/') {
             return Err(NameFault::BadSpelling);
         }
-        if len == 0 {
-            return Err(NameFault::Empty);
-        }
         if len > Name::MOST {
             return Err(NameFault::TooLong);
         }
-        Name::from_bytes(&bytes[..len]).ok_or(NameFault::NotAName)
+        Name::judged(&bytes[..len])
+    }
+
+    /// The name of bytes that were spelled, or the first of their faults.
+    fn judged(bytes: &[u8]) -> Result<Name, NameFault>
+        ensures { result ≡ name_of_bytes (Some bytes.now) }
+    {
+        if bytes.contains(&b'/') {
+            return Err(NameFault::BadSpelling);
+        }
+        if bytes.is_empty() {
+            return Err(NameFault::Empty);
+        }
+        if bytes.len() > Name::MOST {
+            return Err(NameFault::TooLong);
+        }
+        Name::from_bytes(bytes).ok_or(NameFault::NotAName)
     }
 
     /// The name of these bytes, if they are a name's.
+    #[inline(always)]
     pub fn from_bytes(bytes: &[u8]) -> Option<Name>
         ensures { result ≡ (if is_name bytes.now then Some bytes.now else None) }
     {
@@ -175,6 +201,7 @@ fn is_name_byte(byte: u8) -> bool
 }
 
 /// The bytes and zeros after them.
+#[inline(always)]
 fn padded(bytes: &[u8]) -> [u8; 255]
     requires { length bytes.now ≤ most_name }
     ensures { result ≡ padded bytes.now }

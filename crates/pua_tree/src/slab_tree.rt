@@ -2,7 +2,7 @@
 
 use crate::fault::{OutOfMemory, TreeFault};
 use crate::gathered::{Entry, Gathered, Made};
-use crate::judgement::{Judged, may_add, may_cut, may_shift, may_tie};
+use crate::judgement::{self, Judged, may_add, may_cut, may_shift, may_tie};
 use crate::list_edits::copied_target;
 use crate::name::Name;
 use crate::node::{Kind, NodeId};
@@ -48,6 +48,10 @@ impl FileTree for SlabTree {
 
     fn look(&self, dir: NodeId, name: &Name) -> Option<NodeId> {
         self.node_at(dir, name)
+    }
+
+    fn find(&self, dir: NodeId, bytes: &[u8]) -> Option<(NodeId, Kind)> {
+        judgement::find(self, dir, bytes)
     }
 
     fn parent(&self, dir: NodeId) -> Option<NodeId> {

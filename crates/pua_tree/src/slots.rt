@@ -46,10 +46,11 @@ ghost use Rattle.pua_tree.specs.Tree.{spot_cmp, empty_tree, distinct_names};
 ghost use Rattle.pua_tree.specs.Edits.{without_unnamed};
 ghost use Rattle.pua_tree.specs.Reading.{said_node};
 ghost use Rattle.pua_tree.specs.LentRows.{lent_entry};
-ghost use Rattle.pua_tree.specs.Slots.{held_rows, held_nodes, held_in_slots, names_of, IsNew, MayStand, with_made, row_at, slot_of, node_in, IsFiled, IsKept, Restands, standing_set, row_gained, row_lost, name_gained, name_lost};
+ghost use Rattle.pua_tree.specs.Slots.{held_rows, held_nodes, held_in_slots, names_of, IsNew, MayStand, with_made, row_at, slot_of, node_in, IsFiled, IsKept, Restands, row_gained, row_lost, name_gained, name_lost};
 
 impl Slots {
     /// The node in the row of this directory and name.
+    #[inline(always)]
     pub(crate) fn row(&self, dir: NodeId, name: &Name) -> Option<NodeId>
         ensures { result ≡ row_at self.now (dir, name.now) }
     {
@@ -61,8 +62,8 @@ impl Slots {
     fn node(&self, id: NodeId) -> Option<&Node>
         ensures { option_copied result ≡ node_in self.now id }
     {
-        let slot = self.numbers.get(&id)?;
-        self.nodes.get(*slot)
+        let slot = self.slot(id)?;
+        self.nodes.get(slot)
     }
 
     /// What the node of this number is.
@@ -115,28 +116,17 @@ impl Slots {
         }
     }
 
-    /// Writes how the node of this number stands.
-    fn set_standing(&mut self, id: NodeId, standing: Standing)
-        requires { IsFiled self.old }
-        ensures { Restands self.old self.new (standing_set id standing) }
-    {
-        let Some(slot) = self.numbers.get(&id).copied() else {
-            return;
-        };
-        if let Some(node) = self.nodes.get_mut(slot) {
-            node.standing = standing;
-        }
-    }
-
     /// Counts a further row of a directory.
     fn gain_row(&mut self, dir: NodeId)
         requires filed { IsFiled self.old }
         requires few { IfSome (node_in self.old dir) (λ node. node.standing.rows < 2 ^ 63) }
         ensures { Restands self.old self.new (row_gained dir) }
     {
-        if let Some(standing) = self.standing(dir) {
-            let rows = standing.rows + 1;
-            self.set_standing(dir, Standing { rows, ..standing });
+        let Some(slot) = self.slot(dir) else {
+            return;
+        };
+        if let Some(node) = self.nodes.get_mut(slot) {
+            node.standing.rows += 1;
         }
     }
 
@@ -146,9 +136,11 @@ impl Slots {
         requires some { IfSome (node_in self.old dir) (λ node. 0 < node.standing.rows) }
         ensures { Restands self.old self.new (row_lost dir) }
     {
-        if let Some(standing) = self.standing(dir) {
-            let rows = standing.rows - 1;
-            self.set_standing(dir, Standing { rows, ..standing });
+        let Some(slot) = self.slot(dir) else {
+            return;
+        };
+        if let Some(node) = self.nodes.get_mut(slot) {
+            node.standing.rows -= 1;
         }
     }
 
@@ -158,14 +150,12 @@ impl Slots {
         requires few { IfSome (node_in self.old node) (λ node. node.standing.names < 2 ^ 63) }
         ensures { Restands self.old self.new (name_gained dir node) }
     {
-        if let Some(standing) = self.standing(node) {
-            let names = standing.names + 1;
-            let standing = Standing {
-                above: dir,
-                names,
-                ..standing
-            };
-            self.set_standing(node, standing);
+        let Some(slot) = self.slot(node) else {
+            return;
+        };
+        if let Some(node) = self.nodes.get_mut(slot) {
+            node.standing.names += 1;
+            node.standing.above = dir;
         }
     }
 
@@ -175,10 +165,19 @@ impl Slots {
         requires some { IfSome (node_in self.old node) (λ node. 0 < node.standing.names) }
         ensures { Restands self.old self.new (name_lost node) }
     {
-        if let Some(standing) = self.standing(node) {
-            let names = standing.names - 1;
-            self.set_standing(node, Standing { names, ..standing });
+        let Some(slot) = self.slot(node) else {
+            return;
+        };
+        if let Some(node) = self.nodes.get_mut(slot) {
+            node.standing.names -= 1;
         }
+    }
+
+    /// The slot of the node of this number.
+    fn slot(&self, id: NodeId) -> Option<usize>
+        ensures { result ≡ slot_of self.now id }
+    {
+        self.numbers.get(&id).copied()
     }
 
     /// How many rows there are.

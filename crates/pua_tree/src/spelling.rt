@@ -161,7 +161,7 @@ fn is_plain(byte: u8) -> bool
 }
 
 /// Whether each byte stands for itself.
-fn are_plain(bytes: &[u8]) -> bool
+pub(crate) fn are_plain(bytes: &[u8]) -> bool
     ensures { result ≡ list_all is_plain bytes.now }
 {
     bytes.iter().all(|byte| is_plain(*byte))

@@ -24,7 +24,7 @@ pub struct LentRow<'t> {
 pub trait FileTree {
     ghost use Rattle.std.specs.Prelude.{◌≡◌, Ok, Err, IsTrue, IfOk, IfErr, OnErr, MatchResult, option_copied, map};
     ghost use Rattle.pua_tree.specs.LentRows.{lent_entry};
-    ghost use Rattle.pua_tree.specs.Tree.{Tree, WellFormed, kind_at, look, parent, target_at, target_fits, is_empty, names};
+    ghost use Rattle.pua_tree.specs.Tree.{Tree, WellFormed, kind_at, look, found_at, parent, target_at, target_fits, is_empty, names};
     ghost use Rattle.pua_tree.specs.Edits.{Refuses, add, tie, cut, shift};
 
     /// What the tree holds.
@@ -41,6 +41,11 @@ pub trait FileTree {
     /// The node that has this name in this directory, if there is one.
     fn look(&self, dir: NodeId, name: &Name) -> Option<NodeId>
         ensures { result ≡ look (content self.now) dir name.now };
+
+    /// The node whose name in this directory has these bytes, if there is one, and its kind: what
+    /// `look` and `kind` answer for the name. Bytes that are no name's are found nowhere.
+    fn find(&self, dir: NodeId, bytes: &[u8]) -> Option<(NodeId, Kind)>
+        ensures { result ≡ found_at (content self.now) dir bytes.now };
 
     /// The directory above a directory, which is the root itself for the root, and None for what is
     /// no living directory.

@@ -1,8 +1,8 @@
 use Rattle.pua_path.proofs.Living.{parent_lives}
-use Rattle.pua_path.proofs.resolver.Walk.enter.Goals as goal
+use Rattle.pua_path.proofs.resolver.Walk.climb.Goals as goal
 
-pub returns-in-DotDot-clause-ready : goal.returns-in-DotDot-clause-ready
-returns-in-DotDot-clause-ready g c = record {
+pub returns-clause-ready : goal.returns-clause-ready
+returns-clause-ready g c = record {
   tree = c.requires.ready.tree;
   dir = rw (c.unwrap_or-self.ensures, c.parent.ensures.parent) (parent_lives _ c.args.self.now.here c.requires.ready.tree c.requires.ready.dir);
   room = c.requires.ready.room;
