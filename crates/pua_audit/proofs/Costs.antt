@@ -10,7 +10,7 @@ use Rattle.std.proofs.lemmas.List.{length-map}
 use Rattle.std.proofs.lemmas.Map.Made.{length-le_from_is_member}
 use Rattle.std.proofs.lemmas.Nat.{mul-le}
 use Rattle.pua_tree.specs.Tree.{Tree, Node, is_dir, is_dir_kind, node_at}
-use Rattle.pua_audit.specs.Bounds.{row_cost, table_cost}
+use Rattle.pua_audit.specs.Bounds.{letter_cost, object_cost, row_cost, table_cost}
 use Rattle.pua_audit.specs.Rows.{AreLiving, AreNumbers}
 
 -- living directories, none of them twice, are at most as many as the nodes
@@ -42,6 +42,10 @@ pub rows_few : (t : Tree) (dirs : List ℕ) → AreNumbers dirs → AreLiving t 
 rows_few t dirs numbers living =
     let few = length-le_from_is_member nat_eq_equiv dirs (map (λ e. e.0) t.nodes) numbers.apart (λ q there. keyed q t.nodes (living_is_node t q (one_living t dirs q living there))) in
     omega (arith, few, length-map t.nodes (λ e. e.0))
+
+-- the letters of a row that are looked up
+pub letters_within : (t : Tree) (letters n : ℕ) → n ≤ letters → object_cost t + n * letter_cost t ≤ row_cost t letters
+letters_within t letters n few = let all = mul-le n (letter_cost t) letters (letter_cost t) few (omega arith) in omega (arith, all)
 
 -- one row more, and all of them
 

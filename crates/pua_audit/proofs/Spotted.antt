@@ -1,5 +1,5 @@
 -- The letters that directories tell apart, gathered one after another.
-use Rattle.std.proofs.Common.{◌≡◌, ◌≢◌, ◌<◌, ◌+◌, ℕ, List, [], ◌∷◌, ◌++◌, Some, None, true, false, cond, map, take, length, get_or, slice_index_or, add-one, refl, sym, ap, subst, ◌∙◌}
+use Rattle.std.proofs.Common.{◌≡◌, ◌≢◌, ◌<◌, ◌+◌, ℕ, List, [], ◌∷◌, ◌++◌, Some, None, true, false, cond, map, take, drop, length, ltb, leb, ltb-true, leb-false, arith, get_or, slice_index_or, add-one, refl, sym, ap, subst, ◌∙◌}
 use Rattle.std.specs.Prelude.{if◌then◌else◌, find}
 use Rattle.std.specs.FinMap.{find as find_key}
 use Rattle.std.specs.List.{AllByRecursion}
@@ -7,8 +7,9 @@ use Rattle.std.specs.Ordering.{eq_by_cmp}
 use Rattle.std.specs.Cmp.{Equal-is, tied_itself}
 use Rattle.std.specs.Cmp.Lexicographic.{nat_list_cmp_total}
 use Rattle.std.specs.FinMap.{nat_cmp-IsAntisymmetric}
-use Rattle.std.proofs.lemmas.List.{map-append}
+use Rattle.std.proofs.lemmas.List.{map-append, take-append-drop, get_or-map}
 use Rattle.std.proofs.Math.Seq.{take-suc}
+use Rattle.std.specs.List.{AllWithin}
 use Rattle.pua_tree.specs.Names.{same_bytes}
 use Rattle.pua_tree.specs.Tree.{Spot, name_cmp, spot_cmp}
 use Rattle.pua_tree.proofs.ForCallers.{exact_spots}
@@ -16,7 +17,15 @@ use Rattle.pua_policy.specs.History.{veil_at, same_place}
 use Rattle.pua_policy.specs.declared.place.Place.{Place}
 use Rattle.pua_policy.proofs.ForCallers.{same_place_is}
 use Rattle.pua_audit.specs.Laws.{Rises}
-use Rattle.pua_audit.specs.Spots.{AreApartFrom, IsNowhere}
+use Rattle.pua_audit.specs.Ready.{part_bytes}
+use Rattle.pua_audit.specs.Spots.{AreApartFrom, IsNowhere, IsUnmarked, is_dots}
+use Rattle.pua_audit.specs.declared.table.spots.LetterSpot.{LetterSpot}
+use Rattle.pua_path.specs.Paths.{part_of}
+use Rattle.pua_path.specs.declared.found.Part.{Part}
+use Rattle.pua_path.specs.declared.found.Part.TheVariants as part
+use Rattle.pua_audit.proofs.Letters.{letter_part}
+use Rattle.pua_audit.proofs.Lists.{all_alike, all_before, all_after}
+use Rattle.pua_audit.proofs.Rising.{all_joined}
 use Rattle.pua_audit.proofs.AfterPair.{letters_alike}
 use Rattle.pua_audit.proofs.Moves.{all_pushed}
 use Rattle.pua_audit.proofs.ResumeTexts.{found}
@@ -59,3 +68,26 @@ letters_once letters rises i j here there same =
 
 pub no_letter : (name : List ℕ) (letters : List (List ℕ)) (i : ℕ) → find (same_bytes name) letters ≡ None → i < length letters → get_or letters i [] ≢ name
 no_letter name letters i none low same = let both = sym (found name letters i low same) ∙ none in cc
+
+-- spots in the order of their directories: those before a directory, those after it, and those between, of which none is of a letter
+
+pub unmarked_between : (dir letter first past : ℕ) (spots rest : List LetterSpot) → drop first spots ≡ rest → AllWithin (λ s. ltb s.dir dir ≡ true) spots 0 first → AllWithin (λ s. leb s.dir dir ≡ false) rest past (length rest)
+    → AllByRecursion (λ s. s.letter ≢ letter) (take past rest) → IsUnmarked dir letter spots
+unmarked_between dir letter first past spots rest is before after between =
+    let unmarked = λ (s : LetterSpot). s.dir ≡ dir → s.letter ≢ letter in
+    let front : AllByRecursion unmarked (take first spots) = all_before (λ s. ltb s.dir dir ≡ true) unmarked (λ s low same. absurd (omega (arith, same, ltb-true s.dir dir low))) first spots before in
+    let here : AllByRecursion unmarked (take past rest) = all_alike (λ s. s.letter ≢ letter) unmarked (λ s away _. away) (take past rest) between in
+    let back : AllByRecursion unmarked (drop past rest) = all_after (λ s. leb s.dir dir ≡ false) unmarked (λ s high same. absurd (omega (arith, same, leb-false s.dir dir high))) past rest after in
+    let behind : AllByRecursion unmarked (drop first spots) = subst (AllByRecursion unmarked) (take-append-drop past rest ∙ sym is) (all_joined unmarked (take past rest) (drop past rest) here back) in
+    subst (AllByRecursion unmarked) (take-append-drop first spots) (all_joined unmarked (take first spots) (drop first spots) front behind)
+
+-- a letter that is a name
+
+name_is : (p : Part) → is_dots p ≡ false → p ≡ part.Name (part_bytes p)
+name_is part.Dot named = absurd cc
+name_is part.DotDot named = absurd cc
+name_is (part.Name name) named = refl
+
+pub named_part : (parts : List Part) (i : ℕ) → AllByRecursion (λ p. part_of (part_bytes p) ≡ p) parts → i < length parts → is_dots (get_or parts i part.Dot) ≡ false → part_of (get_or (map part_bytes parts) i []) ≡ part.Name (get_or (map part_bytes parts) i [])
+named_part parts i faithful low named =
+    letter_part parts i part.Dot faithful low ∙ name_is (get_or parts i part.Dot) named ∙ ap part.Name (sym (get_or-map part_bytes parts i part.Dot [] low))

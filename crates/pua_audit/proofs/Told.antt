@@ -1,13 +1,18 @@
 -- A letter by its sets of calls.
 use Rattle.std.proofs.Common.{ℕ, zero, suc, ◌+◌, ◌<◌, ◌^◌, ◌≡◌, List, Bool, true, false, not, ◌&&◌, ◌||◌, ◌==◌, nat_le, cond, refl, ap, arith, sym, ◌∙◌}
 use Rattle.std.specs.Int.{bit_at}
+use Rattle.std.specs.Prelude.{Result, Ok, Err, is_ok}
 use Rattle.std.proofs.lemmas.Nat.Bits.{bit_at-lt, bit_at-zero, same_from_bits_below}
 use Rattle.pua_tree.specs.Tree.{Tree}
 use Rattle.pua_path.specs.Limits.{link_limit}
 use Rattle.pua_path.specs.Paths.{part_of}
-use Rattle.pua_path.specs.Resolution.{follow}
+use Rattle.pua_path.specs.Resolution.{follow, last}
+use Rattle.pua_path.specs.declared.errno.Errno.{Errno}
+use Rattle.pua_path.specs.declared.found.Found.{Found}
 use Rattle.pua_path.specs.declared.found.Last.{Last}
 use Rattle.pua_path.specs.declared.found.Last.TheVariants.{Followed, Kept}
+use Rattle.pua_path.specs.declared.found.Part.{Part}
+use Rattle.pua_path.proofs.ForCallers.{unlinked_alike}
 use Rattle.pua_policy.specs.Calls.{CallTable}
 use Rattle.pua_policy.specs.CallSets.{bit_of, has, is_kept, keeps_link}
 use Rattle.pua_policy.specs.History.{History}
@@ -31,6 +36,11 @@ letter_told t table base h dir letter all kept near far = record {
     by : (call : Call) (b : Bool) → cond b (allowed_near t table h dir letter (follow t dir (part_of letter)) call) (allowed_far t table h dir letter call) ≡ has (cond b all kept) call
     by call true = sym (near call)
     by call false = sym (far call)
+
+-- what is found without a link is what is found where a final link is kept
+pub kept_unlinked : (t : Tree) (dir : ℕ) (part : Part) (r : Result (Found × ℕ) Errno) → follow t dir part ≡ r → links_of r ≡ 0 → is_ok (found_of r) ≡ true → last t dir 0 part Kept ≡ found_of r
+kept_unlinked t dir part (Ok found) same none ok = unlinked_alike t dir part found.0 (same ∙ ap (λ n. Ok (found.0, n)) none)
+kept_unlinked t dir part (Err errno) same none ok = absurd cc
 
 -- calls that follow a final link, and those that keep it
 

@@ -1,7 +1,9 @@
 -- The letters that directories tell apart from names that they lack.
-use Rattle.std.specs.Prelude.{◌≡◌, ◌≢◌, ◌<◌, ℕ, Bool, true, false, List, [], length, get_or, None}
+use Rattle.std.specs.Prelude.{◌≡◌, ◌≢◌, ◌<◌, ◌≤◌, ℕ, Bool, true, false, List, [], length, get_or, None}
 use Rattle.std.specs.List.{AllByRecursion}
+use Rattle.std.specs.List.Sorted.{IsNonDecreasingBy, IsStrictlyIncreasing}
 use Rattle.pua_tree.specs.Tree.{Tree, Spot, look}
+use Rattle.pua_path.specs.Paths.{part_of}
 use Rattle.pua_path.specs.declared.found.Part.{Part}
 use Rattle.pua_path.specs.declared.found.Part.TheVariants as part
 use Rattle.pua_policy.specs.History.{History, kept}
@@ -25,11 +27,30 @@ IsNowhere dir name rows = AllByRecursion (λ row. row.0.0 ≡ dir → row.0.1 �
 abbrev pub AreApartFrom : Place → List Place → Type 0
 AreApartFrom place places = AllByRecursion (λ other. other ≢ place) places
 
--- spots of letters: where a letter has none, nothing stands at its name, and no veil is kept at it
-pub record AreSpots (t : Tree) (h : History) (letters : List (List ℕ)) (spots : List LetterSpot) : Type 0 where
+-- a number is none of some others
+abbrev pub IsApart : ℕ → List ℕ → Type 0
+IsApart n others = AllByRecursion (λ other. other ≢ n) others
+
+-- letters that are no names, and spots of letters in the order of their directories: where a letter has none, nothing stands at its name, and no veil is kept at it
+pub record AreSpots (t : Tree) (h : History) (letters : List (List ℕ)) (dots : List ℕ) (spots : List LetterSpot) : Type 0 where
+  pub dotted : AllByRecursion (λ letter. letter < length letters) dots
   pub within : AreAtLetters letters spots
+  pub named : (letter : ℕ) → letter < length letters → IsApart letter dots → part_of (get_or letters letter []) ≡ part.Name (get_or letters letter [])
   pub none : (dir letter : ℕ) → letter < length letters → IsUnmarked dir letter spots → look t dir (get_or letters letter []) ≡ None
   pub unveiled : (dir letter : ℕ) → letter < length letters → IsUnmarked dir letter spots → kept h (Slot dir (get_or letters letter [])) ≡ None
+  pub rise : IsNonDecreasingBy (λ spot. spot.dir) spots
+
+-- letters that rise, among them all that are no names, and all with a spot in a directory
+pub record AreLettersIn (dir : ℕ) (dots : List ℕ) (spots : List LetterSpot) (letters : List ℕ) : Type 0 where
+  pub rise : IsStrictlyIncreasing letters
+  pub within : (count : ℕ) → AllByRecursion (λ letter. letter < count) dots → AllByRecursion (λ spot. spot.letter < count) spots → AllByRecursion (λ letter. letter < count) letters
+  pub dotted : (letter : ℕ) → IsApart letter letters → IsApart letter dots
+  pub spotted : (letter : ℕ) → IsApart letter letters → IsUnmarked dir letter spots
+
+-- the first k of some letters are those below n
+pub record IsReached (letters : List ℕ) (k n : ℕ) : Type 0 where
+  pub below : (i : ℕ) → i < k → get_or letters i 0 < n
+  pub above : (i : ℕ) → k ≤ i → i < length letters → n ≤ get_or letters i 0
 
 -- a letter that is no name
 abbrev pub is_dots : Part → Bool

@@ -45,7 +45,7 @@ impl Terms {
         dirs.place(base)?;
         let mut rows = Vec::new(alloc);
         while let Some(dir) = dirs.at(rows.len()) {
-            let row = self.row(alloc, probe, spots.as_slice(), &mut dirs, dir)?;
+            let row = self.row(alloc, probe, &spots, &mut dirs, dir)?;
             let Ok(()) = rows.push(row) else {
                 return Err(OutOfMemory);
             };

@@ -2,6 +2,9 @@
 
 ghost use Rattle.std.specs.Prelude.{◌≡◌, ◌<◌, ◌≤◌, ◌+◌, ◌&&◌, [], length, get_or, Ok, Err, IfSome, IsTrue};
 ghost use Rattle.pua_tree.specs.Tree.{is_dir};
+ghost use Rattle.pua_path.specs.Bounds.{part_cost};
+ghost use Rattle.pua_path.specs.Resolution.{follow, last};
+ghost use Rattle.pua_path.specs.declared.found.Last.TheVariants.{Kept};
 ghost use Rattle.pua_policy.specs.CallSets.{has, keeps_link};
 ghost use Rattle.pua_policy.specs.declared.call.Call.{Call};
 ghost use Rattle.pua_policy.specs.Verdict.{FoundsFit, verdict_of, is_allowed};
@@ -13,7 +16,7 @@ ghost use Rattle.pua_audit.specs.Table.{IsLetter};
 ghost use Rattle.pua_steps.specs.Limits.{most_links};
 
 use crate::terms::Terms;
-use pua_path::{Errno, Found, Last, Probe};
+use pua_path::{Errno, Found, Last, Part, Probe};
 use pua_policy::{Calls, judge};
 use pua_tree::NodeId;
 
@@ -51,15 +54,43 @@ impl Terms {
     {
         let part = &self.letters[letter];
         let (followed, links) = counted(pua_path::follow(probe, dir, part));
-        let kept = pua_path::last(probe, dir, 0, part, Last::Kept);
-        let near = self.calls_on(probe, &followed).following();
-        let all = near.union(self.calls_on(probe, &kept).keeping());
+        let near = self.calls_on(probe, &followed);
+        let far = self.calls_kept(probe, dir, part, &followed, links, near);
+        let all = near.following().union(far.keeping());
         Letter {
             all,
             kept: all.keeping(),
             links,
             leads: directory_of(&followed),
         }
+    }
+
+    /// The calls that are allowed on what a part names where a final link is kept: the calls on what
+    /// it names where links are followed, if none was.
+    fn calls_kept<'t, P: Probe<'t>>(
+        &self,
+        probe: &mut P,
+        dir: NodeId,
+        part: &Part,
+        followed: &Result<Found, Errno>,
+        links: u8,
+        near: Calls,
+    ) -> Calls
+        requires tree { P.tree probe.old ≡ self.now.seen.tree }
+        requires sound { IsSound self.now }
+        requires living { IsTrue (is_dir self.now.seen.tree dir) }
+        requires followed { followed.now ≡ found_of (follow self.now.seen.tree dir part.now) }
+        requires links { links ≡ links_of (follow self.now.seen.tree dir part.now) }
+        requires near { (call : Call) → has near call ≡ is_allowed (verdict_of self.now.seen.tree self.now.table (history_of self.now.process) call followed.now) }
+        ensures exact { (call : Call) → has result call ≡ is_allowed (verdict_of self.now.seen.tree self.now.table (history_of self.now.process) call (last self.now.seen.tree dir 0 part.now Kept)) }
+        ensures tree { P.tree probe.new ≡ P.tree probe.old }
+        ensures cost { P.count probe.new ≤ P.count probe.old + (part_cost self.now.seen.tree + object_cost self.now.seen.tree) }
+    {
+        if links == 0 && followed.is_ok() {
+            return near;
+        }
+        let kept = pua_path::last(probe, dir, 0, part, Last::Kept);
+        self.calls_on(probe, &kept)
     }
 
     /// The calls that are allowed on what a path named.

@@ -16,7 +16,7 @@ ghost use Rattle.pua_steps.specs.Limits.{most_links};
 
 use crate::table::directories::Directories;
 use crate::table::letter::Letter;
-use crate::table::spots::LetterSpot;
+use crate::table::spots::Spots;
 use crate::terms::Terms;
 use pua_path::{Found, Probe, Way};
 use pua_policy::{Calls, Object, judge};
@@ -25,21 +25,20 @@ use pua_tree::{NodeId, OutOfMemory};
 use std::alloc::Global;
 
 impl Terms {
-    /// The row of a living directory. Its letters without a spot are not looked up: one set of calls
-    /// tells them all. What the others lead to is put behind the other directories. The error is that
-    /// a growth was refused.
-    #[tactic(auto, using(crate::proofs::Rowed::row_empty, crate::proofs::Rowed::grown_itself, crate::proofs::Rowed::grown_further))]
+    /// The row of a living directory. Only the letters that it tells apart are looked up: one set of
+    /// calls tells all others. What a letter leads to is put after the other directories. The error is
+    /// that a growth was refused.
     pub(crate) fn row<'t, P: Probe<'t>>(
         &self,
         alloc: Global,
         probe: &mut P,
-        spots: &[LetterSpot],
+        spots: &Spots,
         dirs: &mut Directories,
         dir: NodeId,
     ) -> Result<Row, OutOfMemory>
         requires tree { P.tree probe.old ≡ self.now.seen.tree }
         requires sound { IsSound self.now }
-        requires spots { AreSpots self.now.seen.tree (history_of self.now.process) (letters_of self.now) spots.now }
+        requires spots { AreSpots self.now.seen.tree (history_of self.now.process) (letters_of self.now) spots.now.dots.items spots.now.names.items }
         requires living { IsTrue (is_dir self.now.seen.tree dir) }
         requires dirs { AreLiving self.now.seen.tree dirs.old }
         ensures row { IfOk result (λ row. IsRow (judge_in self.now) (letters_of self.now) dirs.new dir (length self.now.letters.items) row.missing row.entries.items) }
@@ -50,14 +49,11 @@ impl Terms {
     {
         let missing = self.missing(probe, dir);
         let others = missing.bits();
-        let marks = self.marks(alloc, spots, dir)?;
+        let letters = spots.letters_in(alloc, dir)?;
         let mut entries = Vec::new(alloc);
-        for letter in 0..self.letters.len() {
-            if !marks[letter] {
-                continue;
-            }
-            let found = self.letter(probe, dir, letter);
-            found.put(letter, missing, dirs, &mut entries)?;
+        for letter in &letters {
+            let found = self.letter(probe, dir, *letter);
+            found.put(*letter, missing, dirs, &mut entries)?;
         }
         Ok(Row {
             entries,

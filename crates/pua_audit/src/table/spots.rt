@@ -1,14 +1,16 @@
-//! The letters that a directory tells apart from names that it lacks.
+//! The letters that directories tell apart from names that they lack.
 
-ghost use Rattle.std.specs.Prelude.{◌≡◌, ◌≢◌, ◌<◌, ◌≤◌, ◌+◌, ℕ, [], true, false, length, get_or, map, IfOk};
+ghost use Rattle.std.specs.Prelude.{◌≡◌, ◌≢◌, ◌<◌, ◌≤◌, ◌+◌, ℕ, [], false, length, get_or, map, IfOk};
+ghost use Rattle.std.specs.List.{AllByRecursion};
+ghost use Rattle.std.specs.List.Sorted.{IsNonDecreasingBy};
 ghost use Rattle.pua_tree.specs.LentRows.{lent_entry};
 ghost use Rattle.pua_tree.specs.Tree.{name_cmp};
+ghost use Rattle.pua_path.specs.declared.found.Part.TheVariants.{Dot};
 ghost use Rattle.pua_policy.specs.declared.place.Place.TheVariants.{Slot};
-ghost use Rattle.pua_audit.specs.Entries.{IsBare};
 ghost use Rattle.pua_audit.specs.Laws.{Rises};
 ghost use Rattle.pua_audit.specs.Past.{history_of};
 ghost use Rattle.pua_audit.specs.Ready.{IsSound, letters_of};
-ghost use Rattle.pua_audit.specs.Spots.{AreApartFrom, AreAtLetters, AreSpots, IsNowhere, IsUnmarked, is_dots};
+ghost use Rattle.pua_audit.specs.Spots.{AreApartFrom, AreAtLetters, AreLettersIn, AreSpots, IsApart, IsNowhere, IsUnmarked, is_dots};
 
 use crate::alphabet::place_of;
 use crate::terms::Terms;
@@ -24,27 +26,38 @@ pub(crate) struct LetterSpot {
     pub(crate) letter: usize,
 }
 
+/// The letters that directories tell apart from names that they lack.
+#[derive(Drop)]
+pub(crate) struct Spots {
+    /// The letters that are no names, which each directory tells apart.
+    pub(crate) dots: Vec<usize>,
+    /// Those that are names, in the order of the directories that tell them apart.
+    pub(crate) names: Vec<LetterSpot>,
+}
+
 impl Terms {
-    /// The spots of all rows and of all veils at names. A veil's name that is no letter has none. The
-    /// error is that a growth was refused.
+    /// The letters that are no names, and the spots of all rows and of all veils at names. A veil's
+    /// name that is no letter has none. The error is that a growth was refused.
     pub(crate) fn spots<'t, P: Probe<'t>>(
         &self,
         alloc: Global,
         probe: &mut P,
-    ) -> Result<Vec<LetterSpot>, OutOfMemory>
+    ) -> Result<Spots, OutOfMemory>
         requires tree { P.tree probe.old ≡ self.now.seen.tree }
         requires sound { IsSound self.now }
         requires rises { Rises name_cmp (letters_of self.now) }
-        ensures spots { IfOk result (λ spots. AreSpots self.now.seen.tree (history_of self.now.process) (letters_of self.now) spots.items) }
+        ensures spots { IfOk result (λ spots. AreSpots self.now.seen.tree (history_of self.now.process) (letters_of self.now) spots.dots.items spots.names.items) }
         ensures tree { P.tree probe.new ≡ P.tree probe.old }
         ensures cost { P.count probe.new ≤ P.count probe.old + 1 }
     {
         let rows = probe.rows(alloc)?;
         let places = self.process.places(alloc)?;
-        let mut spots = Vec::new(alloc);
-        self.add_rows(&mut spots, rows.as_slice())?;
-        self.add_veils(&mut spots, places.as_slice())?;
-        Ok(spots)
+        let mut names = Vec::new(alloc);
+        self.add_rows(&mut names, rows.as_slice())?;
+        self.add_veils(&mut names, places.as_slice())?;
+        names.sort_unstable_by_key(|spot| spot.dir);
+        let dots = self.dots(alloc)?;
+        Ok(Spots { dots, names })
     }
 
     /// Puts the spots of rows behind others.
@@ -111,39 +124,62 @@ impl Terms {
         Ok(())
     }
 
-    /// For each letter whether a directory tells it apart from the names that it lacks: two dots, and
-    /// each letter that has a spot there. The error is that a growth was refused.
-    pub(crate) fn marks(
-        &self,
-        alloc: Global,
-        spots: &[LetterSpot],
-        dir: NodeId,
-    ) -> Result<Vec<bool>, OutOfMemory>
-        requires sound { IsSound self.now }
-        requires spots { AreSpots self.now.seen.tree (history_of self.now.process) (letters_of self.now) spots.now }
-        ensures many { IfOk result (λ marks. length marks.items ≡ length self.now.letters.items) }
-        ensures bare { IfOk result (λ marks. (letter : ℕ) → letter < length self.now.letters.items → get_or marks.items letter true ≡ false → IsBare self.now.seen.tree (history_of self.now.process) dir (get_or (letters_of self.now) letter [])) }
+    /// The letters that are no names. The error is that a growth was refused.
+    fn dots(&self, alloc: Global) -> Result<Vec<usize>, OutOfMemory>
+        ensures within { IfOk result (λ dots. AllByRecursion (λ place. place < length self.now.letters.items) dots.items) }
+        ensures others { IfOk result (λ dots. (letter : ℕ) → letter < length self.now.letters.items → IsApart letter dots.items → is_dots (get_or self.now.letters.items letter Dot) ≡ false) }
     {
-        let mut marks = self.dots(alloc)?;
-        for spot in spots {
-            if spot.dir != dir {
+        let mut dots = Vec::new(alloc);
+        for place in 0..self.letters.len() {
+            if let Part::Name(_) = &self.letters[place] {
                 continue;
             }
-            marks[spot.letter] = true;
-        }
-        Ok(marks)
-    }
-
-    /// For each letter whether it is no name.
-    fn dots(&self, alloc: Global) -> Result<Vec<bool>, OutOfMemory>
-        ensures { IfOk result (λ marks. marks.items ≡ map is_dots self.now.letters.items) }
-    {
-        let mut marks = Vec::new(alloc);
-        for letter in &self.letters {
-            let Ok(()) = marks.push(!matches!(letter, Part::Name(_))) else {
+            let Ok(()) = dots.push(place) else {
                 return Err(OutOfMemory);
             };
         }
-        Ok(marks)
+        Ok(dots)
     }
+}
+
+impl Spots {
+    /// The letters that a directory tells apart from names that it lacks, in their order, each once.
+    /// The error is that a growth was refused.
+    pub(crate) fn letters_in(&self, alloc: Global, dir: NodeId) -> Result<Vec<usize>, OutOfMemory>
+        requires { IsNonDecreasingBy (λ spot. spot.dir) self.now.names.items }
+        ensures { IfOk result (λ letters. AreLettersIn dir self.now.dots.items self.now.names.items letters.items) }
+    {
+        let mut letters = letters_at(alloc, spots_in(self.names.as_slice(), dir))?;
+        let Ok(()) = letters.extend_from_slice(self.dots.as_slice()) else {
+            return Err(OutOfMemory);
+        };
+        letters.sort_unstable();
+        letters.dedup();
+        Ok(letters)
+    }
+}
+
+/// The spots in a directory, among spots in the order of their directories.
+fn spots_in(spots: &[LetterSpot], dir: NodeId) -> &[LetterSpot]
+    requires { IsNonDecreasingBy (λ spot. spot.dir) spots.now }
+    ensures within { (count : ℕ) → AllByRecursion (λ spot. spot.letter < count) spots.now → AllByRecursion (λ spot. spot.letter < count) result.now }
+    ensures all { (letter : ℕ) → AllByRecursion (λ spot. spot.letter ≢ letter) result.now → IsUnmarked dir letter spots.now }
+{
+    let first = spots.partition_point(|spot| spot.dir < dir);
+    let rest = &spots[first..];
+    let past = rest.partition_point(|spot| spot.dir <= dir);
+    &rest[..past]
+}
+
+/// The letters of spots. The error is that a growth was refused.
+fn letters_at(alloc: Global, spots: &[LetterSpot]) -> Result<Vec<usize>, OutOfMemory>
+    ensures { IfOk result (λ letters. letters.items ≡ map (λ spot. spot.letter) spots.now) }
+{
+    let mut letters = Vec::new(alloc);
+    for spot in spots {
+        let Ok(()) = letters.push(spot.letter) else {
+            return Err(OutOfMemory);
+        };
+    }
+    Ok(letters)
 }

@@ -1,6 +1,11 @@
-use Rattle.std.proofs.Common.{◌≡◌, map, take}
-use Rattle.pua_audit.specs.Spots.{is_dots}
+use Rattle.std.proofs.Common.{◌≡◌, ◌<◌, ℕ, false, length, get_or}
+use Rattle.std.specs.List.{AllByRecursion}
+use Rattle.pua_path.specs.declared.found.Part.TheVariants.{Dot}
+use Rattle.pua_audit.specs.Spots.{IsApart, is_dots}
 use Rattle.pua_audit.proofs.terms.Terms.dots.Given as goal
 
-abbrev pub invariant-loop-letter : goal.invariant-loop-letter
-invariant-loop-letter l = l.marks.items ≡ map is_dots (take l.letter-index l.self.letters.items)
+abbrev pub invariant-loop-place : goal.invariant-loop-place
+invariant-loop-place l = record {
+  within : AllByRecursion (λ letter. letter < length l.self.letters.items) l.dots.items;
+  others : (letter : ℕ) → letter < l.place → IsApart letter l.dots.items → is_dots (get_or l.self.letters.items letter Dot) ≡ false;
+}

@@ -1,36 +1,96 @@
-use Rattle.std.proofs.Common.{◌≡◌, ◌<◌, ◌∙◌, ℕ, Bool, true, false, List, [], None, length, get_or, arith, refl, sym, subst, suc-mul}
-use Rattle.std.proofs.lemmas.List.{get_or_default}
+use Rattle.std.proofs.Common.{◌≡◌, ◌<◌, ◌^◌, ◌∙◌, ℕ, suc, List, length, arith, refl, sym, subst, add-one, suc-mul}
+use Rattle.std.proofs.lemmas.List.{length-map}
 use Rattle.pua_audit.specs.Bounds.{letter_cost}
-use Rattle.pua_audit.specs.Past.{history_of}
-use Rattle.pua_audit.specs.Ready.{judge_in, letters_of}
+use Rattle.pua_audit.specs.Ready.{part_bytes, judge_in, letters_of}
 use Rattle.pua_audit.specs.Rows.{IsRow}
-use Rattle.pua_audit.proofs.Bare.{bare_told}
-use Rattle.pua_audit.proofs.Rowed.{row_skipped}
+use Rattle.pua_audit.specs.Spots.{AreLettersIn, IsReached}
+use Rattle.pua_audit.proofs.Costs.{letters_within}
+use Rattle.pua_audit.proofs.Gaps.{letters_bare, row_started, row_further}
+use Rattle.pua_audit.proofs.Lists.{places_few, reached_all}
+use Rattle.pua_audit.proofs.Moves.{all_at_index}
+use Rattle.pua_audit.proofs.Rowed.{grown_itself, grown_further}
+use Rattle.pua_steps.specs.Limits.{call_count}
 use Rattle.pua_audit.proofs.terms.Terms.row.Goals as goal
+
+pub loop-letter-init : goal.loop-letter-init
+loop-letter-init g c =
+    let a = c.args.self.now in
+    let s = c.args.spots.now in
+    let missing : ℕ = c.missing-missing.result in
+    let ns : List ℕ = c.deref-letter-items.result.now in
+    let among : AreLettersIn c.args.dir s.dots.items s.names.items ns = subst (AreLettersIn c.args.dir s.dots.items s.names.items) (sym c.deref-letter-items.ensures.value) c.in_ok-letters.ensures in
+    let bare = letters_bare a c.args.dir missing s.dots.items s.names.items ns c.requires.sound c.requires.living c.missing-missing.ensures.exact c.requires.spots among in
+    record {
+      row = λ n low reached.
+          subst (IsRow (judge_in a) (letters_of a) c.args.dirs.now c.args.dir n missing) (sym c.new-entries.ensures.items)
+          (row_started (judge_in a) (letters_of a) c.args.dir missing ns bare c.args.dirs.now (subst (λ m. m < 2 ^ call_count) c.bits-others.ensures.number c.bits-others.ensures.calls) n low reached);
+      grown = grown_itself c.args.dirs.now;
+      living = c.requires.dirs;
+      tree = c.missing-missing.ensures.tree ∙ c.requires.tree;
+      cost = omega (arith, c.missing-missing.ensures.cost);
+    }
+
+pub letter-found-requires : goal.letter-found-requires
+letter-found-requires g c κs =
+    let a = c.args.self.now in
+    let s = c.args.spots.now in
+    let ns : List ℕ = c.deref-letter-items.result.now in
+    let among : AreLettersIn c.args.dir s.dots.items s.names.items ns = subst (AreLettersIn c.args.dir s.dots.items s.names.items) (sym c.deref-letter-items.ensures.value) c.in_ok-letters.ensures in
+    let many : length (letters_of a) ≡ length a.letters.items = length-map a.letters.items part_bytes in
+    let at = all_at_index (λ n. n < length (letters_of a)) ns 0 (among.within (length (letters_of a)) c.requires.spots.dotted c.requires.spots.within) c.loop-letter.letter-index c.loop-letter-test.true in
+    ((refl, tt), (c.loop-letter.invariant.tree, (c.requires.sound, (c.requires.living, omega (arith, at, many)))))
+
+pub returns-in_err-put-clause-cost : goal.returns-in_err-put-clause-cost
+returns-in_err-put-clause-cost g c =
+    let a = c.args.self.now in
+    let s = c.args.spots.now in
+    let l = c.loop-letter in
+    let ns : List ℕ = c.deref-letter-items.result.now in
+    let among : AreLettersIn c.args.dir s.dots.items s.names.items ns = subst (AreLettersIn c.args.dir s.dots.items s.names.items) (sym c.deref-letter-items.ensures.value) c.in_ok-letters.ensures in
+    let many : length (letters_of a) ≡ length a.letters.items = length-map a.letters.items part_bytes in
+    let few = places_few ns (length (letters_of a)) among.rise (among.within (length (letters_of a)) c.requires.spots.dotted c.requires.spots.within) (suc l.letter-index) (omega (arith, c.loop-letter-test.true)) in
+    omega (arith, l.invariant.cost, c.letter-found.ensures.cost, suc-mul l.letter-index (letter_cost a.seen.tree), letters_within a.seen.tree (length a.letters.items) (suc l.letter-index) (omega (arith, few, many)))
+
+pub loop-letter-preserved : goal.loop-letter-preserved
+loop-letter-preserved g c =
+    let a = c.args.self.now in
+    let s = c.args.spots.now in
+    let l = c.loop-letter in
+    let k : ℕ = l.letter-index in
+    let missing : ℕ = c.missing-missing.result in
+    let ns : List ℕ = c.deref-letter-items.result.now in
+    let among : AreLettersIn c.args.dir s.dots.items s.names.items ns = subst (AreLettersIn c.args.dir s.dots.items s.names.items) (sym c.deref-letter-items.ensures.value) c.in_ok-letters.ensures in
+    let bare = letters_bare a c.args.dir missing s.dots.items s.names.items ns c.requires.sound c.requires.living c.missing-missing.ensures.exact c.requires.spots among in
+    record {
+      row = λ n low reached.
+          row_further (judge_in a) (letters_of a) c.args.dir missing ns bare l.dirs c.put.new.dirs l.entries.items c.put.new.entries.items k c.loop-letter-test.true among.rise l.invariant.row
+          (c.in_ok-put.ensures.row (judge_in a) (letters_of a) c.args.dir c.letter-found.ensures.exact) n low (subst (λ j. IsReached ns j n) (add-one k) reached);
+      grown = grown_further c.args.dirs.now l.dirs c.put.new.dirs l.invariant.grown c.in_ok-put.ensures.grown;
+      living = c.in_ok-put.ensures.living a.seen.tree c.letter-found.ensures.lives l.invariant.living;
+      tree = c.letter-found.ensures.tree ∙ l.invariant.tree;
+      cost = omega (arith, l.invariant.cost, c.letter-found.ensures.cost, suc-mul k (letter_cost a.seen.tree));
+    }
 
 pub returns-clause-row : goal.returns-clause-row
 returns-clause-row g c =
     let a = c.args.self.now in
+    let s = c.args.spots.now in
     let l = c.loop-letter in
-    let all : l.letter ≡ length a.letters.items = omega (arith, c.loop-letter-test.false, l.auto.letter-end, c.len-letter-end.ensures) in
+    let ns : List ℕ = c.deref-letter-items.result.now in
+    let among : AreLettersIn c.args.dir s.dots.items s.names.items ns = subst (AreLettersIn c.args.dir s.dots.items s.names.items) (sym c.deref-letter-items.ensures.value) c.in_ok-letters.ensures in
+    let many : length (letters_of a) ≡ length a.letters.items = length-map a.letters.items part_bytes in
+    let whole : l.letter-index ≡ length ns = omega (arith, c.loop-letter-test.false, l.auto.letter-index-end) in
+    let reached = reached_all ns (length (letters_of a)) l.letter-index (among.within (length (letters_of a)) c.requires.spots.dotted c.requires.spots.within) whole in
     subst (λ (m : ℕ). IsRow (judge_in a) (letters_of a) l.dirs c.args.dir (length a.letters.items) m l.entries.items) (sym c.bits-others.ensures.number)
-    (subst (λ (n : ℕ). IsRow (judge_in a) (letters_of a) l.dirs c.args.dir n c.missing-missing.result l.entries.items) all l.invariant.row)
+    (subst (λ (n : ℕ). IsRow (judge_in a) (letters_of a) l.dirs c.args.dir n c.missing-missing.result l.entries.items) many (l.invariant.row (length (letters_of a)) (omega arith) reached))
 
--- a letter that the calls on missing names tell
-pub loop-letter-preserved-then-not-index : goal.loop-letter-preserved-then-not-index
-loop-letter-preserved-then-not-index g c =
+pub returns-clause-cost : goal.returns-clause-cost
+returns-clause-cost g c =
     let a = c.args.self.now in
+    let s = c.args.spots.now in
     let l = c.loop-letter in
-    let missing : ℕ = c.missing-missing.result in
-    let letter = get_or (letters_of a) l.letter [] in
-    let low : l.letter < length a.letters.items = omega (arith, c.loop-letter-test.true, l.auto.letter-end, c.len-letter-end.ensures) in
-    let marks : List Bool = c.in_ok-marks.marks.items in
-    let unmarked : get_or marks l.letter true ≡ false = get_or_default marks l.letter true c.index.result.now (omega (arith, low, c.in_ok-marks.ensures.many)) ∙ sym c.index.ensures ∙ c.if-not-index.true in
-    let told = bare_told a.seen.tree a.table a.base (history_of a.process) c.args.dir letter missing c.requires.sound.tree c.requires.living c.missing-missing.ensures.exact (c.in_ok-marks.ensures.bare l.letter low unmarked) in
-    record {
-      row = row_skipped (judge_in a) (letters_of a) c.args.dir missing l.dirs l.letter missing missing 0 None l.entries.items l.invariant.row told refl refl refl;
-      grown = l.invariant.grown;
-      living = l.invariant.living;
-      tree = l.invariant.tree;
-      cost = omega (arith, l.invariant.cost, suc-mul l.letter (letter_cost a.seen.tree));
-    }
+    let ns : List ℕ = c.deref-letter-items.result.now in
+    let among : AreLettersIn c.args.dir s.dots.items s.names.items ns = subst (AreLettersIn c.args.dir s.dots.items s.names.items) (sym c.deref-letter-items.ensures.value) c.in_ok-letters.ensures in
+    let many : length (letters_of a) ≡ length a.letters.items = length-map a.letters.items part_bytes in
+    let few = places_few ns (length (letters_of a)) among.rise (among.within (length (letters_of a)) c.requires.spots.dotted c.requires.spots.within) l.letter-index (omega (arith, l.auto.letter-index-end)) in
+    omega (arith, l.invariant.cost, letters_within a.seen.tree (length a.letters.items) l.letter-index (omega (arith, few, many)))

@@ -1,15 +1,16 @@
-use Rattle.std.proofs.Common.{◌≡◌, ◌≤◌, ◌+◌, ◌*◌}
+use Rattle.std.proofs.Common.{◌≡◌, ◌≤◌, ◌+◌, ◌*◌, ℕ, length}
 use Rattle.pua_audit.specs.Bounds.{letter_cost, object_cost}
 use Rattle.pua_audit.specs.Ready.{judge_in, letters_of}
 use Rattle.pua_audit.specs.Rows.{AreLiving, IsGrown, IsRow}
+use Rattle.pua_audit.specs.Spots.{IsReached}
 use Rattle.pua_audit.proofs.terms.Terms.row.Given as goal
 
--- the row has the letters so far
+-- the row has all letters before the next one that is looked up
 abbrev pub invariant-loop-letter : goal.invariant-loop-letter
 invariant-loop-letter g l = record {
-  row : IsRow (judge_in l.self) (letters_of l.self) l.dirs l.dir l.letter l.missing l.entries.items;
+  row : (n : ℕ) → n ≤ length (letters_of l.self) → IsReached l.letter-items l.letter-index n → IsRow (judge_in l.self) (letters_of l.self) l.dirs l.dir n l.missing l.entries.items;
   grown : IsGrown l.fn.dirs l.dirs;
   living : AreLiving l.self.seen.tree l.dirs;
   tree : g.P.Probe.tree l.probe ≡ l.self.seen.tree;
-  cost : g.P.Probe.count l.probe ≤ g.P.Probe.count l.fn.probe + (object_cost l.self.seen.tree + l.letter * letter_cost l.self.seen.tree);
+  cost : g.P.Probe.count l.probe ≤ g.P.Probe.count l.fn.probe + (object_cost l.self.seen.tree + l.letter-index * letter_cost l.self.seen.tree);
 }
