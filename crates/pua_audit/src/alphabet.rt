@@ -40,10 +40,9 @@ pub(crate) fn alphabet<'t, P: Probe<'t>>(
 fn named_parts(alloc: Global, names: &[Name]) -> Result<Vec<Part>, OutOfMemory>
     ensures { IfOk result (λ parts. map part_bytes parts.items ≡ names.now) }
 {
-    let mut parts = Vec::new(alloc);
-    for name in names {
-        parts.push(Part::Name(*name)).map_err(|_| OutOfMemory)?;
-    }
+    let Ok(parts) = names.iter().map(|name| Part::Name(*name)).collect(alloc) else {
+        return Err(OutOfMemory);
+    };
     Ok(parts)
 }
 

@@ -3,7 +3,7 @@ use Rattle.std.proofs.Common.{◌≡◌, ℕ, Bool, Bor, true, false, cond, ◌|
 use Rattle.std.specs.List.{list_any}
 use Rattle.std.specs.Map.{keys_of}
 use Rattle.std.specs.declared.cmp.Ordering.TheVariants.{Less, Equal, Greater}
-use Rattle.std.specs.Ordering.{eq_by_cmp}
+use Rattle.std.specs.Ordering.{eq_by_cmp, match_ordering}
 use Rattle.std.specs.BTreeSet.{insert_key}
 use Rattle.std.specs.Cmp.Lexicographic.{nat_list_cmp_total}
 use Rattle.std.specs.FinMap.{find, put, is_sorted, nat_cmp-IsAntisymmetric, slice_cmp-IsAntisymmetric}
@@ -100,9 +100,22 @@ names_held s =
     names_alike (map (λ (k : Spot). k.name) (keys_of s.rows.entries)) (map (λ row. row.0.1) (held_rows s))
     (λ q. any_mapped (λ n. eq_by_cmp name_cmp q n) (keys_of s.rows.entries) ∙ sym (any_held (λ n. eq_by_cmp name_cmp q n) s.rows.entries))
 
+-- a set of lent names, with one name more
+lent_with : (name : Bor (List ℕ)) (names : List (Bor (List ℕ))) → map (λ n. n.now) (insert_key (λ n m. name_cmp n.now m.now) names name) ≡ insert_key name_cmp (map (λ n. n.now) names) name.now
+lent_with name [] = refl
+lent_with name (n ∷ ns) =
+    elim (name_cmp name.now n.now) as (λ o. map (λ (n : Bor (List ℕ)). n.now) (match_ordering o (name ∷ n ∷ ns) (n ∷ ns) (n ∷ insert_key (λ n m. name_cmp n.now m.now) ns name))
+    ≡ match_ordering o (name.now ∷ n.now ∷ map (λ n. n.now) ns) (n.now ∷ map (λ n. n.now) ns) (n.now ∷ insert_key name_cmp (map (λ n. n.now) ns) name.now)) [
+      | Less ↦ refl
+      | Equal ↦ refl
+      | Greater ↦ ap (λ ns. n.now ∷ ns) (lent_with name ns)
+    ]
+
 -- the names of keys from the last one on, with the name of one key more
-pub one_key_more : (keys : List (Bor Spot)) (key : Bor Spot) (names more : List (List ℕ)) → names ≡ distinct_names (map (λ k. k.name) (reverse (map (λ k. k.now) keys))) → more ≡ insert_key name_cmp names key.now.name
-    → more ≡ distinct_names (map (λ k. k.name) (reverse (map (λ k. k.now) (keys ++ key ∷ []))))
-one_key_more keys key names more so_far new =
-    new ∙ with_name_is key.now.name names ∙ ap (with_name key.now.name) so_far
+pub one_key_more : (keys : List (Bor Spot)) (key : Bor Spot) (names more : List (Bor (List ℕ))) (name : Bor (List ℕ)) → name.now ≡ key.now.name
+    → map (λ n. n.now) names ≡ distinct_names (map (λ k. k.name) (reverse (map (λ k. k.now) keys))) → more ≡ insert_key (λ n m. name_cmp n.now m.now) names name
+    → map (λ n. n.now) more ≡ distinct_names (map (λ k. k.name) (reverse (map (λ k. k.now) (keys ++ key ∷ []))))
+one_key_more keys key names more name its so_far new =
+    ap (λ (ns : List (Bor (List ℕ))). map (λ n. n.now) ns) new ∙ lent_with name names ∙ ap (insert_key name_cmp (map (λ n. n.now) names)) its
+    ∙ with_name_is key.now.name (map (λ n. n.now) names) ∙ ap (with_name key.now.name) so_far
     ∙ sym (ap (λ (ks : List Spot). distinct_names (map (λ k. k.name) (reverse ks))) (map-append (λ k. k.now) keys (key ∷ [])) ∙ ap (λ (ks : List Spot). distinct_names (map (λ k. k.name) ks)) (reverse-append (map (λ k. k.now) keys) (key.now ∷ [])))

@@ -4,6 +4,7 @@
 use crate::fault::TreeFault;
 use crate::name::Name;
 use crate::node::{Kind, NodeId};
+use crate::spot::Spot;
 use crate::tree::{MOST_NAMES, NUMBER_END};
 
 /// What a judgement asks of a tree. The edits of `FileTree` are judged by these answers, so it is no
@@ -23,9 +24,9 @@ pub(crate) trait Judged {
     fn kind_of(&self, id: NodeId) -> Option<Kind>
         ensures { result ≡ kind_at (held self.now) id };
 
-    /// The node that has this name in this directory.
-    fn node_at(&self, dir: NodeId, name: &Name) -> Option<NodeId>
-        ensures { result ≡ look (held self.now) dir name.now };
+    /// The node in the row at this spot.
+    fn node_at(&self, spot: &Spot) -> Option<NodeId>
+        ensures { result ≡ look (held self.now) spot.now.dir spot.now.name };
 
     /// The directory above a living directory.
     fn dir_above(&self, dir: NodeId) -> Option<NodeId>
@@ -64,7 +65,7 @@ pub(crate) fn find<T: Judged>(tree: &T, dir: NodeId, bytes: &[u8]) -> Option<(No
     let Some(name) = Name::from_bytes(bytes) else {
         return None;
     };
-    let node = tree.node_at(dir, &name)?;
+    let node = tree.node_at(&Spot { dir, name })?;
     let kind = tree.kind_of(node)?;
     Some((node, kind))
 }
@@ -81,7 +82,7 @@ pub(crate) fn may_add<T: Judged>(tree: &T, dir: NodeId, name: &Name) -> Result<(
     if !is_dir(tree, dir) {
         return Err(TreeFault::NotDir);
     }
-    if tree.node_at(dir, name).is_some() {
+    if tree.node_at(&Spot { dir, name: *name }).is_some() {
         return Err(TreeFault::Taken);
     }
     if !has_room(tree) {
@@ -113,7 +114,7 @@ pub(crate) fn may_tie<T: Judged>(
         Some(Kind::Dir) => return Err(TreeFault::IsDir),
         Some(_) => {}
     }
-    if tree.node_at(dir, name).is_some() {
+    if tree.node_at(&Spot { dir, name: *name }).is_some() {
         return Err(TreeFault::Taken);
     }
     if !has_name_room(tree) {
@@ -132,7 +133,8 @@ pub(crate) fn may_cut<T: Judged>(tree: &T, dir: NodeId, name: &Name) -> Result<N
     if !is_dir(tree, dir) {
         return Err(TreeFault::NotDir);
     }
-    let node = tree.node_at(dir, name).ok_or(TreeFault::Missing)?;
+    let spot = Spot { dir, name: *name };
+    let node = tree.node_at(&spot).ok_or(TreeFault::Missing)?;
     if is_full_dir(tree, node) {
         return Err(TreeFault::NotEmpty);
     }
@@ -159,8 +161,16 @@ pub(crate) fn may_shift<T: Judged>(
     if !(is_dir(tree, from) && is_dir(tree, to)) {
         return Err(TreeFault::NotDir);
     }
-    let node = tree.node_at(from, name).ok_or(TreeFault::Missing)?;
-    let there = tree.node_at(to, new_name);
+    let spot = Spot {
+        dir: from,
+        name: *name,
+    };
+    let new_spot = Spot {
+        dir: to,
+        name: *new_name,
+    };
+    let node = tree.node_at(&spot).ok_or(TreeFault::Missing)?;
+    let there = tree.node_at(&new_spot);
     if there == Some(node) {
         return Ok(None);
     }

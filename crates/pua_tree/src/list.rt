@@ -6,6 +6,7 @@ use crate::judgement::{self, Judged, may_add, may_cut, may_shift, may_tie};
 use crate::list_edits::{copied_target, push_made, put_row, reserve_one, take_row, take_unnamed};
 use crate::name::Name;
 use crate::node::{Kind, NodeId};
+use crate::spot::Spot;
 use crate::tree::{FileTree, LentRow};
 use std::alloc::{AllocError, Global};
 use std::cmp::Ordering;
@@ -68,7 +69,7 @@ impl FileTree for ListTree {
     }
 
     fn look(&self, dir: NodeId, name: &Name) -> Option<NodeId> {
-        self.node_at(dir, name)
+        self.node_at(&Spot { dir, name: *name })
     }
 
     fn find(&self, dir: NodeId, bytes: &[u8]) -> Option<(NodeId, Kind)> {
@@ -221,8 +222,8 @@ impl Judged for ListTree {
         }
     }
 
-    fn node_at(&self, dir: NodeId, name: &Name) -> Option<NodeId> {
-        match row_place(&self.rows, dir, name) {
+    fn node_at(&self, spot: &Spot) -> Option<NodeId> {
+        match row_place(&self.rows, spot.dir, &spot.name) {
             Ok(place) => Some(self.rows[place].node),
             Err(_) => None,
         }

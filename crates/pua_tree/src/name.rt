@@ -87,7 +87,10 @@ impl Name {
         if bytes.len() > Name::MOST {
             return Err(NameFault::TooLong);
         }
-        Name::from_bytes(bytes).ok_or(NameFault::NotAName)
+        let Some(name) = Name::from_bytes(bytes) else {
+            return Err(NameFault::NotAName);
+        };
+        Ok(name)
     }
 
     /// The name of these bytes, if they are a name's.

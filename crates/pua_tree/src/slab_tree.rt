@@ -7,6 +7,7 @@ use crate::list_edits::copied_target;
 use crate::name::Name;
 use crate::node::{Kind, NodeId};
 use crate::slots::Slots;
+use crate::spot::Spot;
 use crate::tree::{FileTree, LentRow};
 use std::alloc::Global;
 use std::marker::Model;
@@ -47,7 +48,7 @@ impl FileTree for SlabTree {
     }
 
     fn look(&self, dir: NodeId, name: &Name) -> Option<NodeId> {
-        self.node_at(dir, name)
+        self.node_at(&Spot { dir, name: *name })
     }
 
     fn find(&self, dir: NodeId, bytes: &[u8]) -> Option<(NodeId, Kind)> {
@@ -128,7 +129,11 @@ impl FileTree for SlabTree {
         if self.slots.reserve_row().is_err() {
             return Err(TreeFault::OutOfMemory);
         }
-        match self.slots.row(to, &new_name) {
+        let spot = Spot {
+            dir: to,
+            name: new_name,
+        };
+        match self.slots.row(&spot) {
             Some(displaced) => {
                 self.slots.take_row(to, &new_name, displaced);
                 self.slots.move_row(from, name, to, new_name, node);
@@ -177,8 +182,8 @@ impl Judged for SlabTree {
         self.slots.kind(id)
     }
 
-    fn node_at(&self, dir: NodeId, name: &Name) -> Option<NodeId> {
-        self.slots.row(dir, name)
+    fn node_at(&self, spot: &Spot) -> Option<NodeId> {
+        self.slots.row(spot)
     }
 
     fn dir_above(&self, dir: NodeId) -> Option<NodeId> {

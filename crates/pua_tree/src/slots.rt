@@ -49,13 +49,12 @@ ghost use Rattle.pua_tree.specs.LentRows.{lent_entry};
 ghost use Rattle.pua_tree.specs.Slots.{held_rows, held_nodes, held_in_slots, names_of, IsNew, MayStand, with_made, row_at, slot_of, node_in, IsFiled, IsKept, Restands, row_gained, row_lost, name_gained, name_lost};
 
 impl Slots {
-    /// The node in the row of this directory and name.
+    /// The node in the row at this spot.
     #[inline(always)]
-    pub(crate) fn row(&self, dir: NodeId, name: &Name) -> Option<NodeId>
-        ensures { result ≡ row_at self.now (dir, name.now) }
+    pub(crate) fn row(&self, spot: &Spot) -> Option<NodeId>
+        ensures { result ≡ row_at self.now (spot.now.dir, spot.now.name) }
     {
-        let spot = Spot { dir, name: *name };
-        self.rows.get(&spot).copied()
+        self.rows.get(spot).copied()
     }
 
     /// The node of this number.
@@ -366,16 +365,16 @@ impl Slots {
         ensures { IfOk result (λ all. all.items ≡ distinct_names (map (λ row. row.0.1) (held_rows self.now))) }
     {
         let names = self.name_set(alloc)?;
-        names.into_iter().collect(alloc)
+        names.into_iter().copied().collect(alloc)
     }
 
-    /// The names in the rows, as a set.
-    fn name_set(&self, alloc: Global) -> Result<BTreeSet<Name>, AllocError>
-        ensures { IfOk result (λ names. names.keys ≡ distinct_names (map (λ row. row.0.1) (held_rows self.now))) }
+    /// The names in the rows, as a set that lends them.
+    fn name_set(&self, alloc: Global) -> Result<BTreeSet<&Name>, AllocError>
+        ensures { IfOk result (λ names. map (λ name. name.now) names.keys ≡ distinct_names (map (λ row. row.0.1) (held_rows self.now))) }
     {
         let mut names = BTreeSet::new(alloc);
         for spot in self.rows.keys().as_slice().iter().rev() {
-            names.insert(spot.name)?;
+            names.insert(&spot.name)?;
         }
         Ok(names)
     }

@@ -1,4 +1,4 @@
-use Rattle.std.proofs.Common.{◌∙◌, ap, map, reverse, List}
+use Rattle.std.proofs.Common.{◌∙◌, ap, map, refl, reverse, List}
 use Rattle.std.proofs.lemmas.List.{reverse-reverse}
 use Rattle.std.proofs.lemmas.Iterator.Adapters.{YieldsList-from_rev_slice}
 use Rattle.std.proofs.lemmas.Iterator.Consumers.{YieldsList-end}
@@ -9,7 +9,7 @@ use Rattle.pua_tree.proofs.slots.Slots.name_set.Goals as goal
 
 pub loop-spot-preserved : goal.loop-spot-preserved
 loop-spot-preserved c =
-    one_key_more c.loop-spot.yielded c.in-Some.spot c.loop-spot.names.keys c.insert.new.self.keys c.loop-spot.invariant c.in_ok-insert.ensures.keys
+    one_key_more c.loop-spot.yielded c.in-Some.spot c.loop-spot.names.keys c.insert.new.self.keys _ refl c.loop-spot.invariant c.in_ok-insert.ensures.keys
 
 pub returns : goal.returns
 returns c =
