@@ -1,5 +1,5 @@
 -- A resolution on its way: what stands at a name, and how one part leads on to the next.
-use Rattle.std.specs.Prelude.{ℕ, ◌+◌, ◌*◌, ◌≤◌, length, Option, Some, None, Result, Ok, Err, IsTrue}
+use Rattle.std.specs.Prelude.{ℕ, ◌+◌, ◌*◌, ◌≤◌, List, length, Option, Some, None, Result, Ok, Err, IsTrue}
 use Rattle.pua_tree.specs.Names.{is_name}
 use Rattle.pua_tree.specs.Tree.{Tree, WellFormed, is_dir}
 use Rattle.pua_path.specs.Limits.{link_limit}
@@ -10,8 +10,13 @@ use Rattle.pua_path.specs.Bounds.{most_parts}
 use Rattle.pua_path.specs.declared.errno.Errno.{Errno}
 use Rattle.pua_path.specs.declared.text.Ending.TheVariants.{Dot}
 use Rattle.pua_path.specs.declared.found.Found.{Found}
-use Rattle.pua_path.specs.declared.found.Found.TheVariants.{Slot}
-use Rattle.pua_path.specs.declared.resolver.LentSlot.{LentSlot}
+use Rattle.pua_path.specs.declared.found.Found.TheVariants.{Whole, Slot}
+use Rattle.pua_path.specs.declared.found.Way.{Way}
+use Rattle.pua_path.specs.declared.found.Way.TheVariants as ways
+use Rattle.pua_path.specs.declared.resolver.LentFound.{LentFound}
+use Rattle.pua_path.specs.declared.resolver.LentFound.TheVariants as lent
+use Rattle.pua_path.specs.declared.resolver.Nameless.{Nameless}
+use Rattle.pua_path.specs.declared.resolver.Nameless.TheVariants as nameless
 use Rattle.pua_path.specs.declared.resolver.Standing as seen
 use Rattle.pua_path.specs.declared.resolver.Standing.TheVariants as see
 
@@ -29,19 +34,33 @@ StandsIn t (see.Linked x target) = IsTrue (is_readable target.now) × (length (p
 StandsIn t (see.Plain x) = Unit {0}
 StandsIn t see.Nothing = Unit {0}
 
--- what a part that is no directory names, its name being lent
-abbrev pub slot_found : LentSlot → Found
-slot_found slot = Slot slot.dir slot.name.now slot.node
+-- how a directory was named by no name
+abbrev pub way_of : Nameless → Way
+way_of nameless.Dot = ways.Dot
+way_of nameless.DotDot = ways.DotDot
+way_of nameless.Top = ways.Top
 
-abbrev pub slots_found : Result (Option LentSlot) Errno → Result (Option Found) Errno
-slots_found (Ok None) = Ok None
-slots_found (Ok (Some slot)) = Ok (Some (slot_found slot))
-slots_found (Err errno) = Err errno
+-- what a name names, the name being lent
+abbrev pub lent_name : LentFound → List ℕ
+lent_name (lent.Whole _ _ name) = name.now
+lent_name (lent.Slot _ name _) = name.now
+
+abbrev pub found_of : LentFound → Found
+found_of (lent.Whole dir parent name) = Whole dir (ways.Named parent name.now)
+found_of (lent.Slot dir name x) = Slot dir name.now x
+
+abbrev pub all_found : Result (Option LentFound) Errno → Result (Option Found) Errno
+all_found (Ok None) = Ok None
+all_found (Ok (Some found)) = Ok (Some (found_of found))
+all_found (Err errno) = Err errno
 
 -- the bytes that are lent as a name are one
-abbrev pub AreNamed : Option LentSlot → Type 0
+abbrev pub IsNamed : LentFound → Type 0
+IsNamed found = IsTrue (is_name (lent_name found))
+
+abbrev pub AreNamed : Option LentFound → Type 0
 AreNamed None = Unit {0}
-AreNamed (Some slot) = IsTrue (is_name slot.name.now)
+AreNamed (Some found) = IsNamed found
 
 -- a part ends the resolution, or leaves it to the further parts
 abbrev pub goes_on : Result (Option Found) Errno → ℕ → Resolved → Resolved

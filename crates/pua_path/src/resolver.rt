@@ -6,12 +6,13 @@ ghost use Rattle.pua_tree.specs.Tree.{above, is_dir};
 ghost use Rattle.pua_path.specs.Resolution.{resolution, resolve_parts, standing_at, is_followed, start_of, step, last, follow};
 ghost use Rattle.pua_path.specs.Limits.{link_limit};
 ghost use Rattle.pua_path.specs.Paths.{is_absolute, part_of, parts_of};
-ghost use Rattle.pua_path.specs.Walks.{slot_found, slots_found, AreNamed, standing_seen, StandsIn, CanGoOn, goes_on, ended, potential};
+ghost use Rattle.pua_path.specs.Walks.{way_of, lent_name, found_of, all_found, IsNamed, AreNamed, standing_seen, StandsIn, CanGoOn, goes_on, ended, potential};
 ghost use Rattle.pua_path.specs.Bounds.{part_cost};
 ghost use Rattle.pua_path.specs.Fits.{FoundFits, FoundsFit, StandsAsNamed};
 ghost use Rattle.pua_path.specs.Remaining.{Remaining, is_done, is_piece, is_readable};
 ghost use Rattle.pua_path.specs.declared.errno.Errno.TheVariants.{ELOOP, ENOENT, ENOTDIR};
 ghost use Rattle.pua_path.specs.declared.found.Way.TheVariants as ways;
+ghost use Rattle.pua_path.specs.declared.resolver.Nameless.TheVariants as nameless;
 ghost use Rattle.pua_path.specs.declared.found.Part.TheVariants as parts;
 ghost use Rattle.pua_path.specs.declared.found.Found.TheVariants.{Slot};
 ghost use Rattle.pua_path.specs.declared.text.Ending.TheVariants as ending;
@@ -151,7 +152,7 @@ fn resolve_part<'t, P: Probe<'t>>(
     probe.known();
     let mut walk = Walk::new(dir, left, Rest::none());
     match walk.enter(probe, part, mode) {
-        Ok(Some(slot)) => Ok((slot.found(), walk.left)),
+        Ok(Some(lent)) => Ok((lent.found(), walk.left)),
         Ok(None) => walk.finish_counted(probe, mode),
         Err(errno) => Err(errno),
     }
@@ -213,25 +214,64 @@ fn standing_at<'t, P: Probe<'t>>(probe: &mut P, dir: NodeId, name: &[u8]) -> Sta
     }
 }
 
-/// What a path names that is no directory: a name in a directory, and the node there; or nothing. The
-/// name is lent, and copied once.
+/// What a path names by a name: a directory and its parent, or what stands in a directory and is
+/// none, or nothing. The name is lent, and copied once.
 #[derive(Clone, Copy)]
-struct LentSlot<'a> {
-    dir: NodeId,
-    name: &'a [u8],
-    node: Option<NodeId>,
+enum LentFound<'a> {
+    Whole {
+        dir: NodeId,
+        parent: NodeId,
+        name: &'a [u8],
+    },
+    Slot {
+        dir: NodeId,
+        name: &'a [u8],
+        node: Option<NodeId>,
+    },
 }
 
-impl LentSlot<'_> {
+impl LentFound<'_> {
     #[inline(always)]
     fn found(&self) -> Found
-        requires { IsTrue (is_name self.now.name.now) }
-        ensures { result ≡ slot_found self.now }
+        requires { IsNamed self.now }
+        ensures { result ≡ found_of self.now }
     {
-        Found::Slot {
-            dir: self.dir,
-            name: name_of(self.name),
-            node: self.node,
+        let name = name_of(self.name());
+        match *self {
+            LentFound::Whole { dir, parent, .. } => Found::Whole {
+                dir,
+                way: Way::Named { parent, name },
+            },
+            LentFound::Slot { dir, node, .. } => Found::Slot { dir, name, node },
+        }
+    }
+
+    #[inline(always)]
+    fn name(&self) -> &[u8]
+        ensures { result.now ≡ lent_name self.now }
+    {
+        match self {
+            LentFound::Whole { name, .. } | LentFound::Slot { name, .. } => name,
+        }
+    }
+}
+
+/// How a directory was named where that was by no name: a way that ends by a name is found at once.
+#[derive(Clone, Copy)]
+enum Nameless {
+    Dot,
+    DotDot,
+    Top,
+}
+
+impl Nameless {
+    fn way(self) -> Way
+        ensures { result ≡ way_of self }
+    {
+        match self {
+            Nameless::Dot => Way::Dot,
+            Nameless::DotDot => Way::DotDot,
+            Nameless::Top => Way::Top,
         }
     }
 }
@@ -241,7 +281,7 @@ impl LentSlot<'_> {
 #[derive(Drop)]
 struct Walk<'a> {
     here: NodeId,
-    way: Way,
+    way: Nameless,
     left: u8,
     rest: Rest<'a>,
 }
@@ -249,11 +289,11 @@ struct Walk<'a> {
 impl<'a> Walk<'a> {
     #[inline(always)]
     fn new(dir: NodeId, left: u8, rest: Rest<'a>) -> Walk<'a>
-        ensures { result ≡ record { here = dir; way = ways.Top; left = left; rest = rest.entry } }
+        ensures { result ≡ record { here = dir; way = nameless.Top; left = left; rest = rest.entry } }
     {
         Walk {
             here: dir,
-            way: Way::Top,
+            way: Nameless::Top,
             left,
             rest,
         }
@@ -262,7 +302,7 @@ impl<'a> Walk<'a> {
     /// Resolves the parts that are left.
     fn finish<'t: 'a, P: Probe<'t>>(&mut self, probe: &mut P, mode: Last) -> Result<Found, Errno>
         requires ready { CanGoOn (P.tree probe.old) self.old.here self.old.left self.old.rest }
-        ensures exact { ended result self.new.left ≡ resolve_parts self.old.left (P.tree probe.old) mode self.old.here self.old.way self.old.rest.parts }
+        ensures exact { ended result self.new.left ≡ resolve_parts self.old.left (P.tree probe.old) mode self.old.here (way_of self.old.way) self.old.rest.parts }
         ensures left { self.new.left ≤ self.old.left }
         ensures tree { P.tree probe.new ≡ P.tree probe.old }
         ensures count { P.count probe.new ≤ P.count probe.old + 3 * potential (P.tree probe.old) self.old.left self.old.rest }
@@ -270,13 +310,13 @@ impl<'a> Walk<'a> {
         while let Some(piece) = self.rest.next() {
             match self.enter_piece(probe, piece, mode) {
                 Ok(None) => {}
-                Ok(Some(slot)) => return Ok(slot.found()),
+                Ok(Some(lent)) => return Ok(lent.found()),
                 Err(errno) => return Err(errno),
             }
         }
         Ok(Found::Whole {
             dir: self.here,
-            way: self.way,
+            way: self.way.way(),
         })
     }
 
@@ -287,7 +327,7 @@ impl<'a> Walk<'a> {
         mode: Last,
     ) -> Result<(Found, u8), Errno>
         requires ready { CanGoOn (P.tree probe.old) self.old.here self.old.left self.old.rest }
-        ensures exact { result ≡ resolve_parts self.old.left (P.tree probe.old) mode self.old.here self.old.way self.old.rest.parts }
+        ensures exact { result ≡ resolve_parts self.old.left (P.tree probe.old) mode self.old.here (way_of self.old.way) self.old.rest.parts }
         ensures left { IfOk result (λ found. found.1 ≤ self.old.left) }
         ensures tree { P.tree probe.new ≡ P.tree probe.old }
         ensures count { P.count probe.new ≤ P.count probe.old + 3 * potential (P.tree probe.old) self.old.left self.old.rest }
@@ -305,12 +345,12 @@ impl<'a> Walk<'a> {
         probe: &mut P,
         piece: &'n [u8],
         mode: Last,
-    ) -> Result<Option<LentSlot<'n>>, Errno>
+    ) -> Result<Option<LentFound<'n>>, Errno>
         requires piece { IsTrue (is_piece piece.now) }
         requires ready { CanGoOn (P.tree probe.old) self.old.here self.old.left self.old.rest }
         ensures exact { let t = P.tree probe.old in
-            resolve_parts self.old.left t mode self.old.here self.old.way (part_of piece.now ∷ self.old.rest.parts)
-            ≡ goes_on (slots_found result) self.new.left (resolve_parts self.new.left t mode self.new.here self.new.way self.new.rest.parts) }
+            resolve_parts self.old.left t mode self.old.here (way_of self.old.way) (part_of piece.now ∷ self.old.rest.parts)
+            ≡ goes_on (all_found result) self.new.left (resolve_parts self.new.left t mode self.new.here (way_of self.new.way) self.new.rest.parts) }
         ensures ready { CanGoOn (P.tree probe.old) self.new.here self.new.left self.new.rest }
         ensures left { self.new.left ≤ self.old.left }
         ensures potential { potential (P.tree probe.old) self.new.left self.new.rest ≤ potential (P.tree probe.old) self.old.left self.old.rest }
@@ -319,7 +359,7 @@ impl<'a> Walk<'a> {
         ensures named { IfOk result AreNamed }
     {
         if piece == b".".as_slice() {
-            self.way = Way::Dot;
+            self.way = Nameless::Dot;
             Ok(None)
         } else if piece == b"..".as_slice() {
             self.climb(probe);
@@ -335,11 +375,11 @@ impl<'a> Walk<'a> {
         probe: &mut P,
         part: &'n Part,
         mode: Last,
-    ) -> Result<Option<LentSlot<'n>>, Errno>
+    ) -> Result<Option<LentFound<'n>>, Errno>
         requires ready { CanGoOn (P.tree probe.old) self.old.here self.old.left self.old.rest }
         ensures exact { let t = P.tree probe.old in
-            resolve_parts self.old.left t mode self.old.here self.old.way (part.now ∷ self.old.rest.parts)
-            ≡ goes_on (slots_found result) self.new.left (resolve_parts self.new.left t mode self.new.here self.new.way self.new.rest.parts) }
+            resolve_parts self.old.left t mode self.old.here (way_of self.old.way) (part.now ∷ self.old.rest.parts)
+            ≡ goes_on (all_found result) self.new.left (resolve_parts self.new.left t mode self.new.here (way_of self.new.way) self.new.rest.parts) }
         ensures ready { CanGoOn (P.tree probe.old) self.new.here self.new.left self.new.rest }
         ensures left { self.new.left ≤ self.old.left }
         ensures potential { potential (P.tree probe.old) self.new.left self.new.rest ≤ potential (P.tree probe.old) self.old.left self.old.rest }
@@ -349,7 +389,7 @@ impl<'a> Walk<'a> {
     {
         match part {
             Part::Dot => {
-                self.way = Way::Dot;
+                self.way = Nameless::Dot;
                 Ok(None)
             }
             Part::DotDot => {
@@ -364,7 +404,7 @@ impl<'a> Walk<'a> {
     fn climb<'t, P: Probe<'t>>(&mut self, probe: &mut P)
         requires ready { CanGoOn (P.tree probe.old) self.old.here self.old.left self.old.rest }
         ensures above { self.new.here ≡ above (P.tree probe.old) self.old.here }
-        ensures way { self.new.way ≡ ways.DotDot }
+        ensures way { self.new.way ≡ nameless.DotDot }
         ensures left { self.new.left ≡ self.old.left }
         ensures rest { self.new.rest ≡ self.old.rest }
         ensures ready { CanGoOn (P.tree probe.old) self.new.here self.new.left self.new.rest }
@@ -372,7 +412,7 @@ impl<'a> Walk<'a> {
         ensures count { P.count probe.new ≤ P.count probe.old + 1 }
     {
         self.here = probe.parent(self.here).unwrap_or(NodeId::ROOT);
-        self.way = Way::DotDot;
+        self.way = Nameless::DotDot;
     }
 
     /// Resolves a name, as `enter` does.
@@ -381,12 +421,12 @@ impl<'a> Walk<'a> {
         probe: &mut P,
         name: &'n [u8],
         mode: Last,
-    ) -> Result<Option<LentSlot<'n>>, Errno>
+    ) -> Result<Option<LentFound<'n>>, Errno>
         requires name { IsTrue (is_name name.now) }
         requires ready { CanGoOn (P.tree probe.old) self.old.here self.old.left self.old.rest }
         ensures exact { let t = P.tree probe.old in
-            resolve_parts self.old.left t mode self.old.here self.old.way (parts.Name name.now ∷ self.old.rest.parts)
-            ≡ goes_on (slots_found result) self.new.left (resolve_parts self.new.left t mode self.new.here self.new.way self.new.rest.parts) }
+            resolve_parts self.old.left t mode self.old.here (way_of self.old.way) (parts.Name name.now ∷ self.old.rest.parts)
+            ≡ goes_on (all_found result) self.new.left (resolve_parts self.new.left t mode self.new.here (way_of self.new.way) self.new.rest.parts) }
         ensures ready { CanGoOn (P.tree probe.old) self.new.here self.new.left self.new.rest }
         ensures left { self.new.left ≤ self.old.left }
         ensures potential { potential (P.tree probe.old) self.new.left self.new.rest ≤ potential (P.tree probe.old) self.old.left self.old.rest }
@@ -397,18 +437,19 @@ impl<'a> Walk<'a> {
         let dir = self.here;
         match standing_at(probe, dir, name) {
             Standing::Directory(node) => {
-                self.here = node;
                 if self.rest.is_done() {
-                    self.way = Way::Named {
+                    return Ok(Some(LentFound::Whole {
+                        dir: node,
                         parent: dir,
-                        name: name_of(name),
-                    };
+                        name,
+                    }));
                 }
+                self.here = node;
                 Ok(None)
             }
             Standing::Linked(node, target) => {
                 if !self.is_followed(mode) {
-                    return Ok(Some(LentSlot {
+                    return Ok(Some(LentFound::Slot {
                         dir,
                         name,
                         node: Some(node),
@@ -437,15 +478,15 @@ impl<'a> Walk<'a> {
         name: &'n [u8],
         node: Option<NodeId>,
         errno: Errno,
-    ) -> Result<Option<LentSlot<'n>>, Errno>
+    ) -> Result<Option<LentFound<'n>>, Errno>
         requires { IsTrue (is_name name.now) }
-        ensures exact { slots_found result ≡ (if is_done self.now.rest.parts then Ok (Some (Slot self.now.here name.now node)) else Err errno) }
+        ensures exact { all_found result ≡ (if is_done self.now.rest.parts then Ok (Some (Slot self.now.here name.now node)) else Err errno) }
         ensures named { IfOk result AreNamed }
     {
         if !self.rest.is_done() {
             return Err(errno);
         }
-        Ok(Some(LentSlot {
+        Ok(Some(LentFound::Slot {
             dir: self.here,
             name,
             node,
@@ -461,7 +502,7 @@ impl<'a> Walk<'a> {
         ensures left { self.new.left ≡ self.old.left - 1 }
         ensures unchanged { self.old.left ≡ 0 → self.new ≡ self.old }
         ensures here { 0 < self.old.left → self.new.here ≡ start_of target.now self.old.here }
-        ensures way { 0 < self.old.left → self.new.way ≡ ways.Top }
+        ensures way { 0 < self.old.left → self.new.way ≡ nameless.Top }
         ensures parts { 0 < self.old.left → self.new.rest.parts ≡ parts_of ending.Dot target.now ++ self.old.rest.parts }
         ensures room { self.new.rest.depth + self.new.left ≤ link_limit }
     {
@@ -472,7 +513,7 @@ impl<'a> Walk<'a> {
         if is_absolute(target) {
             self.here = NodeId::ROOT;
         }
-        self.way = Way::Top;
+        self.way = Nameless::Top;
         self.rest.put(target);
         Ok(())
     }

@@ -1,5 +1,5 @@
 use Rattle.pua_path.specs.Resolution.{resolve_parts}
-use Rattle.pua_path.specs.Walks.{slots_found}
+use Rattle.pua_path.specs.Walks.{all_found, way_of}
 use Rattle.pua_path.proofs.Living.{start_lives, potential_linked}
 use Rattle.pua_path.proofs.Steps.{resolve_plain, resolve_nothing}
 use Rattle.pua_path.proofs.resolver.Walk.enter_name.Goals as goal
@@ -21,12 +21,12 @@ pub returns-in-Plain-clause-exact : goal.returns-in-Plain-clause-exact
 returns-in-Plain-clause-exact g c =
     let t = g.P.Probe.tree c.args.probe.now in
     let walk = c.args.self.now in
-    resolve_plain t c.args.mode walk.left walk.here walk.way c.args.name.now walk.rest.parts c.in-Plain.node (slots_found c.end_at.result)
-    (resolve_parts walk.left t c.args.mode walk.here walk.way walk.rest.parts) c.in-Plain.ensures.standing c.end_at.ensures.exact
+    resolve_plain t c.args.mode walk.left walk.here (way_of walk.way) c.args.name.now walk.rest.parts c.in-Plain.node (all_found c.end_at.result)
+    (resolve_parts walk.left t c.args.mode walk.here (way_of walk.way) walk.rest.parts) c.in-Plain.ensures.standing c.end_at.ensures.exact
 
 pub returns-in-Nothing-clause-exact : goal.returns-in-Nothing-clause-exact
 returns-in-Nothing-clause-exact g c =
     let t = g.P.Probe.tree c.args.probe.now in
     let walk = c.args.self.now in
-    resolve_nothing t c.args.mode walk.left walk.here walk.way c.args.name.now walk.rest.parts (slots_found c.end_at-in-Nothing.result)
-    (resolve_parts walk.left t c.args.mode walk.here walk.way walk.rest.parts) c.in-Nothing.ensures.standing c.end_at-in-Nothing.ensures.exact
+    resolve_nothing t c.args.mode walk.left walk.here (way_of walk.way) c.args.name.now walk.rest.parts (all_found c.end_at-in-Nothing.result)
+    (resolve_parts walk.left t c.args.mode walk.here (way_of walk.way) walk.rest.parts) c.in-Nothing.ensures.standing c.end_at-in-Nothing.ensures.exact

@@ -1,11 +1,18 @@
-use Rattle.std.proofs.Common.{sym, ap, ◌∙◌}
-use Rattle.pua_path.specs.Resolution.{resolve_parts}
+use Rattle.std.proofs.Common.{ℕ, Ok, sym, ap, ◌∙◌}
+use Rattle.pua_path.specs.Resolution.{Resolved, resolve_parts}
+use Rattle.pua_path.specs.Walks.{way_of}
+use Rattle.pua_path.specs.declared.found.Way.{Way}
+use Rattle.pua_path.specs.declared.found.Found.TheVariants.{Whole}
 use Rattle.pua_path.proofs.Steps.{resolve_end}
 use Rattle.pua_path.proofs.resolver.Walk.finish.Goals as goal
+
+abbrev whole : ℕ → ℕ → Way → Resolved
+whole left dir way = Ok (Whole dir way, left)
 
 pub returns-clause-exact : goal.returns-clause-exact
 returns-clause-exact g c =
     let t = g.P.Probe.tree c.args.probe.now in
-    sym (resolve_end t c.args.mode c.loop-piece.self.left c.loop-piece.self.here c.loop-piece.self.way)
-    ∙ ap (resolve_parts c.loop-piece.self.left t c.args.mode c.loop-piece.self.here c.loop-piece.self.way) (sym c.in_default.ensures.parts.0)
+    ap (whole c.loop-piece.self.left c.loop-piece.self.here) c.way.ensures
+    ∙ sym (resolve_end t c.args.mode c.loop-piece.self.left c.loop-piece.self.here (way_of c.loop-piece.self.way))
+    ∙ ap (resolve_parts c.loop-piece.self.left t c.args.mode c.loop-piece.self.here (way_of c.loop-piece.self.way)) (sym c.in_default.ensures.parts.0)
     ∙ c.loop-piece.invariant.so_far

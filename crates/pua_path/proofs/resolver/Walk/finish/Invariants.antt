@@ -1,6 +1,6 @@
 use Rattle.std.proofs.Common.{◌≡◌, ◌≤◌, ◌+◌, ◌*◌}
 use Rattle.pua_path.specs.Resolution.{resolve_parts}
-use Rattle.pua_path.specs.Walks.{CanGoOn, potential}
+use Rattle.pua_path.specs.Walks.{CanGoOn, potential, way_of}
 use Rattle.pua_path.proofs.resolver.Walk.finish.Given as goal
 
 abbrev pub invariant-loop-piece : goal.invariant-loop-piece
@@ -10,7 +10,7 @@ invariant-loop-piece g l =
       tree : g.P.Probe.tree l.probe ≡ t;
       ready : CanGoOn t l.self.here l.self.left l.self.rest;
       left : l.self.left ≤ l.fn.self.left;
-      so_far : resolve_parts l.self.left t l.fn.mode l.self.here l.self.way l.self.rest.parts ≡ resolve_parts l.fn.self.left t l.fn.mode l.fn.self.here l.fn.self.way l.fn.self.rest.parts;
+      so_far : resolve_parts l.self.left t l.fn.mode l.self.here (way_of l.self.way) l.self.rest.parts ≡ resolve_parts l.fn.self.left t l.fn.mode l.fn.self.here (way_of l.fn.self.way) l.fn.self.rest.parts;
       count : g.P.Probe.count l.probe + 3 * potential t l.self.left l.self.rest ≤ g.P.Probe.count l.fn.probe + 3 * potential t l.fn.self.left l.fn.self.rest;
     }
 
