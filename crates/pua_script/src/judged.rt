@@ -54,13 +54,10 @@ pub(crate) fn judge_call<T: FileTree>(
     let mut probe = Counted::new(tree);
     let last = need(call).last;
     process.known();
-    match &named(&mut probe, process.dir(), path, ending(call), last) {
-        Ok(found) => match object_verdict(&mut probe, process, table, call, found) {
-            Ok(()) => Ok(*found),
-            Err(errno) => Err(Refusal::Failed(errno)),
-        },
-        Err(errno) => Err(Refusal::Failed(*errno)),
-    }
+    let dir = process.dir();
+    let found = named(&mut probe, dir, path, ending(call), last).map_err(Refusal::Failed)?;
+    object_verdict(&mut probe, process, table, call, &found).map_err(Refusal::Failed)?;
+    Ok(found)
 }
 
 /// What becomes of a symlink: the promise, then the target's text, then the path.
@@ -106,10 +103,9 @@ pub(crate) fn judge_unveil<T: FileTree>(
         return Err(Refusal::Failed(Errno::EINVAL));
     };
     let mut probe = Counted::new(tree);
-    match &named(&mut probe, process.dir(), path, Ending::Dot, Last::Followed) {
-        Ok(found) => Ok((place_of(found), perms)),
-        Err(errno) => Err(Refusal::Failed(*errno)),
-    }
+    let dir = process.dir();
+    let found = named(&mut probe, dir, path, Ending::Dot, Last::Followed).map_err(Refusal::Failed)?;
+    Ok((place_of(&found), perms))
 }
 
 /// The place of what was found.

@@ -38,10 +38,7 @@ pub(crate) fn judge_pair<T: FileTree>(
     ensures fit { IfOk result (λ pair. NameFits (T.content tree.now) pair.from × NameFits (T.content tree.now) pair.to) }
 {
     promised(process, Promises::CPATH)?;
-    match pair_named(tree, process, ending, old, new) {
-        Ok(pair) => Ok(pair),
-        Err(errno) => Err(Refusal::Failed(errno)),
-    }
+    pair_named(tree, process, ending, old, new).map_err(Refusal::Failed)
 }
 
 /// What both paths name, where both are covered with the permission to create and remove. A link
@@ -60,10 +57,10 @@ fn pair_named<T: FileTree>(
     let mut probe = Counted::new(tree);
     let from = named(&mut probe, process.dir(), old, ending, Last::Kept)?;
     let to = named(&mut probe, process.dir(), new, ending, Last::Kept)?;
-    match covers_fault(&mut probe, process, &from, &to) {
-        None => Ok(Pair { from, to }),
-        Some(errno) => Err(errno),
+    if let Some(errno) = covers_fault(&mut probe, process, &from, &to) {
+        return Err(errno);
     }
+    Ok(Pair { from, to })
 }
 
 /// What is wrong with the two covers, the first one first.
