@@ -1,7 +1,8 @@
 //! The lines of the pairs of an audit's text, written in blocks.
 
 ghost use Rattle.std.specs.Prelude.{◌≡◌, ◌≤◌, ◌+◌, ◌*◌, ◌++◌, ◌∷◌, [], length, IsTrue, IfOk, OnOk, OnErr, take, vec_len, vec_capacity};
-ghost use Rattle.pua_tree.specs.Spelling.{spelling};
+ghost use Rattle.std.specs.List.{list_all};
+ghost use Rattle.pua_tree.specs.Spelling.{is_plain, spelling};
 ghost use Rattle.pua_path.specs.Limits.{path_limit};
 ghost use Rattle.pua_policy.specs.Calls.{call_name};
 ghost use Rattle.pua_tool.specs.Texts.{ended, pair_lines};
@@ -78,7 +79,9 @@ fn add_line(block: &mut Vec<u8>, plain: bool, path: &[u8], call: Call)
     block.push_reserved(b'\n');
 }
 
-/// Adds a path, or a name of one, to a block as it is printed.
+/// Adds a path, or a name of one, to a block as it is printed. Where each byte is spelled by itself, it
+/// is copied at one time; what is known to be plain is not looked over.
+#[tactic(auto, using(crate::proofs::Pairs::spelling_plain))]
 #[inline(always)]
 pub(crate) fn add_printed(block: &mut Vec<u8>, plain: bool, path: &[u8])
     requires short { length path.now ≤ path_limit }
@@ -88,11 +91,20 @@ pub(crate) fn add_printed(block: &mut Vec<u8>, plain: bool, path: &[u8])
     ensures short { vec_len block.new ≤ vec_len block.old + 4 * path_limit }
     ensures room { vec_capacity block.old ≤ vec_capacity block.new }
 {
-    if plain {
+    if plain || are_plain(path) {
         block.extend_from_slice(path).unwrap();
     } else {
         spell(block, path);
     }
+}
+
+/// Whether each of some bytes is spelled by itself.
+fn are_plain(bytes: &[u8]) -> bool
+    ensures { result ≡ list_all is_plain bytes.now }
+{
+    bytes
+        .iter()
+        .all(|byte| byte_spelling(*byte).as_bytes().len() == 1)
 }
 
 /// Adds the spelling of a path to a block that has room for it.

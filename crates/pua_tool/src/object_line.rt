@@ -1,7 +1,6 @@
 //! The lines of the objects of a list, written in blocks.
 
 ghost use Rattle.std.specs.Prelude.{◌≡◌, ◌≤◌, ◌+◌, ◌++◌, ◌∷◌, [], if◌then◌else◌, length, map, vec_capacity, vec_len};
-ghost use Rattle.std.specs.List.{list_all};
 ghost use Rattle.pua_policy.specs.Calls.{call_name};
 ghost use Rattle.pua_policy.specs.CallSets.{calls_in};
 ghost use Rattle.pua_policy.specs.History.{History, StandsFor};
@@ -10,7 +9,7 @@ ghost use Rattle.pua_audit.specs.declared.base.Base.TheVariants as base;
 ghost use Rattle.pua_objects.specs.Lines.{kind_word};
 ghost use Rattle.pua_objects.specs.Objects.{with_commas};
 ghost use Rattle.pua_objects.specs.Ready.{lines_of};
-ghost use Rattle.pua_tree.specs.Spelling.{is_plain, spelling};
+ghost use Rattle.pua_tree.specs.Spelling.{spelling};
 ghost use Rattle.pua_tool.specs.Blocks.{Passes};
 ghost use Rattle.pua_tool.specs.ObjectTexts.{object_lines};
 ghost use Rattle.pua_tool.specs.Sinks.{Writes};
@@ -20,7 +19,7 @@ use crate::line::{BLOCK, MOST_LINE, add_call, add_printed, make_room};
 use crate::sink::{PutFault, Sink, put_all};
 use pua_objects::{ObjectKind, ObjectLine, Objects};
 use pua_policy::{Call, Calls};
-use pua_tree::{FileTree, Name, byte_spelling};
+use pua_tree::{FileTree, Name};
 
 /// Writes a line for each object that a list has still to give: many of them in a block, which is
 /// put where the next part of a line might not fit, and after the last. Its memory is used again, so
@@ -97,18 +96,8 @@ fn add_name<S: Sink>(block: &mut Vec<u8>, name: &Name, sink: &mut S) -> Result<(
 {
     make_room(block, sink)?;
     block.push_reserved(b'/');
-    let bytes = name.bytes();
-    add_printed(block, are_plain(bytes), bytes);
+    add_printed(block, false, name.bytes());
     Ok(())
-}
-
-/// Whether each of some bytes is spelled by itself.
-fn are_plain(bytes: &[u8]) -> bool
-    ensures { result ≡ list_all is_plain bytes.now }
-{
-    bytes
-        .iter()
-        .all(|byte| byte_spelling(*byte).as_bytes().len() == 1)
 }
 
 /// Adds the names of calls with commas between them, and LF.
