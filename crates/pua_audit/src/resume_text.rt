@@ -57,7 +57,7 @@ pub(crate) fn read_pair(
     Ok(Resumption { word, call })
 }
 
-/// What stands before the first colon of a text, and what stands behind it.
+/// What stands before the first colon of a text, and what stands after it.
 fn split_at_colon(text: &[u8]) -> (&[u8], &[u8])
     ensures front { result.0.now ≡ before_first (λ b. b == 58) text.now }
     ensures back { result.1.now ≡ after_first (λ b. b == 58) text.now }

@@ -60,7 +60,7 @@ impl Terms {
         Ok(Spots { dots, names })
     }
 
-    /// Puts the spots of rows behind others.
+    /// Puts the spots of rows after others.
     fn add_rows(&self, spots: &mut Vec<LetterSpot>, rows: &[LentRow<'_>]) -> Result<(), OutOfMemory>
         requires rises { Rises name_cmp (letters_of self.now) }
         requires within { AreAtLetters (letters_of self.now) spots.old.items }
@@ -74,7 +74,7 @@ impl Terms {
         Ok(())
     }
 
-    /// Puts the spots of veils at names behind others.
+    /// Puts the spots of veils at names after others.
     fn add_veils(&self, spots: &mut Vec<LetterSpot>, places: &[&Place]) -> Result<(), OutOfMemory>
         requires rises { Rises name_cmp (letters_of self.now) }
         requires within { AreAtLetters (letters_of self.now) spots.old.items }
@@ -88,7 +88,7 @@ impl Terms {
         Ok(())
     }
 
-    /// Puts the spot of a veil behind others, if it is at a name that is a letter.
+    /// Puts the spot of a veil after others, if it is at a name that is a letter.
     fn add_veil(&self, spots: &mut Vec<LetterSpot>, place: &Place) -> Result<(), OutOfMemory>
         requires rises { Rises name_cmp (letters_of self.now) }
         requires within { AreAtLetters (letters_of self.now) spots.old.items }
@@ -102,7 +102,7 @@ impl Terms {
         self.add_spot(spots, *dir, name)
     }
 
-    /// Puts the spot of a name in a directory behind others, if it is a letter.
+    /// Puts the spot of a name in a directory after others, if it is a letter.
     fn add_spot(
         &self,
         spots: &mut Vec<LetterSpot>,
