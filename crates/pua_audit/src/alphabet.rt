@@ -4,7 +4,6 @@ ghost use Rattle.std.specs.Prelude.{◌≡◌, ◌≤◌, ◌+◌, Ok, Err, IfOk
 ghost use Rattle.std.specs.List.{list_all};
 ghost use Rattle.pua_tree.specs.Spelling.{is_plain};
 ghost use Rattle.pua_tree.specs.Tree.{name_cmp, with_name};
-ghost use Rattle.pua_path.specs.Paths.{part_of};
 ghost use Rattle.pua_audit.specs.Reach.{alphabet_of};
 ghost use Rattle.pua_audit.specs.Begin.{longest};
 ghost use Rattle.pua_audit.specs.Laws.{Rises};
@@ -12,7 +11,8 @@ ghost use Rattle.pua_audit.specs.Ready.{part_bytes};
 ghost use Rattle.pua_audit.specs.Plain.{is_plain_alphabet};
 ghost use Rattle.pua_audit.specs.Alphabets.{with_names, IsPlaced, AreParts};
 
-use pua_path::{Part, Probe};
+use crate::component::Component;
+use pua_path::Probe;
 use pua_tree::{Name, OutOfMemory, byte_spelling};
 use std::alloc::Global;
 
@@ -22,7 +22,7 @@ pub(crate) fn alphabet<'t, P: Probe<'t>>(
     alloc: Global,
     probe: &mut P,
     candidates: &[Name],
-) -> Result<Vec<Part>, OutOfMemory>
+) -> Result<Vec<Component>, OutOfMemory>
     ensures letters { IfOk result (λ letters. map part_bytes letters.items ≡ alphabet_of (P.tree probe.old) candidates.now) }
     ensures tree { P.tree probe.new ≡ P.tree probe.old }
     ensures cost { P.count probe.new ≤ P.count probe.old + 1 }
@@ -30,39 +30,48 @@ pub(crate) fn alphabet<'t, P: Probe<'t>>(
     let Ok(names) = probe.names(alloc) else {
         return Err(OutOfMemory);
     };
-    let mut letters = named_parts(alloc, names.as_slice())?;
-    add_names(&mut letters, candidates)?;
-    add_letter(&mut letters, Part::DotDot)?;
+    let mut letters = named(alloc, names.as_slice())?;
+    add_names(alloc, &mut letters, candidates)?;
+    add_letter(&mut letters, Component::dots(alloc)?)?;
     Ok(letters)
 }
 
-/// Names as parts of paths.
-fn named_parts(alloc: Global, names: &[Name]) -> Result<Vec<Part>, OutOfMemory>
-    ensures { IfOk result (λ parts. map part_bytes parts.items ≡ names.now) }
+/// Names as letters.
+fn named(alloc: Global, names: &[Name]) -> Result<Vec<Component>, OutOfMemory>
+    ensures { IfOk result (λ letters. map part_bytes letters.items ≡ names.now) }
 {
-    let Ok(parts) = names.iter().map(|name| Part::Name(*name)).collect(alloc) else {
+    let Ok(mut letters) = Vec::with_capacity(alloc, names.len()) else {
         return Err(OutOfMemory);
     };
-    Ok(parts)
+    for name in names {
+        let Ok(()) = letters.push(Component::named(alloc, name)?) else {
+            return Err(OutOfMemory);
+        };
+    }
+    Ok(letters)
 }
 
 /// Puts each name at its place among letters, the last one first.
-fn add_names(letters: &mut Vec<Part>, names: &[Name]) -> Result<(), OutOfMemory>
+fn add_names(
+    alloc: Global,
+    letters: &mut Vec<Component>,
+    names: &[Name],
+) -> Result<(), OutOfMemory>
     requires { Rises name_cmp (map part_bytes letters.old.items) }
     ensures { IfOk result (λ _. map part_bytes letters.new.items ≡ with_names names.now (map part_bytes letters.old.items)) }
 {
     for name in names.iter().rev() {
-        add_letter(letters, Part::Name(*name))?;
+        add_letter(letters, Component::named(alloc, name)?)?;
     }
     Ok(())
 }
 
 /// Puts a letter at its place among letters, unless it is there.
-fn add_letter(letters: &mut Vec<Part>, letter: Part) -> Result<(), OutOfMemory>
+fn add_letter(letters: &mut Vec<Component>, letter: Component) -> Result<(), OutOfMemory>
     requires { Rises name_cmp (map part_bytes letters.old.items) }
     ensures { IfOk result (λ _. map part_bytes letters.new.items ≡ with_name (part_bytes letter) (map part_bytes letters.old.items)) }
 {
-    let Err(place) = place_of(letters.as_slice(), part_bytes(&letter)) else {
+    let Err(place) = place_of(letters.as_slice(), letter.bytes()) else {
         return Ok(());
     };
     if letters.insert(place, letter).is_err() {
@@ -72,51 +81,38 @@ fn add_letter(letters: &mut Vec<Part>, letter: Part) -> Result<(), OutOfMemory>
 }
 
 /// Where a letter of these bytes stands among letters, or else where it would stand.
-pub(crate) fn place_of(letters: &[Part], bytes: &[u8]) -> Result<usize, usize>
+pub(crate) fn place_of(letters: &[Component], bytes: &[u8]) -> Result<usize, usize>
     requires { Rises name_cmp (map part_bytes letters.now) }
     ensures { IsPlaced (map part_bytes letters.now) bytes.now result }
 {
-    letters.binary_search_by(|letter| part_bytes(letter).cmp(bytes))
-}
-
-/// The bytes of a part.
-pub(crate) fn part_bytes(part: &Part) -> &[u8]
-    ensures bytes { result.now ≡ part_bytes part.now }
-    ensures part { part_of (part_bytes part.now) ≡ part.now }
-    ensures short { length (part_bytes part.now) ≤ 255 }
-{
-    match part {
-        Part::Dot => b".",
-        Part::DotDot => b"..",
-        Part::Name(name) => name.bytes(),
-    }
+    letters.binary_search_by(|letter| letter.bytes().cmp(bytes))
 }
 
 /// The bytes of the longest letter.
-pub(crate) fn longest(letters: &[Part]) -> usize
+pub(crate) fn longest(letters: &[Component]) -> usize
     ensures longest { result ≡ longest (map part_bytes letters.now) }
     ensures parts { AreParts letters.now }
     ensures short { result ≤ 255 }
 {
     let mut most = 0;
     for letter in letters {
-        most = part_bytes(letter).len().max(most);
+        most = letter.bytes().len().max(most);
     }
     most
 }
 
 /// Whether each byte of each letter stands for itself.
-pub(crate) fn are_plain(letters: &[Part]) -> bool
+pub(crate) fn are_plain(letters: &[Component]) -> bool
     ensures { result ≡ is_plain_alphabet (map part_bytes letters.now) }
 {
     letters.iter().all(|letter| is_plain(letter))
 }
 
 /// Whether each byte of a letter stands for itself.
-fn is_plain(letter: &Part) -> bool
+fn is_plain(letter: &Component) -> bool
     ensures { result ≡ list_all is_plain (part_bytes letter.now) }
 {
-    are_own_spelling(part_bytes(letter))
+    are_own_spelling(letter.bytes())
 }
 
 /// Whether each of some bytes is spelled by one byte: itself.

@@ -12,17 +12,18 @@ ghost use Rattle.pua_audit.specs.Starting.{AreSound, IsChecked, scope_with, begu
 use crate::alphabet::{alphabet, longest};
 use crate::base::Base;
 use crate::candidates::read_candidates;
+use crate::component::Component;
 use crate::fault::AuditFault;
 use crate::limits::{CANDIDATE_LIMIT, LETTER_LIMIT};
 use crate::resume_text::{Resumption, read_pair};
-use pua_path::{PATH_LIMIT, Part, Probe};
+use pua_path::{PATH_LIMIT, Probe};
 use std::alloc::Global;
 
 /// What an audit begins with: its letters in the order of their bytes, and the pair that it resumes
 /// after, if there is one.
 #[derive(Drop)]
 pub(crate) struct Checked {
-    pub(crate) letters: Vec<Part>,
+    pub(crate) letters: Vec<Component>,
     pub(crate) after: Option<Resumption>,
 }
 
@@ -59,7 +60,7 @@ fn letters_within<'t, P: Probe<'t>>(
     probe: &mut P,
     candidates: &[&[u8]],
     limit: u8,
-) -> Result<Vec<Part>, AuditFault>
+) -> Result<Vec<Component>, AuditFault>
     ensures begun { IfOk result (λ letters. (table : CallTable) (h : History) (base : bases.Base) (after : Option (List ℕ)) →
         beginning (P.tree probe.old) table h base (map (λ s. s.now) candidates.now) limit after ≡ begun_in (scope_with (P.tree probe.old) table h base limit letters.items) after) }
     ensures refused { IfErr result (λ fault. fault ≢ AuditFault.OutOfMemory → (table : CallTable) (h : History) (base : bases.Base) (after : Option (List ℕ)) →

@@ -6,6 +6,7 @@ mod audit;
 mod base;
 mod beginning;
 mod candidates;
+mod component;
 mod content;
 mod fault;
 mod laws;

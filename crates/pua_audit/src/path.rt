@@ -5,9 +5,8 @@ ghost use Rattle.pua_audit.specs.Reach.{Word};
 ghost use Rattle.pua_audit.specs.Ready.{part_bytes, lent};
 ghost use Rattle.pua_audit.specs.WordPaths.{IsPathOf};
 
-use crate::alphabet::part_bytes;
 use crate::base::Base;
-use pua_path::Part;
+use crate::component::Component;
 use std::alloc::{AllocError, Global};
 
 /// The path of a word: each letter behind a slash. It takes no memory beyond what was reserved at its
@@ -48,7 +47,7 @@ impl WordPath {
     }
 
     /// Puts a letter at the end.
-    pub(crate) fn add(&mut self, letter: &Part)
+    pub(crate) fn add(&mut self, letter: &Component)
         requires bytes { length self.old.bytes.items + suc (length (part_bytes letter.now)) ≤ vec_capacity self.old.bytes }
         requires starts { length self.old.starts.items < vec_capacity self.old.starts }
         ensures path { (word : Word) → IsPathOf word self.old → IsPathOf (word ++ part_bytes letter.now ∷ []) self.new }
@@ -62,13 +61,13 @@ impl WordPath {
 }
 
 /// Puts a letter at the end of a path, behind a slash.
-pub(crate) fn add_letter(path: &mut Vec<u8>, letter: &Part)
+pub(crate) fn add_letter(path: &mut Vec<u8>, letter: &Component)
     requires { length path.old.items + suc (length (part_bytes letter.now)) ≤ vec_capacity path.old }
     ensures path { path.new.items ≡ path.old.items ++ 47 ∷ part_bytes letter.now }
     ensures room { vec_capacity path.old ≤ vec_capacity path.new }
 {
     path.push(b'/').unwrap();
-    path.extend_from_slice(part_bytes(letter)).unwrap();
+    path.extend_from_slice(letter.bytes()).unwrap();
 }
 
 /// The path as it is lent: the base itself for no letter, and from the working directory no slash

@@ -14,8 +14,8 @@ ghost use Rattle.pua_audit.specs.declared.base.Base.TheVariants.{Root};
 
 use crate::alphabet::place_of;
 use crate::base::Base;
+use crate::component::Component;
 use crate::fault::AuditFault;
-use pua_path::Part;
 use pua_policy::Call;
 use pua_tree::Name;
 use std::alloc::Global;
@@ -34,7 +34,7 @@ pub(crate) struct Resumption {
 pub(crate) fn read_pair(
     alloc: Global,
     base: Base,
-    letters: &[Part],
+    letters: &[Component],
     limit: usize,
     text: &[u8],
 ) -> Result<Resumption, AuditFault>
@@ -76,7 +76,7 @@ fn first_colon(text: &[u8]) -> Option<usize>
 
 /// Puts the letters of a path into an empty word, and answers whether it is the printed path of a
 /// word within the limit.
-fn read_path(base: Base, letters: &[Part], limit: usize, path: &[u8], word: &mut Vec<usize>) -> bool
+fn read_path(base: Base, letters: &[Component], limit: usize, path: &[u8], word: &mut Vec<usize>) -> bool
     requires rises { Rises name_cmp (map part_bytes letters.now) }
     requires letters { IsTrue (list_all is_letter (map part_bytes letters.now)) }
     requires empty { word.old.items ≡ [] }
@@ -95,7 +95,7 @@ fn read_path(base: Base, letters: &[Part], limit: usize, path: &[u8], word: &mut
 }
 
 /// As `read_path` at the root: a slash alone, or one before each letter.
-fn read_absolute(letters: &[Part], limit: usize, path: &[u8], word: &mut Vec<usize>) -> bool
+fn read_absolute(letters: &[Component], limit: usize, path: &[u8], word: &mut Vec<usize>) -> bool
     requires rises { Rises name_cmp (map part_bytes letters.now) }
     requires letters { IsTrue (list_all is_letter (map part_bytes letters.now)) }
     requires empty { word.old.items ≡ [] }
@@ -113,7 +113,7 @@ fn read_absolute(letters: &[Part], limit: usize, path: &[u8], word: &mut Vec<usi
 
 /// Puts the letters that pieces between slashes spell into an empty word, and answers whether each
 /// spells one and they are within the limit.
-fn read_pieces(letters: &[Part], limit: usize, text: &[u8], word: &mut Vec<usize>) -> bool
+fn read_pieces(letters: &[Component], limit: usize, text: &[u8], word: &mut Vec<usize>) -> bool
     requires rises { Rises name_cmp (map part_bytes letters.now) }
     requires letters { IsTrue (list_all is_letter (map part_bytes letters.now)) }
     requires empty { word.old.items ≡ [] }
@@ -133,7 +133,7 @@ fn read_pieces(letters: &[Part], limit: usize, text: &[u8], word: &mut Vec<usize
 }
 
 /// The place of the letter that a piece spells, if it spells one.
-fn spelled_letter(letters: &[Part], piece: &[u8]) -> Option<usize>
+fn spelled_letter(letters: &[Component], piece: &[u8]) -> Option<usize>
     requires rises { Rises name_cmp (map part_bytes letters.now) }
     requires letters { IsTrue (list_all is_letter (map part_bytes letters.now)) }
     ensures letter { option_map (λ i. get_or (map part_bytes letters.now) i []) result ≡ find (λ letter. same_bytes (spelling letter) piece.now) (map part_bytes letters.now) }

@@ -12,8 +12,9 @@ ghost use Rattle.pua_audit.specs.Ready.{part_bytes, scope_in, IsSound, letters_o
 
 use crate::alphabet::longest;
 use crate::base::Base;
+use crate::component::Component;
 use crate::content::Content;
-use pua_path::{Part, Probe, Way};
+use pua_path::{Probe, Way};
 use pua_policy::{CallTable, Process};
 use pua_tree::{Kind, NodeId, OutOfMemory};
 use std::alloc::Global;
@@ -27,7 +28,7 @@ pub(crate) struct Terms {
     pub(crate) table: CallTable,
     pub(crate) base: Base,
     pub(crate) limit: usize,
-    pub(crate) letters: Vec<Part>,
+    pub(crate) letters: Vec<Component>,
 }
 
 impl Terms {
@@ -41,7 +42,7 @@ impl Terms {
         table: &CallTable,
         base: Base,
         limit: u8,
-        letters: Vec<Part>,
+        letters: Vec<Component>,
     ) -> Result<Terms, OutOfMemory>
         requires stands { StandsFor process.now (history_of process.now) }
         requires parts { AreParts letters.items }

@@ -52,10 +52,10 @@ impl Terms {
         ensures tree { P.tree probe.new ≡ P.tree probe.old }
         ensures cost { P.count probe.new ≤ P.count probe.old + letter_cost self.now.seen.tree }
     {
-        let part = &self.letters[letter];
-        let (followed, links) = counted(pua_path::follow(probe, dir, part));
+        let part = self.letters[letter].part();
+        let (followed, links) = counted(pua_path::follow(probe, dir, &part));
         let near = self.calls_on(probe, &followed);
-        let far = self.calls_kept(probe, dir, part, &followed, links, near);
+        let far = self.calls_kept(probe, dir, &part, &followed, links, near);
         let all = near.following().union(far.keeping());
         Letter {
             all,

@@ -14,7 +14,7 @@ ghost use Rattle.pua_audit.specs.Spots.{AreApartFrom, AreAtLetters, AreLettersIn
 
 use crate::alphabet::place_of;
 use crate::terms::Terms;
-use pua_path::{Part, Probe};
+use pua_path::Probe;
 use pua_policy::Place;
 use pua_tree::{LentRow, Name, NodeId, OutOfMemory};
 use std::alloc::Global;
@@ -131,7 +131,7 @@ impl Terms {
     {
         let mut dots = Vec::new(alloc);
         for place in 0..self.letters.len() {
-            if let Part::Name(_) = &self.letters[place] {
+            if self.letters[place].is_name() {
                 continue;
             }
             let Ok(()) = dots.push(place) else {

@@ -24,4 +24,4 @@ pub returns-clause-letters : goal.returns-clause-letters
 returns-clause-letters g c =
     let tree = g.P.Probe.tree c.args.probe.now in
     let read : map part_bytes c.in_ok-letters.letters.items ≡ names tree = c.in_ok-letters.ensures ∙ c.as_slice.ensures.value ∙ c.in-Ok.ensures.names in
-    c.in_ok-add_letter.ensures ∙ ap (with_name (codes "..")) (c.in_ok-add_names.ensures ∙ ap (with_names c.args.candidates.now) read ∙ sym (distinct_names-append c.args.candidates.now (map (λ row. row.0.1) tree.rows)))
+    c.in_ok-add_letter.ensures ∙ ap (λ p. with_name (part_bytes p) (map part_bytes c.add_names.new.letters.items)) c.in_ok-dots.ensures ∙ ap (with_name (codes "..")) (c.in_ok-add_names.ensures ∙ ap (with_names c.args.candidates.now) read ∙ sym (distinct_names-append c.args.candidates.now (map (λ row. row.0.1) tree.rows)))

@@ -25,7 +25,7 @@ use Rattle.pua_audit.proofs.terms.Terms.letter.Goals as goal
 
 pub calls_kept-far-requires : goal.calls_kept-far-requires
 calls_kept-far-requires g c κs =
-    let followed = c.follow.ensures.exact ∙ ap (λ (u : Tree). follow u c.args.dir c.index-part.result.now) c.requires.tree in
+    let followed = c.follow.ensures.exact ∙ ap (λ (u : Tree). follow u c.args.dir c.part-part.result) c.requires.tree in
     ((refl, tt), (c.calls_on-near.ensures.tree ∙ c.follow.ensures.tree ∙ c.requires.tree, (c.requires.sound, (c.requires.living, (c.counted-followed.ensures.found ∙ ap found_of followed, (c.counted-followed.ensures.links ∙ ap links_of followed, c.calls_on-near.ensures.exact))))))
 
 pub returns-clause-exact : goal.returns-clause-exact
@@ -36,9 +36,9 @@ returns-clause-exact g c =
     let dir : ℕ = c.args.dir in
     let letter : List ℕ = get_or (letters_of a) c.args.letter [] in
     let r : Result (Found × ℕ) Errno = follow t dir (part_of letter) in
-    let at : c.index-part.result.now ≡ get_or a.letters.items c.args.letter Dot = grind (arith, common_steps) in
-    let part : c.index-part.result.now ≡ part_of letter = at ∙ sym (letter_part a.letters.items c.args.letter Dot c.requires.sound.parts c.requires.letter) in
-    let followed : c.follow.result ≡ r = c.follow.ensures.exact ∙ ap (λ (u : Tree). follow u dir c.index-part.result.now) c.requires.tree ∙ ap (follow t dir) part in
+    let at : c.part-part.result ≡ get_or a.letters.items c.args.letter Dot = grind (arith, common_steps) in
+    let part : c.part-part.result ≡ part_of letter = at ∙ sym (letter_part a.letters.items c.args.letter Dot c.requires.sound.parts c.requires.letter) in
+    let followed : c.follow.result ≡ r = c.follow.ensures.exact ∙ ap (λ (u : Tree). follow u dir c.part-part.result) c.requires.tree ∙ ap (follow t dir) part in
     let found : c.counted-followed.result.0 ≡ found_of r = c.counted-followed.ensures.found ∙ ap found_of followed in
     let links : c.counted-followed.result.1 ≡ links_of r = c.counted-followed.ensures.links ∙ ap links_of followed in
     let on = λ (call : Call). c.calls_on-near.ensures.exact call ∙ ap (λ (x : Result Found Errno). is_allowed (verdict_of t a.table h call x)) found in

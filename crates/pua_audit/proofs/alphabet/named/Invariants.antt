@@ -1,0 +1,6 @@
+use Rattle.std.proofs.Common.{◌≡◌, take, map}
+use Rattle.pua_audit.specs.Ready.{part_bytes}
+use Rattle.pua_audit.proofs.alphabet.named.Given as goal
+
+abbrev pub invariant-loop-name : goal.invariant-loop-name
+invariant-loop-name l = map part_bytes l.letters.items ≡ take l.name-index l.names

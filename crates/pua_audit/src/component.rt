@@ -1,0 +1,89 @@
+//! Letters: components of paths, each in as many bytes as it has.
+
+use pua_path::Part;
+use pua_tree::{Name, OutOfMemory};
+use std::alloc::Global;
+use std::marker::Model;
+
+/// A letter: a name, or `..`. It takes no more memory than its bytes, so that many of them lie close
+/// to each other. Contracts see it as a part of a path.
+#[derive(Drop)]
+pub(crate) struct Component {
+    bytes: Vec<u8>,
+}
+
+impl Model for Component {
+    ghost use Rattle.std.specs.Prelude.{IsTrue};
+    ghost use Rattle.pua_path.specs.Paths.{part_of};
+    ghost use Rattle.pua_path.specs.declared.found.Part.{Part};
+    ghost use Rattle.pua_audit.specs.Judge.{is_letter};
+
+    ghost Value = { Part };
+
+    ghost view = { λ a. part_of a.bytes.items };
+
+    ghost invariant = { λ a. IsTrue (is_letter a.bytes.items) };
+}
+
+ghost use Rattle.std.specs.Prelude.{◌≡◌, ◌≤◌, IfOk, IsTrue, length, not};
+ghost use Rattle.pua_path.specs.Paths.{part_of};
+ghost use Rattle.pua_path.specs.declared.found.Part.TheVariants.{DotDot};
+ghost use Rattle.pua_path.specs.declared.found.Part.TheVariants as part;
+ghost use Rattle.pua_audit.specs.Judge.{is_letter};
+ghost use Rattle.pua_audit.specs.Ready.{part_bytes};
+ghost use Rattle.pua_audit.specs.Spots.{is_dots};
+
+impl Component {
+    /// The letter that a name is. The error is that its memory was refused.
+    pub(crate) fn named(alloc: Global, name: &Name) -> Result<Component, OutOfMemory>
+        ensures { IfOk result (λ letter. letter ≡ part.Name name.now) }
+    {
+        Component::new(alloc, name.bytes())
+    }
+
+    /// The letter `..`. The error is that its memory was refused.
+    pub(crate) fn dots(alloc: Global) -> Result<Component, OutOfMemory>
+        ensures { IfOk result (λ letter. letter ≡ DotDot) }
+    {
+        Component::new(alloc, b"..")
+    }
+
+    fn new(alloc: Global, bytes: &[u8]) -> Result<Component, OutOfMemory>
+        requires { IsTrue (is_letter bytes.now) }
+        ensures { IfOk result (λ letter. letter ≡ part_of bytes.now) }
+    {
+        let Ok(mut copy) = Vec::with_capacity(alloc, bytes.len()) else {
+            return Err(OutOfMemory);
+        };
+        if copy.extend_from_slice(bytes).is_err() {
+            return Err(OutOfMemory);
+        }
+        Ok(Component { bytes: copy })
+    }
+
+    /// Its bytes: at most 255.
+    pub(crate) fn bytes(&self) -> &[u8]
+        ensures bytes { result.now ≡ part_bytes self.now }
+        ensures part { part_of (part_bytes self.now) ≡ self.now }
+        ensures short { length (part_bytes self.now) ≤ 255 }
+    {
+        &self.bytes
+    }
+
+    /// The part of a path that it is.
+    pub(crate) fn part(&self) -> Part
+        ensures { result ≡ self.now }
+    {
+        match Name::from_bytes(&self.bytes) {
+            Some(name) => Part::Name(name),
+            None => Part::DotDot,
+        }
+    }
+
+    /// Whether it is a name.
+    pub(crate) fn is_name(&self) -> bool
+        ensures { result ≡ not (is_dots self.now) }
+    {
+        self.bytes.as_slice() != b"..".as_slice()
+    }
+}
