@@ -1,9 +1,10 @@
 //! The alphabet of an audit: its letters in the order of their bytes.
 
-ghost use Rattle.std.specs.Prelude.{◌≡◌, ◌≤◌, ◌+◌, Ok, Err, IfOk, map, length};
+ghost use Rattle.std.specs.Prelude.{◌≡◌, ◌≤◌, IfOk, map};
 ghost use Rattle.std.specs.List.{list_all};
 ghost use Rattle.pua_tree.specs.Spelling.{is_plain};
-ghost use Rattle.pua_tree.specs.Tree.{name_cmp, with_name};
+ghost use Rattle.pua_tree.specs.LentRows.{lent_entry};
+ghost use Rattle.pua_tree.specs.Tree.{Tree, name_cmp, with_name, distinct_names};
 ghost use Rattle.pua_audit.specs.Reach.{alphabet_of};
 ghost use Rattle.pua_audit.specs.Begin.{longest};
 ghost use Rattle.pua_audit.specs.Laws.{Rises};
@@ -12,22 +13,20 @@ ghost use Rattle.pua_audit.specs.Plain.{is_plain_alphabet};
 ghost use Rattle.pua_audit.specs.Alphabets.{with_names, IsPlaced, AreParts};
 
 use crate::component::Component;
-use pua_path::Probe;
-use pua_tree::{Name, OutOfMemory, byte_spelling};
-use std::alloc::Global;
+use pua_tree::{LentRow, Name, OutOfMemory, byte_spelling};
+use std::alloc::{AllocError, Global};
+use std::collections::BTreeSet;
 
 /// The names in a tree's rows, `..` and the candidates: distinct, in the order of their bytes. The
 /// only error is that a growth was refused.
-pub(crate) fn alphabet<'t, P: Probe<'t>>(
+pub(crate) fn alphabet(
     alloc: Global,
-    probe: &mut P,
+    rows: &[LentRow<'_>],
     candidates: &[Name],
 ) -> Result<Vec<Component>, OutOfMemory>
-    ensures letters { IfOk result (λ letters. map part_bytes letters.items ≡ alphabet_of (P.tree probe.old) candidates.now) }
-    ensures tree { P.tree probe.new ≡ P.tree probe.old }
-    ensures cost { P.count probe.new ≤ P.count probe.old + 1 }
+    ensures { IfOk result (λ letters. (t : Tree) → map lent_entry rows.now ≡ t.rows → map part_bytes letters.items ≡ alphabet_of t candidates.now) }
 {
-    let Ok(names) = probe.names(alloc) else {
+    let Ok(names) = row_names(alloc, rows) else {
         return Err(OutOfMemory);
     };
     let mut letters = named(alloc, names.as_slice())?;
@@ -36,15 +35,33 @@ pub(crate) fn alphabet<'t, P: Probe<'t>>(
     Ok(letters)
 }
 
+/// The names of rows: each once, in the order of their bytes.
+fn row_names<'t>(alloc: Global, rows: &[LentRow<'t>]) -> Result<Vec<&'t Name>, AllocError>
+    ensures { IfOk result (λ names. map (λ name. name.now) names.items ≡ distinct_names (map (λ row. (lent_entry row).0.1) rows.now)) }
+{
+    let names = name_set(alloc, rows)?;
+    names.into_iter().collect(alloc)
+}
+
+fn name_set<'t>(alloc: Global, rows: &[LentRow<'t>]) -> Result<BTreeSet<&'t Name>, AllocError>
+    ensures { IfOk result (λ names. map (λ name. name.now) names.keys ≡ distinct_names (map (λ row. (lent_entry row).0.1) rows.now)) }
+{
+    let mut names = BTreeSet::new(alloc);
+    for row in rows.iter().rev() {
+        names.insert(row.name)?;
+    }
+    Ok(names)
+}
+
 /// Names as letters.
-fn named(alloc: Global, names: &[Name]) -> Result<Vec<Component>, OutOfMemory>
-    ensures { IfOk result (λ letters. map part_bytes letters.items ≡ names.now) }
+fn named(alloc: Global, names: &[&Name]) -> Result<Vec<Component>, OutOfMemory>
+    ensures { IfOk result (λ letters. map part_bytes letters.items ≡ map (λ name. name.now) names.now) }
 {
     let Ok(mut letters) = Vec::with_capacity(alloc, names.len()) else {
         return Err(OutOfMemory);
     };
     for name in names {
-        let Ok(()) = letters.push(Component::named(alloc, name)?) else {
+        let Ok(()) = letters.push(Component::named(alloc, *name)?) else {
             return Err(OutOfMemory);
         };
     }

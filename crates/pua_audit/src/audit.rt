@@ -93,13 +93,16 @@ impl Audit {
         ensures cost { P.count probe.new ≤ P.count probe.old + begin_cost (P.tree probe.old) limit (letter_count (P.tree probe.old) (map (λ s. s.now) candidates.now)) }
     {
         process.known();
+        let Ok(rows) = probe.rows(alloc) else {
+            return Err(AuditFault::OutOfMemory);
+        };
         let Checked { letters, after } = beginning::check(
-            alloc, probe, base, candidates, limit, after,
+            alloc, &*probe, &rows, base, candidates, limit, after,
         )?;
         let Ok(terms) = Terms::new(alloc, &*probe, process, table, base, limit, letters) else {
             return Err(AuditFault::OutOfMemory);
         };
-        let Ok(pairs) = Pairs::begin(alloc, probe, terms, after) else {
+        let Ok(pairs) = Pairs::begin(alloc, probe, &rows, terms, after) else {
             return Err(AuditFault::OutOfMemory);
         };
         let plain = are_plain(pairs.terms.letters.as_slice());

@@ -1,6 +1,7 @@
 //! What an audit begins with, or why it can't begin.
 
-ghost use Rattle.std.specs.Prelude.{◌≡◌, ◌≢◌, ◌≤◌, ◌+◌, ℕ, List, Option, Ok, Err, IfOk, IfErr, length, map, option_map};
+ghost use Rattle.std.specs.Prelude.{◌≡◌, ◌≢◌, ℕ, List, Option, Ok, Err, IfOk, IfErr, length, map, option_map};
+ghost use Rattle.pua_tree.specs.LentRows.{lent_entry};
 ghost use Rattle.pua_tree.specs.Tree.{WellFormed};
 ghost use Rattle.pua_policy.specs.Calls.{CallTable};
 ghost use Rattle.pua_policy.specs.History.{History};
@@ -17,6 +18,7 @@ use crate::fault::AuditFault;
 use crate::limits::{CANDIDATE_LIMIT, LETTER_LIMIT};
 use crate::resume_text::{Resumption, read_pair};
 use pua_path::{PATH_LIMIT, Probe};
+use pua_tree::LentRow;
 use std::alloc::Global;
 
 /// What an audit begins with: its letters in the order of their bytes, and the pair that it resumes
@@ -27,26 +29,26 @@ pub(crate) struct Checked {
     pub(crate) after: Option<Resumption>,
 }
 
-/// What an audit begins with, by its base, candidates, limit and resume text, or the first fault;
-/// `OutOfMemory` comes wherever a growth was refused.
+/// What an audit begins with, by the rows of its tree, its base, candidates, limit and resume text,
+/// or the first fault; `OutOfMemory` comes wherever a growth was refused.
 pub(crate) fn check<'t, P: Probe<'t>>(
     alloc: Global,
-    probe: &mut P,
+    probe: &P,
+    rows: &[LentRow<'_>],
     base: Base,
     candidates: &[&[u8]],
     limit: u8,
     after: Option<&[u8]>,
 ) -> Result<Checked, AuditFault>
+    requires rows { map lent_entry rows.now ≡ (P.tree probe.now).rows }
     ensures begun { IfOk result (λ b. (table : CallTable) (h : History) →
-        beginning (P.tree probe.old) table h base (map (λ s. s.now) candidates.now) limit (option_map (λ s. s.now) after.entry) ≡ Ok (beginning_with (P.tree probe.old) table h base limit b)) }
+        beginning (P.tree probe.now) table h base (map (λ s. s.now) candidates.now) limit (option_map (λ s. s.now) after.entry) ≡ Ok (beginning_with (P.tree probe.now) table h base limit b)) }
     ensures refused { IfErr result (λ fault. fault ≢ AuditFault.OutOfMemory → (table : CallTable) (h : History) →
-        beginning (P.tree probe.old) table h base (map (λ s. s.now) candidates.now) limit (option_map (λ s. s.now) after.entry) ≡ Err fault) }
-    ensures many { IfOk result (λ b. length b.letters.items ≡ letter_count (P.tree probe.old) (map (λ s. s.now) candidates.now)) }
-    ensures sound { IfOk result (λ b. IsChecked (P.tree probe.old) limit b) }
-    ensures tree { P.tree probe.new ≡ P.tree probe.old }
-    ensures cost { P.count probe.new ≤ P.count probe.old + 1 }
+        beginning (P.tree probe.now) table h base (map (λ s. s.now) candidates.now) limit (option_map (λ s. s.now) after.entry) ≡ Err fault) }
+    ensures many { IfOk result (λ b. length b.letters.items ≡ letter_count (P.tree probe.now) (map (λ s. s.now) candidates.now)) }
+    ensures sound { IfOk result (λ b. IsChecked (P.tree probe.now) limit b) }
 {
-    let letters = letters_within(alloc, probe, candidates, limit)?;
+    let letters = letters_within(alloc, probe, rows, candidates, limit)?;
     let after = match after {
         None => None,
         Some(text) => Some(read_pair(alloc, base, letters.as_slice(), usize::from(limit), text)?),
@@ -57,19 +59,19 @@ pub(crate) fn check<'t, P: Probe<'t>>(
 /// The letters of an audit, or the first fault but that of its resume text.
 fn letters_within<'t, P: Probe<'t>>(
     alloc: Global,
-    probe: &mut P,
+    probe: &P,
+    rows: &[LentRow<'_>],
     candidates: &[&[u8]],
     limit: u8,
 ) -> Result<Vec<Component>, AuditFault>
+    requires rows { map lent_entry rows.now ≡ (P.tree probe.now).rows }
     ensures begun { IfOk result (λ letters. (table : CallTable) (h : History) (base : bases.Base) (after : Option (List ℕ)) →
-        beginning (P.tree probe.old) table h base (map (λ s. s.now) candidates.now) limit after ≡ begun_in (scope_with (P.tree probe.old) table h base limit letters.items) after) }
+        beginning (P.tree probe.now) table h base (map (λ s. s.now) candidates.now) limit after ≡ begun_in (scope_with (P.tree probe.now) table h base limit letters.items) after) }
     ensures refused { IfErr result (λ fault. fault ≢ AuditFault.OutOfMemory → (table : CallTable) (h : History) (base : bases.Base) (after : Option (List ℕ)) →
-        beginning (P.tree probe.old) table h base (map (λ s. s.now) candidates.now) limit after ≡ Err fault) }
-    ensures known { IfOk result (λ letters. WellFormed (P.tree probe.old)) }
-    ensures many { IfOk result (λ letters. length letters.items ≡ letter_count (P.tree probe.old) (map (λ s. s.now) candidates.now)) }
+        beginning (P.tree probe.now) table h base (map (λ s. s.now) candidates.now) limit after ≡ Err fault) }
+    ensures known { IfOk result (λ letters. WellFormed (P.tree probe.now)) }
+    ensures many { IfOk result (λ letters. length letters.items ≡ letter_count (P.tree probe.now) (map (λ s. s.now) candidates.now)) }
     ensures sound { IfOk result (λ letters. AreSound limit letters.items) }
-    ensures tree { P.tree probe.new ≡ P.tree probe.old }
-    ensures cost { P.count probe.new ≤ P.count probe.old + 1 }
 {
     if limit > LETTER_LIMIT {
         return Err(AuditFault::LimitTooLarge);
@@ -79,7 +81,7 @@ fn letters_within<'t, P: Probe<'t>>(
     }
     let names = read_candidates(alloc, candidates)?;
     probe.known();
-    let Ok(letters) = alphabet(alloc, probe, names.as_slice()) else {
+    let Ok(letters) = alphabet(alloc, rows, names.as_slice()) else {
         return Err(AuditFault::OutOfMemory);
     };
     if usize::from(limit) * (longest(letters.as_slice()) + 1) > PATH_LIMIT {

@@ -1,6 +1,7 @@
 //! The pairs of an audit, by a walk over its table of steps.
 
-ghost use Rattle.std.specs.Prelude.{◌≡◌, ◌≤◌, ◌<◌, ◌+◌, ◌*◌, length, suc, option_map, IfOk, IfSome, vec_capacity};
+ghost use Rattle.std.specs.Prelude.{◌≡◌, ◌≤◌, ◌<◌, ◌+◌, ◌*◌, length, suc, option_map, IfOk, IfSome, vec_capacity, map};
+ghost use Rattle.pua_tree.specs.LentRows.{lent_entry};
 ghost use Rattle.std.specs.List.{AllByRecursion};
 ghost use Rattle.pua_audit.specs.Bounds.{pairs_cost};
 ghost use Rattle.pua_audit.specs.Begin.{longest};
@@ -19,7 +20,7 @@ use crate::terms::Terms;
 use pua_path::Probe;
 use pua_policy::Call;
 use pua_steps::Walk;
-use pua_tree::OutOfMemory;
+use pua_tree::{LentRow, OutOfMemory};
 use std::alloc::Global;
 
 /// The pairs that are still to come, by a walk that asks the tree nothing. It takes no memory beyond
@@ -40,10 +41,12 @@ impl Pairs {
     pub(crate) fn begin<'t, P: Probe<'t>>(
         alloc: Global,
         probe: &mut P,
+        rows: &[LentRow<'_>],
         terms: Terms,
         after: Option<Resumption>,
     ) -> Result<Pairs, OutOfMemory>
         requires tree { P.tree probe.old ≡ terms.seen.tree }
+        requires rows { map lent_entry rows.now ≡ terms.seen.tree.rows }
         requires sound { IsSound terms }
         requires letters { AreSound terms.limit terms.letters.items }
         requires word { IfSome after (λ r. AreLetters (letters_of terms) terms.limit r.word.items) }
@@ -55,7 +58,7 @@ impl Pairs {
         ensures tree { P.tree probe.new ≡ P.tree probe.old }
         ensures cost { P.count probe.new ≤ P.count probe.old + pairs_cost terms.seen.tree (length terms.letters.items) }
     {
-        let Begun { walk, live } = terms.begun(alloc, probe, after)?;
+        let Begun { walk, live } = terms.begun(alloc, probe, rows, after)?;
         let Ok(path) = WordPath::new(alloc, terms.limit, terms.most_bytes()) else {
             return Err(OutOfMemory);
         };

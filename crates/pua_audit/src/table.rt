@@ -1,6 +1,7 @@
 //! The making of the table of steps.
 
-ghost use Rattle.std.specs.Prelude.{◌≡◌, ◌<◌, ◌≤◌, ◌+◌, ◌^◌, ℕ, List, length, get_or, IfOk, IsTrue};
+ghost use Rattle.std.specs.Prelude.{◌≡◌, ◌<◌, ◌≤◌, ◌+◌, ◌^◌, ℕ, List, length, get_or, IfOk, IsTrue, map};
+ghost use Rattle.pua_tree.specs.LentRows.{lent_entry};
 ghost use Rattle.pua_tree.specs.Tree.{is_dir, name_cmp};
 ghost use Rattle.pua_audit.specs.Bounds.{table_cost};
 ghost use Rattle.pua_audit.specs.Graphs.{AreApart};
@@ -18,7 +19,7 @@ use crate::table::directories::Directories;
 use crate::terms::Terms;
 use pua_path::Probe;
 use pua_steps::Steps;
-use pua_tree::{NodeId, OutOfMemory};
+use pua_tree::{LentRow, NodeId, OutOfMemory};
 use std::alloc::Global;
 
 impl Terms {
@@ -29,9 +30,11 @@ impl Terms {
         &self,
         alloc: Global,
         probe: &mut P,
+        rows: &[LentRow<'_>],
         base: NodeId,
     ) -> Result<Steps, OutOfMemory>
         requires tree { P.tree probe.old ≡ self.now.seen.tree }
+        requires rows { map lent_entry rows.now ≡ self.now.seen.tree.rows }
         requires sound { IsSound self.now }
         requires rises { Rises name_cmp (letters_of self.now) }
         requires living { IsTrue (is_dir self.now.seen.tree base) }
@@ -40,7 +43,7 @@ impl Terms {
         ensures tree { P.tree probe.new ≡ P.tree probe.old }
         ensures cost { P.count probe.new ≤ P.count probe.old + table_cost self.now.seen.tree (length self.now.letters.items) }
     {
-        let spots = self.spots(alloc, probe)?;
+        let spots = self.spots(alloc, rows)?;
         let mut dirs = Directories::new(alloc);
         dirs.place(base)?;
         let mut rows = Vec::new(alloc);

@@ -18,3 +18,5 @@ pub use Rattle.pua_tree.proofs.Tallies.{same_or_other, put_here, put_elsewhere, 
 -- what a listing is, and what is true of an entry that fits those before it
 pub use Rattle.pua_tree.proofs.ListingGrammar.{listings_are_read, listings_list_trees}
 pub use Rattle.pua_tree.proofs.Entries.{Fits, fits_parts}
+-- the set of the names in a list, with the name in one element more
+pub use Rattle.pua_tree.proofs.SlotsNames.{one_name_more}

@@ -111,11 +111,11 @@ lent_with name (n ∷ ns) =
       | Greater ↦ ap (λ ns. n.now ∷ ns) (lent_with name ns)
     ]
 
--- the names of keys from the last one on, with the name of one key more
-pub one_key_more : (keys : List (Bor Spot)) (key : Bor Spot) (names more : List (Bor (List ℕ))) (name : Bor (List ℕ)) → name.now ≡ key.now.name
-    → map (λ n. n.now) names ≡ distinct_names (map (λ k. k.name) (reverse (map (λ k. k.now) keys))) → more ≡ insert_key (λ n m. name_cmp n.now m.now) names name
-    → map (λ n. n.now) more ≡ distinct_names (map (λ k. k.name) (reverse (map (λ k. k.now) (keys ++ key ∷ []))))
-one_key_more keys key names more name its so_far new =
+-- the names in a list from the last one on, with the name in one element more
+pub one_name_more : {A : Type 0} (name_in : A → List ℕ) (xs : List (Bor A)) (x : Bor A) (names more : List (Bor (List ℕ))) (name : Bor (List ℕ)) → name.now ≡ name_in x.now
+    → map (λ n. n.now) names ≡ distinct_names (map name_in (reverse (map (λ y. y.now) xs))) → more ≡ insert_key (λ n m. name_cmp n.now m.now) names name
+    → map (λ n. n.now) more ≡ distinct_names (map name_in (reverse (map (λ y. y.now) (xs ++ x ∷ []))))
+one_name_more {A} name_in xs x names more name its so_far new =
     ap (λ (ns : List (Bor (List ℕ))). map (λ n. n.now) ns) new ∙ lent_with name names ∙ ap (insert_key name_cmp (map (λ n. n.now) names)) its
-    ∙ with_name_is key.now.name (map (λ n. n.now) names) ∙ ap (with_name key.now.name) so_far
-    ∙ sym (ap (λ (ks : List Spot). distinct_names (map (λ k. k.name) (reverse ks))) (map-append (λ k. k.now) keys (key ∷ [])) ∙ ap (λ (ks : List Spot). distinct_names (map (λ k. k.name) ks)) (reverse-append (map (λ k. k.now) keys) (key.now ∷ [])))
+    ∙ with_name_is (name_in x.now) (map (λ n. n.now) names) ∙ ap (with_name (name_in x.now)) so_far
+    ∙ sym (ap (λ (ys : List A). distinct_names (map name_in (reverse ys))) (map-append (λ y. y.now) xs (x ∷ [])) ∙ ap (λ (ys : List A). distinct_names (map name_in ys)) (reverse-append (map (λ y. y.now) xs) (x.now ∷ [])))

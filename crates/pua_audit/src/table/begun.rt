@@ -1,6 +1,7 @@
 //! The walk over the table of steps, before its first pair.
 
-ghost use Rattle.std.specs.Prelude.{◌≡◌, ◌<◌, ◌≤◌, ◌+◌, ◌^◌, ◌*◌, suc, true, false, length, Option, option_map, IfOk, IfSome, IsTrue};
+ghost use Rattle.std.specs.Prelude.{◌≡◌, ◌<◌, ◌≤◌, ◌+◌, ◌^◌, ◌*◌, suc, true, false, length, Option, option_map, IfOk, IfSome, IsTrue, map};
+ghost use Rattle.pua_tree.specs.LentRows.{lent_entry};
 ghost use Rattle.std.specs.List.{AllByRecursion};
 ghost use Rattle.pua_tree.specs.Tree.{is_dir};
 ghost use Rattle.pua_policy.specs.CallSets.{has};
@@ -25,7 +26,7 @@ use crate::terms::Terms;
 use pua_path::{Found, Probe};
 use pua_policy::Calls;
 use pua_steps::{State, Steps, Walk};
-use pua_tree::OutOfMemory;
+use pua_tree::{LentRow, OutOfMemory};
 use std::alloc::{AllocError, Global};
 
 /// A walk over the table of steps of what is audited, and how many of its states are live.
@@ -44,9 +45,11 @@ impl Terms {
         &self,
         alloc: Global,
         probe: &mut P,
+        rows: &[LentRow<'_>],
         after: Option<Resumption>,
     ) -> Result<Begun, OutOfMemory>
         requires tree { P.tree probe.old ≡ self.now.seen.tree }
+        requires rows { map lent_entry rows.now ≡ self.now.seen.tree.rows }
         requires sound { IsSound self.now }
         requires letters { AreSound self.now.limit self.now.letters.items }
         requires word { IfSome after (λ r. AreLetters (letters_of self.now) self.now.limit r.word.items) }
@@ -63,7 +66,7 @@ impl Terms {
         if !self.is_open(probe) {
             return self.begun_closed(alloc);
         }
-        self.begun_open(alloc, probe, after)
+        self.begun_open(alloc, probe, rows, after)
     }
 
     /// The same where something may be allowed.
@@ -72,9 +75,11 @@ impl Terms {
         &self,
         alloc: Global,
         probe: &mut P,
+        rows: &[LentRow<'_>],
         after: Option<Resumption>,
     ) -> Result<Begun, OutOfMemory>
         requires tree { P.tree probe.old ≡ self.now.seen.tree }
+        requires rows { map lent_entry rows.now ≡ self.now.seen.tree.rows }
         requires sound { IsSound self.now }
         requires letters { AreSound self.now.limit self.now.letters.items }
         requires word { IfSome after (λ r. AreLetters (letters_of self.now) self.now.limit r.word.items) }
@@ -89,7 +94,7 @@ impl Terms {
         ensures tree { P.tree probe.new ≡ P.tree probe.old }
         ensures cost { P.count probe.new + 1 ≤ P.count probe.old + pairs_cost self.now.seen.tree (length self.now.letters.items) }
     {
-        let steps = self.table(alloc, probe, self.base_dir())?;
+        let steps = self.table(alloc, probe, rows, self.base_dir())?;
         let calls = self.base_calls(probe).bits();
         let base = Some(State { dir: 0, used: 0 });
         let Ok(walk) = walk_after(alloc, steps, calls, base, self.limit, after) else {

@@ -1,6 +1,6 @@
 //! The letters that directories tell apart from names that they lack.
 
-ghost use Rattle.std.specs.Prelude.{◌≡◌, ◌≢◌, ◌<◌, ◌≤◌, ◌+◌, ℕ, [], false, length, get_or, map, IfOk};
+ghost use Rattle.std.specs.Prelude.{◌≡◌, ◌≢◌, ◌<◌, ℕ, [], false, length, get_or, map, IfOk};
 ghost use Rattle.std.specs.List.{AllByRecursion};
 ghost use Rattle.std.specs.List.Sorted.{IsNonDecreasingBy};
 ghost use Rattle.pua_tree.specs.LentRows.{lent_entry};
@@ -14,7 +14,6 @@ ghost use Rattle.pua_audit.specs.Spots.{AreApartFrom, AreAtLetters, AreLettersIn
 
 use crate::alphabet::place_of;
 use crate::terms::Terms;
-use pua_path::Probe;
 use pua_policy::Place;
 use pua_tree::{LentRow, Name, NodeId, OutOfMemory};
 use std::alloc::Global;
@@ -38,22 +37,19 @@ pub(crate) struct Spots {
 impl Terms {
     /// The letters that are no names, and the spots of all rows and of all veils at names. A veil's
     /// name that is no letter has none. The error is that a growth was refused.
-    pub(crate) fn spots<'t, P: Probe<'t>>(
+    pub(crate) fn spots(
         &self,
         alloc: Global,
-        probe: &mut P,
+        rows: &[LentRow<'_>],
     ) -> Result<Spots, OutOfMemory>
-        requires tree { P.tree probe.old ≡ self.now.seen.tree }
+        requires rows { map lent_entry rows.now ≡ self.now.seen.tree.rows }
         requires sound { IsSound self.now }
         requires rises { Rises name_cmp (letters_of self.now) }
-        ensures spots { IfOk result (λ spots. AreSpots self.now.seen.tree (history_of self.now.process) (letters_of self.now) spots.dots.items spots.names.items) }
-        ensures tree { P.tree probe.new ≡ P.tree probe.old }
-        ensures cost { P.count probe.new ≤ P.count probe.old + 1 }
+        ensures { IfOk result (λ spots. AreSpots self.now.seen.tree (history_of self.now.process) (letters_of self.now) spots.dots.items spots.names.items) }
     {
-        let rows = probe.rows(alloc)?;
         let places = self.process.places(alloc)?;
         let mut names = Vec::new(alloc);
-        self.add_rows(&mut names, rows.as_slice())?;
+        self.add_rows(&mut names, rows)?;
         self.add_veils(&mut names, places.as_slice())?;
         names.sort_unstable_by_key(|spot| spot.dir);
         let dots = self.dots(alloc)?;

@@ -3,4 +3,4 @@ use Rattle.pua_audit.specs.Ready.{part_bytes}
 use Rattle.pua_audit.proofs.alphabet.named.Given as goal
 
 abbrev pub invariant-loop-name : goal.invariant-loop-name
-invariant-loop-name l = map part_bytes l.letters.items ≡ take l.name-index l.names
+invariant-loop-name l = map part_bytes l.letters.items ≡ map (λ name. name.now) (take l.name-index l.names)

@@ -21,7 +21,7 @@ returns-clause-begun g c = λ table h base after.
     let names = c.in_ok-names.names.items in
     let letters = map part_bytes c.in-Ok.letters.items in
     let few : length texts ≤ 1024 = omega (arith, length-map c.args.candidates.now (λ s. s.now)) in
-    let same : letters ≡ alphabet_of t names = c.in-Ok.ensures.letters ∙ ap (alphabet_of t) c.as_slice.ensures.value in
+    let same : letters ≡ alphabet_of t names = c.in-Ok.ensures t c.requires.rows ∙ ap (alphabet_of t) c.as_slice.ensures.value in
     let most : c.longest.result ≡ longest letters = c.longest.ensures.longest ∙ ap (λ l. longest (map part_bytes l)) c.as_slice-2.ensures.value in
     let product = same_product c.from.result c.args.limit c.longest.result (longest letters) c.from.ensures most in
     begun t table h base texts c.args.limit after c.if-limit-gt-LETTER_LIMIT.false few names c.in_ok-names.ensures letters same (subst (λ n. n ≤ 1023) product c.if-from-longest-gt-PATH_LIMIT.false)
@@ -32,7 +32,7 @@ returns-clause-sound g c =
     let texts = map (λ s. s.now) c.args.candidates.now in
     let names = c.in_ok-names.names.items in
     let letters = map part_bytes c.in-Ok.letters.items in
-    let same : letters ≡ alphabet_of t names = c.in-Ok.ensures.letters ∙ ap (alphabet_of t) c.as_slice.ensures.value in
+    let same : letters ≡ alphabet_of t names = c.in-Ok.ensures t c.requires.rows ∙ ap (alphabet_of t) c.as_slice.ensures.value in
     let most : c.longest.result ≡ longest letters = c.longest.ensures.longest ∙ ap (λ l. longest (map part_bytes l)) c.as_slice-2.ensures.value in
     let product = same_product c.from.result c.args.limit c.longest.result (longest letters) c.from.ensures most in
     record {
@@ -47,5 +47,5 @@ pub returns-clause-many : goal.returns-clause-many
 returns-clause-many g c =
     let t = g.P.Probe.tree c.args.probe.now in
     let names = c.in_ok-names.names.items in
-    let same : map part_bytes c.in-Ok.letters.items ≡ alphabet_of t names = c.in-Ok.ensures.letters ∙ ap (alphabet_of t) c.as_slice.ensures.value in
+    let same : map part_bytes c.in-Ok.letters.items ≡ alphabet_of t names = c.in-Ok.ensures t c.requires.rows ∙ ap (alphabet_of t) c.as_slice.ensures.value in
     sym (length-map c.in-Ok.letters.items part_bytes) ∙ ap length same ∙ ap (λ r. length (alphabet_of t (names_in r))) (sym c.in_ok-names.ensures)

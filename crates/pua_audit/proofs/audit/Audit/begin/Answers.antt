@@ -1,11 +1,11 @@
-use Rattle.std.proofs.Common.{◌≡◌, refl, rules, ℕ, List, [], sym, ap, ◌∙◌, map, length}
+use Rattle.std.proofs.Common.{◌≡◌, refl, rules, subst, ℕ, List, [], sym, ap, ◌∙◌, map, length}
 use Rattle.std.specs.Prelude.{Result, Ok, Err, option_map}
 use Rattle.pua_tree.specs.Tree.{Tree}
 use Rattle.pua_path.specs.declared.found.Part.{Part}
 use Rattle.pua_policy.specs.History.{StandsFor}
 use Rattle.pua_audit.specs.Past.{history_of}
 use Rattle.pua_audit.specs.Reach.{Scope, rest_after}
-use Rattle.pua_audit.specs.Begin.{Beginning}
+use Rattle.pua_audit.specs.Begin.{Beginning, beginning}
 use Rattle.pua_audit.specs.Live.{live_states}
 use Rattle.pua_audit.specs.Alphabets.{AreParts}
 use Rattle.pua_audit.specs.Plain.{is_plain_alphabet}
@@ -34,14 +34,14 @@ returns-clause-begun g c = λ h stands.
     let letters : List Part = c.in_ok-letters.field-0.letters.items in
     let b : Beginning = beginning_with t c.args.table.now h base limit c.in_ok-letters.field-0 in
     let past = stands_for_past p c.known.ensures.history c.known.ensures.stands in
-    let known : c.in-Ok.terms.letters.items ≡ letters = ap (λ v. v.items) c.in-Ok.ensures.letters.1 in (
+    let known : c.in-Ok-new.terms.letters.items ≡ letters = ap (λ v. v.items) c.in-Ok-new.ensures.letters.1 in (
       b,
       (
-        c.in_ok-letters.ensures.begun c.args.table.now h,
+        (subst (λ (u : Tree). beginning u c.args.table.now h c.args.base (map (λ s. s.now) c.args.candidates.now) c.args.limit (option_map (λ s. s.now) c.args.after) ≡ Ok (beginning_with u c.args.table.now h c.args.base c.args.limit c.in_ok-letters.field-0)) c.in-Ok.ensures.tree (c.in_ok-letters.ensures.begun c.args.table.now h)),
         c.in-Ok-begin.ensures.left
-            ∙ ap (λ (ls : List Part). rest_after (scope_in c.in-Ok.terms) (option_map (pair_in (map part_bytes ls)) after)) known
-            ∙ ap (λ (s : Scope). rest_after s (option_map (pair_in (map part_bytes letters)) after)) c.in-Ok.ensures.scope
-            ∙ ap (λ (u : Tree). rest_after (scope_with u c.args.table.now (history_of p) base limit letters) (option_map (pair_in (map part_bytes letters)) after)) c.in_ok-letters.ensures.tree
+            ∙ ap (λ (ls : List Part). rest_after (scope_in c.in-Ok-new.terms) (option_map (pair_in (map part_bytes ls)) after)) known
+            ∙ ap (λ (s : Scope). rest_after s (option_map (pair_in (map part_bytes letters)) after)) c.in-Ok-new.ensures.scope
+            ∙ ap (λ (u : Tree). rest_after (scope_with u c.args.table.now (history_of p) base limit letters) (option_map (pair_in (map part_bytes letters)) after)) c.in-Ok.ensures.tree
             ∙ rest_by_process t c.args.table.now base (map part_bytes letters) limit p (history_of p) h past stands (option_map (pair_in (map part_bytes letters)) after),
         refl,
       ),
@@ -50,7 +50,7 @@ returns-clause-begun g c = λ h stands.
 pub invariant_of-result : goal.invariant_of-result
 invariant_of-result g c = (
   c.in-Ok-begin.ensures.ready,
-  marked c.are_plain-plain.result c.in-Ok-begin.pairs c.in-Ok.terms _ (c.are_plain-plain.ensures ∙ ap (λ (ls : List Part). is_plain_alphabet (map part_bytes ls)) c.as_slice.ensures.value)
+  marked c.are_plain-plain.result c.in-Ok-begin.pairs c.in-Ok-new.terms _ (c.are_plain-plain.ensures ∙ ap (λ (ls : List Part). is_plain_alphabet (map part_bytes ls)) c.as_slice.ensures.value)
       c.in-Ok-begin.ensures.terms c.in-Ok-begin.ensures.left,
 )
 
@@ -61,8 +61,8 @@ alphabet_in (Err fault) = []
 pub returns-clause-letters : goal.returns-clause-letters
 returns-clause-letters g c = λ h b is.
     ap (λ (u : Terms). letters_of u) c.in-Ok-begin.ensures.terms
-    ∙ ap (λ (v : List Part). map part_bytes v) (ap (λ v. v.items) c.in-Ok.ensures.letters.1)
-    ∙ ap alphabet_in (sym (c.in_ok-letters.ensures.begun c.args.table.now h) ∙ is)
+    ∙ ap (λ (v : List Part). map part_bytes v) (ap (λ v. v.items) c.in-Ok-new.ensures.letters.1)
+    ∙ ap alphabet_in (sym ((subst (λ (u : Tree). beginning u c.args.table.now h c.args.base (map (λ s. s.now) c.args.candidates.now) c.args.limit (option_map (λ s. s.now) c.args.after) ≡ Ok (beginning_with u c.args.table.now h c.args.base c.args.limit c.in_ok-letters.field-0)) c.in-Ok.ensures.tree (c.in_ok-letters.ensures.begun c.args.table.now h))) ∙ is)
 
 abbrev live_in : Result Beginning AuditFault → ℕ
 live_in (Ok b) = length (live_states b.scope)
@@ -77,7 +77,7 @@ returns-clause-live g c = λ h stands b is.
     let letters : List Part = c.in_ok-letters.field-0.letters.items in
     let past = stands_for_past p c.known.ensures.history c.known.ensures.stands in
     c.in-Ok-begin.ensures.live
-    ∙ ap (λ (s : Scope). length (live_states s)) c.in-Ok.ensures.scope
-    ∙ ap (λ (u : Tree). length (live_states (scope_with u c.args.table.now (history_of p) base limit letters))) c.in_ok-letters.ensures.tree
+    ∙ ap (λ (s : Scope). length (live_states s)) c.in-Ok-new.ensures.scope
+    ∙ ap (λ (u : Tree). length (live_states (scope_with u c.args.table.now (history_of p) base limit letters))) c.in-Ok.ensures.tree
     ∙ ap length (live_by_process t c.args.table.now base (map part_bytes letters) limit p (history_of p) h past stands)
-    ∙ ap live_in (sym (c.in_ok-letters.ensures.begun c.args.table.now h) ∙ is)
+    ∙ ap live_in (sym ((subst (λ (u : Tree). beginning u c.args.table.now h c.args.base (map (λ s. s.now) c.args.candidates.now) c.args.limit (option_map (λ s. s.now) c.args.after) ≡ Ok (beginning_with u c.args.table.now h c.args.base c.args.limit c.in_ok-letters.field-0)) c.in-Ok.ensures.tree (c.in_ok-letters.ensures.begun c.args.table.now h))) ∙ is)

@@ -3,7 +3,7 @@ use Rattle.std.specs.List.{AllByRecursion}
 use Rattle.std.proofs.lemmas.List.{length-map}
 use Rattle.std.proofs.lemmas.List.Sorted.{Contains-permutation, IsPermutation-sym, IsNonDecreasingBy-from_sort_by_key}
 use Rattle.pua_tree.specs.LentRows.{lent_entry}
-use Rattle.pua_tree.specs.Tree.{Tree, Spot}
+use Rattle.pua_tree.specs.Tree.{Spot}
 use Rattle.pua_policy.proofs.ForCallers.{veils_are_kept}
 use Rattle.pua_policy.specs.History.{veil_at}
 use Rattle.pua_policy.specs.declared.place.Place.{Place}
@@ -16,12 +16,12 @@ use Rattle.pua_audit.proofs.Lists.{all_among}
 use Rattle.pua_audit.proofs.Spotted.{nowhere_found, apart_kept, named_part}
 use Rattle.pua_audit.proofs.terms.Terms.spots.Goals as goal
 
-pub returns-clause-spots : goal.returns-clause-spots
-returns-clause-spots g c =
+pub returns : goal.returns
+returns c =
     let a = c.args.self.now in
     let name = λ (letter : ℕ). get_or (letters_of a) letter [] in
-    let rows : map lent_entry c.as_slice.result.now ≡ a.seen.tree.rows = ap (map lent_entry) c.as_slice.ensures.value ∙ c.in_ok-rows.ensures.rows ∙ ap (λ (t : Tree). t.rows) c.requires.tree in
-    let places : map (λ place. place.now) c.as_slice-2.result.now ≡ map (λ veil. veil.0) a.process.veils = ap (map (λ place. place.now)) c.as_slice-2.ensures.value ∙ c.in_ok-places.ensures in
+    let rows : map lent_entry c.args.rows.now ≡ a.seen.tree.rows = c.requires.rows in
+    let places : map (λ place. place.now) c.as_slice.result.now ≡ map (λ veil. veil.0) a.process.veils = ap (map (λ place. place.now)) c.as_slice.ensures.value ∙ c.in_ok-places.ensures in
     let h = history_of a.process in
     let names : List LetterSpot = c.add_veils.new.spots.items in
     let sorted : List LetterSpot = c.sort_unstable_by_key.new.self.items in

@@ -4,12 +4,12 @@ use Rattle.std.proofs.lemmas.Iterator.Adapters.{YieldsList-from_rev_slice}
 use Rattle.std.proofs.lemmas.Iterator.Consumers.{YieldsList-end}
 use Rattle.pua_tree.specs.Tree.{distinct_names}
 use Rattle.pua_tree.specs.declared.spot.Spot.{Spot}
-use Rattle.pua_tree.proofs.SlotsNames.{names_held, one_key_more}
+use Rattle.pua_tree.proofs.SlotsNames.{names_held, one_name_more}
 use Rattle.pua_tree.proofs.slots.Slots.name_set.Goals as goal
 
 pub loop-spot-preserved : goal.loop-spot-preserved
 loop-spot-preserved c =
-    one_key_more c.loop-spot.yielded c.in-Some.spot c.loop-spot.names.keys c.insert.new.self.keys _ refl c.loop-spot.invariant c.in_ok-insert.ensures.keys
+    one_name_more (λ (spot : Spot). spot.name) c.loop-spot.yielded c.in-Some.spot c.loop-spot.names.keys c.insert.new.self.keys _ refl c.loop-spot.invariant c.in_ok-insert.ensures.keys
 
 pub returns : goal.returns
 returns c =
