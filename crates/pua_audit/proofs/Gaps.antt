@@ -6,7 +6,8 @@ use Rattle.std.specs.Prelude.{IsTrue}
 use Rattle.pua_tree.specs.Tree.{is_dir}
 use Rattle.pua_policy.specs.CallSets.{has}
 use Rattle.pua_policy.specs.declared.call.Call.{Call}
-use Rattle.pua_audit.specs.Entries.{allowed_bare}
+use Rattle.pua_audit.specs.Entries.{allowed_within}
+use Rattle.pua_policy.specs.Verdict.{IsMissing}
 use Rattle.pua_audit.specs.Judge.{Judge}
 use Rattle.pua_audit.specs.Past.{history_of}
 use Rattle.pua_audit.specs.Ready.{IsSound, judge_in, letters_of}
@@ -56,9 +57,9 @@ module _ (w : Judge) (letters : List (List ℕ)) (dir missing : ℕ) where
         (put (row m (omega (arith, next, low)) before))
 
 -- letters that a directory does not tell apart
-pub letters_bare : (a : Terms) (dir missing : ℕ) (dots : List ℕ) (spots : List LetterSpot) (ns : List ℕ) → IsSound a → IsTrue (is_dir a.seen.tree dir) → ((call : Call) → has missing call ≡ allowed_bare a.seen.tree a.table (history_of a.process) dir call)
+pub letters_bare : (a : Terms) (dir missing : ℕ) (dots : List ℕ) (spots : List LetterSpot) (ns : List ℕ) → IsSound a → IsTrue (is_dir a.seen.tree dir) → ((call : Call) → has missing call ≡ allowed_within a.seen.tree a.table (history_of a.process) dir IsMissing call)
     → AreSpots a.seen.tree (history_of a.process) (letters_of a) dots spots → AreLettersIn dir dots spots ns
     → (i : ℕ) → i < length (letters_of a) → IsApart i ns → IsLetter (judge_in a) dir (get_or (letters_of a) i []) missing missing 0 None
 letters_bare a dir missing dots spots ns sound living told are among i low apart =
-    bare_told a.seen.tree a.table a.base (history_of a.process) dir (get_or (letters_of a) i []) missing sound.tree living told
+    bare_told a.seen.tree a.table a.base (history_of a.process) dir (get_or (letters_of a) i []) sound.tree living missing told
     (record { name = are.named i low (among.dotted i apart); none = are.none dir i low (among.spotted i apart); unveiled = are.unveiled dir i low (among.spotted i apart) })

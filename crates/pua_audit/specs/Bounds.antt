@@ -10,9 +10,9 @@ use Rattle.pua_audit.specs.declared.fault.AuditFault.{AuditFault}
 abbrev pub object_cost : Tree → ℕ
 object_cost t = length t.nodes + 1
 
--- a letter in a directory: it is followed and kept, and both times what is found is judged
+-- a letter in a directory: it is found, or followed and kept, and both times what is found is judged
 abbrev pub letter_cost : Tree → ℕ
-letter_cost t = 2 * (part_cost t + object_cost t)
+letter_cost t = 2 + 2 * (part_cost t + object_cost t)
 
 -- the row of a directory: the names that it lacks are judged once
 abbrev pub row_cost : Tree → ℕ → ℕ

@@ -11,12 +11,14 @@ use Rattle.pua_path.specs.declared.found.Way.TheVariants.{Top}
 use Rattle.pua_path.specs.declared.found.Found.{Found}
 use Rattle.pua_path.specs.declared.found.Found.TheVariants.{Whole, Slot}
 use Rattle.pua_policy.specs.Calls.{CallTable, last_of}
+use Rattle.pua_policy.specs.CallSets.{has}
 use Rattle.pua_policy.specs.History.{History, kept}
-use Rattle.pua_policy.specs.Verdict.{IsMissing, cover, covered_verdict, verdict_of, is_allowed}
+use Rattle.pua_policy.specs.Verdict.{Object, IsMissing, IsFile, IsProg, cover, covered_verdict, verdict_of, is_allowed}
 use Rattle.pua_policy.specs.declared.place.Place.TheVariants as place
 use Rattle.pua_policy.specs.declared.call.Call.{Call}
 use Rattle.pua_audit.specs.Judge.{Below, judge_of}
 use Rattle.pua_audit.specs.declared.base.Base.{Base}
+use Rattle.pua_audit.specs.declared.table.within.Within.{Within}
 
 abbrev pub links_of : Result (Found × ℕ) Errno → ℕ
 links_of (Ok found) = found.1
@@ -50,9 +52,15 @@ pub record IsBare (t : Tree) (h : History) (dir : ℕ) (letter : List ℕ) : Typ
   pub none : look t dir letter ≡ None
   pub unveiled : kept h (place.Slot dir letter) ≡ None
 
--- whether a call is allowed on such names: what the veils leave of them is what they leave of the directory
-abbrev pub allowed_bare : Tree → CallTable → History → ℕ → Call → Bool
-allowed_bare t table h dir call = is_allowed (covered_verdict t table h call (cover t h (Whole dir Top)) IsMissing)
+-- whether a call is allowed on such an object in a directory whose name has no veil of its own: what the veils leave of it is what they leave of the directory
+abbrev pub allowed_within : Tree → CallTable → History → ℕ → Object → Call → Bool
+allowed_within t table h dir object call = is_allowed (covered_verdict t table h call (cover t h (Whole dir Top)) object)
+
+-- the calls that are allowed on names of a directory that have no veil of their own, by what stands there
+pub record AreWithin (t : Tree) (table : CallTable) (h : History) (dir : ℕ) (w : Within) : Type 0 where
+  pub missing : (call : Call) → has w.missing call ≡ allowed_within t table h dir IsMissing call
+  pub file : (call : Call) → has w.file call ≡ allowed_within t table h dir IsFile call
+  pub program : (call : Call) → has w.program call ≡ allowed_within t table h dir IsProg call
 
 -- what the letter is, for each number of links used before
 pub record IsEntryAt (t : Tree) (table : CallTable) (base : Base) (h : History) (dir : ℕ) (letter : List ℕ) (r : Result (Found × ℕ) Errno) (used : ℕ) : Type 0 where

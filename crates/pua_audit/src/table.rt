@@ -14,6 +14,7 @@ mod directories;
 mod letter;
 mod row;
 mod spots;
+mod within;
 
 use crate::table::directories::Directories;
 use crate::terms::Terms;

@@ -1,10 +1,15 @@
 -- What a part names where no link was used before tells it for any number of links used before.
-use Rattle.std.proofs.Common.{◌≡◌, ℕ, ◌+◌, ◌-◌, ◌≤◌, List, [], ◌∷◌, ◌++◌, Some, None, refl, sym, ap, ◌∙◌, subst, arith, inl, inr, Result, Ok, Err}
+use Rattle.std.proofs.Common.{◌≡◌, ℕ, ◌+◌, ◌-◌, ◌≤◌, List, [], ◌∷◌, ◌++◌, Bool, true, false, Option, Some, None, option_map, refl, sym, ap, ◌∙◌, subst, arith, inl, inr, Result, Ok, Err}
 use Rattle.std.proofs.lemmas.Bool.{cases_lt}
-use Rattle.pua_tree.specs.Tree.{Tree, above, look}
+use Rattle.std.specs.Prelude.{option_and_then}
+use Rattle.pua_tree.specs.Tree.{Tree, Node, above, look, node_at, kind_at}
+use Rattle.pua_tree.specs.Tree as tree
+use Rattle.pua_tree.specs.declared.node.Kind.{Kind}
+use Rattle.pua_tree.specs.declared.node.Kind.TheVariants as kinds
+use Rattle.pua_tree.proofs.ForCallers.{None≢Some, same_Some}
 use Rattle.pua_tree.specs.Steps.{◌>>=◌}
 use Rattle.pua_path.specs.Paths.{parts_of}
-use Rattle.pua_path.specs.Resolution.{Resolved, Standing, Directory, Linked, Plain, Nothing, standing_at, start_of, resolve_parts, counted, step, last, follow, link_limit}
+use Rattle.pua_path.specs.Resolution.{Resolved, Standing, Directory, Linked, Plain, Nothing, standing_of, standing_at, start_of, resolve_parts, counted, step, last, follow, link_limit}
 use Rattle.pua_path.specs.Laws.{IsDecidedByLinks, FollowsLinks, entered, IsFollowed, Fails, IsToldBy, FollowDecides, KeptFollowsNone}
 use Rattle.pua_path.specs.declared.errno.Errno.{Errno}
 use Rattle.pua_path.specs.declared.errno.Errno.TheVariants.{ELOOP}
@@ -18,6 +23,9 @@ use Rattle.pua_path.specs.declared.found.Found.TheVariants.{Whole, Slot}
 use Rattle.pua_path.proofs.Steps.{resolve_end, resolve_dot, resolve_dotdot, resolve_directory, resolve_name, resolve_kept, resolve_linked}
 use Rattle.pua_path.proofs.Arrival.{arrived, step_arrives}
 use Rattle.pua_path.proofs.LinksLaw.{links_decide}
+
+false≢true : ◌≡◌ {A = Bool} false true → ⊥
+false≢true e = cc
 
 -- what is arrived at with links left is entered with the others used
 arrives_entered : (found : Found) (left used : ℕ) → link_limit - left ≡ used → arrived (found, left) ≡ entered used found
@@ -97,6 +105,47 @@ missing_follows t dir name none = ap (λ (r : Resolved). r >>= counted) (resolve
   where
     by : look t dir name ≡ None → Nothing ≡ standing_at t dir name
     by e = rw e refl
+
+-- files stand plainly at their names
+abbrev pub is_file : Kind → Bool
+is_file kinds.File = true
+is_file kinds.Prog = true
+is_file _ = false
+
+stands_plainly : (x : ℕ) (node : Node) (kind : Kind) → node.kind ≡ kind → is_file kind ≡ true → standing_of x (Some node) ≡ Plain x
+stands_plainly x node kinds.File same file = rw same refl
+stands_plainly x node kinds.Prog same file = rw same refl
+stands_plainly x node kinds.Dir same file = absurd (false≢true file)
+stands_plainly x node kinds.Link same file = absurd (false≢true file)
+
+module _ (t : Tree) (dir : ℕ) (name : List ℕ) (x : ℕ) (kind : Kind) (file : is_file kind ≡ true) where
+  by_node : (y : ℕ) (node : Option Node) → look t dir name ≡ Some y → node_at t y ≡ node → option_map {U = ℕ × Kind} (λ k. (y, k)) (option_map (λ n. n.kind) node) ≡ Some (x, kind) → Plain x ≡ standing_at t dir name
+  by_node y None here at e = absurd (None≢Some (x, kind) e)
+  by_node y (Some node) here at e =
+      let pair : ◌≡◌ {A = ℕ × Kind} (y, node.kind) (x, kind) = same_Some (y, node.kind) (x, kind) e in
+      rw here (rw at (sym (stands_plainly y node kind (ap (λ (p : ℕ × Kind). p.1) pair) file ∙ ap Plain (ap (λ (p : ℕ × Kind). p.0) pair))))
+
+  by_row : (row : Option ℕ) → look t dir name ≡ row → option_and_then {U = ℕ × Kind} (λ y. option_map {U = ℕ × Kind} (λ k. (y, k)) (kind_at t y)) row ≡ Some (x, kind) → Plain x ≡ standing_at t dir name
+  by_row None here e = absurd (None≢Some (x, kind) e)
+  by_row (Some y) here e = by_node y (node_at t y) here refl e
+
+  -- a file is found at its name, by no link
+  pub file_follows : tree.found_at t dir name ≡ Some (x, kind) → follow t dir (parts.Name name) ≡ Ok (Slot dir name (Some x), 0)
+  file_follows e = ap (λ (r : Resolved). r >>= counted) (resolve_name t Followed link_limit dir ways.Top name [] (Plain x) (by_row (look t dir name) refl e))
+
+-- the kind of what is found at a name
+pub found_kind : (t : Tree) (dir : ℕ) (name : List ℕ) (x : ℕ) (kind : Kind) → tree.found_at t dir name ≡ Some (x, kind) → kind_at t x ≡ Some kind
+found_kind t dir name x kind e = by_row (look t dir name) e
+  where
+    by_kind : (y : ℕ) (k : Option Kind) → kind_at t y ≡ k → option_map {U = ℕ × Kind} (λ k. (y, k)) k ≡ Some (x, kind) → kind_at t x ≡ Some kind
+    by_kind y None at e = absurd (None≢Some (x, kind) e)
+    by_kind y (Some k) at e =
+        let pair : ◌≡◌ {A = ℕ × Kind} (y, k) (x, kind) = same_Some (y, k) (x, kind) e in
+        ap (kind_at t) (sym (ap (λ (p : ℕ × Kind). p.0) pair)) ∙ at ∙ ap Some (ap (λ (p : ℕ × Kind). p.1) pair)
+
+    by_row : (row : Option ℕ) → option_and_then {U = ℕ × Kind} (λ y. option_map {U = ℕ × Kind} (λ k. (y, k)) (kind_at t y)) row ≡ Some (x, kind) → kind_at t x ≡ Some kind
+    by_row None e = absurd (None≢Some (x, kind) e)
+    by_row (Some y) e = by_kind y (kind_at t y) refl e
 
 -- a link that is followed counts
 abbrev count_of : Result (Found × ℕ) Errno → ℕ

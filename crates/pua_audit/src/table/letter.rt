@@ -1,23 +1,28 @@
 //! What a letter is in a directory.
 
-ghost use Rattle.std.specs.Prelude.{◌≡◌, ◌<◌, ◌≤◌, ◌+◌, ◌&&◌, [], length, get_or, Ok, Err, IfSome, IsTrue};
+ghost use Rattle.std.specs.Prelude.{◌≡◌, ◌<◌, ◌≤◌, ◌+◌, ◌*◌, ◌&&◌, ℕ, false, [], length, get_or, None, Ok, Err, IfSome, IsTrue};
 ghost use Rattle.pua_tree.specs.Tree.{is_dir};
 ghost use Rattle.pua_path.specs.Bounds.{part_cost};
 ghost use Rattle.pua_path.specs.Resolution.{follow, last};
 ghost use Rattle.pua_path.specs.declared.found.Last.TheVariants.{Kept};
+ghost use Rattle.pua_path.specs.declared.found.Part.TheVariants.{Name};
+ghost use Rattle.pua_policy.specs.declared.place.Place.TheVariants.{Slot};
+ghost use Rattle.pua_policy.specs.History.{kept};
 ghost use Rattle.pua_policy.specs.CallSets.{has, keeps_link};
 ghost use Rattle.pua_policy.specs.declared.call.Call.{Call};
 ghost use Rattle.pua_policy.specs.Verdict.{FoundsFit, verdict_of, is_allowed};
 ghost use Rattle.pua_audit.specs.Bounds.{letter_cost, object_cost};
 ghost use Rattle.pua_audit.specs.Past.{history_of};
-ghost use Rattle.pua_audit.specs.Ready.{IsSound, judge_in, letters_of};
-ghost use Rattle.pua_audit.specs.Entries.{links_of, found_of, leads_to};
+ghost use Rattle.pua_audit.specs.Ready.{IsSound, judge_in, letters_of, part_bytes};
+ghost use Rattle.pua_audit.specs.Entries.{AreWithin, links_of, found_of, leads_to};
 ghost use Rattle.pua_audit.specs.Table.{IsLetter};
 ghost use Rattle.pua_steps.specs.Limits.{most_links};
 
+use crate::component::Component;
+use crate::table::within::Within;
 use crate::terms::Terms;
 use pua_path::{Errno, Found, Last, Part, Probe};
-use pua_policy::{Calls, judge};
+use pua_policy::{Calls, Place, judge};
 use pua_tree::NodeId;
 
 /// A letter in a directory, for any number of links that were followed before it.
@@ -34,8 +39,79 @@ pub(crate) struct Letter {
 }
 
 impl Terms {
-    /// What a letter is in a living directory. It is followed once, with no link used before it.
+    /// What a letter is in a living directory, by the calls on names there that have no veil of their
+    /// own. A file at such a name is not resolved.
     pub(crate) fn letter<'t, P: Probe<'t>>(
+        &self,
+        probe: &mut P,
+        dir: NodeId,
+        letter: usize,
+        within: &Within,
+    ) -> Letter
+        requires tree { P.tree probe.old ≡ self.now.seen.tree }
+        requires sound { IsSound self.now }
+        requires living { IsTrue (is_dir self.now.seen.tree dir) }
+        requires letter { letter < length self.now.letters.items }
+        requires within { AreWithin self.now.seen.tree self.now.table (history_of self.now.process) dir within.now }
+        ensures exact { IsLetter (judge_in self.now) dir (get_or (letters_of self.now) letter []) result.all result.kept result.links result.leads }
+        ensures kept { (call : Call) → has result.kept call ≡ (has result.all call && keeps_link call) }
+        ensures links { result.links ≤ most_links }
+        ensures lives { IfSome result.leads (λ to. IsTrue (is_dir self.now.seen.tree to)) }
+        ensures tree { P.tree probe.new ≡ P.tree probe.old }
+        ensures cost { P.count probe.new ≤ P.count probe.old + letter_cost self.now.seen.tree }
+    {
+        let Some(calls) = self.calls_on_file(probe, dir, &self.letters[letter], within) else {
+            return self.followed(probe, dir, letter);
+        };
+        Letter {
+            all: calls,
+            kept: calls.keeping(),
+            links: 0,
+            leads: None,
+        }
+    }
+
+    /// The calls on a letter where a file stands at its name, and has no veil of its own.
+    fn calls_on_file<'t, P: Probe<'t>>(
+        &self,
+        probe: &mut P,
+        dir: NodeId,
+        letter: &Component,
+        within: &Within,
+    ) -> Option<Calls>
+        requires tree { P.tree probe.old ≡ self.now.seen.tree }
+        requires sound { IsSound self.now }
+        requires living { IsTrue (is_dir self.now.seen.tree dir) }
+        requires within { AreWithin self.now.seen.tree self.now.table (history_of self.now.process) dir within.now }
+        ensures exact { IfSome result (λ calls. (kept : ℕ) → IsLetter (judge_in self.now) dir (part_bytes letter.now) calls kept 0 None) }
+        ensures tree { P.tree probe.new ≡ P.tree probe.old }
+        ensures cost { P.count probe.new ≤ P.count probe.old + 2 }
+    {
+        let (_, kind) = probe.find(dir, letter.bytes())?;
+        let calls = within.on(kind)?;
+        if self.may_have_veil(dir, letter) {
+            return None;
+        }
+        Some(calls)
+    }
+
+    /// False for a name in a directory at which no veil is kept.
+    fn may_have_veil(&self, dir: NodeId, letter: &Component) -> bool
+        requires { IsSound self.now }
+        ensures name { result ≡ false → letter.now ≡ Name (part_bytes letter.now) }
+        ensures veil { result ≡ false → kept (history_of self.now.process) (Slot dir (part_bytes letter.now)) ≡ None }
+    {
+        if !self.process.is_veiled() {
+            return !letter.is_name();
+        }
+        match letter.part() {
+            Part::Name(name) => self.process.kept(&Place::Slot(dir, name)).is_some(),
+            Part::Dot | Part::DotDot => true,
+        }
+    }
+
+    /// What a letter is in a living directory, followed once, with no link used before it.
+    fn followed<'t, P: Probe<'t>>(
         &self,
         probe: &mut P,
         dir: NodeId,
@@ -50,7 +126,7 @@ impl Terms {
         ensures links { result.links ≤ most_links }
         ensures lives { IfSome result.leads (λ to. IsTrue (is_dir self.now.seen.tree to)) }
         ensures tree { P.tree probe.new ≡ P.tree probe.old }
-        ensures cost { P.count probe.new ≤ P.count probe.old + letter_cost self.now.seen.tree }
+        ensures cost { P.count probe.new ≤ P.count probe.old + 2 * (part_cost self.now.seen.tree + object_cost self.now.seen.tree) }
     {
         let part = self.letters[letter].part();
         let (followed, links) = counted(pua_path::follow(probe, dir, &part));

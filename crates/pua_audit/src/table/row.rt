@@ -4,8 +4,7 @@ ghost use Rattle.std.specs.Prelude.{◌≡◌, ◌<◌, ◌≤◌, ◌+◌, ◌^
 ghost use Rattle.pua_tree.specs.Tree.{Tree, is_dir};
 ghost use Rattle.pua_policy.specs.CallSets.{has, keeps_link};
 ghost use Rattle.pua_policy.specs.declared.call.Call.{Call};
-ghost use Rattle.pua_audit.specs.Bounds.{object_cost, row_cost};
-ghost use Rattle.pua_audit.specs.Entries.{allowed_bare};
+ghost use Rattle.pua_audit.specs.Bounds.{row_cost};
 ghost use Rattle.pua_audit.specs.Judge.{Judge};
 ghost use Rattle.pua_audit.specs.Past.{history_of};
 ghost use Rattle.pua_audit.specs.Ready.{IsSound, judge_in, letters_of};
@@ -18,8 +17,8 @@ use crate::table::directories::Directories;
 use crate::table::letter::Letter;
 use crate::table::spots::Spots;
 use crate::terms::Terms;
-use pua_path::{Found, Probe, Way};
-use pua_policy::{Calls, Object, judge};
+use pua_path::Probe;
+use pua_policy::Calls;
 use pua_steps::{Entry, Row};
 use pua_tree::{NodeId, OutOfMemory};
 use std::alloc::Global;
@@ -47,33 +46,15 @@ impl Terms {
         ensures tree { P.tree probe.new ≡ P.tree probe.old }
         ensures cost { P.count probe.new ≤ P.count probe.old + row_cost self.now.seen.tree (length self.now.letters.items) }
     {
-        let missing = self.missing(probe, dir);
-        let others = missing.bits();
+        let within = self.within(probe, dir);
+        let missing = within.missing.bits();
         let letters = spots.letters_in(alloc, dir)?;
         let mut entries = Vec::new(alloc);
         for letter in &letters {
-            let found = self.letter(probe, dir, *letter);
-            found.put(*letter, missing, dirs, &mut entries)?;
+            let found = self.letter(probe, dir, *letter, &within);
+            found.put(*letter, within.missing, dirs, &mut entries)?;
         }
-        Ok(Row {
-            entries,
-            missing: others,
-        })
-    }
-
-    /// The calls that are allowed in a living directory on each name where nothing stands, and at which
-    /// no veil is kept: what the veils leave of such names is what they leave of the directory.
-    fn missing<'t, P: Probe<'t>>(&self, probe: &mut P, dir: NodeId) -> Calls
-        requires tree { P.tree probe.old ≡ self.now.seen.tree }
-        requires sound { IsSound self.now }
-        requires living { IsTrue (is_dir self.now.seen.tree dir) }
-        ensures exact { (call : Call) → has result call ≡ allowed_bare self.now.seen.tree self.now.table (history_of self.now.process) dir call }
-        ensures tree { P.tree probe.new ≡ P.tree probe.old }
-        ensures cost { P.count probe.new ≤ P.count probe.old + object_cost self.now.seen.tree }
-    {
-        let whole = Found::Whole { dir, way: Way::Top };
-        let cover = self.process.cover(probe, &whole);
-        judge::allowed(&self.process, &self.table, cover, Object::Missing)
+        Ok(Row { entries, missing })
     }
 }
 

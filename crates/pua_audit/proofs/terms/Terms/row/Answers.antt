@@ -16,18 +16,18 @@ pub loop-letter-init : goal.loop-letter-init
 loop-letter-init g c =
     let a = c.args.self.now in
     let s = c.args.spots.now in
-    let missing : ℕ = c.missing-missing.result in
+    let missing : ℕ = c.within-within.result.missing in
     let ns : List ℕ = c.deref-letter-items.result.now in
     let among : AreLettersIn c.args.dir s.dots.items s.names.items ns = subst (AreLettersIn c.args.dir s.dots.items s.names.items) (sym c.deref-letter-items.ensures.value) c.in_ok-letters.ensures in
-    let bare = letters_bare a c.args.dir missing s.dots.items s.names.items ns c.requires.sound c.requires.living c.missing-missing.ensures.exact c.requires.spots among in
+    let bare = letters_bare a c.args.dir missing s.dots.items s.names.items ns c.requires.sound c.requires.living c.within-within.ensures.exact.missing c.requires.spots among in
     record {
       row = λ n low reached.
           subst (IsRow (judge_in a) (letters_of a) c.args.dirs.now c.args.dir n missing) (sym c.new-entries.ensures.items)
-          (row_started (judge_in a) (letters_of a) c.args.dir missing ns bare c.args.dirs.now (subst (λ m. m < 2 ^ call_count) c.bits-others.ensures.number c.bits-others.ensures.calls) n low reached);
+          (row_started (judge_in a) (letters_of a) c.args.dir missing ns bare c.args.dirs.now (subst (λ m. m < 2 ^ call_count) c.bits-missing.ensures.number c.bits-missing.ensures.calls) n low reached);
       grown = grown_itself c.args.dirs.now;
       living = c.requires.dirs;
-      tree = c.missing-missing.ensures.tree ∙ c.requires.tree;
-      cost = omega (arith, c.missing-missing.ensures.cost);
+      tree = c.within-within.ensures.tree ∙ c.requires.tree;
+      cost = omega (arith, c.within-within.ensures.cost);
     }
 
 pub letter-found-requires : goal.letter-found-requires
@@ -38,7 +38,7 @@ letter-found-requires g c κs =
     let among : AreLettersIn c.args.dir s.dots.items s.names.items ns = subst (AreLettersIn c.args.dir s.dots.items s.names.items) (sym c.deref-letter-items.ensures.value) c.in_ok-letters.ensures in
     let many : length (letters_of a) ≡ length a.letters.items = length-map a.letters.items part_bytes in
     let at = all_at_index (λ n. n < length (letters_of a)) ns 0 (among.within (length (letters_of a)) c.requires.spots.dotted c.requires.spots.within) c.loop-letter.letter-index c.loop-letter-test.true in
-    ((refl, tt), (c.loop-letter.invariant.tree, (c.requires.sound, (c.requires.living, omega (arith, at, many)))))
+    ((refl, tt), (c.loop-letter.invariant.tree, (c.requires.sound, (c.requires.living, (omega (arith, at, many), c.within-within.ensures.exact)))))
 
 pub returns-in_err-put-clause-cost : goal.returns-in_err-put-clause-cost
 returns-in_err-put-clause-cost g c =
@@ -57,10 +57,10 @@ loop-letter-preserved g c =
     let s = c.args.spots.now in
     let l = c.loop-letter in
     let k : ℕ = l.letter-index in
-    let missing : ℕ = c.missing-missing.result in
+    let missing : ℕ = c.within-within.result.missing in
     let ns : List ℕ = c.deref-letter-items.result.now in
     let among : AreLettersIn c.args.dir s.dots.items s.names.items ns = subst (AreLettersIn c.args.dir s.dots.items s.names.items) (sym c.deref-letter-items.ensures.value) c.in_ok-letters.ensures in
-    let bare = letters_bare a c.args.dir missing s.dots.items s.names.items ns c.requires.sound c.requires.living c.missing-missing.ensures.exact c.requires.spots among in
+    let bare = letters_bare a c.args.dir missing s.dots.items s.names.items ns c.requires.sound c.requires.living c.within-within.ensures.exact.missing c.requires.spots among in
     record {
       row = λ n low reached.
           row_further (judge_in a) (letters_of a) c.args.dir missing ns bare l.dirs c.put.new.dirs l.entries.items c.put.new.entries.items k c.loop-letter-test.true among.rise l.invariant.row
@@ -81,8 +81,8 @@ returns-clause-row g c =
     let many : length (letters_of a) ≡ length a.letters.items = length-map a.letters.items part_bytes in
     let whole : l.letter-index ≡ length ns = omega (arith, c.loop-letter-test.false, l.auto.letter-index-end) in
     let reached = reached_all ns (length (letters_of a)) l.letter-index (among.within (length (letters_of a)) c.requires.spots.dotted c.requires.spots.within) whole in
-    subst (λ (m : ℕ). IsRow (judge_in a) (letters_of a) l.dirs c.args.dir (length a.letters.items) m l.entries.items) (sym c.bits-others.ensures.number)
-    (subst (λ (n : ℕ). IsRow (judge_in a) (letters_of a) l.dirs c.args.dir n c.missing-missing.result l.entries.items) many (l.invariant.row (length (letters_of a)) (omega arith) reached))
+    subst (λ (m : ℕ). IsRow (judge_in a) (letters_of a) l.dirs c.args.dir (length a.letters.items) m l.entries.items) (sym c.bits-missing.ensures.number)
+    (subst (λ (n : ℕ). IsRow (judge_in a) (letters_of a) l.dirs c.args.dir n c.within-within.result.missing l.entries.items) many (l.invariant.row (length (letters_of a)) (omega arith) reached))
 
 pub returns-clause-cost : goal.returns-clause-cost
 returns-clause-cost g c =

@@ -8,7 +8,7 @@ use Rattle.pua_audit.proofs.terms.Terms.row.Given as goal
 -- the row has all letters before the next one that is looked up
 abbrev pub invariant-loop-letter : goal.invariant-loop-letter
 invariant-loop-letter g l = record {
-  row : (n : ℕ) → n ≤ length (letters_of l.self) → IsReached l.letter-items l.letter-index n → IsRow (judge_in l.self) (letters_of l.self) l.dirs l.dir n l.missing l.entries.items;
+  row : (n : ℕ) → n ≤ length (letters_of l.self) → IsReached l.letter-items l.letter-index n → IsRow (judge_in l.self) (letters_of l.self) l.dirs l.dir n l.within.missing l.entries.items;
   grown : IsGrown l.fn.dirs l.dirs;
   living : AreLiving l.self.seen.tree l.dirs;
   tree : g.P.Probe.tree l.probe ≡ l.self.seen.tree;

@@ -1,0 +1,58 @@
+use Rattle.std.proofs.Common.{◌≡◌, ◌∙◌, ℕ, List, [], Bool, not, ◌&&◌, ◌||◌, Option, get_or, refl, sym, ap, subst, arith}
+use Rattle.std.specs.Prelude.{Result}
+use Rattle.std.proofs.lemmas.Grind.{common_steps}
+use Rattle.pua_tree.specs.Tree.{Tree}
+use Rattle.pua_path.specs.Bounds.{part_cost}
+use Rattle.pua_path.specs.Paths.{part_of}
+use Rattle.pua_path.specs.Resolution.{follow, last}
+use Rattle.pua_path.specs.declared.errno.Errno.{Errno}
+use Rattle.pua_path.specs.declared.found.Found.{Found}
+use Rattle.pua_path.specs.declared.found.Last.TheVariants.{Followed, Kept}
+use Rattle.pua_path.specs.declared.found.Part.{Part}
+use Rattle.pua_path.specs.declared.found.Part.TheVariants.{Dot}
+use Rattle.pua_policy.specs.Calls.{last_of}
+use Rattle.pua_policy.specs.CallSets.{has, keeps_link}
+use Rattle.pua_policy.specs.History.{History}
+use Rattle.pua_policy.specs.Verdict.{verdict_of, is_allowed}
+use Rattle.pua_policy.specs.declared.call.Call.{Call}
+use Rattle.pua_audit.specs.Past.{history_of}
+use Rattle.pua_audit.specs.Ready.{judge_in, letters_of}
+use Rattle.pua_audit.specs.Entries.{links_of, found_of, leads_to, allowed_kept, allowed_near, allowed_far}
+use Rattle.pua_audit.specs.Table.{IsLetter}
+use Rattle.pua_audit.proofs.Letters.{letter_part}
+use Rattle.pua_audit.proofs.Told.{letter_told, by_both, by_kept}
+use Rattle.pua_audit.proofs.terms.Terms.followed.Goals as goal
+
+pub calls_kept-far-requires : goal.calls_kept-far-requires
+calls_kept-far-requires g c κs =
+    let followed = c.follow.ensures.exact ∙ ap (λ (u : Tree). follow u c.args.dir c.part-part.result) c.requires.tree in
+    ((refl, tt), (c.calls_on-near.ensures.tree ∙ c.follow.ensures.tree ∙ c.requires.tree, (c.requires.sound, (c.requires.living, (c.counted-followed.ensures.found ∙ ap found_of followed, (c.counted-followed.ensures.links ∙ ap links_of followed, c.calls_on-near.ensures.exact))))))
+
+pub returns-clause-exact : goal.returns-clause-exact
+returns-clause-exact g c =
+    let a = c.args.self.now in
+    let t : Tree = a.seen.tree in
+    let h : History = history_of a.process in
+    let dir : ℕ = c.args.dir in
+    let letter : List ℕ = get_or (letters_of a) c.args.letter [] in
+    let r : Result (Found × ℕ) Errno = follow t dir (part_of letter) in
+    let at : c.part-part.result ≡ get_or a.letters.items c.args.letter Dot = grind (arith, common_steps) in
+    let part : c.part-part.result ≡ part_of letter = at ∙ sym (letter_part a.letters.items c.args.letter Dot c.requires.sound.parts c.requires.letter) in
+    let followed : c.follow.result ≡ r = c.follow.ensures.exact ∙ ap (λ (u : Tree). follow u dir c.part-part.result) c.requires.tree ∙ ap (follow t dir) part in
+    let found : c.counted-followed.result.0 ≡ found_of r = c.counted-followed.ensures.found ∙ ap found_of followed in
+    let links : c.counted-followed.result.1 ≡ links_of r = c.counted-followed.ensures.links ∙ ap links_of followed in
+    let on = λ (call : Call). c.calls_on-near.ensures.exact call ∙ ap (λ (x : Result Found Errno). is_allowed (verdict_of t a.table h call x)) found in
+    let on_kept = λ (call : Call). c.calls_kept-far.ensures.exact call ∙ ap (λ (p : Part). is_allowed (verdict_of t a.table h call (last t dir 0 p Kept))) part in
+    let near : (call : Call) → has c.union-all.result call ≡ allowed_near t a.table h dir letter r call =
+    λ call. c.union-all.ensures call ∙ ap (λ b. b || has c.keeping.result call) (c.following.ensures call) ∙ ap (λ b. (has c.calls_on-near.result call && not (keeps_link call)) || b) (c.keeping.ensures call)
+    ∙ by_both (last_of call) (has c.calls_on-near.result call) (has c.calls_kept-far.result call)
+    ∙ ap (λ (b : Bool). elim (last_of call) [ Followed ↦ b | Kept ↦ has c.calls_kept-far.result call ]) (on call)
+    ∙ ap (λ (b : Bool). elim (last_of call) [ Followed ↦ is_allowed (verdict_of t a.table h call (found_of r)) | Kept ↦ b ]) (on_kept call) in
+    let far : (call : Call) → has c.keeping-2.result call ≡ allowed_far t a.table h dir letter call =
+    λ call. c.keeping-2.ensures call ∙ ap (λ b. b && keeps_link call) (near call) ∙ by_kept (last_of call) (is_allowed (verdict_of t a.table h call (found_of r))) (allowed_kept t a.table h dir letter call) in
+    let told = letter_told t a.table a.base h dir letter c.union-all.result c.keeping-2.result near far in
+    subst (λ (n : ℕ). IsLetter (judge_in a) dir letter c.union-all.result c.keeping-2.result n c.directory_of.result) (sym links)
+    (subst (λ (o : Option ℕ). IsLetter (judge_in a) dir letter c.union-all.result c.keeping-2.result (links_of r) o) (sym (c.directory_of.ensures ∙ ap leads_to found)) told)
+
+pub returns-clause-cost : goal.returns-clause-cost
+returns-clause-cost g c = omega (arith, c.follow.ensures.cost, c.calls_on-near.ensures.cost, c.calls_kept-far.ensures.cost, ap part_cost c.requires.tree)

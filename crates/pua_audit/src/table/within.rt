@@ -1,0 +1,72 @@
+//! The calls on names of a directory that have no veil of their own.
+
+ghost use Rattle.std.specs.Prelude.{◌≡◌, ◌≤◌, ◌+◌, ℕ, true, Some, IfSome, IsTrue};
+ghost use Rattle.pua_tree.specs.Tree.{Tree, is_dir};
+ghost use Rattle.pua_path.proofs.ForCallers.{is_file};
+ghost use Rattle.pua_policy.specs.CallSets.{has};
+ghost use Rattle.pua_policy.specs.Calls.{CallTable};
+ghost use Rattle.pua_policy.specs.History.{History};
+ghost use Rattle.pua_policy.specs.Objects.{object_seen};
+ghost use Rattle.pua_policy.specs.Verdict as judged;
+ghost use Rattle.pua_policy.specs.Verdict.{covered_verdict, is_allowed, object_of_kind};
+ghost use Rattle.pua_policy.specs.declared.call.Call.{Call};
+ghost use Rattle.pua_audit.specs.Bounds.{object_cost};
+ghost use Rattle.pua_audit.specs.Entries.{AreWithin, allowed_within};
+ghost use Rattle.pua_audit.specs.Past.{history_of};
+ghost use Rattle.pua_audit.specs.Ready.{IsSound};
+
+use crate::terms::Terms;
+use pua_path::{Found, Probe, Way};
+use pua_policy::{Calls, Cover, Object, judge};
+use pua_tree::{Kind, NodeId};
+
+/// The calls that are allowed in a directory on names without a veil of their own, by what stands
+/// there: what the veils leave of such a name is what they leave of the directory.
+#[derive(Clone, Copy)]
+pub(crate) struct Within {
+    pub(crate) missing: Calls,
+    pub(crate) file: Calls,
+    pub(crate) program: Calls,
+}
+
+impl Terms {
+    /// The calls on names of a living directory that have no veil of their own.
+    pub(crate) fn within<'t, P: Probe<'t>>(&self, probe: &mut P, dir: NodeId) -> Within
+        requires tree { P.tree probe.old ≡ self.now.seen.tree }
+        requires sound { IsSound self.now }
+        requires living { IsTrue (is_dir self.now.seen.tree dir) }
+        ensures exact { AreWithin self.now.seen.tree self.now.table (history_of self.now.process) dir result }
+        ensures tree { P.tree probe.new ≡ P.tree probe.old }
+        ensures cost { P.count probe.new ≤ P.count probe.old + object_cost self.now.seen.tree }
+    {
+        let whole = Found::Whole { dir, way: Way::Top };
+        let cover = self.process.cover(probe, &whole);
+        Within {
+            missing: self.calls_over(&cover, Object::Missing),
+            file: self.calls_over(&cover, Object::File),
+            program: self.calls_over(&cover, Object::Program),
+        }
+    }
+
+    /// The calls on an object that has this cover.
+    fn calls_over(&self, cover: &Cover, object: Object) -> Calls
+        requires { IsSound self.now }
+        ensures { (t : Tree) (judged : judged.Object) → object ≡ object_seen t judged → (call : Call) → has result call ≡ is_allowed (covered_verdict t self.now.table (history_of self.now.process) call cover.now judged) }
+    {
+        judge::allowed(&self.process, &self.table, *cover, object)
+    }
+}
+
+impl Within {
+    /// The calls on a node of this kind, if that is a file.
+    pub(crate) fn on(&self, kind: Kind) -> Option<Calls>
+        ensures file { IfSome result (λ _. is_file kind ≡ true) }
+        ensures calls { IfSome result (λ calls. (t : Tree) (table : CallTable) (h : History) (dir : ℕ) → AreWithin t table h dir self.now → (call : Call) → has calls call ≡ allowed_within t table h dir (object_of_kind (Some kind)) call) }
+    {
+        match kind {
+            Kind::File => Some(self.file),
+            Kind::Prog => Some(self.program),
+            Kind::Dir | Kind::Link => None,
+        }
+    }
+}
