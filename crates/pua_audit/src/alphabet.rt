@@ -13,7 +13,7 @@ ghost use Rattle.pua_audit.specs.Plain.{is_plain_alphabet};
 ghost use Rattle.pua_audit.specs.Alphabets.{with_names, IsPlaced, AreParts};
 
 use crate::component::Component;
-use pua_tree::{LentRow, Name, OutOfMemory, byte_spelling};
+use pua_tree::{LentRow, Name, OutOfMemory};
 use std::alloc::{AllocError, Global};
 use std::collections::BTreeSet;
 
@@ -129,14 +129,5 @@ pub(crate) fn are_plain(letters: &[Component]) -> bool
 fn is_plain(letter: &Component) -> bool
     ensures { result ≡ list_all is_plain (part_bytes letter.now) }
 {
-    are_own_spelling(letter.bytes())
-}
-
-/// Whether each of some bytes is spelled by one byte: itself.
-fn are_own_spelling(bytes: &[u8]) -> bool
-    ensures { result ≡ list_all is_plain bytes.now }
-{
-    bytes
-        .iter()
-        .all(|byte| byte_spelling(*byte).as_bytes().len() == 1)
+    pua_tree::are_plain(letter.bytes())
 }

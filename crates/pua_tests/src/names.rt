@@ -1,7 +1,9 @@
 //! Names, targets and how bytes are spelled.
 
 use crate::expect::{expect, expect_bytes, expect_eq, expect_text};
-use pua_tree::{Name, NameFault, byte_spelling, has_short_components, is_target, unspelled};
+use pua_tree::{
+    Name, NameFault, are_plain, byte_spelling, has_short_components, is_target, unspelled,
+};
 use std::alloc::Global;
 use std::test::Fail;
 
@@ -35,6 +37,16 @@ fn names_and_bytes_have_one_spelling(rt: HostRuntime) -> Result<(), Fail> {
             byte_spelling(byte).as_bytes(),
             spelling,
         );
+    }
+    for (bytes, want) in [
+        (b"a~!".as_slice(), true),
+        (b"a b", false),
+        (b"a\\b", false),
+        (b"a\x7f", false),
+        (b"a\x80", false),
+        (b"", true),
+    ] {
+        expect_text(&rt, bytes, &are_plain(bytes), &want);
     }
     let is_read = is_spelling_of(rt.alloc(), b"/a\\040b/c", b"/a b/c")?;
     expect(&rt, "a path is read from its spelling", is_read);

@@ -1,8 +1,7 @@
 //! The lines of the pairs of an audit's text, written in blocks.
 
 ghost use Rattle.std.specs.Prelude.{◌≡◌, ◌≤◌, ◌+◌, ◌*◌, ◌++◌, ◌∷◌, [], length, IsTrue, IfOk, OnOk, OnErr, take, vec_len, vec_capacity};
-ghost use Rattle.std.specs.List.{list_all};
-ghost use Rattle.pua_tree.specs.Spelling.{is_plain, spelling};
+ghost use Rattle.pua_tree.specs.Spelling.{spelling};
 ghost use Rattle.pua_path.specs.Limits.{path_limit};
 ghost use Rattle.pua_policy.specs.Calls.{call_name};
 ghost use Rattle.pua_tool.specs.Texts.{ended, pair_lines};
@@ -13,7 +12,7 @@ use crate::sink::{PutFault, Sink, put_all};
 use pua_audit::Audit;
 use pua_path::{PATH_LIMIT, Probe};
 use pua_policy::Call;
-use pua_tree::byte_spelling;
+use pua_tree::{are_plain, byte_spelling};
 
 /// How many bytes the name of a call has at most.
 const MOST_NAME: usize = 8;
@@ -96,15 +95,6 @@ pub(crate) fn add_printed(block: &mut Vec<u8>, plain: bool, path: &[u8])
     } else {
         spell(block, path);
     }
-}
-
-/// Whether each of some bytes is spelled by itself.
-fn are_plain(bytes: &[u8]) -> bool
-    ensures { result ≡ list_all is_plain bytes.now }
-{
-    bytes
-        .iter()
-        .all(|byte| byte_spelling(*byte).as_bytes().len() == 1)
 }
 
 /// Adds the spelling of a path to a block that has room for it.

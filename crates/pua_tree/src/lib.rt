@@ -31,5 +31,5 @@ pub use listing::{HIGHEST_LISTED, MOST_LISTED, read_listing, read_listing_slab};
 pub use name::Name;
 pub use node::{Kind, NodeId};
 pub use slab_tree::SlabTree;
-pub use spelling::{SpelledByte, byte_spelling, unspelled};
+pub use spelling::{SpelledByte, are_plain, byte_spelling, unspelled};
 pub use tree::{FileTree, LentRow, MOST_NAMES, NUMBER_END};

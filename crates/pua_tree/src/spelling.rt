@@ -160,11 +160,14 @@ fn is_plain(byte: u8) -> bool
     is_visible(byte) && byte != b'\\'
 }
 
-/// Whether each byte stands for itself.
-pub(crate) fn are_plain(bytes: &[u8]) -> bool
+/// Whether each of some bytes stands for itself where it is printed or read: a visible byte that is
+/// no backslash. It is true of no bytes at all, and takes no memory.
+pub fn are_plain(bytes: &[u8]) -> bool
     ensures { result ≡ list_all is_plain bytes.now }
 {
-    bytes.iter().all(|byte| is_plain(*byte))
+    bytes
+        .iter()
+        .fold(true, |plain, byte| plain & is_plain(*byte))
 }
 
 /// Whether a byte is a visible character of ASCII, as each byte of a field is.
