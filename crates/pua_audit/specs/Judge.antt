@@ -27,7 +27,7 @@ pub data Place : Type 0 where
   Start : Place
   Below : State → List ℕ → Place
 
--- the directory and the links used behind a place, if words go on from there, and whether a call is allowed there
+-- the directory and the links used after a place, if words go on from there, and whether a call is allowed there
 pub record Judge : Type 0 where
   pub step : Place → Option State
   pub own : Place → Call → Bool

@@ -42,7 +42,7 @@ pub record IsSound (a : Terms) : Type 0 where
   pub parts : AllByRecursion (λ p. part_of (part_bytes p) ≡ p) a.letters.items
   pub short : a.limit * suc (longest (letters_of a)) ≤ path_limit
 
--- the places of a word are of the alphabet, and its path has each letter behind a slash
+-- the places of a word are of the alphabet, and its path has each letter after a slash
 pub record IsSpelled (a : Terms) (word bytes : List ℕ) : Type 0 where
   pub known : AllByRecursion (λ i. i < length a.letters.items) word
   pub path : bytes ≡ from_root (word_of (letters_of a) word)

@@ -69,11 +69,7 @@ fn named(alloc: Global, names: &[&Name]) -> Result<Vec<Component>, OutOfMemory>
 }
 
 /// Puts each name at its place among letters, the last one first.
-fn add_names(
-    alloc: Global,
-    letters: &mut Vec<Component>,
-    names: &[Name],
-) -> Result<(), OutOfMemory>
+fn add_names(alloc: Global, letters: &mut Vec<Component>, names: &[Name]) -> Result<(), OutOfMemory>
     requires { Rises name_cmp (map part_bytes letters.old.items) }
     ensures { IfOk result (λ _. map part_bytes letters.new.items ≡ with_names names.now (map part_bytes letters.old.items)) }
 {

@@ -57,9 +57,9 @@ impl Model for Audit {
 impl Audit {
     /// Begins the audit of a process over the tree of a probe: by paths from this base, of at most
     /// `limit` letters, each a name of the tree's rows, `..` or a candidate; from its first line, or
-    /// from the one behind the pair that a text `CALL:PATH` names. What a call needs is told by the
-    /// table. The process and the table are copied, so what becomes of them later changes nothing. What is to come is the same for each history that the
-    /// process stands for.
+    /// from the one after the pair that a text `CALL:PATH` names. What a call needs, the table says.
+    /// The process and the table are copied, so what becomes of them later changes nothing. What is
+    /// to come is the same for each history that the process stands for.
     ///
     /// The errors come in the order of `AuditFault`'s page, but that `OutOfMemory` comes wherever a
     /// growth was refused. The resume text is judged also where nothing is allowed at all. No
@@ -134,8 +134,9 @@ impl Audit {
     }
 
     /// Lends the next line, in the order of the reach: None where no pair is left. The tree is the
-    /// one with which the audit began, and it is asked nothing: no look is added to the probe's. With a limit L and A letters at most
-    /// 2 (L + 1) (A + 1) letters are read for it. It is given no allocator, and answers no error.
+    /// one with which the audit began, and it is asked nothing: no look is added to the probe's. With
+    /// a limit L and A letters at most 2 (L + 1) (A + 1) letters are read for it. It is given no
+    /// allocator, and answers no error.
     pub fn next_line<'t, P: Probe<'t>>(&mut self, probe: &mut P) -> Option<Line<'_>>
         requires { P.tree probe.old ≡ self.old.tree }
         ensures* rest { sem 𝓛 (LendsLine self.entry result) }

@@ -1,4 +1,4 @@
-//! The path of a word in a buffer: each letter behind a slash.
+//! The path of a word in a buffer: each letter after a slash.
 
 ghost use Rattle.std.specs.Prelude.{◌≡◌, ◌≤◌, ◌<◌, ◌+◌, ◌++◌, ◌∷◌, [], List, ℕ, suc, length, min, take, IfOk, vec_capacity};
 ghost use Rattle.pua_audit.specs.Reach.{Word};
@@ -9,7 +9,7 @@ use crate::base::Base;
 use crate::component::Component;
 use std::alloc::{AllocError, Global};
 
-/// The path of a word: each letter behind a slash. It takes no memory beyond what was reserved at its
+/// The path of a word: each letter after a slash. It takes no memory beyond what was reserved at its
 /// beginning.
 #[derive(Drop)]
 pub(crate) struct WordPath {
@@ -60,7 +60,7 @@ impl WordPath {
     }
 }
 
-/// Puts a letter at the end of a path, behind a slash.
+/// Puts a slash and a letter at the end of a path.
 pub(crate) fn add_letter(path: &mut Vec<u8>, letter: &Component)
     requires { length path.old.items + suc (length (part_bytes letter.now)) ≤ vec_capacity path.old }
     ensures path { path.new.items ≡ path.old.items ++ 47 ∷ part_bytes letter.now }

@@ -57,7 +57,7 @@ pub(crate) fn read_pair(
     Ok(Resumption { word, call })
 }
 
-/// What stands before the first colon of a text, and what stands behind it.
+/// What stands before the first colon of a text, and what stands after it.
 fn split_at_colon(text: &[u8]) -> (&[u8], &[u8])
     ensures front { result.0.now ≡ before_first (λ b. b == 58) text.now }
     ensures back { result.1.now ≡ after_first (λ b. b == 58) text.now }
@@ -76,7 +76,13 @@ fn first_colon(text: &[u8]) -> Option<usize>
 
 /// Puts the letters of a path into an empty word, and answers whether it is the printed path of a
 /// word within the limit.
-fn read_path(base: Base, letters: &[Component], limit: usize, path: &[u8], word: &mut Vec<usize>) -> bool
+fn read_path(
+    base: Base,
+    letters: &[Component],
+    limit: usize,
+    path: &[u8],
+    word: &mut Vec<usize>,
+) -> bool
     requires rises { Rises name_cmp (map part_bytes letters.now) }
     requires letters { IsTrue (list_all is_letter (map part_bytes letters.now)) }
     requires empty { word.old.items ≡ [] }

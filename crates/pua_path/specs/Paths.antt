@@ -28,7 +28,7 @@ ends_in_slash [] = false
 ends_in_slash (b ∷ []) = b == 47
 ends_in_slash (b ∷ c ∷ more) = ends_in_slash (c ∷ more)
 
--- what a slash behind a part adds
+-- what a slash after a part adds
 abbrev pub ending_parts : Ending → List (List ℕ) → Bool → List Part
 ending_parts ending.Dropped pieces slash = []
 ending_parts ending.Dot [] slash = []

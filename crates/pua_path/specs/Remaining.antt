@@ -17,7 +17,7 @@ pub record Remaining : Type 0 where
 abbrev pub slash_part : Bool → List Part
 slash_part slash = if slash then Dot ∷ [] else []
 
--- the parts of what is left of a text behind its first slashes, or behind a part
+-- the parts of what is left of a text after its first slashes, or after a part
 abbrev pub rest_parts : List ℕ → List Part
 rest_parts text = map part_of (components text) ++ slash_part (ends_in_slash text)
 

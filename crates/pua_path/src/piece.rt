@@ -50,7 +50,7 @@ fn cut_at_slash(text: &[u8]) -> (&[u8], &[u8])
     }
 }
 
-/// The piece that is the first part of what is left of a text, and what is left behind it.
+/// The piece that is the first part of what is left of a text, and what is left after it.
 pub(crate) fn next_piece(text: &[u8]) -> (&[u8], &[u8])
     requires some { 0 < length text.now }
     requires readable { IsTrue (is_readable text.now) }

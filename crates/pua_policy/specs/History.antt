@@ -92,7 +92,7 @@ abbrev pub first : {A : Type 0} → List A → Option A
 first [] = None
 first (x ∷ xs) = Some x
 
--- a veil put on a place: in the place of the one that is kept there, or behind the others
+-- a veil put on a place: in the place of the one that is kept there, or after the others
 abbrev pub with_veil : Place → ℕ → List (Place × ℕ) → List (Place × ℕ)
 with_veil place perms [] = (place, perms) ∷ []
 with_veil place perms (veil ∷ more) = if same_place place veil.0 then (veil.0, perms) ∷ more else veil ∷ with_veil place perms more

@@ -9,7 +9,7 @@ use Rattle.pua_policy.specs.declared.call.Call.{Call}
 abbrev pub alternative_limit : ℕ
 alternative_limit = 8
 
--- alternatives as they are kept, with empty sets behind them
+-- alternatives as they are kept, with empty sets after them
 abbrev pub padded : List ℕ → List ℕ
 padded sets = sets ++ replicate (alternative_limit - length sets) 0
 

@@ -101,7 +101,7 @@ action_of n (UnveilForm a b) = unveil_of n a b
 action_of n (ForkForm new) = Ok (Fork new)
 action_of n ExitForm = Ok Exit
 
--- the fields behind the process's number: the call and its arguments, and what they ask for
+-- the fields after the process's number: the call and its arguments, and what they ask for
 abbrev pub form_in : List (List ℕ) → Option Form
 form_in [] = None
 form_in (word ∷ arguments) = form_of word arguments

@@ -35,7 +35,7 @@ fn read_fields(alloc: Global, number: u32, fields: &[&[u8]]) -> Result<Request, 
     Ok(Request::new(process, action))
 }
 
-/// What the fields behind the process's number ask for.
+/// What the fields after the process's number ask for.
 fn read_action(alloc: Global, number: u32, fields: &[&[u8]]) -> Result<Action, ScriptFault>
     ensures { IsReadAs (action_in number (map (λ field. field.now) fields.now)) result }
 {
@@ -165,7 +165,7 @@ fn read_perms(field: &[u8]) -> Option<Perms>
     }
 }
 
-/// Whether a list of keywords has an empty word: a comma stands first, last, or behind another.
+/// Whether a list of keywords has an empty word: a comma stands first, last, or after another.
 fn has_empty_word(field: &[u8]) -> bool
     ensures { result ≡ has_empty_word field.now }
 {

@@ -29,7 +29,7 @@ objects_text table_bytes tree_bytes script_bytes process = do
   h ← ok_or (history_of done.world process) NoProcess
   Ok (objects_after done.table process done.told done.world.tree h)
 
--- why a text was not told, or not whole: a put failed behind a front of it, or memory was refused before it
+-- why a text was not told, or not whole: a put failed after a front of it, or memory was refused before it
 abbrev pub IsUntold : List ℕ → ToolFault → Option (List ℕ) → Option (List ℕ) → ℕ → ℕ → Type 0
 IsUntold text Write old new before after = AddsFront text old new × HasFailed before after
 IsUntold text OutOfMemory old new before after = new ≡ old

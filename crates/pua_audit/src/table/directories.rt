@@ -36,7 +36,7 @@ impl Directories {
         }
     }
 
-    /// The place of a directory, which is put behind all others unless it is there. The error is
+    /// The place of a directory, which is put after all others unless it is there. The error is
     /// that a growth was refused.
     pub(crate) fn place(&mut self, dir: NodeId) -> Result<u32, OutOfMemory>
         ensures place { IfOk result (λ place. (place < length self.new) × (get_or self.new place 0 ≡ dir)) }
@@ -48,7 +48,7 @@ impl Directories {
         Ok(place as u32)
     }
 
-    /// The directory at a place; None behind the last one. There are at most 2^32.
+    /// The directory at a place; None after the last one. There are at most 2^32.
     pub(crate) fn at(&self, place: usize) -> Option<NodeId>
         ensures dir { IfSome result (λ dir. (place < length self.now) × (dir ≡ get_or self.now place 0)) }
         ensures none { IfNone result (length self.now ≤ place) }

@@ -111,12 +111,7 @@ impl Terms {
     }
 
     /// What a letter is in a living directory, followed once, with no link used before it.
-    fn followed<'t, P: Probe<'t>>(
-        &self,
-        probe: &mut P,
-        dir: NodeId,
-        letter: usize,
-    ) -> Letter
+    fn followed<'t, P: Probe<'t>>(&self, probe: &mut P, dir: NodeId, letter: usize) -> Letter
         requires tree { P.tree probe.old ≡ self.now.seen.tree }
         requires sound { IsSound self.now }
         requires living { IsTrue (is_dir self.now.seen.tree dir) }

@@ -59,7 +59,7 @@ impl Terms {
 }
 
 impl Letter {
-    /// Puts its entry behind those of the letters before it, and the directory to which it leads among
+    /// Puts its entry after those of the letters before it, and the directory to which it leads among
     /// the others. It has none where the calls on letters without entries tell it. The error is
     /// that a growth was refused.
     fn put(

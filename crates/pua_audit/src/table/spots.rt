@@ -37,11 +37,7 @@ pub(crate) struct Spots {
 impl Terms {
     /// The letters that are no names, and the spots of all rows and of all veils at names. A veil's
     /// name that is no letter has none. The error is that a growth was refused.
-    pub(crate) fn spots(
-        &self,
-        alloc: Global,
-        rows: &[LentRow<'_>],
-    ) -> Result<Spots, OutOfMemory>
+    pub(crate) fn spots(&self, alloc: Global, rows: &[LentRow<'_>]) -> Result<Spots, OutOfMemory>
         requires rows { map lent_entry rows.now ≡ self.now.seen.tree.rows }
         requires sound { IsSound self.now }
         requires rises { Rises name_cmp (letters_of self.now) }
@@ -56,7 +52,7 @@ impl Terms {
         Ok(Spots { dots, names })
     }
 
-    /// Puts the spots of rows behind others.
+    /// Puts the spots of rows after others.
     fn add_rows(&self, spots: &mut Vec<LetterSpot>, rows: &[LentRow<'_>]) -> Result<(), OutOfMemory>
         requires rises { Rises name_cmp (letters_of self.now) }
         requires within { AreAtLetters (letters_of self.now) spots.old.items }
@@ -70,7 +66,7 @@ impl Terms {
         Ok(())
     }
 
-    /// Puts the spots of veils at names behind others.
+    /// Puts the spots of veils at names after others.
     fn add_veils(&self, spots: &mut Vec<LetterSpot>, places: &[&Place]) -> Result<(), OutOfMemory>
         requires rises { Rises name_cmp (letters_of self.now) }
         requires within { AreAtLetters (letters_of self.now) spots.old.items }
@@ -84,7 +80,7 @@ impl Terms {
         Ok(())
     }
 
-    /// Puts the spot of a veil behind others, if it is at a name that is a letter.
+    /// Puts the spot of a veil after others, if it is at a name that is a letter.
     fn add_veil(&self, spots: &mut Vec<LetterSpot>, place: &Place) -> Result<(), OutOfMemory>
         requires rises { Rises name_cmp (letters_of self.now) }
         requires within { AreAtLetters (letters_of self.now) spots.old.items }
@@ -98,7 +94,7 @@ impl Terms {
         self.add_spot(spots, *dir, name)
     }
 
-    /// Puts the spot of a name in a directory behind others, if it is a letter.
+    /// Puts the spot of a name in a directory after others, if it is a letter.
     fn add_spot(
         &self,
         spots: &mut Vec<LetterSpot>,
