@@ -4,6 +4,7 @@ use Rattle.std.specs.Prelude.{IsTrue}
 use Rattle.std.proofs.lemmas.Bool.{le-leb}
 use Rattle.pua_tree.specs.Tree.{Tree, WellFormed, is_dir, found_at}
 use Rattle.pua_tree.specs.declared.node.Kind.{Kind}
+use Rattle.pua_path.specs.Kinds.{is_file}
 use Rattle.pua_path.specs.Limits.{link_limit}
 use Rattle.pua_path.specs.Paths.{part_of}
 use Rattle.pua_path.specs.Resolution.{follow}
@@ -13,7 +14,7 @@ use Rattle.pua_path.specs.declared.found.Last.{Last}
 use Rattle.pua_path.specs.declared.found.Last.TheVariants.{Followed, Kept}
 use Rattle.pua_path.specs.declared.found.Part.TheVariants as part
 use Rattle.pua_path.specs.declared.found.Way.TheVariants.{Top}
-use Rattle.pua_path.proofs.ForCallers.{is_file, missing_follows, file_follows, found_kind, unlinked_alike}
+use Rattle.pua_path.proofs.ForCallers.{missing_follows, file_follows, found_kind, unlinked_alike}
 use Rattle.pua_policy.proofs.ForCallers.{unveiled_within}
 use Rattle.pua_policy.specs.Calls.{CallTable, last_of}
 use Rattle.pua_policy.specs.CallSets.{has}

@@ -1,16 +1,17 @@
 -- The letters that directories tell apart, gathered one after another.
-use Rattle.std.proofs.Common.{◌≡◌, ◌≢◌, ◌<◌, ◌+◌, ℕ, List, [], ◌∷◌, ◌++◌, Some, None, true, false, cond, map, take, drop, length, ltb, leb, ltb-true, leb-false, arith, get_or, slice_index_or, add-one, refl, sym, ap, subst, ◌∙◌}
-use Rattle.std.specs.Prelude.{if◌then◌else◌, find}
+use Rattle.std.proofs.Common.{◌≡◌, ◌≢◌, ◌<◌, ◌+◌, ℕ, List, [], ◌∷◌, ◌++◌, Some, None, true, false, cond, map, take, drop, length, ltb, leb, ltb-true, leb-false, arith, get_or, slice_index_or, add-one, inl, inr, Option, refl, sym, ap, subst, ◌∙◌}
+use lib.Pointwise.{bytes_decides}
+use Rattle.std.specs.Prelude.{if◌then◌else◌, bytes_eq, IfSome}
 use Rattle.std.specs.FinMap.{find as find_key}
 use Rattle.std.specs.List.{AllByRecursion}
 use Rattle.std.specs.Ordering.{eq_by_cmp}
 use Rattle.std.specs.Cmp.{Equal-is, tied_itself}
 use Rattle.std.specs.Cmp.Lexicographic.{nat_list_cmp_total}
 use Rattle.std.specs.FinMap.{nat_cmp-IsAntisymmetric}
+use Rattle.std.proofs.lemmas.Bool.{cases_lt}
 use Rattle.std.proofs.lemmas.List.{map-append, take-append-drop, get_or-map}
 use Rattle.std.proofs.Math.Seq.{take-suc}
 use Rattle.std.specs.List.{AllWithin}
-use Rattle.pua_tree.specs.Names.{same_bytes}
 use Rattle.pua_tree.specs.Tree.{Spot, name_cmp, spot_cmp}
 use Rattle.pua_tree.proofs.ForCallers.{exact_spots}
 use Rattle.pua_policy.specs.History.{veil_at, same_place}
@@ -28,7 +29,6 @@ use Rattle.pua_audit.proofs.Lists.{all_alike, all_before, all_after}
 use Rattle.pua_audit.proofs.Rising.{all_joined}
 use Rattle.pua_audit.proofs.AfterPair.{letters_alike}
 use Rattle.pua_audit.proofs.Moves.{all_pushed}
-use Rattle.pua_audit.proofs.ResumeTexts.{found}
 
 -- one element more of a list that is gone through
 
@@ -60,14 +60,31 @@ apart_kept place (veil ∷ vs) apart =
       | false ↦ λ _. apart_kept place vs apart.1
     ] refl
 
--- a letter stands at one place, and what is not found is no letter
+-- a letter stands at one place
 
 pub letters_once : (letters : List (List ℕ)) → Rises name_cmp letters → (i j : ℕ) → i < length letters → j < length letters → get_or letters i [] ≡ get_or letters j [] → i ≡ j
 letters_once letters rises i j here there same =
     nat_cmp-IsAntisymmetric i j (sym (letters_alike letters rises i j here there) ∙ ap (λ n. name_cmp n (get_or letters j [])) same ∙ tied_itself nat_list_cmp_total (get_or letters j []))
 
-pub no_letter : (name : List ℕ) (letters : List (List ℕ)) (i : ℕ) → find (same_bytes name) letters ≡ None → i < length letters → get_or letters i [] ≢ name
-no_letter name letters i none low same = let both = sym (found name letters i low same) ∙ none in cc
+-- a letter is found at its place once it was put there, and so are those before it
+
+pub placed_more : (letters : List (List ℕ)) → Rises name_cmp letters → (place letter : ℕ) → place < length letters → letter < place + 1 → (bytes : List ℕ) → bytes ≡ get_or letters place [] → (old : Option ℕ) → (letter < place → old ≡ Some letter)
+    → cond (bytes_eq bytes (get_or letters letter [])) (Some place) old ≡ Some letter
+placed_more letters rises place letter here low bytes is old before =
+    elim (bytes_eq bytes (get_or letters letter [])) as (λ b. bytes_eq bytes (get_or letters letter []) ≡ b → cond b (Some place) old ≡ Some letter) [
+      | true ↦ λ same. ap Some (letters_once letters rises place letter here (omega (arith, here, low)) (sym is ∙ (bytes_decides bytes (get_or letters letter [])).0 same))
+      | false ↦ λ other. before (elim (cases_lt letter place) [
+        | inl less ↦ less
+        | inr most ↦ absurd (let same : letter ≡ place = omega (arith, low, most) in let both = sym other ∙ (bytes_decides bytes (get_or letters letter [])).1 (is ∙ ap (λ n. get_or letters n []) (sym same)) in cc)
+      ])
+    ] refl
+
+pub placed_within : (count place : ℕ) → place < count → (bytes other : List ℕ) → (old : Option ℕ) → IfSome old (λ n. n < count) → IfSome (cond (bytes_eq bytes other) (Some place) old) (λ n. n < count)
+placed_within count place here bytes other old low =
+    elim (bytes_eq bytes other) as (λ b. IfSome (cond b (Some place) old) (λ n. n < count)) [
+      | true ↦ here
+      | false ↦ low
+    ]
 
 -- spots in the order of their directories: those before a directory, those after it, and those between, of which none is of a letter
 

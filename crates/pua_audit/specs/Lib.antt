@@ -22,4 +22,5 @@ pub mod Entries
 pub mod Live
 pub mod Table
 pub mod Rows
+pub mod Placed
 pub mod Spots

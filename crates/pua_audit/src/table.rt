@@ -12,6 +12,7 @@ ghost use Rattle.pua_audit.specs.Table.{IsTableOf};
 pub(crate) mod begun;
 mod directories;
 mod letter;
+mod placed;
 mod row;
 mod spots;
 mod within;

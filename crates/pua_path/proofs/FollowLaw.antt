@@ -8,6 +8,7 @@ use Rattle.pua_tree.specs.declared.node.Kind.{Kind}
 use Rattle.pua_tree.specs.declared.node.Kind.TheVariants as kinds
 use Rattle.pua_tree.proofs.ForCallers.{None≢Some, same_Some}
 use Rattle.pua_tree.specs.Steps.{◌>>=◌}
+use Rattle.pua_path.specs.Kinds.{is_file}
 use Rattle.pua_path.specs.Paths.{parts_of}
 use Rattle.pua_path.specs.Resolution.{Resolved, Standing, Directory, Linked, Plain, Nothing, standing_of, standing_at, start_of, resolve_parts, counted, step, last, follow, link_limit}
 use Rattle.pua_path.specs.Laws.{IsDecidedByLinks, FollowsLinks, entered, IsFollowed, Fails, IsToldBy, FollowDecides, KeptFollowsNone}
@@ -107,11 +108,6 @@ missing_follows t dir name none = ap (λ (r : Resolved). r >>= counted) (resolve
     by e = rw e refl
 
 -- files stand plainly at their names
-abbrev pub is_file : Kind → Bool
-is_file kinds.File = true
-is_file kinds.Prog = true
-is_file _ = false
-
 stands_plainly : (x : ℕ) (node : Node) (kind : Kind) → node.kind ≡ kind → is_file kind ≡ true → standing_of x (Some node) ≡ Plain x
 stands_plainly x node kinds.File same file = rw same refl
 stands_plainly x node kinds.Prog same file = rw same refl

@@ -7,7 +7,7 @@ pub use Rattle.pua_path.proofs.Composition.{composes}
 -- what a part names where no link was used before tells it for any number used before, and a last part that is kept follows none
 pub use Rattle.pua_path.proofs.FollowLaw.{follow_decides, kept_follows_none}
 -- what a name is where nothing stands or a file does, and what is found without a link where the last part is kept
-pub use Rattle.pua_path.proofs.FollowLaw.{is_file, missing_follows, file_follows, found_kind, unlinked_alike}
+pub use Rattle.pua_path.proofs.FollowLaw.{missing_follows, file_follows, found_kind, unlinked_alike}
 -- the directory above a directory lives, and so does where a target starts
 pub use Rattle.pua_path.proofs.Living.{above_lives, start_lives}
 -- what is true of each element is true of the one found

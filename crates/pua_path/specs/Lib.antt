@@ -4,6 +4,7 @@ pub mod ErrnoNames
 pub mod Paths
 pub mod Remaining
 pub mod Pieces
+pub mod Kinds
 pub mod Resolution
 pub mod Bounds
 pub mod Walks

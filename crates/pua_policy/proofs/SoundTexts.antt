@@ -10,11 +10,10 @@ use Rattle.toml.specs.Data.{Data, as_str, Items, no_items, item, Members, no_mem
 use Rattle.pua_tree.proofs.ForCallers.{step_read}
 use Rattle.pua_path.specs.declared.errno.Errno.{Errno}
 use Rattle.pua_policy.specs.Promises.{holds, error, promise_of, promises_of, perms_of, joined, union_of}
-use Rattle.pua_policy.specs.Calls.{CallTable, Rule, standard_table, standard_rule, rule_of, call_named, call_number}
+use Rattle.pua_policy.specs.Calls.{CallTable, Rule, standard_table, standard_rule, call_named}
 use Rattle.pua_policy.specs.Tables.{NamesNoError, NeedsNoError, NoCallNeedsError}
 use Rattle.pua_policy.specs.TableTexts.{alternative_of, alternatives_of, veil_of, row_of, rule_in, rules_with, with_rule, document_of, table_of_document, table_of}
 use Rattle.pua_policy.specs.declared.call.Call.{Call}
-use Rattle.pua_policy.specs.declared.table.read.TableFault.{TableFault}
 use Rattle.pua_policy.specs.declared.table.read.TableFault.TheVariants.{BadKey, BadRow, BadPromises}
 use Rattle.pua_policy.proofs.Keywords.{promise_of-below}
 

@@ -1,5 +1,5 @@
 -- Rows of tables as they are read, one after another.
-use Rattle.std.proofs.Common.{◌≡◌, ℕ, zero, suc, ◌+◌, ◌-◌, ◌*◌, ◌/◌, ◌%◌, ◌<◌, ◌^◌, Bool, true, false, cond, List, [], ◌∷◌, ◌++◌, length, replicate, set, refl, sym, ap, subst, ◌∙◌, arith, append_assoc, inl, inr}
+use Rattle.std.proofs.Common.{◌≡◌, ℕ, zero, suc, ◌-◌, ◌*◌, ◌<◌, ◌^◌, true, false, List, [], ◌∷◌, ◌++◌, length, replicate, set, refl, sym, ap, ◌∙◌, arith, append_assoc, inl, inr}
 use Rattle.std.specs.Prelude.{Option, Some, None, Result, Ok, Err, ok_or, slice_set, bit_and, ◌==◌}
 use Rattle.std.specs.List.{AllByRecursion}
 use Rattle.std.specs.Int.{bit_at}
@@ -17,8 +17,8 @@ use Rattle.toml.specs.View.{items_view, members_view}
 use Rattle.toml.specs.declared.value.Value.{Value}
 use Rattle.pua_tree.specs.Steps.{◌>>=◌}
 use Rattle.pua_policy.specs.Promises.{holds, error}
-use Rattle.pua_policy.specs.Calls.{CallTable, Rule, call_named, call_number}
-use Rattle.pua_policy.specs.Tables.{NeedsNoError, alternative_limit, padded}
+use Rattle.pua_policy.specs.Calls.{CallTable, Rule, call_named}
+use Rattle.pua_policy.specs.Tables.{NeedsNoError, padded}
 use Rattle.pua_policy.specs.TableTexts.{count, document_of, keys_ascend, rule_in, rules_with, with_rule}
 use Rattle.pua_policy.specs.declared.call.Call.{Call}
 use Rattle.pua_policy.specs.declared.table.read.TableFault.{TableFault}

@@ -1,5 +1,5 @@
 -- The table of calls that a TOML text gives, or its first fault.
-use Rattle.std.specs.Prelude.{ℕ, suc, ◌-◌, Bool, true, false, ◌&&◌, if◌then◌else◌, List, [], ◌∷◌, nat_le, Option, Some, None, Result, Ok, Err, codes, is_some, ok_or, option_and_then, slice_set}
+use Rattle.std.specs.Prelude.{ℕ, suc, ◌-◌, Bool, true, ◌&&◌, if◌then◌else◌, List, [], ◌∷◌, nat_le, Option, Some, None, Result, Ok, Err, codes, is_some, ok_or, option_and_then, slice_set}
 use Rattle.std.specs.Str.{is_utf8}
 use Rattle.toml.specs.Data.{Data, as_str, as_array, as_table, Items, no_items, item, Members, no_members, member, is_before}
 use Rattle.toml.specs.Parse.{parse_document}

@@ -12,7 +12,7 @@ use std::marker::Model;
 /// A call has at most so many sets of promises of which it needs one.
 pub const ALTERNATIVE_LIMIT: usize = 8;
 
-/// What one call needs: one of these sets of promises, and each of these permissions. Behind the
+/// What one call needs: one of these sets of promises, and each of these permissions. After the
 /// sets stand empty ones. Contracts see the sets as a list.
 #[derive(Clone, Copy)]
 struct Row {

@@ -3,7 +3,7 @@ use Rattle.std.proofs.Common.{ℕ, zero, suc, ◌+◌, ◌-◌, ◌<◌, ◌≤�
 use Rattle.std.specs.Prelude.{IfSome}
 use Rattle.std.specs.List.{range_with_len, AllByRecursion}
 use Rattle.pua_steps.specs.Calls.{has_call, calls_of}
-use Rattle.pua_steps.specs.Graph.{Pair, cons, longer, alone, below}
+use Rattle.pua_steps.specs.Graph.{Pair, cons, alone, below}
 use Rattle.pua_steps.specs.Table.{visit_of, missed, gap, visits_from, graph_of, missing_at, entries_at, IsEntry, IsState, IsTable}
 use Rattle.pua_steps.specs.Within.{IsPair, ReachIsWithin}
 use Rattle.pua_steps.specs.declared.state.State.{State}

@@ -15,7 +15,7 @@ use pua_policy::Call;
 use pua_tree::{are_plain, byte_spelling};
 
 /// How many bytes the name of a call has at most.
-const MOST_NAME: usize = 8;
+pub(crate) const MOST_NAME: usize = 8;
 
 /// How many bytes a line has at most: each byte of its path may be spelled by four, and a blank, the
 /// name of a call and LF stand after it.

@@ -15,7 +15,7 @@ ghost use Rattle.pua_tool.specs.ObjectTexts.{object_lines};
 ghost use Rattle.pua_tool.specs.Sinks.{Writes};
 ghost use Rattle.pua_tool.specs.Texts.{ended};
 
-use crate::line::{BLOCK, MOST_LINE, add_call, add_printed, make_room};
+use crate::line::{BLOCK, MOST_LINE, MOST_NAME, add_call, add_printed, make_room};
 use crate::sink::{PutFault, Sink, put_all};
 use pua_objects::{ObjectKind, ObjectLine, Objects};
 use pua_policy::{Call, Calls};
@@ -130,9 +130,9 @@ fn add_names(block: &mut Vec<u8>, calls: Calls)
 
 /// Adds the name of a call, with a comma before it unless it is the first of its line.
 fn add_next(block: &mut Vec<u8>, is_first: bool, call: Call)
-    requires { vec_len block.old + 9 ≤ vec_capacity block.old }
+    requires { vec_len block.old + (MOST_NAME + 1) ≤ vec_capacity block.old }
     ensures name { block.new.items ≡ block.old.items ++ ((if is_first then [] else 44 ∷ []) ++ call_name call) }
-    ensures short { vec_len block.new ≤ vec_len block.old + 9 }
+    ensures short { vec_len block.new ≤ vec_len block.old + (MOST_NAME + 1) }
     ensures room { vec_capacity block.old ≤ vec_capacity block.new }
 {
     if !is_first {

@@ -1,7 +1,9 @@
 //! What a letter is in a directory.
 
-ghost use Rattle.std.specs.Prelude.{◌≡◌, ◌<◌, ◌≤◌, ◌+◌, ◌*◌, ◌&&◌, ℕ, false, [], length, get_or, None, Ok, Err, IfSome, IsTrue};
-ghost use Rattle.pua_tree.specs.Tree.{is_dir};
+ghost use Rattle.std.specs.Prelude.{◌≡◌, ◌≢◌, ◌<◌, ◌≤◌, ◌+◌, ◌*◌, ◌&&◌, ℕ, false, true, [], length, get_or, None, Some, Ok, Err, IfSome, IfNone, IsTrue};
+ghost use Rattle.pua_tree.specs.Tree.{is_dir, found_at};
+ghost use Rattle.pua_tree.specs.declared.node.Kind.{Kind};
+ghost use Rattle.pua_path.specs.Kinds.{is_file};
 ghost use Rattle.pua_path.specs.Bounds.{part_cost};
 ghost use Rattle.pua_path.specs.Resolution.{follow, last};
 ghost use Rattle.pua_path.specs.declared.found.Last.TheVariants.{Kept};
@@ -84,6 +86,8 @@ impl Terms {
         requires living { IsTrue (is_dir self.now.seen.tree dir) }
         requires within { AreWithin self.now.seen.tree self.now.table (history_of self.now.process) dir within.now }
         ensures exact { IfSome result (λ calls. (kept : ℕ) → IsLetter (judge_in self.now) dir (part_bytes letter.now) calls kept 0 None) }
+        ensures none { IfNone result (letter.now ≡ Name (part_bytes letter.now) → kept (history_of self.now.process) (Slot dir (part_bytes letter.now)) ≡ None →
+            (node : ℕ) (kind : Kind) → found_at self.now.seen.tree dir (part_bytes letter.now) ≡ Some (node, kind) → is_file kind ≡ false) }
         ensures tree { P.tree probe.new ≡ P.tree probe.old }
         ensures cost { P.count probe.new ≤ P.count probe.old + 2 }
     {
@@ -95,11 +99,12 @@ impl Terms {
         Some(calls)
     }
 
-    /// False for a name in a directory at which no veil is kept.
+    /// Whether a letter is no name, or a name in a directory at which a veil is kept.
     fn may_have_veil(&self, dir: NodeId, letter: &Component) -> bool
         requires { IsSound self.now }
         ensures name { result ≡ false → letter.now ≡ Name (part_bytes letter.now) }
         ensures veil { result ≡ false → kept (history_of self.now.process) (Slot dir (part_bytes letter.now)) ≡ None }
+        ensures apart { result ≡ true → letter.now ≡ Name (part_bytes letter.now) → kept (history_of self.now.process) (Slot dir (part_bytes letter.now)) ≢ None }
     {
         if !self.process.is_veiled() {
             return !letter.is_name();

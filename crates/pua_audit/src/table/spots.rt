@@ -9,14 +9,16 @@ ghost use Rattle.pua_path.specs.declared.found.Part.TheVariants.{Dot};
 ghost use Rattle.pua_policy.specs.declared.place.Place.TheVariants.{Slot};
 ghost use Rattle.pua_audit.specs.Laws.{Rises};
 ghost use Rattle.pua_audit.specs.Past.{history_of};
+ghost use Rattle.pua_audit.specs.Placed.{ArePlaced};
 ghost use Rattle.pua_audit.specs.Ready.{IsSound, letters_of};
 ghost use Rattle.pua_audit.specs.Spots.{AreApartFrom, AreAtLetters, AreLettersIn, AreSpots, IsApart, IsNowhere, IsUnmarked, is_dots};
 
-use crate::alphabet::place_of;
+use crate::table::placed::placed;
 use crate::terms::Terms;
 use pua_policy::Place;
 use pua_tree::{LentRow, Name, NodeId, OutOfMemory};
 use std::alloc::Global;
+use std::collections::HashMap;
 
 /// A letter in a directory: something stands at this name, or a veil is kept at it.
 #[derive(Clone, Copy)]
@@ -43,46 +45,62 @@ impl Terms {
         requires rises { Rises name_cmp (letters_of self.now) }
         ensures { IfOk result (λ spots. AreSpots self.now.seen.tree (history_of self.now.process) (letters_of self.now) spots.dots.items spots.names.items) }
     {
+        let letters = placed(alloc, self.letters.as_slice())?;
         let places = self.process.places(alloc)?;
         let mut names = Vec::new(alloc);
-        self.add_rows(&mut names, rows)?;
-        self.add_veils(&mut names, places.as_slice())?;
+        self.add_rows(&mut names, &letters, rows)?;
+        self.add_veils(&mut names, &letters, places.as_slice())?;
         names.sort_unstable_by_key(|spot| spot.dir);
         let dots = self.dots(alloc)?;
         Ok(Spots { dots, names })
     }
 
     /// Puts the spots of rows after others.
-    fn add_rows(&self, spots: &mut Vec<LetterSpot>, rows: &[LentRow<'_>]) -> Result<(), OutOfMemory>
-        requires rises { Rises name_cmp (letters_of self.now) }
+    fn add_rows(
+        &self,
+        spots: &mut Vec<LetterSpot>,
+        letters: &HashMap<&[u8], usize>,
+        rows: &[LentRow<'_>],
+    ) -> Result<(), OutOfMemory>
+        requires placed { ArePlaced (letters_of self.now) letters.now }
         requires within { AreAtLetters (letters_of self.now) spots.old.items }
         ensures within { IfOk result (λ _. AreAtLetters (letters_of self.now) spots.new.items) }
         ensures rows { IfOk result (λ _. (dir letter : ℕ) → letter < length (letters_of self.now) → IsUnmarked dir letter spots.new.items → IsNowhere dir (get_or (letters_of self.now) letter []) (map lent_entry rows.now)) }
         ensures others { IfOk result (λ _. (dir letter : ℕ) → IsUnmarked dir letter spots.new.items → IsUnmarked dir letter spots.old.items) }
     {
         for row in rows {
-            self.add_spot(spots, row.dir, row.name)?;
+            self.add_spot(spots, letters, row.dir, row.name)?;
         }
         Ok(())
     }
 
     /// Puts the spots of veils at names after others.
-    fn add_veils(&self, spots: &mut Vec<LetterSpot>, places: &[&Place]) -> Result<(), OutOfMemory>
-        requires rises { Rises name_cmp (letters_of self.now) }
+    fn add_veils(
+        &self,
+        spots: &mut Vec<LetterSpot>,
+        letters: &HashMap<&[u8], usize>,
+        places: &[&Place],
+    ) -> Result<(), OutOfMemory>
+        requires placed { ArePlaced (letters_of self.now) letters.now }
         requires within { AreAtLetters (letters_of self.now) spots.old.items }
         ensures within { IfOk result (λ _. AreAtLetters (letters_of self.now) spots.new.items) }
         ensures places { IfOk result (λ _. (dir letter : ℕ) → letter < length (letters_of self.now) → IsUnmarked dir letter spots.new.items → AreApartFrom (Slot dir (get_or (letters_of self.now) letter [])) (map (λ place. place.now) places.now)) }
         ensures others { IfOk result (λ _. (dir letter : ℕ) → IsUnmarked dir letter spots.new.items → IsUnmarked dir letter spots.old.items) }
     {
         for place in places {
-            self.add_veil(spots, *place)?;
+            self.add_veil(spots, letters, *place)?;
         }
         Ok(())
     }
 
     /// Puts the spot of a veil after others, if it is at a name that is a letter.
-    fn add_veil(&self, spots: &mut Vec<LetterSpot>, place: &Place) -> Result<(), OutOfMemory>
-        requires rises { Rises name_cmp (letters_of self.now) }
+    fn add_veil(
+        &self,
+        spots: &mut Vec<LetterSpot>,
+        letters: &HashMap<&[u8], usize>,
+        place: &Place,
+    ) -> Result<(), OutOfMemory>
+        requires placed { ArePlaced (letters_of self.now) letters.now }
         requires within { AreAtLetters (letters_of self.now) spots.old.items }
         ensures within { IfOk result (λ _. AreAtLetters (letters_of self.now) spots.new.items) }
         ensures here { IfOk result (λ _. (dir letter : ℕ) → letter < length (letters_of self.now) → IsUnmarked dir letter spots.new.items → place.now ≢ Slot dir (get_or (letters_of self.now) letter [])) }
@@ -91,25 +109,27 @@ impl Terms {
         let Place::Slot(dir, name) = place else {
             return Ok(());
         };
-        self.add_spot(spots, *dir, name)
+        self.add_spot(spots, letters, *dir, name)
     }
 
     /// Puts the spot of a name in a directory after others, if it is a letter.
     fn add_spot(
         &self,
         spots: &mut Vec<LetterSpot>,
+        letters: &HashMap<&[u8], usize>,
         dir: NodeId,
         name: &Name,
     ) -> Result<(), OutOfMemory>
-        requires rises { Rises name_cmp (letters_of self.now) }
+        requires placed { ArePlaced (letters_of self.now) letters.now }
         requires within { AreAtLetters (letters_of self.now) spots.old.items }
         ensures within { IfOk result (λ _. AreAtLetters (letters_of self.now) spots.new.items) }
         ensures here { IfOk result (λ _. (letter : ℕ) → letter < length (letters_of self.now) → IsUnmarked dir letter spots.new.items → get_or (letters_of self.now) letter [] ≢ name.now) }
         ensures others { IfOk result (λ _. (other letter : ℕ) → IsUnmarked other letter spots.new.items → IsUnmarked other letter spots.old.items) }
     {
-        let Ok(letter) = place_of(self.letters.as_slice(), name.bytes()) else {
+        let Some(letter) = letters.get(name.bytes()) else {
             return Ok(());
         };
+        let letter = *letter;
         let Ok(()) = spots.push(LetterSpot { dir, letter }) else {
             return Err(OutOfMemory);
         };

@@ -1,8 +1,8 @@
 //! The calls on names of a directory that have no veil of their own.
 
-ghost use Rattle.std.specs.Prelude.{◌≡◌, ◌≤◌, ◌+◌, ℕ, true, Some, IfSome, IsTrue};
+ghost use Rattle.std.specs.Prelude.{◌≡◌, ◌≤◌, ◌+◌, ℕ, true, false, Some, IfSome, IfNone, IsTrue};
 ghost use Rattle.pua_tree.specs.Tree.{Tree, is_dir};
-ghost use Rattle.pua_path.proofs.ForCallers.{is_file};
+ghost use Rattle.pua_path.specs.Kinds.{is_file};
 ghost use Rattle.pua_policy.specs.CallSets.{has};
 ghost use Rattle.pua_policy.specs.Calls.{CallTable};
 ghost use Rattle.pua_policy.specs.History.{History};
@@ -60,6 +60,7 @@ impl Terms {
 impl Within {
     /// The calls on a node of this kind, if that is a file.
     pub(crate) fn on(&self, kind: Kind) -> Option<Calls>
+        ensures none { IfNone result (is_file kind ≡ false) }
         ensures file { IfSome result (λ _. is_file kind ≡ true) }
         ensures calls { IfSome result (λ calls. (t : Tree) (table : CallTable) (h : History) (dir : ℕ) → AreWithin t table h dir self.now → (call : Call) → has calls call ≡ allowed_within t table h dir (object_of_kind (Some kind)) call) }
     {

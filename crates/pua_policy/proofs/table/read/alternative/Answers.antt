@@ -1,4 +1,4 @@
-use Rattle.std.proofs.Common.{rules, ◌≡◌, ◌<◌, ◌^◌}
+use Rattle.std.proofs.Common.{rules}
 use Rattle.pua_policy.proofs.TableTexts.{no_error_in}
 use Rattle.pua_policy.proofs.table.read.alternative.Goals as goal
 

@@ -1,0 +1,31 @@
+//! Where letters stand, found by their bytes.
+
+ghost use Rattle.std.specs.Prelude.{◌≡◌, IfOk, map};
+ghost use Rattle.pua_tree.specs.Tree.{name_cmp};
+ghost use Rattle.pua_audit.specs.Laws.{Rises};
+ghost use Rattle.pua_audit.specs.Placed.{ArePlaced};
+ghost use Rattle.pua_audit.specs.Ready.{part_bytes};
+
+use crate::component::Component;
+use pua_tree::OutOfMemory;
+use std::alloc::Global;
+use std::collections::HashMap;
+
+/// Where each letter stands among others, by its bytes. The error is that a growth was refused.
+pub(crate) fn placed<'l>(
+    alloc: Global,
+    letters: &'l [Component],
+) -> Result<HashMap<&'l [u8], usize>, OutOfMemory>
+    requires { Rises name_cmp (map part_bytes letters.now) }
+    ensures { IfOk result (λ places. ArePlaced (map part_bytes letters.now) places) }
+{
+    let Ok(mut places) = HashMap::with_capacity(alloc, letters.len()) else {
+        return Err(OutOfMemory);
+    };
+    for place in 0..letters.len() {
+        let Ok(_) = places.insert(letters[place].bytes(), place) else {
+            return Err(OutOfMemory);
+        };
+    }
+    Ok(places)
+}
