@@ -48,7 +48,7 @@ echo "| of a file two directories deep, 128 veils | $(least "$bench" cover tower
 echo
 echo '| A tree that is filled with 65,534 files and emptied | Time | Peak memory |'
 echo '|---|---|---|'
-for times in 1 10; do
+for times in 1 30; do
     echo "| $times times | $(least "$bench" fill "$times") us each | $(most "$bench" fill "$times") |"
 done
 [ ! -x "$pua" ] || python3 "$top/bench/side_by_side.py" "$pua" "$turns"

@@ -1,7 +1,7 @@
 #!/usr/bin/env python3
 """Compares audits with lists of objects by the plain program alone: python3 beside.py [WORDS]
 
-It takes the cases of `crates/pua_examples/src/beside.rs`: the stories, the rows whose commands report no fault, and the
+It takes the cases of `crates/pua_examples/src/beside.rt`: the stories, the rows whose commands report no fault, and the
 random worlds of `generator.rt`, made here once more. For each it runs `beside.rs`, with limits that are as long as at
 most WORDS words allow (10,000, as in `deep.rt`), and prints what is not as the list says; then the last line but one of the
 program `pua_examples`. Nothing of the crates is run for it, so that line is no output of theirs. The plain program knows the

@@ -172,7 +172,7 @@ fn trimmed(text: &[u8]) -> &[u8] {
     &text[start..]
 }
 
-/// The first part of a text, and what is behind it. A slash at the end counts as a part `.`.
+/// The first part of a text, and what is after it. A slash at the end counts as a part `.`.
 fn first_part(text: &[u8]) -> (&[u8], &[u8]) {
     let end = text.iter().position(|byte| *byte == b'/').unwrap_or(text.len());
     let (part, behind) = text.split_at(end);
@@ -891,7 +891,7 @@ type After<'a> = Option<(&'a [u32], u32)>;
 
 struct Walk<'a> {
     tables: &'a Tables,
-    /// Each letter as it is printed, behind a slash.
+    /// Each letter as it is printed, after a slash.
     letters: Vec<Vec<u8>>,
     /// A relative path is printed without the slash with which it begins here.
     from_root: bool,
@@ -1022,12 +1022,12 @@ impl Walk<'_> {
     }
 }
 
-/// What is left of a pair's letters behind this one, if it is the first of them.
+/// What is left of a pair's letters after this one, if it is the first of them.
 fn rest_after(after: After, letter: u32) -> After {
     after.and_then(|(word, call)| Some((word.strip_prefix(&[letter])?, call)))
 }
 
-/// The calls on a word that are still to come behind a pair: all, those behind its own call, or none.
+/// The calls on a word that are still to come after a pair: all, those after its own call, or none.
 fn calls_after(rest: After) -> u16 {
     match rest {
         None => u16::MAX,
@@ -1301,7 +1301,7 @@ fn audit(world: &World, words: &Words, front: Vec<u8>) -> Result<(), (u8, String
     flush(&mut walk.out).map_err(cannot_write)
 }
 
-/// A letter as it is printed in a path, behind a slash.
+/// A letter as it is printed in a path, after a slash.
 fn printed(letter: &[u8]) -> Vec<u8> {
     let mut text = vec![b'/'];
     spell(&mut text, letter);

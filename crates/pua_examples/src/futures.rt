@@ -71,7 +71,7 @@ fn is_held(alloc: Global, listing: &str, script: &str, counts: &mut Counts) -> R
     Ok(true)
 }
 
-/// Serves a request, and tells whether it leaves what it has to.
+/// Serves a request, and answers whether it leaves what it has to.
 fn is_served(
     alloc: Global,
     world: &mut World<ListTree>,

@@ -30,7 +30,7 @@ pub fn steps_law()
 {}
 
 /// What parts name, and how many links are followed, does not depend on how many may be. So what a
-/// part names where no link was used before tells it for any number used before, as `last` and as
+/// part names where no link was used before decides it for any number used before, as `last` and as
 /// `step` answer; and a last part that is kept is the same for each.
 pub fn links_law()
     ensures parts { LinksDecide }

@@ -25,11 +25,12 @@ use crate::rest::Rest;
 use crate::text::PathText;
 use pua_tree::{Kind, Name, NodeId};
 
-/// What a path names from a directory, by the rules of path resolution: 32 links are followed at
-/// most. A relative path needs `from` to be a living directory. Errors: `ENOENT` where `from` is
-/// none, or a part before the last one is missing; `ENOTDIR` where such a part is no directory;
-/// `ELOOP` where a 33rd link would be followed. What is found is of the tree as it stands: its
-/// directory lives, and what was found by a name stands at that name. Takes no memory.
+/// What a path names from a directory, by the rules of path resolution (intro(2), symlink(7)): 32
+/// links are followed at most (this profile). A relative path needs `from` to be a living
+/// directory. Errors: `ENOENT` where `from` is none, or a part before the last one is missing;
+/// `ENOTDIR` where such a part is no directory; `ELOOP` where a 33rd link would be followed. What
+/// is found is of the tree as it stands: its directory lives, and what was found by a name stands
+/// at that name. Takes no memory.
 #[inline(always)]
 pub fn resolve<'t, P: Probe<'t>>(
     probe: &mut P,
@@ -50,11 +51,11 @@ pub fn resolve<'t, P: Probe<'t>>(
     walk.finish(probe, mode)
 }
 
-/// What one part that another follows leads to, `used` links having been followed before it: the
-/// directory, which lives, and the links followed by then, 32 at most; so both may be handed to the
-/// next `step`, and to `last`. Needs `dir` to be a living directory. Errors: `ENOENT` where nothing
-/// has that name, `ENOTDIR` where it is no directory, `ELOOP` where a 33rd link would be followed.
-/// Takes no memory, and a bounded number of probes.
+/// What one part that another follows leads to, by the rules of `resolve`, `used` links having been
+/// followed before it: the directory, which lives, and the links followed by then, 32 at most; so
+/// both may be handed to the next `step`, and to `last`. Needs `dir` to be a living directory.
+/// Errors: `ENOENT` where nothing has that name, `ENOTDIR` where it is no directory, `ELOOP` where
+/// a 33rd link would be followed. Takes no memory, and a bounded number of probes.
 pub fn step<'t, P: Probe<'t>>(
     probe: &mut P,
     dir: NodeId,
@@ -87,10 +88,10 @@ fn not_entered(node: Option<NodeId>) -> Errno
     }
 }
 
-/// What the last part names, `used` links having been followed before it. Needs `dir` to be a
-/// living directory. Errors are those of `step`, for the parts of a link's target; a last part that
-/// names nothing, or no directory, is found. What is found is of the tree as it stands, as with
-/// `resolve`. Takes no memory.
+/// What the last part names, by the rules of `resolve`, `used` links having been followed before
+/// it. Needs `dir` to be a living directory, and `used` to be 32 at most. Errors are those of
+/// `step`, for the parts of a link's target; a last part that names nothing, or no directory, is
+/// found. What is found is of the tree as it stands, as with `resolve`. Takes no memory.
 pub fn last<'t, P: Probe<'t>>(
     probe: &mut P,
     dir: NodeId,
@@ -111,7 +112,7 @@ pub fn last<'t, P: Probe<'t>>(
 }
 
 /// What the last part names where no link was followed before it and its own are, and how many that
-/// are, 32 at most. It tells `last` and `step` for any number of links used before: while both
+/// are, 32 at most. It decides `last` and `step` for any number of links used before: while both
 /// together are within 32, `last` names the same, and `step` leads to it, with the sum used, if it
 /// is a directory; where they are not, both are `ELOOP`. Needs `dir` to be a living directory.
 /// Errors are those of `last`; what is found is of the tree as it stands. Takes no memory, and as

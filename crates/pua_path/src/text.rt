@@ -5,7 +5,7 @@ use crate::limits::PATH_LIMIT;
 use pua_tree::has_short_components;
 use std::marker::Model;
 
-/// What a slash at the end of a path adds.
+/// What a slash at the end of a path adds (this profile).
 #[derive(Clone, Copy, Debug, PartialEq, Eq)]
 pub enum Ending {
     /// A final part `.`, where the text has a part.
@@ -39,7 +39,8 @@ ghost use Rattle.pua_path.specs.Paths.{path_fault};
 impl<'a> PathText<'a> {
     /// A path of these bytes, and what a slash at its end adds. The first of these faults that it
     /// has: `ENOENT`, it is empty; `ENAMETOOLONG`, it has more than 1,023 bytes, or a component
-    /// more than 255; `EINVAL`, it has a NUL.
+    /// more than 255; `EINVAL`, it has a NUL (intro(2); `EINVAL`, and that components are judged
+    /// before any look-up, are this profile's).
     pub fn read(bytes: &'a [u8], ending: Ending) -> Result<PathText<'a>, Errno>
         ensures { MatchResult result
             (λ text. (path_fault bytes.now ≡ None) × (text ≡ record { bytes = bytes.now; ending = ending }))

@@ -64,10 +64,10 @@ impl Refusal {
 /// Why an unveil was refused.
 #[derive(Clone, Copy, Debug, PartialEq, Eq, Error)]
 pub enum UnveilFault {
-    /// The process is locked, or the permissions at the place would increase.
+    /// The process is locked, or the permissions at the place would increase: unveil(2)'s EPERM.
     #[error("not permitted")]
     NotPermitted,
-    /// The place is new, and 128 places are kept.
+    /// The place is new, and 128 places are kept: unveil(2)'s E2BIG.
     #[error("too many places")]
     TooManyPlaces,
     /// The place is new, and a growth of memory was refused.

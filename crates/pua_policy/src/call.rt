@@ -7,24 +7,38 @@ use pua_path::Last;
 /// A call with one path, in the order of the calls' numbers.
 #[derive(Clone, Copy, Debug, PartialEq, Eq, PartialOrd, Ord, Hash)]
 pub enum Call {
+    /// stat(2).
     Stat,
+    /// lstat(2).
     Lstat,
+    /// readlink(2).
     Readlink,
+    /// open(2) with `O_RDONLY`.
     OpenRead,
+    /// open(2) with `O_WRONLY`.
     OpenWrite,
+    /// open(2) with `O_RDWR`.
     OpenBoth,
+    /// open(2) with `O_WRONLY | O_CREAT`.
     Create,
+    /// mkdir(2).
     Mkdir,
+    /// rmdir(2).
     Rmdir,
+    /// unlink(2).
     Unlink,
+    /// symlink(2), of which the path is that of the link.
     Symlink,
+    /// chmod(2).
     Chmod,
+    /// chdir(2).
     Chdir,
+    /// execve(2).
     Exec,
 }
 
 /// What a call needs: all of these promises, all of these permissions, and whether its path's last
-/// part is followed if it is a link.
+/// part is followed if it is a link (this profile).
 #[derive(Clone, Copy, Debug, PartialEq, Eq)]
 pub struct Need {
     pub promises: Promises,

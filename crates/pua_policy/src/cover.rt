@@ -14,8 +14,8 @@ use pua_tree::NodeId;
 impl Process {
     /// What the veils leave of an object: everything where no veil is kept; else the permissions at
     /// its own place, or those of the nearest directory over it that has a veil. Farther veils add
-    /// nothing. What was found is of the probe's tree as it stands. At most as many looks at the
-    /// tree as it has nodes.
+    /// nothing (unveil(2); that the nearest alone counts: this profile). What was found is of the
+    /// probe's tree as it stands. At most as many looks at the tree as it has nodes.
     pub fn cover<'t, P: Probe<'t>>(&self, probe: &mut P, found: &Found) -> Cover
         requires { FoundFits (P.tree probe.old) found.now }
         ensures exact { (h : History) → StandsFor self.now h → result ≡ cover (P.tree probe.old) h found.now }

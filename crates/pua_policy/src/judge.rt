@@ -21,7 +21,8 @@ use pua_path::{Errno, Found, Probe, Way};
 use pua_tree::{Kind, NodeId};
 
 /// Whether a process may do what needs all of these promises. Without them the call fails with
-/// `ENOSYS` where `error` is held, and else the process is killed; one that has ended may do nothing.
+/// `ENOSYS` where `error` is held, and else the process is killed (pledge(2)); one that has ended
+/// may do nothing.
 pub fn promised(process: &Process, promises: Promises) -> Result<(), Refusal>
     ensures exact { (h : History) → StandsFor process.now h → MatchResult result
         (λ _. may_any h (promises ∷ []) ≡ May.Yes)
@@ -55,10 +56,10 @@ fn promised_any(process: &Process, alternatives: &[Promises]) -> Result<(), Refu
     }
 }
 
-/// The verdict on a call by a table, on what its path names: first the promises, then the cover, the
-/// permissions that it lacks, and what was found. Whether there is room for a new node is not
-/// asked. What was found is of the probe's tree as it stands. At most four more looks at the tree
-/// than it has nodes.
+/// The verdict on a call by a table, on what its path names: first the promises, then the cover,
+/// the permissions that it lacks, and what was found (pledge(2), unveil(2); this order: this
+/// profile). Whether there is room for a new node is not asked. What was found is of the probe's
+/// tree as it stands. At most four more looks at the tree than it has nodes.
 pub fn verdict<'t, P: Probe<'t>>(
     probe: &mut P,
     process: &Process,
@@ -80,8 +81,8 @@ pub fn verdict<'t, P: Probe<'t>>(
     }
 }
 
-/// The verdict on a call by a table, where its path may have failed: without its promises the call fails by them,
-/// and else by its path.
+/// The verdict on a call by a table, where its path may have failed: without its promises the call
+/// fails by them, and else by its path (this profile).
 pub fn verdict_of<'t, P: Probe<'t>>(
     probe: &mut P,
     process: &Process,
@@ -106,8 +107,9 @@ pub fn verdict_of<'t, P: Probe<'t>>(
 
 /// Whether a call whose promises are held is allowed on what its path names. The first of these
 /// faults is the error: nothing is left of it by the veils (`ENOENT`), they lack a permission that
-/// the call needs (`EACCES`), and what is wrong with an object of this kind. What was found is of
-/// the probe's tree as it stands. At most four more looks at the tree than it has nodes.
+/// the call needs (`EACCES`), and what is wrong with an object of this kind (unveil(2); which errno
+/// a kind has: this profile). What was found is of the probe's tree as it stands. At most four more
+/// looks at the tree than it has nodes.
 pub fn object_verdict<'t, P: Probe<'t>>(
     probe: &mut P,
     process: &Process,
@@ -134,7 +136,7 @@ pub fn object_verdict<'t, P: Probe<'t>>(
 
 /// The calls that are allowed on an object, by what the veils of the process leave of it: those on
 /// which the verdict is `Verdict::Allowed`, wherever such an object stands that has this cover. The
-/// tree is not asked. `Process::cover` tells the cover, and `object` what the object is.
+/// tree is not asked. `Process::cover` answers the cover, and `object` what the object is.
 pub fn allowed(process: &Process, table: &CallTable, cover: Cover, object: Object) -> Calls
     ensures { (t : Tree) (h : History) (judged : Judged) → StandsFor process.now h → object ≡ object_seen t judged →
         (call : Call) → has result call ≡ is_allowed (covered_verdict t table.now h call cover judged) }
@@ -197,7 +199,7 @@ pub fn object<'t, P: Probe<'t>>(probe: &mut P, found: &Found) -> Object
 }
 
 /// What is wrong with a cover for a call that needs these permissions: `ENOENT` where nothing is
-/// left of the object, `EACCES` where a letter lacks, and None where neither is so.
+/// left of the object, `EACCES` where a letter lacks (unveil(2)), and None where neither is so.
 pub fn cover_fault(cover: Cover, perms: Perms) -> Option<Errno>
     ensures { result ≡ cover_fault cover perms }
 {

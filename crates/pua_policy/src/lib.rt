@@ -20,7 +20,7 @@ pub use call::{Call, Need};
 pub use calls::Calls;
 pub use laws::{
     cover_examples, cover_laws, limits_law, permission_constants, promise_bounds,
-    promise_constants, promise_laws, standing_law, verdict_examples,
+    promise_constants, promise_laws, standing_law, table_examples, verdict_examples,
 };
 pub use object::Object;
 pub use perms::Perms;

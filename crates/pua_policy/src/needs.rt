@@ -8,7 +8,7 @@ use crate::perms::Perms;
 use crate::promises::Promises;
 use pua_path::{Ending, Last};
 
-/// What a call needs, by the standard table.
+/// What a call needs, by the standard table (this profile).
 pub fn need(call: Call) -> Need
     ensures promises { (rule_of standard_table call).alternatives ≡ result.promises ∷ [] }
     ensures perms { (rule_of standard_table call).perms ≡ result.perms }
@@ -43,7 +43,7 @@ pub fn need(call: Call) -> Need
     }
 }
 
-/// What a slash at the end of the call's path adds.
+/// What a slash at the end of the call's path adds (this profile).
 pub fn ending(call: Call) -> Ending
     ensures { result ≡ ending_of call }
 {

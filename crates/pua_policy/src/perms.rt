@@ -7,8 +7,8 @@ use std::marker::Model;
 #[derive(Clone, Copy, Debug, PartialEq, Eq, Hash)]
 struct Letters(u8);
 
-/// A set of the permissions r, w, x and c: to read, to write, to execute, and to create and remove.
-/// Contracts see a number with a bit for each, r at bit 0.
+/// A set of the permissions r, w, x and c: to read, to write, to execute, and to create and remove
+/// (unveil(2)). Contracts see a number with a bit for each, r at bit 0.
 #[derive(Clone, Copy, Debug, PartialEq, Eq, Hash)]
 pub struct Perms {
     letters: Letters,
@@ -99,7 +99,7 @@ impl Perms {
     };
 
     /// The permissions that letters name, in any order and with repeats; no letters are the empty
-    /// set. Any byte but `r`, `w`, `x` and `c` is EINVAL.
+    /// set. Any byte but `r`, `w`, `x` and `c` is EINVAL (unveil(2)).
     pub fn read(text: &[u8]) -> Result<Perms, Errno>
         ensures { result ≡ perms_of text.now }
     {

@@ -10,7 +10,7 @@ use pua_tree::{NodeId, OutOfMemory};
 use std::alloc::{AllocError, Global};
 use std::marker::Model;
 
-/// A process keeps veils at no more places than so many.
+/// A process keeps veils at no more places than so many (this profile; `E2BIG` is unveil(2)'s).
 pub const PLACE_LIMIT: usize = 128;
 
 /// How many places a new process has room for.
@@ -44,8 +44,8 @@ ghost use Rattle.pua_policy.specs.Promises.{holds, all_promises, error};
 ghost use Rattle.pua_policy.specs.History.{History, StandsFor, Pledged, Unveiled, Locked, Moved, Ended, new_history, HasHistory, after_exec, pledge_fault, unveil_fault, place_fault, is_within, narrowed, may_any, is_locked, is_ended, working_dir, kept, veil_at, has_veil};
 
 impl Process {
-    /// A new process, in the root: it holds every promise but `error`, and has no veil.
-    /// `OutOfMemory` where a growth was refused.
+    /// A new process, in the root: it holds every promise but `error`, and has no veil (this
+    /// profile). `OutOfMemory` where a growth was refused.
     pub fn new(alloc: Global) -> Result<Process, OutOfMemory>
         ensures { IfOk result (λ process. StandsFor process new_history) }
     {
@@ -64,7 +64,8 @@ impl Process {
 
     /// Gives up every promise that the arguments do not name; None leaves its value as it is. EPERM
     /// where an argument names a promise that is not held, unless `error` is held: then what both
-    /// name is kept. A refused pledge changes nothing.
+    /// name is kept. A refused pledge changes nothing (pledge(2); what is left under `error`: this
+    /// profile).
     pub fn pledge(
         &mut self,
         promises: Option<Promises>,
@@ -85,11 +86,12 @@ impl Process {
         Ok(())
     }
 
-    /// Puts a veil on a place: from now on these permissions are kept there.
+    /// Puts a veil on a place: from now on these permissions are kept there (unveil(2)).
     ///
     /// `NotPermitted` where the process is locked, or where the place is kept with permissions that
     /// lack one of these; `TooManyPlaces` where the place is new and 128 are kept; `OutOfMemory`
-    /// where the place is new and a growth was refused. Each leaves the process as it was.
+    /// where the place is new and a growth was refused. Of two the first is answered (this
+    /// profile). Each leaves the process as it was.
     pub fn unveil_at(&mut self, place: Place, perms: Perms) -> Result<(), UnveilFault>
         ensures ok { OnOk result ((h : History) → StandsFor self.old h →
             (unveil_fault h place perms ≡ None) × StandsFor self.new (Unveiled place perms ∷ h)) }
@@ -108,7 +110,7 @@ impl Process {
         Ok(())
     }
 
-    /// Allows no further veil.
+    /// Allows no further veil, as an unveil(2) of two NULLs does.
     pub fn lock(&mut self)
         ensures { (h : History) → StandsFor self.old h → StandsFor self.new (Locked ∷ h) }
     {
@@ -123,7 +125,7 @@ impl Process {
         self.locked
     }
 
-    /// Makes this its working directory.
+    /// Makes this its working directory, as chdir(2) does.
     pub fn set_dir(&mut self, dir: NodeId)
         ensures { (h : History) → StandsFor self.old h → StandsFor self.new (Moved dir ∷ h) }
     {
@@ -153,8 +155,9 @@ impl Process {
         self.ended
     }
 
-    /// A copy for a new process, which has the same promises, veils, lock and working directory.
-    /// `OutOfMemory` where a growth was refused.
+    /// A copy for a new process, which has the same promises, veils, lock and working directory
+    /// (fork(2); that promises and veils are copied: this profile). `OutOfMemory` where a growth
+    /// was refused.
     pub fn fork(&self, alloc: Global) -> Result<Process, OutOfMemory>
         ensures { IfOk result (λ copy. copy ≡ self.now) }
     {
@@ -173,7 +176,8 @@ impl Process {
 
     /// Makes it the process of a new program. Where execpromises were given, they become its
     /// promises, and its veils and lock stay; else it holds every promise but `error`, and has no
-    /// veil and no lock. Its working directory stays. It has not ended.
+    /// veil and no lock. Its working directory stays. It has not ended (pledge(2); veils, lock and
+    /// directory: this profile).
     pub fn exec_into(&mut self)
         requires { self.old.ended ≡ false }
         ensures { (h : History) → StandsFor self.old h → StandsFor self.new (after_exec h) }
@@ -196,7 +200,8 @@ impl Process {
         let _ = &self.ended;
     }
 
-    /// Whether it may do what needs all of these promises. One that has ended may do nothing.
+    /// Whether it may do what needs all of these promises (pledge(2)). One that has ended may do
+    /// nothing.
     pub fn may(&self, promises: Promises) -> May
         ensures { (h : History) → StandsFor self.now h → result ≡ may_any h (promises ∷ []) }
     {
@@ -204,8 +209,8 @@ impl Process {
     }
 
     /// Whether it may do what needs all promises of one of these sets: `Yes` where it holds one of
-    /// the sets, `Enosys` where it holds none and holds `error`, and else `Death`. One that has ended
-    /// may do nothing.
+    /// the sets, `Enosys` where it holds none and holds `error`, and else `Death` (pledge(2)). One
+    /// that has ended may do nothing: `Death`.
     pub fn may_any(&self, alternatives: &[Promises]) -> May
         ensures { (h : History) → StandsFor self.now h → result ≡ may_any h alternatives.now }
     {

@@ -7,8 +7,8 @@ use std::marker::Model;
 #[derive(Clone, Copy, Debug, PartialEq, Eq, Hash)]
 struct Keywords(u64);
 
-/// A set of promises. Contracts see a number with a bit for each of the 36 keywords, the first at
-/// bit 0.
+/// A set of promises (pledge(2); the list of keywords is this profile's). Contracts see a number
+/// with a bit for each of the 36 keywords, the first at bit 0.
 #[derive(Clone, Copy, Debug, PartialEq, Eq, Hash)]
 pub struct Promises {
     keywords: Keywords,
@@ -271,8 +271,9 @@ impl Promises {
         keywords: Keywords::WPATH,
     };
 
-    /// The promises that keywords name, with a comma between each two, in any order and with repeats;
-    /// no text is the empty set. A word that is no keyword, or is empty, is EINVAL.
+    /// The promises that keywords name, with a comma between each two, in any order and with
+    /// repeats; no text is the empty set. A word that is no keyword, or is empty, is EINVAL
+    /// (pledge(2); the commas and the repeats: this profile).
     pub fn read(text: &[u8]) -> Result<Promises, Errno>
         ensures { result ≡ promises_of text.now }
     {

@@ -9,7 +9,7 @@ use crate::promises::Promises;
 pub use read::TableFault;
 use std::marker::Model;
 
-/// A call has at most so many sets of promises of which it needs one.
+/// A call has at most so many sets of promises of which it needs one (this profile).
 pub const ALTERNATIVE_LIMIT: usize = 8;
 
 /// What one call needs: one of these sets of promises, and each of these permissions. After the
@@ -96,7 +96,7 @@ impl Row {
 }
 
 impl CallTable {
-    /// This project's own table: each call needs what `needs::need` tells.
+    /// This project's own table: each call needs what `needs::need` answers (this profile).
     pub fn standard() -> CallTable
         ensures { result ≡ standard_table }
     {

@@ -1,4 +1,4 @@
-//! What a process is told.
+//! What a request is answered.
 
 use pua_path::Errno;
 use std::fmt;

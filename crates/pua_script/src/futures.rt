@@ -30,9 +30,11 @@ pub fn families_law()
     ensures { FamiliesNarrow }
 {}
 
-/// What a family alone asks for leaves each row whose object it can't touch with `c`, with the node,
-/// the kind, the target and the cover, as long as no member's exec succeeds; without cpath it leaves
-/// the tree. A single request of any process does so by the history that it had before.
+/// What a family alone asks for leaves each row whose object it can't touch with `c`, with the
+/// node, the kind, the target and the cover, as long as no member's exec succeeds, where the table
+/// asks rmdir and unlink for `c` and each tree on the way is one; and without cpath it leaves the
+/// tree, where the five calls that make a name or take one away need it. A single request of any
+/// process does so by the history that it had before.
 pub fn confined_law()
     ensures requests { EachRequestSpares }
     ensures lists { FamiliesConfine }

@@ -14,7 +14,7 @@ use pua_path::Errno;
 use pua_policy::judge::promised;
 use pua_policy::{Process, Promises, Refusal};
 
-/// What a process is told that does not get what it asks for. It ends where it did what it did not
+/// What a process is answered that does not get what it asks for. It ends where it did what it did not
 /// promise, and else lives on as it was.
 pub(crate) fn refuse(process: &mut Process, refusal: Refusal) -> Answer
     ensures { (h : History) (t : Tree) → StandsFor process.old h → Does t h (refused refusal) result t process.new }

@@ -47,6 +47,7 @@ pub enum Action {
     Lock,
     /// The number of the new process.
     Fork(u32),
+    /// The end of the process.
     Exit,
 }
 

@@ -35,8 +35,8 @@ impl Script {
     }
 }
 
-/// Reads a script: one request a line, 60,000 lines at most. A line ends in LF or CRLF; the last end
-/// may be missing.
+/// Reads a script: one request a line, 60,000 lines at most. A line ends in LF or CRLF; the last
+/// end may be missing. The format is this program's own.
 ///
 /// The error is the first fault of the first line that has one, with that line's number;
 /// `TooMany` where none of the first 60,000 has one and there are more; `OutOfMemory` where a

@@ -96,14 +96,17 @@ impl<T: FileTree> World<T> {
         self.processes.get(&number)
     }
 
-    /// Serves one request, and answers it. A process that has ended or was never made is told
-    /// `Gone`; a request that fails changes nothing. `OutOfMemory` where a growth was refused, which
-    /// only a request can meet that would be answered `Okay`; the world is then as it was.
+    /// Serves one request, and answers it, by the rules of the calls' manual pages, and by this
+    /// profile's where these say nothing. A process that has ended or was never made is answered
+    /// `Gone` (this profile); a request that fails changes nothing, and one that is answered
+    /// `Killed` ends its process. `OutOfMemory` where a growth was refused, which only a request
+    /// can meet that would be answered `Okay`; the world is then as it was.
     ///
-    /// A process that is locked or doesn't hold `unveil` reaches no more afterwards, whoever asks:
-    /// its veils stay, and it is given no promise but `error`, except by its own exec. A row that the
-    /// one that asks can't touch with `c` stays, with its node and, by the history that was, its
-    /// cover, if the table asks for `c` where a name is taken away.
+    /// A process that is locked or doesn't hold `unveil` may over each tree do no more afterwards,
+    /// whoever asks, on absolute paths, and on relative ones but for its own chdir that succeeds:
+    /// its veils stay, and it is given no promise but `error`, except by its own exec. A row that
+    /// the one that asks can't touch with `c` stays, with its node and, by the history that was,
+    /// its cover, if the table asks for `c` where a name is taken away.
     pub fn apply(&mut self, request: &Request) -> Result<Answer, WorldFault>
         ensures served { IfOk result (λ answer. IsServed self.old request.now answer self.new) }
         ensures memory { OnErr result (IsOkay self.old request.now) }
@@ -144,9 +147,10 @@ impl<T: FileTree> World<T> {
     ///
     /// What is true of a single request (see [`World::apply`]) is true of those that were served
     /// together, for a process and its family: itself, and those that a member forks from then on.
-    /// As long as no member's exec succeeds, each member reaches no more than the process did; and
-    /// where members alone ask, each row that the process couldn't touch with `c` stays, if the table
-    /// asks for `c` where a name is taken away.
+    /// As long as no member's exec succeeds, each member may over each tree do no more than the
+    /// process might, on absolute paths, and on relative ones as long as no member's chdir succeeds;
+    /// and where members alone ask, each row that the process couldn't touch with `c` stays, if the
+    /// table asks for `c` where a name is taken away.
     pub fn run(&mut self, alloc: Global, script: &Script) -> Result<Vec<Answer>, WorldFault>
         ensures served { MatchResult result (λ told. AreServed self.old script.now told.items self.new) (λ _. AreServedInPart self.old script.now self.new) }
         ensures held { MatchResult result (λ _. AreHeld self.old script.now self.new) (λ _. AreHeldInPart self.old script.now self.new) }

@@ -195,7 +195,7 @@ fn processes_fork_and_end(rt: HostRuntime) -> Result<(), Fail> {
     Ok(())
 }
 
-/// Runs another program, and tells whether there was still a process to run it.
+/// Runs another program, and answers whether there was still a process to run it.
 fn is_replaced(process: &mut Process) -> bool {
     if process.ended() {
         return false;

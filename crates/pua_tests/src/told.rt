@@ -1,4 +1,4 @@
-//! Commands over files in memory, and what they tell.
+//! Commands over files in memory, and what they print.
 
 use crate::expect::{expect_bytes, expect_eq};
 use pua_tool::{MemoryInputs, MemorySink, command};
@@ -38,7 +38,7 @@ pub(crate) fn expect_fault(
     Ok(())
 }
 
-/// The output of a command that tells no fault.
+/// The output of a command that reports no fault.
 pub(crate) fn output(
     rt: &impl Abort,
     alloc: Global,

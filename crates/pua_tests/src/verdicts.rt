@@ -44,7 +44,7 @@ fn judged(tree: &ListTree, process: &Process, call: Call, text: &[u8]) -> Verdic
     )
 }
 
-/// The first call that isn't answered as told here, in the order of the calls: stat, lstat,
+/// The first call that isn't answered as listed here, in the order of the calls: stat, lstat,
 /// readlink, open-r, open-w, open-rw, create, mkdir, rmdir, unlink, symlink, chmod, chdir, exec.
 fn unlike(
     tree: &ListTree,

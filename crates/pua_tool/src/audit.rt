@@ -141,7 +141,7 @@ fn begin(
     }
 }
 
-/// The fault with which an audit does not begin, as the tool tells it.
+/// The fault with which an audit does not begin, as the tool reports it.
 fn of_audit(fault: AuditFault) -> ToolFault
     ensures memory { fault ≡ AuditFault.OutOfMemory → result ≡ ToolFault.OutOfMemory }
     ensures audit { fault ≢ AuditFault.OutOfMemory → result ≡ ToolFault.Audit fault }

@@ -1,4 +1,4 @@
-//! Why runs and audits are refused, each with the line that reports it.
+//! Why runs, audits and lists of objects are refused, each with the line that reports it.
 
 ghost use Rattle.std.specs.Prelude.{◌≡◌};
 ghost use Rattle.pua_tool.specs.Statuses.{status_of};
@@ -10,8 +10,8 @@ use pua_script::ScriptFault;
 use pua_tree::ListingFault;
 use thiserror::Error;
 
-/// Why the text of a run or of an audit was not written, or not whole. It is displayed as the line
-/// that the program prints.
+/// Why the text of a run, of an audit or of a list of objects was not written, or not whole. It is
+/// displayed as the line that the program prints.
 #[derive(Clone, Copy, Debug, PartialEq, Eq, Error)]
 pub enum ToolFault {
     /// The tree's bytes are no listing.

@@ -3,7 +3,8 @@
 /// What was asked for is done.
 pub const DONE: u8 = 0;
 
-/// An input was refused: the listing, the script, the process, or what the audit is asked for.
+/// An input was refused: the table of calls, the listing, the script, the process, or what the
+/// audit is asked for.
 pub const REFUSED: u8 = 1;
 
 /// The words are no command.

@@ -10,7 +10,7 @@ pub struct OutOfMemory;
 /// Why a spelling is not that of a name: the first of these that holds.
 #[derive(Clone, Copy, Debug, PartialEq, Eq, Error)]
 pub enum NameFault {
-    /// It is the spelling of no bytes, or has a slash.
+    /// It is no spelling, or has a slash.
     #[error("bad spelling")]
     BadSpelling,
     /// It spells no bytes.

@@ -5,7 +5,8 @@ ghost use Rattle.pua_tree.specs.Names.{has_short_components, is_target};
 
 use crate::name::Name;
 
-/// The most bytes that a link's target has.
+/// The most bytes that a link's target has: as many as a path (this profile; symlink(2)'s
+/// `ENAMETOOLONG`).
 pub const MOST_TARGET: usize = 1023;
 
 /// Whether these bytes are a link's target: 1 to 1,023 bytes without NUL, with short components.

@@ -24,18 +24,19 @@ use crate::tree::FileTree;
 use bstr::{ByteSlice, Lines};
 use std::alloc::Global;
 
-/// The most lines that a listing has after its first, of which the root's is one.
+/// The most lines that a listing has after its first, of which the root's is one (this program's
+/// format).
 pub const MOST_LISTED: u32 = 4096;
 
-/// The greatest number that a listing has.
+/// The greatest number that a listing has (this program's format).
 pub const HIGHEST_LISTED: u32 = 999_999;
 
 /// The most lines that a listing has with its first.
 const MOST_LINES: u32 = MOST_LISTED + 1;
 
-/// The tree of which the bytes are a listing, under the numbers of the listing. The fault is
-/// that of the first line that has one; `ListingFault::OutOfMemory` comes only where a growth was
-/// refused.
+/// The tree of which the bytes are a listing, under the numbers of the listing. The format is this
+/// program's own. The fault is that of the first line that has one; `ListingFault::OutOfMemory`
+/// comes only where a growth was refused.
 pub fn read_listing(alloc: Global, bytes: &[u8]) -> Result<ListTree, ListingFault>
     ensures ok { IfOk result (λ tree. listing bytes.now ≡ Ok tree) }
     ensures err { IfErr result (λ fault. fault ≢ ListingFault.OutOfMemory → listing bytes.now ≡ Err fault) }
@@ -43,7 +44,7 @@ pub fn read_listing(alloc: Global, bytes: &[u8]) -> Result<ListTree, ListingFaul
     read_tree(alloc, bytes)
 }
 
-/// The same tree by the same rules, kept in slots that are used again.
+/// The same tree by the same rules, with the same faults, kept in slots that are used again.
 pub fn read_listing_slab(alloc: Global, bytes: &[u8]) -> Result<SlabTree, ListingFault>
     ensures ok { IfOk result (λ tree. listing bytes.now ≡ Ok tree) }
     ensures err { IfErr result (λ fault. fault ≢ ListingFault.OutOfMemory → listing bytes.now ≡ Err fault) }

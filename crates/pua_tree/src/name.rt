@@ -7,8 +7,8 @@ use std::fmt;
 use std::hash::{Hash, Hasher};
 use std::marker::Model;
 
-/// The name of a row: 1 to 255 bytes without NUL or slash, and neither `.` nor `..`. It is kept
-/// inline, so that a copy takes no memory. Contracts see the list of its bytes.
+/// The name of a row: 1 to 255 bytes without NUL or slash, and neither `.` nor `..` (intro(2)). It
+/// is kept inline, so that a copy takes no memory. Contracts see the list of its bytes.
 #[derive(Clone, Copy)]
 pub struct Name {
     bytes: [u8; 255],
@@ -42,7 +42,7 @@ ghost use Rattle.pua_tree.specs.Names.{is_name, is_name_byte, padded};
 ghost use Rattle.pua_tree.specs.Spelling.{name_of, name_of_bytes};
 
 impl Name {
-    /// The most bytes that a name has.
+    /// The most bytes that a name has: `NAME_MAX` of `<limits.h>` (`ENAMETOOLONG` is intro(2)'s).
     pub const MOST: usize = 255;
 
     /// The name that a text spells, or the first of its faults.

@@ -5,10 +5,11 @@ use crate::name::Name;
 use crate::node::{Kind, NodeId};
 use std::alloc::Global;
 
-/// How many names a tree may have, the root counted as one: its rows are fewer than this.
+/// How many names a tree may have, the root counted as one: its rows are fewer than this (this
+/// profile).
 pub const MOST_NAMES: usize = 65_535;
 
-/// The number that no node is given: those of a tree's nodes are below it.
+/// The number that no node is given: those of a tree's nodes are below it (this profile).
 pub const NUMBER_END: u32 = 4_294_967_295;
 
 /// A row that a tree lends: a node that has a name in a directory.
@@ -71,11 +72,12 @@ pub trait FileTree {
     fn rows(&self, alloc: Global) -> Result<Vec<LentRow<'_>>, OutOfMemory>
         ensures { IfOk result (λ rows. map lent_entry rows.items ≡ (content self.now).rows) };
 
-    /// Adds a node under this name, and answers its number, which is the next one. A link comes with
-    /// its target, and no other kind with any. The faults, of which the first that holds is answered:
-    /// `NotDir` where `dir` is no living directory, `Taken` where it has the name already, `Full`
-    /// where the tree has 65,535 names, the root counted as one, or the next number is
-    /// 4,294,967,295, and `OutOfMemory`. After each of them the tree is as it was.
+    /// Adds a node under this name, as mkdir(2), symlink(2) and open(2) with `O_CREAT` do, and
+    /// answers its number, which is the next one. A link comes with its target, and no other kind
+    /// with any. The faults, of which the first that holds is answered: `NotDir` where `dir` is no
+    /// living directory, `Taken` where it has the name already, `Full` where the tree has 65,535
+    /// names, the root counted as one, or the next number is 4,294,967,295, and `OutOfMemory`.
+    /// After each of them the tree is as it was.
     fn add(
         &mut self,
         dir: NodeId,
@@ -88,7 +90,7 @@ pub trait FileTree {
             MatchResult result (λ id. rule ≡ Ok (id, content self.new)) (Refuses rule) }
         ensures unchanged { OnErr result (content self.new ≡ content self.old) };
 
-    /// Gives a living node that is no directory a further name, as a hard link does; it takes no
+    /// Gives a living node that is no directory a further name, as link(2) does; it takes no
     /// number. The faults, of which the first that holds is answered: `NotDir` where `dir` is no
     /// living directory, `Missing` where `node` is not living, `IsDir` where it is a directory,
     /// `Taken` where `dir` has the name already, `Full` where the tree has 65,535 names, the root
@@ -98,21 +100,23 @@ pub trait FileTree {
             MatchResult result (λ _. rule ≡ Ok (content self.new)) (Refuses rule) }
         ensures unchanged { OnErr result (content self.new ≡ content self.old) };
 
-    /// Takes a row away, and its node with its last row, and answers the node's number. The faults,
-    /// of which the first that holds is answered: `NotDir` where `dir` is no living directory,
-    /// `Missing` where it does not have the name, and `NotEmpty` where the node is a directory in
-    /// which something stands. After each of them the tree is as it was. It takes no memory.
+    /// Takes a row away, and its node with its last row, as unlink(2) and rmdir(2) do, and answers
+    /// the node's number. The faults, of which the first that holds is answered: `NotDir` where
+    /// `dir` is no living directory, `Missing` where it does not have the name, and `NotEmpty`
+    /// where the node is a directory in which something stands. After each of them the tree is as
+    /// it was. It takes no memory.
     fn cut(&mut self, dir: NodeId, name: &Name) -> Result<NodeId, TreeFault>
         ensures exact { let rule = cut (content self.old) dir name.now in
             MatchResult result (λ id. rule ≡ Ok (id, content self.new)) (λ fault. rule ≡ Err fault) }
         ensures unchanged { OnErr result (content self.new ≡ content self.old) };
 
-    /// Moves a row to another directory and name. What stood there is taken away with its last row,
-    /// if it is no directory or one in which nothing stands; where the same node stood there, nothing
-    /// changes. The faults, of which the first that holds is answered: `NotDir` where `from` or `to`
-    /// is no living directory, `Missing` where `from` does not have the name, `Inside` where a
-    /// directory would come to stand in itself or beneath itself, `NotEmpty` where something stands
-    /// in a directory at the new place, and `OutOfMemory`. After each of them the tree is as it was.
+    /// Moves a row to another directory and name, as rename(2) does. What stood there is taken away
+    /// with its last row, if it is no directory or one in which nothing stands; where the same node
+    /// stood there, nothing changes. The faults, of which the first that holds is answered:
+    /// `NotDir` where `from` or `to` is no living directory, `Missing` where `from` does not have
+    /// the name, `Inside` where a directory would come to stand in itself or beneath itself,
+    /// `NotEmpty` where something stands in a directory at the new place, and `OutOfMemory`. After
+    /// each of them the tree is as it was.
     fn shift(
         &mut self,
         from: NodeId,

@@ -29,7 +29,7 @@ pub enum Text<'a> {
 /// What an audit is asked for, besides its inputs.
 #[derive(Debug, Drop)]
 pub struct AuditWords<'a> {
-    /// The most names in a path. Audits take 0 to 16.
+    /// The most components in a path. Audits take 0 to 16.
     pub limit: u8,
     /// The number of the process, 1 to 999,999 where the words of the command line named it.
     pub process: u32,

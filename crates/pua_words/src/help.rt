@@ -57,8 +57,8 @@ the standard table: all promises of one of some lists, and letters of a veil.
   promises = [\"cpath\", \"dpath\"]
   veil = \"c\"
 
-In names and paths a blank, a backslash and each byte outside ASCII is written
-as a backslash and three octal digits: `a\\040b`.
+In names and paths a backslash, and each byte that is not visible ASCII, is
+written as a backslash and three octal digits: `a\\040b`.
 
 Example: pua objects TREE SCRIPT";
 

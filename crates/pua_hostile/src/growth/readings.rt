@@ -48,7 +48,7 @@ pub(crate) fn hold(alloc: Global, again: &mut u32) -> Result<bool> {
     Ok(is_read && is_listed && are_sets && script.requests().len() == REQUESTS)
 }
 
-/// Whether a tree of this kind is read, and tells its names and its rows, as it has to be.
+/// Whether a tree of this kind is read, and lists its names and its rows, as it has to.
 fn is_listed<T: ListedTree>(alloc: Global, again: &mut u32) -> Result<bool> {
     let tree = tree_read::<T>(alloc, LISTING, again)?;
     let twice = tree_read::<T>(alloc, NAMED_TWICE, again)?;

@@ -42,9 +42,10 @@ pub enum TableFault {
 
 impl CallTable {
     /// The table that a TOML text gives. Each key of the document is the name of a call, and its
-    /// value a table with the keys `promises`, an array of 1 to 8 texts, and `veil`, a text: the call
-    /// needs all keywords of one of these texts, and the permissions of the veil. A text may be empty.
-    /// Calls that the text does not name need what they need by the standard table.
+    /// value a table with the keys `promises`, an array of 1 to 8 texts, and `veil`, a text: the
+    /// call needs all keywords of one of these texts, and the permissions of the veil. A text may
+    /// be empty. Calls that the text does not name need what they need by the standard table. The
+    /// format is this program's own.
     ///
     /// `BadToml` where the text is no document; else the fault of the first key by the bytes of the
     /// keys, in the order `BadKey`, `BadRow`, `BadPromises`, `BadVeil`. `OutOfMemory` where a growth
