@@ -110,5 +110,6 @@ made = {"one": one(), "many": many(), "looks": looks(), "edits": edits(), "mkdir
 made |= {"links": links(), "fill": fill(), "climb": climb(CLIMBS), "descend": climb(0), "empty": []}
 made |= {"veil-names": narrow("/d50/file0050"), "veil-dead": narrow("/d99/g"), "veil-etc": narrow("/etc/ssl")}
 made |= {"veil-include": narrow("/usr/include/linux/can"), "veil-large": narrow("/dir030/file030.c")}
+made |= {"veil-tower": narrow("/")}
 for name, lines in made.items():
     write(name, lines)

@@ -137,6 +137,7 @@ def audits():
         row(f"`{name}`, no veil, limit 6, cut", words, lines=2, less=NOTHING, count=True)
         words = ["audit", "--limit", "6", name, f"veil-{name}"]
         row(f"`{name}`, veil on a file, limit 6, cut", words, lines=4, less=NOTHING, count=True)
+    row("`tower`, veil on the root, limit 0", ["audit", "--limit", "0", "tower", "veil-tower"], less=NOTHING, count=True)
     table("Narrow veils (beyond a run over an empty tree)", "Lines")
     for name, limits in (("names", (4, 8, 16)), ("dead", (16,)), *REAL):
         for limit in limits:
@@ -162,6 +163,10 @@ def peaks():
     for limit, lines in ((2, None), (4, None), (6, 2_000_000), (6, 20_000_000)):
         cut = f", cut after {lines:,} lines" if lines else ""
         memory(f"audit of `middle`, limit {limit}{cut}", ["audit", "--limit", str(limit), "middle", "empty"], lines)
+    for name in ("names", "dead"):
+        for lines in (3_000, 300_000):
+            words = ["audit", "--limit", "16", name, f"veil-{name}"]
+            memory(f"audit of `{name}`, veil on a file, limit 16, cut after {lines:,} lines", words, lines)
 
 
 def listed(name, *words):

@@ -1,68 +1,96 @@
--- The paths of words over plain letters are printed as they are.
-use Rattle.std.proofs.Common.{◌≡◌, ℕ, Bool, List, [], ◌∷◌, ◌++◌, refl, sym, ap, subst, ◌∙◌}
-use Rattle.std.specs.Prelude.{IsTrue, Option, Some, None}
-use Rattle.std.specs.List.{AllByRecursion, list_all}
-use Rattle.std.proofs.lemmas.Bool.{and_parts, and_from}
+-- How many letters at the front of a word have only bytes that stand for themselves.
+use Rattle.std.proofs.Common.{◌≡◌, ◌<◌, ◌≤◌, ℕ, zero, suc, true, false, List, [], ◌∷◌, ◌++◌, length, take, min, nat_eq, inl, inr, refl, sym, ap, ◌∙◌, arith}
+use Rattle.std.specs.Prelude.{if◌then◌else◌, ◌&&◌}
+use Rattle.std.specs.List.{list_all}
+use Rattle.std.proofs.lemmas.Bool.Decides.{eqb_tells}
 use Rattle.std.proofs.lemmas.List.Folds.{list_all-append}
-use Rattle.pua_tree.specs.Spelling.{is_plain, byte_spelling, spelling}
-use Rattle.pua_audit.specs.Reach.{Word, Pair, Scope, pairs, from_root, path_of, printed_path, is_reached, reach, rest_after}
-use Rattle.pua_audit.specs.Plain.{is_plain_alphabet, ArePlain, IsMarked}
-use Rattle.pua_audit.specs.Coming.{to_come}
-use Rattle.pua_audit.specs.Ready.{letters_of, scope_in}
+use Rattle.pua_tree.specs.Spelling.{is_plain}
+use Rattle.pua_audit.specs.Reach.{Word, from_root}
+use Rattle.pua_audit.specs.Ready.{lent}
+use Rattle.pua_audit.specs.WordPaths.{plain_front}
 use Rattle.pua_audit.specs.declared.base.Base.{Base}
 use Rattle.pua_audit.specs.declared.base.Base.TheVariants.{Root, Cwd}
-use Rattle.pua_audit.specs.declared.terms.Terms.{Terms}
-use Rattle.pua_audit.specs.declared.pairs.Pairs.{Pairs}
-use Rattle.pua_audit.proofs.Along.{IsWord, pairs_are, all_to}
-use Rattle.pua_audit.proofs.Rising.{all_filtered}
 
--- bytes that stand for themselves are their own spelling
-spelling_plain : (bytes : List ℕ) → IsTrue (list_all is_plain bytes) → spelling bytes ≡ bytes
-spelling_plain [] all = refl
-spelling_plain (b ∷ bytes) all =
-    let parts = and_parts (is_plain b) (list_all is_plain bytes) all in
-    front b parts.0 (spelling bytes) ∙ ap (λ bs. b ∷ bs) (spelling_plain bytes parts.1)
-  where
-    front : (c : ℕ) → IsTrue (is_plain c) → (more : List ℕ) → byte_spelling c ++ more ≡ c ∷ more
-    front c plain more = rw plain refl
+-- of the first letters it is as many, or all that there are
+pub front-take : (k : ℕ) (word : Word) → plain_front (take k word) ≡ min (plain_front word) k
+front-take zero [] = omega arith
+front-take zero (a ∷ word) = omega arith
+front-take (suc k) [] = omega arith
+front-take (suc k) (a ∷ word) =
+    elim (list_all is_plain a) as (λ b. (if b then suc (plain_front (take k word)) else 0) ≡ min (if b then suc (plain_front word) else 0) (suc k)) [
+      | true ↦ omega (arith, front-take k word)
+      | false ↦ omega arith
+    ]
 
-abbrev IsPlain : List ℕ → Type 0
-IsPlain letter = IsTrue (list_all is_plain letter)
+-- after a letter that isn't plain no letter counts
+pub push_after : (word : Word) (a : List ℕ) → plain_front word < length word → plain_front (word ++ a ∷ []) ≡ plain_front word
+push_after [] a low = absurd (omega (arith, low))
+push_after (b ∷ word) a low =
+    elim (list_all is_plain b) as (λ v. (if v then suc (plain_front word) else 0) < suc (length word) → (if v then suc (plain_front (word ++ a ∷ [])) else 0) ≡ (if v then suc (plain_front word) else 0)) [
+      | true ↦ λ fewer. ap suc (push_after word a (omega (arith, fewer)))
+      | false ↦ λ fewer. refl
+    ] low
 
-plain_joined : (xs ys : List ℕ) → IsPlain xs → IsPlain ys → IsPlain (xs ++ ys)
-plain_joined xs ys first second = list_all-append is_plain xs ys ∙ and_from _ _ first second
+-- nor does one that isn't plain
+pub push_escaped : (word : Word) (a : List ℕ) → list_all is_plain a ≡ false → plain_front (word ++ a ∷ []) ≡ plain_front word
+push_escaped [] a escaped = rw escaped refl
+push_escaped (b ∷ word) a escaped =
+    elim (list_all is_plain b) as (λ v. (if v then suc (plain_front (word ++ a ∷ [])) else 0) ≡ (if v then suc (plain_front word) else 0)) [
+      | true ↦ ap suc (push_escaped word a escaped)
+      | false ↦ refl
+    ]
 
-from_root_plain : (word : Word) → AllByRecursion IsPlain word → IsPlain (from_root word)
-from_root_plain [] all = refl
-from_root_plain (a ∷ word) all = and_from (is_plain 47) _ refl (plain_joined a (from_root word) all.0 (from_root_plain word all.1))
+-- a plain letter after plain ones counts
+pub push_plain : (word : Word) (a : List ℕ) → list_all is_plain a ≡ true → length word ≤ plain_front word → plain_front (word ++ a ∷ []) ≡ suc (length word)
+push_plain [] a plain all = rw plain refl
+push_plain (b ∷ word) a plain all =
+    elim (list_all is_plain b) as (λ v. suc (length word) ≤ (if v then suc (plain_front word) else 0) → (if v then suc (plain_front (word ++ a ∷ [])) else 0) ≡ suc (suc (length word))) [
+      | true ↦ λ each. ap suc (push_plain word a plain (omega (arith, each)))
+      | false ↦ λ each. absurd (omega (arith, each))
+    ] all
 
-path_plain : (base : Base) (word : Word) → AllByRecursion IsPlain word → printed_path base word ≡ path_of base word
-path_plain Root [] all = refl
-path_plain Root (a ∷ word) all = spelling_plain (from_root (a ∷ word)) (from_root_plain (a ∷ word) all)
-path_plain Cwd [] all = refl
-path_plain Cwd (a ∷ word) all = spelling_plain (a ++ from_root word) (plain_joined a (from_root word) all.0 (from_root_plain word all.1))
+root_split : (a : List ℕ) (word : Word) → list_all is_plain (from_root (a ∷ word)) ≡ (list_all is_plain a && list_all is_plain (from_root word))
+root_split a word = list_all-append is_plain a (from_root word)
 
-each_plain : (letters : List (List ℕ)) → IsTrue (is_plain_alphabet letters) → AllByRecursion IsPlain letters
-each_plain [] all = tt
-each_plain (a ∷ letters) all = let parts = and_parts (list_all is_plain a) (is_plain_alphabet letters) all in (parts.0, each_plain letters parts.1)
+-- the path is plain where all letters are
+pub whole_plain : (word : Word) → length word ≤ plain_front word → list_all is_plain (from_root word) ≡ true
+whole_plain [] all = refl
+whole_plain (b ∷ word) all =
+    root_split b word
+    ∙ (elim (list_all is_plain b) as (λ v. suc (length word) ≤ (if v then suc (plain_front word) else 0) → (v && list_all is_plain (from_root word)) ≡ true) [
+      | true ↦ λ each. whole_plain word (omega (arith, each))
+      | false ↦ λ each. absurd (omega (arith, each))
+    ] all)
 
-reach_plain : (s : Scope) → IsTrue (is_plain_alphabet s.alphabet) → ArePlain s.base (reach s)
-reach_plain s plain =
-    all_filtered (λ pair. printed_path s.base pair.0 ≡ path_of s.base pair.0) (is_reached s) (pairs s.alphabet s.limit)
-    (all_to (λ pair. IsWord IsPlain s.limit pair.0) (λ pair. printed_path s.base pair.0 ≡ path_of s.base pair.0) (λ pair is. path_plain s.base pair.0 is.letters)
-    (pairs s.alphabet s.limit) (pairs_are IsPlain s.alphabet s.limit (each_plain s.alphabet plain)))
+-- and only there
+pub not_plain : (word : Word) → plain_front word < length word → list_all is_plain (from_root word) ≡ false
+not_plain [] low = absurd (omega (arith, low))
+not_plain (b ∷ word) low =
+    root_split b word
+    ∙ (elim (list_all is_plain b) as (λ v. (if v then suc (plain_front word) else 0) < suc (length word) → (v && list_all is_plain (from_root word)) ≡ false) [
+      | true ↦ λ fewer. not_plain word (omega (arith, fewer))
+      | false ↦ λ fewer. refl
+    ] low)
 
--- so are the paths of all pairs that are to come
-pub rest_plain : (s : Scope) (after : Option Pair) → IsTrue (is_plain_alphabet s.alphabet) → ArePlain s.base (rest_after s after)
-rest_plain s None plain = reach_plain s plain
-rest_plain s (Some pair) plain = all_filtered (λ pair. printed_path s.base pair.0 ≡ path_of s.base pair.0) _ (reach s) (reach_plain s plain)
+front_few : (word : Word) → plain_front word ≤ length word
+front_few [] = omega arith
+front_few (b ∷ word) =
+    elim (list_all is_plain b) as (λ v. (if v then suc (plain_front word) else 0) ≤ suc (length word)) [
+      | true ↦ omega (arith, front_few word)
+      | false ↦ omega arith
+    ]
 
--- it is known of the pairs that are to come whether their letters are plain
-pub marked : (plain : Bool) (a : Pairs) (t : Terms) (after : Option Pair) → plain ≡ is_plain_alphabet (letters_of a.terms) → a.terms ≡ t → to_come a ≡ rest_after (scope_in t) after → IsMarked plain a
-marked plain a t after letters terms left = record {
-  letters = letters;
-  lines = λ is.
-      subst (λ (ps : List Pair). ArePlain a.terms.base ps) (sym left)
-      (subst (λ (u : Terms). ArePlain u.base (rest_after (scope_in t) after)) (sym terms)
-      (rest_plain (scope_in t) after (ap (λ (u : Terms). is_plain_alphabet (letters_of u)) (sym terms) ∙ sym letters ∙ is)));
-}
+-- so the two numbers tell
+pub front_whole : (word : Word) (front all : ℕ) → front ≡ plain_front word → all ≡ length word → nat_eq front all ≡ list_all is_plain (from_root word)
+front_whole word front all is many =
+    elim (eqb_tells front all) [
+      | inl same ↦ same.0 ∙ sym (whole_plain word (omega (arith, same.1, is, many)))
+      | inr other ↦ other.0 ∙ sym (not_plain word (omega (arith, other.1, is, many, front_few word)))
+    ]
+
+-- the path that is lent has no other bytes
+pub lent_plain : (base : Base) (word : Word) → list_all is_plain (lent base (from_root word)) ≡ list_all is_plain (from_root word)
+lent_plain Root [] = refl
+lent_plain Root (a ∷ word) = refl
+lent_plain Cwd [] = refl
+lent_plain Cwd (a ∷ word) = refl

@@ -11,7 +11,6 @@ pub mod Past
 pub mod Ready
 pub mod WordPaths
 pub mod Coming
-pub mod Plain
 pub mod AuditState
 pub mod Lent
 pub mod Alphabets

@@ -1,15 +1,12 @@
 //! The alphabet of an audit: its letters in the order of their bytes.
 
 ghost use Rattle.std.specs.Prelude.{◌≡◌, ◌≤◌, IfOk, map};
-ghost use Rattle.std.specs.List.{list_all};
-ghost use Rattle.pua_tree.specs.Spelling.{is_plain};
 ghost use Rattle.pua_tree.specs.LentRows.{lent_entry};
 ghost use Rattle.pua_tree.specs.Tree.{Tree, name_cmp, with_name, distinct_names};
 ghost use Rattle.pua_audit.specs.Reach.{alphabet_of};
 ghost use Rattle.pua_audit.specs.Begin.{longest};
 ghost use Rattle.pua_audit.specs.Laws.{Rises};
 ghost use Rattle.pua_audit.specs.Ready.{part_bytes};
-ghost use Rattle.pua_audit.specs.Plain.{is_plain_alphabet};
 ghost use Rattle.pua_audit.specs.Alphabets.{with_names, IsPlaced, AreParts};
 
 use crate::component::Component;
@@ -112,18 +109,4 @@ pub(crate) fn longest(letters: &[Component]) -> usize
         most = letter.bytes().len().max(most);
     }
     most
-}
-
-/// Whether each byte of each letter stands for itself.
-pub(crate) fn are_plain(letters: &[Component]) -> bool
-    ensures { result ≡ is_plain_alphabet (map part_bytes letters.now) }
-{
-    letters.iter().all(|letter| is_plain(letter))
-}
-
-/// Whether each byte of a letter stands for itself.
-fn is_plain(letter: &Component) -> bool
-    ensures { result ≡ list_all is_plain (part_bytes letter.now) }
-{
-    pua_tree::are_plain(letter.bytes())
 }

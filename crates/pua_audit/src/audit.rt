@@ -1,16 +1,16 @@
 //! The audit of a process: its reach, pair by pair.
 
-ghost use Rattle.std.specs.Prelude.{◌≡◌, ◌≢◌, ◌≤◌, ◌+◌, Ok, Err, IfOk, IfErr, IfSome, IsTrue, length, map, option_map};
+ghost use Rattle.std.specs.Prelude.{◌≡◌, ◌≢◌, ◌≤◌, ◌+◌, Ok, Err, IfOk, IfErr, IfSome, length, map, option_map};
 ghost use Rattle.std.specs.Borrow.{sem};
+ghost use Rattle.std.specs.List.{list_all};
+ghost use Rattle.pua_tree.specs.Spelling.{is_plain};
 ghost use Rattle.pua_policy.specs.History.{History, StandsFor};
 ghost use Rattle.pua_audit.specs.Limits.{path_limit};
 ghost use Rattle.pua_audit.specs.Bounds.{begin_cost, letter_count};
 ghost use Rattle.pua_audit.specs.Begin.{Beginning, beginning, still_to_come};
 ghost use Rattle.pua_audit.specs.Lent.{LendsLine};
 ghost use Rattle.pua_audit.specs.Live.{live_states};
-ghost use Rattle.pua_audit.specs.Plain.{ArePlain, is_plain_alphabet};
 
-use crate::alphabet::are_plain;
 use crate::base::Base;
 use crate::beginning::{self, Checked};
 use crate::fault::AuditFault;
@@ -28,8 +28,6 @@ use std::marker::Model;
 #[derive(Drop)]
 pub struct Audit {
     pairs: Pairs,
-    /// Whether each byte of each letter stands for itself.
-    plain: bool,
 }
 
 impl Model for Audit {
@@ -38,7 +36,6 @@ impl Model for Audit {
     ghost Value = { AuditState };
 
     ghost use Rattle.pua_audit.specs.Coming.{AreReady, to_come};
-    ghost use Rattle.pua_audit.specs.Plain.{IsMarked};
     ghost use Rattle.pua_audit.specs.Ready.{letters_of};
 
     ghost view = { λ a. record {
@@ -51,7 +48,7 @@ impl Model for Audit {
       left = to_come a.pairs;
     } };
 
-    ghost invariant = { λ a. AreReady a.pairs × IsMarked a.plain a.pairs };
+    ghost invariant = { λ a. AreReady a.pairs };
 }
 
 impl Audit {
@@ -105,17 +102,7 @@ impl Audit {
         let Ok(pairs) = Pairs::begin(alloc, probe, &rows, terms, after) else {
             return Err(AuditFault::OutOfMemory);
         };
-        let plain = are_plain(pairs.terms.letters.as_slice());
-        Ok(Audit { pairs, plain })
-    }
-
-    /// Whether each byte of each letter stands for itself. Then each path that is still to come is
-    /// printed as it is.
-    pub fn is_plain(&self) -> bool
-        ensures plain { result ≡ is_plain_alphabet self.now.alphabet }
-        ensures printed { IsTrue result → ArePlain self.now.base self.now.left }
-    {
-        self.plain
+        Ok(Audit { pairs })
     }
 
     /// How many states are live: where words lead from which words with an allowed call go on.
@@ -141,11 +128,13 @@ impl Audit {
         requires { P.tree probe.old ≡ self.old.tree }
         ensures* rest { sem 𝓛 (LendsLine self.entry result) }
         ensures short { IfSome result (λ line. length line.path.now ≤ path_limit) }
+        ensures plain { IfSome result (λ line. line.plain ≡ list_all is_plain line.path.now) }
         ensures tree { P.tree probe.new ≡ P.tree probe.old }
         ensures asked { P.count probe.new ≡ P.count probe.old }
     {
         let call = self.pairs.next_call()?;
+        let plain = self.pairs.path.is_plain();
         let path = lent_path(self.pairs.terms.base, self.pairs.path.bytes.as_slice());
-        Some(Line { path, call })
+        Some(Line { path, call, plain })
     }
 }

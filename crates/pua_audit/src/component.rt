@@ -1,7 +1,7 @@
 //! Letters: components of paths, each in as many bytes as it has.
 
 use pua_path::Part;
-use pua_tree::{Name, OutOfMemory};
+use pua_tree::{Name, OutOfMemory, are_plain};
 use std::alloc::Global;
 use std::marker::Model;
 
@@ -10,10 +10,14 @@ use std::marker::Model;
 #[derive(Drop)]
 pub(crate) struct Component {
     bytes: Vec<u8>,
+    /// Whether each byte stands for itself.
+    plain: bool,
 }
 
 impl Model for Component {
-    ghost use Rattle.std.specs.Prelude.{IsTrue};
+    ghost use Rattle.std.specs.Prelude.{◌≡◌, IsTrue};
+    ghost use Rattle.std.specs.List.{list_all};
+    ghost use Rattle.pua_tree.specs.Spelling.{is_plain};
     ghost use Rattle.pua_path.specs.Paths.{part_of};
     ghost use Rattle.pua_path.specs.declared.found.Part.{Part};
     ghost use Rattle.pua_audit.specs.Judge.{is_letter};
@@ -22,10 +26,12 @@ impl Model for Component {
 
     ghost view = { λ a. part_of a.bytes.items };
 
-    ghost invariant = { λ a. IsTrue (is_letter a.bytes.items) };
+    ghost invariant = { λ a. IsTrue (is_letter a.bytes.items) × (a.plain ≡ list_all is_plain a.bytes.items) };
 }
 
 ghost use Rattle.std.specs.Prelude.{◌≡◌, ◌≤◌, IfOk, IsTrue, length, not};
+ghost use Rattle.std.specs.List.{list_all};
+ghost use Rattle.pua_tree.specs.Spelling.{is_plain};
 ghost use Rattle.pua_path.specs.Paths.{part_of};
 ghost use Rattle.pua_path.specs.declared.found.Part.TheVariants.{DotDot};
 ghost use Rattle.pua_path.specs.declared.found.Part.TheVariants as part;
@@ -58,7 +64,10 @@ impl Component {
         if copy.extend_from_slice(bytes).is_err() {
             return Err(OutOfMemory);
         }
-        Ok(Component { bytes: copy })
+        Ok(Component {
+            bytes: copy,
+            plain: are_plain(bytes),
+        })
     }
 
     /// Its bytes: at most 255.
@@ -68,6 +77,13 @@ impl Component {
         ensures short { length (part_bytes self.now) ≤ 255 }
     {
         &self.bytes
+    }
+
+    /// Whether each of its bytes stands for itself.
+    pub(crate) fn is_plain(&self) -> bool
+        ensures { result ≡ list_all is_plain (part_bytes self.now) }
+    {
+        self.plain
     }
 
     /// The part of a path that it is.

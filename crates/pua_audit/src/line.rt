@@ -7,4 +7,6 @@ use pua_policy::Call;
 pub struct Line<'a> {
     pub path: &'a [u8],
     pub call: Call,
+    /// Whether each byte of the path stands for itself, so that the path is printed as it is.
+    pub plain: bool,
 }

@@ -1,9 +1,11 @@
 //! The path of a word in a buffer: each letter after a slash.
 
 ghost use Rattle.std.specs.Prelude.{◌≡◌, ◌≤◌, ◌<◌, ◌+◌, ◌++◌, ◌∷◌, [], List, ℕ, suc, length, min, take, IfOk, vec_capacity};
+ghost use Rattle.std.specs.List.{list_all};
+ghost use Rattle.pua_tree.specs.Spelling.{is_plain};
 ghost use Rattle.pua_audit.specs.Reach.{Word};
 ghost use Rattle.pua_audit.specs.Ready.{part_bytes, lent};
-ghost use Rattle.pua_audit.specs.WordPaths.{IsPathOf};
+ghost use Rattle.pua_audit.specs.WordPaths.{IsPathOf, plain_front};
 
 use crate::base::Base;
 use crate::component::Component;
@@ -16,6 +18,8 @@ pub(crate) struct WordPath {
     pub(crate) bytes: Vec<u8>,
     /// Where each letter's slash stands.
     pub(crate) starts: Vec<usize>,
+    /// How many letters at the front have only bytes that stand for themselves.
+    pub(crate) plain: usize,
 }
 
 impl WordPath {
@@ -28,7 +32,11 @@ impl WordPath {
     {
         let bytes = Vec::with_capacity(alloc, bytes)?;
         let starts = Vec::with_capacity(alloc, letters)?;
-        Ok(WordPath { bytes, starts })
+        Ok(WordPath {
+            bytes,
+            starts,
+            plain: 0,
+        })
     }
 
     /// Drops all letters but so many at the front.
@@ -44,6 +52,7 @@ impl WordPath {
         let start = self.starts[letters];
         self.bytes.truncate(start);
         self.starts.truncate(letters);
+        self.plain = self.plain.min(letters);
     }
 
     /// Puts a letter at the end.
@@ -55,8 +64,27 @@ impl WordPath {
         ensures bytes { vec_capacity self.old.bytes ≤ vec_capacity self.new.bytes }
         ensures starts { vec_capacity self.old.starts ≤ vec_capacity self.new.starts }
     {
+        self.plain = self.plain_with(letter);
         self.starts.push(self.bytes.len()).unwrap();
         add_letter(&mut self.bytes, letter);
+    }
+
+    /// How many letters at the front have only bytes that stand for themselves, with one letter more at
+    /// the end.
+    fn plain_with(&self, letter: &Component) -> usize
+        ensures { (word : Word) → IsPathOf word self.now → result ≡ plain_front (word ++ part_bytes letter.now ∷ []) }
+    {
+        if self.plain < self.starts.len() || !letter.is_plain() {
+            return self.plain;
+        }
+        self.starts.len() + 1
+    }
+
+    /// Whether each byte of the path stands for itself.
+    pub(crate) fn is_plain(&self) -> bool
+        ensures { (word : Word) → IsPathOf word self.now → result ≡ list_all is_plain self.now.bytes.items }
+    {
+        self.plain == self.starts.len()
     }
 }
 

@@ -9,7 +9,6 @@ use Rattle.pua_tree.specs.Spelling.{is_plain, byte_spelling, spelling}
 use Rattle.pua_policy.specs.Calls.{call_name}
 use Rattle.pua_policy.specs.declared.call.Call.{Call}
 use Rattle.pua_audit.specs.Reach.{Word, Pair, path_of}
-use Rattle.pua_audit.specs.Plain.{ArePlain}
 use Rattle.pua_audit.specs.declared.base.Base.{Base}
 use Rattle.pua_tool.specs.Texts.{ended, pair_lines}
 use Rattle.pua_tool.specs.Sinks.{Adds, AddsFront, HasFailed, Writes}
@@ -22,22 +21,9 @@ pub first_line : (base : Base) (word : Word) (call : Call) (path : List ℕ) (le
     → pair_lines base left ≡ ended (spelling path ++ 32 ∷ call_name call) ++ pair_lines base more
 first_line base word call path left more p l = ap (pair_lines base) l ∙ ap (λ text. ended (spelling text ++ 32 ∷ call_name call) ++ pair_lines base more) (sym p)
 
--- where all paths are printed as they are, the first is
-pub first_plain : (base : Base) (word : Word) (call : Call) (path : List ℕ) (left more : List Pair) → path ≡ path_of base word → left ≡ (word, call) ∷ more → ArePlain base left
-    → spelling path ≡ path
-first_plain base word call path left more p l plain = ap spelling p ∙ (subst (λ (ps : List Pair). ArePlain base ps) l plain).0 ∙ sym p
-
--- and so are the others
-pub more_plain : (base : Base) (word : Word) (call : Call) (left more : List Pair) → left ≡ (word, call) ∷ more → ArePlain base left → ArePlain base more
-more_plain base word call left more l plain = (subst (λ (ps : List Pair). ArePlain base ps) l plain).1
-
 -- a blank, a name and LF stand after a spelled path
-pub line_ends : (front path name : List ℕ) → (((front ++ path) ++ 32 ∷ []) ++ name) ++ 10 ∷ [] ≡ front ++ ended (path ++ 32 ∷ name)
-line_ends front path name =
-    append_assoc ((front ++ path) ++ 32 ∷ []) name (10 ∷ [])
-    ∙ append_assoc (front ++ path) (32 ∷ []) (name ++ 10 ∷ [])
-    ∙ append_assoc front path (32 ∷ name ++ 10 ∷ [])
-    ∙ ap (λ r. front ++ r) (sym (append_assoc path (32 ∷ name) (10 ∷ [])))
+pub line_ends : (front path name : List ℕ) → (front ++ path) ++ ended (32 ∷ name) ≡ front ++ ended (path ++ 32 ∷ name)
+line_ends front path name = append_assoc front path (ended (32 ∷ name)) ∙ ap (λ r. front ++ r) (sym (append_assoc path (32 ∷ name) (10 ∷ [])))
 
 -- what stands behind a name is cut off
 pub name_kept : (n : ℕ) (block padded name : List ℕ) → n ≡ length block + length name → take (length name) padded ≡ name → take n (block ++ padded) ≡ block ++ name

@@ -17,9 +17,13 @@ use pua_tree::{are_plain, byte_spelling};
 /// How many bytes the name of a call has at most.
 pub(crate) const MOST_NAME: usize = 8;
 
-/// How many bytes a line has at most: each byte of its path may be spelled by four, and a blank, the
-/// name of a call and LF stand after it.
-pub(crate) const MOST_LINE: usize = 4 * PATH_LIMIT + MOST_NAME + 2;
+/// How many bytes are copied for the end of a line: a blank, the name of a call and LF, and blanks
+/// after them.
+const MOST_END: usize = 16;
+
+/// How many bytes a line takes at most while it is written: each byte of its path may be spelled by
+/// four, and those that are copied for its end stand after it.
+pub(crate) const MOST_LINE: usize = 4 * PATH_LIMIT + MOST_END;
 
 /// How many bytes a block has room for.
 pub(crate) const BLOCK: usize = 65_536;
@@ -37,10 +41,9 @@ pub(crate) fn write_lines<'t, P: Probe<'t>, S: Sink>(
     requires room { BLOCK ≤ vec_capacity block.old }
     ensures { Writes (pair_lines audit.old.base audit.old.left) result (S.written sink.old) (S.written sink.new) (S.failed sink.old) (S.failed sink.new) }
 {
-    let plain = audit.is_plain();
     while let Some(pair) = audit.next_line(probe) {
         make_room(block, sink)?;
-        add_line(block, plain, pair.path, pair.call);
+        add_line(block, pair.plain, pair.path, pair.call);
     }
     put_all(sink, block.as_slice())
 }
@@ -73,9 +76,46 @@ fn add_line(block: &mut Vec<u8>, plain: bool, path: &[u8], call: Call)
     ensures room { vec_capacity block.old ≤ vec_capacity block.new }
 {
     add_printed(block, plain, path);
-    block.push_reserved(b' ');
-    add_call(block, call);
-    block.push_reserved(b'\n');
+    add_end(block, call);
+}
+
+/// Adds the end of a line, a blank, the name of a call and LF, to a block that has room for what is
+/// copied. A copy of so many bytes as the program knows beforehand is quick, so the blanks after LF
+/// are copied too, and cut off again.
+#[inline(always)]
+fn add_end(block: &mut Vec<u8>, call: Call)
+    requires { vec_len block.old + MOST_END ≤ vec_capacity block.old }
+    ensures end { block.new.items ≡ block.old.items ++ ended (32 ∷ call_name call) }
+    ensures room { vec_capacity block.old ≤ vec_capacity block.new }
+{
+    let padded = padded_end(call);
+    let end = block.len() + call.name().len() + 2;
+    block.extend_from_slice(padded).unwrap();
+    block.truncate(end);
+}
+
+/// A blank, the name of a call and LF, with blanks after them.
+fn padded_end(call: Call) -> &'static [u8]
+    ensures end { take (length (call_name call) + 2) result.now ≡ ended (32 ∷ call_name call) }
+    ensures width { length result.now ≡ MOST_END }
+    ensures short { length (call_name call) + 2 ≤ MOST_END }
+{
+    match call {
+        Call::Stat => b" stat\n          ",
+        Call::Lstat => b" lstat\n         ",
+        Call::Readlink => b" readlink\n      ",
+        Call::OpenRead => b" open-r\n        ",
+        Call::OpenWrite => b" open-w\n        ",
+        Call::OpenBoth => b" open-rw\n       ",
+        Call::Create => b" create\n        ",
+        Call::Mkdir => b" mkdir\n         ",
+        Call::Rmdir => b" rmdir\n         ",
+        Call::Unlink => b" unlink\n        ",
+        Call::Symlink => b" symlink\n       ",
+        Call::Chmod => b" chmod\n         ",
+        Call::Chdir => b" chdir\n         ",
+        Call::Exec => b" exec\n          ",
+    }
 }
 
 /// Adds a path, or a name of one, to a block as it is printed. Where each byte is spelled by itself, it

@@ -6,15 +6,11 @@ use Rattle.pua_audit.specs.Lent.{IsNextLine}
 use Rattle.pua_audit.specs.declared.line.Line.{Line}
 use Rattle.pua_tool.specs.Texts.{pair_lines}
 use Rattle.pua_tool.proofs.Putting.{HasPut, has_put_fails}
-use Rattle.pua_tool.proofs.Pairs.{first_line, first_plain, more_plain, line_put, last_put}
+use Rattle.pua_tool.proofs.Pairs.{first_line, spelling_plain, line_put, last_put}
 use Rattle.pua_tool.proofs.line.write_lines.Goals as goal
 
 pub add_line-requires-clause-plain : goal.add_line-requires-clause-plain
-add_line-requires-clause-plain g c =
-    let next = subst (λ (given : Option Line). IsNextLine c.loop-pair.audit given c.next_line.follows.lender-at-none) c.in-Some.is c.next_line.follows.holds-at-none in
-    let base = c.args.audit.now.base in
-    λ is. first_plain base next.2.0 c.in-Some.pair.call c.in-Some.pair.path.now c.loop-pair.audit.left c.next_line.follows.lender-at-none.left
-    (next.2.1.0 ∙ ap (λ b. path_of b next.2.0) c.loop-pair.invariant.base) next.2.1.1 (c.loop-pair.invariant.plain is)
+add_line-requires-clause-plain g c = λ is. spelling_plain c.in-Some.pair.path.now (sym c.in-Some.ensures.plain ∙ is)
 
 pub loop-pair-preserved : goal.loop-pair-preserved
 loop-pair-preserved g c =
@@ -27,7 +23,6 @@ loop-pair-preserved g c =
     record {
       tree = c.in-Some.ensures.tree ∙ c.loop-pair.invariant.tree ∙ sym next.0;
       base = next.1 ∙ c.loop-pair.invariant.base;
-      plain = λ is. more_plain base next.2.0 c.in-Some.pair.call left more next.2.1.1 (c.loop-pair.invariant.plain is);
       room = search rules;
       put = line_put _ _ _ _ _ (pair_lines base left) (pair_lines base more) _ _ _ c.loop-pair.invariant.put c.in_ok-make_room.ensures.handed c.add_line.ensures.line lines;
       unfailed = c.in_ok-make_room.ensures.unfailed ∙ c.loop-pair.invariant.unfailed;

@@ -1,6 +1,4 @@
 use Rattle.std.proofs.Common.{◌≡◌, ◌≤◌, ◌++◌, length, vec_capacity}
-use Rattle.std.specs.Prelude.{IsTrue}
-use Rattle.pua_audit.specs.Plain.{ArePlain}
 use Rattle.pua_tool.specs.Texts.{pair_lines}
 use Rattle.pua_tool.proofs.Putting.{HasPut}
 use Rattle.pua_tool.proofs.line.write_lines.Given as goal
@@ -10,7 +8,6 @@ abbrev pub invariant-loop-pair : goal.invariant-loop-pair
 invariant-loop-pair g l = record {
   tree : g.P.Probe.tree l.probe ≡ l.audit.tree;
   base : l.audit.base ≡ l.fn.audit.base;
-  plain : IsTrue l.plain → ArePlain l.fn.audit.base l.audit.left;
   room : 65536 ≤ vec_capacity l.block;
   put : HasPut (pair_lines l.fn.audit.base l.fn.audit.left) (l.block.items ++ pair_lines l.fn.audit.base l.audit.left) (g.S.Sink.written l.fn.sink) (g.S.Sink.written l.sink);
   unfailed : g.S.Sink.failed l.sink ≡ g.S.Sink.failed l.fn.sink;

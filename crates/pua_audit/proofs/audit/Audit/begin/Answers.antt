@@ -8,12 +8,10 @@ use Rattle.pua_audit.specs.Reach.{Scope, rest_after}
 use Rattle.pua_audit.specs.Begin.{Beginning, beginning}
 use Rattle.pua_audit.specs.Live.{live_states}
 use Rattle.pua_audit.specs.Alphabets.{AreParts}
-use Rattle.pua_audit.specs.Plain.{is_plain_alphabet}
 use Rattle.pua_audit.specs.Ready.{part_bytes, letters_of, scope_in}
 use Rattle.pua_audit.specs.Starting.{pair_in, scope_with, beginning_with}
 use Rattle.pua_audit.specs.declared.fault.AuditFault.{AuditFault}
 use Rattle.pua_audit.specs.declared.terms.Terms.{Terms}
-use Rattle.pua_audit.proofs.PlainPaths.{marked}
 use Rattle.pua_audit.proofs.Pasts.{stands_for_past, rest_by_process, live_by_process}
 use Rattle.pua_audit.proofs.audit.Audit.begin.Goals as goal
 
@@ -48,11 +46,7 @@ returns-clause-begun g c = λ h stands.
     )
 
 pub invariant_of-result : goal.invariant_of-result
-invariant_of-result g c = (
-  c.in-Ok-begin.ensures.ready,
-  marked c.are_plain-plain.result c.in-Ok-begin.pairs c.in-Ok-new.terms _ (c.are_plain-plain.ensures ∙ ap (λ (ls : List Part). is_plain_alphabet (map part_bytes ls)) c.as_slice.ensures.value)
-      c.in-Ok-begin.ensures.terms c.in-Ok-begin.ensures.left,
-)
+invariant_of-result g c = c.in-Ok-begin.ensures.ready
 
 abbrev alphabet_in : Result Beginning AuditFault → List (List ℕ)
 alphabet_in (Ok b) = b.scope.alphabet

@@ -1,7 +1,8 @@
-use Rattle.std.proofs.Common.{◌≡◌, ◌+◌, ◌<◌, ◌≤◌, ℕ, length, take, get_or, sym, ap, ◌∙◌, arith, subst}
+use Rattle.std.proofs.Common.{◌≡◌, ◌+◌, ◌<◌, ◌≤◌, ℕ, length, take, get_or, min, sym, ap, ◌∙◌, arith, subst}
 use Rattle.pua_audit.specs.Reach.{Word, from_root}
 use Rattle.pua_audit.specs.WordPaths.{IsPathOf}
 use Rattle.pua_audit.proofs.WordPaths.{length-starts, start_at, starts-take, root-take, take_whole}
+use Rattle.pua_audit.proofs.PlainPaths.{front-take}
 use Rattle.pua_audit.proofs.path.WordPath.keep.Goals as goal
 
 pub returns-then-letters-len-clause-path : goal.returns-then-letters-len-clause-path
@@ -18,4 +19,5 @@ returns-clause-path c = λ word is.
     record {
       bytes = c.truncate.ensures.items ∙ ap (take c.index-start.result.now) is.bytes ∙ ap (λ n. take n (from_root word)) start ∙ root-take k word;
       starts = c.truncate-2.ensures.items ∙ ap (take k) is.starts ∙ starts-take k 0 word;
+      plain = c.min-self.ensures ∙ ap (λ n. min n k) is.plain ∙ sym (front-take k word);
     }
