@@ -44,7 +44,7 @@ pub struct Walk {
 impl Walk {
     /// A walk with all pairs ahead of it, by words of at most `limit` letters: `calls` are the calls of
     /// the empty word, and `base` is the state in which the first letter stands, if there is one. It
-    /// reserves all that the walk will need, and reads no letter. The one error is that a growth was
+    /// reserves all that the walk will need, and counts no letter. The one error is that a growth was
     /// refused, after which nothing is kept.
     pub fn begin(
         alloc: Global,
@@ -175,27 +175,29 @@ impl Walk {
             × IsTurned (left_over self.old self.old.frames.items) result self.new n) }
         ensures unchanged { StaysFront self.old.unchanged self.old.word.items self.new.unchanged self.new.word.items }
     {
-        while let Some(mut frame) = self.frames.pop() {
-            let left = self.limit - self.word.len() - 1;
+        while !self.frames.is_empty() {
+            let deepest = self.frames.len() - 1;
+            let left = self.limit - deepest - 1;
             if let Some(visit) = next_visit(
                 &self.steps,
                 &self.lists,
                 &self.live,
                 left,
-                &mut frame,
+                &mut self.frames[deepest],
                 &mut self.seen,
             ) {
                 self.unchanged = self.unchanged.min(self.word.len());
-                self.enter(frame, visit);
+                self.go_by(visit);
                 return true;
             }
+            let _ = self.frames.pop();
             let _ = self.word.pop();
         }
         self.unchanged = 0;
         false
     }
 
-    /// Goes to the word with one letter more.
+    /// Goes to the word with one letter more, by a frame that is put after the others.
     pub(crate) fn enter(&mut self, frame: Frame, visit: Visit)
         requires words { length self.old.word.items < vec_capacity self.old.word }
         requires frames { length self.old.frames.items < vec_capacity self.old.frames }
@@ -209,6 +211,20 @@ impl Walk {
         ensures there { (self.new.calls ≡ visit.calls) × (self.new.behind ≡ visit.behind) }
     {
         self.frames.push(frame).unwrap();
+        self.go_by(visit);
+    }
+
+    /// Goes to the word with one letter more, by the deepest frame.
+    fn go_by(&mut self, visit: Visit)
+        requires { length self.old.word.items < vec_capacity self.old.word }
+        ensures kept { (self.new.steps ≡ self.old.steps) × (self.new.live ≡ self.old.live)
+            × (self.new.limit ≡ self.old.limit) × (self.new.seen ≡ self.old.seen)
+            × (self.new.lists ≡ self.old.lists) × (self.new.unchanged ≡ self.old.unchanged) }
+        ensures frames { self.new.frames ≡ self.old.frames }
+        ensures room { vec_capacity self.old.word ≤ vec_capacity self.new.word }
+        ensures word { self.new.word.items ≡ self.old.word.items ++ visit.letter ∷ [] }
+        ensures there { (self.new.calls ≡ visit.calls) × (self.new.behind ≡ visit.behind) }
+    {
         self.word.push(visit.letter).unwrap();
         self.calls = visit.calls;
         self.behind = visit.behind;

@@ -25,7 +25,7 @@ first_line base word call path left more p l = ap (pair_lines base) l ∙ ap (λ
 pub line_ends : (front path name : List ℕ) → (front ++ path) ++ ended (32 ∷ name) ≡ front ++ ended (path ++ 32 ∷ name)
 line_ends front path name = append_assoc front path (ended (32 ∷ name)) ∙ ap (λ r. front ++ r) (sym (append_assoc path (32 ∷ name) (10 ∷ [])))
 
--- what stands behind a name is cut off
+-- what stands after a name is cut off
 pub name_kept : (n : ℕ) (block padded name : List ℕ) → n ≡ length block + length name → take (length name) padded ≡ name → take n (block ++ padded) ≡ block ++ name
 name_kept n block padded name many is = ap (λ k. take k (block ++ padded)) many ∙ take-append-add block padded (length name) ∙ ap (λ t. block ++ t) is
 

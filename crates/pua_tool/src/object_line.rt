@@ -141,7 +141,7 @@ fn add_next(block: &mut Vec<u8>, is_first: bool, call: Call)
     add_call(block, call);
 }
 
-/// Adds bytes that are no more than the longest line of an audit.
+/// Adds bytes: no more than a line of an audit takes while it is written.
 fn add_bytes<S: Sink>(block: &mut Vec<u8>, bytes: &[u8], sink: &mut S) -> Result<(), PutFault>
     requires short { length bytes.now ≤ MOST_LINE }
     requires room { BLOCK ≤ vec_capacity block.old }

@@ -1,4 +1,4 @@
-use Rattle.std.proofs.Common.{◌≡◌, ◌≤◌, ◌+◌, List, ℕ, length, sym, ap, ◌∙◌, arith}
+use Rattle.std.proofs.Common.{◌≤◌, List, ℕ, length, sym, ap, ◌∙◌, arith}
 use Rattle.pua_audit.specs.Ready.{part_bytes}
 use Rattle.pua_audit.specs.WordPaths.{plain_front}
 use Rattle.pua_audit.proofs.PlainPaths.{push_after, push_escaped, push_plain}

@@ -1,7 +1,7 @@
-use Rattle.std.proofs.Common.{◌<◌, ◌^◌, true, ◌≡◌, ◌+◌, ◌-◌, length, [], ◌∷◌, ◌++◌, refl, sym, arith, ◌∙◌, ap, subst}
+use Rattle.std.proofs.Common.{◌<◌, ◌^◌, ℕ, List, true, ◌≡◌, ◌+◌, ◌-◌, ◌≤◌, length, take, set, vec_capacity, [], ◌∷◌, ◌++◌, refl, sym, arith, ◌∙◌, ap, subst}
 use Rattle.std.proofs.lemmas.List.{length_push}
 use Rattle.std.proofs.lemmas.Grind.{common_steps}
-use Rattle.std.specs.Prelude.{IfSome}
+use Rattle.std.specs.Prelude.{IfSome, option_to_list}
 use Rattle.pua_steps.proofs.Entering.{entered_ready}
 use Rattle.pua_steps.specs.Table.{IsState}
 use Rattle.pua_steps.specs.Lists.{IsOpen, narrow_of, rest_of}
@@ -9,17 +9,18 @@ use Rattle.pua_steps.specs.Live.{live_of}
 use Rattle.pua_steps.specs.Calls.{calls_of}
 use Rattle.pua_steps.specs.Trail.{ahead}
 use Rattle.pua_steps.specs.Ready.{IsCounted, looks, AreOpen, rests_of}
+use Rattle.pua_steps.specs.declared.frame.Frame.{Frame}
 use Rattle.pua_steps.specs.declared.steps.Steps.{Steps}
 use Rattle.pua_steps.specs.declared.live.Live as table
 use Rattle.pua_steps.specs.declared.lists.Lists.{Lists}
 use Rattle.pua_steps.proofs.Seeks.{counted_none, counted_more, looks_zero, looks-looks}
 use Rattle.pua_steps.proofs.Listing.{longer_none}
 use Rattle.pua_steps.proofs.Front.{longer_popped, front_by, front_gone}
-use Rattle.pua_steps.proofs.Turning.{all_front, taken_by, left_by, none_left, all_over}
+use Rattle.pua_steps.proofs.Turning.{all_front, front_taken, last_set, last_split, taken_by, left_by, none_left, all_over}
 use Rattle.pua_steps.proofs.walk.Walk.turn.Goals as goal
 
-pub loop-frame-init : goal.loop-frame-init
-loop-frame-init c = record {
+pub loop-self-init : goal.loop-self-init
+loop-self-init c = record {
   same = record { steps = refl; live = refl; lists = refl; limit = refl };
   sound = c.requires.sound;
   states = c.requires.states;
@@ -34,22 +35,32 @@ loop-frame-init c = record {
 
 pub next_visit-requires-clause-open : goal.next_visit-requires-clause-open
 next_visit-requires-clause-open c =
-    let a = c.loop-frame.self in
-    (all_front (λ f. IsOpen a.steps a.lists f) c.pop.new.self.items c.in-Some.frame (subst (AreOpen a.steps a.lists) c.in-Some.ensures.items c.loop-frame.invariant.states)).1
+    let a = c.loop-self.self in
+    let k : ℕ = c.len-deepest.result - 1 in
+    let f : Frame = c.index_mut.result.now in
+    let front : List Frame = take k a.frames.items in
+    let split : a.frames.items ≡ front ++ f ∷ [] = last_split a.frames.items k f (grind (arith, common_steps)) c.index_mut.ensures.value in
+    (all_front (λ f. IsOpen a.steps a.lists f) front f (subst (AreOpen a.steps a.lists) split c.loop-self.invariant.states)).1
 
-pub returns-in-Some-next_visit-clause-next : goal.returns-in-Some-next_visit-clause-next
-returns-in-Some-next_visit-clause-next c =
-    let a = c.loop-frame.self in
-    let b = c.enter.new.self in
-    let far = c.loop-frame.invariant.so_far in
-    let got = c.in-Some-next_visit.ensures.next in
-    let kept = c.enter.ensures.kept in
-    let split : a.frames.items ≡ c.pop.new.self.items ++ c.in-Some.frame ∷ [] = c.in-Some.ensures.items in
-    let even : length c.pop.new.self.items ≡ length a.word.items = omega (arith, ap length split, length_push c.pop.new.self.items c.in-Some.frame, c.loop-frame.invariant.framed) in
+pub returns-in-Some-clause-next : goal.returns-in-Some-clause-next
+returns-in-Some-clause-next c =
+    let a = c.loop-self.self in
+    let b = c.go_by.new.self in
+    let far = c.loop-self.invariant.so_far in
+    let got = c.in-Some.ensures.next in
+    let kept = c.go_by.ensures.kept in
+    let k : ℕ = c.len-deepest.result - 1 in
+    let f : Frame = c.index_mut.result.now in
+    let front : List Frame = take k a.frames.items in
+    let split : a.frames.items ≡ front ++ f ∷ [] = last_split a.frames.items k f (grind (arith, common_steps)) c.index_mut.ensures.value in
+    let low : k ≡ length front = omega (arith, ap length split, length_push front f, c.len-deepest.ensures) in
+    let pushed : b.frames.items ≡ front ++ c.next_visit.new.frame ∷ [] =
+    ap (λ v. v.items) c.go_by.ensures.frames ∙ ap (λ (fs : List Frame). set fs k c.next_visit.new.frame) split ∙ last_set front f c.next_visit.new.frame k low in
+    let even : length front ≡ length a.word.items = omega (arith, ap length split, length_push front f, c.loop-self.invariant.framed) in
     let e =
     far.1.1
-    ∙ ap (looks far.0) (taken_by (narrow_of a.steps a.live) (live_of a.live) a.limit (rest_of a.steps a.lists) a.word.items a.frames.items c.pop.new.self.items c.in-Some.frame got.0 split even (a.limit - c.len.result - 1) (omega (arith, c.len.ensures)) c.in-Some-next_visit.visit c.next_visit.new.frame b.word.items b.frames.items b.calls b.behind
-    got.1.1.next.1 c.enter.ensures.frames c.enter.ensures.word c.enter.ensures.there.0 c.enter.ensures.there.1)
+    ∙ ap (looks far.0) (taken_by (narrow_of a.steps a.live) (live_of a.live) a.limit (rest_of a.steps a.lists) a.word.items a.frames.items front f got.0 split even (a.limit - k - 1) (omega (arith, c.len-deepest.ensures, c.loop-self.invariant.framed)) c.in-Some.visit c.next_visit.new.frame b.word.items b.frames.items b.calls b.behind
+    got.1.1.next.1 pushed c.go_by.ensures.word c.go_by.ensures.there.0 c.go_by.ensures.there.1)
     ∙ looks-looks far.0 got.0 _
     ∙ ap (λ (t : Steps). looks (far.0 + got.0) (ahead (narrow_of t a.live) (live_of a.live) a.limit b.word.items (calls_of b.calls) b.behind (rests_of t a.lists b.frames.items))) (sym kept.0)
     ∙ ap (λ (v : table.Live). looks (far.0 + got.0) (ahead (narrow_of b.steps v) (live_of v) a.limit b.word.items (calls_of b.calls) b.behind (rests_of b.steps a.lists b.frames.items))) (sym kept.1)
@@ -57,75 +68,91 @@ returns-in-Some-next_visit-clause-next c =
     ∙ ap (λ (ls : Lists). looks (far.0 + got.0) (ahead (narrow_of b.steps b.live) (live_of b.live) b.limit b.word.items (calls_of b.calls) b.behind (rests_of b.steps ls b.frames.items))) (sym kept.4) in
     (far.0 + got.0, (subst (λ k. IsCounted c.args.self.now.seen (far.0 + got.0) k) (sym kept.3) (counted_more c.args.self.now.seen far.0 got.0 a.seen c.next_visit.new.seen far.1.0 got.1.0), record { next = (omega (arith, got.1.1.next.0), e); over = λ h. absurd cc }))
 
-pub loop-frame-preserved : goal.loop-frame-preserved
-loop-frame-preserved c =
-    let a = c.loop-frame.self in
-    let inv = c.loop-frame.invariant in
+pub loop-self-preserved : goal.loop-self-preserved
+loop-self-preserved c =
+    let a = c.loop-self.self in
+    let inv = c.loop-self.invariant in
     let far = inv.so_far in
-    let got = c.in_default-next_visit.ensures.next in
-    let split : a.frames.items ≡ c.pop.new.self.items ++ c.in-Some.frame ∷ [] = c.in-Some.ensures.items in
-    let even : length c.pop.new.self.items ≡ length a.word.items = omega (arith, ap length split, length_push c.pop.new.self.items c.in-Some.frame, inv.framed) in
+    let got = c.in_default.ensures.next in
+    let k : ℕ = c.len-deepest.result - 1 in
+    let f : Frame = c.index_mut.result.now in
+    let front : List Frame = take k a.frames.items in
+    let split : a.frames.items ≡ front ++ f ∷ [] = last_split a.frames.items k f (grind (arith, common_steps)) c.index_mut.ensures.value in
+    let rest : List Frame = c.pop.new.self.items in
+    let low : k ≡ length front = omega (arith, ap length split, length_push front f, c.len-deepest.ensures) in
+    let g : Frame = c.next_visit.new.frame in
+    let whole : set a.frames.items k g ≡ front ++ g ∷ [] = ap (λ (fs : List Frame). set fs k g) split ∙ last_set front f g k low in
+    let size : length (set a.frames.items k g) ≡ length front + 1 = ap length whole ∙ length_push front g in
+    let many : k ≡ length rest = grind (arith, common_steps, size, low) in
+    let popped : rest ≡ front = sym (front_taken rest (option_to_list c.pop.result) k many) ∙ ap (take k) (sym c.pop.ensures.items ∙ whole) ∙ front_taken front (g ∷ []) k low in
+    let last : a.frames.items ≡ rest ++ f ∷ [] = split ∙ ap (λ fs. fs ++ f ∷ []) (sym popped) in
+    let even : length rest ≡ length a.word.items = omega (arith, ap length last, length_push rest f, inv.framed) in
     let e =
     far.1.1
-    ∙ ap (looks far.0) (left_by (narrow_of a.steps a.live) (live_of a.live) a.limit (rest_of a.steps a.lists) a.word.items a.frames.items c.pop.new.self.items c.in-Some.frame got.0 split even (a.limit - c.len.result - 1) (omega (arith, c.len.ensures)) c.pop-in-Some.new.self.items c.pop-in-Some.result
-    got.1.1.next c.pop-in-Some.ensures.items)
+    ∙ ap (looks far.0) (left_by (narrow_of a.steps a.live) (live_of a.live) a.limit (rest_of a.steps a.lists) a.word.items a.frames.items rest f got.0 last even (a.limit - k - 1) (omega (arith, c.len-deepest.ensures, c.loop-self.invariant.framed)) c.pop-in-loop-self.new.self.items c.pop-in-loop-self.result
+    got.1.1.next c.pop-in-loop-self.ensures.items)
     ∙ looks-looks far.0 got.0 _ in
     record {
       same = record { steps = inv.same.steps; live = inv.same.live; lists = inv.same.lists; limit = inv.same.limit };
       sound = record { table = inv.sound.table; sized = inv.sound.sized; listed = inv.sound.listed; room = record { words = grind (arith, common_steps); frames = grind (arith, common_steps) } };
-      states = (all_front (λ f. IsOpen a.steps a.lists f) c.pop.new.self.items c.in-Some.frame (subst (AreOpen a.steps a.lists) split inv.states)).0;
+      states = (all_front (λ f. IsOpen a.steps a.lists f) rest f (subst (AreOpen a.steps a.lists) last inv.states)).0;
       calls = inv.calls;
       behind = inv.behind;
       framed = grind (arith, common_steps);
-      most = omega (arith, ap length split, length_push c.pop.new.self.items c.in-Some.frame, inv.most);
+      most = omega (arith, ap length last, length_push rest f, inv.most);
       unchanged = inv.unchanged;
-      front = longer_popped c.pop-in-Some.new.self.items a.word.items c.args.self.now.word.items c.pop-in-Some.result c.pop-in-Some.ensures.items inv.front;
+      front = longer_popped c.pop-in-loop-self.new.self.items a.word.items c.args.self.now.word.items c.pop-in-loop-self.result c.pop-in-loop-self.ensures.items inv.front;
       so_far = (far.0 + got.0, (counted_more c.args.self.now.seen far.0 got.0 a.seen c.next_visit.new.seen far.1.0 got.1.0, e));
     }
 
 pub returns-clause-next : goal.returns-clause-next
 returns-clause-next c =
-    let a = c.loop-frame.self in
-    let inv = c.loop-frame.invariant in
+    let a = c.loop-self.self in
+    let inv = c.loop-self.invariant in
     let far = inv.so_far in
-    let none : length a.frames.items ≡ 0 = omega (arith, c.in_default.ensures.cases) in
-    let empty : length c.pop.new.self.items ≡ 0 = omega (arith, none, c.in_default.ensures.len) in (
+    let none : length a.frames.items ≡ 0 = grind (arith, common_steps) in (
       far.0,
       (
         far.1.0,
         record {
           next = far.1.1 ∙ ap (looks far.0) (none_left (narrow_of a.steps a.live) (live_of a.live) a.limit (rest_of a.steps a.lists) a.word.items a.frames.items none);
-          over = λ _. all_over (narrow_of a.steps a.live) (live_of a.live) a.limit (rest_of a.steps a.lists) a.word.items a.calls a.behind c.pop.new.self.items inv.calls inv.behind empty;
+          over = λ _. all_over (narrow_of a.steps a.live) (live_of a.live) a.limit (rest_of a.steps a.lists) a.word.items a.calls a.behind a.frames.items inv.calls inv.behind none;
         },
       ),
     )
 
-pub returns-in-Some-next_visit-clause-ready : goal.returns-in-Some-next_visit-clause-ready
-returns-in-Some-next_visit-clause-ready c =
-    let a = c.loop-frame.self in
-    let b = c.enter.new.self in
-    let inv = c.loop-frame.invariant in
-    let kept = c.enter.ensures.kept in
-    let given = c.in-Some-next_visit.ensures.given in
-    let split : a.frames.items ≡ c.pop.new.self.items ++ c.in-Some.frame ∷ [] = c.in-Some.ensures.items in
-    let even : length c.pop.new.self.items ≡ length a.word.items = omega (arith, ap length split, length_push c.pop.new.self.items c.in-Some.frame, inv.framed) in
-    let short : length a.word.items < a.limit = omega (arith, ap length split, length_push c.pop.new.self.items c.in-Some.frame, even, inv.most) in
-    let left : a.limit - c.len.result - 1 ≡ a.limit - length a.word.items - 1 = omega (arith, c.len.ensures) in
-    let stands = subst (λ o. IfSome o (λ s. IsState a.steps s × (live_of a.live (a.limit - length a.word.items - 1) s ≡ true))) (sym c.enter.ensures.there.1)
-    (subst (λ n. IfSome c.in-Some-next_visit.visit.behind (λ s. IsState a.steps s × (live_of a.live n s ≡ true))) left given.behind) in
-    entered_ready a.steps a.live a.lists a.limit a.word.items c.pop.new.self.items c.next_visit.new.frame c.in-Some-next_visit.visit.letter b inv.sound.table inv.sound.sized inv.sound.listed
-    (all_front (λ f. IsOpen a.steps a.lists f) c.pop.new.self.items c.in-Some.frame (subst (AreOpen a.steps a.lists) split inv.states)).0 c.next_visit.ensures.open
-    (subst (λ n. n < 2 ^ 14) (sym c.enter.ensures.there.0) given.calls) stands even short kept.0 kept.1 kept.4 kept.2
-    (omega (arith, inv.sound.room.words, c.enter.ensures.room.0)) (omega (arith, inv.sound.room.frames, c.pop.ensures.capacity, c.enter.ensures.room.1)) c.enter.ensures.word c.enter.ensures.frames (omega (arith, kept.5, c.min-self.ensures, c.len-in-Some-next_visit.ensures))
+pub returns-in-Some-clause-ready : goal.returns-in-Some-clause-ready
+returns-in-Some-clause-ready c =
+    let a = c.loop-self.self in
+    let b = c.go_by.new.self in
+    let inv = c.loop-self.invariant in
+    let kept = c.go_by.ensures.kept in
+    let given = c.in-Some.ensures.given in
+    let k : ℕ = c.len-deepest.result - 1 in
+    let f : Frame = c.index_mut.result.now in
+    let front : List Frame = take k a.frames.items in
+    let split : a.frames.items ≡ front ++ f ∷ [] = last_split a.frames.items k f (grind (arith, common_steps)) c.index_mut.ensures.value in
+    let low : k ≡ length front = omega (arith, ap length split, length_push front f, c.len-deepest.ensures) in
+    let pushed : b.frames.items ≡ front ++ c.next_visit.new.frame ∷ [] =
+    ap (λ v. v.items) c.go_by.ensures.frames ∙ ap (λ (fs : List Frame). set fs k c.next_visit.new.frame) split ∙ last_set front f c.next_visit.new.frame k low in
+    let even : length front ≡ length a.word.items = omega (arith, ap length split, length_push front f, inv.framed) in
+    let short : length a.word.items < a.limit = omega (arith, ap length split, length_push front f, even, inv.most) in
+    let left : a.limit - k - 1 ≡ a.limit - length a.word.items - 1 = omega (arith, c.len-deepest.ensures, inv.framed) in
+    let stands = subst (λ o. IfSome o (λ s. IsState a.steps s × (live_of a.live (a.limit - length a.word.items - 1) s ≡ true))) (sym c.go_by.ensures.there.1)
+    (subst (λ n. IfSome c.in-Some.visit.behind (λ s. IsState a.steps s × (live_of a.live n s ≡ true))) left given.behind) in
+    entered_ready a.steps a.live a.lists a.limit a.word.items front c.next_visit.new.frame c.in-Some.visit.letter b inv.sound.table inv.sound.sized inv.sound.listed
+    (all_front (λ f. IsOpen a.steps a.lists f) front f (subst (AreOpen a.steps a.lists) split inv.states)).0 c.next_visit.ensures.open
+    (subst (λ n. n < 2 ^ 14) (sym c.go_by.ensures.there.0) given.calls) stands even short kept.0 kept.1 kept.4 kept.2
+    (omega (arith, inv.sound.room.words, c.go_by.ensures.room)) (subst (λ v. a.limit ≤ vec_capacity v) (sym c.go_by.ensures.frames) inv.sound.room.frames) c.go_by.ensures.word pushed (omega (arith, kept.5, c.min-self.ensures, c.len.ensures))
 
-pub returns-in-Some-next_visit-clause-unchanged : goal.returns-in-Some-next_visit-clause-unchanged
-returns-in-Some-next_visit-clause-unchanged c =
-    let a = c.loop-frame.self in
+pub returns-in-Some-clause-unchanged : goal.returns-in-Some-clause-unchanged
+returns-in-Some-clause-unchanged c =
+    let a = c.loop-self.self in
     let old = c.args.self.now in
-    let b = c.enter.new.self in
-    let kept = c.enter.ensures.kept in
-    front_by old.unchanged b.unchanged old.word.items a.word.items (c.in-Some-next_visit.visit.letter ∷ []) b.word.items c.loop-frame.invariant.front c.enter.ensures.word (omega (arith, kept.5, c.min-self.ensures, c.len-in-Some-next_visit.ensures))
-    (omega (arith, kept.5, c.min-self.ensures, c.loop-frame.invariant.unchanged))
+    let b = c.go_by.new.self in
+    let kept = c.go_by.ensures.kept in
+    front_by old.unchanged b.unchanged old.word.items a.word.items (c.in-Some.visit.letter ∷ []) b.word.items c.loop-self.invariant.front c.go_by.ensures.word (omega (arith, kept.5, c.min-self.ensures, c.len.ensures))
+    (omega (arith, kept.5, c.min-self.ensures, c.loop-self.invariant.unchanged))
 
 pub returns-clause-unchanged : goal.returns-clause-unchanged
-returns-clause-unchanged c = front_gone c.args.self.now.unchanged 0 c.args.self.now.word.items c.loop-frame.self.word.items refl
+returns-clause-unchanged c = front_gone c.args.self.now.unchanged 0 c.args.self.now.word.items c.loop-self.self.word.items refl

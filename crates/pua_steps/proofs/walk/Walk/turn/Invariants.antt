@@ -3,8 +3,8 @@ use Rattle.pua_steps.specs.Ready.{IsCounted, looks, left_over, AreOpen, IsSound,
 use Rattle.pua_steps.specs.Lists.{IsLonger}
 use Rattle.pua_steps.proofs.walk.Walk.turn.Given as goal
 
-abbrev pub invariant-loop-frame : goal.invariant-loop-frame
-invariant-loop-frame l = record {
+abbrev pub invariant-loop-self : goal.invariant-loop-self
+invariant-loop-self l = record {
   same : IsOf l.fn.self l.self;
   sound : IsSound l.self;
   states : AreOpen l.self.steps l.self.lists l.self.frames.items;
@@ -17,5 +17,5 @@ invariant-loop-frame l = record {
   so_far : (n : ℕ) × (IsCounted l.fn.self.seen n l.self.seen × (left_over l.fn.self l.fn.self.frames.items ≡ looks n (left_over l.self l.self.frames.items)));
 }
 
-abbrev pub decreases-loop-frame : goal.decreases-loop-frame
-decreases-loop-frame l = length l.self.frames.items
+abbrev pub decreases-loop-self : goal.decreases-loop-self
+decreases-loop-self l = length l.self.frames.items
