@@ -218,15 +218,37 @@ impl Case {
         Ok(audited.is_some_and(|out| out.bytes() == text.as_slice()))
     }
 
-    /// Whether the audit, resumed after the pair that was drawn, has the filter's lines after it.
-    pub(crate) fn goes_on(&self, alloc: Global, filtered: &Filtered) -> Result<bool> {
-        let rest = filtered
-            .lines
-            .as_bytes()
-            .get(filtered.rest..)
-            .unwrap_or(&[]);
-        let audited = self.audited(alloc, Some(filtered.pair.as_str()))?;
+    /// Whether the audit, resumed after a pair, has what stands in the filter's lines from a byte on.
+    fn goes_on_after(
+        &self,
+        alloc: Global,
+        filtered: &Filtered,
+        pair: &str,
+        rest: usize,
+    ) -> Result<bool> {
+        let rest = filtered.lines.as_bytes().get(rest..).unwrap_or(&[]);
+        let audited = self.audited(alloc, Some(pair))?;
         Ok(audited.is_some_and(|out| out.bytes() == rest))
+    }
+
+    /// Whether the audit, resumed after the pair that was drawn and after each of the filter's lines,
+    /// has the filter's lines after that.
+    pub(crate) fn goes_on(&self, alloc: Global, filtered: &Filtered) -> Result<bool> {
+        if !self.goes_on_after(alloc, filtered, filtered.pair.as_str(), filtered.rest)? {
+            return Ok(false);
+        }
+        let mut end = 0usize;
+        for line in filtered.lines.as_str().lines() {
+            end = end.saturating_add(line.len()).saturating_add(1);
+            let Some((path, call)) = line.rsplit_once(' ') else {
+                return Ok(false);
+            };
+            let pair = format!(in alloc; "{call}:{path}")?;
+            if !self.goes_on_after(alloc, filtered, pair.as_str(), end)? {
+                return Ok(false);
+            }
+        }
+        Ok(true)
     }
 }
 

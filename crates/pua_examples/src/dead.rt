@@ -55,8 +55,16 @@ fn are_names(alloc: Global) -> Result<bool> {
     }
     let script = format!(in alloc; "1 unveil {path} r\n1 unveil - -\n")?;
     let lines = format!(in alloc; "{FRONT}{path} stat\n{path} lstat\n{path} open-r\n")?;
-    for (limit, output) in [("4", FRONT), ("15", FRONT), ("16", lines.as_str())] {
-        if !writes(alloc, tree.as_str(), script.as_str(), limit, output)? {
+    for limit in 4..=16u32 {
+        let output = if limit < 16 { FRONT } else { lines.as_str() };
+        let limit = format!(in alloc; "{limit}")?;
+        if !writes(
+            alloc,
+            tree.as_str(),
+            script.as_str(),
+            limit.as_str(),
+            output,
+        )? {
             return Ok(false);
         }
     }

@@ -48,7 +48,7 @@ pub(crate) fn run(rt: &HostRuntime) -> Result<()> {
     Ok(())
 }
 
-/// Compares the audits from both bases with the filter, whole and resumed after a pair.
+/// Compares the audits from both bases with the filter, whole and resumed after a pair and after each line.
 fn compare(
     rt: &HostRuntime,
     listing: &str,

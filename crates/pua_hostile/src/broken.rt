@@ -56,7 +56,7 @@ const LONG_BYTES: usize = 68_027;
 /// How many bytes stand before the lines of the long audit, and in the first block of them.
 const BEFORE_BLOCK: u64 = 8;
 
-const BLOCK: u64 = 61_462;
+const BLOCK: u64 = 61_430;
 
 /// Room for the longest of the texts.
 const ROOM: usize = 131_072;

@@ -4,6 +4,7 @@ use crate::expect::{expect, expect_at, expect_eq};
 use crate::lent::{begun, lines_of};
 use crate::told::ROOT;
 use pua_audit::{AuditFault, Base};
+use pua_path::Counted;
 use pua_tree::{ListTree, read_listing};
 use std::alloc::Global;
 use std::test::Fail;
@@ -17,9 +18,10 @@ fn lent(
     after: Option<&[u8]>,
 ) -> Result<(Vec<u8>, Vec<u8>), Fail> {
     let mut audit = begun(alloc, tree, base, limit, after)?;
-    let lines = lines_of(alloc, tree, &mut audit)?;
-    let again = lines_of(alloc, tree, &mut audit)?;
-    Ok((lines, again))
+    let mut probe = Counted::new(tree);
+    let all = lines_of(alloc, &mut probe, &mut audit)?;
+    let again = lines_of(alloc, &mut probe, &mut audit)?;
+    Ok((all.lines, again.lines))
 }
 
 #[test]
