@@ -110,7 +110,7 @@ module _ (a : Pairs) (ready : AreReady a) (w : Walk) (of : IsOf a.walk w) (walk 
         sound = subst IsSound (sym terms) ready.sound;
         walk = subst steps.IsReady (sym same) walk;
         limit = ap (λ (v : Walk). v.limit) same ∙ of.limit ∙ ready.limit ∙ sym (ap (λ (t : Terms). t.limit) terms);
-        letters = ap (λ (v : Walk). v.steps.letters) same ∙ ap (λ (t : Steps). t.letters) of.steps ∙ ready.letters ∙ sym (ap (λ (t : Terms). length (letters_of t)) terms);
+        letters = ap (λ (v : Walk). v.tables.steps.letters) same ∙ ap (λ (t : Steps). t.letters) of.steps ∙ ready.letters ∙ sym (ap (λ (t : Terms). length (letters_of t)) terms);
         pairs = subst (λ (t : Terms). AllByRecursion (λ p. IsPair (length (letters_of t)) p) (pairs_of (steps.trail b.walk))) (sym terms)
             (subst (λ (v : Walk). AllByRecursion (λ p. IsPair (length (letters_of a.terms)) p) (pairs_of (steps.trail v))) (sym same) pairs_more.1);
         path = record {

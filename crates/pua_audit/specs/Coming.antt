@@ -44,7 +44,7 @@ pub record AreReady (a : Pairs) : Type 0 where
   pub sound : IsSound a.terms
   pub walk : steps.IsReady a.walk
   pub limit : a.walk.limit ≡ a.terms.limit
-  pub letters : a.walk.steps.letters ≡ length (letters_of a.terms)
+  pub letters : a.walk.tables.steps.letters ≡ length (letters_of a.terms)
   pub pairs : AllByRecursion (λ p. IsPair (length (letters_of a.terms)) p) (pairs_of (steps.trail a.walk))
   pub path : IsPathAlong (letters_of a.terms) a.walk.word.items a.path
   pub bytes : a.terms.limit * suc (longest (letters_of a.terms)) ≤ vec_capacity a.path.bytes

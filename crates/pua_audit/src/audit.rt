@@ -1,11 +1,12 @@
 //! The audit of a process: its reach, pair by pair.
 
-ghost use Rattle.std.specs.Prelude.{◌≡◌, ◌≢◌, ◌≤◌, ◌+◌, Ok, Err, IfOk, IfErr, IfSome, length, map, option_map};
+ghost use Rattle.std.specs.Prelude.{◌*◌, ◌≡◌, ◌≢◌, ◌≤◌, ◌+◌, Ok, Err, IfOk, IfErr, IfSome, length, map, option_map};
 ghost use Rattle.std.specs.Borrow.{sem};
 ghost use Rattle.std.specs.List.{list_all};
 ghost use Rattle.pua_tree.specs.Spelling.{is_plain};
 ghost use Rattle.pua_policy.specs.History.{History, StandsFor};
 ghost use Rattle.pua_audit.specs.Limits.{path_limit};
+ghost use Rattle.pua_steps.specs.Limits.{search_cost};
 ghost use Rattle.pua_audit.specs.Bounds.{begin_cost, letter_count};
 ghost use Rattle.pua_audit.specs.Begin.{Beginning, beginning, still_to_come};
 ghost use Rattle.pua_audit.specs.Lent.{LendsLine};
@@ -44,7 +45,7 @@ impl Model for Audit {
       alphabet = letters_of a.pairs.terms;
       limit = a.pairs.terms.limit;
       live = a.pairs.live;
-      reads = a.pairs.walk.seen;
+      reads = a.pairs.walk.tables.reads;
       left = to_come a.pairs;
     } };
 
@@ -84,7 +85,7 @@ impl Audit {
             beginning (P.tree probe.old) table.now h base (map (λ s. s.now) candidates.now) limit (option_map (λ s. s.now) after.entry) ≡ Ok b → audit.alphabet ≡ b.scope.alphabet) }
         ensures live { IfOk result (λ audit. (h : History) → StandsFor process.now h → (b : Beginning) →
             beginning (P.tree probe.old) table.now h base (map (λ s. s.now) candidates.now) limit (option_map (λ s. s.now) after.entry) ≡ Ok b → audit.live ≡ length (live_states b.scope)) }
-        ensures reads { IfOk result (λ audit. audit.reads ≡ 0) }
+        ensures reads { IfOk result (λ audit. audit.reads ≤ search_cost * limit) }
         ensures limit { IfOk result (λ audit. audit.limit ≡ limit) }
         ensures tree { P.tree probe.new ≡ P.tree probe.old }
         ensures cost { P.count probe.new ≤ P.count probe.old + begin_cost (P.tree probe.old) limit (letter_count (P.tree probe.old) (map (λ s. s.now) candidates.now)) }

@@ -11,7 +11,7 @@ ghost use Rattle.pua_audit.specs.Reach.{rest_after};
 ghost use Rattle.pua_audit.specs.Ready.{IsSound, letters_of, scope_in};
 ghost use Rattle.pua_audit.specs.Starting.{AreLetters, AreSound, pair_in};
 ghost use Rattle.pua_audit.specs.WordPaths.{IsPathAlong, IsPathOf};
-ghost use Rattle.pua_steps.specs.Limits.{call_count};
+ghost use Rattle.pua_steps.specs.Limits.{call_count, search_cost};
 
 use crate::path::WordPath;
 use crate::resume_text::Resumption;
@@ -54,7 +54,7 @@ impl Pairs {
         ensures terms { IfOk result (λ pairs. pairs.terms ≡ terms) }
         ensures left { IfOk result (λ pairs. to_come pairs ≡ rest_after (scope_in terms) (option_map (pair_in (letters_of terms)) after)) }
         ensures live { IfOk result (λ pairs. pairs.live ≡ length (live_states (scope_in terms))) }
-        ensures reads { IfOk result (λ pairs. pairs.walk.seen ≡ 0) }
+        ensures reads { IfOk result (λ pairs. pairs.walk.tables.reads ≤ search_cost * terms.limit) }
         ensures tree { P.tree probe.new ≡ P.tree probe.old }
         ensures cost { P.count probe.new ≤ P.count probe.old + pairs_cost terms.seen.tree (length terms.letters.items) }
     {
@@ -77,7 +77,7 @@ impl Pairs {
         ensures terms { self.new.terms ≡ self.old.terms }
         ensures live { self.new.live ≡ self.old.live }
         ensures next { IsNextCall self.old result self.new }
-        ensures reads { self.new.walk.seen ≤ self.old.walk.seen + 2 * (self.old.terms.limit * length (letters_of self.old.terms)) }
+        ensures reads { self.new.walk.tables.reads ≤ self.old.walk.tables.reads + 2 * (self.old.terms.limit * length (letters_of self.old.terms)) }
     {
         let next = self.walk.next_call();
         self.path.keep(self.walk.unchanged());

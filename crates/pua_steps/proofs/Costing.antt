@@ -66,13 +66,13 @@ states_of P Q None h = tt
 states_of P Q (Some s) h = h.0
 
 -- how many letters are looked at
-pub cost_of : (a : Walk) → IsReady a → (n : ℕ) (es : List Event) → trail a ≡ looks n es → n ≤ 2 * (a.limit * a.steps.letters)
+pub cost_of : (a : Walk) → IsReady a → (n : ℕ) (es : List Event) → trail a ≡ looks n es → n ≤ 2 * (a.limit * a.tables.steps.letters)
 cost_of a ready n es e =
     let known = ready.sound.table in
     let sized = ready.sound.sized in
-    few_visits (narrow_of a.steps a.live) (live_of a.live) a.limit a.steps.letters (λ s. IsState a.steps s) (fits a.steps a.live a.limit known sized) a.word.items (calls_of a.calls) a.behind (rests_of a.steps a.lists a.frames.items) n es
-    (states_of (λ s. IsState a.steps s) (λ s. live_of a.live (a.limit - length a.word.items) s ≡ true) a.behind ready.behind) (rests_are a.steps a.live a.limit known sized a.lists ready.sound.listed.known a.frames.items ready.states)
-    (omega (arith, length-map a.frames.items (rest_of a.steps a.lists), ready.framed, ready.within)) e
+    few_visits (narrow_of a.tables.steps a.tables.live) (live_of a.tables.live) a.limit a.tables.steps.letters (λ s. IsState a.tables.steps s) (fits a.tables.steps a.tables.live a.limit known sized) a.word.items (calls_of a.calls) a.behind (rests_of a.tables.steps a.tables.lists a.frames.items) n es
+    (states_of (λ s. IsState a.tables.steps s) (λ s. live_of a.tables.live (a.limit - length a.word.items) s ≡ true) a.behind ready.behind) (rests_are a.tables.steps a.tables.live a.limit known sized a.tables.lists ready.sound.listed.known a.frames.items ready.states)
+    (omega (arith, length-map a.frames.items (rest_of a.tables.steps a.tables.lists), ready.framed, ready.within)) e
 
 looks-pairs : (n : ℕ) (es : List Event) → pairs_of (looks n es) ≡ pairs_of es
 unfolding looks
@@ -84,6 +84,6 @@ pub pairs_by : (a b : Walk) (result : Option ℕ) (n : ℕ) → MatchOption resu
 pairs_by a b None n is = (ap pairs_of is.0 ∙ looks-pairs n [], ap pairs_of is.1)
 pairs_by a b (Some call) n is = ap pairs_of is ∙ looks-pairs n (Some (b.word.items, call) ∷ trail b)
 
-pub cost_by : (a b : Walk) → IsReady a → (result : Option ℕ) (n : ℕ) → MatchOption result ((trail a ≡ looks n []) × (trail b ≡ [])) (λ call. trail a ≡ looks n (Some (b.word.items, call) ∷ trail b)) → n ≤ 2 * (a.limit * a.steps.letters)
+pub cost_by : (a b : Walk) → IsReady a → (result : Option ℕ) (n : ℕ) → MatchOption result ((trail a ≡ looks n []) × (trail b ≡ [])) (λ call. trail a ≡ looks n (Some (b.word.items, call) ∷ trail b)) → n ≤ 2 * (a.limit * a.tables.steps.letters)
 cost_by a b ready None n is = cost_of a ready n [] is.0
 cost_by a b ready (Some call) n is = cost_of a ready n (Some (b.word.items, call) ∷ trail b) is

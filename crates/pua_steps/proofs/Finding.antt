@@ -19,6 +19,9 @@ use Rattle.pua_steps.proofs.Visits.{some_at, all_at, row_missing, visit_is}
 use Rattle.pua_steps.proofs.Listing.{all_within, drop-drop, list_rises}
 use Rattle.pua_steps.proofs.Splitting.{Cut, cut_at, split_missed, split_found}
 
+abbrev pub no_entry : Entry
+no_entry = record { letter = 0; all = 0; kept = 0; links = 0; to = None }
+
 -- letters rise along entries
 
 least : (next : ℕ) (es : List Entry) (d : Entry) → Rising next es → (j : ℕ) → j < length es → next ≤ (get_or es j d).letter

@@ -48,11 +48,11 @@ rests_of t ls frames = map (rest_of t ls) frames
 
 -- what is still to be done
 abbrev pub trail : Walk → List Event
-trail a = ahead (narrow_of a.steps a.live) (live_of a.live) a.limit a.word.items (calls_of a.calls) a.behind (rests_of a.steps a.lists a.frames.items)
+trail a = ahead (narrow_of a.tables.steps a.tables.live) (live_of a.tables.live) a.limit a.word.items (calls_of a.calls) a.behind (rests_of a.tables.steps a.tables.lists a.frames.items)
 
 -- what frames leave
 abbrev pub left_over : Walk → List Frame → List Event
-left_over a frames = pending (narrow_of a.steps a.live) (live_of a.live) a.limit 0 a.word.items (rests_of a.steps a.lists frames)
+left_over a frames = pending (narrow_of a.tables.steps a.tables.live) (live_of a.tables.live) a.limit 0 a.word.items (rests_of a.tables.steps a.tables.lists frames)
 
 pub record HasRoom (a : Walk) : Type 0 where
   pub words : a.limit ≤ vec_capacity a.word
@@ -63,17 +63,17 @@ AreOpen t ls frames = AllByRecursion (λ f. IsOpen t ls f) frames
 
 -- the tables, of which a walk changes nothing
 pub record IsSound (a : Walk) : Type 0 where
-  pub table : IsTable a.steps
-  pub sized : IsSized a.steps a.live a.limit
-  pub listed : IsListed a.steps a.live a.limit a.lists
+  pub table : IsTable a.tables.steps
+  pub sized : IsSized a.tables.steps a.tables.live a.limit
+  pub listed : IsListed a.tables.steps a.tables.live a.limit a.tables.lists
   pub room : HasRoom a
 
 -- each letter of the word has its frame
 pub record IsReady (a : Walk) : Type 0 where
   pub sound : IsSound a
-  pub states : AreOpen a.steps a.lists a.frames.items
+  pub states : AreOpen a.tables.steps a.tables.lists a.frames.items
   pub calls : a.calls < 2 ^ call_count
-  pub behind : IfSome a.behind (λ s. IsState a.steps s × (live_of a.live (a.limit - length a.word.items) s ≡ true))
+  pub behind : IfSome a.behind (λ s. IsState a.tables.steps s × (live_of a.tables.live (a.limit - length a.word.items) s ≡ true))
   pub framed : length a.frames.items ≡ length a.word.items
   pub within : length a.word.items ≤ a.limit
   pub unchanged : a.unchanged ≤ length a.word.items
@@ -81,7 +81,7 @@ pub record IsReady (a : Walk) : Type 0 where
 -- the deepest frame waits for a letter
 pub record IsBetween (a : Walk) : Type 0 where
   pub sound : IsSound a
-  pub states : AreOpen a.steps a.lists a.frames.items
+  pub states : AreOpen a.tables.steps a.tables.lists a.frames.items
   pub calls : a.calls ≡ 0
   pub behind : a.behind ≡ None
   pub framed : length a.word.items ≡ length a.frames.items - 1
@@ -89,9 +89,9 @@ pub record IsBetween (a : Walk) : Type 0 where
 
 -- the same tables and limit
 pub record IsOf (a b : Walk) : Type 0 where
-  pub steps : b.steps ≡ a.steps
-  pub live : b.live ≡ a.live
-  pub lists : b.lists ≡ a.lists
+  pub steps : b.tables.steps ≡ a.tables.steps
+  pub live : b.tables.live ≡ a.tables.live
+  pub lists : b.tables.lists ≡ a.tables.lists
   pub limit : b.limit ≡ a.limit
 
 -- so many letters stand at the front of both words

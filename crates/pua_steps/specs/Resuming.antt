@@ -22,4 +22,4 @@ to_give g live limit word calls o rests way call =
     cons_all word (rest_after (way, call) (alone (calls_of calls) ++ below g (limit - length word) o)) ++ pairs_of (pending g live limit 0 word rests)
 
 abbrev pub to_give_after : Walk → Word → ℕ → List Pair
-to_give_after a way call = to_give (narrow_of a.steps a.live) (live_of a.live) a.limit a.word.items a.calls a.behind (rests_of a.steps a.lists a.frames.items) way call
+to_give_after a way call = to_give (narrow_of a.tables.steps a.tables.live) (live_of a.tables.live) a.limit a.word.items a.calls a.behind (rests_of a.tables.steps a.tables.lists a.frames.items) way call

@@ -16,6 +16,7 @@ mod resumed;
 mod seek;
 mod state;
 mod steps;
+mod tables;
 mod visit;
 mod walk;
 
@@ -26,5 +27,6 @@ pub use lists::{Lists, Span};
 pub use live::Live;
 pub use state::State;
 pub use steps::{Entry, Row, Steps};
+pub use tables::Tables;
 pub use visit::Visit;
 pub use walk::Walk;

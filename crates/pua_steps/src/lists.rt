@@ -1,6 +1,6 @@
 //! The entries that a walk reads: of each directory those whose letters may give something.
 
-ghost use Rattle.std.specs.Prelude.{◌≡◌, ◌≤◌, ◌<◌, ◌+◌, ◌*◌, ◌++◌, ◌∷◌, [], ℕ, suc, cond, length, take, drop, get_or, IfOk, IfSome};
+ghost use Rattle.std.specs.Prelude.{◌≡◌, ◌≤◌, ◌<◌, ◌+◌, ◌*◌, ◌++◌, ◌∷◌, [], ℕ, suc, cond, length, take, drop, get_or, min, None, IfOk, IfSome};
 ghost use Rattle.std.specs.List.{AllByRecursion};
 ghost use Rattle.pua_steps.specs.Limits.{most_links};
 ghost use Rattle.pua_steps.specs.Live.{IsSized};
@@ -211,8 +211,9 @@ impl Lists {
         None
     }
 
-    /// How many entries of a list stand before a letter. It is found by one binary search.
-    pub(crate) fn count_before(&self, span: Span, letter: usize) -> usize
+    /// How many entries of a list stand before a letter. It is found by one binary search: each entry
+    /// that it reads is counted.
+    pub(crate) fn count_before(&self, span: Span, letter: usize, reads: &mut u64) -> usize
         requires order { span.place ≤ span.end }
         requires inside { span.end ≤ length self.now.entries.items }
         requires rises { Rising 0 (within self.now.entries.items span.place span.end) }
@@ -221,8 +222,20 @@ impl Lists {
             (take result (within self.now.entries.items span.place span.end)) }
         ensures high { IfSome (first_of (drop result (within self.now.entries.items span.place span.end)))
             (λ e. letter ≤ e.letter) }
+        ensures reads { reads.new ≤ reads.old + 64 }
     {
-        self.entries[span.place..span.end].partition_point(|entry| entry.letter < letter)
+        let list = &self.entries[span.place..span.end];
+        let mut low = 0;
+        let mut high = list.len();
+        while low < high {
+            let middle = low + (high - low) / 2;
+            if read(list, middle, reads).letter < letter {
+                low = middle + 1;
+            } else {
+                high = middle;
+            }
+        }
+        low
     }
 
     /// The entry at a place before `end`, if it is that of the letter.
@@ -236,4 +249,14 @@ impl Lists {
         }
         None
     }
+}
+
+/// An entry of a list: it is counted.
+fn read(list: &[Entry], place: usize, reads: &mut u64) -> Entry
+    requires { place < length list.now }
+    ensures entry { result ≡ get_or list.now place (record { letter = 0; all = 0; kept = 0; links = 0; to = None }) }
+    ensures reads { reads.new ≡ min (reads.old + 1) 18446744073709551615 }
+{
+    *reads = reads.saturating_add(1);
+    list[place]
 }

@@ -1,30 +1,24 @@
 //! A walk that goes on after a pair.
 
-ghost use Rattle.std.specs.Prelude.{◌≡◌, ◌<◌, ◌≤◌, ◌^◌, ◌*◌, ◌∷◌, [], ℕ, List, suc, length, Some, IfOk, IfSome};
+ghost use Rattle.std.specs.Prelude.{◌≡◌, ◌<◌, ◌≤◌, ◌+◌, ◌^◌, ◌*◌, ◌∷◌, [], ℕ, List, suc, length, Some, IfOk, IfSome};
 ghost use Rattle.std.specs.List.{AllByRecursion};
 ghost use Rattle.pua_steps.specs.Limits.{most_letters, call_count};
 ghost use Rattle.pua_steps.specs.Graph.{reach};
-ghost use Rattle.pua_steps.specs.Order.{rest_after, IsSplit};
-ghost use Rattle.pua_steps.specs.Lists.{IsOpen, narrow_of, rest_of};
-ghost use Rattle.pua_steps.specs.Table.{IsTable, IsState, IsVisit, graph_of};
+ghost use Rattle.pua_steps.specs.Order.{rest_after};
+ghost use Rattle.pua_steps.specs.Limits.{search_cost};
+ghost use Rattle.pua_steps.specs.Live.{IsSized};
+ghost use Rattle.pua_steps.specs.Lists.{IsListed};
+ghost use Rattle.pua_steps.specs.Table.{IsTable, IsState, graph_of};
 ghost use Rattle.pua_steps.specs.Trail.{pairs_of};
-ghost use Rattle.pua_steps.specs.Ready.{IsReady, IsSound, IsOf, trail};
+ghost use Rattle.pua_steps.specs.Ready.{IsReady, IsOf, trail};
 ghost use Rattle.pua_steps.specs.Resuming.{to_give_after};
 
 use crate::calls::calls_after;
-use crate::frame::Frame;
 use crate::state::State;
-use crate::steps::Steps;
+use crate::tables::Tables;
 use crate::visit::Visit;
 use crate::walk::Walk;
 use std::alloc::{AllocError, Global};
-
-/// What a letter of a state leads to, and the state open from the letter after it on.
-#[derive(Clone, Copy)]
-struct Found {
-    frame: Frame,
-    visit: Visit,
-}
 
 impl Walk {
     /// A walk with those pairs ahead of it that come after a pair: after the word `word`, given by the
@@ -34,27 +28,27 @@ impl Walk {
     /// letter, and does not walk there from the first pair.
     pub fn resume(
         alloc: Global,
-        steps: Steps,
+        tables: Tables,
         calls: u16,
         base: Option<State>,
         limit: usize,
         word: &[usize],
         call: u8,
     ) -> Result<Walk, AllocError>
-        requires table { IsTable steps }
-        requires limit { limit ≤ most_letters }
-        requires fits { suc limit * length steps.rows.items < 2 ^ 64 }
+        requires table { IsTable tables.steps }
+        requires sized { IsSized tables.steps tables.live limit }
+        requires listed { IsListed tables.steps tables.live limit tables.lists }
         requires calls { calls < 2 ^ call_count }
-        requires base { IfSome base (λ s. IsState steps s) }
-        requires word { AllByRecursion (λ letter. letter < steps.letters) word.now }
+        requires base { IfSome base (λ s. IsState tables.steps s) }
+        requires word { AllByRecursion (λ letter. letter < tables.steps.letters) word.now }
         requires call { call < call_count }
         ensures ready { IfOk result (λ walk. IsReady walk) }
-        ensures of { IfOk result (λ walk. (walk.steps ≡ steps) × (walk.limit ≡ limit)) }
-        ensures reads { IfOk result (λ walk. walk.seen ≡ 0) }
+        ensures of { IfOk result (λ walk. (walk.tables.steps ≡ tables.steps) × (walk.limit ≡ limit)) }
+        ensures reads { IfOk result (λ walk. walk.tables.reads ≤ tables.reads + search_cost * length word.now) }
         ensures left { IfOk result (λ walk.
-            pairs_of (trail walk) ≡ rest_after (word.now, call) (reach (graph_of steps) limit calls base)) }
+            pairs_of (trail walk) ≡ rest_after (word.now, call) (reach (graph_of tables.steps) limit calls base)) }
     {
-        let mut walk = Walk::begin(alloc, steps, calls, base, limit)?;
+        let mut walk = Walk::begin(alloc, tables, calls, base, limit)?;
         walk.go_to(word, call);
         Ok(walk)
     }
@@ -64,11 +58,11 @@ impl Walk {
     fn go_to(&mut self, word: &[usize], call: u8)
         requires ready { IsReady self.old }
         requires fresh { (self.old.word.items ≡ []) × (self.old.frames.items ≡ []) }
-        requires word { AllByRecursion (λ letter. letter < self.old.steps.letters) word.now }
+        requires word { AllByRecursion (λ letter. letter < self.old.tables.steps.letters) word.now }
         requires call { call < call_count }
         ensures ready { IsReady self.new }
         ensures same { IsOf self.old self.new }
-        ensures reads { self.new.seen ≡ self.old.seen }
+        ensures reads { self.new.tables.reads ≤ self.old.tables.reads + search_cost * length word.now }
         ensures left { pairs_of (trail self.new) ≡ rest_after (word.now, call) (pairs_of (trail self.old)) }
     {
         for letter in word {
@@ -81,65 +75,21 @@ impl Walk {
         self.calls = calls_after(self.calls, call);
     }
 
-    /// Finds a letter among those of a state, by one binary search in its list, where at most `left`
-    /// letters may come after it.
-    fn find(&self, left: usize, state: State, letter: usize) -> Found
-        requires sound { IsSound self.now }
-        requires left { left < self.now.limit }
-        requires state { IsState self.now.steps state }
-        requires letter { letter < self.now.steps.letters }
-        ensures open { IsOpen self.now.steps self.now.lists result.frame }
-        ensures visit { IsVisit self.now.steps result.visit }
-        ensures split { IsSplit letter (narrow_of self.now.steps self.now.live left state) result.visit
-            (rest_of self.now.steps self.now.lists result.frame) }
-    {
-        prove!(letter < self.steps.letters);
-        let row = &self.steps.rows[state.dir as usize];
-        let span = self.lists.span(left, state.dir);
-        let place = span.place + self.lists.count_before(span, letter);
-        let next = letter + 1;
-        let end = span.end;
-        let Some(entry) = self.lists.entry_of(place, end, letter) else {
-            return Found {
-                frame: Frame {
-                    state,
-                    next,
-                    place,
-                    end,
-                },
-                visit: Visit {
-                    letter,
-                    calls: row.missing,
-                    behind: None,
-                },
-            };
-        };
-        Found {
-            frame: Frame {
-                state,
-                next,
-                place: place + 1,
-                end,
-            },
-            visit: entry.visit(state.used),
-        }
-    }
-
     /// Goes on to the word with this letter more, past the letters before it.
     fn descend(&mut self, state: State, letter: usize)
         requires ready { IsReady self.old }
         requires there { self.old.behind ≡ Some state }
         requires short { length self.old.word.items < self.old.limit }
-        requires letter { letter < self.old.steps.letters }
+        requires letter { letter < self.old.tables.steps.letters }
         ensures ready { IsReady self.new }
         ensures same { IsOf self.old self.new }
-        ensures reads { self.new.seen ≡ self.old.seen }
+        ensures reads { self.new.tables.reads ≤ self.old.tables.reads + search_cost }
         ensures gives { (way : List ℕ) (call : ℕ) →
             to_give_after self.old (letter ∷ way) call ≡ to_give_after self.new way call }
     {
         let left = self.limit - self.word.len() - 1;
-        let found = self.find(left, state, letter);
-        let behind = self.live.entrance(left, found.visit.behind);
+        let found = self.tables.find(left, state, letter);
+        let behind = self.tables.entrance(left, found.visit.behind);
         self.enter(
             found.frame,
             Visit {

@@ -4,16 +4,15 @@ ghost use Rattle.std.specs.Prelude.{◌≡◌, ◌≢◌, ◌≤◌, ◌<◌, �
 ghost use Rattle.pua_steps.specs.Limits.{most_letters, call_count};
 ghost use Rattle.pua_steps.specs.Graph.{reach};
 ghost use Rattle.pua_steps.specs.Table.{IsTable, IsState, graph_of};
+ghost use Rattle.pua_steps.specs.Live.{IsSized};
+ghost use Rattle.pua_steps.specs.Lists.{IsListed};
 ghost use Rattle.pua_steps.specs.Trail.{pairs_of};
 ghost use Rattle.pua_steps.specs.Ready.{IsReady, IsBetween, IsOf, IsTurned, IsNext, IsCounted, IsUnchanged, StaysFront, left_over, trail};
 
 use crate::calls::take_first;
 use crate::frame::Frame;
-use crate::lists::Lists;
-use crate::live::Live;
-use crate::seek::next_visit;
 use crate::state::State;
-use crate::steps::Steps;
+use crate::tables::Tables;
 use crate::visit::Visit;
 use std::alloc::{AllocError, Global};
 
@@ -22,9 +21,7 @@ use std::alloc::{AllocError, Global};
 /// beyond what was reserved at its beginning.
 #[derive(Drop)]
 pub struct Walk {
-    pub steps: Steps,
-    pub live: Live,
-    pub lists: Lists,
+    pub(crate) tables: Tables,
     /// The most letters of a word.
     pub limit: usize,
     /// The word, by the places of its letters in the alphabet.
@@ -37,8 +34,6 @@ pub struct Walk {
     pub behind: Option<State>,
     /// The states that are open, one for each letter of the word.
     pub frames: Vec<Frame>,
-    /// How many letters were read; it stays at its greatest value once there.
-    pub seen: u64,
 }
 
 impl Walk {
@@ -48,38 +43,32 @@ impl Walk {
     /// refused, after which nothing is kept.
     pub fn begin(
         alloc: Global,
-        steps: Steps,
+        tables: Tables,
         calls: u16,
         base: Option<State>,
         limit: usize,
     ) -> Result<Walk, AllocError>
-        requires table { IsTable steps }
-        requires limit { limit ≤ most_letters }
-        requires fits { suc limit * length steps.rows.items < 2 ^ 64 }
+        requires table { IsTable tables.steps }
+        requires sized { IsSized tables.steps tables.live limit }
+        requires listed { IsListed tables.steps tables.live limit tables.lists }
         requires calls { calls < 2 ^ call_count }
-        requires base { IfSome base (λ s. IsState steps s) }
+        requires base { IfSome base (λ s. IsState tables.steps s) }
         ensures ready { IfOk result (λ walk. IsReady walk) }
-        ensures of { IfOk result (λ walk. (walk.steps ≡ steps) × (walk.limit ≡ limit)) }
+        ensures of { IfOk result (λ walk. (walk.tables ≡ tables) × (walk.limit ≡ limit)) }
         ensures fresh { IfOk result (λ walk. (walk.word.items ≡ []) × (walk.frames.items ≡ [])) }
-        ensures reads { IfOk result (λ walk. walk.seen ≡ 0) }
-        ensures left { IfOk result (λ walk. pairs_of (trail walk) ≡ reach (graph_of steps) limit calls base) }
+        ensures left { IfOk result (λ walk. pairs_of (trail walk) ≡ reach (graph_of tables.steps) limit calls base) }
     {
-        let live = Live::fill(alloc, &steps, limit)?;
-        let lists = Lists::fill(alloc, &steps, &live, limit)?;
         let word = Vec::with_capacity(alloc, limit)?;
         let frames = Vec::with_capacity(alloc, limit)?;
-        let behind = live.entrance(limit, base);
+        let behind = tables.entrance(limit, base);
         Ok(Walk {
-            steps,
-            live,
-            lists,
+            tables,
             limit,
             word,
             unchanged: 0,
             calls,
             behind,
             frames,
-            seen: 0,
         })
     }
 
@@ -92,8 +81,8 @@ impl Walk {
         ensures same { IsOf self.old self.new }
         ensures line { MatchOption result ((pairs_of (trail self.old) ≡ []) × (pairs_of (trail self.new) ≡ []))
             (λ call. pairs_of (trail self.old) ≡ (self.new.word.items, call) ∷ pairs_of (trail self.new)) }
-        ensures count { (n : ℕ) × (IsCounted self.old.seen n self.new.seen × IsNext self.old result self.new n) }
-        ensures cost { self.new.seen ≤ self.old.seen + 2 * (self.old.limit * self.old.steps.letters) }
+        ensures count { (n : ℕ) × (IsCounted self.old.tables.reads n self.new.tables.reads × IsNext self.old result self.new n) }
+        ensures cost { self.new.tables.reads ≤ self.old.tables.reads + 2 * (self.old.limit * self.old.tables.steps.letters) }
         ensures unchanged { IsUnchanged self.old.word.items self.new.unchanged self.new.word.items }
         ensures stays { self.old.calls ≢ 0 →
             (self.new.word ≡ self.old.word) × (self.new.unchanged ≡ length self.old.word.items) }
@@ -121,9 +110,9 @@ impl Walk {
 
     /// How many letters the walk has read so far. It stays at its greatest value once there.
     pub fn reads(&self) -> u64
-        ensures { result ≡ self.now.seen }
+        ensures { result ≡ self.now.tables.reads }
     {
-        self.seen
+        self.tables.reads()
     }
 
     /// Goes on to the next pair.
@@ -131,7 +120,7 @@ impl Walk {
         requires { IsReady self.old }
         ensures ready { IsReady self.new }
         ensures same { IsOf self.old self.new }
-        ensures next { (n : ℕ) × (IsCounted self.old.seen n self.new.seen × IsNext self.old result self.new n) }
+        ensures next { (n : ℕ) × (IsCounted self.old.tables.reads n self.new.tables.reads × IsNext self.old result self.new n) }
         ensures unchanged { StaysFront self.old.unchanged self.old.word.items self.new.unchanged self.new.word.items }
         ensures stays { self.old.calls ≢ 0 →
             (self.new.word ≡ self.old.word) × (self.new.unchanged ≡ self.old.unchanged) }
@@ -152,13 +141,13 @@ impl Walk {
         requires given { self.old.calls ≡ 0 }
         ensures ready { IsReady self.new }
         ensures same { IsOf self.old self.new }
-        ensures next { (n : ℕ) × (IsCounted self.old.seen n self.new.seen × IsTurned (trail self.old) result self.new n) }
+        ensures next { (n : ℕ) × (IsCounted self.old.tables.reads n self.new.tables.reads × IsTurned (trail self.old) result self.new n) }
         ensures unchanged { StaysFront self.old.unchanged self.old.word.items self.new.unchanged self.new.word.items }
     {
         if let Some(state) = self.behind {
             self.behind = None;
             let left = self.limit - self.word.len() - 1;
-            let frame = self.lists.open(left, state);
+            let frame = self.tables.open(left, state);
             self.frames.push(frame).unwrap();
             return self.turn();
         }
@@ -171,21 +160,14 @@ impl Walk {
         requires { IsBetween self.old }
         ensures ready { IsReady self.new }
         ensures same { IsOf self.old self.new }
-        ensures next { (n : ℕ) × (IsCounted self.old.seen n self.new.seen
+        ensures next { (n : ℕ) × (IsCounted self.old.tables.reads n self.new.tables.reads
             × IsTurned (left_over self.old self.old.frames.items) result self.new n) }
         ensures unchanged { StaysFront self.old.unchanged self.old.word.items self.new.unchanged self.new.word.items }
     {
         while !self.frames.is_empty() {
             let deepest = self.frames.len() - 1;
             let left = self.limit - deepest - 1;
-            if let Some(visit) = next_visit(
-                &self.steps,
-                &self.lists,
-                &self.live,
-                left,
-                &mut self.frames[deepest],
-                &mut self.seen,
-            ) {
+            if let Some(visit) = self.tables.next_visit(left, &mut self.frames[deepest]) {
                 self.unchanged = self.unchanged.min(self.word.len());
                 self.go_by(visit);
                 return true;
@@ -201,9 +183,9 @@ impl Walk {
     pub(crate) fn enter(&mut self, frame: Frame, visit: Visit)
         requires words { length self.old.word.items < vec_capacity self.old.word }
         requires frames { length self.old.frames.items < vec_capacity self.old.frames }
-        ensures kept { (self.new.steps ≡ self.old.steps) × (self.new.live ≡ self.old.live)
-            × (self.new.limit ≡ self.old.limit) × (self.new.seen ≡ self.old.seen)
-            × (self.new.lists ≡ self.old.lists) × (self.new.unchanged ≡ self.old.unchanged) }
+        ensures kept { (self.new.tables.steps ≡ self.old.tables.steps) × (self.new.tables.live ≡ self.old.tables.live)
+            × (self.new.limit ≡ self.old.limit) × (self.new.tables.reads ≡ self.old.tables.reads)
+            × (self.new.tables.lists ≡ self.old.tables.lists) × (self.new.unchanged ≡ self.old.unchanged) }
         ensures room { (vec_capacity self.old.word ≤ vec_capacity self.new.word)
             × (vec_capacity self.old.frames ≤ vec_capacity self.new.frames) }
         ensures frames { self.new.frames.items ≡ self.old.frames.items ++ frame ∷ [] }
@@ -217,9 +199,9 @@ impl Walk {
     /// Goes to the word with one letter more, by the deepest frame.
     fn go_by(&mut self, visit: Visit)
         requires { length self.old.word.items < vec_capacity self.old.word }
-        ensures kept { (self.new.steps ≡ self.old.steps) × (self.new.live ≡ self.old.live)
-            × (self.new.limit ≡ self.old.limit) × (self.new.seen ≡ self.old.seen)
-            × (self.new.lists ≡ self.old.lists) × (self.new.unchanged ≡ self.old.unchanged) }
+        ensures kept { (self.new.tables.steps ≡ self.old.tables.steps) × (self.new.tables.live ≡ self.old.tables.live)
+            × (self.new.limit ≡ self.old.limit) × (self.new.tables.reads ≡ self.old.tables.reads)
+            × (self.new.tables.lists ≡ self.old.tables.lists) × (self.new.unchanged ≡ self.old.unchanged) }
         ensures frames { self.new.frames ≡ self.old.frames }
         ensures room { vec_capacity self.old.word ≤ vec_capacity self.new.word }
         ensures word { self.new.word.items ≡ self.old.word.items ++ visit.letter ∷ [] }

@@ -15,7 +15,9 @@ ghost use Rattle.pua_audit.specs.Live.{live_states};
 ghost use Rattle.pua_audit.specs.Ready.{IsSound, judge_in, letters_of, scope_in};
 ghost use Rattle.pua_audit.specs.Starting.{AreLetters, AreSound, pair_in};
 ghost use Rattle.pua_steps.specs.Graph.{reach};
-ghost use Rattle.pua_steps.specs.Limits.{call_count, most_letters};
+ghost use Rattle.pua_steps.specs.Limits.{call_count, most_letters, search_cost};
+ghost use Rattle.pua_steps.specs.Lists.{IsListed};
+ghost use Rattle.pua_steps.specs.Live.{IsSized};
 ghost use Rattle.pua_steps.specs.Ready.{IsReady, trail};
 ghost use Rattle.pua_steps.specs.Table.{IsState, IsTable, graph_of};
 ghost use Rattle.pua_steps.specs.Trail.{pairs_of};
@@ -25,7 +27,7 @@ use crate::resume_text::Resumption;
 use crate::terms::Terms;
 use pua_path::{Found, Probe};
 use pua_policy::Calls;
-use pua_steps::{State, Steps, Walk};
+use pua_steps::{State, Steps, Tables, Walk};
 use pua_tree::{LentRow, OutOfMemory};
 use std::alloc::{AllocError, Global};
 
@@ -55,11 +57,11 @@ impl Terms {
         requires word { IfSome after (λ r. AreLetters (letters_of self.now) self.now.limit r.word.items) }
         ensures ready { IfOk result (λ begun. IsReady begun.walk) }
         ensures limit { IfOk result (λ begun. begun.walk.limit ≡ self.now.limit) }
-        ensures letters { IfOk result (λ begun. begun.walk.steps.letters ≡ length (letters_of self.now)) }
+        ensures letters { IfOk result (λ begun. begun.walk.tables.steps.letters ≡ length (letters_of self.now)) }
         ensures pairs { IfOk result (λ begun. rest_after (scope_in self.now) (option_map (pair_in (letters_of self.now)) after) ≡ pairs_at (letters_of self.now) (pairs_of (trail begun.walk))) }
         ensures within { IfOk result (λ begun. AllByRecursion (λ p. IsPair (length (letters_of self.now)) p) (pairs_of (trail begun.walk))) }
         ensures live { IfOk result (λ begun. begun.live ≡ length (live_states (scope_in self.now))) }
-        ensures reads { IfOk result (λ begun. begun.walk.seen ≡ 0) }
+        ensures reads { IfOk result (λ begun. begun.walk.tables.reads ≤ search_cost * self.now.limit) }
         ensures tree { P.tree probe.new ≡ P.tree probe.old }
         ensures cost { P.count probe.new ≤ P.count probe.old + pairs_cost self.now.seen.tree (length self.now.letters.items) }
     {
@@ -86,21 +88,24 @@ impl Terms {
         requires open { is_open (scope_in self.now) ≡ true }
         ensures ready { IfOk result (λ begun. IsReady begun.walk) }
         ensures limit { IfOk result (λ begun. begun.walk.limit ≡ self.now.limit) }
-        ensures letters { IfOk result (λ begun. begun.walk.steps.letters ≡ length (letters_of self.now)) }
+        ensures letters { IfOk result (λ begun. begun.walk.tables.steps.letters ≡ length (letters_of self.now)) }
         ensures pairs { IfOk result (λ begun. rest_after (scope_in self.now) (option_map (pair_in (letters_of self.now)) after) ≡ pairs_at (letters_of self.now) (pairs_of (trail begun.walk))) }
         ensures within { IfOk result (λ begun. AllByRecursion (λ p. IsPair (length (letters_of self.now)) p) (pairs_of (trail begun.walk))) }
         ensures live { IfOk result (λ begun. begun.live ≡ length (live_states (scope_in self.now))) }
-        ensures reads { IfOk result (λ begun. begun.walk.seen ≡ 0) }
+        ensures reads { IfOk result (λ begun. begun.walk.tables.reads ≤ search_cost * self.now.limit) }
         ensures tree { P.tree probe.new ≡ P.tree probe.old }
         ensures cost { P.count probe.new + 1 ≤ P.count probe.old + pairs_cost self.now.seen.tree (length self.now.letters.items) }
     {
         let steps = self.table(alloc, probe, rows, self.base_dir())?;
         let calls = self.base_calls(probe).bits();
         let base = Some(State { dir: 0, used: 0 });
-        let Ok(walk) = walk_after(alloc, steps, calls, base, self.limit, after) else {
+        let Ok(tables) = Tables::fill(alloc, steps, self.limit) else {
             return Err(OutOfMemory);
         };
-        let Ok(live) = walk.live.count(alloc, &walk.steps, base, self.limit) else {
+        let Ok(live) = tables.count(alloc, base, self.limit) else {
+            return Err(OutOfMemory);
+        };
+        let Ok(walk) = walk_after(alloc, tables, calls, base, self.limit, after) else {
             return Err(OutOfMemory);
         };
         Ok(Begun { walk, live })
@@ -113,17 +118,20 @@ impl Terms {
         requires closed { is_open (scope_in self.now) ≡ false }
         ensures ready { IfOk result (λ begun. IsReady begun.walk) }
         ensures limit { IfOk result (λ begun. begun.walk.limit ≡ self.now.limit) }
-        ensures letters { IfOk result (λ begun. begun.walk.steps.letters ≡ length (letters_of self.now)) }
+        ensures letters { IfOk result (λ begun. begun.walk.tables.steps.letters ≡ length (letters_of self.now)) }
         ensures pairs { IfOk result (λ begun. (after : Option Pair) → rest_after (scope_in self.now) after ≡ pairs_at (letters_of self.now) (pairs_of (trail begun.walk))) }
         ensures within { IfOk result (λ begun. AllByRecursion (λ p. IsPair (length (letters_of self.now)) p) (pairs_of (trail begun.walk))) }
         ensures live { IfOk result (λ begun. begun.live ≡ length (live_states (scope_in self.now))) }
-        ensures reads { IfOk result (λ begun. begun.walk.seen ≡ 0) }
+        ensures reads { IfOk result (λ begun. begun.walk.tables.reads ≤ search_cost * self.now.limit) }
     {
         let steps = Steps {
             letters: self.letters.len(),
             rows: Vec::new(alloc),
         };
-        let Ok(walk) = Walk::begin(alloc, steps, 0, None, self.limit) else {
+        let Ok(tables) = Tables::fill(alloc, steps, self.limit) else {
+            return Err(OutOfMemory);
+        };
+        let Ok(walk) = Walk::begin(alloc, tables, 0, None, self.limit) else {
             return Err(OutOfMemory);
         };
         Ok(Begun { walk, live: 0 })
@@ -150,30 +158,31 @@ impl Terms {
 /// growth was refused.
 fn walk_after(
     alloc: Global,
-    steps: Steps,
+    tables: Tables,
     calls: u16,
     base: Option<State>,
     limit: usize,
     after: Option<Resumption>,
 ) -> Result<Walk, AllocError>
-    requires table { IsTable steps }
-    requires limit { limit ≤ most_letters }
-    requires fits { suc limit * length steps.rows.items < 2 ^ 64 }
+    requires table { IsTable tables.steps }
+    requires sized { IsSized tables.steps tables.live limit }
+    requires listed { IsListed tables.steps tables.live limit tables.lists }
     requires calls { calls < 2 ^ call_count }
-    requires base { IfSome base (λ s. IsState steps s) }
-    requires word { IfSome after (λ r. AllByRecursion (λ letter. letter < steps.letters) r.word.items) }
+    requires base { IfSome base (λ s. IsState tables.steps s) }
+    requires word { IfSome after (λ r. AllByRecursion (λ letter. letter < tables.steps.letters) r.word.items) }
+    requires few { IfSome after (λ r. length r.word.items ≤ limit) }
     ensures ready { IfOk result (λ walk. IsReady walk) }
-    ensures of { IfOk result (λ walk. (walk.steps ≡ steps) × (walk.limit ≡ limit)) }
-    ensures reads { IfOk result (λ walk. walk.seen ≡ 0) }
-    ensures left { IfOk result (λ walk. pairs_of (trail walk) ≡ pairs_after after (reach (graph_of steps) limit calls base)) }
+    ensures of { IfOk result (λ walk. (walk.tables.steps ≡ tables.steps) × (walk.limit ≡ limit)) }
+    ensures reads { IfOk result (λ walk. walk.tables.reads ≤ tables.reads + search_cost * limit) }
+    ensures left { IfOk result (λ walk. pairs_of (trail walk) ≡ pairs_after after (reach (graph_of tables.steps) limit calls base)) }
 {
     let Some(after) = after else {
-        return Walk::begin(alloc, steps, calls, base, limit);
+        return Walk::begin(alloc, tables, calls, base, limit);
     };
     let call = after.call.number() - 1;
     Walk::resume(
         alloc,
-        steps,
+        tables,
         calls,
         base,
         limit,

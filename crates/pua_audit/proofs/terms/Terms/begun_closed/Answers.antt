@@ -15,13 +15,13 @@ use Rattle.pua_audit.proofs.terms.Terms.begun_closed.Goals as goal
 pub returns-clause-pairs : goal.returns-clause-pairs
 returns-clause-pairs c = λ after.
     let a = c.args.self.now in
-    let none : pairs_of (trail c.in-Ok.walk) ≡ [] = c.in-Ok.ensures.left ∙ none_reach (graph_of (record { letters = c.len.result; rows = c.new.result })) a.limit in
+    let none : pairs_of (trail c.in-Ok-begin.walk) ≡ [] = c.in-Ok-begin.ensures.left ∙ none_reach (graph_of c.in-Ok.tables.steps) a.limit in
     nothing_after a c.requires.sound c.requires.letters c.requires.closed after ∙ ap (pairs_at (letters_of a)) (sym none)
 
 pub returns-clause-within : goal.returns-clause-within
 returns-clause-within c =
     let a = c.args.self.now in
-    let none : pairs_of (trail c.in-Ok.walk) ≡ [] = c.in-Ok.ensures.left ∙ none_reach (graph_of (record { letters = c.len.result; rows = c.new.result })) a.limit in
+    let none : pairs_of (trail c.in-Ok-begin.walk) ≡ [] = c.in-Ok-begin.ensures.left ∙ none_reach (graph_of c.in-Ok.tables.steps) a.limit in
     subst (λ (ps : List graph.Pair). AllByRecursion (λ p. IsPair (length (letters_of a)) p) ps) (sym none) tt
 
 pub returns-clause-live : goal.returns-clause-live

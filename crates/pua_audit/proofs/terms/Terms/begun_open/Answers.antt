@@ -1,11 +1,14 @@
-use Rattle.std.proofs.Common.{◌≡◌, ◌∙◌, ℕ, List, Some, length, map, sym, ap, subst, arith}
+use Rattle.std.proofs.Common.{◌≡◌, ◌<◌, ◌∙◌, ℕ, List, Option, None, Some, length, map, sym, ap, subst, arith}
 use Rattle.std.specs.List.{AllByRecursion}
 use Rattle.pua_policy.specs.CallSets.{has}
 use Rattle.pua_policy.specs.declared.call.Call.{Call}
-use Rattle.pua_audit.specs.Coming.{pairs_at}
+use Rattle.pua_audit.specs.Coming.{pairs_after, pairs_at}
 use Rattle.pua_audit.specs.Graphs.{numbered, spelled}
 use Rattle.pua_audit.specs.Reach.{reach}
 use Rattle.pua_audit.specs.Ready.{judge_in, letters_of, scope_in}
+use Rattle.std.specs.Prelude.{IfSome}
+use Rattle.pua_audit.specs.Starting.{AreLetters}
+use Rattle.pua_audit.specs.declared.resume_text.Resumption.{Resumption}
 use Rattle.pua_audit.proofs.AfterPair.{scope_after, pairs_stay}
 use Rattle.pua_audit.proofs.Begun.{begun_reach, begun_live}
 use Rattle.pua_audit.proofs.Starts.{lives, all_along, audited}
@@ -29,7 +32,8 @@ returns-clause-pairs g c =
     let same : map numbered (reach (scope_in a)) ≡ map (spelled (letters_of a)) ps =
     ap (map numbered) (sym (all_along a c.requires.sound c.requires.letters c.requires.open)) ∙ begun_reach (judge_in a) (letters_of a) made.0 t made.1.0 made.1.2 set own first a.limit in
     let within : AllByRecursion (λ p. IsPair (length (letters_of a)) p) ps = subst (λ n. AllByRecursion (λ p. IsPair n p) ps) made.1.0.many (reach_is_within t a.limit set (Some (record { dir = 0; used = 0 })) made.1.0.table (record { dir = omega (arith, made.1.2, made.1.0.dirs); used = omega arith })) in
-    scope_after (scope_in a) c.args.after ps c.requires.letters.rises c.requires.word within same ∙ ap (pairs_at (letters_of a)) (sym c.in-Ok.ensures.left)
+    let left = c.in-Ok-walk_after.ensures.left ∙ ap (λ (t : Steps). pairs_after c.args.after (graph.reach (graph_of t) a.limit set (Some (record { dir = 0; used = 0 })))) c.in-Ok.ensures.steps in
+    scope_after (scope_in a) c.args.after ps c.requires.letters.rises c.requires.word within same ∙ ap (pairs_at (letters_of a)) (sym left)
 
 pub returns-clause-within : goal.returns-clause-within
 returns-clause-within g c =
@@ -38,7 +42,8 @@ returns-clause-within g c =
     let t : Steps = c.in_ok-steps.steps in
     let ps : List graph.Pair = graph.reach (graph_of t) a.limit c.bits-calls.result (Some (record { dir = 0; used = 0 })) in
     let within : AllByRecursion (λ p. IsPair (length (letters_of a)) p) ps = subst (λ n. AllByRecursion (λ p. IsPair n p) ps) made.1.0.many (reach_is_within t a.limit c.bits-calls.result (Some (record { dir = 0; used = 0 })) made.1.0.table (record { dir = omega (arith, made.1.2, made.1.0.dirs); used = omega arith })) in
-    subst (λ (qs : List graph.Pair). AllByRecursion (λ p. IsPair (length (letters_of a)) p) qs) (sym c.in-Ok.ensures.left) (pairs_stay (length (letters_of a)) c.args.after ps within)
+    let left = c.in-Ok-walk_after.ensures.left ∙ ap (λ (t : Steps). pairs_after c.args.after (graph.reach (graph_of t) a.limit c.bits-calls.result (Some (record { dir = 0; used = 0 })))) c.in-Ok.ensures.steps in
+    subst (λ (qs : List graph.Pair). AllByRecursion (λ p. IsPair (length (letters_of a)) p) qs) (sym left) (pairs_stay (length (letters_of a)) c.args.after ps within)
 
 pub returns-clause-live : goal.returns-clause-live
 returns-clause-live g c =
@@ -46,5 +51,14 @@ returns-clause-live g c =
     let made = c.in_ok-steps.ensures.table in
     let own = λ (call : Call). ap (λ (n : ℕ). has n call) c.bits-calls.ensures.number ∙ c.base_calls.ensures.own call in
     let first = ap (λ (d : ℕ). Some (record { dir = d; used = 0 })) (sym (made.1.3 ∙ c.base_dir.ensures)) in
-    c.in-Ok-count.ensures ∙ ap (λ (t : Steps). live_count (graph_of t) a.limit (Some (record { dir = 0; used = 0 })) a.limit) c.in-Ok.ensures.of.0
+    c.in-Ok-count.ensures ∙ ap (λ (t : Steps). live_count (graph_of t) a.limit (Some (record { dir = 0; used = 0 })) a.limit) c.in-Ok.ensures.steps
     ∙ sym (begun_live (scope_in a) made.0 c.in_ok-steps.steps made.1.0 made.1.2 c.bits-calls.result own first (audited a c.requires.sound c.requires.letters) (lives a c.requires.sound c.requires.letters c.requires.open) made.1.1)
+
+known_below : (letters : List (List ℕ)) (limit n : ℕ) (o : Option Resumption) → n ≡ length letters → IfSome o (λ r. AreLetters letters limit r.word.items) → IfSome o (λ r. AllByRecursion (λ letter. letter < n) r.word.items)
+known_below letters limit n None same h = tt
+known_below letters limit n (Some r) same h = subst (λ k. AllByRecursion (λ letter. letter < k) r.word.items) (sym same) h.there
+
+pub walk_after-requires-clause-word : goal.walk_after-requires-clause-word
+walk_after-requires-clause-word g c =
+    let a = c.args.self.now in
+    known_below (letters_of a) a.limit c.in-Ok.tables.steps.letters c.args.after (ap (λ (t : Steps). t.letters) c.in-Ok.ensures.steps ∙ c.in_ok-steps.ensures.table.1.0.many) c.requires.word

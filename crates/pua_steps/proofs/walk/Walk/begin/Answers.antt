@@ -9,15 +9,15 @@ use Rattle.pua_steps.proofs.walk.Walk.begin.Goals as goal
 
 pub returns : goal.returns
 returns c =
-    let t = c.args.steps in
-    let v = c.in_ok-live.live in
-    let ls = c.in_ok-lists.lists in
+    let t = c.args.tables.steps in
+    let v = c.args.tables.live in
+    let ls = c.args.tables.lists in
     let limit : ℕ = c.args.limit in
     let word = c.in_ok-word.ensures.items in
     let frames = c.in_ok-frames.ensures.items in
     record {
       ready = record {
-        sound = record { table = c.requires.table; sized = c.in_ok-live.ensures.sized; listed = c.in_ok-lists.ensures; room = record { words = c.in_ok-word.ensures.capacity; frames = c.in_ok-frames.ensures.capacity } };
+        sound = record { table = c.requires.table; sized = c.requires.sized; listed = c.requires.listed; room = record { words = c.in_ok-word.ensures.capacity; frames = c.in_ok-frames.ensures.capacity } };
         states = subst (AreOpen t ls) (sym frames) tt;
         calls = c.requires.calls;
         behind = tested_is t v limit (length c.in_ok-word.word.items) c.args.base c.entrance-behind.result (ap length word) c.requires.base c.entrance-behind.ensures;
@@ -27,7 +27,6 @@ returns c =
       };
       of = (refl, refl);
       fresh = (word, frames);
-      reads = refl;
       left = (λ i. pairs_of (ahead (narrow_of t v) (live_of v) limit (word i) (calls_of c.args.calls) c.entrance-behind.result (rests_of t ls (frames i))))
-          ∙ whole_tested t v limit c.args.calls c.args.base c.entrance-behind.result c.requires.table c.in_ok-live.ensures.sized c.requires.base c.entrance-behind.ensures;
+          ∙ whole_tested t v limit c.args.calls c.args.base c.entrance-behind.result c.requires.table c.requires.sized c.requires.base c.entrance-behind.ensures;
     }

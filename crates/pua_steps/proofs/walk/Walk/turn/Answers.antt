@@ -7,7 +7,7 @@ use Rattle.pua_steps.specs.Table.{IsState}
 use Rattle.pua_steps.specs.Lists.{IsOpen, narrow_of, rest_of}
 use Rattle.pua_steps.specs.Live.{live_of}
 use Rattle.pua_steps.specs.Calls.{calls_of}
-use Rattle.pua_steps.specs.Trail.{ahead}
+use Rattle.pua_steps.specs.Trail.{ahead, pending}
 use Rattle.pua_steps.specs.Ready.{IsCounted, looks, AreOpen, rests_of}
 use Rattle.pua_steps.specs.declared.frame.Frame.{Frame}
 use Rattle.pua_steps.specs.declared.steps.Steps.{Steps}
@@ -17,6 +17,7 @@ use Rattle.pua_steps.proofs.Seeks.{counted_none, counted_more, looks_zero, looks
 use Rattle.pua_steps.proofs.Listing.{longer_none}
 use Rattle.pua_steps.proofs.Front.{longer_popped, front_by, front_gone}
 use Rattle.pua_steps.proofs.Turning.{all_front, front_taken, last_set, last_split, taken_by, left_by, none_left, all_over}
+use Rattle.pua_steps.proofs.Moved.{moved_table, moved_sized, moved_listed, moved_open}
 use Rattle.pua_steps.proofs.walk.Walk.turn.Goals as goal
 
 pub loop-self-init : goal.loop-self-init
@@ -40,7 +41,7 @@ next_visit-requires-clause-open c =
     let f : Frame = c.index_mut.result.now in
     let front : List Frame = take k a.frames.items in
     let split : a.frames.items ≡ front ++ f ∷ [] = last_split a.frames.items k f (grind (arith, common_steps)) c.index_mut.ensures.value in
-    (all_front (λ f. IsOpen a.steps a.lists f) front f (subst (AreOpen a.steps a.lists) split c.loop-self.invariant.states)).1
+    (all_front (λ f. IsOpen a.tables.steps a.tables.lists f) front f (subst (AreOpen a.tables.steps a.tables.lists) split c.loop-self.invariant.states)).1
 
 pub returns-in-Some-clause-next : goal.returns-in-Some-clause-next
 returns-in-Some-clause-next c =
@@ -48,6 +49,7 @@ returns-in-Some-clause-next c =
     let b = c.go_by.new.self in
     let far = c.loop-self.invariant.so_far in
     let got = c.in-Some.ensures.next in
+    let nk = c.next_visit.ensures.kept in
     let kept = c.go_by.ensures.kept in
     let k : ℕ = c.len-deepest.result - 1 in
     let f : Frame = c.index_mut.result.now in
@@ -59,14 +61,14 @@ returns-in-Some-clause-next c =
     let even : length front ≡ length a.word.items = omega (arith, ap length split, length_push front f, c.loop-self.invariant.framed) in
     let e =
     far.1.1
-    ∙ ap (looks far.0) (taken_by (narrow_of a.steps a.live) (live_of a.live) a.limit (rest_of a.steps a.lists) a.word.items a.frames.items front f got.0 split even (a.limit - k - 1) (omega (arith, c.len-deepest.ensures, c.loop-self.invariant.framed)) c.in-Some.visit c.next_visit.new.frame b.word.items b.frames.items b.calls b.behind
+    ∙ ap (looks far.0) (taken_by (narrow_of a.tables.steps a.tables.live) (live_of a.tables.live) a.limit (rest_of a.tables.steps a.tables.lists) a.word.items a.frames.items front f got.0 split even (a.limit - k - 1) (omega (arith, c.len-deepest.ensures, c.loop-self.invariant.framed)) c.in-Some.visit c.next_visit.new.frame b.word.items b.frames.items b.calls b.behind
     got.1.1.next.1 pushed c.go_by.ensures.word c.go_by.ensures.there.0 c.go_by.ensures.there.1)
     ∙ looks-looks far.0 got.0 _
-    ∙ ap (λ (t : Steps). looks (far.0 + got.0) (ahead (narrow_of t a.live) (live_of a.live) a.limit b.word.items (calls_of b.calls) b.behind (rests_of t a.lists b.frames.items))) (sym kept.0)
-    ∙ ap (λ (v : table.Live). looks (far.0 + got.0) (ahead (narrow_of b.steps v) (live_of v) a.limit b.word.items (calls_of b.calls) b.behind (rests_of b.steps a.lists b.frames.items))) (sym kept.1)
-    ∙ ap (λ n. looks (far.0 + got.0) (ahead (narrow_of b.steps b.live) (live_of b.live) n b.word.items (calls_of b.calls) b.behind (rests_of b.steps a.lists b.frames.items))) (sym kept.2)
-    ∙ ap (λ (ls : Lists). looks (far.0 + got.0) (ahead (narrow_of b.steps b.live) (live_of b.live) b.limit b.word.items (calls_of b.calls) b.behind (rests_of b.steps ls b.frames.items))) (sym kept.4) in
-    (far.0 + got.0, (subst (λ k. IsCounted c.args.self.now.seen (far.0 + got.0) k) (sym kept.3) (counted_more c.args.self.now.seen far.0 got.0 a.seen c.next_visit.new.seen far.1.0 got.1.0), record { next = (omega (arith, got.1.1.next.0), e); over = λ h. absurd cc }))
+    ∙ ap (λ (t : Steps). looks (far.0 + got.0) (ahead (narrow_of t a.tables.live) (live_of a.tables.live) a.limit b.word.items (calls_of b.calls) b.behind (rests_of t a.tables.lists b.frames.items))) (sym (kept.0 ∙ nk.0))
+    ∙ ap (λ (v : table.Live). looks (far.0 + got.0) (ahead (narrow_of b.tables.steps v) (live_of v) a.limit b.word.items (calls_of b.calls) b.behind (rests_of b.tables.steps a.tables.lists b.frames.items))) (sym (kept.1 ∙ nk.1))
+    ∙ ap (λ n. looks (far.0 + got.0) (ahead (narrow_of b.tables.steps b.tables.live) (live_of b.tables.live) n b.word.items (calls_of b.calls) b.behind (rests_of b.tables.steps a.tables.lists b.frames.items))) (sym kept.2)
+    ∙ ap (λ (ls : Lists). looks (far.0 + got.0) (ahead (narrow_of b.tables.steps b.tables.live) (live_of b.tables.live) b.limit b.word.items (calls_of b.calls) b.behind (rests_of b.tables.steps ls b.frames.items))) (sym (kept.4 ∙ nk.2)) in
+    (far.0 + got.0, (subst (λ k. IsCounted c.args.self.now.tables.reads (far.0 + got.0) k) (sym kept.3) (counted_more c.args.self.now.tables.reads far.0 got.0 a.tables.reads c.next_visit.new.self.reads far.1.0 got.1.0), record { next = (omega (arith, got.1.1.next.0), e); over = λ h. absurd cc }))
 
 pub loop-self-preserved : goal.loop-self-preserved
 loop-self-preserved c =
@@ -74,6 +76,13 @@ loop-self-preserved c =
     let inv = c.loop-self.invariant in
     let far = inv.so_far in
     let got = c.in_default.ensures.next in
+    let nk = c.next_visit.ensures.kept in
+    let t : Steps = a.tables.steps in
+    let u : Steps = c.next_visit.new.self.steps in
+    let v : table.Live = a.tables.live in
+    let w : table.Live = c.next_visit.new.self.live in
+    let ls : Lists = a.tables.lists in
+    let ms : Lists = c.next_visit.new.self.lists in
     let k : ℕ = c.len-deepest.result - 1 in
     let f : Frame = c.index_mut.result.now in
     let front : List Frame = take k a.frames.items in
@@ -89,20 +98,21 @@ loop-self-preserved c =
     let even : length rest ≡ length a.word.items = omega (arith, ap length last, length_push rest f, inv.framed) in
     let e =
     far.1.1
-    ∙ ap (looks far.0) (left_by (narrow_of a.steps a.live) (live_of a.live) a.limit (rest_of a.steps a.lists) a.word.items a.frames.items rest f got.0 last even (a.limit - k - 1) (omega (arith, c.len-deepest.ensures, c.loop-self.invariant.framed)) c.pop-in-loop-self.new.self.items c.pop-in-loop-self.result
+    ∙ ap (looks far.0) (left_by (narrow_of a.tables.steps a.tables.live) (live_of a.tables.live) a.limit (rest_of a.tables.steps a.tables.lists) a.word.items a.frames.items rest f got.0 last even (a.limit - k - 1) (omega (arith, c.len-deepest.ensures, c.loop-self.invariant.framed)) c.pop-in-loop-self.new.self.items c.pop-in-loop-self.result
     got.1.1.next c.pop-in-loop-self.ensures.items)
-    ∙ looks-looks far.0 got.0 _ in
+    ∙ looks-looks far.0 got.0 (pending (narrow_of t v) (live_of v) a.limit 0 c.pop-in-loop-self.new.self.items (rests_of t ls rest))
+    ∙ sym (λ i. looks (far.0 + got.0) (pending (narrow_of (nk.0 i) (nk.1 i)) (live_of (nk.1 i)) a.limit 0 c.pop-in-loop-self.new.self.items (rests_of (nk.0 i) (nk.2 i) rest))) in
     record {
-      same = record { steps = inv.same.steps; live = inv.same.live; lists = inv.same.lists; limit = inv.same.limit };
-      sound = record { table = inv.sound.table; sized = inv.sound.sized; listed = inv.sound.listed; room = record { words = grind (arith, common_steps); frames = grind (arith, common_steps) } };
-      states = (all_front (λ f. IsOpen a.steps a.lists f) rest f (subst (AreOpen a.steps a.lists) last inv.states)).0;
+      same = record { steps = nk.0 ∙ inv.same.steps; live = nk.1 ∙ inv.same.live; lists = nk.2 ∙ inv.same.lists; limit = inv.same.limit };
+      sound = record { table = moved_table t u v w ls ms nk.0 nk.1 nk.2 inv.sound.table; sized = moved_sized t u v w ls ms nk.0 nk.1 nk.2 a.limit inv.sound.sized; listed = moved_listed t u v w ls ms nk.0 nk.1 nk.2 a.limit inv.sound.listed; room = record { words = grind (arith, common_steps); frames = grind (arith, common_steps) } };
+      states = moved_open t u v w ls ms nk.0 nk.1 nk.2 rest (all_front (λ f. IsOpen a.tables.steps a.tables.lists f) rest f (subst (AreOpen a.tables.steps a.tables.lists) last inv.states)).0;
       calls = inv.calls;
       behind = inv.behind;
       framed = grind (arith, common_steps);
       most = omega (arith, ap length last, length_push rest f, inv.most);
       unchanged = inv.unchanged;
       front = longer_popped c.pop-in-loop-self.new.self.items a.word.items c.args.self.now.word.items c.pop-in-loop-self.result c.pop-in-loop-self.ensures.items inv.front;
-      so_far = (far.0 + got.0, (counted_more c.args.self.now.seen far.0 got.0 a.seen c.next_visit.new.seen far.1.0 got.1.0, e));
+      so_far = (far.0 + got.0, (counted_more c.args.self.now.tables.reads far.0 got.0 a.tables.reads c.next_visit.new.self.reads far.1.0 got.1.0, e));
     }
 
 pub returns-clause-next : goal.returns-clause-next
@@ -115,8 +125,8 @@ returns-clause-next c =
       (
         far.1.0,
         record {
-          next = far.1.1 ∙ ap (looks far.0) (none_left (narrow_of a.steps a.live) (live_of a.live) a.limit (rest_of a.steps a.lists) a.word.items a.frames.items none);
-          over = λ _. all_over (narrow_of a.steps a.live) (live_of a.live) a.limit (rest_of a.steps a.lists) a.word.items a.calls a.behind a.frames.items inv.calls inv.behind none;
+          next = far.1.1 ∙ ap (looks far.0) (none_left (narrow_of a.tables.steps a.tables.live) (live_of a.tables.live) a.limit (rest_of a.tables.steps a.tables.lists) a.word.items a.frames.items none);
+          over = λ _. all_over (narrow_of a.tables.steps a.tables.live) (live_of a.tables.live) a.limit (rest_of a.tables.steps a.tables.lists) a.word.items a.calls a.behind a.frames.items inv.calls inv.behind none;
         },
       ),
     )
@@ -128,6 +138,7 @@ returns-in-Some-clause-ready c =
     let inv = c.loop-self.invariant in
     let kept = c.go_by.ensures.kept in
     let given = c.in-Some.ensures.given in
+    let nk = c.next_visit.ensures.kept in
     let k : ℕ = c.len-deepest.result - 1 in
     let f : Frame = c.index_mut.result.now in
     let front : List Frame = take k a.frames.items in
@@ -138,11 +149,11 @@ returns-in-Some-clause-ready c =
     let even : length front ≡ length a.word.items = omega (arith, ap length split, length_push front f, inv.framed) in
     let short : length a.word.items < a.limit = omega (arith, ap length split, length_push front f, even, inv.most) in
     let left : a.limit - k - 1 ≡ a.limit - length a.word.items - 1 = omega (arith, c.len-deepest.ensures, inv.framed) in
-    let stands = subst (λ o. IfSome o (λ s. IsState a.steps s × (live_of a.live (a.limit - length a.word.items - 1) s ≡ true))) (sym c.go_by.ensures.there.1)
-    (subst (λ n. IfSome c.in-Some.visit.behind (λ s. IsState a.steps s × (live_of a.live n s ≡ true))) left given.behind) in
-    entered_ready a.steps a.live a.lists a.limit a.word.items front c.next_visit.new.frame c.in-Some.visit.letter b inv.sound.table inv.sound.sized inv.sound.listed
-    (all_front (λ f. IsOpen a.steps a.lists f) front f (subst (AreOpen a.steps a.lists) split inv.states)).0 c.next_visit.ensures.open
-    (subst (λ n. n < 2 ^ 14) (sym c.go_by.ensures.there.0) given.calls) stands even short kept.0 kept.1 kept.4 kept.2
+    let stands = subst (λ o. IfSome o (λ s. IsState a.tables.steps s × (live_of a.tables.live (a.limit - length a.word.items - 1) s ≡ true))) (sym c.go_by.ensures.there.1)
+    (subst (λ n. IfSome c.in-Some.visit.behind (λ s. IsState a.tables.steps s × (live_of a.tables.live n s ≡ true))) left given.behind) in
+    entered_ready a.tables.steps a.tables.live a.tables.lists a.limit a.word.items front c.next_visit.new.frame c.in-Some.visit.letter b inv.sound.table inv.sound.sized inv.sound.listed
+    (all_front (λ f. IsOpen a.tables.steps a.tables.lists f) front f (subst (AreOpen a.tables.steps a.tables.lists) split inv.states)).0 c.next_visit.ensures.open
+    (subst (λ n. n < 2 ^ 14) (sym c.go_by.ensures.there.0) given.calls) stands even short (kept.0 ∙ nk.0) (kept.1 ∙ nk.1) (kept.4 ∙ nk.2) kept.2
     (omega (arith, inv.sound.room.words, c.go_by.ensures.room)) (subst (λ v. a.limit ≤ vec_capacity v) (sym c.go_by.ensures.frames) inv.sound.room.frames) c.go_by.ensures.word pushed (omega (arith, kept.5, c.min-self.ensures, c.len.ensures))
 
 pub returns-in-Some-clause-unchanged : goal.returns-in-Some-clause-unchanged
