@@ -2,17 +2,20 @@
 use Rattle.std.specs.Prelude.{◌≡◌, ℕ, List, [], ◌∷◌, ◌++◌, map, length, Option, Some, None, Result, Ok, Err, codes, refl}
 use Rattle.pua_tree.specs.Tree.{Tree, empty_tree}
 use Rattle.pua_tree.specs.Examples.{example_tree}
-use Rattle.pua_policy.specs.Promises.{cpath, reading}
-use Rattle.pua_policy.specs.Calls.{standard_table, call_name}
+use Rattle.pua_tree.specs.declared.node.Kind.TheVariants.{Dir, File, Link}
+use Rattle.pua_policy.specs.Promises.{cpath, fattr, reading, writing, executing, creating}
+use Rattle.pua_policy.specs.Calls.{CallTable, standard_table, call_name}
+use Rattle.pua_policy.specs.TableTexts.{with_rule}
+use Rattle.pua_policy.specs.declared.call.Call.TheVariants.{Stat}
 use Rattle.pua_policy.specs.History.{History, Pledged, Unveiled, Locked, Moved, Ended, new_history}
 use Rattle.pua_audit.specs.Reach.{Pair, printed_path}
 use Rattle.pua_audit.specs.Begin.{Beginning, beginning, still_to_come}
 use Rattle.pua_audit.specs.Live.{live_states}
-use Rattle.pua_policy.specs.declared.place.Place.TheVariants.{Slot}
+use Rattle.pua_policy.specs.declared.place.Place.TheVariants.{Slot, Dir as Directory}
 use Rattle.pua_audit.specs.declared.base.Base.{Base}
 use Rattle.pua_audit.specs.declared.base.Base.TheVariants.{Root, Cwd}
 use Rattle.pua_audit.specs.declared.fault.AuditFault.{AuditFault}
-use Rattle.pua_audit.specs.declared.fault.AuditFault.TheVariants.{BadCandidate, BadResume}
+use Rattle.pua_audit.specs.declared.fault.AuditFault.TheVariants.{BadCandidate, BadResume, LimitTooLarge}
 
 -- the printed path and the call of each pair
 abbrev pub printed : Base → Pair → List ℕ
@@ -44,6 +47,31 @@ one_promise = Pledged (Some cpath) None ∷ new_history
 abbrev pub one_veil : History
 one_veil = Locked ∷ Unveiled (Slot 1 (codes "passwd")) reading ∷ new_history
 
+-- one chmod for each path to a file
+abbrev pub one_written_file : History
+one_written_file = Pledged (Some fattr) None ∷ Unveiled (Slot 0 (codes "f")) writing ∷ new_history
+
+-- a link to its own directory, and one that goes through it 31 times, so that it follows 32 links
+abbrev pub tree_of_32_links : Tree
+tree_of_32_links = record {
+  rows = ((0, codes "f"), 1) ∷ ((0, codes "k"), 2) ∷ ((0, codes "l"), 3) ∷ [];
+  nodes = (0, record { kind = Dir; target = None }) ∷ (1, record { kind = File; target = None }) ∷ (2, record { kind = Link; target = Some (codes ".") })
+      ∷ (3, record { kind = Link; target = Some (codes "k/k/k/k/k/k/k/k/k/k/k/k/k/k/k/k/k/k/k/k/k/k/k/k/k/k/k/k/k/k/k") }) ∷ [];
+  next = 4;
+}
+
+-- a file in a directory to which a link leads too
+abbrev pub tree_of_two_paths : Tree
+tree_of_two_paths = record {
+  rows = ((0, codes "d"), 1) ∷ ((0, codes "l"), 2) ∷ ((1, codes "f"), 3) ∷ [];
+  nodes = (0, record { kind = Dir; target = None }) ∷ (1, record { kind = Dir; target = None }) ∷ (2, record { kind = Link; target = Some (codes "d") }) ∷ (3, record { kind = File; target = None }) ∷ [];
+  next = 4;
+}
+
+-- stat asks for nothing
+abbrev pub free_stat : CallTable
+free_stat = with_rule standard_table Stat (record { alternatives = 0 ∷ []; perms = 0 })
+
 pub record ReachRows : Type 0 where
   pub root : lines_from_root empty_tree new_history [] 0 None ≡ codes "/ stat" ∷ codes "/ lstat" ∷ codes "/ open-r" ∷ codes "/ chmod" ∷ codes "/ chdir" ∷ []
   pub above_root : lines_from_root empty_tree new_history [] 1 None ≡ codes "/ stat" ∷ codes "/ lstat" ∷ codes "/ open-r" ∷ codes "/ chmod" ∷ codes "/ chdir" ∷ codes "/.. stat" ∷ codes "/.. lstat" ∷ codes "/.. open-r" ∷ codes "/.. chmod" ∷ codes "/.. chdir" ∷ []
@@ -55,8 +83,50 @@ pub record ReachRows : Type 0 where
   pub ended_process : lines_from Root empty_tree (Ended ∷ new_history) [] 1 None ≡ []
   pub bad_candidate : beginning empty_tree standard_table new_history Root (codes "a" ∷ codes "a/b" ∷ []) 1 None ≡ Err (BadCandidate 2)
   pub resume_beyond_limit : beginning empty_tree standard_table new_history Root (codes "a" ∷ []) 1 (Some (codes "stat:/a/a")) ≡ Err BadResume
+  pub resumed_within_a_path : lines_from_root empty_tree new_history [] 0 (Some (codes "lstat:/")) ≡ codes "/ open-r" ∷ codes "/ chmod" ∷ codes "/ chdir" ∷ []
+  pub limit_of_16 : beginning empty_tree standard_table new_history Root [] 16 (Some (codes "stat:")) ≡ Err BadResume
+  pub limit_of_17 : beginning empty_tree standard_table new_history Root [] 17 (Some (codes "stat:")) ≡ Err LimitTooLarge
+  pub by_another_table : printed_beginning Root (beginning empty_tree free_stat (Pledged (Some 0) None ∷ new_history) Root [] 0 None) ≡ codes "/ stat" ∷ []
+  pub through_a_link : lines_from_root tree_of_two_paths (Unveiled (Slot 1 (codes "f")) reading ∷ new_history) [] 2 None ≡
+      codes "/d/f stat" ∷ codes "/d/f lstat" ∷ codes "/d/f open-r" ∷ codes "/l/f stat" ∷ codes "/l/f lstat" ∷ codes "/l/f open-r" ∷ []
+  -- what leads to the file after at most 32 links: /k/l/f and /l/k/f follow 33
+  pub after_32_links : lines_from_root tree_of_32_links one_written_file [] 3 None ≡
+      codes "/../../f chmod" ∷ codes "/../f chmod" ∷ codes "/../k/f chmod" ∷ codes "/../l/f chmod" ∷ codes "/f chmod"
+      ∷ codes "/k/../f chmod" ∷ codes "/k/f chmod" ∷ codes "/k/k/f chmod" ∷ codes "/l/../f chmod" ∷ codes "/l/f chmod" ∷ []
+  pub link_itself : lines_from_root example_tree (Unveiled (Slot 0 (codes "t")) reading ∷ new_history) [] 1 None ≡ codes "/t lstat" ∷ codes "/t readlink" ∷ []
+  pub where_a_link_leads : lines_from_root example_tree (Unveiled (Directory 3) reading ∷ new_history) [] 1 None ≡
+      codes "/t stat" ∷ codes "/t open-r" ∷ codes "/t chdir" ∷ codes "/tmp stat" ∷ codes "/tmp lstat" ∷ codes "/tmp open-r" ∷ codes "/tmp chdir" ∷ []
+  pub program : lines_from_root example_tree (Unveiled (Directory 3) executing ∷ new_history) [] 2 None ≡ codes "/t/sh exec" ∷ codes "/tmp/sh exec" ∷ []
+  pub veiled_missing_name : lines_from_root example_tree (Unveiled (Slot 1 (codes "a")) creating ∷ Unveiled (Directory 1) reading ∷ new_history) (codes "a" ∷ []) 2 None ≡
+      codes "/../etc stat" ∷ codes "/../etc lstat" ∷ codes "/../etc open-r" ∷ codes "/../etc chdir"
+      ∷ codes "/etc stat" ∷ codes "/etc lstat" ∷ codes "/etc open-r" ∷ codes "/etc chdir" ∷ codes "/etc/a mkdir" ∷ codes "/etc/a symlink"
+      ∷ codes "/etc/passwd stat" ∷ codes "/etc/passwd lstat" ∷ codes "/etc/passwd open-r" ∷ codes "/t/up stat" ∷ codes "/t/up open-r" ∷ codes "/t/up chdir"
+      ∷ codes "/tmp/up stat" ∷ codes "/tmp/up open-r" ∷ codes "/tmp/up chdir" ∷ []
   pub live_in_root : live_from_root empty_tree one_promise (codes "a" ∷ []) 2 ≡ 2
   pub live_over_file : live_from_root example_tree one_veil [] 2 ≡ 2
 
 pub reach_rows : ReachRows
-reach_rows = record { root = refl; above_root = refl; missing_name = refl; resumed = refl; spelled = refl; one_file = refl; from_working_directory = refl; ended_process = refl; bad_candidate = refl; resume_beyond_limit = refl; live_in_root = refl; live_over_file = refl }
+reach_rows = record {
+  root = refl;
+  above_root = refl;
+  missing_name = refl;
+  resumed = refl;
+  spelled = refl;
+  one_file = refl;
+  from_working_directory = refl;
+  ended_process = refl;
+  bad_candidate = refl;
+  resume_beyond_limit = refl;
+  resumed_within_a_path = refl;
+  limit_of_16 = refl;
+  limit_of_17 = refl;
+  by_another_table = refl;
+  through_a_link = refl;
+  after_32_links = refl;
+  link_itself = refl;
+  where_a_link_leads = refl;
+  program = refl;
+  veiled_missing_name = refl;
+  live_in_root = refl;
+  live_over_file = refl;
+}
