@@ -2,7 +2,7 @@
 use Rattle.std.proofs.Common.{ℕ, ◌+◌, ◌≤◌, ◌≡◌, List, [], ◌∷◌, Option, Some, None, Bool, true, false, refl, cond, nat_le, ap, arith, sym, subst, ◌∙◌, Ok}
 use Rattle.std.specs.Prelude.{IsTrue}
 use Rattle.std.proofs.lemmas.Bool.{le-leb}
-use Rattle.pua_tree.specs.Tree.{Tree, WellFormed, is_dir, found_at}
+use Rattle.pua_tree.specs.Tree.{Tree, WellFormed, is_dir, found_at, look}
 use Rattle.pua_tree.specs.declared.node.Kind.{Kind}
 use Rattle.pua_path.specs.Kinds.{is_file}
 use Rattle.pua_path.specs.Limits.{link_limit}
@@ -24,7 +24,7 @@ use Rattle.pua_policy.specs.History as policy
 use Rattle.pua_policy.specs.declared.place.Place.TheVariants as place
 use Rattle.pua_policy.specs.Verdict.{IsMissing, cover, covered_verdict, object_of_kind, verdict, verdict_of, is_allowed}
 use Rattle.pua_policy.specs.declared.call.Call.{Call}
-use Rattle.pua_audit.specs.Entries.{IsBare, IsEntryAt, allowed_within, allowed_kept, allowed_near, allowed_far}
+use Rattle.pua_audit.specs.Entries.{IsEntryAt, allowed_within, allowed_kept, allowed_near, allowed_far}
 use Rattle.pua_audit.specs.Judge.{judge_of}
 use Rattle.pua_audit.specs.Table.{IsLetter}
 use Rattle.pua_audit.specs.declared.base.Base.{Base}
@@ -33,6 +33,12 @@ use Rattle.pua_audit.proofs.Fresh.{entries_stand}
 alike : (mode : Last) (followed kept both : Bool) → followed ≡ both → kept ≡ both → elim mode [ Followed ↦ followed | Kept ↦ kept ] ≡ both
 alike Followed followed kept both e f = e
 alike Kept followed kept both e f = f
+
+-- a name where nothing stands in a directory, and at which no veil is kept
+pub record IsBare (t : Tree) (h : History) (dir : ℕ) (letter : List ℕ) : Type 0 where
+  pub name : part_of letter ≡ part.Name letter
+  pub none : look t dir letter ≡ None
+  pub unveiled : policy.kept h (place.Slot dir letter) ≡ None
 
 -- a name at which no directory stands is found without a link: one set of calls tells it
 module _ (t : Tree) (table : CallTable) (base : Base) (h : History) (dir : ℕ) (letter : List ℕ) (node : Option ℕ) (calls kept : ℕ)

@@ -5,12 +5,12 @@ use Rattle.std.proofs.lemmas.Nat.{mul-le}
 use Rattle.std.specs.List.{AllByRecursion}
 use Rattle.pua_audit.specs.Reach.{Word}
 use Rattle.pua_audit.specs.Begin.{longest}
-use Rattle.pua_audit.specs.Ready.{part_bytes, letters_of, word_of, IsSound, IsSpelled}
+use Rattle.pua_audit.specs.Ready.{part_bytes, letters_of, word_of, IsSound}
 use Rattle.pua_audit.specs.WordPaths.{IsPathAlong, IsPathOf}
 use Rattle.pua_audit.specs.declared.path.WordPath.{WordPath}
 use Rattle.pua_audit.specs.declared.terms.Terms.{Terms}
 use Rattle.pua_audit.proofs.Moves.{word_of-push}
-use Rattle.pua_audit.proofs.Spelled.{room_for}
+use Rattle.pua_audit.proofs.Spelled.{IsSpelled, room_for}
 use Rattle.pua_audit.proofs.WordPaths.{front_stays, take_whole}
 use Rattle.pua_policy.specs.declared.call.Call.{Call}
 use Rattle.pua_audit.specs.Coming.{AreReady, IsLine, call_at, pairs_at, word_in}

@@ -12,12 +12,12 @@ use Rattle.pua_audit.specs.Judge.{Judge}
 use Rattle.pua_audit.specs.Past.{history_of}
 use Rattle.pua_audit.specs.Ready.{IsSound, judge_in, letters_of}
 use Rattle.pua_audit.specs.Rows.{IsRow}
-use Rattle.pua_audit.specs.Spots.{AreLettersIn, AreSpots, IsApart, IsReached}
+use Rattle.pua_audit.specs.Spots.{AreLettersIn, AreSpots, IsApart}
 use Rattle.pua_audit.specs.declared.table.spots.LetterSpot.{LetterSpot}
 use Rattle.pua_audit.specs.declared.terms.Terms.{Terms}
 use Rattle.pua_audit.proofs.Bare.{bare_told}
 use Rattle.pua_audit.specs.Table.{IsLetter}
-use Rattle.pua_audit.proofs.Lists.{all_by_place, reached_at}
+use Rattle.pua_audit.proofs.Lists.{IsReached, all_by_place, reached_at}
 use Rattle.pua_audit.proofs.Rowed.{row_empty, row_skipped}
 use Rattle.pua_steps.specs.Limits.{call_count}
 use Rattle.pua_steps.specs.declared.steps.Entry.{Entry}

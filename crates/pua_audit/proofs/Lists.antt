@@ -5,7 +5,6 @@ use Rattle.std.specs.List.Sorted.{IsStrictlyIncreasing}
 use Rattle.std.proofs.lemmas.Bool.{cases_eq}
 use Rattle.std.proofs.lemmas.List.Elements.{Contains-get_or}
 use Rattle.std.proofs.lemmas.List.Kept.{AllPairs-from_increasing}
-use Rattle.pua_audit.specs.Spots.{IsReached}
 use Rattle.pua_audit.proofs.Moves.{all_at_index}
 
 -- what is true at each place, of each element that is in another list, of a front, of a back, and of what a function makes of each element
@@ -60,6 +59,11 @@ places_few ns count rise all (suc k) low =
     let here = rank_low ns rise k inside in
     let there = all_at_index (λ n. n < count) ns 0 all k inside in
     omega (arith, here, there)
+
+-- the first k of some letters are those below n
+pub record IsReached (letters : List ℕ) (k n : ℕ) : Type 0 where
+  pub below : (i : ℕ) → i < k → get_or letters i 0 < n
+  pub above : (i : ℕ) → k ≤ i → i < length letters → n ≤ get_or letters i 0
 
 pub reached_at : (ns : List ℕ) → IsStrictlyIncreasing ns → (k : ℕ) → k < length ns → IsReached ns k (get_or ns k 0)
 reached_at ns rise k inside = record {

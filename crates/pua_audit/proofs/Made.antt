@@ -9,13 +9,18 @@ use Rattle.std.proofs.Math.ListN.{get_or-append}
 use Rattle.std.proofs.Math.Seq.{get_or-append_seam}
 use Rattle.pua_audit.specs.Judge.{Judge}
 use Rattle.pua_audit.specs.Graphs.{AreApart}
-use Rattle.pua_audit.specs.Rows.{AreNumbers, IsGrown, IsEntryFor, IsRow, AreRows}
+use Rattle.pua_audit.specs.Rows.{AreNumbers, IsGrown, IsEntryFor, IsRow}
 use Rattle.pua_audit.specs.Table.{IsTableOf}
 use Rattle.pua_audit.proofs.Rowed.{row_grown}
 use Rattle.pua_steps.specs.Table as steps
 use Rattle.pua_steps.specs.declared.steps.Entry.{Entry}
 use Rattle.pua_steps.specs.declared.steps.Row.{Row}
 use Rattle.pua_steps.specs.declared.steps.Steps.{Steps}
+
+-- the rows of the first directories
+abbrev pub AreRows : Judge → List (List ℕ) → List ℕ → List Row → Type 0
+AreRows w letters dirs rows =
+    (d : ℕ) → d < length rows → IsRow w letters dirs (get_or dirs d 0) (length letters) (get_or (map steps.missing_in rows) d 0) (get_or (map steps.entries_in rows) d [])
 
 -- one more row
 module _ (w : Judge) (letters : List (List ℕ)) (old new : List ℕ) (rows : List Row) (row : Row) (grown : IsGrown old new) (within : length rows ≤ length old) where

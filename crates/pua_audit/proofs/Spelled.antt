@@ -5,7 +5,7 @@ use Rattle.std.specs.List.{AllByRecursion}
 use Rattle.pua_path.specs.declared.found.Part.{Part}
 use Rattle.pua_audit.specs.Reach.{Word, from_root, path_of}
 use Rattle.pua_audit.specs.Begin.{longest}
-use Rattle.pua_audit.specs.Ready.{part_bytes, letters_of, word_of, IsSpelled, lent}
+use Rattle.pua_audit.specs.Ready.{part_bytes, letters_of, word_of, lent}
 use Rattle.pua_audit.specs.declared.base.Base.{Base}
 use Rattle.pua_audit.specs.declared.base.Base.TheVariants.{Root, Cwd}
 use Rattle.pua_audit.specs.declared.terms.Terms.{Terms}
@@ -33,6 +33,11 @@ all_short a [] all = tt
 all_short a (i ∷ word) all =
     let within : i < length (letters_of a) = omega (arith, length-map a.letters.items part_bytes, all.0) in
     (all_at_index (λ b. length b ≤ longest (letters_of a)) (letters_of a) [] (no_longer 0 (letters_of a)) i within, all_short a word all.1)
+
+-- the places of a word are of the alphabet, and its path has each letter after a slash
+pub record IsSpelled (a : Terms) (word bytes : List ℕ) : Type 0 where
+  pub known : AllByRecursion (λ i. i < length a.letters.items) word
+  pub path : bytes ≡ from_root (word_of (letters_of a) word)
 
 -- what is lent has no more bytes than any path may
 pub lent_short : (base : Base) (a : Terms) (word path : List ℕ) → IsSpelled a word path → length word ≤ a.limit → a.limit * suc (longest (letters_of a)) ≤ 1023 → length (lent base path) ≤ 1023

@@ -1,20 +1,18 @@
 -- What a letter that is followed once, with no link used before it, tells of the letter after any number of links.
 use Rattle.std.specs.Prelude.{◌≡◌, ◌≤◌, ◌+◌, ℕ, Bool, false, cond, nat_le, List, Option, Some, None, option_map, Result, Ok, Err}
-use Rattle.pua_tree.specs.Tree.{Tree, look}
+use Rattle.pua_tree.specs.Tree.{Tree}
 use Rattle.pua_path.specs.Limits.{link_limit}
 use Rattle.pua_path.specs.Paths.{part_of}
 use Rattle.pua_path.specs.Resolution.{follow, last}
 use Rattle.pua_path.specs.declared.errno.Errno.{Errno}
 use Rattle.pua_path.specs.declared.found.Last.TheVariants.{Followed, Kept}
-use Rattle.pua_path.specs.declared.found.Part.TheVariants as part
 use Rattle.pua_path.specs.declared.found.Way.TheVariants.{Top}
 use Rattle.pua_path.specs.declared.found.Found.{Found}
 use Rattle.pua_path.specs.declared.found.Found.TheVariants.{Whole, Slot}
 use Rattle.pua_policy.specs.Calls.{CallTable, last_of}
 use Rattle.pua_policy.specs.CallSets.{has}
-use Rattle.pua_policy.specs.History.{History, kept}
+use Rattle.pua_policy.specs.History.{History}
 use Rattle.pua_policy.specs.Verdict.{Object, IsMissing, IsFile, IsProg, cover, covered_verdict, verdict_of, is_allowed}
-use Rattle.pua_policy.specs.declared.place.Place.TheVariants as place
 use Rattle.pua_policy.specs.declared.call.Call.{Call}
 use Rattle.pua_audit.specs.Judge.{Below, judge_of}
 use Rattle.pua_audit.specs.declared.base.Base.{Base}
@@ -45,12 +43,6 @@ allowed_near t table h dir letter r call =
 
 abbrev pub allowed_far : Tree → CallTable → History → ℕ → List ℕ → Call → Bool
 allowed_far t table h dir letter call = elim (last_of call) [ Followed ↦ false | Kept ↦ allowed_kept t table h dir letter call ]
-
--- a name where nothing stands in a directory, and at which no veil is kept
-pub record IsBare (t : Tree) (h : History) (dir : ℕ) (letter : List ℕ) : Type 0 where
-  pub name : part_of letter ≡ part.Name letter
-  pub none : look t dir letter ≡ None
-  pub unveiled : kept h (place.Slot dir letter) ≡ None
 
 -- whether a call is allowed on such an object in a directory whose name has no veil of its own: what the veils leave of it is what they leave of the directory
 abbrev pub allowed_within : Tree → CallTable → History → ℕ → Object → Call → Bool

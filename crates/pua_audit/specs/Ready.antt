@@ -1,5 +1,5 @@
 -- What an audit is of, and the path of a word of it.
-use Rattle.std.specs.Prelude.{◌≡◌, ◌≤◌, ◌<◌, ℕ, suc, List, [], ◌∷◌, length, map, get_or, ◌*◌, codes}
+use Rattle.std.specs.Prelude.{◌≡◌, ◌≤◌, ℕ, suc, List, [], ◌∷◌, map, get_or, ◌*◌, codes}
 use Rattle.std.specs.List.{AllByRecursion}
 use Rattle.pua_tree.specs.Tree.{WellFormed}
 use Rattle.pua_path.specs.Paths.{part_of}
@@ -8,7 +8,7 @@ use Rattle.pua_path.specs.declared.found.Part.TheVariants as part
 use Rattle.pua_policy.specs.History.{StandsFor}
 use Rattle.pua_audit.specs.Past.{history_of}
 use Rattle.pua_audit.specs.Limits.{path_limit}
-use Rattle.pua_audit.specs.Reach.{Word, Scope, from_root}
+use Rattle.pua_audit.specs.Reach.{Word, Scope}
 use Rattle.pua_audit.specs.Begin.{longest}
 use Rattle.pua_audit.specs.declared.base.Base.{Base}
 use Rattle.pua_audit.specs.declared.base.Base.TheVariants.{Root, Cwd}
@@ -41,11 +41,6 @@ pub record IsSound (a : Terms) : Type 0 where
   pub stands : StandsFor a.process (history_of a.process)
   pub parts : AllByRecursion (λ p. part_of (part_bytes p) ≡ p) a.letters.items
   pub short : a.limit * suc (longest (letters_of a)) ≤ path_limit
-
--- the places of a word are of the alphabet, and its path has each letter after a slash
-pub record IsSpelled (a : Terms) (word bytes : List ℕ) : Type 0 where
-  pub known : AllByRecursion (λ i. i < length a.letters.items) word
-  pub path : bytes ≡ from_root (word_of (letters_of a) word)
 
 -- the path that is lent: the base itself, or the letters, and before the first a slash only from the root
 abbrev pub lent : Base → List ℕ → List ℕ

@@ -1,13 +1,12 @@
 -- Rows of a table of steps while it is made.
-use Rattle.std.specs.Prelude.{◌≡◌, ◌<◌, ◌≤◌, ◌^◌, ℕ, nat_eq, List, [], map, length, get_or, IfSome, IsTrue}
+use Rattle.std.specs.Prelude.{◌≡◌, ◌<◌, ◌≤◌, ◌^◌, ℕ, nat_eq, List, length, get_or, IfSome, IsTrue}
 use Rattle.std.specs.List.{AllByRecursion, IsDistinct}
 use Rattle.pua_tree.specs.Tree.{Tree, is_dir}
 use Rattle.pua_audit.specs.Judge.{Judge}
 use Rattle.pua_audit.specs.Table.{IsRowOf}
 use Rattle.pua_steps.specs.Limits.{most_links, call_count}
-use Rattle.pua_steps.specs.Table.{Rising, entries_in, missing_in}
+use Rattle.pua_steps.specs.Table.{Rising}
 use Rattle.pua_steps.specs.declared.steps.Entry.{Entry}
-use Rattle.pua_steps.specs.declared.steps.Row.{Row}
 
 -- numbers of nodes, none of them twice
 pub record AreNumbers (numbers : List ℕ) : Type 0 where
@@ -37,7 +36,3 @@ pub record IsRow (w : Judge) (letters : List (List ℕ)) (dirs : List ℕ) (dir 
   pub listed : AllByRecursion (λ e. IsEntryFor n (length dirs) e) entries
   pub rises : Rising 0 entries
   pub others : missing < 2 ^ call_count
-
--- the rows of the first directories
-abbrev pub AreRows : Judge → List (List ℕ) → List ℕ → List Row → Type 0
-AreRows w letters dirs rows = (d : ℕ) → d < length rows → IsRow w letters dirs (get_or dirs d 0) (length letters) (get_or (map missing_in rows) d 0) (get_or (map entries_in rows) d [])

@@ -1,5 +1,5 @@
 -- The letters that directories tell apart from names that they lack.
-use Rattle.std.specs.Prelude.{◌≡◌, ◌≢◌, ◌<◌, ◌≤◌, ℕ, Bool, true, false, List, [], length, get_or, None}
+use Rattle.std.specs.Prelude.{◌≡◌, ◌≢◌, ◌<◌, ℕ, Bool, true, false, List, [], length, get_or, None}
 use Rattle.std.specs.List.{AllByRecursion}
 use Rattle.std.specs.List.Sorted.{IsNonDecreasingBy, IsStrictlyIncreasing}
 use Rattle.pua_tree.specs.Tree.{Tree, Spot, look}
@@ -46,11 +46,6 @@ pub record AreLettersIn (dir : ℕ) (dots : List ℕ) (spots : List LetterSpot) 
   pub within : (count : ℕ) → AllByRecursion (λ letter. letter < count) dots → AllByRecursion (λ spot. spot.letter < count) spots → AllByRecursion (λ letter. letter < count) letters
   pub dotted : (letter : ℕ) → IsApart letter letters → IsApart letter dots
   pub spotted : (letter : ℕ) → IsApart letter letters → IsUnmarked dir letter spots
-
--- the first k of some letters are those below n
-pub record IsReached (letters : List ℕ) (k n : ℕ) : Type 0 where
-  pub below : (i : ℕ) → i < k → get_or letters i 0 < n
-  pub above : (i : ℕ) → k ≤ i → i < length letters → n ≤ get_or letters i 0
 
 -- a letter that is no name
 abbrev pub is_dots : Part → Bool

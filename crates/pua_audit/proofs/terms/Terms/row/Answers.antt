@@ -3,10 +3,10 @@ use Rattle.std.proofs.lemmas.List.{length-map}
 use Rattle.pua_audit.specs.Bounds.{letter_cost}
 use Rattle.pua_audit.specs.Ready.{part_bytes, judge_in, letters_of}
 use Rattle.pua_audit.specs.Rows.{IsRow}
-use Rattle.pua_audit.specs.Spots.{AreLettersIn, IsReached}
+use Rattle.pua_audit.specs.Spots.{AreLettersIn}
 use Rattle.pua_audit.proofs.Costs.{letters_within}
 use Rattle.pua_audit.proofs.Gaps.{letters_bare, row_started, row_further}
-use Rattle.pua_audit.proofs.Lists.{places_few, reached_all}
+use Rattle.pua_audit.proofs.Lists.{IsReached, places_few, reached_all}
 use Rattle.pua_audit.proofs.Moves.{all_at_index}
 use Rattle.pua_audit.proofs.Rowed.{grown_itself, grown_further}
 use Rattle.pua_steps.specs.Limits.{call_count}

@@ -2,7 +2,7 @@ use Rattle.std.proofs.Common.{◌≡◌, ◌≤◌, ◌+◌, ◌*◌, ℕ, lengt
 use Rattle.pua_audit.specs.Bounds.{letter_cost, object_cost}
 use Rattle.pua_audit.specs.Ready.{judge_in, letters_of}
 use Rattle.pua_audit.specs.Rows.{AreLiving, IsGrown, IsRow}
-use Rattle.pua_audit.specs.Spots.{IsReached}
+use Rattle.pua_audit.proofs.Lists.{IsReached}
 use Rattle.pua_audit.proofs.terms.Terms.row.Given as goal
 
 -- the row has all letters before the next one that is looked up

@@ -2,9 +2,9 @@ use Rattle.std.proofs.Common.{◌≡◌, ◌<◌, ◌≤◌, ◌∙◌, ◌+◌,
 use Rattle.std.proofs.lemmas.List.{length-append, length-map}
 use Rattle.pua_audit.specs.Bounds.{row_cost}
 use Rattle.pua_audit.specs.Ready.{part_bytes, judge_in, letters_of}
-use Rattle.pua_audit.specs.Rows.{AreNumbers, IsRow, AreRows}
+use Rattle.pua_audit.specs.Rows.{AreNumbers, IsRow}
 use Rattle.pua_audit.proofs.Costs.{next_within, one_row_more, rows_few, rows_within}
-use Rattle.pua_audit.proofs.Made.{rows_pushed, table_made, numbers_apart}
+use Rattle.pua_audit.proofs.Made.{AreRows, rows_pushed, table_made, numbers_apart}
 use Rattle.pua_steps.specs.declared.steps.Row.{Row}
 use Rattle.pua_steps.specs.declared.steps.Steps.{Steps}
 use Rattle.pua_audit.proofs.terms.Terms.table.Goals as goal

@@ -1,7 +1,8 @@
 use Rattle.std.proofs.Common.{◌≡◌, ◌<◌, ◌≤◌, ◌+◌, ◌*◌, ◌-◌, suc, length, get_or}
 use Rattle.pua_audit.specs.Bounds.{row_cost}
 use Rattle.pua_audit.specs.Ready.{judge_in, letters_of}
-use Rattle.pua_audit.specs.Rows.{AreLiving, AreRows}
+use Rattle.pua_audit.specs.Rows.{AreLiving}
+use Rattle.pua_audit.proofs.Made.{AreRows}
 use Rattle.pua_audit.proofs.terms.Terms.table.Given as goal
 
 -- the first directories have their rows
