@@ -26,6 +26,7 @@ table_rows = record {
   quoted = refl;
   dotted = refl;
   inline = refl;
+  other_order = refl;
   array_of_tables = refl;
   named_twice = refl;
   open_bracket = refl;

@@ -19,7 +19,7 @@ use Rattle.pua_tree.specs.Steps.{◌>>=◌}
 use Rattle.pua_policy.specs.Promises.{holds, error}
 use Rattle.pua_policy.specs.Calls.{CallTable, Rule, call_named}
 use Rattle.pua_policy.specs.Tables.{NeedsNoError, padded}
-use Rattle.pua_policy.specs.TableTexts.{count, document_of, keys_ascend, rule_in, rules_with, with_rule}
+use Rattle.pua_policy.specs.TableTexts.{count, document_of, keys_ascend, member_count, rule_in, rules_with, with_rule}
 use Rattle.pua_policy.specs.declared.call.Call.{Call}
 use Rattle.pua_policy.specs.declared.table.read.TableFault.{TableFault}
 use Rattle.pua_policy.specs.declared.table.read.TableFault.TheVariants.{BadKey}
@@ -60,6 +60,11 @@ padded_more sets s n left fewer =
 pub count_of : (values : List Value) → count (items_view values) ≡ length values
 count_of [] = refl
 count_of (value ∷ values) = ap suc (count_of values)
+
+-- as many members as entries
+pub member_count_of : (entries : List Entry) → member_count (members_view entries) ≡ length entries
+member_count_of [] = refl
+member_count_of (entry ∷ entries) = ap suc (member_count_of entries)
 
 -- the keys of a map ascend
 pub keys_in_order : (entries : List Entry) → IsStrictlySortedBy string_cmp (keys_of entries) → keys_ascend (members_view entries) ≡ true

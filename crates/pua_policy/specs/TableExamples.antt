@@ -33,6 +33,7 @@ pub record TableRows : Type 0 where
   pub quoted : table_of (text_of_lines (codes "[\"stat\"]" ∷ codes "'promises' = ['']" ∷ codes "\"veil\" = ''" ∷ [])) ≡ table_of (stat_row (codes "['']") (codes "''"))
   pub dotted : table_of (text_of_lines (codes "stat.veil = ''" ∷ codes "stat.promises = ['']" ∷ [])) ≡ table_of (stat_row (codes "['']") (codes "''"))
   pub inline : table_of (text_of_lines (codes "stat = { veil = '', promises = [''] }" ∷ [])) ≡ table_of (stat_row (codes "['']") (codes "''"))
+  pub other_order : table_of (text_of_lines (codes "[stat]" ∷ codes "veil = ''" ∷ codes "promises = ['']" ∷ [])) ≡ table_of (stat_row (codes "['']") (codes "''"))
   pub array_of_tables : table_of (text_of_lines (codes "[[stat]]" ∷ codes "promises = ['']" ∷ codes "veil = ''" ∷ [])) ≡ Err (BadRow Stat)
   -- texts that are no document
   pub named_twice : table_of (stat_row (codes "['']") (codes "''\n[stat]")) ≡ Err BadToml

@@ -1,10 +1,9 @@
 -- The table of calls that a TOML text gives, or its first fault.
-use Rattle.std.specs.Prelude.{ℕ, suc, ◌-◌, Bool, true, ◌&&◌, if◌then◌else◌, List, [], ◌∷◌, nat_le, Option, Some, None, Result, Ok, Err, codes, is_some, ok_or, option_and_then, slice_set}
+use Rattle.std.specs.Prelude.{ℕ, suc, ◌-◌, ◌==◌, Bool, true, ◌&&◌, if◌then◌else◌, List, [], ◌∷◌, nat_le, Option, Some, None, Result, Ok, Err, codes, is_some, ok_or, option_and_then, option_map, slice_set}
 use Rattle.std.specs.Str.{is_utf8}
-use Rattle.toml.specs.Data.{Data, as_str, as_array, as_table, Items, no_items, item, Members, no_members, member, is_before}
+use Rattle.toml.specs.Data.{Data, as_str, as_array, as_table, Items, no_items, item, Members, no_members, member, is_before, get_member}
 use Rattle.toml.specs.Parse.{parse_document}
 use Rattle.pua_tree.specs.Steps.{◌>>=◌}
-use Rattle.pua_tree.specs.Names.{same_bytes}
 use Rattle.pua_policy.specs.Promises.{holds, error, promises_of, perms_of}
 use Rattle.pua_policy.specs.Calls.{CallTable, Rule, standard_table, call_named, call_number}
 use Rattle.pua_policy.specs.Tables.{alternative_limit}
@@ -25,11 +24,16 @@ count (item _ items) = suc (count items)
 abbrev pub are_alternatives : Items → Bool
 are_alternatives items = nat_le 1 (count items) && (nat_le (count items) alternative_limit && are_texts items)
 
--- the values, where the keys are `promises` and `veil`; keys ascend, so `promises` stands first
+abbrev pub member_count : Members → ℕ
+member_count no_members = 0
+member_count (member _ _ members) = suc (member_count members)
+
+-- the values of `promises` and of `veil`, where there are two keys, and these are they, in either order
 abbrev pub values_of : Members → Option (Data × Data)
-values_of (member a promises (member b veil no_members)) =
-    if same_bytes a (codes "promises") && same_bytes b (codes "veil") then Some (promises, veil) else None
-values_of _ = None
+values_of members =
+    if member_count members == 2
+    then option_and_then (λ promises. option_map (λ veil. (promises, veil)) (get_member (codes "veil") members)) (get_member (codes "promises") members)
+    else None
 
 abbrev pub parts_of : Data × Data → Option (Items × List ℕ)
 parts_of values =

@@ -1,6 +1,7 @@
 //! A table of calls, read from a TOML text.
 
 ghost use Rattle.std.specs.Prelude.{◌≡◌, ◌≢◌, ◌≤◌, ℕ, Ok, Err, Some, None, IfOk, IfErr, IfSome, IsTrue, length, option_map};
+ghost use Rattle.toml.specs.Data.{get_member};
 ghost use Rattle.toml.specs.Errors.{IsBlank};
 ghost use Rattle.toml.specs.View.{view, items_view, table_view};
 ghost use Rattle.pua_policy.specs.Promises.{promises_of};
@@ -120,20 +121,21 @@ fn parts(value: &Value) -> Option<(&[Value], &str)>
 }
 
 /// The values of `promises` and of `veil`, where these are the keys of a table.
+#[tactic(auto, using(crate::proofs::TableTexts::member_count_of))]
 fn values(table: &Table) -> Option<(&Value, &Value)>
     ensures { option_map (λ p. (view p.0.now, view p.1.now)) result ≡ values_of (table_view table.now) }
 {
-    let mut entries = table.iter();
-    let (first, promises) = entries.next()?;
-    let (second, veil) = entries.next()?;
-    if entries.next().is_some() {
+    if table.len() != 2 {
         return None;
     }
-    if first.as_bytes() == b"promises".as_slice() && second.as_bytes() == b"veil".as_slice() {
-        Some((promises, veil))
-    } else {
-        None
-    }
+    Some((at_key(table, "promises")?, at_key(table, "veil")?))
+}
+
+/// The value at a key of a table.
+fn at_key<'a>(table: &'a Table, key: &str) -> Option<&'a Value>
+    ensures { option_map (λ value. view value.now) result ≡ get_member key.now (table_view table.now) }
+{
+    table.get(key)
 }
 
 /// Whether the items are 1 to 8 texts.
