@@ -1,18 +1,20 @@
 -- What a world's requests leave, by the worlds of the replay for which it stands.
 use Rattle.std.proofs.Common.{◌≡◌, ℕ, ◌+◌, ◌<◌, List, [], ◌∷◌, ◌++◌, length, take, get_or, refl, sym, ap, subst, ◌∙◌, lit<, add-one}
 use Rattle.std.proofs.Math.Seq.{take-suc}
-use Rattle.std.specs.Prelude.{Result, Ok, Err, MatchResult}
+use Rattle.std.specs.Prelude.{Option, Some, None, Result, Ok, Err, IfOk, OnErr, MatchResult}
 use Rattle.pua_tree.specs.Tree.{WellFormed}
 use Rattle.pua_policy.specs.Calls.{CallTable, standard_table}
+use Rattle.pua_policy.specs.History.{History, ProcessState}
 use Rattle.pua_policy.specs.declared.call.Call.TheVariants.{Stat, Lstat, Readlink, OpenRead, OpenWrite, OpenBoth, Create, Mkdir, Rmdir, Unlink, Symlink, Chmod, Chdir, Exec}
 use Rattle.pua_script.specs.Requests.{Asked}
 use Rattle.pua_script.specs.Replay.{World, apply, world_after}
-use Rattle.pua_script.specs.Worlds.{WorldState, StandsForWorld, IsServed, AreServed, AreServedInPart}
-use Rattle.pua_script.specs.Tightening.{NoCallNeedsError}
+use Rattle.pua_script.specs.Worlds.{WorldState, StandsAt, StandsForWorld, IsServed, AreServed, process_at}
+use Rattle.pua_script.specs.Family.{HasHistoryOf}
+use Rattle.pua_script.specs.Tightening.{NoCallNeedsError, IsNarrowedBy, EndsWithin}
 use Rattle.pua_script.specs.Confinement.{UncoveredStay, TreesAlong}
-use Rattle.pua_script.specs.Futures.{StandardTableNarrows, IsNarrowing, IsSparing, AreDone, AreDoneInPart, AreHeld, AreHeldInPart}
+use Rattle.pua_script.specs.Futures.{StandardTableNarrows, HasProcessOf, IsNarrowing, IsSparing, AreDone, AreDoneInPart, AreHeld, AreServedInPart}
 use Rattle.pua_script.specs.declared.answer.Answer.{Answer}
-use Rattle.pua_script.proofs.Tightening.{each_narrows}
+use Rattle.pua_script.proofs.Tightening.{each_narrows, within_self}
 use Rattle.pua_script.proofs.Confining.{each_spares}
 use Rattle.pua_script.proofs.Families.{families_narrow}
 use Rattle.pua_script.proofs.Confined.{families_confine}
@@ -41,8 +43,28 @@ standard_table_narrows = record {
   changing = record { create = (refl, tt); mkdir = (refl, tt); rmdir = (refl, tt); unlink = (refl, tt); symlink = (refl, tt) };
 }
 
-pub is_narrowing : (before : WorldState) (ask : Asked) → IsNarrowing before ask
-is_narrowing before ask w stands = each_narrows before.table w ask
+-- what has a history has a process that stands for it
+has_process : (s : WorldState) (w : World) (n : ℕ) (IsSo : History → Type 0) → StandsForWorld s w → HasHistoryOf w n IsSo → HasProcessOf s n IsSo
+has_process s w n IsSo stands has = by (process_at s n) refl (subst (StandsAt (process_at s n)) has.1 (stands.processes n))
+  where
+    by : (o : Option ProcessState) → process_at s n ≡ o → StandsAt o (Some has.0) → HasProcessOf s n IsSo
+    by None is at = absurd at
+    by (Some p) is at = record { kept = p; here = is; history = has.0; stands = at; so = has.2 }
+
+pub is_narrowing : (before : WorldState) (ask : Asked) (answer : Answer) (after : WorldState) → IsServed before ask answer after → IsNarrowing before ask after
+is_narrowing before ask answer after served w stands process h here confined none =
+    has_process after (apply before.table w ask).1 process (IsNarrowedBy before.table w ask process h) (served w stands).1 (each_narrows before.table w ask process h here confined none)
+
+-- a world that stays as it was keeps each process within its history
+pub stays_narrow : (before : WorldState) (ask : Asked) (after : WorldState) → after ≡ before → IsNarrowing before ask after
+stays_narrow before ask after same w stands process h here confined none =
+    let IsSo : History → Type 0 = IsNarrowedBy before.table w ask process h in
+    let stays : IsSo h = record {
+      tightens = (within_self h confined).tightens;
+      allows = λ sound. record { absolute = λ t call text is allowed. allowed; relative = λ dirs t call text allowed. allowed };
+      dir = λ still. refl;
+    } in
+    subst (λ (s : WorldState). HasProcessOf s process IsSo) (sym same) (has_process before w process IsSo stands (h, here, stays))
 
 -- both worlds have a tree
 pub is_sparing : (before : WorldState) (ask : Asked) (answer : Answer) (after : WorldState) → WellFormed before.tree → WellFormed after.tree → IsServed before ask answer after → IsSparing before ask after
@@ -93,7 +115,9 @@ done_none s well = (λ w stands. (refl, stands, refl), λ w stands. subst WellFo
 -- what was served holds the families
 held_by : (before after : WorldState) (asks : List Asked) → ((w : World) → StandsForWorld before w → StandsForWorld after (world_after before.table w asks) × TreesAlong before.table w asks) → AreHeld before asks after
 held_by before after asks done = record {
-  narrows = λ w stands. families_narrow before.table w asks;
+  narrows = λ w stands process now here confined none member belongs.
+      has_process after (world_after before.table w asks) member (EndsWithin before.table w asks process now) (done w stands).0
+      (families_narrow before.table w asks process now here confined none member belongs);
   confines = λ w stands process now here confined none alone.
       let both = families_confine before.table w asks process now here confined none alone in
       let left = done w stands in
@@ -104,10 +128,21 @@ held_by before after asks done = record {
 }
 
 module _ {A E : Type 0} (before after : WorldState) (asks : List Asked) (told : A → List Answer) where
-  pub run_served : (r : Result A E) → MatchResult r (λ a. AreDone before asks (told a) after) (λ _. AreDoneInPart before asks after) → MatchResult r (λ a. AreServed before asks (told a) after) (λ _. AreServedInPart before asks after)
-  run_served (Ok a) done = done.0
-  run_served (Err e) done = (done.0, λ w stands. ((done.1 w stands).0, (done.1 w stands).1))
+  abbrev Done : Result A E → Type 0
+  Done r = MatchResult r (λ a. AreDone before asks (told a) after) (λ _. AreDoneInPart before asks after)
 
-  pub run_held : (r : Result A E) → MatchResult r (λ a. AreDone before asks (told a) after) (λ _. AreDoneInPart before asks after) → MatchResult r (λ _. AreHeld before asks after) (λ _. AreHeldInPart before asks after)
+  pub run_served : (r : Result A E) → Done r → IfOk r (λ a. AreServed before asks (told a) after)
+  run_served (Ok a) done = done.0
+  run_served (Err e) done = tt
+
+  pub run_held : (r : Result A E) → Done r → IfOk r (λ _. AreHeld before asks after)
   run_held (Ok a) done = held_by before after asks (λ w stands. ((done.0 w stands).1, done.1 w stands))
-  run_held (Err e) done = (done.0, held_by before after (take done.0 asks) (λ w stands. ((done.1 w stands).0, (done.1 w stands).2)))
+  run_held (Err e) done = tt
+
+  pub run_in_part : (r : Result A E) → Done r → OnErr r (AreServedInPart before asks after)
+  run_in_part (Ok a) done = tt
+  run_in_part (Err e) done = record {
+    count = done.0;
+    left = λ w stands. ((done.1 w stands).0, (done.1 w stands).1);
+    held = held_by before after (take done.0 asks) (λ w stands. ((done.1 w stands).0, (done.1 w stands).2));
+  }

@@ -1,7 +1,6 @@
 -- One request of the replay, from what the process that asks did.
-use Rattle.std.proofs.Common.{◌≡◌, ◌<◌, ℕ, ◌+◌, take, get_or, add-one, Result, Ok, Err, IfOk, OnErr, [], ◌∷◌, ◌++◌, ◌||◌, nat_eq, List, length, Bool, true, false, cond, Option, Some, None, is_some, refl, sym, ap, subst, ◌∙◌, true≢false}
+use Rattle.std.proofs.Common.{◌≡◌, ℕ, ◌+◌, Result, Ok, Err, IfOk, OnErr, [], ◌∷◌, ◌++◌, ◌||◌, nat_eq, List, length, Bool, true, false, cond, Option, Some, None, is_some, refl, sym, ap, subst, ◌∙◌, true≢false}
 use Rattle.std.proofs.lemmas.Bool.{eqb-true}
-use Rattle.std.proofs.Math.Seq.{take-suc}
 use Rattle.std.specs.Prelude.{nat_le}
 use Rattle.std.specs.Map.{lookup, set_value}
 use Rattle.std.proofs.lemmas.Map.Steps.{set_value_same}
@@ -19,7 +18,7 @@ use Rattle.pua_script.specs.declared.request.Action.{Action}
 use Rattle.pua_script.specs.declared.request.Action.TheVariants.{Fork}
 use Rattle.pua_script.specs.Replay.{World, Effect, Fails, Kills, Leaves, Copies, if_promised, history_of, effect, answer_to, left_by, served, apply, world_after}
 use Rattle.pua_script.specs.Limits.{process_limit}
-use Rattle.pua_script.specs.Worlds.{WorldState, StandsAt, StandsForWorld, HasReplay, process_at, IsOkay, IsServed, AreServed, AreServedInPart, Does, Acts}
+use Rattle.pua_script.specs.Worlds.{WorldState, StandsAt, StandsForWorld, HasReplay, process_at, IsOkay, IsServed, AreServed, Does, Acts}
 use Rattle.pua_script.proofs.Composition.{replay_composes}
 use Rattle.pua_script.proofs.StoodFor.{same_numbers, stands_changed, stands_made}
 
@@ -144,24 +143,6 @@ served_more before mid after asks told ask answer first next w stands =
     let last = subst (λ (table : CallTable). (answer ≡ (apply table v ask).0) × StandsForWorld after (apply table v ask).1 × (after.table ≡ table)) done.2 (next v done.1) in
     let composed = replay_composes before.table w asks (ask ∷ []) in
     ((λ i. done.0 i ++ last.0 i ∷ []) ∙ sym composed.0, subst (StandsForWorld after) (sym composed.1) last.1, last.2)
-
--- the next of a list of requests
-pub served_next : (before mid after : WorldState) (asks : List Asked) (i : ℕ) (told more : List Answer) (ask : Asked) (answer : Answer) → i < length asks → ask ≡ get_or asks i ask → more ≡ told ++ answer ∷ []
-    → AreServed before (take i asks) told mid → IsServed mid ask answer after → AreServed before (take (i + 1) asks) more after
-served_next before mid after asks i told more ask answer within is pushed first next =
-    let taken : take (i + 1) asks ≡ take i asks ++ ask ∷ [] = ap (λ n. take n asks) (add-one i) ∙ take-suc asks i ask within ∙ ap (λ x. take i asks ++ x ∷ []) (sym is) in
-    subst (λ xs. AreServed before xs more after) (sym taken)
-    (subst (λ ys. AreServed before (take i asks ++ ask ∷ []) ys after) (sym pushed) (served_more before mid after (take i asks) told ask answer first next))
-
--- some first ones, where the next was not served
-pub served_before : (before mid after : WorldState) (asks own : List Asked) (i : ℕ) (told : List Answer) → own ≡ asks → after ≡ mid → AreServed before (take i own) told mid → AreServedInPart before asks after
-served_before before mid after asks own i told is same first = (
-  i,
-  λ w stands. (
-    subst (λ x. StandsForWorld x (world_after before.table w (take i asks))) (sym same) (subst (λ xs. StandsForWorld mid (world_after before.table w (take i xs))) is (first w stands).1),
-    ap (λ (x : WorldState). x.table) same ∙ (first w stands).2,
-  ),
-)
 
 -- where a growth may have been refused
 pub all_serve : (s : WorldState) (ask : Asked) (r : Result Answer WorldFault) (t : Tree) (p q : ProcessState) (more : List (ℕ × ProcessState)) → Some p ≡ process_at s ask.process → p.ended ≡ false

@@ -2,15 +2,15 @@
 use Rattle.std.specs.Prelude.{◌≡◌, ℕ, List, [], ◌∷◌, Some, take, IsTrue, IsFalse}
 use Rattle.pua_policy.specs.Calls.{standard_table}
 use Rattle.pua_policy.specs.Promises.{holds, cpath}
-use Rattle.pua_policy.specs.History.{History, held}
+use Rattle.pua_policy.specs.History.{History, ProcessState, StandsFor, held}
 use Rattle.pua_script.specs.Requests.{Asked}
 use Rattle.pua_script.specs.Replay.{World, history_of, world_after}
-use Rattle.pua_script.specs.Tightening.{NoCallNeedsError, RequestNarrows, FamilyNarrows}
+use Rattle.pua_script.specs.Tightening.{NoCallNeedsError, IsNarrowedBy, EndsWithin}
 use Rattle.pua_script.specs.Confinement.{TakingNeedsC, ChangingNeedsCpath, UncoveredStay, TreesAlong}
-use Rattle.pua_script.specs.Family.{is_exec, none_done, members_alone}
+use Rattle.pua_script.specs.Family.{is_exec, is_done, none_done, members_alone, family, is_member}
 use Rattle.pua_script.specs.Laws.{IsConfined}
 use Rattle.pua_script.specs.declared.answer.Answer.{Answer}
-use Rattle.pua_script.specs.Worlds.{WorldState, StandsForWorld, AreServed}
+use Rattle.pua_script.specs.Worlds.{WorldState, StandsForWorld, AreServed, process_at}
 
 -- the standard table is one of those that narrowing is about
 pub record StandardTableNarrows : Type 0 where
@@ -18,9 +18,19 @@ pub record StandardTableNarrows : Type 0 where
   pub taking : TakingNeedsC standard_table
   pub changing : ChangingNeedsCpath standard_table
 
--- each confined process is narrowed, but by its own exec
-abbrev pub IsNarrowing : WorldState → Asked → Type 0
-IsNarrowing before ask = (w : World) → StandsForWorld before w → RequestNarrows before.table w ask
+-- a process is kept at the number, and stands for a history of this kind
+pub record HasProcessOf (s : WorldState) (process : ℕ) (IsSo : History → Type 0) : Type 0 where
+  pub kept : ProcessState
+  pub here : process_at s process ≡ Some kept
+  pub history : History
+  pub stands : StandsFor kept history
+  pub so : IsSo history
+
+-- each process that was confined stands afterwards for a history that allows no more, but after its own exec
+abbrev pub IsNarrowing : WorldState → Asked → WorldState → Type 0
+IsNarrowing before ask after = (w : World) → StandsForWorld before w → (process : ℕ) (h : History) →
+    history_of w process ≡ Some h → IsConfined h → IsFalse (is_done is_exec before.table w ask (process ∷ [])) →
+    HasProcessOf after process (IsNarrowedBy before.table w ask process h)
 
 -- by the history of the one that asks, each row that isn't covered with `c` stays, if the table asks for `c` where a name is taken away
 abbrev pub IsSparing : WorldState → Asked → WorldState → Type 0
@@ -43,12 +53,22 @@ pub record IsConfining (before : WorldState) (now : History) (after : WorldState
   pub spares : TakingNeedsC before.table → UncoveredStay now before.tree after.tree
   pub unchanged : ChangingNeedsCpath before.table → IsFalse (holds (held now) cpath) → after.tree ≡ before.tree
 
--- what a list of requests leaves: each family is narrowed, and confined where it alone asks, as long as no exec of a member is answered ok
+-- what a list of requests leaves of the family of a process that was confined, as long as no exec of a
+-- member is answered ok: each member stands afterwards for a history that allows no more, and where
+-- members alone ask, what they change is confined
 pub record AreHeld (before : WorldState) (asks : List Asked) (after : WorldState) : Type 0 where
-  pub narrows : (w : World) → StandsForWorld before w → FamilyNarrows before.table w asks
+  pub narrows : (w : World) → StandsForWorld before w → (process : ℕ) (now : History) →
+      history_of w process ≡ Some now → IsConfined now → IsTrue (none_done is_exec before.table w asks (process ∷ [])) →
+      (member : ℕ) → IsTrue (is_member (family before.table w asks (process ∷ [])) member) →
+      HasProcessOf after member (EndsWithin before.table w asks process now)
   pub confines : (w : World) → StandsForWorld before w → (process : ℕ) (now : History) →
       history_of w process ≡ Some now → IsConfined now → IsTrue (none_done is_exec before.table w asks (process ∷ [])) →
       IsTrue (members_alone before.table w asks (process ∷ [])) → IsConfining before now after
 
-abbrev pub AreHeldInPart : WorldState → List Asked → WorldState → Type 0
-AreHeldInPart before asks after = (count : ℕ) × AreHeld before (take count asks) after
+-- some first ones of a list were served, and no more of it: the world stands for what these leave, and
+-- what a list leaves of families is true of these
+pub record AreServedInPart (before : WorldState) (asks : List Asked) (after : WorldState) : Type 0 where
+  pub count : ℕ
+  pub left : (w : World) → StandsForWorld before w →
+      StandsForWorld after (world_after before.table w (take count asks)) × (after.table ≡ before.table)
+  pub held : AreHeld before (take count asks) after

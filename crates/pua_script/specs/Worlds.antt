@@ -1,5 +1,5 @@
 -- What a world keeps, and for which worlds of the replay it stands.
-use Rattle.std.specs.Prelude.{◌≡◌, ℕ, Bool, true, false, List, ◌∷◌, length, take, nat_eq, Option, Some, None, Result, Ok, Err, IsTrue}
+use Rattle.std.specs.Prelude.{◌≡◌, ℕ, Bool, true, false, List, ◌∷◌, length, nat_eq, Option, Some, None, Result, Ok, Err, IsTrue}
 use Rattle.std.specs.Ordering.{nat_cmp}
 use Rattle.std.specs.FinMap.{is_sorted}
 use Rattle.std.specs.Map.{lookup}
@@ -56,10 +56,6 @@ IsServed before ask answer after =
 abbrev pub AreServed : WorldState → List Asked → List Answer → WorldState → Type 0
 AreServed before asks told after =
     (w : World) → StandsForWorld before w → (told ≡ answers before.table w asks) × StandsForWorld after (world_after before.table w asks) × (after.table ≡ before.table)
-
--- some first ones of the requests were served
-abbrev pub AreServedInPart : WorldState → List Asked → WorldState → Type 0
-AreServedInPart before asks after = (count : ℕ) × ((w : World) → StandsForWorld before w → StandsForWorld after (world_after before.table w (take count asks)) × (after.table ≡ before.table))
 
 -- what the world keeps at a number stands for the history at that number, in each world for which it stands
 abbrev pub IsProcessOf : WorldState → ℕ → Option ProcessState → Type 0

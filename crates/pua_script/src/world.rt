@@ -38,9 +38,9 @@ impl<T: FileTree> Model for World<T> {
 ghost use Rattle.std.specs.Prelude.{◌≡◌, IfOk, OnErr, MatchResult, IsFalse, option_copied};
 ghost use Rattle.pua_tree.specs.Tree.{WellFormed};
 ghost use Rattle.pua_policy.specs.Tables.{NoCallNeedsError};
-ghost use Rattle.pua_script.specs.Futures.{AreDone, AreDoneInPart, AreHeld, AreHeldInPart, IsNarrowing, IsSparing};
+ghost use Rattle.pua_script.specs.Futures.{AreDone, AreDoneInPart, AreHeld, AreServedInPart, IsNarrowing, IsSparing};
 ghost use Rattle.pua_script.specs.Replay.{new_world};
-ghost use Rattle.pua_script.specs.Worlds.{HasReplay, StandsForWorld, IsProcessOf, IsOkay, IsServed, AreServed, AreServedInPart, is_fork, process_at};
+ghost use Rattle.pua_script.specs.Worlds.{HasReplay, StandsForWorld, IsProcessOf, IsOkay, IsServed, AreServed, is_fork, process_at};
 
 impl<T: FileTree> World<T> {
     /// A world over this tree with process 1 alone, which is new. It answers calls by this table.
@@ -111,7 +111,7 @@ impl<T: FileTree> World<T> {
         ensures served { IfOk result (λ answer. IsServed self.old request.now answer self.new) }
         ensures memory { OnErr result (IsOkay self.old request.now) }
         ensures unchanged { OnErr result (self.new ≡ self.old) }
-        ensures narrows { IsNarrowing self.old request.now }
+        ensures narrows { IsNarrowing self.old request.now self.new }
         ensures spares { IfOk result (λ _. IsSparing self.old request.now self.new) }
         ensures tree { IfOk result (λ _. WellFormed self.new.tree) }
     {
@@ -152,8 +152,9 @@ impl<T: FileTree> World<T> {
     /// and where members alone ask, each row that the process couldn't touch with `c` stays, if the
     /// table asks for `c` where a name is taken away.
     pub fn run(&mut self, alloc: Global, script: &Script) -> Result<Vec<Answer>, WorldFault>
-        ensures served { MatchResult result (λ told. AreServed self.old script.now told.items self.new) (λ _. AreServedInPart self.old script.now self.new) }
-        ensures held { MatchResult result (λ _. AreHeld self.old script.now self.new) (λ _. AreHeldInPart self.old script.now self.new) }
+        ensures served { IfOk result (λ told. AreServed self.old script.now told.items self.new) }
+        ensures held { IfOk result (λ _. AreHeld self.old script.now self.new) }
+        ensures in_part { OnErr result (AreServedInPart self.old script.now self.new) }
     {
         self.serve_each(alloc, script)
     }
