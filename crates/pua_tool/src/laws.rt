@@ -16,20 +16,22 @@ pub fn text_examples()
     ensures { TextRows }
 {}
 
-/// A process that is locked or doesn't hold `unveil` reaches no more in any future, and nor does a
-/// member of its family, which are the process and those that a member forks from then on: whatever
-/// anyone asks for and whatever becomes of the tree, as long as no member's exec succeeds. Over each
-/// tree, each member's reach from the root lies within the process's reach by its history now; from
-/// the working directory it does where no member's chdir succeeds. This is so for each table of calls
-/// in which no call needs `error`.
+/// Over one tree a process that is locked or doesn't hold `unveil` may never do more than now, and nor
+/// may a member of its family, which are the process and those that a member forks from then on:
+/// whatever anyone asks for, as long as no member's exec succeeds, over each tree each member's later
+/// reach from the root lies within the reach that the process has over the same tree by its history
+/// now; from the working directory it does where no member's chdir succeeds. This is so for each table
+/// of calls in which no call needs `error`.
 ///
-/// So where rows, kinds and targets are again those of now, each member's reach lies within the
-/// process's reach now. And a request of another process leaves a process its history, so its
-/// promises, execpromises, veils, lock and working directory, and whether it has ended.
+/// It is no bound on what is reached as the tree changes: a reach grows where others, or members with
+/// `c`, bring things under the veils. Where rows, kinds and targets are again those of now, each
+/// member's reach lies within the process's reach now. And a request of another process leaves a
+/// process its history, so its promises, execpromises, veils, lock and working directory, and whether
+/// it has ended.
 ///
-/// What a command reads meets all of this without a condition, by each table that a text gives: cut a
-/// script anywhere, and a process that the lines before the cut left so reaches no more by the lines
-/// after it.
+/// What a command reads meets this without a condition, by each table that a text gives: cut a script
+/// anywhere, and the lines after the cut give a process that the lines before it left so, and its
+/// family, no reach over the last tree that the process would not have there by its history at the cut.
 pub fn narrowing()
     ensures reach { Narrowing }
     ensures now { NarrowingNow }
