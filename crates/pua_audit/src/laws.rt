@@ -2,7 +2,7 @@
 
 ghost use Rattle.std.specs.Prelude.{◌≡◌};
 ghost use Rattle.pua_audit.specs.Limits.{candidate_limit, letter_limit};
-ghost use Rattle.pua_audit.specs.Laws.{AlphabetRises, ClosedReaches, LiveStatesLive, ReachIsAlong, ReachRises};
+ghost use Rattle.pua_audit.specs.Laws.{AlphabetRises, ClosedReaches, LiveStatesFew, LiveStatesLive, ReachIsAlong, ReachRises};
 ghost use Rattle.pua_audit.specs.Graphs.{GraphsReach, LiveStatesCount, MasksList};
 ghost use Rattle.pua_audit.specs.Entries.{EntriesStand};
 ghost use Rattle.pua_audit.specs.Table.{TablesStand};
@@ -41,10 +41,13 @@ pub fn walk_laws()
 {}
 
 /// The list of the live states has just the states that are live, each once, in order. So what
-/// `Audit::table_len` answers is the number of live states.
-#[tactic(auto, using(crate::proofs::LiveStagesListed::live_states_live))]
+/// `Audit::table_len` answers is the number of live states. They are at most 33 N (L + 1), over a tree
+/// with N nodes and for words of at most L letters: each is a directory, a number of links from 0 to
+/// 32, and a number of letters from 0 to L.
+#[tactic(auto, using(crate::proofs::LiveStagesListed::live_states_live, crate::proofs::FewStates::few_states))]
 pub fn live_law()
-    ensures { LiveStatesLive }
+    ensures exact { LiveStatesLive }
+    ensures few { LiveStatesFew }
 {}
 
 /// A text names a pair to resume after exactly where it is the text of that pair: the call's name, a
