@@ -47,7 +47,7 @@ run run longest script
 expect 'as long as may be' 1 'pua: listing: bad header'
 run run "$(printf '\377')" script
 expect 'a word that is no text' 2 \
-    'pua: usage: pua run [--table FILE] TREE SCRIPT; pua objects [--process P] [--table FILE] TREE SCRIPT; pua audit --limit N [--process P] [--base root|cwd] [--after CALL:PATH] [--table FILE] TREE SCRIPT [NAME...]'
+    'pua: usage: pua run [--table FILE] TREE SCRIPT; pua audit --limit N [--process P] [--base root|cwd] [--after CALL:PATH] [--table FILE] TREE SCRIPT [NAME...]'
 "$program" audit --limit 1 tree script > /dev/full 2> told
 status=$?
 expect 'a full device' 3 'pua: cannot write'

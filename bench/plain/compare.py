@@ -69,7 +69,7 @@ def main():
 
         put("tree 1\n0 dir\n", "", None)
         for misused in table["misused"]:
-            run(misused["name"], misused["command"].split(), folder, "", table["usage"] + "\n", 2)
+            run(misused["name"], misused["command"].split(), folder, "", table["usage"][misused["usage"]] + "\n", 2)
         for refused in table["refused"]:
             calls = refused.get("table")
             put(refused.get("listing", "tree 1\n0 dir\n" if calls is None else "tree 0"), refused.get("script", "0"), calls)

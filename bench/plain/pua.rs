@@ -1329,15 +1329,18 @@ fn perform(command: Command, words: &Words) -> Result<(), (u8, String)> {
     }
 }
 
-/// That of the program beside which this one stands. Here no table is read.
-const USAGE: &str = "pua: usage: pua run [--table FILE] TREE SCRIPT; pua objects [--process P] [--table FILE] TREE SCRIPT; \
+/// Those of the program beside which this one stands. Here no table is read.
+const USAGE: &str = "pua: usage: pua run [--table FILE] TREE SCRIPT; \
                      pua audit --limit N [--process P] [--base root|cwd] [--after CALL:PATH] [--table FILE] TREE SCRIPT [NAME...]";
+const OBJECTS_USAGE: &str = "pua: usage: pua objects [--process P] [--table FILE] TREE SCRIPT";
 
 fn main() -> ExitCode {
     let words: Vec<String> = std::env::args().skip(1).collect();
+    let is_objects = words.first().is_some_and(|word| word == "objects");
+    let usage = if is_objects { OBJECTS_USAGE } else { USAGE };
     let done = match read_words(&words) {
         Some((command, words)) => perform(command, &words),
-        None => Err((2, USAGE.into())),
+        None => Err((2, usage.into())),
     };
     match done {
         Ok(()) => ExitCode::SUCCESS,

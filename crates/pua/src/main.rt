@@ -2,7 +2,7 @@
 //! of files.
 #![tactic(auto)]
 
-use pua_tool::{DONE, DiskInputs, StreamSink, ToolFault, USAGE, USAGE_LINE, command};
+use pua_tool::{DONE, DiskInputs, StreamSink, ToolFault, USAGE, UsageLine, command};
 use std::alloc::{AllocError, Global};
 use std::io::BufWriter;
 use std::process::ExitCode;
@@ -12,7 +12,7 @@ fn main(rt: HostRuntime) -> ExitCode {
     match words_given(&rt) {
         Ok(Some(args)) => ExitCode::from(run(&rt, args.as_slice())),
         Ok(None) => {
-            let _ = eprintln!(rt; "{USAGE_LINE}");
+            let _ = eprintln!(rt; "{}", UsageLine::Program.text());
             ExitCode::from(USAGE)
         }
         Err(AllocError) => ExitCode::from(report(&rt, ToolFault::OutOfMemory)),

@@ -38,7 +38,10 @@ pub(crate) fn run(rt: &HostRuntime) -> Result<()> {
     let text = fs::read_to_string(rt, "rows.toml")?;
     let table: Table = toml::from_str(alloc, text.as_str())?;
     for misused in &table.misused {
-        if !is_misused(alloc, misused, table.usage.as_str())? {
+        let Some(usage) = table.usage.get(misused.usage.as_str()) else {
+            return Err(anyhow!("{}: there is no line {}", misused.name, misused.usage));
+        };
+        if !is_misused(alloc, misused, usage.as_str())? {
             println!(rt; "not as expected: {}", misused.name)?;
         }
     }

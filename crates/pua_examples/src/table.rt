@@ -9,8 +9,8 @@ use std::collections::BTreeMap;
 /// The whole file.
 #[derive(Drop, Deserialize)]
 pub(crate) struct Table {
-    /// The line on standard error for words that are no command.
-    pub(crate) usage: String,
+    /// The lines on standard error for words that are no command, by name.
+    pub(crate) usage: BTreeMap<String, String>,
     pub(crate) tree: BTreeMap<String, Tree>,
     pub(crate) misused: Vec<Misused>,
     pub(crate) refused: Vec<Refused>,
@@ -28,6 +28,8 @@ pub(crate) struct Tree {
 pub(crate) struct Misused {
     pub(crate) name: String,
     pub(crate) command: String,
+    /// The name of the line that tells of it.
+    pub(crate) usage: String,
 }
 
 /// A listing, a script or a table of calls with a fault.

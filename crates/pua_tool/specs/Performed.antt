@@ -85,19 +85,19 @@ Lacks held command name =
 
 -- why one input was not taken
 abbrev pub IsUnheld : Held → List ℕ → CommandFault → Type 0
-IsUnheld held name Usage = ⊥
+IsUnheld held name (Usage line) = ⊥
 IsUnheld held name (Unreadable other) = (other.now ≡ name) × HoldsNothing held name
 IsUnheld held name (Tool fault) = fault ≡ OutOfMemory
 
 -- why the table's input, which is named so, was not taken
 abbrev pub IsTableUnheld : Held → Option (List ℕ) → CommandFault → Type 0
-IsTableUnheld held name Usage = ⊥
+IsTableUnheld held name (Usage line) = ⊥
 IsTableUnheld held name (Unreadable other) = (name ≡ Some other.now) × HoldsNothing held other.now
 IsTableUnheld held name (Tool fault) = fault ≡ OutOfMemory
 
 -- why the inputs were not taken
 abbrev pub IsUntaken : Held → Command → CommandFault → Type 0
-IsUntaken held command Usage = ⊥
+IsUntaken held command (Usage line) = ⊥
 IsUntaken held command (Unreadable name) = Lacks held command name.now
 IsUntaken held command (Tool fault) = fault ≡ OutOfMemory
 
@@ -109,6 +109,6 @@ IsUnwritten held command fault old new before after = Asks held command (Err fau
 
 -- what a command's fault says of the inputs and of the output
 abbrev pub IsStopped : Held → Command → CommandFault → Option (List ℕ) → Option (List ℕ) → ℕ → ℕ → Type 0
-IsStopped held command Usage old new before after = ⊥
+IsStopped held command (Usage line) old new before after = ⊥
 IsStopped held command (Unreadable name) old new before after = Lacks held command name.now × (new ≡ old)
 IsStopped held command (Tool fault) old new before after = IsUnwritten held command fault old new before after

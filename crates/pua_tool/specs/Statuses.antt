@@ -14,7 +14,7 @@ status_of _ = REFUSED
 
 -- words that are no command, an input that can't be read, or what stopped the writing
 abbrev pub fault_status : CommandFault → ℕ
-fault_status Usage = USAGE
+fault_status (Usage line) = USAGE
 fault_status (Unreadable name) = DEVICE
 fault_status (Tool fault) = status_of fault
 

@@ -36,7 +36,7 @@ pub fn command<I: Inputs, O: Sink, E: Sink>(
             Ok(()) => DONE,
             Err(_) => finish(Err(CommandFault::Tool(ToolFault::Write)), err),
         },
-        Err(Stop::Usage) => finish(Err(CommandFault::Usage), err),
+        Err(Stop::Usage(line)) => finish(Err(CommandFault::Usage(line)), err),
         Err(Stop::OutOfMemory) => finish(Err(CommandFault::Tool(ToolFault::OutOfMemory)), err),
     }
 }

@@ -27,7 +27,7 @@ pub use inputs::{DiskInputs, InputFault, Inputs, MemoryInputs, read_file};
 pub use job::Job;
 pub use laws::{confined, narrowing, text_examples, trees_alike};
 pub use objects::objects_to;
-pub use pua_words::{AuditWords, Command, ObjectWords, Text, USAGE_LINE};
+pub use pua_words::{AuditWords, Command, ObjectWords, Text, UsageLine};
 pub use run::run_to;
 pub use service::perform;
 pub use sink::{MemorySink, PutFault, Sink, StreamSink, put_all};

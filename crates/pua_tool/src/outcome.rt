@@ -6,15 +6,15 @@ ghost use Rattle.pua_tool.specs.Statuses.{fault_status, status_after};
 use crate::fault::ToolFault;
 use crate::sink::{Sink, put_all};
 use crate::status::{DEVICE, DONE, USAGE};
-use pua_words::USAGE_LINE;
+use pua_words::UsageLine;
 use std::fmt;
 use std::fmt::{Display, Write};
 
 /// Why a command was not done, or not whole. It is displayed as the line that the program prints.
 #[derive(Clone, Copy)]
 pub(crate) enum CommandFault<'a> {
-    /// The words are no command.
-    Usage,
+    /// The words are no command; the line tells how they could be.
+    Usage(UsageLine),
     /// The input of this name can't be read.
     Unreadable(&'a str),
     /// The inputs' bytes, the output or the memory stopped it.
@@ -26,7 +26,7 @@ impl CommandFault<'_> {
         ensures { result ≡ fault_status self.now }
     {
         match self {
-            CommandFault::Usage => USAGE,
+            CommandFault::Usage(_) => USAGE,
             CommandFault::Unreadable(_) => DEVICE,
             CommandFault::Tool(fault) => fault.status(),
         }
@@ -36,7 +36,7 @@ impl CommandFault<'_> {
 impl Display for CommandFault<'_> {
     fn fmt<W: Write>(&self, f: &mut fmt::Formatter<W>) -> fmt::Result {
         match self {
-            CommandFault::Usage => write!(f, "{USAGE_LINE}"),
+            CommandFault::Usage(line) => write!(f, "{}", line.text()),
             CommandFault::Unreadable(name) => write!(f, "pua: cannot read {name}"),
             CommandFault::Tool(fault) => write!(f, "{fault}"),
         }

@@ -1,8 +1,12 @@
 //! How the program is used, and what it prints for one who asks for help.
 
-/// How the program is used, in one line.
-pub const USAGE_LINE: &str =
-    "pua: usage: pua run [--table FILE] TREE SCRIPT; pua objects [--process P] [--table FILE] TREE SCRIPT; pua audit --limit N [--process P] [--base root|cwd] [--after CALL:PATH] [--table FILE] TREE SCRIPT [NAME...]";
+/// How runs and audits are asked for, in one line.
+pub(crate) const PROGRAM_USAGE: &str =
+    "pua: usage: pua run [--table FILE] TREE SCRIPT; pua audit --limit N [--process P] [--base root|cwd] [--after CALL:PATH] [--table FILE] TREE SCRIPT [NAME...]";
+
+/// How a list of objects is asked for, in one line.
+pub(crate) const OBJECTS_USAGE: &str =
+    "pua: usage: pua objects [--process P] [--table FILE] TREE SCRIPT";
 
 pub(crate) const PUA: &str =
     "Lists what a pledged and unveiled process may still do to a file tree";

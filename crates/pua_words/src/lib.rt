@@ -4,9 +4,10 @@
 
 mod command;
 mod help;
+mod usage;
 mod version;
 mod words;
 
 pub use command::{AuditWords, Command, ObjectWords, Text};
-pub use help::USAGE_LINE;
+pub use usage::UsageLine;
 pub use words::{Stop, read_words};

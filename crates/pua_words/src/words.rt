@@ -1,10 +1,12 @@
 //! The words of the command line, read by `clap`.
 
-ghost use Rattle.std.specs.Prelude.{◌≡◌, ◌↔◌, IfOk, Some, codes, option_map};
+ghost use Rattle.std.specs.Prelude.{◌≡◌, ◌↔◌, IfErr, IfOk, IfSome, Some, codes, map, option_map};
 ghost use Rattle.pua_words.specs.Commands.{AsksSoundly, IsProcessNumber};
+ghost use Rattle.pua_words.specs.Usages.{IsStop, line_for};
 
 use crate::command::{AuditWords, Command, ObjectWords, Text};
 use crate::help;
+use crate::usage::UsageLine;
 use crate::version::VERSION;
 use clap::error::ErrorKind;
 use clap::{Arg, ArgAction, ArgMatches, Error, value_parser};
@@ -17,36 +19,66 @@ pub(crate) const MOST_PROCESS: u32 = 999_999;
 /// Why there is nothing to do.
 #[derive(Debug, Drop)]
 pub enum Stop {
-    /// The words are not those of any command.
-    Usage,
-    /// Help or the version was asked for, and is this text.
+    /// The words are not those of any command. This line tells how they could be.
+    Usage(UsageLine),
+    /// Help or the version was asked for, and is this text, which is never empty.
     Display(String),
     /// A growth of memory was refused.
     OutOfMemory,
 }
 
 impl From<AllocError> for Stop {
+    ghost use Rattle.std.specs.Prelude.{◌≡◌};
+    ghost use Rattle.pua_words.specs.declared.words.Stop.TheVariants.{OutOfMemory};
+
+    ghost from_gives = { λ _ stop. stop ≡ OutOfMemory };
+
     fn from(_refused: AllocError) -> Stop {
         Stop::OutOfMemory
     }
 }
 
-/// What the words after the program's name ask for. `Usage` where they are not in the form of
-/// [`crate::USAGE_LINE`], as `clap` reads them: which words those are is in no contract.
+/// What the words after the program's name ask for. `Usage` where they are not in the form of the
+/// lines of [`UsageLine`], as `clap` reads them: which words those are is in no contract.
 pub fn read_words<'a>(alloc: Global, words: &'a [&'a str]) -> Result<Command<'a>, Stop>
     ensures process { IfOk result (λ command. AsksSoundly command.text) }
+    ensures stop { IfErr result (IsStop (line_for (map (λ word. word.now) words.now))) }
 {
-    let pua = pua_command(alloc)?;
-    let found = match pua.try_get_matches_from(words) {
+    let line = UsageLine::of(words);
+    let found = match pua_command(alloc)?.try_get_matches_from(words) {
         Ok(found) => found,
-        Err(error) => return Err(stop_of(alloc, &error)),
+        Err(error) => return Err(stop_of(alloc, &error, line)),
     };
-    match found.subcommand() {
-        Some(("run", inner)) => read_inputs(inner, Text::Run),
-        Some(("objects", inner)) => read_inputs(inner, Text::Objects(read_objects(inner)?)),
-        Some((_, inner)) => read_inputs(inner, Text::Audit(read_audit(alloc, inner)?)),
-        None => Err(Stop::Usage),
-    }
+    read_command(alloc, &found)?.ok_or(Stop::Usage(line))
+}
+
+/// What the words mean that `clap` takes. None doesn't come: it is what is left where `clap` takes
+/// words without a command, or without an operand.
+fn read_command<'a>(
+    alloc: Global,
+    found: &ArgMatches<'a>,
+) -> Result<Option<Command<'a>>, AllocError>
+    ensures { IfOk result (λ command. IfSome command (λ command. AsksSoundly command.text)) }
+{
+    let Some((name, inner)) = found.subcommand() else {
+        return Ok(None);
+    };
+    let text = match name {
+        "run" => Text::Run,
+        "objects" => {
+            let Some(words) = read_objects(inner) else {
+                return Ok(None);
+            };
+            Text::Objects(words)
+        }
+        _ => {
+            let Some(words) = read_audit(alloc, inner)? else {
+                return Ok(None);
+            };
+            Text::Audit(words)
+        }
+    };
+    Ok(read_inputs(inner, text))
 }
 
 fn pua_command<'a>(alloc: Global) -> Result<clap::Command<'a>, AllocError> {
@@ -164,62 +196,69 @@ fn script<'a>(alloc: Global) -> Arg<'a> {
         .help(help::SCRIPT)
 }
 
-fn stop_of(alloc: Global, error: &Error) -> Stop {
+/// What an error of `clap` asks for: a text about the program, or nothing.
+fn stop_of(alloc: Global, error: &Error, line: UsageLine) -> Stop
+    ensures { IsStop line result }
+{
     match error.kind() {
         ErrorKind::OutOfMemory => Stop::OutOfMemory,
         ErrorKind::DisplayHelp | ErrorKind::DisplayVersion => match error.to_string(alloc) {
-            Ok(text) => Stop::Display(text),
+            Ok(text) if !text.is_empty() => Stop::Display(text),
+            Ok(_) => Stop::Usage(line),
             Err(_) => Stop::OutOfMemory,
         },
-        _ => Stop::Usage,
+        _ => Stop::Usage(line),
     }
 }
 
 /// The inputs that all commands have, and the text that is asked for.
-fn read_inputs<'a>(found: &ArgMatches<'a>, text: Text<'a>) -> Result<Command<'a>, Stop>
-    ensures { IfOk result (λ command. command.text ≡ text.entry) }
+fn read_inputs<'a>(found: &ArgMatches<'a>, text: Text<'a>) -> Option<Command<'a>>
+    ensures { IfSome result (λ command. command.text ≡ text.entry) }
 {
-    match (found.get_str("tree"), found.get_str("script")) {
-        (Some(tree), Some(script)) => Ok(Command {
-            tree,
-            script,
-            table: found.get_str("table"),
-            text,
-        }),
-        _ => Err(Stop::Usage),
-    }
+    let (Some(tree), Some(script)) = (found.get_str("tree"), found.get_str("script")) else {
+        return None;
+    };
+    Some(Command {
+        tree,
+        script,
+        table: found.get_str("table"),
+        text,
+    })
 }
 
-fn read_objects(found: &ArgMatches<'_>) -> Result<ObjectWords, Stop>
-    ensures { IfOk result (λ words. IsProcessNumber words.process) }
+fn read_objects(found: &ArgMatches<'_>) -> Option<ObjectWords>
+    ensures { IfSome result (λ words. IsProcessNumber words.process) }
 {
-    Ok(ObjectWords {
+    Some(ObjectWords {
         process: read_process(found)?,
     })
 }
 
-fn read_audit<'a>(alloc: Global, found: &ArgMatches<'a>) -> Result<AuditWords<'a>, Stop>
-    ensures { IfOk result (λ words. IsProcessNumber words.process) }
+fn read_audit<'a>(
+    alloc: Global,
+    found: &ArgMatches<'a>,
+) -> Result<Option<AuditWords<'a>>, AllocError>
+    ensures { IfOk result (λ words. IfSome words (λ words. IsProcessNumber words.process)) }
 {
-    let Some(limit) = found.get_one::<u8>("limit") else {
-        return Err(Stop::Usage);
+    let (Some(limit), Some(process)) = (found.get_one::<u8>("limit"), read_process(found)) else {
+        return Ok(None);
     };
     let names = found.get_strs("names").unwrap_or(&[]);
-    Ok(AuditWords {
+    Ok(Some(AuditWords {
         limit,
-        process: read_process(found)?,
+        process,
         base: read_base(found.get_str("base")),
         after: found.get_str("after").map(|text| text.as_bytes()),
         names: names.iter().map(|name| name.as_bytes()).collect(alloc)?,
-    })
+    }))
 }
 
-fn read_process(found: &ArgMatches<'_>) -> Result<u32, Stop>
-    ensures { IfOk result IsProcessNumber }
+fn read_process(found: &ArgMatches<'_>) -> Option<u32>
+    ensures { IfSome result IsProcessNumber }
 {
     match found.get_one::<u32>("process") {
-        Some(process @ 1..=MOST_PROCESS) => Ok(process),
-        _ => Err(Stop::Usage),
+        Some(process @ 1..=MOST_PROCESS) => Some(process),
+        _ => None,
     }
 }
 

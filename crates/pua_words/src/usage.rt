@@ -1,0 +1,38 @@
+//! Which line tells how the program is used.
+
+ghost use Rattle.std.specs.Prelude.{◌≡◌, map};
+ghost use Rattle.pua_words.specs.Usages.{line_for, line_text};
+
+use crate::help;
+
+/// The lines that tell how the program is used, of which one is told for words that are no command.
+#[derive(Clone, Copy, Debug, PartialEq, Eq)]
+pub enum UsageLine {
+    /// How runs and audits are asked for.
+    Program,
+    /// How a list of objects is asked for.
+    Objects,
+}
+
+impl UsageLine {
+    /// The line for these words, should they be no command. The first of them alone decides: the
+    /// line of runs and audits also stands for no words, and for a first word that is no command.
+    pub fn of(words: &[&str]) -> UsageLine
+        ensures { result ≡ line_for (map (λ word. word.now) words.now) }
+    {
+        match words.first() {
+            Some(first) if *first == "objects" => UsageLine::Objects,
+            _ => UsageLine::Program,
+        }
+    }
+
+    /// The line, without its end.
+    pub fn text(self) -> &'static str
+        ensures { result.now ≡ line_text self }
+    {
+        match self {
+            UsageLine::Program => help::PROGRAM_USAGE,
+            UsageLine::Objects => help::OBJECTS_USAGE,
+        }
+    }
+}
