@@ -6,3 +6,4 @@ pub mod Futures
 pub mod Alike
 pub mod Passing
 pub mod ObjectTexts
+pub mod Stops

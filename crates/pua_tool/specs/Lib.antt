@@ -11,3 +11,4 @@ pub mod Performed
 pub mod Futures
 pub mod Alike
 pub mod Examples
+pub mod Told

@@ -1,6 +1,7 @@
 -- What the performance of a command promises.
-use Rattle.std.specs.Prelude.{◌≡◌, ◌⊎◌, ⊤, ℕ, List, Option, Some, None, Result, Ok, Err}
+use Rattle.std.specs.Prelude.{◌≡◌, ◌<◌, ◌⊎◌, ⊤, ℕ, List, length, Option, Some, None, Result, Ok, Err}
 use Rattle.std.specs.Borrow.{Bor}
+use Rattle.pua_words.specs.Commands.{AsksSoundly}
 use Rattle.pua_words.specs.declared.command.Command.{Command}
 use Rattle.pua_words.specs.declared.command.Text.{Text}
 use Rattle.pua_words.specs.declared.command.Text.TheVariants.{Run, Audit, Objects}
@@ -112,3 +113,14 @@ abbrev pub IsStopped : Held → Command → CommandFault → Option (List ℕ) �
 IsStopped held command (Usage line) old new before after = ⊥
 IsStopped held command (Unreadable name) old new before after = Lacks held command name.now × (new ≡ old)
 IsStopped held command (Tool fault) old new before after = IsUnwritten held command fault old new before after
+
+-- what words that are done have written: the whole text of a command, or a text of some bytes about the program
+abbrev pub HasAnswered : Held → Option (List ℕ) → Option (List ℕ) → Type 0
+HasAnswered held old new = ((command : Command) × AsksSoundly command.text × IsDone held command old new)
+    ⊎ ((text : List ℕ) × (0 < length text) × Adds text old new)
+
+-- why words ended with a device's status: a command's input is missing and nothing was written, or a put failed and a front of a text was written
+abbrev pub HasHalted : Held → Option (List ℕ) → Option (List ℕ) → ℕ → ℕ → Type 0
+HasHalted held old new before after =
+    ((command : Command) × AsksSoundly command.text × ((LacksInput held command × (new ≡ old)) ⊎ IsCutShort held command old new before after))
+    ⊎ ((text : List ℕ) × AddsFront text old new × HasFailed before after)

@@ -1,23 +1,31 @@
 //! The whole program, as a function over its inputs and outputs.
 
-ghost use Rattle.std.specs.Prelude.{◌≡◌, ◌≢◌, ◌≤◌};
+ghost use Rattle.std.specs.Prelude.{◌≡◌, ◌≢◌, ◌≤◌, map};
+ghost use Rattle.pua_words.specs.Usages.{line_for, line_text};
+ghost use Rattle.pua_words.specs.Commands.{AsksSoundly};
+ghost use Rattle.pua_words.specs.declared.command.Command.{Command};
+ghost use Rattle.pua_tool.specs.Performed.{HasAnswered, HasHalted, IsRefused};
+ghost use Rattle.pua_tool.specs.Sinks.{Adds, AddsFront, HasFailed};
+ghost use Rattle.pua_tool.specs.Texts.{ended};
+ghost use Rattle.pua_tool.specs.Told.{IsTold, Shows, ShowsFront, TellsUsage};
 
 use crate::fault::ToolFault;
 use crate::inputs::Inputs;
 use crate::outcome::{CommandFault, finish};
 use crate::service::perform;
-use crate::sink::{Sink, put_all};
-use crate::status::{DEVICE, DONE, MEMORY};
+use crate::sink::{PutFault, Sink, put_all};
+use crate::status::{DEVICE, DONE, MEMORY, REFUSED, USAGE};
 use pua_words::{Stop, read_words};
 use std::alloc::Global;
 
 /// Does what the words after the program's name ask for: [`perform`], of the command that they say.
 /// Which command that is, and which words are none, is `clap`'s to say and in no contract.
 ///
-/// It answers the status: 0 where it is done, 1 where an input was refused, 2 where the words are no
-/// command, 3 where a file can't be read or the text can't be written, and 4 where a growth of memory
-/// was refused. Help is asked for by `--help`, `-h` or `help`, and the version of the program and
-/// of its toolchain by `--version` or `-V`; both go to `out`.
+/// It answers the status: [`DONE`] where it is done, [`REFUSED`] where an input was refused,
+/// [`USAGE`] where the words are no command, [`DEVICE`] where a file can't be read or the text can't
+/// be written, and [`MEMORY`] where a growth of memory was refused. Help is asked for by `--help`,
+/// `-h` or `help`, and the version of the program and of its toolchain by `--version` or `-V`; both
+/// go to `out`.
 pub fn command<I: Inputs, O: Sink, E: Sink>(
     alloc: Global,
     words: &[&str],
@@ -25,6 +33,12 @@ pub fn command<I: Inputs, O: Sink, E: Sink>(
     out: &mut O,
     err: &mut E,
 ) -> u8
+    ensures done { result ≡ DONE → HasAnswered (I.holds inputs.old) (O.written out.old) (O.written out.new) }
+    ensures refused { result ≡ REFUSED → (c : Command) × AsksSoundly c.text × IsRefused (I.holds inputs.old) c }
+    ensures usage { result ≡ USAGE → IsTold (ended (line_text (line_for (map (λ word. word.now) words.now))))
+        (E.written err.old) (E.written err.new) (E.failed err.old) (E.failed err.new) }
+    ensures device { result ≡ DEVICE → HasHalted (I.holds inputs.old)
+        (O.written out.old) (O.written out.new) (O.failed out.old) (O.failed out.new) }
     ensures status { result ≤ MEMORY }
     ensures unwritten { result ≢ DONE → result ≢ DEVICE → O.written out.new ≡ O.written out.old }
     ensures unfailed { result ≡ DONE → O.failed out.new ≡ O.failed out.old }
@@ -32,11 +46,40 @@ pub fn command<I: Inputs, O: Sink, E: Sink>(
 {
     match read_words(alloc, words) {
         Ok(command) => perform(alloc, &command, inputs, out, err),
-        Err(Stop::Display(text)) => match put_all(out, text.as_bytes()) {
-            Ok(()) => DONE,
-            Err(_) => finish(Err(CommandFault::Tool(ToolFault::Write)), err),
-        },
-        Err(Stop::Usage(line)) => finish(Err(CommandFault::Usage(line)), err),
-        Err(Stop::OutOfMemory) => finish(Err(CommandFault::Tool(ToolFault::OutOfMemory)), err),
+        Err(stop) => stopped(&stop, out, err),
+    }
+}
+
+/// Writes the text about the program that the words ask for, or tells why there is nothing to do.
+fn stopped<O: Sink, E: Sink>(stop: &Stop, out: &mut O, err: &mut E) -> u8
+    ensures shown { result ≡ DONE → Shows stop.now (O.written out.old) (O.written out.new) }
+    ensures cut { result ≡ DEVICE → ShowsFront stop.now (O.written out.old) (O.written out.new) (O.failed out.old) (O.failed out.new) }
+    ensures usage { result ≡ USAGE → TellsUsage stop.now (E.written err.old) (E.written err.new) (E.failed err.old) (E.failed err.new) }
+    ensures memory { stop.now ≡ Stop.OutOfMemory → result ≡ MEMORY }
+    ensures unrefused { result ≢ REFUSED }
+    ensures statuses { result ≤ MEMORY }
+    ensures unwritten { result ≢ DONE → result ≢ DEVICE → O.written out.new ≡ O.written out.old }
+    ensures unfailed { result ≡ DONE → O.failed out.new ≡ O.failed out.old }
+    ensures quiet { result ≡ DONE → err.new ≡ err.old }
+{
+    match stop {
+        Stop::Display(text) => show(text.as_str(), out, err),
+        Stop::Usage(line) => finish(Err(CommandFault::Usage(*line)), err),
+        Stop::OutOfMemory => finish(Err(CommandFault::Tool(ToolFault::OutOfMemory)), err),
+    }
+}
+
+/// Writes a text that the words ask for.
+fn show<O: Sink, E: Sink>(text: &str, out: &mut O, err: &mut E) -> u8
+    ensures whole { result ≡ DONE → Adds text.now (O.written out.old) (O.written out.new) }
+    ensures front { result ≢ DONE → AddsFront text.now (O.written out.old) (O.written out.new) }
+    ensures failed { result ≢ DONE → HasFailed (O.failed out.old) (O.failed out.new) }
+    ensures status { result ≢ DONE → result ≡ DEVICE }
+    ensures unfailed { result ≡ DONE → O.failed out.new ≡ O.failed out.old }
+    ensures quiet { result ≡ DONE → err.new ≡ err.old }
+{
+    match put_all(out, text.as_bytes()) {
+        Ok(()) => DONE,
+        Err(PutFault) => finish(Err(CommandFault::Tool(ToolFault::Write)), err),
     }
 }

@@ -10,6 +10,9 @@ use pua_script::ScriptFault;
 use pua_tree::ListingFault;
 use thiserror::Error;
 
+/// The line of a put that failed, without its end.
+pub(crate) const CANNOT_WRITE: &str = "pua: cannot write";
+
 /// Why the text of a run, of an audit or of a list of objects was not written, or not whole. It is
 /// displayed as the line that the program prints.
 #[derive(Clone, Copy, Debug, PartialEq, Eq, Error)]
@@ -27,7 +30,7 @@ pub enum ToolFault {
     #[error("pua: audit: {0}")]
     Audit(AuditFault),
     /// A put failed. What was written is a front of the text.
-    #[error("pua: cannot write")]
+    #[error("{line}", line = CANNOT_WRITE)]
     Write,
     /// A growth of memory was refused, and nothing was written.
     #[error("pua: out of memory")]

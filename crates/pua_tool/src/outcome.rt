@@ -1,16 +1,19 @@
 //! How a command ends: with which line, and with which status.
 
-ghost use Rattle.std.specs.Prelude.{◌≡◌, OnOk};
+ghost use Rattle.std.specs.Prelude.{◌≡◌, IfErr, OnOk};
+ghost use Rattle.pua_tool.specs.Sinks.{Writes};
 ghost use Rattle.pua_tool.specs.Statuses.{fault_status, status_after};
+ghost use Rattle.pua_tool.specs.Texts.{ended};
+ghost use Rattle.pua_tool.specs.Told.{IsFaultTold, TellsFault};
 
-use crate::fault::ToolFault;
-use crate::sink::{Sink, put_all};
+use crate::fault::{CANNOT_WRITE, ToolFault};
+use crate::sink::{PutFault, Sink, put_all};
 use crate::status::{DEVICE, DONE, USAGE};
 use pua_words::UsageLine;
 use std::fmt;
-use std::fmt::{Display, Write};
+use std::fmt::Write;
 
-/// Why a command was not done, or not whole. It is displayed as the line that the program prints.
+/// Why a command was not done, or not whole.
 #[derive(Clone, Copy)]
 pub(crate) enum CommandFault<'a> {
     /// The words are no command; the line tells how they could be.
@@ -31,27 +34,44 @@ impl CommandFault<'_> {
             CommandFault::Tool(fault) => fault.status(),
         }
     }
-}
 
-impl Display for CommandFault<'_> {
-    fn fmt<W: Write>(&self, f: &mut fmt::Formatter<W>) -> fmt::Result {
+    /// Writes the line that tells of the fault.
+    fn tell<E: Sink>(&self, err: &mut E) -> Result<(), PutFault>
+        ensures { TellsFault self.now result (E.written err.old) (E.written err.new) (E.failed err.old) (E.failed err.new) }
+    {
         match self {
-            CommandFault::Usage(line) => write!(f, "{}", line.text()),
-            CommandFault::Unreadable(name) => write!(f, "pua: cannot read {name}"),
-            CommandFault::Tool(fault) => write!(f, "{fault}"),
+            CommandFault::Usage(line) => put_line(err, line.text()),
+            CommandFault::Unreadable(name) => {
+                put_all(err, "pua: cannot read ".as_bytes())?;
+                put_line(err, name)
+            }
+            CommandFault::Tool(ToolFault::Write) => put_line(err, CANNOT_WRITE),
+            CommandFault::Tool(fault) => {
+                writeln!(Report { sink: err }, "{fault}").map_err(|_| PutFault)
+            }
         }
     }
 }
 
-/// Reports a fault, and answers the status. The fault's line is dropped where it can't be written.
+/// Writes a line and its end.
+fn put_line<E: Sink>(err: &mut E, line: &str) -> Result<(), PutFault>
+    ensures { Writes (ended line.now) result (E.written err.old) (E.written err.new) (E.failed err.old) (E.failed err.new) }
+{
+    put_all(err, line.as_bytes())?;
+    put_all(err, "\n".as_bytes())
+}
+
+/// Reports a fault, and answers the status. What is left of the fault's line is dropped where it
+/// can't be written.
 pub(crate) fn finish<E: Sink>(done: Result<(), CommandFault<'_>>, err: &mut E) -> u8
     ensures status { result ≡ status_after done.entry }
     ensures quiet { OnOk done.entry (err.new ≡ err.old) }
+    ensures told { IfErr done.entry (λ fault. IsFaultTold fault (E.written err.old) (E.written err.new) (E.failed err.old) (E.failed err.new)) }
 {
     match done {
         Ok(()) => DONE,
         Err(fault) => {
-            let _ = writeln!(Report { sink: err }, "{fault}");
+            let _ = fault.tell(err);
             fault.status()
         }
     }

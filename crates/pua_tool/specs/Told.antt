@@ -1,0 +1,53 @@
+-- What a fault's line leaves in the sink for faults.
+use Rattle.std.specs.Prelude.{⊤, ℕ, List, ◌++◌, Option, Result, codes, string_bytes}
+use Rattle.pua_words.specs.Usages.{line_text}
+use Rattle.pua_words.specs.declared.words.Stop.{Stop}
+use Rattle.pua_words.specs.declared.words.Stop.TheVariants as stop
+use Rattle.pua_tool.specs.Sinks.{Adds, AddsFront, HasFailed, Writes}
+use Rattle.pua_tool.specs.Texts.{ended}
+use Rattle.pua_tool.specs.declared.sink.PutFault.{PutFault}
+use Rattle.pua_tool.specs.declared.fault.ToolFault.{ToolFault}
+use Rattle.pua_tool.specs.declared.fault.ToolFault.TheVariants.{Write}
+use Rattle.pua_tool.specs.declared.outcome.CommandFault.{CommandFault}
+use Rattle.pua_tool.specs.declared.outcome.CommandFault.TheVariants.{Usage, Unreadable, Tool}
+
+-- the line of a put that failed
+abbrev pub cannot_write : List ℕ
+cannot_write = ended (codes "pua: cannot write")
+
+-- the writing of the line of a fault of the tool; of the others' lines nothing is said
+abbrev pub TellsToolFault : ToolFault → Result (Unit {0}) PutFault → Option (List ℕ) → Option (List ℕ) → ℕ → ℕ → Type 0
+TellsToolFault Write done old new before after = Writes cannot_write done old new before after
+TellsToolFault _ done old new before after = ⊤
+
+-- the writing of the line of a command's fault
+abbrev pub TellsFault : CommandFault → Result (Unit {0}) PutFault → Option (List ℕ) → Option (List ℕ) → ℕ → ℕ → Type 0
+TellsFault (Usage line) done old new before after = Writes (ended (line_text line)) done old new before after
+TellsFault (Unreadable name) done old new before after = Writes (ended (codes "pua: cannot read " ++ name.now)) done old new before after
+TellsFault (Tool fault) done old new before after = TellsToolFault fault done old new before after
+
+-- a command's fault was told: by all of its line, or by a front of it before a put that failed
+abbrev pub IsFaultTold : CommandFault → Option (List ℕ) → Option (List ℕ) → ℕ → ℕ → Type 0
+IsFaultTold fault old new before after = (done : Result (Unit {0}) PutFault) × TellsFault fault done old new before after
+
+-- so was a line
+abbrev pub IsTold : List ℕ → Option (List ℕ) → Option (List ℕ) → ℕ → ℕ → Type 0
+IsTold line old new before after = (done : Result (Unit {0}) PutFault) × Writes line done old new before after
+
+-- the text that the words ask for was written
+abbrev pub Shows : Stop → Option (List ℕ) → Option (List ℕ) → Type 0
+Shows (stop.Display text) old new = Adds (string_bytes text) old new
+Shows (stop.Usage line) old new = ⊥
+Shows stop.OutOfMemory old new = ⊥
+
+-- a put failed, and a front of this text was written
+abbrev pub ShowsFront : Stop → Option (List ℕ) → Option (List ℕ) → ℕ → ℕ → Type 0
+ShowsFront (stop.Display text) old new before after = AddsFront (string_bytes text) old new × HasFailed before after
+ShowsFront (stop.Usage line) old new before after = ⊥
+ShowsFront stop.OutOfMemory old new before after = ⊥
+
+-- the line of words that are no command was told
+abbrev pub TellsUsage : Stop → Option (List ℕ) → Option (List ℕ) → ℕ → ℕ → Type 0
+TellsUsage (stop.Display text) old new before after = ⊥
+TellsUsage (stop.Usage line) old new before after = IsTold (ended (line_text line)) old new before after
+TellsUsage stop.OutOfMemory old new before after = ⊥
