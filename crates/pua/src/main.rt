@@ -2,7 +2,7 @@
 //! of files.
 #![tactic(auto)]
 
-use pua_tool::{DONE, DiskInputs, StreamSink, ToolFault, USAGE, UsageLine, command};
+use pua_tool::{DiskInputs, StreamSink, ToolFault, USAGE, UsageLine, program};
 use std::alloc::{AllocError, Global};
 use std::io::BufWriter;
 use std::process::ExitCode;
@@ -28,7 +28,7 @@ fn words_given(rt: &HostRuntime) -> Result<Option<Vec<String>>, AllocError> {
     }
 }
 
-/// Runs the command over the machine's files, and answers the status.
+/// Runs the program over the machine's files, and answers the status.
 fn run(rt: &HostRuntime, args: &[String]) -> u8 {
     let (Ok(words), Ok(writer)) = (
         lent(rt.alloc(), args),
@@ -36,27 +36,20 @@ fn run(rt: &HostRuntime, args: &[String]) -> u8 {
     ) else {
         return report(rt, ToolFault::OutOfMemory);
     };
-    let mut inputs = DiskInputs::new(rt);
-    let mut out = StreamSink::new(writer);
-    let mut err = StreamSink::new(rt.stderr());
-    let status = command(
+    program(
         rt.alloc(),
         words.as_slice(),
-        &mut inputs,
-        &mut out,
-        &mut err,
-    );
-    if out.flush().is_err() && status == DONE {
-        return report(rt, ToolFault::Write);
-    }
-    status
+        &mut DiskInputs::new(rt),
+        &mut StreamSink::new(writer),
+        &mut StreamSink::new(rt.stderr()),
+    )
 }
 
 fn lent<'a>(alloc: Global, args: &'a [String]) -> Result<Vec<&'a str>, AllocError> {
     args.iter().map(|arg| arg.as_str()).collect(alloc)
 }
 
-/// Reports a fault outside the command, and answers the status.
+/// Reports a fault that comes before the words are read, and answers the status.
 fn report(rt: &HostRuntime, fault: ToolFault) -> u8 {
     let _ = eprintln!(rt; "{fault}");
     fault.status()

@@ -1,22 +1,62 @@
 //! The whole program, as a function over its inputs and outputs.
 
-ghost use Rattle.std.specs.Prelude.{◌≡◌, ◌≢◌, ◌≤◌, map};
+ghost use Rattle.std.specs.Prelude.{◌≡◌, ◌≢◌, ◌≤◌, [], OnErr, OnOk, map};
+ghost use Rattle.std.specs.Io.Buffered.{writer_buffer, writer_contents};
 ghost use Rattle.pua_words.specs.Usages.{line_for, line_text};
 ghost use Rattle.pua_words.specs.Commands.{AsksSoundly};
 ghost use Rattle.pua_words.specs.declared.command.Command.{Command};
 ghost use Rattle.pua_tool.specs.Performed.{HasAnswered, HasHalted, IsRefused};
 ghost use Rattle.pua_tool.specs.Sinks.{Adds, AddsFront, HasFailed};
 ghost use Rattle.pua_tool.specs.Texts.{ended};
-ghost use Rattle.pua_tool.specs.Told.{IsTold, Shows, ShowsFront, TellsUsage};
+ghost use Rattle.pua_tool.specs.Told.{IsTold, Shows, ShowsFront, TellsUsage, cannot_write};
 
 use crate::fault::ToolFault;
 use crate::inputs::Inputs;
 use crate::outcome::{CommandFault, finish};
 use crate::service::perform;
-use crate::sink::{PutFault, Sink, put_all};
+use crate::sink::{PutFault, Sink, StreamSink, put_all};
 use crate::status::{DEVICE, DONE, MEMORY, REFUSED, USAGE};
 use pua_words::{Stop, read_words};
 use std::alloc::Global;
+use std::io::{BufWriter, Write};
+
+/// [`command`], with an output that holds bytes back, which are handed on at the end: after
+/// [`DONE`] nothing is held back. Where they can't be handed on, that is told as a text is that
+/// can't be written.
+pub fn program<I: Inputs, W: Write + Drop, E: Sink>(
+    alloc: Global,
+    words: &[&str],
+    inputs: &mut I,
+    out: &mut StreamSink<BufWriter<W>>,
+    err: &mut E,
+) -> u8
+    ensures done { result ≡ DONE → HasAnswered (I.holds inputs.old) (writer_contents W.contents out.old.0) (writer_contents W.contents out.new.0) }
+    ensures handed { result ≡ DONE → writer_buffer out.new.0 ≡ [] }
+    ensures unfailed { result ≡ DONE → out.new.1 ≡ out.old.1 }
+    ensures quiet { result ≡ DONE → err.new ≡ err.old }
+    ensures statuses { result ≤ MEMORY }
+{
+    let status = command(alloc, words, inputs, out, err);
+    let flushed = out.flush();
+    at_end(status, flushed, err)
+}
+
+/// The status after a command whose output was flushed at its end. A flush that failed after
+/// [`DONE`] is told on `err`; after every other status a fault was told already.
+fn at_end<E: Sink>(status: u8, flushed: Result<(), PutFault>, err: &mut E) -> u8
+    ensures kept { OnOk flushed (result ≡ status) }
+    ensures stopped { status ≢ DONE → result ≡ status }
+    ensures device { OnErr flushed (status ≡ DONE → result ≡ DEVICE) }
+    ensures told { OnErr flushed (status ≡ DONE →
+        IsTold cannot_write (E.written err.old) (E.written err.new) (E.failed err.old) (E.failed err.new)) }
+    ensures quiet { OnOk flushed (err.new ≡ err.old) }
+    ensures untold { status ≢ DONE → err.new ≡ err.old }
+{
+    if flushed.is_err() && status == DONE {
+        return finish(Err(CommandFault::Tool(ToolFault::Write)), err);
+    }
+    status
+}
 
 /// Does what the words after the program's name ask for: [`perform`], of the command that they say.
 /// Which command that is, and which words are none, is `clap`'s to say and in no contract.

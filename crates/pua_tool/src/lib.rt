@@ -21,7 +21,7 @@ mod source;
 mod status;
 
 pub use audit::audit_to;
-pub use cli::command;
+pub use cli::{command, program};
 pub use fault::ToolFault;
 pub use inputs::{DiskInputs, InputFault, Inputs, MemoryInputs, read_file};
 pub use job::Job;
