@@ -1,3 +1,4 @@
 //! Wrong bodies of `pua_tree`.
 
+mod listings;
 mod texts;
