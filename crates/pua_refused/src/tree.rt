@@ -1,4 +1,5 @@
 //! Wrong bodies of `pua_tree`.
 
+mod answers;
 mod listings;
 mod texts;
