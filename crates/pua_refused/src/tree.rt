@@ -1,5 +1,6 @@
 //! Wrong bodies of `pua_tree`.
 
 mod answers;
+mod edits;
 mod listings;
 mod texts;
