@@ -3,4 +3,5 @@
 mod answers;
 mod edits;
 mod listings;
+mod slab_edits;
 mod texts;
