@@ -139,7 +139,7 @@ impl Live {
     /// `limit` letters: states to which words lead, and from which words with an allowed call go on,
     /// counted for each number of letters that may still come. The one error is that a growth was
     /// refused, after which nothing is kept.
-    pub fn count(
+    pub(crate) fn count(
         &self,
         alloc: Global,
         steps: &Steps,

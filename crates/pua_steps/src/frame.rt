@@ -5,9 +5,9 @@ use crate::state::State;
 /// An open state: the letters from `next` on, and the entries of its list from `place` on and before
 /// `end`, are still to be tried.
 #[derive(Clone, Copy, Debug, PartialEq, Eq)]
-pub struct Frame {
-    pub state: State,
-    pub next: usize,
-    pub place: usize,
-    pub end: usize,
+pub(crate) struct Frame {
+    pub(crate) state: State,
+    pub(crate) next: usize,
+    pub(crate) place: usize,
+    pub(crate) end: usize,
 }

@@ -20,11 +20,8 @@ mod tables;
 mod visit;
 mod walk;
 
-pub use frame::Frame;
 pub use laws::{steps_examples, steps_laws};
 pub use limits::{CALL_COUNT, MOST_LETTERS, MOST_LINKS};
-pub use lists::{Lists, Span};
-pub use live::Live;
 pub use state::State;
 pub use steps::{Entry, Row, Steps};
 pub use tables::Tables;

@@ -1,6 +1,6 @@
 //! The entries that a walk reads: of each directory those whose letters may give something.
 
-ghost use Rattle.std.specs.Prelude.{◌≡◌, ◌≤◌, ◌<◌, ◌+◌, ◌*◌, ◌++◌, ◌∷◌, [], ℕ, suc, cond, length, take, drop, get_or, min, None, IfOk, IfSome};
+ghost use Rattle.std.specs.Prelude.{◌≡◌, ◌≤◌, ◌<◌, ◌+◌, ◌*◌, ◌++◌, ◌∷◌, [], ℕ, suc, cond, length, take, drop, get_or, min, None, IfOk, IfSome, MatchOption};
 ghost use Rattle.std.specs.List.{AllByRecursion};
 ghost use Rattle.pua_steps.specs.Limits.{most_links};
 ghost use Rattle.pua_steps.specs.Live.{IsSized};
@@ -17,9 +17,9 @@ use std::alloc::{AllocError, Global};
 
 /// Where a list stands among the entries of all lists: from `place` on, and before `end`.
 #[derive(Clone, Copy, Debug, PartialEq, Eq)]
-pub struct Span {
-    pub place: usize,
-    pub end: usize,
+pub(crate) struct Span {
+    pub(crate) place: usize,
+    pub(crate) end: usize,
 }
 
 /// For each number of letters that may come after a letter, below the limit, and for each directory,
@@ -28,13 +28,13 @@ pub struct Span {
 /// allowed on letters without entries keeps all its entries. So a walk does not pass over dead
 /// entries again and again.
 #[derive(Drop)]
-pub struct Lists {
+pub(crate) struct Lists {
     /// The entries of the lists, list after list.
-    pub entries: Vec<Entry>,
+    entries: Vec<Entry>,
     /// Where the lists stand: for each layer that was made, a span for each directory.
-    pub spans: Vec<Span>,
+    spans: Vec<Span>,
     /// Where the spans of each number of letters begin. Layers that are the same share their spans.
-    pub layers: Vec<usize>,
+    layers: Vec<usize>,
 }
 
 impl Entry {
@@ -53,7 +53,7 @@ impl Entry {
 impl Lists {
     /// The lists of a table of steps by its live states, for words of at most `limit` letters. The one
     /// error is that a growth was refused, after which nothing is kept.
-    pub fn fill(
+    pub(crate) fn fill(
         alloc: Global,
         steps: &Steps,
         live: &Live,
@@ -200,12 +200,16 @@ impl Lists {
         }
     }
 
-    /// The entry at a place, or None from `end` on.
-    pub(crate) fn entry(&self, place: usize, end: usize) -> Option<Entry>
+    /// The entry at a place, which is counted, or None from `end` on.
+    #[inline]
+    pub(crate) fn entry(&self, place: usize, end: usize, reads: &mut u64) -> Option<Entry>
         requires { end ≤ length self.now.entries.items }
-        ensures { result ≡ first_of (within self.now.entries.items place end) }
+        ensures entry { result ≡ first_of (within self.now.entries.items place end) }
+        ensures reads { MatchOption result (reads.new ≡ reads.old)
+            (λ _. reads.new ≡ min (reads.old + 1) 18446744073709551615) }
     {
         if place < end {
+            *reads = reads.saturating_add(1);
             return Some(self.entries[place]);
         }
         None
@@ -238,12 +242,20 @@ impl Lists {
         low
     }
 
-    /// The entry at a place before `end`, if it is that of the letter.
-    pub(crate) fn entry_of(&self, place: usize, end: usize, letter: usize) -> Option<Entry>
+    /// The entry at a place before `end`, if it is that of the letter. An entry that it reads is
+    /// counted.
+    pub(crate) fn entry_of(
+        &self,
+        place: usize,
+        end: usize,
+        letter: usize,
+        reads: &mut u64,
+    ) -> Option<Entry>
         requires { end ≤ length self.now.entries.items }
-        ensures { result ≡ with_letter letter (first_of (within self.now.entries.items place end)) }
+        ensures entry { result ≡ with_letter letter (first_of (within self.now.entries.items place end)) }
+        ensures reads { reads.new ≤ reads.old + 1 }
     {
-        let entry = self.entry(place, end)?;
+        let entry = self.entry(place, end, reads)?;
         if entry.letter == letter {
             return Some(entry);
         }
@@ -254,7 +266,8 @@ impl Lists {
 /// An entry of a list: it is counted.
 fn read(list: &[Entry], place: usize, reads: &mut u64) -> Entry
     requires { place < length list.now }
-    ensures entry { result ≡ get_or list.now place (record { letter = 0; all = 0; kept = 0; links = 0; to = None }) }
+    ensures entry { result ≡ get_or list.now place
+        (record { letter = 0; all = 0; kept = 0; links = 0; to = None }) }
     ensures reads { reads.new ≡ min (reads.old + 1) 18446744073709551615 }
 {
     *reads = reads.saturating_add(1);

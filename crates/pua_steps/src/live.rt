@@ -15,9 +15,9 @@ use std::alloc::{AllocError, Global};
 /// directories: a state is live just where it has followed fewer links than that number, which is at
 /// most 33.
 #[derive(Drop)]
-pub struct Live {
-    pub dirs: usize,
-    pub bounds: Vec<u8>,
+pub(crate) struct Live {
+    pub(crate) dirs: usize,
+    pub(crate) bounds: Vec<u8>,
 }
 
 impl Live {
@@ -132,7 +132,7 @@ fn behind(steps: &Steps, bounds: &[u8], left: usize, dir: usize) -> u8
 impl Live {
     /// The live states of a table of steps, for words of at most `limit` letters. The one error is
     /// that the growth was refused, after which nothing is kept.
-    pub fn fill(alloc: Global, steps: &Steps, limit: usize) -> Result<Live, AllocError>
+    pub(crate) fn fill(alloc: Global, steps: &Steps, limit: usize) -> Result<Live, AllocError>
         requires table { IsTable steps.now }
         requires limit { limit ≤ most_letters }
         requires fits { suc limit * length steps.now.rows.items < 2 ^ 64 }

@@ -24,7 +24,7 @@ impl Visit {
 /// The next letter of an open state on which a call is allowed, or which leads to a state that is live
 /// where at most `left` letters come after it. None where no such letter is left. Each letter that is
 /// read is counted, up to the greatest value of the count.
-pub fn next_visit(
+pub(crate) fn next_visit(
     steps: &Steps,
     lists: &Lists,
     live: &Live,
@@ -42,8 +42,7 @@ pub fn next_visit(
     ensures next { (n : ℕ) × (IsCounted seen.old n seen.new
         × IsScanned steps.now live.now lists.now left frame.old result frame.new n) }
 {
-    while let Some(visit) = steps.visit(lists, frame) {
-        *seen = seen.saturating_add(1);
+    while let Some(visit) = steps.visit(lists, frame, seen) {
         let behind = live.entrance(left, visit.behind);
         let visit = Visit {
             letter: visit.letter,

@@ -1,6 +1,6 @@
 //! The table of steps: what each letter in each directory leads to.
 
-ghost use Rattle.std.specs.Prelude.{◌≡◌, ◌<◌, ◌≤◌, ◌∷◌, [], MatchOption, IfSome, option_map};
+ghost use Rattle.std.specs.Prelude.{◌≡◌, ◌<◌, ◌≤◌, ◌∷◌, [], MatchOption, IfSome, None, Some, min, ◌+◌, option_map};
 ghost use Rattle.std.specs.List.{AllByRecursion};
 ghost use Rattle.pua_steps.specs.Limits.{most_links};
 ghost use Rattle.pua_steps.specs.Lists.{IsOpen, rest_of};
@@ -73,6 +73,15 @@ impl Entry {
     }
 }
 
+/// Counts a letter that comes after all entries of a list, so that none was read and counted for it.
+fn count_past(entry: Option<Entry>, reads: &mut u64)
+    ensures { reads.new ≡ elim entry [ None ↦ min (reads.old + 1) 18446744073709551615 | Some _ ↦ reads.old ] }
+{
+    if entry.is_none() {
+        *reads = reads.saturating_add(1);
+    }
+}
+
 impl Row {
     /// Whether calls are allowed on the letters without entries, and there is one of them from `next`
     /// on and before `end`.
@@ -94,8 +103,9 @@ impl Steps {
         }
     }
 
-    /// Takes the next letter of an open state. None where it has none left: the frame stays as it is.
-    pub(crate) fn visit(&self, lists: &Lists, frame: &mut Frame) -> Option<Visit>
+    /// Takes the next letter of an open state, and counts it. None where it has none left: the frame
+    /// stays as it is.
+    pub(crate) fn visit(&self, lists: &Lists, frame: &mut Frame, reads: &mut u64) -> Option<Visit>
         requires table { IsTable self.now }
         requires known { AllByRecursion (λ e. IsEntry self.now e) lists.now.entries.items }
         requires open { IsOpen self.now lists.now frame.old }
@@ -103,10 +113,13 @@ impl Steps {
         ensures rest { MatchOption result (rest_of self.now lists.now frame.old ≡ [])
             (λ v. rest_of self.now lists.now frame.old ≡ v ∷ rest_of self.now lists.now frame.new) }
         ensures visit { IfSome result (λ v. IsVisit self.now v) }
+        ensures reads { MatchOption result (reads.new ≡ reads.old)
+            (λ _. reads.new ≡ min (reads.old + 1) 18446744073709551615) }
     {
         let row = &self.rows[frame.state.dir as usize];
-        let entry = lists.entry(frame.place, frame.end);
+        let entry = lists.entry(frame.place, frame.end, reads);
         if row.has_gap(frame.next, self.end(entry)) {
+            count_past(entry, reads);
             let letter = frame.next;
             frame.next += 1;
             return Some(Visit {

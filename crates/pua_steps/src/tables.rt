@@ -65,7 +65,8 @@ impl Tables {
         self.reads
     }
 
-    /// How many states are live, as `Live::count` says.
+    /// How many states are live, as `Live::count` says. It goes through the table of steps once for
+    /// each letter of the limit, which is not counted: it is no part of a line.
     pub fn count(
         &self,
         alloc: Global,
@@ -107,12 +108,16 @@ impl Tables {
 
     /// The next letter of an open state on which a call is allowed, or which leads to a state that is
     /// live. Each letter that is read is counted.
+    #[inline]
     pub(crate) fn next_visit(&mut self, left: usize, frame: &mut Frame) -> Option<Visit>
         requires table { IsTable self.old.steps }
-        requires sized { (self.old.live.dirs ≡ length self.old.steps.rows.items) × (left * self.old.live.dirs + self.old.live.dirs ≤ length self.old.live.bounds.items) }
-        requires listed { IsListed self.old.steps self.old.live (length self.old.lists.layers.items) self.old.lists }
+        requires dirs { self.old.live.dirs ≡ length self.old.steps.rows.items }
+        requires layer { left * self.old.live.dirs + self.old.live.dirs ≤ length self.old.live.bounds.items }
+        requires listed { IsListed self.old.steps self.old.live
+            (length self.old.lists.layers.items) self.old.lists }
         requires open { IsOpen self.old.steps self.old.lists frame.old }
-        ensures kept { (self.new.steps ≡ self.old.steps) × (self.new.live ≡ self.old.live) × (self.new.lists ≡ self.old.lists) }
+        ensures kept { (self.new.steps ≡ self.old.steps) × (self.new.live ≡ self.old.live)
+            × (self.new.lists ≡ self.old.lists) }
         ensures open { IsOpen self.old.steps self.old.lists frame.new }
         ensures given { IfSome result (λ v. IsGiven self.old.steps self.old.live left v) }
         ensures next { (n : ℕ) × (IsCounted self.old.reads n self.new.reads
@@ -132,11 +137,13 @@ impl Tables {
     /// letters may come after it. Each letter that is read is counted.
     pub(crate) fn find(&mut self, left: usize, state: State, letter: usize) -> Found
         requires table { IsTable self.old.steps }
-        requires listed { IsListed self.old.steps self.old.live (length self.old.lists.layers.items) self.old.lists }
+        requires listed { IsListed self.old.steps self.old.live
+            (length self.old.lists.layers.items) self.old.lists }
         requires left { left < length self.old.lists.layers.items }
         requires state { IsState self.old.steps state }
         requires letter { letter < self.old.steps.letters }
-        ensures kept { (self.new.steps ≡ self.old.steps) × (self.new.live ≡ self.old.live) × (self.new.lists ≡ self.old.lists) }
+        ensures kept { (self.new.steps ≡ self.old.steps) × (self.new.live ≡ self.old.live)
+            × (self.new.lists ≡ self.old.lists) }
         ensures open { IsOpen self.old.steps self.old.lists result.frame }
         ensures visit { IsVisit self.old.steps result.visit }
         ensures split { IsSplit letter (narrow_of self.old.steps self.old.live left state) result.visit
@@ -149,8 +156,7 @@ impl Tables {
         let place = span.place + self.lists.count_before(span, letter, &mut self.reads);
         let next = letter + 1;
         let end = span.end;
-        self.reads = self.reads.saturating_add(1);
-        let Some(entry) = self.lists.entry_of(place, end, letter) else {
+        let Some(entry) = self.lists.entry_of(place, end, letter, &mut self.reads) else {
             return Found {
                 frame: Frame {
                     state,

@@ -23,17 +23,17 @@ use std::alloc::{AllocError, Global};
 pub struct Walk {
     pub(crate) tables: Tables,
     /// The most letters of a word.
-    pub limit: usize,
+    pub(crate) limit: usize,
     /// The word, by the places of its letters in the alphabet.
-    pub word: Vec<usize>,
+    pub(crate) word: Vec<usize>,
     /// How many letters at the front of the word are as they were before the last `next_call`.
-    pub unchanged: usize,
+    pub(crate) unchanged: usize,
     /// The calls of the word that are still to be given.
-    pub calls: u16,
+    pub(crate) calls: u16,
     /// The state to which the word leads, where it is live.
-    pub behind: Option<State>,
+    pub(crate) behind: Option<State>,
     /// The states that are open, one for each letter of the word.
-    pub frames: Vec<Frame>,
+    pub(crate) frames: Vec<Frame>,
 }
 
 impl Walk {
@@ -56,7 +56,8 @@ impl Walk {
         ensures ready { IfOk result (λ walk. IsReady walk) }
         ensures of { IfOk result (λ walk. (walk.tables ≡ tables) × (walk.limit ≡ limit)) }
         ensures fresh { IfOk result (λ walk. (walk.word.items ≡ []) × (walk.frames.items ≡ [])) }
-        ensures left { IfOk result (λ walk. pairs_of (trail walk) ≡ reach (graph_of tables.steps) limit calls base) }
+        ensures left { IfOk result (λ walk.
+            pairs_of (trail walk) ≡ reach (graph_of tables.steps) limit calls base) }
     {
         let word = Vec::with_capacity(alloc, limit)?;
         let frames = Vec::with_capacity(alloc, limit)?;
@@ -81,8 +82,10 @@ impl Walk {
         ensures same { IsOf self.old self.new }
         ensures line { MatchOption result ((pairs_of (trail self.old) ≡ []) × (pairs_of (trail self.new) ≡ []))
             (λ call. pairs_of (trail self.old) ≡ (self.new.word.items, call) ∷ pairs_of (trail self.new)) }
-        ensures count { (n : ℕ) × (IsCounted self.old.tables.reads n self.new.tables.reads × IsNext self.old result self.new n) }
-        ensures cost { self.new.tables.reads ≤ self.old.tables.reads + 2 * (self.old.limit * self.old.tables.steps.letters) }
+        ensures count { (n : ℕ) × (IsCounted self.old.tables.reads n self.new.tables.reads
+            × IsNext self.old result self.new n) }
+        ensures cost { self.new.tables.reads ≤ self.old.tables.reads
+            + 2 * (self.old.limit * self.old.tables.steps.letters) }
         ensures unchanged { IsUnchanged self.old.word.items self.new.unchanged self.new.word.items }
         ensures stays { self.old.calls ≢ 0 →
             (self.new.word ≡ self.old.word) × (self.new.unchanged ≡ length self.old.word.items) }
@@ -120,7 +123,8 @@ impl Walk {
         requires { IsReady self.old }
         ensures ready { IsReady self.new }
         ensures same { IsOf self.old self.new }
-        ensures next { (n : ℕ) × (IsCounted self.old.tables.reads n self.new.tables.reads × IsNext self.old result self.new n) }
+        ensures next { (n : ℕ) × (IsCounted self.old.tables.reads n self.new.tables.reads
+            × IsNext self.old result self.new n) }
         ensures unchanged { StaysFront self.old.unchanged self.old.word.items self.new.unchanged self.new.word.items }
         ensures stays { self.old.calls ≢ 0 →
             (self.new.word ≡ self.old.word) × (self.new.unchanged ≡ self.old.unchanged) }
@@ -141,7 +145,8 @@ impl Walk {
         requires given { self.old.calls ≡ 0 }
         ensures ready { IsReady self.new }
         ensures same { IsOf self.old self.new }
-        ensures next { (n : ℕ) × (IsCounted self.old.tables.reads n self.new.tables.reads × IsTurned (trail self.old) result self.new n) }
+        ensures next { (n : ℕ) × (IsCounted self.old.tables.reads n self.new.tables.reads
+            × IsTurned (trail self.old) result self.new n) }
         ensures unchanged { StaysFront self.old.unchanged self.old.word.items self.new.unchanged self.new.word.items }
     {
         if let Some(state) = self.behind {
@@ -183,7 +188,8 @@ impl Walk {
     pub(crate) fn enter(&mut self, frame: Frame, visit: Visit)
         requires words { length self.old.word.items < vec_capacity self.old.word }
         requires frames { length self.old.frames.items < vec_capacity self.old.frames }
-        ensures kept { (self.new.tables.steps ≡ self.old.tables.steps) × (self.new.tables.live ≡ self.old.tables.live)
+        ensures kept { (self.new.tables.steps ≡ self.old.tables.steps)
+            × (self.new.tables.live ≡ self.old.tables.live)
             × (self.new.limit ≡ self.old.limit) × (self.new.tables.reads ≡ self.old.tables.reads)
             × (self.new.tables.lists ≡ self.old.tables.lists) × (self.new.unchanged ≡ self.old.unchanged) }
         ensures room { (vec_capacity self.old.word ≤ vec_capacity self.new.word)
@@ -199,7 +205,8 @@ impl Walk {
     /// Goes to the word with one letter more, by the deepest frame.
     fn go_by(&mut self, visit: Visit)
         requires { length self.old.word.items < vec_capacity self.old.word }
-        ensures kept { (self.new.tables.steps ≡ self.old.tables.steps) × (self.new.tables.live ≡ self.old.tables.live)
+        ensures kept { (self.new.tables.steps ≡ self.old.tables.steps)
+            × (self.new.tables.live ≡ self.old.tables.live)
             × (self.new.limit ≡ self.old.limit) × (self.new.tables.reads ≡ self.old.tables.reads)
             × (self.new.tables.lists ≡ self.old.tables.lists) × (self.new.unchanged ≡ self.old.unchanged) }
         ensures frames { self.new.frames ≡ self.old.frames }
