@@ -11,6 +11,7 @@ pub mod Listing
 pub mod Front
 pub mod Closing
 pub mod Narrowing
+pub mod Telling
 pub mod Counting
 pub mod Spreading
 pub mod Stepping

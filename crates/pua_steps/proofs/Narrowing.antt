@@ -50,7 +50,7 @@ module _ (t : Steps) (g : Graph) (l u : ℕ) where
         | false ↦ λ h. rows_left p off es all.1 ∙ ap (λ ps. cons (visit_of u e).letter ps ++ others) (sym (off e all.0 h))
       ] refl
 
-useless : (m b : ℕ) → (not (m == 0) || not (b == 0)) ≡ false → b ≡ 0
+pub useless : (m b : ℕ) → (not (m == 0) || not (b == 0)) ≡ false → b ≡ 0
 useless m b h =
     elim (cases_Bool (b == 0)) [
       | inl e ↦ eqb-true b 0 e
@@ -68,7 +68,7 @@ module _ (t : Steps) (v : table.Live) (limit : ℕ) (known : IsTable t) (sized :
   abbrev h : Graph
   h = narrow_of t v
 
-  cells : (l : ℕ) → l ≤ limit → (d : ℕ) → d < v.dirs → IsBound g l d (get_or v.bounds.items (l * v.dirs + d) 0)
+  pub cells : (l : ℕ) → l ≤ limit → (d : ℕ) → d < v.dirs → IsBound g l d (get_or v.bounds.items (l * v.dirs + d) 0)
   cells l short d low =
       let at_most : suc l ≤ suc limit = omega (arith, short) in
       sized.filled l d low (omega (arith, low, sized.cells, suc-mul l v.dirs, mul-le-mul_right v.dirs at_most))

@@ -6,6 +6,7 @@ pub mod Table
 pub mod Within
 pub mod Live
 pub mod Lists
+pub mod Telling
 pub mod Ready
 pub mod Reached
 pub mod Order

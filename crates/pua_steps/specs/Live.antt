@@ -34,6 +34,6 @@ pub record IsSized (t : Steps) (v : table.Live) (limit : ℕ) : Type 0 where
   pub ends : (s : State) → IsState t s → live_of v 0 s ≡ false
   pub filled : IsFilled (graph_of t) v.dirs v.bounds.items
 
--- the bound that a letter alone gives
+-- the bound that a letter alone gives, as it is reckoned; `Telling` says it by what is allowed
 abbrev pub bound_of : List ℕ → ℕ → ℕ → Entry → ℕ
 bound_of bounds dirs left e = cond (e.kept == 0) (max (cond (e.all == 0) 0 (most_bound - e.links)) (elim e.to [ None ↦ 0 | Some d ↦ get_or bounds (left * dirs + d) 0 - e.links ])) most_bound
