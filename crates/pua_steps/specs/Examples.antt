@@ -49,6 +49,10 @@ dead_alphabet = graph_by 3 (0 ∷ 0 ∷ 0 ∷ []) ((way 0 0 0 ∷ way 1 0 1 ∷ 
 abbrev pub link_by_link : Graph
 link_by_link = graph_by 3 (0 ∷ 0 ∷ []) ((way 0 20 1 ∷ []) ∷ (link 1 1 12 ∷ link 2 1 13 ∷ []) ∷ [])
 
+-- the same way, and only a letter that follows 13 more
+abbrev pub link_too_far : Graph
+link_too_far = graph_by 3 (0 ∷ 0 ∷ []) ((way 0 20 1 ∷ []) ∷ (link 2 1 13 ∷ []) ∷ [])
+
 -- a directory to which a name and 20 chains of links lead, and in it a file to which 13 chains of links lead
 abbrev pub chains : Graph
 chains = graph_by 36 (0 ∷ 0 ∷ [])
@@ -63,13 +67,15 @@ pub record LiveRows : Type 0 where
   pub one_file_3 : live_count one_file 3 first 3 ≡ 8
   pub dead_3 : live_count dead_alphabet 3 first 3 ≡ 0
   pub links_32 : live_count link_by_link 2 first 2 ≡ 2
+  pub links_33 : live_count link_too_far 2 first 2 ≡ 0
   pub chains_2 : live_count chains 2 first 2 ≡ 22
 
 pub live_rows : LiveRows
 unfolding visits_from gap visit_of calls_of below cons alone reached
-live_rows = record { root_alone_0 = refl; root_alone_1 = refl; nowhere = refl; missing_name_2 = refl; one_file_2 = refl; one_file_3 = refl; dead_3 = refl; links_32 = refl; chains_2 = refl }
+live_rows = record { root_alone_0 = refl; root_alone_1 = refl; nowhere = refl; missing_name_2 = refl; one_file_2 = refl; one_file_3 = refl; dead_3 = refl; links_32 = refl; links_33 = refl; chains_2 = refl }
 
 pub record ReachRows : Type 0 where
+  pub one_file_5 : length (reach one_file 5 0 first) ≡ 81
   pub one_file : reach one_file 2 0 first ≡ (1 ∷ 2 ∷ [], 0) ∷ (1 ∷ 2 ∷ [], 1) ∷ (1 ∷ 2 ∷ [], 3) ∷ []
   pub missing_name : reach missing_name 2 0 first ≡ (0 ∷ 1 ∷ [], 7) ∷ (0 ∷ 1 ∷ [], 10) ∷ (1 ∷ [], 7) ∷ (1 ∷ [], 10) ∷ []
   pub dead : reach dead_alphabet 3 0 first ≡ []
@@ -78,7 +84,7 @@ pub record ReachRows : Type 0 where
 
 pub reach_rows : ReachRows
 unfolding visits_from gap visit_of calls_of below cons alone
-reach_rows = record { one_file = refl; missing_name = refl; dead = refl; links_32 = refl; chains = refl }
+reach_rows = record { one_file_5 = refl; one_file = refl; missing_name = refl; dead = refl; links_32 = refl; chains = refl }
 
 pub record OrderRows : Type 0 where
   pub extension : comes_after (1 ∷ [], 13) (1 ∷ 0 ∷ [], 0) ≡ true
