@@ -39,8 +39,8 @@ pub trait Probe<'t> {
         ensures count { count self.new ≡ one_more (count self.old) };
 
     /// The node whose name in this directory has these bytes, if there is one, and its kind: what
-    /// `look` and `kind` answer for the name. It counts as these two. Bytes that are no name's are
-    /// found nowhere.
+    /// `look` and `kind` answer for the name. It counts as these two, so the count goes up by two.
+    /// Bytes that are no name's are found nowhere.
     fn find(&mut self, dir: NodeId, bytes: &[u8]) -> Option<(NodeId, Kind)>
         ensures found { result ≡ found_at (tree self.old) dir bytes.now }
         ensures tree { tree self.new ≡ tree self.old }
@@ -64,16 +64,19 @@ pub trait Probe<'t> {
         ensures tree { tree self.new ≡ tree self.old }
         ensures count { count self.new ≡ one_more (count self.old) };
 
-    /// All names in rows: each once, in the order of their bytes. The only fault is
-    /// `TreeFault::OutOfMemory`.
+    /// All names in rows: each once, in the order of their bytes. It counts as one look, however
+    /// many names there are, so a bound on looks bounds no more than how often they are asked for.
+    /// The only fault is `TreeFault::OutOfMemory`.
     fn names(&mut self, alloc: Global) -> Result<Vec<Name>, TreeFault>
         ensures names { IfOk result (λ all. all.items ≡ names (tree self.old)) }
         ensures memory { IfErr result (λ fault. fault ≡ TreeFault.OutOfMemory) }
         ensures tree { tree self.new ≡ tree self.old }
         ensures count { count self.new ≡ one_more (count self.old) };
 
-    /// Lends all rows: each once, by directory and then by the bytes of the name. The only error is
-    /// that the memory for the list is refused.
+    /// Lends all rows: each once, by directory and then by the bytes of the name. It counts as one
+    /// look, however many rows there are, so a bound on looks bounds no more than how often the rows
+    /// are lent; what is then done with each is no look. The only error is that the memory for the
+    /// list is refused.
     fn rows(&mut self, alloc: Global) -> Result<Vec<LentRow<'t>>, OutOfMemory>
         ensures rows { IfOk result (λ rows. map lent_entry rows.items ≡ (tree self.old).rows) }
         ensures tree { tree self.new ≡ tree self.old }
