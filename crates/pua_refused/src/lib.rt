@@ -3,4 +3,5 @@
 //! is named for the wrong body.
 #![tactic(auto)]
 
+mod path;
 mod tree;
