@@ -1,5 +1,5 @@
 -- Worked rows on scripts: a listing's lines, a script's lines, and the answers.
-use Rattle.std.specs.Prelude.{◌≡◌, ℕ, List, [], ◌∷◌, ◌++◌, Result, Ok, Err, codes, refl}
+use Rattle.std.specs.Prelude.{◌≡◌, ℕ, Bool, true, false, List, [], ◌∷◌, ◌++◌, Result, Ok, Err, codes, refl}
 use Rattle.pua_tree.specs.Examples.{text_of_lines}
 use Rattle.pua_tree.specs.Listing.{listing}
 use Rattle.pua_tree.specs.Tree.{Tree}
@@ -7,6 +7,7 @@ use Rattle.pua_policy.specs.Calls.{standard_table}
 use Rattle.pua_script.specs.Requests.{Asked}
 use Rattle.pua_script.specs.Scripts.{script}
 use Rattle.pua_script.specs.Replay.{answers, new_world}
+use Rattle.pua_script.specs.Family.{is_exec, none_done}
 use Rattle.pua_tree.specs.declared.fault.ListingFault.{ListingFault}
 use Rattle.pua_path.specs.declared.errno.Errno.TheVariants.{EPERM, ENOENT, EACCES, EAGAIN, EBUSY, EEXIST, ENOTDIR, EISDIR, EINVAL, ELOOP, ENAMETOOLONG, ENOTEMPTY, ENOSYS}
 use Rattle.pua_script.specs.declared.answer.Answer.{Answer}
@@ -21,6 +22,14 @@ answers_over _ _ = []
 
 abbrev pub answers_of : List (List ℕ) → List (List ℕ) → List Answer
 answers_of tree lines = answers_over (listing (text_of_lines tree)) (script (text_of_lines lines))
+
+-- whether no member of the family of process 1 did an exec that was answered ok
+abbrev pub no_exec_over : Result Tree ListingFault → Result (List Asked) ScriptFault → Bool
+no_exec_over (Ok t) (Ok asks) = none_done is_exec standard_table (new_world t) asks (1 ∷ [])
+no_exec_over _ _ = true
+
+abbrev pub has_no_exec : List (List ℕ) → List (List ℕ) → Bool
+has_no_exec tree lines = no_exec_over (listing (text_of_lines tree)) (script (text_of_lines lines))
 
 -- the root alone, and the example tree
 abbrev pub root_alone : List (List ℕ)
@@ -168,6 +177,20 @@ replay_rows = record {
   link_kept = refl;
   forks_and_exits = refl;
 }
+
+-- a locked process whose exec drops its lock and its veils: it reaches what it did not before, so the laws on families leave it out
+abbrev pub exec_of_locked : List (List ℕ)
+exec_of_locked = codes "1 unveil /tmp rx" ∷ codes "1 unveil - -" ∷ codes "1 stat /etc" ∷ codes "1 exec /tmp/sh" ∷ codes "1 stat /etc" ∷ []
+
+pub record ExecRows : Type 0 where
+  pub reaches_more : answers_of example exec_of_locked ≡ Okay ∷ Okay ∷ Failed ENOENT ∷ Okay ∷ Okay ∷ []
+  pub left_out : has_no_exec example exec_of_locked ≡ false
+  -- an exec that fails is none, and one of another process is none of the family
+  pub failed : has_no_exec example (codes "1 exec /no" ∷ []) ≡ true
+  pub other : has_no_exec example (codes "2 exec /tmp/sh" ∷ []) ≡ true
+
+pub exec_rows : ExecRows
+exec_rows = record { reaches_more = refl; left_out = refl; failed = refl; other = refl }
 
 -- what is no script
 abbrev pub fault_of : List ℕ → Result (List Asked) ScriptFault

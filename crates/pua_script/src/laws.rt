@@ -4,7 +4,7 @@
 ghost use Rattle.std.specs.Prelude.{◌≡◌};
 ghost use Rattle.pua_tree.specs.Tree.{Tree, WellFormed};
 ghost use Rattle.pua_policy.specs.History.{History};
-ghost use Rattle.pua_script.specs.Examples.{LinkRows, RenameRows, ReplayRows, ScriptRows};
+ghost use Rattle.pua_script.specs.Examples.{ExecRows, LinkRows, RenameRows, ReplayRows, ScriptRows};
 ghost use Rattle.pua_script.specs.Limits.{line_limit, number_limit, process_limit};
 ghost use Rattle.pua_script.specs.Laws.{AddsLackRoom, CallsLackRoom, LinksLackRoom, RenamesNeedNoRoom, ReplayComposes, RequestsLackRoom};
 ghost use Rattle.pua_script.specs.ScriptGrammar.{ScriptsAreRead};
@@ -24,11 +24,13 @@ pub fn script_examples()
     ensures { ScriptRows }
 {}
 
-/// Examples of scripts and their answers, and of what a rename and a link check first.
+/// Examples of scripts and their answers, of what a rename and a link check first, and of an exec
+/// by which a locked process reaches more.
 pub fn replay_examples()
     ensures replays { ReplayRows }
     ensures renames { RenameRows }
     ensures links { LinkRows }
+    ensures execs { ExecRows }
 {}
 
 /// A list of requests may be cut anywhere.
