@@ -4,4 +4,5 @@
 #![tactic(auto)]
 
 mod path;
+mod script;
 mod tree;
