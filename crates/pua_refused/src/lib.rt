@@ -4,5 +4,6 @@
 #![tactic(auto)]
 
 mod path;
+mod policy;
 mod script;
 mod tree;

@@ -1,0 +1,10 @@
+use Rattle.std.proofs.Common.{◌≡◌, None, Some}
+use Rattle.pua_policy.specs.History.{new_history}
+use Rattle.pua_policy.specs.declared.answer.UnveilFault.TheVariants.{NotPermitted}
+use Rattle.pua_refused.proofs.policy.processes.locked_process_takes_a_veil.Goals as goal
+
+pub unreachable-requires : goal.unreachable-requires
+unreachable-requires c =
+    let stands = c.lock.ensures new_history c.in-Ok.ensures in
+    let no_fault : Some NotPermitted ≡ None = (c.in-Ok-unveil_at.ensures.ok _ stands).0 in
+    cc

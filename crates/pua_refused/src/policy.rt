@@ -1,0 +1,3 @@
+//! Wrong bodies of `pua_policy`.
+
+mod processes;
