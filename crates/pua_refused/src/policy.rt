@@ -1,3 +1,5 @@
 //! Wrong bodies of `pua_policy`.
 
+mod calls;
 mod processes;
+mod promises;

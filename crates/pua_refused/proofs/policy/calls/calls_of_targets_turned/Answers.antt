@@ -1,0 +1,10 @@
+use Rattle.std.proofs.Common.{◌≡◌, false, sym, ◌∙◌}
+use Rattle.std.proofs.Math.Bool.{and-false}
+use Rattle.std.proofs.lemmas.Bool.{false≢true}
+use Rattle.pua_policy.specs.declared.call.Call.TheVariants.{Unlink}
+use Rattle.pua_refused.proofs.policy.calls.calls_of_targets_turned.Goals as goal
+
+pub unreachable-requires : goal.unreachable-requires
+unreachable-requires c =
+    let not_there : c.contains.result ≡ false = c.contains.ensures ∙ c.following.ensures Unlink ∙ and-false _ in
+    false≢true (sym not_there ∙ c.if-contains.true)
