@@ -3,3 +3,4 @@
 mod calls;
 mod processes;
 mod promises;
+mod tables;
