@@ -4,3 +4,4 @@ mod calls;
 mod processes;
 mod promises;
 mod tables;
+mod verdicts;
