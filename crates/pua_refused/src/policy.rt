@@ -1,6 +1,7 @@
 //! Wrong bodies of `pua_policy`.
 
 mod calls;
+mod execs;
 mod processes;
 mod promises;
 mod tables;

@@ -1,0 +1,12 @@
+use Rattle.std.proofs.Common.{◌≡◌, ◌∷◌, None, Some, rules}
+use Rattle.pua_policy.specs.History.{new_history, Pledged}
+use Rattle.pua_policy.specs.Promises.{error}
+use Rattle.pua_policy.specs.declared.answer.May.TheVariants.{Enosys}
+use Rattle.pua_refused.proofs.policy.execs.exec_drops_error.Goals as goal
+
+pub unreachable-requires-then-ne : goal.unreachable-requires-then-ne
+unreachable-requires-then-ne c =
+    let pledged = (c.in-Ok-pledge.ensures.exact new_history c.in-Ok.ensures).1 in
+    let stands = c.exec_into.ensures (Pledged None (Some error) ∷ new_history) pledged in
+    let enosys : c.may.result ≡ Enosys = c.may.ensures _ stands in
+    search (rules, enosys)

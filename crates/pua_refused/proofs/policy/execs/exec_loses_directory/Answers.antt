@@ -1,0 +1,9 @@
+use Rattle.std.proofs.Common.{◌∷◌, ◌∙◌}
+use Rattle.pua_policy.specs.History.{new_history, Moved}
+use Rattle.pua_refused.proofs.policy.execs.exec_loses_directory.Goals as goal
+
+pub unreachable-requires : goal.unreachable-requires
+unreachable-requires c =
+    let moved = c.set_dir.ensures new_history c.in-Ok.ensures in
+    let stands = c.exec_into.ensures (Moved c.new-2.result ∷ new_history) moved in
+    c.if-number-ne7.true (c.number.ensures ∙ c.dir.ensures.history _ stands ∙ c.new-2.ensures)

@@ -1,0 +1,60 @@
+//! What an exec and a fork keep of a process.
+
+use pua_policy::{May, Perms, Place, Process, Promises};
+use pua_tree::NodeId;
+use std::alloc::Global;
+
+/// An exec without execpromises drops the veils.
+fn exec_keeps_veils(alloc: Global) {
+    let Ok(mut process) = Process::new(alloc) else {
+        return;
+    };
+    let place = Place::Dir(NodeId::ROOT);
+    let Ok(()) = process.unveil_at(place, Perms::READ) else {
+        return;
+    };
+    process.exec_into();
+    if process.kept(&place).is_some() {
+        unreachable!()
+    }
+}
+
+/// The working directory stays in an exec.
+fn exec_loses_directory(alloc: Global) {
+    let Ok(mut process) = Process::new(alloc) else {
+        return;
+    };
+    process.set_dir(NodeId::new(7));
+    process.exec_into();
+    if process.dir().number() != 7 {
+        unreachable!()
+    }
+}
+
+/// Where the execpromises name `error`, it is held after an exec.
+fn exec_drops_error(alloc: Global) {
+    let Ok(mut process) = Process::new(alloc) else {
+        return;
+    };
+    let Ok(()) = process.pledge(None, Some(Promises::ERROR)) else {
+        unreachable!()
+    };
+    process.exec_into();
+    if process.may(Promises::RPATH) != May::Enosys {
+        unreachable!()
+    }
+}
+
+/// A fork's copy keeps the lock.
+fn fork_loses_lock(alloc: Global) {
+    let Ok(mut process) = Process::new(alloc) else {
+        return;
+    };
+    process.lock();
+    let Ok(copy) = process.fork(alloc) else {
+        return;
+    };
+    if !copy.locked() {
+        unreachable!()
+    }
+}
