@@ -1,7 +1,7 @@
-//! Trees with a hundred directories in which nearly nothing is reached: an audit that looked at every
-//! path would not end.
+//! Trees with a hundred directories in which nearly nothing is reached, or after the last of whose paths
+//! nothing is left: an audit that looked at every path would not end.
 
-use anyhow::{Result, anyhow};
+use anyhow::Result;
 use pua_tool::{DONE, MemoryInputs, MemorySink, command};
 use std::alloc::Global;
 
@@ -29,6 +29,18 @@ const WIDE_WORDS: [&str; 5] = ["audit", "--limit", "16", "T", "S"];
 
 const DEEP_WORDS: [&str; 5] = ["audit", "--limit", "10", "T", "S"];
 
+/// The words of the audit that is resumed after the last of all paths of the first tree, sixteen times
+/// the greatest name in the order of bytes, and the last of all calls.
+const LAST_WORDS: [&str; 7] = [
+    "audit",
+    "--limit",
+    "16",
+    "--after",
+    "exec:/d99/d99/d99/d99/d99/d99/d99/d99/d99/d99/d99/d99/d99/d99/d99/d99",
+    "T",
+    "S",
+];
+
 /// The files T and S.
 #[derive(Clone, Copy)]
 struct Files<'a> {
@@ -36,27 +48,35 @@ struct Files<'a> {
     script: &'a str,
 }
 
-/// Prints a line for each of the two audits: that it ended, or that it was wrong.
-pub(crate) fn run(rt: &HostRuntime) -> Result<()> {
-    let wide = wide(rt.alloc())?;
-    let files = Files {
-        listing: wide.as_str(),
-        script: NOTHING,
-    };
-    let is_wide = is_written(rt.alloc(), &WIDE_WORDS, &files, EMPTY)?;
-    println!(rt; "a dead tree: {}", told(is_wide))?;
-    let deep = deep(rt.alloc())?;
-    let files = Files {
-        listing: deep.as_str(),
-        script: ONE_FILE,
-    };
-    let is_deep = is_written(rt.alloc(), &DEEP_WORDS, &files, FILE)?;
-    println!(rt; "a tree with one file: {}", told(is_deep))?;
-    Ok(())
+impl<'a> Files<'a> {
+    fn new(listing: &'a str, script: &'a str) -> Files<'a> {
+        Files { listing, script }
+    }
 }
 
-fn told(is_written: bool) -> &'static str {
-    if is_written { "ended" } else { "wrong" }
+/// Prints a line for each of the audits: that it ended, or that it was wrong. The one that is resumed is
+/// of a process to which everything is allowed, by each path that leads anywhere.
+pub(crate) fn run(rt: &HostRuntime) -> Result<()> {
+    let alloc = rt.alloc();
+    let wide = wide(alloc)?;
+    let deep = deep(alloc)?;
+    let dead = Files::new(wide.as_str(), NOTHING);
+    let one = Files::new(deep.as_str(), ONE_FILE);
+    let free = Files::new(wide.as_str(), "");
+    for (what, is_ended) in [
+        ("a dead tree", is_written(alloc, &WIDE_WORDS, &dead, EMPTY)?),
+        (
+            "a tree with one file",
+            is_written(alloc, &DEEP_WORDS, &one, FILE)?,
+        ),
+        (
+            "after the last path",
+            is_written(alloc, &LAST_WORDS, &free, "")?,
+        ),
+    ] {
+        println!(rt; "{what}: {}", if is_ended { "ended" } else { "wrong" })?;
+    }
+    Ok(())
 }
 
 /// A listing of a root with a hundred directories.
@@ -88,8 +108,8 @@ fn is_written(alloc: Global, words: &[&str], files: &Files<'_>, text: &str) -> R
         ("S", files.script.as_bytes()),
     ];
     let mut inputs = MemoryInputs::new(&entries);
-    let mut out = MemorySink::new(alloc, 1_024).map_err(|fault| anyhow!("{fault}"))?;
-    let mut err = MemorySink::new(alloc, 1_024).map_err(|fault| anyhow!("{fault}"))?;
+    let mut out = MemorySink::new(alloc, 1_024)?;
+    let mut err = MemorySink::new(alloc, 1_024)?;
     let status = command(alloc, words, &mut inputs, &mut out, &mut err);
     Ok(status == DONE && out.bytes() == text.as_bytes() && err.bytes().is_empty())
 }

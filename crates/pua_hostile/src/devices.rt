@@ -1,11 +1,13 @@
 //! The machine's own outputs and files where they fail: a device that is full, an output that is not
-//! open for writing, pipes that nobody reads, and files that can't be read.
+//! open for writing, pipes that nobody reads, files that can't be read or are too long; and files that
+//! are read whole.
 
-use anyhow::{Result, anyhow};
+use anyhow::Result;
 use pua_tool::{
-    DEVICE, DONE, DiskInputs, InputFault, Inputs, MemoryInputs, MemorySink, StreamSink, command,
+    DEVICE, DONE, DiskInputs, InputFault, Inputs, MemoryInputs, MemorySink, REFUSED, StreamSink,
+    command,
 };
-use std::fs::{self, OpenOptions};
+use std::fs::{self, File, OpenOptions};
 use std::io::{self, BufWriter, PipeReader, PipeWriter, Write};
 
 /// Commands that write something: their words.
@@ -40,11 +42,46 @@ impl Write for EndingPipe {
     }
 }
 
-/// Files that are no table of calls, since they can't be read.
-const NO_TABLES: [(&str, &[u8]); 2] = [
-    ("missing", b"pua: cannot read missing\n"),
-    (".", b"pua: cannot read .\n"),
+/// A file of so many bytes is as long as may be, and has nothing but the byte 0.
+const LONGEST: u64 = 67_108_864;
+
+/// Commands over files that can't be read, are too long, or are as long as may be and neither a listing
+/// nor a table of calls: the words, the status, and the line.
+const REFUSALS: [(&[&str], u8, &[u8]); 6] = [
+    (
+        &["run", "--table", "missing", "/dev/null", "/dev/null"],
+        DEVICE,
+        b"pua: cannot read missing\n",
+    ),
+    (
+        &["run", "--table", ".", "/dev/null", "/dev/null"],
+        DEVICE,
+        b"pua: cannot read .\n",
+    ),
+    (
+        &["run", "--table", "longer", "/dev/null", "/dev/null"],
+        DEVICE,
+        b"pua: cannot read longer\n",
+    ),
+    (
+        &["run", "longer", "/dev/null"],
+        DEVICE,
+        b"pua: cannot read longer\n",
+    ),
+    (
+        &["run", "--table", "longest", "/dev/null", "/dev/null"],
+        REFUSED,
+        b"pua: table: bad toml\n",
+    ),
+    (
+        &["run", "longest", "/dev/null"],
+        REFUSED,
+        b"pua: listing: bad header\n",
+    ),
 ];
+
+/// How many bytes stand before the last one of a file that has each byte: more than a buffer holds.
+const MANY: u32 = 150_000;
 
 /// Prints a line for each output and each file that is not answered as it has to be, and how many
 /// there were.
@@ -77,7 +114,7 @@ fn is_told<D: Write + Drop, B: Write + Drop>(
     direct: D,
     below: B,
 ) -> Result<bool> {
-    let mut err = MemorySink::new(rt.alloc(), 256).map_err(|fault| anyhow!("{fault}"))?;
+    let mut err = MemorySink::new(rt.alloc(), 256)?;
     let mut inputs = MemoryInputs::new(&ENTRIES);
     let mut out = StreamSink::new(direct);
     let status = command(rt.alloc(), words, &mut inputs, &mut out, &mut err);
@@ -120,7 +157,7 @@ fn is_end_told(rt: &HostRuntime) -> Result<bool> {
         reader: Some(reader),
         writer,
     });
-    let mut err = MemorySink::new(rt.alloc(), 256).map_err(|fault| anyhow!("{fault}"))?;
+    let mut err = MemorySink::new(rt.alloc(), 256)?;
     let mut inputs = MemoryInputs::new(&ENTRIES);
     let status = command(rt.alloc(), COMMANDS[0], &mut inputs, &mut out, &mut err);
     Ok(status == DEVICE && err.bytes() == b"pua: cannot write\n".as_slice())
@@ -146,21 +183,45 @@ fn files(rt: &HostRuntime) -> Result<()> {
         }
     }
     println!(rt; "files: {} that can't be read", UNREADABLE.len())?;
-    tables(rt)
+    every_byte(rt)?;
+    refusals(rt)
 }
 
-/// Tables of calls that can't be read, beside a listing and a script that can.
-fn tables(rt: &HostRuntime) -> Result<()> {
+/// A file with each byte, one after another and many times, that ends in a carriage return: it is read
+/// as it was written.
+fn every_byte(rt: &HostRuntime) -> Result<()> {
+    let mut bytes = Vec::new(rt.alloc());
+    for number in 0..MANY {
+        bytes.push((number & 255) as u8)?;
+    }
+    bytes.push(b'\r')?;
+    fs::write(rt, "every-byte", bytes.as_slice())?;
+    let taken = DiskInputs::new(rt).take(rt.alloc(), "every-byte");
+    fs::remove_file(rt, "every-byte")?;
+    let is_read = taken.is_ok_and(|all| all.as_slice() == bytes.as_slice());
+    println!(rt;
+        "a file of {} bytes: {}",
+        bytes.len(),
+        if is_read { "read" } else { "not read" }
+    )?;
+    Ok(())
+}
+
+/// The commands that are refused, over the two long files, which are taken away afterwards.
+fn refusals(rt: &HostRuntime) -> Result<()> {
+    File::create(rt, "longest")?.set_len(LONGEST)?;
+    File::create(rt, "longer")?.set_len(LONGEST + 1)?;
     let mut inputs = DiskInputs::new(rt);
-    for (name, line) in &NO_TABLES {
-        let words = ["run", "--table", name, "/dev/null", "/dev/null"];
-        let mut out = MemorySink::new(rt.alloc(), 256).map_err(|fault| anyhow!("{fault}"))?;
-        let mut err = MemorySink::new(rt.alloc(), 256).map_err(|fault| anyhow!("{fault}"))?;
-        let status = command(rt.alloc(), &words, &mut inputs, &mut out, &mut err);
-        if status != DEVICE || !out.bytes().is_empty() || err.bytes() != *line {
-            println!(rt; "{name}, as a table: wrong")?;
+    for (words, wanted, line) in &REFUSALS {
+        let mut out = MemorySink::new(rt.alloc(), 256)?;
+        let mut err = MemorySink::new(rt.alloc(), 256)?;
+        let status = command(rt.alloc(), words, &mut inputs, &mut out, &mut err);
+        if status != *wanted || !out.bytes().is_empty() || err.bytes() != *line {
+            println!(rt; "a command over {} and {}: wrong", words[1], words[2])?;
         }
     }
-    println!(rt; "tables: {} that can't be read", NO_TABLES.len())?;
+    fs::remove_file(rt, "longest")?;
+    fs::remove_file(rt, "longer")?;
+    println!(rt; "files: {} commands that are refused", REFUSALS.len())?;
     Ok(())
 }

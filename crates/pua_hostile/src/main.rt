@@ -1,6 +1,6 @@
 //! Runs the libraries in hostile surroundings: sinks that take a byte at a time and break, readers
-//! that give a byte at a time and fail, the machine's own outputs and files where they fail, inputs
-//! that are cut anywhere or hold a wrong byte, links that lead to one another, and trees in which
+//! that give a byte at a time and fail, the machine's own outputs and files where they fail, files as
+//! long as may be, inputs that are cut anywhere or hold a wrong byte, links that lead to one another, and trees in which
 //! nearly nothing is reached. A line is printed for each case that is not as it has to be, and for each
 //! table how many cases it has. With the word `growth` it makes only the calls to which growths may
 //! be refused, and with `list` only lists a reach.
@@ -14,6 +14,7 @@ mod dripping;
 mod growth;
 mod listed;
 mod nets;
+mod reports;
 mod rows;
 mod tables;
 mod trees;
@@ -32,15 +33,17 @@ const SCRIPT: &[u8] =
 
 fn main(rt: HostRuntime) -> Result<()> {
     let words: Vec<String> = env::args(&rt)?.skip(1).collect(rt.alloc())?;
-    match words.first().map(String::as_str) {
-        Some("growth") => growth::run(&rt),
-        Some("list") => growth::list(&rt),
+    let words: Vec<&str> = words.iter().map(String::as_str).collect(rt.alloc())?;
+    match words.as_slice() {
+        ["growth"] => growth::run(&rt),
+        ["list"] => growth::list(&rt),
         _ => run_all(&rt),
     }
 }
 
 fn run_all(rt: &HostRuntime) -> Result<()> {
     broken::run(rt)?;
+    reports::run(rt)?;
     cuts::run(rt)?;
     nets::run(rt)?;
     dead::run(rt)?;
