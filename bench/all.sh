@@ -1,13 +1,13 @@
 #!/bin/sh
 # Prints the tables of docs/BENCHMARKS.md, as this machine has them: sh bench/all.sh [TURNS]
-# Each figure is the best of TURNS runs, 5 if left out. It needs crates/pua/out/pua and crates/pua_bench/out/pua_bench
-# (`rt run` in their folders builds them), python3, rustc and GNU time. What isn't there has a dash in the tables. The
-# last tables, of the whole program, are those of `python3 bench/side_by_side.py`, which takes another `pua` too.
+# Each figure is the best of TURNS runs, 5 if left out. It needs crates/pua/out/pua and crates/pua_hostile/out/pua_hostile,
+# which measures (`rt run` in their folders builds them), python3, rustc and GNU time. What isn't there has a dash in the
+# tables. The last tables, of the whole program, are those of `python3 bench/side_by_side.py`, which takes another `pua` too.
 set -eu
 turns=${1:-5}
 top=$(cd "$(dirname "$0")/.." && pwd)
 pua=$top/crates/pua/out/pua
-bench=$top/crates/pua_bench/out/pua_bench
+hostile=$top/crates/pua_hostile/out/pua_hostile
 room=$(mktemp -d)
 trap 'rm -rf "$room"' EXIT
 cd "$room"
@@ -35,20 +35,20 @@ most() {
 ten=/part0/part1/part2/part3/part4/part5/part6/part7/part8/part9
 echo '| What | `pua` | plain Rust |'
 echo '|---|---|---|'
-echo "| one resolution of a path of ten parts without links | $(least "$bench" resolve deep $ten 100000) ns | $(least "${plain:-/none}" deep $ten 100000) ns |"
-echo "| one resolution that follows 32 links of four parts each | $(least "$bench" resolve deep /d/l31 10000) ns | $(least "${plain:-/none}" deep /d/l31 10000) ns |"
-echo "| reading a listing of 4,096 nodes, rows in order | $(least "$bench" read wide 20) us | $(least "${plain:-/none}" read wide 20) us |"
-echo "| reading a listing of 4,096 nodes, names in no order | $(least "$bench" read mixed 20) us | $(least "${plain:-/none}" read mixed 20) us |"
+echo "| one resolution of a path of ten parts without links | $(least "$hostile" measure resolve deep $ten 100000) ns | $(least "${plain:-/none}" deep $ten 100000) ns |"
+echo "| one resolution that follows 32 links of four parts each | $(least "$hostile" measure resolve deep /d/l31 10000) ns | $(least "${plain:-/none}" deep /d/l31 10000) ns |"
+echo "| reading a listing of 4,096 nodes, rows in order | $(least "$hostile" measure read wide 20) us | $(least "${plain:-/none}" read wide 20) us |"
+echo "| reading a listing of 4,096 nodes, names in no order | $(least "$hostile" measure read mixed 20) us | $(least "${plain:-/none}" read mixed 20) us |"
 echo
 echo '| Covers | |'
 echo '|---|---|'
-echo "| of a file 4,000 directories deep, one veil, on the root | $(least "$bench" cover tower 4000 1 5) ns |"
-echo "| of the same file, 128 veils, one of them on the root | $(least "$bench" cover tower 4000 128 5) ns |"
-echo "| of a file two directories deep, 128 veils | $(least "$bench" cover tower 2 128 100000) ns |"
+echo "| of a file 4,000 directories deep, one veil, on the root | $(least "$hostile" measure cover tower 4000 1 5) ns |"
+echo "| of the same file, 128 veils, one of them on the root | $(least "$hostile" measure cover tower 4000 128 5) ns |"
+echo "| of a file two directories deep, 128 veils | $(least "$hostile" measure cover tower 2 128 100000) ns |"
 echo
 echo '| A tree that is filled with 65,534 files and emptied | Time | Peak memory |'
 echo '|---|---|---|'
 for times in 1 30; do
-    echo "| $times times | $(least "$bench" fill "$times") us each | $(most "$bench" fill "$times") |"
+    echo "| $times times | $(least "$hostile" measure fill "$times") us each | $(most "$hostile" measure fill "$times") |"
 done
 [ ! -x "$pua" ] || python3 "$top/bench/side_by_side.py" "$pua" "$turns"

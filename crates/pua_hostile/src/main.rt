@@ -3,7 +3,8 @@
 //! long as may be, inputs that are cut anywhere or hold a wrong byte, links that lead to one another, and trees in which
 //! nearly nothing is reached. A line is printed for each case that is not as it has to be, and for each
 //! table how many cases it has. With the word `growth` it makes only the calls to which growths may
-//! be refused, and with `list` only lists a reach.
+//! be refused, with `list` it only lists a reach, and with `measure` it only measures how long something
+//! takes.
 #![tactic(auto)]
 
 mod broken;
@@ -13,6 +14,7 @@ mod devices;
 mod dripping;
 mod growth;
 mod listed;
+mod measured;
 mod nets;
 mod reports;
 mod rows;
@@ -37,6 +39,7 @@ fn main(rt: HostRuntime) -> Result<()> {
     match words.as_slice() {
         ["growth"] => growth::run(&rt),
         ["list"] => growth::list(&rt),
+        ["measure", asked @ ..] => measured::run(&rt, asked),
         _ => run_all(&rt),
     }
 }

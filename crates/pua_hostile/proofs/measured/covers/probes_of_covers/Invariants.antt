@@ -1,5 +1,5 @@
 use Rattle.std.proofs.Common.{◌≡◌}
-use Rattle.pua_bench.proofs.covers.probes_of_covers.Given as goal
+use Rattle.pua_hostile.proofs.measured.covers.probes_of_covers.Given as goal
 
 -- a cover leaves the tree as it is
 abbrev pub invariant-loop-turn : goal.invariant-loop-turn
