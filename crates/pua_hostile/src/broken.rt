@@ -2,7 +2,7 @@
 
 use crate::LISTING;
 use crate::dripping::{DrippingReader, DrippingSink};
-use anyhow::{Result, anyhow};
+use anyhow::Result;
 use pua_audit::Base;
 use pua_tool::{
     DEVICE, DONE, InputFault, Job, MemoryInputs, MemorySink, ReadSource, Sink, ToolFault, audit_to,
@@ -72,7 +72,7 @@ pub(crate) fn run(rt: &HostRuntime) -> Result<()> {
 }
 
 fn memory_sink(alloc: Global, room: usize) -> Result<MemorySink> {
-    MemorySink::new(alloc, room).map_err(|fault| anyhow!("{fault}"))
+    Ok(MemorySink::new(alloc, room)?)
 }
 
 /// The first bytes of a text, at most so many.

@@ -1,6 +1,6 @@
 //! Trees written out as listings.
 
-use anyhow::{Result, anyhow};
+use anyhow::Result;
 use pua_tree::{FileTree, Kind, Name, NodeId, byte_spelling};
 use std::alloc::Global;
 
@@ -9,7 +9,7 @@ const NUMBERS: u32 = 16;
 
 /// The listing of a tree whose numbers are below 16, by looks at it alone.
 pub(crate) fn listing_of<T: FileTree>(alloc: Global, tree: &T) -> Result<Vec<u8>> {
-    let names = tree.names(alloc).map_err(|fault| anyhow!("{fault}"))?;
+    let names = tree.names(alloc)?;
     let mut listing = Vec::from_slice(alloc, b"tree 1\n0 dir\n")?;
     for number in 1..NUMBERS {
         list_node(alloc, tree, names.as_slice(), number, &mut listing)?;

@@ -1,6 +1,6 @@
 //! Two links, each of which leads through the other, and chains of links.
 
-use anyhow::{Result, anyhow};
+use anyhow::Result;
 use pua_audit::Base;
 use pua_tool::{Job, MemorySink, audit_to};
 use std::alloc::Global;
@@ -54,7 +54,7 @@ fn chained(rt: &HostRuntime) -> Result<()> {
     let tree = chains(rt.alloc())?;
     let script = b"1 unveil /d/f r\n1 unveil - -\n";
     let job = job_of(2);
-    let mut sink = MemorySink::new(rt.alloc(), 65_536).map_err(|fault| anyhow!("{fault}"))?;
+    let mut sink = MemorySink::new(rt.alloc(), 65_536)?;
     let answer = audit_to(rt.alloc(), tree.as_bytes(), script, &job, &mut sink);
     let heading = b"1 ok\n2 ok\nreach 1\n".as_slice();
     let pairs = sink.bytes().strip_prefix(heading).unwrap_or(&[]);
@@ -115,7 +115,7 @@ fn add_lines(alloc: Global, text: &mut String, ups: u8, rest: &str, calls: &[&st
 /// Whether this is the text of the audit of a new process with a limit.
 fn is_audited(alloc: Global, limit: u8, text: &[u8]) -> Result<bool> {
     let job = job_of(limit);
-    let mut sink = MemorySink::new(alloc, 65_536).map_err(|fault| anyhow!("{fault}"))?;
+    let mut sink = MemorySink::new(alloc, 65_536)?;
     let answer = audit_to(alloc, TREE, b"", &job, &mut sink);
     Ok(answer == Ok(()) && sink.bytes() == text)
 }

@@ -2,7 +2,7 @@
 
 use crate::LISTING;
 use crate::variants::run_text;
-use anyhow::{Result, anyhow};
+use anyhow::Result;
 use pua_tool::{MemorySink, ToolFault, run_to};
 use std::alloc::Global;
 
@@ -15,7 +15,7 @@ const SCRIPT: &[u8] = b"1 unveil /tmp c\n1 pledge stdio,dpath,error -\n1 mkdir /
 /// Whether a table is refused with this fault, or its script is answered with these words, one after
 /// another.
 pub(crate) fn is_table(alloc: Global, table: &[u8], answer: &str) -> Result<bool> {
-    let mut sink = MemorySink::new(alloc, 1_024).map_err(|fault| anyhow!("{fault}"))?;
+    let mut sink = MemorySink::new(alloc, 1_024)?;
     match run_to(alloc, LISTING, SCRIPT, Some(table), &mut sink) {
         Ok(()) => {
             let Some(words) = answer.strip_prefix("is ") else {

@@ -6,7 +6,7 @@ use crate::rows::read_row;
 use crate::tables::{TABLE, is_table};
 use crate::trees::ListedTree;
 use crate::{LISTING, SCRIPT};
-use anyhow::{Result, anyhow, bail};
+use anyhow::{Result, bail};
 use pua_tool::{MemorySink, ToolFault, run_to};
 use pua_tree::{ListTree, SlabTree};
 use std::alloc::Global;
@@ -133,7 +133,7 @@ fn with_line(alloc: Global, at: usize, line: &[u8]) -> Result<Vec<u8>> {
 /// Whether a script is refused with this fault, or its requests are answered with these words, one
 /// after another.
 fn is_script(alloc: Global, variant: &[u8], answer: &str) -> Result<bool> {
-    let mut sink = MemorySink::new(alloc, 1_024).map_err(|fault| anyhow!("{fault}"))?;
+    let mut sink = MemorySink::new(alloc, 1_024)?;
     match run_to(alloc, LISTING, variant, None, &mut sink) {
         Ok(()) => {
             let Some(words) = answer.strip_prefix("is ") else {

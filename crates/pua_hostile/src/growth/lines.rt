@@ -6,7 +6,7 @@ ghost use Rattle.std.specs.Prelude.{◌≡◌, IfOk};
 use crate::LISTING;
 use crate::growth::readings::tree_read;
 use crate::trees::ListedTree;
-use anyhow::{Result, anyhow};
+use anyhow::Result;
 use pua_audit::{Audit, AuditFault, Base, Line};
 use pua_path::Counted;
 use pua_policy::{Call, CallTable, Perms, Place, Process};
@@ -38,10 +38,8 @@ pub(crate) fn hold(alloc: Global, again: &mut u32) -> Result<bool> {
 fn is_whole<T: ListedTree>(alloc: Global, again: &mut u32) -> Result<bool> {
     let tree = tree_read::<T>(alloc, LISTING, again)?;
     let process = reader(alloc)?;
-    match begun_again(alloc, &tree, &process, again) {
-        Ok(mut audit) => Ok(is_listed(&tree, &mut audit)),
-        Err(fault) => Err(anyhow!("{fault}")),
-    }
+    let mut audit = begun_again(alloc, &tree, &process, again)?;
+    Ok(is_listed(&tree, &mut audit))
 }
 
 fn begun_again<T: FileTree>(
@@ -82,13 +80,9 @@ pub(crate) fn listed<T: ListedTree>(alloc: Global) -> &'static str {
 
 /// A locked process that may read one file.
 fn reader(alloc: Global) -> Result<Process> {
-    let Ok(name) = Name::read(b"passwd") else {
-        return Err(anyhow!("no name"));
-    };
-    let mut process = Process::new(alloc).map_err(|fault| anyhow!("{fault}"))?;
-    process
-        .unveil_at(Place::Slot(NodeId::new(1), name), Perms::READ)
-        .map_err(|fault| anyhow!("{fault}"))?;
+    let name = Name::read(b"passwd")?;
+    let mut process = Process::new(alloc)?;
+    process.unveil_at(Place::Slot(NodeId::new(1), name), Perms::READ)?;
     process.lock();
     Ok(process)
 }

@@ -4,7 +4,7 @@
 use crate::LISTING;
 use crate::growth::readings::tree_read;
 use crate::trees::ListedTree;
-use anyhow::{Result, anyhow};
+use anyhow::Result;
 use pua_objects::{ObjectKind, ObjectLine, Objects};
 use pua_policy::{Call, CallTable, Calls, Perms, Place, Process};
 use pua_tree::{FileTree, ListTree, Name, NodeId, OutOfMemory, SlabTree};
@@ -56,9 +56,9 @@ fn begun_again<'t, T: FileTree>(
     match Objects::begin(alloc, tree, process, &table) {
         Err(OutOfMemory) => {
             *again = again.saturating_add(1);
-            Objects::begin(alloc, tree, process, &table).map_err(|fault| anyhow!("{fault}"))
+            Ok(Objects::begin(alloc, tree, process, &table)?)
         }
-        answer => answer.map_err(|fault| anyhow!("{fault}")),
+        answer => Ok(answer?),
     }
 }
 
@@ -81,15 +81,13 @@ pub(crate) fn listed<T: ListedTree>(alloc: Global) -> &'static str {
 /// A locked process that may write into a directory under one name alone.
 fn spooler(alloc: Global) -> Result<Process> {
     let etc = NodeId::new(1);
-    let mut process = Process::new(alloc).map_err(|fault| anyhow!("{fault}"))?;
+    let mut process = Process::new(alloc)?;
     for (place, perms) in [
         (Place::Dir(etc), Perms::READ.union(Perms::CREATE)),
         (place_of(etc, b"log")?, Perms::WRITE.union(Perms::CREATE)),
         (place_of(etc, b"passwd")?, Perms::READ),
     ] {
-        process
-            .unveil_at(place, perms)
-            .map_err(|fault| anyhow!("{fault}"))?;
+        process.unveil_at(place, perms)?;
     }
     process.lock();
     Ok(process)
@@ -97,10 +95,7 @@ fn spooler(alloc: Global) -> Result<Process> {
 
 /// The place of a name in a directory.
 fn place_of(dir: NodeId, name: &[u8]) -> Result<Place> {
-    match Name::read(name) {
-        Ok(name) => Ok(Place::Slot(dir, name)),
-        Err(fault) => Err(anyhow!("{fault}")),
-    }
+    Ok(Place::Slot(dir, Name::read(name)?))
 }
 
 /// Whether a list gives each of the lines in turn, and then none.

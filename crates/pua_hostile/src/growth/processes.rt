@@ -3,7 +3,7 @@
 use crate::LISTING;
 use crate::growth::readings::tree_read;
 use crate::growth::seen::process_seen;
-use anyhow::{Result, anyhow};
+use anyhow::{Result, bail};
 use pua_policy::{Perms, Place, Process, Promises, UnveilFault};
 use pua_tree::{ListTree, NodeId};
 use std::alloc::Global;
@@ -36,7 +36,7 @@ fn process_made(alloc: Global, again: &mut u32) -> Result<Process> {
         Ok(process) => Ok(process),
         Err(_) => {
             *again = again.saturating_add(1);
-            Process::new(alloc).map_err(|fault| anyhow!("{fault}"))
+            Ok(Process::new(alloc)?)
         }
     }
 }
@@ -46,16 +46,17 @@ fn process_copied(alloc: Global, process: &Process, again: &mut u32) -> Result<P
         Ok(copy) => Ok(copy),
         Err(_) => {
             *again = again.saturating_add(1);
-            process.fork(alloc).map_err(|fault| anyhow!("{fault}"))
+            Ok(process.fork(alloc)?)
         }
     }
 }
 
 fn pledge(process: &mut Process) -> Result<()> {
     let promises = Promises::RPATH.union(Promises::CPATH);
-    process
-        .pledge(Some(promises), Some(Promises::RPATH))
-        .map_err(|fault| anyhow!("{fault}"))
+    match process.pledge(Some(promises), Some(Promises::RPATH)) {
+        Ok(()) => Ok(()),
+        Err(errno) => bail!("{errno}"),
+    }
 }
 
 /// Whether a process that has the first veils takes the one of this directory, and is as it was
@@ -78,18 +79,16 @@ fn is_unveiled(
             let is_taken = process.unveil_at(place, Perms::READ) == Ok(());
             Ok(is_taken && seen.as_slice() == wanted.as_slice())
         }
-        Err(fault) => Err(anyhow!("{fault}")),
+        Err(fault) => Err(fault.into()),
     }
 }
 
 /// A process with so many of the veils.
 fn with_veils(alloc: Global, count: usize) -> Result<Process> {
-    let mut process = Process::new(alloc).map_err(|fault| anyhow!("{fault}"))?;
+    let mut process = Process::new(alloc)?;
     pledge(&mut process)?;
     for dir in DIRS.iter().take(count) {
-        process
-            .unveil_at(Place::Dir(NodeId::new(*dir)), Perms::READ)
-            .map_err(|fault| anyhow!("{fault}"))?;
+        process.unveil_at(Place::Dir(NodeId::new(*dir)), Perms::READ)?;
     }
     Ok(process)
 }

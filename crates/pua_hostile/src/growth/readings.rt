@@ -6,7 +6,7 @@ use crate::growth::worlds::{REQUESTS, SCRIPT};
 use crate::listed::listing_of;
 use crate::tables::TABLE;
 use crate::trees::ListedTree;
-use anyhow::{Result, anyhow};
+use anyhow::Result;
 use pua_policy::{Call, CallTable, Perms, TableFault};
 use pua_script::{Script, ScriptFault, read_script};
 use pua_tool::{InputFault, Inputs, MemoryInputs, ReadSource, read_bytes};
@@ -65,9 +65,9 @@ fn bytes_read(alloc: Global, again: &mut u32) -> Result<Vec<u8>> {
         Err(InputFault::OutOfMemory) => {
             *again = again.saturating_add(1);
             let mut source = ReadSource::new(DrippingReader::new(LISTING, 0));
-            read_bytes(alloc, &mut source).map_err(|fault| anyhow!("{fault}"))
+            Ok(read_bytes(alloc, &mut source)?)
         }
-        answer => answer.map_err(|fault| anyhow!("{fault}")),
+        answer => Ok(answer?),
     }
 }
 
@@ -78,9 +78,9 @@ fn input_taken(alloc: Global, again: &mut u32) -> Result<Vec<u8>> {
     match inputs.take(alloc, "T") {
         Err(InputFault::OutOfMemory) => {
             *again = again.saturating_add(1);
-            inputs.take(alloc, "T").map_err(|fault| anyhow!("{fault}"))
+            Ok(inputs.take(alloc, "T")?)
         }
-        answer => answer.map_err(|fault| anyhow!("{fault}")),
+        answer => Ok(answer?),
     }
 }
 
@@ -89,9 +89,9 @@ pub(crate) fn tree_read<T: ListedTree>(alloc: Global, bytes: &[u8], again: &mut 
     match T::read(alloc, bytes) {
         Err(ListingFault::OutOfMemory) => {
             *again = again.saturating_add(1);
-            T::read(alloc, bytes).map_err(|fault| anyhow!("{fault}"))
+            Ok(T::read(alloc, bytes)?)
         }
-        answer => answer.map_err(|fault| anyhow!("{fault}")),
+        answer => Ok(answer?),
     }
 }
 
@@ -99,9 +99,9 @@ fn names_told<T: FileTree>(alloc: Global, tree: &T, again: &mut u32) -> Result<V
     match tree.names(alloc) {
         Err(TreeFault::OutOfMemory) => {
             *again = again.saturating_add(1);
-            tree.names(alloc).map_err(|fault| anyhow!("{fault}"))
+            Ok(tree.names(alloc)?)
         }
-        answer => answer.map_err(|fault| anyhow!("{fault}")),
+        answer => Ok(answer?),
     }
 }
 
@@ -119,9 +119,9 @@ fn rows_lent<'t, T: FileTree>(
     match tree.rows(alloc) {
         Err(OutOfMemory) => {
             *again = again.saturating_add(1);
-            tree.rows(alloc).map_err(|fault| anyhow!("{fault}"))
+            Ok(tree.rows(alloc)?)
         }
-        answer => answer.map_err(|fault| anyhow!("{fault}")),
+        answer => Ok(answer?),
     }
 }
 
@@ -138,9 +138,9 @@ fn table_read(alloc: Global, again: &mut u32) -> Result<CallTable> {
     match CallTable::read(alloc, TABLE) {
         Err(TableFault::OutOfMemory) => {
             *again = again.saturating_add(1);
-            CallTable::read(alloc, TABLE).map_err(|fault| anyhow!("{fault}"))
+            Ok(CallTable::read(alloc, TABLE)?)
         }
-        answer => answer.map_err(|fault| anyhow!("{fault}")),
+        answer => Ok(answer?),
     }
 }
 
@@ -149,8 +149,8 @@ pub(crate) fn script_read(alloc: Global, again: &mut u32) -> Result<Script> {
     match read_script(alloc, SCRIPT) {
         Err(ScriptFault::OutOfMemory) => {
             *again = again.saturating_add(1);
-            read_script(alloc, SCRIPT).map_err(|fault| anyhow!("{fault}"))
+            Ok(read_script(alloc, SCRIPT)?)
         }
-        answer => answer.map_err(|fault| anyhow!("{fault}")),
+        answer => Ok(answer?),
     }
 }

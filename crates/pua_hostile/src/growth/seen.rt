@@ -3,7 +3,7 @@
 ghost use Rattle.std.specs.Prelude.{◌≡◌};
 
 use crate::listed::listing_of;
-use anyhow::{Result, anyhow};
+use anyhow::Result;
 use pua_audit::{Audit, Base};
 use pua_path::Counted;
 use pua_policy::{CallTable, Process};
@@ -49,7 +49,7 @@ pub(crate) fn process_seen<T: FileTree>(
         2,
         None,
     );
-    let mut audit = begun.map_err(|fault| anyhow!("{fault}"))?;
+    let mut audit = begun?;
     let mut text = lines_of(alloc, tree, &mut audit)?;
     let dir = process.dir().number();
     let (locked, ended) = (process.locked(), process.ended());

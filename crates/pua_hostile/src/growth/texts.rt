@@ -2,7 +2,7 @@
 //! by the first call, and the second writes everything.
 
 use crate::LISTING;
-use anyhow::{Result, anyhow};
+use anyhow::Result;
 use pua_audit::Base;
 use pua_tool::{
     DONE, Job, MEMORY, MemoryInputs, MemorySink, Sink, ToolFault, audit_to, command, objects_to,
@@ -55,7 +55,7 @@ fn sink_made(alloc: Global, again: &mut u32) -> Result<MemorySink> {
         Ok(sink) => Ok(sink),
         Err(_) => {
             *again = again.saturating_add(1);
-            MemorySink::new(alloc, ROOM).map_err(|fault| anyhow!("{fault}"))
+            Ok(MemorySink::new(alloc, ROOM)?)
         }
     }
 }

@@ -6,7 +6,7 @@ use crate::growth::readings::{script_read, tree_read};
 use crate::growth::seen::world_seen;
 use crate::listed::listing_of;
 use crate::trees::ListedTree;
-use anyhow::{Result, anyhow};
+use anyhow::Result;
 use pua_path::Errno;
 use pua_policy::CallTable;
 use pua_script::{Answer, Request, Script, World, WorldFault};
@@ -70,7 +70,7 @@ fn world_made<T: ListedTree>(alloc: Global, again: &mut u32) -> Result<World<T>>
         Err(_) => {
             *again = again.saturating_add(1);
             let tree = tree_read::<T>(alloc, LISTING, again)?;
-            World::new(alloc, tree, table).map_err(|fault| anyhow!("{fault}"))
+            Ok(World::new(alloc, tree, table)?)
         }
     }
 }
@@ -104,7 +104,7 @@ fn is_answered_with<T: ListedTree>(
     request: &Request,
     wanted: Answer,
 ) -> Result<bool> {
-    let answer = world.apply(request).map_err(|fault| anyhow!("{fault}"))?;
+    let answer = world.apply(request)?;
     Ok(answer == wanted)
 }
 
@@ -112,7 +112,7 @@ fn is_answered_with<T: ListedTree>(
 fn seen_after<T: ListedTree>(alloc: Global, script: &Script, count: usize) -> Result<Vec<u8>> {
     let mut world = world_made::<T>(alloc, &mut 0)?;
     for request in script.requests().iter().take(count) {
-        world.apply(request).map_err(|fault| anyhow!("{fault}"))?;
+        world.apply(request)?;
     }
     world_seen(alloc, &world)
 }
@@ -138,9 +138,7 @@ fn is_run<T: ListedTree>(alloc: Global, script: &Script, again: &mut u32) -> Res
             *again = again.saturating_add(1);
             let is_front = is_after_some(alloc, &world, script)?;
             let mut whole = world_made::<T>(alloc, &mut 0)?;
-            let answers = whole
-                .run(alloc, script)
-                .map_err(|fault| anyhow!("{fault}"))?;
+            let answers = whole.run(alloc, script)?;
             Ok(is_front && answers.as_slice() == ANSWERS.as_slice())
         }
     }
