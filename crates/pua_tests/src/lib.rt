@@ -3,8 +3,6 @@
 #![tactic(auto)]
 
 #[cfg(test)]
-mod allowed;
-#[cfg(test)]
 mod commands;
 #[cfg(test)]
 mod edits;
@@ -12,8 +10,6 @@ mod edits;
 mod example;
 #[cfg(test)]
 mod expect;
-#[cfg(test)]
-mod fields;
 #[cfg(test)]
 mod flushes;
 #[cfg(test)]
@@ -27,8 +23,6 @@ mod listings;
 #[cfg(test)]
 mod live;
 #[cfg(test)]
-mod names;
-#[cfg(test)]
 mod objects;
 #[cfg(test)]
 mod paths;
@@ -37,16 +31,10 @@ mod probes;
 #[cfg(test)]
 mod processes;
 #[cfg(test)]
-mod sets;
-#[cfg(test)]
 mod steps;
 #[cfg(test)]
 mod tables;
 #[cfg(test)]
 mod told;
-#[cfg(test)]
-mod verdicts;
-#[cfg(test)]
-mod words;
 #[cfg(test)]
 mod worlds;
