@@ -1,38 +1,11 @@
-//! Audits by direct calls, and the lines that they lend.
+//! The lines that audits lend, by direct calls.
 
-ghost use Rattle.std.specs.Prelude.{◌≡◌, IfOk};
+ghost use Rattle.std.specs.Prelude.{◌≡◌};
 
-use pua_audit::{Audit, AuditFault, Base};
+use pua_audit::Audit;
 use pua_path::Counted;
-use pua_policy::{CallTable, Process};
-use pua_tree::{FileTree, ListTree};
+use pua_tree::FileTree;
 use std::alloc::{AllocError, Global};
-
-/// Begins the audit of a new process over a tree, with one candidate, which has a blank.
-pub(crate) fn begun(
-    alloc: Global,
-    tree: &ListTree,
-    base: Base,
-    limit: u8,
-    after: Option<&[u8]>,
-) -> Result<Audit, AuditFault>
-    ensures { IfOk result (λ audit. audit.tree ≡ tree.now) }
-{
-    let Ok(process) = Process::new(alloc) else {
-        return Err(AuditFault::OutOfMemory);
-    };
-    let mut probe = Counted::new(tree);
-    Audit::begin(
-        alloc,
-        &mut probe,
-        &process,
-        &CallTable::standard(),
-        base,
-        &[b"a\\040b"],
-        limit,
-        after,
-    )
-}
 
 /// Lines of an audit: each path in plain bytes, and the call after a blank. And how many letters were
 /// read at most for one of them, or to find that none was left.

@@ -13,27 +13,13 @@ mod expect;
 #[cfg(test)]
 mod flushes;
 #[cfg(test)]
-mod follows;
-#[cfg(test)]
 mod lent;
-#[cfg(test)]
-mod lines;
 #[cfg(test)]
 mod listings;
 #[cfg(test)]
 mod live;
 #[cfg(test)]
-mod objects;
-#[cfg(test)]
-mod paths;
-#[cfg(test)]
-mod probes;
-#[cfg(test)]
 mod processes;
-#[cfg(test)]
-mod steps;
-#[cfg(test)]
-mod tables;
 #[cfg(test)]
 mod told;
 #[cfg(test)]
