@@ -1,10 +1,8 @@
 //! Edits of a tree, of each kind.
 
 use crate::example::EXAMPLE;
-use crate::expect::{expect, expect_eq, expect_row};
-use crate::told::ROOT;
+use crate::expect::{expect, expect_row};
 use pua_tree::{FileTree, Kind, Name, NodeId, TreeFault, read_listing, read_listing_slab};
-use std::alloc::Global;
 use std::process::Abort;
 use std::test::Fail;
 
@@ -105,20 +103,14 @@ fn found(node: Result<NodeId, TreeFault>) -> Answer {
     }
 }
 
-/// Takes steps one after the other, from the example on, and compares their answers: over each kind
-/// of tree.
-fn expect_steps(rt: &impl Abort, alloc: Global, steps: &[(Step, Answer)]) -> Result<(), Fail> {
-    take_steps(rt, &mut read_listing(alloc, EXAMPLE)?, steps);
-    take_steps(rt, &mut read_listing_slab(alloc, EXAMPLE)?, steps);
-    Ok(())
-}
-
+/// Takes steps one after the other, and compares their answers.
 fn take_steps<T: FileTree>(rt: &impl Abort, tree: &mut T, steps: &[(Step, Answer)]) {
     for (number, (step, want)) in steps.iter().enumerate() {
         expect_row(rt, number, &answer(tree, *step), &Some(*want));
     }
 }
 
+/// Numbers are given once.
 const GIVEN_ONCE: [(Step, Answer); 8] = [
     (Step::Add(Kind::File, 0, b"new"), Ok(Some(8))),
     (Step::Cut(0, b"new"), Ok(Some(8))),
@@ -130,11 +122,7 @@ const GIVEN_ONCE: [(Step, Answer); 8] = [
     (Step::Look(0, b"new"), Ok(None)),
 ];
 
-#[test]
-fn numbers_are_given_once(rt: HostRuntime) -> Result<(), Fail> {
-    expect_steps(&rt, rt.alloc(), &GIVEN_ONCE)
-}
-
+/// Nodes are moved, and displace others.
 const MOVED: [(Step, Answer); 10] = [
     (Step::Shift(3, b"sh", 1, b"passwd"), Ok(None)),
     (Step::Look(1, b"passwd"), Ok(Some(7))),
@@ -148,11 +136,7 @@ const MOVED: [(Step, Answer); 10] = [
     (Step::Stands(5), Ok(None)),
 ];
 
-#[test]
-fn nodes_are_moved_and_displace_others(rt: HostRuntime) -> Result<(), Fail> {
-    expect_steps(&rt, rt.alloc(), &MOVED)
-}
-
+/// Nodes have names, and go with the last.
 const TIED: [(Step, Answer); 16] = [
     (Step::Tie(0, b"new", 2), Ok(None)),
     (Step::Look(0, b"new"), Ok(Some(2))),
@@ -176,48 +160,6 @@ const TIED: [(Step, Answer); 16] = [
     (Step::Add(Kind::File, 0, b"new"), Ok(Some(8))),
 ];
 
-#[test]
-fn nodes_have_names_and_go_with_the_last(rt: HostRuntime) -> Result<(), Fail> {
-    expect_steps(&rt, rt.alloc(), &TIED)
-}
-
-const NOT_TIED: [(Step, Answer); 9] = [
-    (Step::Tie(2, b"etc", 99), Err(TreeFault::NotDir)),
-    (Step::Tie(99, b"etc", 2), Err(TreeFault::NotDir)),
-    (Step::Tie(0, b"etc", 99), Err(TreeFault::Missing)),
-    (Step::Tie(0, b"etc", 3), Err(TreeFault::IsDir)),
-    (Step::Tie(0, b"new", 0), Err(TreeFault::IsDir)),
-    (Step::Tie(0, b"etc", 2), Err(TreeFault::Taken)),
-    (Step::Look(0, b"etc"), Ok(Some(1))),
-    (Step::Look(0, b"new"), Ok(None)),
-    (Step::Look(1, b"passwd"), Ok(Some(2))),
-];
-
-#[test]
-fn further_names_are_refused(rt: HostRuntime) -> Result<(), Fail> {
-    expect_steps(&rt, rt.alloc(), &NOT_TIED)
-}
-
-const REFUSED: [(Step, Answer); 12] = [
-    (Step::Add(Kind::File, 2, b"new"), Err(TreeFault::NotDir)),
-    (Step::Add(Kind::File, 0, b"tmp"), Err(TreeFault::Taken)),
-    (Step::Cut(2, b"new"), Err(TreeFault::NotDir)),
-    (Step::Cut(0, b"new"), Err(TreeFault::Missing)),
-    (Step::Cut(0, b"tmp"), Err(TreeFault::NotEmpty)),
-    (Step::Shift(0, b"tmp", 2, b"new"), Err(TreeFault::NotDir)),
-    (Step::Shift(0, b"new", 0, b"tmp"), Err(TreeFault::Missing)),
-    (Step::Shift(0, b"tmp", 3, b"new"), Err(TreeFault::Inside)),
-    (Step::Shift(0, b"etc", 0, b"tmp"), Err(TreeFault::NotEmpty)),
-    (Step::Shift(0, b"tmp", 0, b"tmp"), Ok(None)),
-    (Step::Look(0, b"etc"), Ok(Some(1))),
-    (Step::Look(0, b"tmp"), Ok(Some(3))),
-];
-
-#[test]
-fn edits_are_refused(rt: HostRuntime) -> Result<(), Fail> {
-    expect_steps(&rt, rt.alloc(), &REFUSED)
-}
-
 /// Adds a link, and expects the next number and its target.
 fn expect_target<T: FileTree>(rt: &impl Abort, tree: &mut T) -> Result<(), Fail> {
     let name = Name::read(b"new")?;
@@ -228,34 +170,12 @@ fn expect_target<T: FileTree>(rt: &impl Abort, tree: &mut T) -> Result<(), Fail>
 }
 
 #[test]
-fn targets_are_kept(rt: HostRuntime) -> Result<(), Fail> {
-    expect_target(&rt, &mut read_listing(rt.alloc(), EXAMPLE)?)?;
-    expect_target(&rt, &mut read_listing_slab(rt.alloc(), EXAMPLE)?)
-}
-
-/// What a full tree answers.
-const FULL: [(Step, Answer); 5] = [
-    (Step::Add(Kind::File, 0, b"more"), Err(TreeFault::Full)),
-    (Step::Tie(0, b"more", 1), Err(TreeFault::Full)),
-    (Step::Tie(0, b"00001", 1), Err(TreeFault::Taken)),
-    (Step::Cut(0, b"65534"), Ok(Some(65_534))),
-    (Step::Add(Kind::File, 0, b"more"), Ok(Some(65_535))),
-];
-
-/// Fills the root of a tree, and expects what a full tree answers.
-fn expect_full<T: FileTree>(rt: &impl Abort, alloc: Global, tree: &mut T) -> Result<(), Fail> {
-    for number in 1..65_535 {
-        let name = format!(in alloc; "{number:05}")?;
-        let node = added(tree, Kind::File, 0, name.as_bytes());
-        expect_eq(rt, "each node is added", &node, &Some(Ok(Some(number))));
-    }
-    take_steps(rt, tree, &FULL);
-    Ok(())
-}
-
-#[test]
-fn takes_65535_nodes_and_no_more(rt: HostRuntime) -> Result<(), Fail> {
+fn trees_are_edited(rt: HostRuntime) -> Result<(), Fail> {
     let alloc = rt.alloc();
-    expect_full(&rt, alloc, &mut read_listing(alloc, ROOT)?)?;
-    expect_full(&rt, alloc, &mut read_listing_slab(alloc, ROOT)?)
+    for steps in [GIVEN_ONCE.as_slice(), &MOVED, &TIED] {
+        take_steps(&rt, &mut read_listing(alloc, EXAMPLE)?, steps);
+        take_steps(&rt, &mut read_listing_slab(alloc, EXAMPLE)?, steps);
+    }
+    expect_target(&rt, &mut read_listing(alloc, EXAMPLE)?)?;
+    expect_target(&rt, &mut read_listing_slab(alloc, EXAMPLE)?)
 }

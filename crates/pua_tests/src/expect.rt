@@ -9,17 +9,6 @@ pub(crate) fn expect(rt: &impl Abort, what: &str, holds: bool) {
     assert!(rt; holds, "{what}");
 }
 
-/// Stops the test, and prints the bytes that it is about, unless what is expected of them holds.
-pub(crate) fn expect_of(rt: &impl Abort, text: &[u8], holds: bool) {
-    assert!(rt; holds, "{}", text.escape_ascii());
-}
-
-/// Stops the test, and prints the number of the row that it is about, unless what is expected of it
-/// holds.
-pub(crate) fn expect_at(rt: &impl Abort, row: usize, holds: bool) {
-    assert!(rt; holds, "row {row}");
-}
-
 /// Stops the test, and prints both texts, unless they are equal.
 pub(crate) fn expect_bytes(rt: &impl Abort, what: &str, got: &[u8], want: &[u8]) {
     assert!(rt;
@@ -33,15 +22,6 @@ pub(crate) fn expect_bytes(rt: &impl Abort, what: &str, got: &[u8], want: &[u8])
 /// Stops the test, and prints both values, unless they are equal.
 pub(crate) fn expect_eq<T: Debug + PartialEq>(rt: &impl Abort, what: &str, got: &T, want: &T) {
     assert!(rt; *got == *want, "{what}: {got:?} in place of {want:?}");
-}
-
-/// Stops the test, and prints the bytes that it is about and both values, unless they are equal.
-pub(crate) fn expect_text<T: Debug + PartialEq>(rt: &impl Abort, text: &[u8], got: &T, want: &T) {
-    assert!(rt;
-        *got == *want,
-        "{}: {got:?} in place of {want:?}",
-        text.escape_ascii()
-    );
 }
 
 /// Stops the test, and prints the number of the row that it is about and both values, unless they

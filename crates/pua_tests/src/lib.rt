@@ -1,9 +1,8 @@
-//! Tests of the libraries, by what they offer to others. They stand together, above all of them,
-//! since a crate with tests is proved twice.
+//! Tests of the libraries, by what they offer to others: of what no contract says, as that memory is
+//! ample for the largest trees, and of work in numbers. They stand together, above all libraries, since a
+//! crate with tests is proved twice. What contracts say of single calls isn't tested.
 #![tactic(auto)]
 
-#[cfg(test)]
-mod commands;
 #[cfg(test)]
 mod edits;
 #[cfg(test)]
@@ -15,12 +14,10 @@ mod flushes;
 #[cfg(test)]
 mod lent;
 #[cfg(test)]
-mod listings;
-#[cfg(test)]
 mod live;
 #[cfg(test)]
 mod processes;
 #[cfg(test)]
-mod told;
+mod rooms;
 #[cfg(test)]
-mod worlds;
+mod texts;

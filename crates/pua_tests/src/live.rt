@@ -1,9 +1,8 @@
 //! Live states of audits, by direct calls, over both kinds of tree.
 
-use crate::example::EXAMPLE;
-use crate::expect::{expect, expect_bytes, expect_eq, expect_of, expect_text};
+use crate::example::{EXAMPLE, ROOT};
+use crate::expect::{expect, expect_bytes, expect_eq};
 use crate::lent::lines_of;
-use crate::told::ROOT;
 use pua_audit::{Audit, Base};
 use pua_path::{Counted, Probe};
 use pua_policy::{Call, CallTable};
@@ -91,11 +90,15 @@ fn audited<T: FileTree + Drop>(
         None,
     )?;
     let begun = probe.probes();
-    expect_of(rt, asked.script, begun <= asked.looks);
-    expect_text(rt, asked.script, &audit.reads(), &0);
+    expect(rt, "looks to begin", begun <= asked.looks);
+    expect_eq(rt, "reads to begin", &audit.reads(), &0);
     let lent = lines_of(alloc, &mut probe, &mut audit)?;
-    expect_text(rt, asked.script, &probe.probes(), &begun);
-    expect_of(rt, asked.script, lent.most_reads <= asked.most_reads());
+    expect_eq(rt, "looks for the lines", &probe.probes(), &begun);
+    expect(
+        rt,
+        "reads for a line",
+        lent.most_reads <= asked.most_reads(),
+    );
     let live = audit.table_len();
     Ok(Some(Found {
         live,
@@ -113,10 +116,10 @@ fn expect_counts(
 ) -> Result<(), Fail> {
     let listed = audited(rt, alloc, read_listing(alloc, listing)?, asked)?;
     let listed = listed.as_ref().map(Found::counts);
-    expect_text(rt, asked.script, &listed, &Some(counts));
+    expect_eq(rt, "states and lines", &listed, &Some(counts));
     let slotted = audited(rt, alloc, read_listing_slab(alloc, listing)?, asked)?;
     let slotted = slotted.as_ref().map(Found::counts);
-    expect_text(rt, asked.script, &slotted, &Some(counts));
+    expect_eq(rt, "states and lines", &slotted, &Some(counts));
     Ok(())
 }
 
