@@ -27,8 +27,8 @@ def texts(source, name):
     return ast.literal_eval(re.search(rf"const {name}: \[&str; \d+\] = (\[.*?\]);", source, re.S)[1])
 
 
-def has_table(command):
-    return any(word.split("=")[0] == "--table" for word in command.split())
+def has_table(words):
+    return any(word.split("=")[0] == "--table" for word in words)
 
 
 def asked_by(words):
@@ -110,12 +110,14 @@ def cases():
     """The name, listing, script and words of each case."""
     for story in texts((EXAMPLES / "src/stories.rt").read_text(), "STORIES"):
         listing, script, command = [(EXAMPLES / "data" / story / file).read_text() for file in ("listing", "script", "command")]
-        if not has_table(command):
-            yield story, listing, script, command.split()[1:]
+        words = command.split()[1:]
+        if not has_table(words):
+            yield story, listing, script, words
     table = tomllib.loads((EXAMPLES / "data/rows.toml").read_text())
     for row in table["row"]:
-        if not row.get("fault") and not has_table(row["command"]):
-            yield row["name"], table["tree"][row["tree"]]["listing"], row.get("script", ""), row["command"].split()
+        words = row.get("words") or row["command"].split()
+        if not row.get("fault") and not has_table(words):
+            yield row["name"], table["tree"][row["tree"]]["listing"], row.get("script", ""), words
     random = Random()
     for number in range(1, 51):
         listing, script = random.listing(), random.script()

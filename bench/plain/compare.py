@@ -28,6 +28,11 @@ def run(name, words, folder, output, fault="", status=0):
         print(f"differs: {name}: {' '.join(words)}: status {ran.returncode}, {ran.stderr.decode()!r}")
 
 
+def words_of(row):
+    """The words of a row's command, or of one that is none."""
+    return row.get("words") or row["command"].split()
+
+
 def output_of(row):
     """What a row's command writes, and how many lines stand before the pairs."""
     lines = [f"{place} {answer}" for place, answer in enumerate(row.get("answers", "").split(), 1)]
@@ -41,7 +46,7 @@ def output_of(row):
 
 
 def run_row(row, folder):
-    words = row["command"].split()
+    words = words_of(row)
     lines, front = output_of(row)
     fault = row["fault"] + "\n" if "fault" in row else ""
     run(row["name"], words, folder, "".join(lines), fault, row.get("status", 0))
@@ -69,7 +74,7 @@ def main():
 
         put("tree 1\n0 dir\n", "", None)
         for misused in table["misused"]:
-            run(misused["name"], misused["command"].split(), folder, "", table["usage"][misused["usage"]] + "\n", 2)
+            run(misused["name"], words_of(misused), folder, "", table["usage"][misused["usage"]] + "\n", 2)
         for refused in table["refused"]:
             calls = refused.get("table")
             put(refused.get("listing", "tree 1\n0 dir\n" if calls is None else "tree 0"), refused.get("script", "0"), calls)

@@ -5,7 +5,7 @@ use crate::compared::{Asked, Counts, is_listed};
 use crate::deep::are_deep_listed;
 use crate::generator::{Random, listing, nodes, script};
 use crate::stories::STORIES;
-use crate::table::{Row, Table};
+use crate::table::{Row, Table, words_of};
 use crate::trees::table_of;
 use crate::written::Files;
 use anyhow::{Result, anyhow};
@@ -89,7 +89,7 @@ fn is_row_listed(
     let Some(tree) = table.tree.get(row.tree.as_str()) else {
         return Err(anyhow!("{}: there is no tree {}", row.name, row.tree));
     };
-    let words: Vec<&str> = row.command.as_str().split_whitespace().collect(alloc)?;
+    let words = words_of(alloc, row.command.as_str(), row.words.as_slice())?;
     is_as_listed(alloc, words.as_slice(), &row.files(tree), by_table, counts)
 }
 
@@ -130,7 +130,7 @@ fn is_as_listed(
     if command.table.is_some() != by_table {
         return Ok(true);
     }
-    let table = table_of(alloc, files, &command).map_err(|fault| anyhow!("{fault}"))?;
+    let table = table_of(alloc, files, &command)?;
     let world = world_of(alloc, files, table)?;
     match &command.text {
         Text::Run => is_deep_listed(alloc, &world, 1, &[], counts),
@@ -180,11 +180,9 @@ fn process_of(world: &World<ListTree>, number: u32) -> Result<&Process> {
 
 /// The world that a script leaves over a listing, by a table of calls.
 fn world_of(alloc: Global, files: &Files<'_>, table: CallTable) -> Result<World<ListTree>> {
-    let tree = read_listing(alloc, files.tree).map_err(|fault| anyhow!("{fault}"))?;
-    let script = read_script(alloc, files.script).map_err(|fault| anyhow!("{fault}"))?;
-    let mut world = World::new(alloc, tree, table).map_err(|fault| anyhow!("{fault}"))?;
-    let _answers = world
-        .run(alloc, &script)
-        .map_err(|fault| anyhow!("{fault}"))?;
+    let tree = read_listing(alloc, files.tree)?;
+    let script = read_script(alloc, files.script)?;
+    let mut world = World::new(alloc, tree, table)?;
+    let _answers = world.run(alloc, &script)?;
     Ok(world)
 }

@@ -72,26 +72,33 @@ impl Case {
 /// Prints a line for each limit.
 pub(crate) fn run(rt: &HostRuntime) -> Result<()> {
     let alloc = rt.alloc();
-    for (limit, holds) in [
-        ("128 veils", are_veils(alloc)?),
-        ("256 processes", are_processes(alloc)?),
-        ("4,096 nodes with names of 255 bytes", are_names(alloc)?),
-        ("4,095 names and 1,024 candidates", are_candidates(alloc)?),
-        ("60,000 lines with the longest paths", are_lines(alloc)?),
-        ("one line more than 60,000", are_lines_refused(alloc)?),
-        (
-            "one candidate more than 1,024",
-            are_candidates_refused(alloc)?,
-        ),
-        ("three letters of 255 bytes", are_letters(alloc)?),
-        ("a command of 3,000 words", are_words(alloc)?),
-        ("one node more than 4,096", are_nodes_refused(alloc)?),
-        ("4,095 names of one file", are_further_names(alloc)?),
-        ("65,534 names of one file", are_most_names(alloc)?),
-    ] {
-        println!(rt; "{limit}: {}", as_expected(holds))?;
-    }
+    tell(rt, "128 veils", are_veils(alloc)?)?;
+    tell(rt, "256 processes", are_processes(alloc)?)?;
+    tell(rt, "4,096 nodes with names of 255 bytes", are_names(alloc)?)?;
+    tell(
+        rt,
+        "4,095 names and 1,024 candidates",
+        are_candidates(alloc)?,
+    )?;
+    tell(rt, "60,000 lines with the longest paths", are_lines(alloc)?)?;
+    tell(rt, "one line more than 60,000", are_lines_refused(alloc)?)?;
+    tell(
+        rt,
+        "one candidate more than 1,024",
+        are_candidates_refused(alloc)?,
+    )?;
+    tell(rt, "three letters of 255 bytes", are_letters(alloc)?)?;
+    tell(rt, "a command of 10,000 words", are_words(alloc)?)?;
+    tell(rt, "one node more than 4,096", are_nodes_refused(alloc)?)?;
+    tell(rt, "4,095 names of one file", are_further_names(alloc)?)?;
+    tell(rt, "65,534 names of one file", are_most_names(alloc)?)?;
+    tell(rt, "59,990 directories made by a script", are_made(alloc)?)?;
+    tell(rt, "4,081 names beside one path", are_beside(alloc)?)?;
     Ok(())
+}
+
+fn tell(rt: &HostRuntime, limit: &str, holds: bool) -> Result<()> {
+    Ok(println!(rt; "{limit}: {}", as_expected(holds))?)
 }
 
 /// A process keeps 128 veils, and no more; it is forked, execs and is audited with them.
@@ -277,7 +284,7 @@ fn are_letters(alloc: Global) -> Result<bool> {
     case.holds(alloc, &words)
 }
 
-/// A command of 3,000 words is answered as a shorter one is: with too many names, which comes after
+/// A command of 10,000 words is answered as a shorter one is: with too many names, which comes after
 /// a limit that is too large and before a candidate that is none; or as words that are no command.
 fn are_words(alloc: Global) -> Result<bool> {
     let case = Case::new(alloc)?;
@@ -286,7 +293,7 @@ fn are_words(alloc: Global) -> Result<bool> {
     for (limit, fault) in [("1", many), ("16", many), ("17", large)] {
         let mut words = Vec::new(alloc);
         words.extend_from_slice(&["audit", "--limit", limit, "TREE", "SCRIPT"])?;
-        for _ in words.len()..3_000 {
+        for _ in words.len()..10_000 {
             words.push("..")?;
         }
         if !case.fails(alloc, words.as_slice(), 1, fault)? {
@@ -368,4 +375,91 @@ fn are_most_names(alloc: Global) -> Result<bool> {
     let is_kept = tree.kind(file) == Some(Kind::File);
     let is_given = tree.tie(NodeId::ROOT, more, file).is_ok();
     Ok(is_full && is_cut && is_kept && is_given)
+}
+
+/// How many directories a script makes here, beside the five lines of the rest.
+const MADE: u32 = 59_990;
+
+/// A script of nearly 60,000 lines makes empty directories, and a file with two names, one of which
+/// moves. What it leaves is run, audited and listed. The process keeps `cpath` alone. So an audit of one
+/// component has 59,995 answers, its heading, `rmdir` on each of 59,990 directories and `unlink` on two
+/// names: 119,988 lines, and none on `/` and `/..`. The list of objects has the same answers, its heading,
+/// one line for the root's further names, two for each directory, itself and its further names, and two
+/// for the file: 179,979 lines.
+fn are_made(alloc: Global) -> Result<bool> {
+    let mut case = Case::new(alloc)?;
+    case.ask("1 pledge stdio,wpath,cpath -", "ok")?;
+    for number in 1..=MADE {
+        let line = format!(in alloc; "1 mkdir /d{number:05}")?;
+        case.ask(line.as_str(), "ok")?;
+    }
+    for line in [
+        "1 create /f",
+        "1 link /f /g",
+        "1 rename /g /h",
+        "1 pledge stdio,cpath -",
+    ] {
+        case.ask(line, "ok")?;
+    }
+    let is_run = case.holds(alloc, &["run", "TREE", "SCRIPT"])?;
+    let listed = made_objects(alloc, case.output.as_str())?;
+    let words = ["objects", "TREE", "SCRIPT"];
+    let is_listed = case.writes(alloc, &words, 0, listed.as_str(), "")?;
+    case.reach("reach 1")?;
+    for number in 1..=MADE {
+        writeln!(case.output, "/d{number:05} rmdir")?;
+    }
+    case.reach("/f unlink")?;
+    case.reach("/h unlink")?;
+    let are_counted = case.output.as_str().lines().count() == 119_988
+        && listed.as_str().lines().count() == 179_979;
+    let words = ["audit", "--limit", "1", "TREE", "SCRIPT"];
+    Ok(is_run && is_listed && are_counted && case.holds(alloc, &words)?)
+}
+
+/// The text of the list of these objects, after the answers.
+fn made_objects(alloc: Global, answers: &str) -> Result<String> {
+    let mut text = String::from_str(alloc, answers)?;
+    text.push_str("objects 1\nother / mkdir,symlink\n")?;
+    for number in 1..=MADE {
+        writeln!(
+            text,
+            "dir /d{number:05} rmdir\nother /d{number:05} mkdir,symlink"
+        )?;
+    }
+    text.push_str("file /f unlink\nfile /h unlink\n")?;
+    Ok(text)
+}
+
+/// Fifteen directories named `a`, one in another, a file `f` in the last, and as many other names
+/// in the root as a listing takes. Where the file alone is veiled, one path of at most 16 components
+/// leads to it, and none of fewer. Each audit ends: a walk passes over what it can't reach anything from.
+fn are_beside(alloc: Global) -> Result<bool> {
+    let mut case = Case::new(alloc)?;
+    let mut path = String::new(alloc);
+    for number in 1..=15u32 {
+        let above = number.saturating_sub(1);
+        writeln!(case.tree, "{number} dir {above} a")?;
+        path.push_str("/a")?;
+    }
+    case.tree.push_str("16 file 15 f\n")?;
+    path.push_str("/f")?;
+    for number in 17..=4_095u32 {
+        writeln!(case.tree, "{number} file 0 n{number:04}")?;
+    }
+    let unveiled = format!(in alloc; "1 unveil {path} r")?;
+    case.ask(unveiled.as_str(), "ok")?;
+    case.ask("1 unveil - -", "ok")?;
+    case.reach("reach 1")?;
+    for limit in 4..=16u32 {
+        if limit == 16 {
+            writeln!(case.output, "{path} stat\n{path} lstat\n{path} open-r")?;
+        }
+        let limit = format!(in alloc; "{limit}")?;
+        let words = ["audit", "--limit", limit.as_str(), "TREE", "SCRIPT"];
+        if !case.holds(alloc, &words)? {
+            return Ok(false);
+        }
+    }
+    Ok(true)
 }

@@ -1,15 +1,13 @@
 //! Runs the examples: the story of each folder, the table of rows, what the program prints of itself,
-//! the limits, edits of two kinds of trees, audits that reach next to nothing, chosen walks, random
-//! cases by a fixed seed, what requests leave of random worlds, and audits beside lists of objects. A
-//! line is printed for each folder, each limit and each audit that reaches next to nothing, which says
-//! whether what is written is what was expected; then one for each row, edit and case of which that
-//! isn't so, with their counts.
+//! the limits, edits of two kinds of trees, chosen walks, random cases by a fixed seed, what requests
+//! leave of random worlds, and audits beside lists of objects. A line is printed for each folder and
+//! each limit, which says whether what is written is what was expected; then one for each row, edit and
+//! case of which that isn't so, with their counts.
 #![tactic(auto)]
 
 mod beside;
 mod case;
 mod compared;
-mod dead;
 mod deep;
 mod edits;
 mod futures;
@@ -36,7 +34,6 @@ fn main(rt: HostRuntime) -> Result<()> {
     shown::run(&rt)?;
     limits::run(&rt)?;
     edits::run(&rt)?;
-    dead::run(&rt)?;
     walks::run(&rt)?;
     random::run(&rt)?;
     futures::run(&rt)?;

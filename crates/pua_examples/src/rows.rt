@@ -2,7 +2,7 @@
 //! are there is also done by calls of the libraries, over each kind of tree. Each audit that a row has
 //! whole is also cut after each of its lines and resumed there.
 
-use crate::table::{Misused, Refused, Row, Table, ended};
+use crate::table::{Misused, Refused, Row, Table, ended, words_of};
 use crate::trees::are_alike;
 use crate::written::{Files, SMALL};
 use anyhow::{Result, anyhow};
@@ -79,7 +79,7 @@ fn run_rows(rt: &HostRuntime, table: &Table) -> Result<()> {
 
 /// Whether words are answered as no command.
 fn is_misused(alloc: Global, misused: &Misused, usage: &str) -> Result<bool> {
-    let words: Vec<&str> = misused.command.as_str().split_whitespace().collect(alloc)?;
+    let words = words_of(alloc, misused.command.as_str(), misused.words.as_slice())?;
     let files = Files::new(ROOT.as_bytes(), b"");
     let usage = ended(alloc, usage)?;
     let written = files.written(alloc, words.as_slice(), SMALL)?;
@@ -122,22 +122,15 @@ fn refused_files(refused: &Refused) -> Files<'_> {
 /// where the row's command wrote something else, over either kind of tree, or the audit went on in
 /// another way. A row with an input that can't be read has no tree.
 fn judged(alloc: Global, row: &Row, files: &Files<'_>) -> Result<Option<usize>> {
-    let words: Vec<&str> = row.command.as_str().split_whitespace().collect(alloc)?;
+    let words = words_of(alloc, row.command.as_str(), row.words.as_slice())?;
+    let words = words.as_slice();
     let output = row.output(alloc)?;
     let fault = ended(alloc, row.fault.as_str())?;
-    let written = files.written(alloc, words.as_slice(), SMALL)?;
+    let written = files.written(alloc, words, SMALL)?;
     if !written.is(row.status, output.as_bytes(), fault.as_bytes()) {
         return Ok(None);
     }
-    if row.status != DEVICE
-        && !are_alike(
-            alloc,
-            words.as_slice(),
-            files,
-            output.as_str(),
-            fault.as_str(),
-        )?
-    {
+    if row.status != DEVICE && !are_alike(alloc, words, files, output.as_str(), fault.as_str())? {
         return Ok(None);
     }
     if row.reach.is_none() {
@@ -145,14 +138,14 @@ fn judged(alloc: Global, row: &Row, files: &Files<'_>) -> Result<Option<usize>> 
     }
     let front = row.answers.as_str().split_whitespace().count();
     let front = front.saturating_add(1);
-    lines_resumed(alloc, row.command.as_str(), files, output.as_str(), front)
+    lines_resumed(alloc, words, files, output.as_str(), front)
 }
 
 /// After how many lines of its output an audit was resumed, the first so many aside; None where it
 /// did not go on with the lines after one.
 fn lines_resumed(
     alloc: Global,
-    command: &str,
+    words: &[&str],
     files: &Files<'_>,
     output: &str,
     front: usize,
@@ -164,7 +157,7 @@ fn lines_resumed(
         let rest = output.as_bytes().get(end..).unwrap_or(&[]);
         if place >= front {
             resumed = resumed.saturating_add(1);
-            if !goes_on(alloc, command, files, line, rest)? {
+            if !goes_on(alloc, words, files, line, rest)? {
                 return Ok(None);
             }
         }
@@ -175,7 +168,7 @@ fn lines_resumed(
 /// Whether an audit, resumed after the pair of a line, writes what stood after that line.
 fn goes_on(
     alloc: Global,
-    command: &str,
+    words: &[&str],
     files: &Files<'_>,
     line: &str,
     rest: &[u8],
@@ -183,11 +176,12 @@ fn goes_on(
     let Some((path, call)) = line.rsplit_once(' ') else {
         return Ok(false);
     };
-    let Some((_, operands)) = command.split_once(' ') else {
+    let Some((audit, operands)) = words.split_first() else {
         return Ok(false);
     };
-    let resuming = format!(in alloc; "audit --after {call}:{path} {operands}")?;
-    let words: Vec<&str> = resuming.as_str().split_whitespace().collect(alloc)?;
-    let written = files.written(alloc, words.as_slice(), SMALL)?;
+    let pair = format!(in alloc; "{call}:{path}")?;
+    let mut resuming = Vec::from_slice(alloc, &[*audit, "--after", pair.as_str()])?;
+    resuming.extend_from_slice(operands)?;
+    let written = files.written(alloc, resuming.as_slice(), SMALL)?;
     Ok(written.is(0, rest, b""))
 }

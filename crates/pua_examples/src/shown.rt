@@ -1,22 +1,23 @@
-//! What the program prints of itself: its version, and help that fits into a terminal of 80 columns.
+//! What the program prints of itself: its version, and its help, which fits into a terminal of 80 columns.
 
 use crate::written::{Files, SMALL, as_expected};
 use anyhow::Result;
 use std::alloc::Global;
+use std::fs;
 
 /// The program's version, and the toolchain's line.
 const VERSION: &[u8] = b"pua 0.1.0\nrattle-kit-13b logic dac8208d650f15bf\n";
 
-/// The words by which help is asked for.
-const HELP: [&[&str]; 8] = [
-    &["--help"],
-    &["-h"],
-    &["help"],
-    &["help", "run"],
-    &["run", "--help"],
-    &["audit", "-h"],
-    &["audit", "--help"],
-    &["objects", "--help"],
+/// The words by which help is asked for, and the files that have its texts.
+const HELP: [(&[&str], &str); 8] = [
+    (&["--help"], "help/pua"),
+    (&["-h"], "help/pua"),
+    (&["help"], "help/pua"),
+    (&["help", "run"], "help/run"),
+    (&["run", "--help"], "help/run"),
+    (&["audit", "-h"], "help/audit"),
+    (&["audit", "--help"], "help/audit"),
+    (&["objects", "--help"], "help/objects"),
 ];
 
 /// The most bytes in a line of help. All of them are ASCII.
@@ -31,10 +32,8 @@ const NO_FILES: Files<'static> = Files {
 
 /// Prints a line for the version, and one for help.
 pub(crate) fn run(rt: &HostRuntime) -> Result<()> {
-    let alloc = rt.alloc();
-    println!(rt; "the version: {}", as_expected(is_version(alloc)?))?;
-    println!(rt; "help in 80 columns: {}", as_expected(is_narrow(alloc)?))?;
-    Ok(())
+    println!(rt; "the version: {}", as_expected(is_version(rt.alloc())?))?;
+    help(rt)
 }
 
 /// Whether both words for the version print it.
@@ -48,19 +47,22 @@ fn is_version(alloc: Global) -> Result<bool> {
     Ok(true)
 }
 
-/// Whether help is printed, and no line of it is too long.
-fn is_narrow(alloc: Global) -> Result<bool> {
-    for words in &HELP {
-        let written = NO_FILES.written(alloc, words, SMALL)?;
-        let help = written.out.bytes();
-        let is_wide = help.split(|byte| *byte == b'\n').any(is_long);
-        if is_wide || !written.is(0, help, b"") || help.len() < COLUMNS {
-            return Ok(false);
+/// Prints a line for each request for help that is answered with another text than its file's, or with a
+/// line that is too long; then whether there were none.
+fn help(rt: &HostRuntime) -> Result<()> {
+    let mut are_shown = true;
+    for (words, file) in &HELP {
+        let help = fs::read_to_string(rt, *file)?;
+        let written = NO_FILES.written(rt.alloc(), words, SMALL)?;
+        let mut is_shown = written.is(0, help.as_bytes(), b"");
+        for line in help.as_str().lines() {
+            is_shown = is_shown && line.len() <= COLUMNS;
+        }
+        if !is_shown {
+            are_shown = false;
+            println!(rt; "not as in {file}, or too wide")?;
         }
     }
-    Ok(true)
-}
-
-fn is_long(line: &[u8]) -> bool {
-    line.len() > COLUMNS
+    println!(rt; "help in 80 columns: {}", as_expected(are_shown))?;
+    Ok(())
 }

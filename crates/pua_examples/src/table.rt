@@ -27,9 +27,13 @@ pub(crate) struct Tree {
 #[derive(Drop, Deserialize)]
 pub(crate) struct Misused {
     pub(crate) name: String,
+    #[serde(default)]
     pub(crate) command: String,
     /// The name of the line that tells of it.
     pub(crate) usage: String,
+    /// The words one by one, where one of them is empty or has a blank.
+    #[serde(default)]
+    pub(crate) words: Vec<String>,
 }
 
 /// A listing, a script or a table of calls with a fault.
@@ -50,7 +54,11 @@ pub(crate) struct Row {
     pub(crate) name: String,
     /// Where the expected values are from.
     pub(crate) from: String,
+    #[serde(default)]
     pub(crate) command: String,
+    /// The command's words one by one, where one of them is empty or has a blank.
+    #[serde(default)]
+    pub(crate) words: Vec<String>,
     pub(crate) tree: String,
     #[serde(default)]
     pub(crate) script: String,
@@ -104,6 +112,19 @@ impl Row {
         text.push_str(self.lines.as_str())?;
         Ok(text)
     }
+}
+
+/// Words that stand one by one, or else those of a line.
+pub(crate) fn words_of<'a>(
+    alloc: Global,
+    line: &'a str,
+    words: &'a [String],
+) -> Result<Vec<&'a str>> {
+    Ok(if words.is_empty() {
+        line.split_whitespace().collect(alloc)?
+    } else {
+        words.iter().map(String::as_str).collect(alloc)?
+    })
 }
 
 /// A line with its end; nothing where there is none.
