@@ -6,4 +6,6 @@
 mod path;
 mod policy;
 mod script;
+mod tool;
 mod tree;
+mod words;

@@ -1,0 +1,54 @@
+//! Wrong bodies of `pua_words`.
+
+use pua_words::{Stop, Text, UsageLine, read_words};
+use std::alloc::Global;
+
+/// No process has the number 0.
+fn process_0_taken(alloc: Global, words: &[&str]) {
+    let Ok(command) = read_words(alloc, words) else {
+        return;
+    };
+    if let Text::Objects(words) = command.text
+        && words.process == 0
+    {
+        unreachable!()
+    }
+}
+
+/// A list of objects has a line of its own.
+fn program_line_for_objects(alloc: Global) {
+    if let Err(Stop::Usage(UsageLine::Program)) = read_words(alloc, &["objects"]) {
+        unreachable!()
+    }
+}
+
+/// Audits have the line of the program.
+fn objects_line_for_audits(alloc: Global) {
+    if let Err(Stop::Usage(UsageLine::Objects)) = read_words(alloc, &["audit", "objects"]) {
+        unreachable!()
+    }
+}
+
+/// No words have the line of the program.
+fn objects_line_for_no_words(alloc: Global) {
+    if let Err(Stop::Usage(UsageLine::Objects)) = read_words(alloc, &[]) {
+        unreachable!()
+    }
+}
+
+/// A text about the program has some bytes.
+fn empty_text_shown(alloc: Global, words: &[&str]) {
+    let Err(Stop::Display(text)) = read_words(alloc, words) else {
+        return;
+    };
+    if text.is_empty() {
+        unreachable!()
+    }
+}
+
+/// The line of the program shows no list of objects.
+fn lines_exchanged() {
+    if UsageLine::Program.text() == UsageLine::Objects.text() {
+        unreachable!()
+    }
+}
