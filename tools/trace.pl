@@ -1,14 +1,16 @@
 #!/usr/bin/perl
 # Prints the script of a trace, as pua reads it:
 #
-#     trace.pl [-e FILE] [TRACE]
+#     trace.pl [-d DIRECTORY] [-e FILE] [TRACE]
 #
 # TRACE is the text that kdump(1) prints of what `ktrace -i` traced; standard input if it is left out.
 # The script has a line for each call that pua knows, in the order in which the calls returned.
 # Processes are numbered from 1, that of the first record, in the order of their forks.
 #
-#     -e FILE   writes into FILE what the kernel answered to the lines of the script, as `pua run`
-#               does: so `pua run TREE SCRIPT | diff FILE -` shows where the two differ.
+#     -d DIRECTORY   the working directory in which the first process began: the script begins with a
+#                    chdir to it. It is the root if it is left out.
+#     -e FILE        writes into FILE what the kernel answered to the lines of the script, as `pua run`
+#                    does: so `pua run TREE SCRIPT | diff FILE -` shows where the two differ.
 #
 # open is open-r, open-w, open-rw or create by its flags, access is stat, and the calls with a
 # directory's descriptor (openat and its like) are the plain ones where they have AT_FDCWD or an
@@ -18,8 +20,9 @@
 # Lines on standard error report what the script doesn't have or say, each kind once, with the line
 # of the trace where it is first and how often it is there.
 #
-# It was written from the documented form of kdump's output, and tried on texts that were written by
-# hand after it (trace.t), not on a system.
+# It was written from the documented form of kdump's output (and, where its manual page is silent, from
+# what is known of kdump's sources in releases 7.x), and tried on texts that were written by hand after
+# it (trace.t), not on a system.
 #
 # Status 0: the script was printed. Status 1: a file can't be read or written, or TRACE has no record
 # of kdump. Status 2: the words are no use of it.
@@ -71,6 +74,7 @@ my $HERE = qr/\A(?:AT_FDCWD|-100|0x(?:f{8})?ffffff9c|4294967196)(?:<.*>)?\z/;
 my ($in, $line, $held, $at_end) = (undef, 0, '', 0);    # the trace, and what was read of it
 my @again;         # a line that was read too early
 my $records = 0;
+my $first;         # process 1
 my %processes;     # by its pid: the process that has it now
 my %under_way;     # by process and thread: the call that has not returned yet
 my @entries;       # what becomes the lines of the script
@@ -353,7 +357,7 @@ sub process_of {
             $process->{fork} = { child => $process };
             push @entries, $process->{fork};
         } else {
-            $process->{number} = 1;
+            ($first, $process->{number}) = ($process, 1);
         }
         $processes{$pid} = $process;
     }
@@ -473,8 +477,11 @@ sub read_trace {
 
 # The lines of the script, and those of the answers.
 sub lines {
+    my ($directory) = @_;
     my (@script, @answers);
     my $made = 1;
+    unshift @entries, { process => $first, fields => ['chdir', path($directory)], answer => 'ok' }
+        if defined $directory;
     for my $entry (@entries) {
         my $process = $entry->{process} or next;
         if (!$process->{number}) {
@@ -488,7 +495,7 @@ sub lines {
             $child->{placed} = $process->{placed};
         }
         note($entry->{line},
-            'a relative path: pua begins at the root; put a chdir to the working directory first')
+            'a relative path: it is taken from the root, or with -d from another directory')
             if $entry->{relative} && !$process->{placed};
         $process->{placed} = 1 if $fields[0] eq 'chdir' && $fields[1] =~ m{\A/} && $entry->{answer} eq 'ok';
         push @script, join(' ', $process->{number}, @fields) . "\n";
@@ -506,10 +513,11 @@ sub write_all {
     return;
 }
 
-my $answers_to;
-my $understood = GetOptions('e=s' => \$answers_to);
-if (!$understood || @ARGV > 1 || grep { $_ eq '' } @ARGV, defined $answers_to ? $answers_to : ()) {
-    print STDERR "usage: trace.pl [-e FILE] [TRACE]\n";
+my ($directory, $answers_to);
+my $understood = GetOptions('d=s' => \$directory, 'e=s' => \$answers_to);
+if (!$understood || @ARGV > 1 || grep({ $_ eq '' } @ARGV, defined $answers_to ? $answers_to : ())
+    || (defined $directory && $directory !~ m{\A/})) {
+    print STDERR "usage: trace.pl [-d DIRECTORY] [-e FILE] [TRACE]\n";
     exit 2;
 }
 if (@ARGV) {
@@ -520,7 +528,7 @@ if (@ARGV) {
 binmode $in;
 read_trace();
 fail('no record of kdump in the trace; what ktrace writes has to be read by kdump first') unless $records;
-my ($script, $answers) = lines();
+my ($script, $answers) = lines($directory);
 report("the script has " . @$script . " lines, and pua reads at most $MOST_LINES") if @$script > $MOST_LINES;
 report("line $reports{$_}{line}: $_ ($reports{$_}{count} in all)")
     for sort { $reports{$a}{line} <=> $reports{$b}{line} || $a cmp $b } keys %reports;

@@ -818,7 +818,7 @@ gives('relative paths', <<'END');
 3 unlink a : ok
 2 unlink a : ok
 --
-line 1: a relative path: pua begins at the root; put a chdir to the working directory first (4 in all)
+line 1: a relative path: it is taken from the root, or with -d from another directory (4 in all)
 END
 
 # Lines that are no records.
@@ -892,14 +892,19 @@ END
 
 # The words.
 {
-    my $usage = "usage: trace.pl [-e FILE] [TRACE]\n";
+    my $usage = "usage: trace.pl [-d DIRECTORY] [-e FILE] [TRACE]\n";
     file('trace', kdump('7 CALL  exit(0)'));
-    for my $words (['a', 'b'], [''], ['-e', ''], ['-e']) {
+    for my $words (['a', 'b'], [''], ['-e', ''], ['-e'], ['-d', 'home'], ['-d', '']) {
         my ($status, $out, $err) = trace(@$words);
         is("$status$out", '2', "no use of it: @$words");
         like($err, qr/\Q$usage\E\z/, "no use of it: @$words: the report");
     }
-    my ($status, $out, $err) = trace('trace');
+    file('trace', kdump("7 fork() = 8\n" . '8 stat(0x1c60,0x1d60) = 0 "a"'));
+    my ($status, $out, $err) = trace('-d', '/my home', '-e', 'answers');
+    is("$status$out$err", "01 chdir /my\\040home\n1 fork 2\n2 stat a\n", 'a working directory');
+    is(content('answers'), "1 ok\n2 ok\n3 ok\n", 'a working directory: the answers');
+    file('trace', kdump('7 CALL  exit(0)'));
+    ($status, $out, $err) = trace('trace');
     is("$status$out$err", "01 exit\n", 'a file that is named');
     ($status, $out, $err) = trace("no\nne");
     like("$status$out$err", qr/\A1trace\.pl: no\\012ne: \S.*\n\z/, 'a file that is not there');
