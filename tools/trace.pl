@@ -346,12 +346,12 @@ sub take {
     return;
 }
 
-# The process of a record. A process that isn't the first begins with a fork, which may return later in
-# its parent: an entry is kept for it.
+# The process of a record, which may be its first, the return of its fork. A process that isn't the first
+# begins with a fork, which may return later in its parent: an entry is kept for it.
 sub process_of {
     my ($pid, $command, $begins) = @_;
     my $process = $processes{$pid};
-    if (!$process || ($begins && $process->{done})) {
+    if (!$process || ($begins && ($process->{done} || $process->{begun}))) {
         $process = { pid => $pid };
         if (%processes) {
             $process->{fork} = { child => $process };
@@ -361,6 +361,7 @@ sub process_of {
         }
         $processes{$pid} = $process;
     }
+    $process->{begun} = 1 if $begins;
     $process->{command} = $command;
     return $process;
 }

@@ -701,6 +701,22 @@ gives('a pid that comes again', <<'END');
 4 stat /b : ok
 END
 
+gives('a pid that comes again after a signal', <<'END');
+7 fork() = 8
+8 RET   fork 0
+8 stat(0x1c60,0x1d60) = 0 "/a"
+8 PSIG  SIGTERM SIG_DFL
+7 CALL  fork()
+8 RET   fork 0
+8 stat(0x1c60,0x1d60) = 0 "/b"
+7 RET   fork 8
+--
+1 fork 2 : ok
+2 stat /a : ok
+1 fork 3 : ok
+3 stat /b : ok
+END
+
 gives('forks that fail, and children that were not traced', <<'END');
 7 fork() = -1 errno 35 Resource temporarily unavailable
 7 fork() = 0x8
