@@ -1,6 +1,6 @@
 //! The audit of a process: its reach, pair by pair.
 
-ghost use Rattle.std.specs.Prelude.{◌*◌, ◌≡◌, ◌≢◌, ◌≤◌, ◌+◌, Ok, Err, IfOk, IfErr, IfSome, length, map, option_map};
+ghost use Rattle.std.specs.Prelude.{◌*◌, ◌≡◌, ◌≢◌, ◌≤◌, ◌+◌, Ok, Err, None, IfOk, IfErr, IfSome, length, map, option_map};
 ghost use Rattle.std.specs.Borrow.{sem};
 ghost use Rattle.std.specs.List.{list_all};
 ghost use Rattle.pua_tree.specs.Spelling.{is_plain};
@@ -86,6 +86,7 @@ impl Audit {
         ensures live { IfOk result (λ audit. (h : History) → StandsFor process.now h → (b : Beginning) →
             beginning (P.tree probe.old) table.now h base (map (λ s. s.now) candidates.now) limit (option_map (λ s. s.now) after.entry) ≡ Ok b → audit.live ≡ length (live_states b.scope)) }
         ensures reads { IfOk result (λ audit. audit.reads ≤ search_cost * limit) }
+        ensures unread { after.entry ≡ None → IfOk result (λ audit. audit.reads ≡ 0) }
         ensures limit { IfOk result (λ audit. audit.limit ≡ limit) }
         ensures tree { P.tree probe.new ≡ P.tree probe.old }
         ensures cost { P.count probe.new ≤ P.count probe.old + begin_cost (P.tree probe.old) limit (letter_count (P.tree probe.old) (map (λ s. s.now) candidates.now)) }

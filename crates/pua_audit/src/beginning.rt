@@ -1,6 +1,6 @@
 //! What an audit begins with, or why it can't begin.
 
-ghost use Rattle.std.specs.Prelude.{◌≡◌, ◌≢◌, ℕ, List, Option, Ok, Err, IfOk, IfErr, length, map, option_map};
+ghost use Rattle.std.specs.Prelude.{◌≡◌, ◌≢◌, ℕ, List, Option, Ok, Err, None, IfOk, IfErr, length, map, option_map};
 ghost use Rattle.pua_tree.specs.LentRows.{lent_entry};
 ghost use Rattle.pua_tree.specs.Tree.{WellFormed};
 ghost use Rattle.pua_policy.specs.Calls.{CallTable};
@@ -47,6 +47,7 @@ pub(crate) fn check<'t, P: Probe<'t>>(
         beginning (P.tree probe.now) table h base (map (λ s. s.now) candidates.now) limit (option_map (λ s. s.now) after.entry) ≡ Err fault) }
     ensures many { IfOk result (λ b. length b.letters.items ≡ letter_count (P.tree probe.now) (map (λ s. s.now) candidates.now)) }
     ensures sound { IfOk result (λ b. IsChecked (P.tree probe.now) limit b) }
+    ensures none { after.entry ≡ None → IfOk result (λ b. b.after ≡ None) }
 {
     let letters = letters_within(alloc, probe, rows, candidates, limit)?;
     let after = match after {

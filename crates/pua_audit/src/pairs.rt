@@ -1,6 +1,6 @@
 //! The pairs of an audit, by a walk over its table of steps.
 
-ghost use Rattle.std.specs.Prelude.{◌≡◌, ◌≤◌, ◌<◌, ◌+◌, ◌*◌, length, suc, option_map, IfOk, IfSome, vec_capacity, map};
+ghost use Rattle.std.specs.Prelude.{◌≡◌, ◌≤◌, ◌<◌, ◌+◌, ◌*◌, length, suc, option_map, None, IfOk, IfSome, vec_capacity, map};
 ghost use Rattle.pua_tree.specs.LentRows.{lent_entry};
 ghost use Rattle.std.specs.List.{AllByRecursion};
 ghost use Rattle.pua_audit.specs.Bounds.{pairs_cost};
@@ -55,6 +55,7 @@ impl Pairs {
         ensures left { IfOk result (λ pairs. to_come pairs ≡ rest_after (scope_in terms) (option_map (pair_in (letters_of terms)) after)) }
         ensures live { IfOk result (λ pairs. pairs.live ≡ length (live_states (scope_in terms))) }
         ensures reads { IfOk result (λ pairs. pairs.walk.tables.reads ≤ search_cost * terms.limit) }
+        ensures unread { after ≡ None → IfOk result (λ pairs. pairs.walk.tables.reads ≡ 0) }
         ensures tree { P.tree probe.new ≡ P.tree probe.old }
         ensures cost { P.count probe.new ≤ P.count probe.old + pairs_cost terms.seen.tree (length terms.letters.items) }
     {

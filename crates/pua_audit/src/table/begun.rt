@@ -1,6 +1,6 @@
 //! The walk over the table of steps, before its first pair.
 
-ghost use Rattle.std.specs.Prelude.{◌≡◌, ◌<◌, ◌≤◌, ◌+◌, ◌^◌, ◌*◌, suc, true, false, length, Option, option_map, IfOk, IfSome, IsTrue, map};
+ghost use Rattle.std.specs.Prelude.{◌≡◌, ◌<◌, ◌≤◌, ◌+◌, ◌^◌, ◌*◌, suc, true, false, length, Option, option_map, None, IfOk, IfSome, IsTrue, map};
 ghost use Rattle.pua_tree.specs.LentRows.{lent_entry};
 ghost use Rattle.std.specs.List.{AllByRecursion};
 ghost use Rattle.pua_tree.specs.Tree.{is_dir};
@@ -62,6 +62,7 @@ impl Terms {
         ensures within { IfOk result (λ begun. AllByRecursion (λ p. IsPair (length (letters_of self.now)) p) (pairs_of (trail begun.walk))) }
         ensures live { IfOk result (λ begun. begun.live ≡ length (live_states (scope_in self.now))) }
         ensures reads { IfOk result (λ begun. begun.walk.tables.reads ≤ search_cost * self.now.limit) }
+        ensures unread { after ≡ None → IfOk result (λ begun. begun.walk.tables.reads ≡ 0) }
         ensures tree { P.tree probe.new ≡ P.tree probe.old }
         ensures cost { P.count probe.new ≤ P.count probe.old + pairs_cost self.now.seen.tree (length self.now.letters.items) }
     {
@@ -93,6 +94,7 @@ impl Terms {
         ensures within { IfOk result (λ begun. AllByRecursion (λ p. IsPair (length (letters_of self.now)) p) (pairs_of (trail begun.walk))) }
         ensures live { IfOk result (λ begun. begun.live ≡ length (live_states (scope_in self.now))) }
         ensures reads { IfOk result (λ begun. begun.walk.tables.reads ≤ search_cost * self.now.limit) }
+        ensures unread { after ≡ None → IfOk result (λ begun. begun.walk.tables.reads ≡ 0) }
         ensures tree { P.tree probe.new ≡ P.tree probe.old }
         ensures cost { P.count probe.new + 1 ≤ P.count probe.old + pairs_cost self.now.seen.tree (length self.now.letters.items) }
     {
@@ -123,6 +125,7 @@ impl Terms {
         ensures within { IfOk result (λ begun. AllByRecursion (λ p. IsPair (length (letters_of self.now)) p) (pairs_of (trail begun.walk))) }
         ensures live { IfOk result (λ begun. begun.live ≡ length (live_states (scope_in self.now))) }
         ensures reads { IfOk result (λ begun. begun.walk.tables.reads ≤ search_cost * self.now.limit) }
+        ensures unread { IfOk result (λ begun. begun.walk.tables.reads ≡ 0) }
     {
         let steps = Steps {
             letters: self.letters.len(),
@@ -174,6 +177,7 @@ fn walk_after(
     ensures ready { IfOk result (λ walk. IsReady walk) }
     ensures of { IfOk result (λ walk. (walk.tables.steps ≡ tables.steps) × (walk.limit ≡ limit)) }
     ensures reads { IfOk result (λ walk. walk.tables.reads ≤ tables.reads + search_cost * limit) }
+    ensures unread { after ≡ None → IfOk result (λ walk. walk.tables.reads ≡ tables.reads) }
     ensures left { IfOk result (λ walk. pairs_of (trail walk) ≡ pairs_after after (reach (graph_of tables.steps) limit calls base)) }
 {
     let Some(after) = after else {
