@@ -175,16 +175,22 @@ fn files(rt: &HostRuntime) -> Result<()> {
         ("/dev/null", b"".as_slice()),
         ("seven-bytes", b"7 bytes".as_slice()),
     ] {
-        let is_read = inputs
-            .take(rt.alloc(), name)
-            .is_ok_and(|all| all.as_slice() == bytes);
-        if !is_read {
+        let taken = inputs.take(rt.alloc(), name);
+        if !is_whole(&taken, bytes) {
             println!(rt; "{name}: not read")?;
         }
     }
     println!(rt; "files: {} that can't be read", UNREADABLE.len())?;
     every_byte(rt)?;
     refusals(rt)
+}
+
+/// Whether an input was taken, and has these bytes.
+fn is_whole(taken: &Result<Vec<u8>, InputFault>, bytes: &[u8]) -> bool {
+    match taken {
+        Ok(all) => all.as_slice() == bytes,
+        Err(_) => false,
+    }
 }
 
 /// A file with each byte, one after another and many times, that ends in a carriage return: it is read
@@ -198,12 +204,12 @@ fn every_byte(rt: &HostRuntime) -> Result<()> {
     fs::write(rt, "every-byte", bytes.as_slice())?;
     let taken = DiskInputs::new(rt).take(rt.alloc(), "every-byte");
     fs::remove_file(rt, "every-byte")?;
-    let is_read = taken.is_ok_and(|all| all.as_slice() == bytes.as_slice());
-    println!(rt;
-        "a file of {} bytes: {}",
-        bytes.len(),
-        if is_read { "read" } else { "not read" }
-    )?;
+    let told = if is_whole(&taken, bytes.as_slice()) {
+        "read"
+    } else {
+        "not read"
+    };
+    println!(rt; "a file of {} bytes: {told}", bytes.len())?;
     Ok(())
 }
 

@@ -1,10 +1,10 @@
 //! Runs the libraries in hostile surroundings: sinks that take a byte at a time and break, readers
 //! that give a byte at a time and fail, the machine's own outputs and files where they fail, files as
-//! long as may be, inputs that are cut anywhere or hold a wrong byte, links that lead to one another, and trees in which
-//! nearly nothing is reached. A line is printed for each case that is not as it has to be, and for each
-//! table how many cases it has. With the word `growth` it makes only the calls to which growths may
-//! be refused, with `list` it only lists a reach, and with `measure` it only measures how long something
-//! takes.
+//! long as may be, inputs that are cut anywhere or hold a wrong byte, links that lead to one another,
+//! and trees in which nearly nothing is reached. A line is printed for each case that is not as it has
+//! to be, and for each table how many cases it has. With the word `growth` it makes only the calls to
+//! which growths may be refused, with `list` it only lists a reach, and with `measure` it only measures
+//! how long something takes.
 #![tactic(auto)]
 
 mod broken;

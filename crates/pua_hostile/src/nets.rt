@@ -56,15 +56,18 @@ fn chained(rt: &HostRuntime) -> Result<()> {
     let job = job_of(2);
     let mut sink = MemorySink::new(rt.alloc(), 65_536)?;
     let answer = audit_to(rt.alloc(), tree.as_bytes(), script, &job, &mut sink);
-    let heading = b"1 ok\n2 ok\nreach 1\n".as_slice();
-    let pairs = sink.bytes().strip_prefix(heading).unwrap_or(&[]);
-    let mut lines = pairs.split(|byte| *byte == b'\n');
-    let is_reached = lines.any(|line| line == b"/d20/g12 stat".as_slice());
-    let mut lines = pairs.split(|byte| *byte == b'\n');
-    if answer != Ok(()) || !is_reached || lines.any(|line| line.starts_with(b"/d20/g13 ")) {
+    let text = str::from_utf8(sink.bytes())?;
+    let pairs = text.strip_prefix("1 ok\n2 ok\nreach 1\n").unwrap_or("");
+    let mut count = 0u32;
+    let (mut is_reached, mut is_beyond) = (false, false);
+    for line in pairs.lines() {
+        count = count.saturating_add(1);
+        is_reached = is_reached || line == "/d20/g12 stat";
+        is_beyond = is_beyond || line.starts_with("/d20/g13 ");
+    }
+    if answer != Ok(()) || !is_reached || is_beyond {
         println!(rt; "chains of links: wrong")?;
     }
-    let count = pairs.iter().filter(|byte| **byte == b'\n').count();
     println!(rt; "chains of links: {count} pairs")?;
     Ok(())
 }

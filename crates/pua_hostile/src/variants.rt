@@ -117,14 +117,11 @@ fn is_listing<T: ListedTree>(
 fn with_line(alloc: Global, at: usize, line: &[u8]) -> Result<Vec<u8>> {
     let mut wanted = Vec::new(alloc);
     let mut start = 0usize;
-    for old in LISTING.split_inclusive(|byte| *byte == b'\n') {
-        let end = start.saturating_add(old.len());
-        if start <= at && at < end {
-            wanted.extend_from_slice(line)?;
-            wanted.push(b'\n')?;
-        } else {
-            wanted.extend_from_slice(old)?;
-        }
+    for old in str::from_utf8(LISTING)?.lines() {
+        let end = start.saturating_add(old.len()).saturating_add(1);
+        let is_there = start <= at && at < end;
+        wanted.extend_from_slice(if is_there { line } else { old.as_bytes() })?;
+        wanted.push(b'\n')?;
         start = end;
     }
     Ok(wanted)

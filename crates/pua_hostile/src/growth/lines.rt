@@ -110,5 +110,8 @@ fn is_listed<T: FileTree>(tree: &T, audit: &mut Audit) -> bool
 
 /// Whether a line was lent, and is of this path and call.
 fn is_line(line: Option<Line<'_>>, path: &[u8], call: Call) -> bool {
-    line.is_some_and(|line| line.path == path && line.call == call)
+    match line {
+        Some(line) => line.path == path && line.call == call,
+        None => false,
+    }
 }

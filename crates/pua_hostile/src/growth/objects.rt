@@ -111,7 +111,10 @@ fn is_listed<T: FileTree>(objects: &mut Objects<'_, T>) -> bool {
 
 /// Whether a line was given, and is of this kind and of these calls.
 fn is_line(line: Option<ObjectLine>, kind: ObjectKind, calls: &[Call]) -> bool {
-    line.is_some_and(|line| line.kind == kind && line.calls == set_of(calls))
+    match line {
+        Some(line) => line.kind == kind && line.calls == set_of(calls),
+        None => false,
+    }
 }
 
 /// The set of some calls.
@@ -125,6 +128,10 @@ fn set_of(calls: &[Call]) -> Calls {
 
 /// Whether these are the names.
 fn is_word(word: &[&Name], names: &[&[u8]]) -> bool {
-    let mut pairs = word.iter().zip(names.iter());
-    word.len() == names.len() && pairs.all(|(name, wanted)| name.bytes() == *wanted)
+    for (name, wanted) in word.iter().zip(names.iter()) {
+        if name.bytes() != *wanted {
+            return false;
+        }
+    }
+    word.len() == names.len()
 }

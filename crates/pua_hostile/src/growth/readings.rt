@@ -107,8 +107,12 @@ fn names_told<T: FileTree>(alloc: Global, tree: &T, again: &mut u32) -> Result<V
 
 /// Whether these are the names of the tree.
 fn are_names(names: &[Name]) -> bool {
-    let mut pairs = names.iter().zip(NAMES.iter());
-    names.len() == NAMES.len() && pairs.all(|(name, wanted)| name.bytes() == *wanted)
+    for (name, wanted) in names.iter().zip(NAMES.iter()) {
+        if name.bytes() != *wanted {
+            return false;
+        }
+    }
+    names.len() == NAMES.len()
 }
 
 fn rows_lent<'t, T: FileTree>(
@@ -127,11 +131,13 @@ fn rows_lent<'t, T: FileTree>(
 
 /// Whether these are the rows of the tree.
 fn are_rows(rows: &[LentRow<'_>]) -> bool {
-    let mut pairs = rows.iter().zip(ROWS.iter());
+    for (row, (dir, name, node)) in rows.iter().zip(ROWS.iter()) {
+        let is_placed = row.dir.number() == *dir && row.name.bytes() == *name;
+        if !is_placed || row.node.number() != *node {
+            return false;
+        }
+    }
     rows.len() == ROWS.len()
-        && pairs.all(|(row, (dir, name, node))| {
-            row.dir.number() == *dir && row.name.bytes() == *name && row.node.number() == *node
-        })
 }
 
 fn table_read(alloc: Global, again: &mut u32) -> Result<CallTable> {
