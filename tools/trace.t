@@ -620,6 +620,10 @@ gives('the promise error', <<'END');
 7 RET   fork -1 errno 78 Function not implemented
 7 fork() = 8
 8 CALL  exit(0)
+7 mkdir(0x1c60,0755) = -1 errno 78 Function not implemented
+7 CALL  rmdir(0x1c60)
+7 PLDG  rmdir, "cpath", errno 1 Operation not permitted
+7 RET   rmdir -1 errno 1 Operation not permitted
 --
 1 mkdir = : ENOSYS
 1 fork 2 : ENOSYS
@@ -627,6 +631,8 @@ gives('the promise error', <<'END');
 3 exit : ok
 --
 line 1: mkdir was answered ENOSYS before its path was recorded: it is written = (1 in all)
+line 10: left out: mkdir, of which the trace doesn't have the path (1 in all)
+line 12: left out: rmdir, of which the trace doesn't have the path (1 in all)
 END
 
 gives('other signals', <<'END');
