@@ -129,9 +129,9 @@ impl Case {
         let mut front = String::new(alloc);
         for (place, line) in self.script.as_str().lines().enumerate() {
             let answers = self.run(alloc, front.as_str())?;
-            let lines = answers.bytes().split(|byte| *byte == b'\n').count();
+            let lines = str::from_utf8(answers.bytes())?.lines().count();
             let is_front = whole.bytes().starts_with(answers.bytes());
-            if !is_front || lines != place.saturating_add(1) {
+            if !is_front || lines != place {
                 return Ok(false);
             }
             writeln!(front, "{line}")?;
@@ -215,7 +215,10 @@ impl Case {
         text.extend_from_slice(format!(in alloc; "reach {}\n", self.process)?.as_bytes())?;
         text.extend_from_slice(filtered.lines.as_bytes())?;
         let audited = self.audited(alloc, None)?;
-        Ok(audited.is_some_and(|out| out.bytes() == text.as_slice()))
+        Ok(match audited {
+            Some(out) => out.bytes() == text.as_slice(),
+            None => false,
+        })
     }
 
     /// Whether the audit, resumed after a pair, has what stands in the filter's lines from a byte on.
@@ -228,7 +231,10 @@ impl Case {
     ) -> Result<bool> {
         let rest = filtered.lines.as_bytes().get(rest..).unwrap_or(&[]);
         let audited = self.audited(alloc, Some(pair))?;
-        Ok(audited.is_some_and(|out| out.bytes() == rest))
+        Ok(match audited {
+            Some(out) => out.bytes() == rest,
+            None => false,
+        })
     }
 
     /// Whether the audit, resumed after the pair that was drawn and after each of the filter's lines,

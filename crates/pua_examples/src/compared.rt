@@ -91,7 +91,7 @@ pub(crate) fn is_listed(
         asked.limit,
         None,
     );
-    let mut audit = begun.map_err(|fault| anyhow!("{fault}"))?;
+    let mut audit = begun?;
     counts.audits = counts.audits.saturating_add(1);
     if !are_within(tree, process, &mut audit, lines.as_mut_slice(), counts) {
         return Ok(false);
@@ -110,7 +110,7 @@ pub(crate) fn is_listed(
 fn lines_of(alloc: Global, world: &World<ListTree>, process: &Process) -> Result<Vec<Listed>> {
     let tree = world.tree();
     let begun = Objects::begin(alloc, tree, process, world.table());
-    let mut list = begun.map_err(|fault| anyhow!("{fault}"))?;
+    let mut list = begun?;
     let mut lines = Vec::new(alloc);
     while let Some(line) = list.next_line() {
         let Some(subject) = subject_at(tree, line.kind, list.word()) else {
@@ -159,12 +159,13 @@ fn are_within(
 
 /// Whether there is a line about this that has a call, which is noted there as found.
 fn is_within(lines: &mut [Listed], subject: &Subject, call: Call) -> bool {
-    let found = lines.iter().position(|line| line.subject == *subject);
-    let Some(line) = found.and_then(|place| lines.get_mut(place)) else {
-        return false;
-    };
-    line.found = line.found.with(call);
-    line.calls.contains(call)
+    for line in lines {
+        if line.subject == *subject {
+            line.found = line.found.with(call);
+            return line.calls.contains(call);
+        }
+    }
+    false
 }
 
 /// Whether each line is found with all its calls whose own path is one of the audit's.
@@ -189,7 +190,10 @@ fn are_found(paths: &Paths<'_>, lines: &[Listed], counts: &mut Counts) -> bool {
 impl Paths<'_> {
     /// Whether the audit has a line's own path; of a line about further names, that of one of them.
     fn has(&self, line: &Listed) -> bool {
-        self.depth.is_some_and(|depth| line.names <= depth) && self.spell(&line.subject)
+        match self.depth {
+            Some(depth) => line.names <= depth && self.spell(&line.subject),
+            None => false,
+        }
     }
 
     /// Whether the names that lead to what a line is about are letters, as all names of a tree are; of a
@@ -198,12 +202,18 @@ impl Paths<'_> {
         match subject {
             Subject::Dir(_) => true,
             Subject::Name(_, name) => self.letters.contains(name),
-            Subject::Others(dir) => self.letters.iter().any(|name| self
-                .tree
-                .look(*dir, name)
-                .is_none()
-                && !has_veil(self.process, *dir, name)),
+            Subject::Others(dir) => self.have_further(*dir),
         }
+    }
+
+    /// Whether one of the letters is a further name of a directory.
+    fn have_further(&self, dir: NodeId) -> bool {
+        for name in self.letters {
+            if self.tree.look(dir, name).is_none() && !has_veil(self.process, dir, name) {
+                return true;
+            }
+        }
+        false
     }
 }
 
@@ -226,9 +236,9 @@ fn depth_of(tree: &ListTree, process: &Process, asked: &Asked<'_>) -> Option<usi
 
 /// The letters of an audit with these names, but for `..`; each once.
 pub(crate) fn letters(alloc: Global, tree: &ListTree, names: &[&[u8]]) -> Result<Vec<Name>> {
-    let mut letters = tree.names(alloc).map_err(|fault| anyhow!("{fault}"))?;
+    let mut letters = tree.names(alloc)?;
     for name in names {
-        let name = Name::read(name).map_err(|fault| anyhow!("{fault}"))?;
+        let name = Name::read(name)?;
         if !letters.contains(&name) {
             letters.push(name)?;
         }

@@ -2,7 +2,7 @@
 
 use crate::compared::{Asked, Counts, is_listed, letters};
 use crate::trees::spell;
-use anyhow::{Result, anyhow};
+use anyhow::Result;
 use pua_audit::{Base, LETTER_LIMIT};
 use pua_path::PATH_LIMIT;
 use pua_policy::{Place, Process};
@@ -26,7 +26,7 @@ pub(crate) fn are_deep_listed(
     counts: &mut Counts,
 ) -> Result<bool> {
     let spellings = deep_names(alloc, process, names)?;
-    let names: Vec<&[u8]> = spellings.iter().map(|name| name.as_slice()).collect(alloc)?;
+    let names: Vec<&[u8]> = spellings.iter().map(Vec::as_slice).collect(alloc)?;
     let letters = letters(alloc, world.tree(), names.as_slice())?;
     let limit = cheap_limit(letters.as_slice());
     for base in [Base::Root, Base::Cwd] {
@@ -44,7 +44,7 @@ pub(crate) fn are_deep_listed(
 
 /// The spellings of these names, of one that stands nowhere, and of each that has a veil of its own.
 fn deep_names(alloc: Global, process: &Process, names: &[&[u8]]) -> Result<Vec<Vec<u8>>> {
-    let places = process.places(alloc).map_err(|fault| anyhow!("{fault}"))?;
+    let places = process.places(alloc)?;
     let mut spellings = copies(alloc, names)?;
     spellings.push(Vec::from_slice(alloc, NOWHERE)?)?;
     for place in &places {
@@ -68,8 +68,10 @@ fn copies(alloc: Global, names: &[&[u8]]) -> Result<Vec<Vec<u8>>> {
 /// The longest limit at which an audit of these letters and `..` is cheap, and no path is too long.
 fn cheap_limit(letters: &[Name]) -> u8 {
     let count = letters.len().saturating_add(1);
-    let most = letters.iter().map(|name| name.bytes().len()).max();
-    let longest = most.unwrap_or(0).max(2).saturating_add(1);
+    let mut longest = 3usize;
+    for name in letters {
+        longest = longest.max(name.bytes().len().saturating_add(1));
+    }
     let mut words = 1usize;
     let mut cheap = 0u8;
     for limit in 1..=LETTER_LIMIT {

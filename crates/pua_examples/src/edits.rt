@@ -55,27 +55,24 @@ fn are_new(alloc: Global) -> Result<bool> {
 /// Whether the script is answered `ok` throughout, and gives numbers that were never given.
 fn are_given_once<T: FileTree + Drop>(alloc: Global, tree: T) -> Result<bool> {
     let table = CallTable::standard();
-    let mut world = World::new(alloc, tree, table).map_err(|fault| anyhow!("{fault}"))?;
-    let script = read_script(alloc, SCRIPT).map_err(|fault| anyhow!("{fault}"))?;
-    let told = world
-        .run(alloc, &script)
-        .map_err(|fault| anyhow!("{fault}"))?;
+    let mut world = World::new(alloc, tree, table)?;
+    let script = read_script(alloc, SCRIPT)?;
+    let told = world.run(alloc, &script)?;
     let tree = world.tree();
-    let are_named = number_of(tree, b"b")? == Some(2)
-        && number_of(tree, b"a")? == Some(3)
-        && number_of(tree, b"c")? == Some(4);
+    let are_named = node_of(tree, b"b")? == Some(NodeId::new(2))
+        && node_of(tree, b"a")? == Some(NodeId::new(3))
+        && node_of(tree, b"c")? == Some(NodeId::new(4));
     let are_okay = told.as_slice() == [Answer::Okay; 5].as_slice();
     Ok(are_okay && are_named && tree.kind(NodeId::new(1)).is_none())
 }
 
-/// The number of the node with a name in the root.
-fn number_of<T: FileTree>(tree: &T, name: &[u8]) -> Result<Option<u32>> {
-    let name = named(name)?;
-    Ok(tree.look(NodeId::ROOT, &name).map(|node| node.number()))
+/// The node with a name in the root.
+fn node_of<T: FileTree>(tree: &T, name: &[u8]) -> Result<Option<NodeId>> {
+    Ok(tree.look(NodeId::ROOT, &named(name)?))
 }
 
 fn named(bytes: &[u8]) -> Result<Name> {
-    Name::read(bytes).map_err(|fault| anyhow!("{fault}"))
+    Ok(Name::read(bytes)?)
 }
 
 /// An edit of a tree.
@@ -145,8 +142,8 @@ fn are_same<S: FileTree, T: FileTree>(
     other: &T,
     last: u32,
 ) -> Result<bool> {
-    let names = one.names(alloc).map_err(|fault| anyhow!("{fault}"))?;
-    let others = other.names(alloc).map_err(|fault| anyhow!("{fault}"))?;
+    let names = one.names(alloc)?;
+    let others = other.names(alloc)?;
     let mut same = names.as_slice() == others.as_slice();
     for number in 0..=last {
         same = same && is_same(one, other, NodeId::new(number), names.as_slice());
@@ -156,11 +153,13 @@ fn are_same<S: FileTree, T: FileTree>(
 
 /// Whether two trees answer the same about a number.
 fn is_same<S: FileTree, T: FileTree>(one: &S, other: &T, node: NodeId, names: &[Name]) -> bool {
+    for name in names {
+        if one.look(node, name) != other.look(node, name) {
+            return false;
+        }
+    }
     one.kind(node) == other.kind(node)
         && one.target(node) == other.target(node)
         && one.parent(node) == other.parent(node)
         && one.is_empty(node) == other.is_empty(node)
-        && names
-            .iter()
-            .all(|name| one.look(node, name) == other.look(node, name))
 }

@@ -6,7 +6,7 @@
 use crate::generator::{Random, family_script, listing, nodes};
 use crate::reached::{is_within, reached};
 use crate::spared::spared;
-use anyhow::{Result, anyhow};
+use anyhow::Result;
 use pua_audit::Base;
 use pua_policy::{Call, CallTable, May, Process, Promises};
 use pua_script::{Action, Answer, Request, World, read_script};
@@ -59,10 +59,10 @@ pub(crate) fn run(rt: &HostRuntime) -> Result<()> {
 
 /// Whether each request of a script over a listing leaves what it has to.
 fn is_held(alloc: Global, listing: &str, script: &str, counts: &mut Counts) -> Result<bool> {
-    let tree = read_listing(alloc, listing.as_bytes()).map_err(|fault| anyhow!("{fault}"))?;
-    let script = read_script(alloc, script.as_bytes()).map_err(|fault| anyhow!("{fault}"))?;
+    let tree = read_listing(alloc, listing.as_bytes())?;
+    let script = read_script(alloc, script.as_bytes())?;
     let table = CallTable::standard();
-    let mut world = World::new(alloc, tree, table).map_err(|fault| anyhow!("{fault}"))?;
+    let mut world = World::new(alloc, tree, table)?;
     for request in script.requests() {
         if !is_served(alloc, &mut world, request, counts)? {
             return Ok(false);
@@ -79,11 +79,11 @@ fn is_served(
     counts: &mut Counts,
 ) -> Result<bool> {
     let earlier = processes(alloc, world)?;
-    let Some(asker) = earlier.iter().find(|one| one.number == request.process()) else {
+    let Some(asker) = one_of(earlier.as_slice(), request.process()) else {
         return Ok(world.apply(request) == Ok(Answer::Gone));
     };
     let names = spared(alloc, world.tree(), &asker.process)?;
-    let answer = world.apply(request).map_err(|fault| anyhow!("{fault}"))?;
+    let answer = world.apply(request)?;
     for name in &names {
         if !name.stays(world.tree(), &asker.process)? {
             return Ok(false);
@@ -99,12 +99,22 @@ fn is_served(
     Ok(!is_okay || is_child_alike(alloc, world, asker, request)?)
 }
 
+/// The process of a number.
+fn one_of(earlier: &[Earlier], number: u32) -> Option<&Earlier> {
+    for one in earlier {
+        if one.number == number {
+            return Some(one);
+        }
+    }
+    None
+}
+
 /// Copies of all processes of a world.
 fn processes(alloc: Global, world: &World<ListTree>) -> Result<Vec<Earlier>> {
     let mut earlier = Vec::new(alloc);
     for number in 1..=PROCESSES {
         if let Some(process) = world.process(number) {
-            let process = process.fork(alloc).map_err(|fault| anyhow!("{fault}"))?;
+            let process = process.fork(alloc)?;
             earlier.push(Earlier { number, process })?;
         }
     }

@@ -129,33 +129,40 @@ pub(crate) fn nodes(alloc: Global, random: &mut Random) -> Result<Vec<Node>> {
 /// Whether a node's parent is a directory, in which nothing has its name; and, for a further name,
 /// whether what it names may have one.
 fn has_room(nodes: &[Node], node: &Node) -> bool {
-    let is_dir = nodes
-        .get(node.parent)
-        .is_some_and(|above| above.kind == "dir");
-    let is_file = nodes
-        .get(node.named)
-        .is_some_and(|named| named.kind != "dir" && named.kind != "hard");
+    let is_dir = match nodes.get(node.parent) {
+        Some(above) => above.kind == "dir",
+        None => false,
+    };
+    let is_file = match nodes.get(node.named) {
+        Some(named) => named.kind != "dir" && named.kind != "hard",
+        None => false,
+    };
     let may_be_named = node.kind != "hard" || is_file;
     is_dir && may_be_named && number_of(nodes, node.parent, node.name).is_none()
 }
 
 /// The number of the node with a name in a directory.
 pub(crate) fn number_of(nodes: &[Node], parent: usize, name: &str) -> Option<usize> {
-    let place = nodes
-        .iter()
-        .position(|node| node.parent == parent && node.name == name)?;
-    let node = nodes.get(place)?;
-    Some(if node.kind == "hard" {
-        node.named
-    } else {
-        place
-    })
+    for (place, node) in nodes.iter().enumerate() {
+        if node.parent == parent && node.name == name {
+            return Some(if node.kind == "hard" {
+                node.named
+            } else {
+                place
+            });
+        }
+    }
+    None
 }
 
 /// The listing of a tree.
 pub(crate) fn listing(alloc: Global, nodes: &[Node]) -> Result<String> {
-    let has_hard = nodes.iter().any(|node| node.kind == "hard");
-    let form = if has_hard { 2u32 } else { 1 };
+    let mut form = 1u32;
+    for node in nodes {
+        if node.kind == "hard" {
+            form = 2;
+        }
+    }
     let mut text = format!(in alloc; "tree {form}\n0 dir\n")?;
     for (number, node) in nodes.iter().enumerate().skip(1) {
         write!(text, "{number} {} {} {}", node.kind, node.parent, node.name)?;

@@ -2,7 +2,7 @@
 
 ghost use Rattle.std.specs.Prelude.{◌≡◌};
 
-use anyhow::{Result, anyhow};
+use anyhow::Result;
 use pua_audit::{Audit, Base};
 use pua_path::Counted;
 use pua_policy::{CallTable, Process};
@@ -27,7 +27,7 @@ pub(crate) fn reached(
     let begun = Audit::begin(
         alloc, &mut probe, process, &table, base, &LETTERS, LIMIT, None,
     );
-    let mut audit = begun.map_err(|fault| anyhow!("{fault}"))?;
+    let mut audit = begun?;
     lines_of(alloc, tree, &mut audit)
 }
 
@@ -48,11 +48,15 @@ fn lines_of(alloc: Global, tree: &ListTree, audit: &mut Audit) -> Result<Vec<u8>
 
 /// Whether each of some lines is one of the others, which have the same order.
 pub(crate) fn is_within(lines: &[u8], others: &[u8]) -> bool {
-    let mut others = others.split(|byte| *byte == b'\n');
-    for line in lines.split(|byte| *byte == b'\n') {
-        if !others.any(|other| other == line) {
-            return false;
+    let (Ok(lines), Ok(others)) = (str::from_utf8(lines), str::from_utf8(others)) else {
+        return false;
+    };
+    let mut rest = lines.lines();
+    let mut wanted = rest.next();
+    for other in others.lines() {
+        if wanted == Some(other) {
+            wanted = rest.next();
         }
     }
-    true
+    wanted.is_none()
 }

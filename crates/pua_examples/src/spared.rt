@@ -1,6 +1,6 @@
 //! The names of a tree on which the veils of a process give it no `c`, and whether they stay.
 
-use anyhow::{Result, anyhow};
+use anyhow::{Result, bail};
 use pua_path::{Counted, Ending, Last, PathText, resolve};
 use pua_policy::{Cover, Perms, Process};
 use pua_tree::{FileTree, Kind, ListTree, Name, NodeId};
@@ -19,7 +19,7 @@ pub(crate) struct Uncovered {
 
 /// The names of a tree that a process can't touch with `c`.
 pub(crate) fn spared(alloc: Global, tree: &ListTree, process: &Process) -> Result<Vec<Uncovered>> {
-    let rows = tree.rows(alloc).map_err(|fault| anyhow!("{fault}"))?;
+    let rows = tree.rows(alloc)?;
     let mut spared = Vec::new(alloc);
     for row in &rows {
         let cover = cover_at(tree, process, row.dir, row.name)?;
@@ -58,10 +58,12 @@ impl Uncovered {
 /// What the veils of a process leave of what stands at a name in a directory.
 fn cover_at(tree: &ListTree, process: &Process, dir: NodeId, name: &Name) -> Result<Cover> {
     let mut probe = Counted::new(tree);
-    let text = PathText::read(name.bytes(), Ending::Dot).map_err(|errno| anyhow!("{errno}"))?;
+    let Ok(text) = PathText::read(name.bytes(), Ending::Dot) else {
+        bail!("no path");
+    };
     match resolve(&mut probe, dir, &text, Last::Kept) {
         Ok(found) => Ok(process.cover(&mut probe, &found)),
-        Err(errno) => Err(anyhow!("{errno}")),
+        Err(errno) => bail!("{errno}"),
     }
 }
 

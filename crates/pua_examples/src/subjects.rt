@@ -48,7 +48,10 @@ fn dir_at<T: FileTree>(tree: &T, word: &[&Name]) -> Option<NodeId> {
 fn name_at<T: FileTree>(tree: &T, word: &[&Name], kind: Option<Kind>) -> Option<Subject> {
     let (name, above) = word.split_last()?;
     let dir = dir_at(tree, above)?;
-    let there = tree.look(dir, name).and_then(|node| tree.kind(node));
+    let there = match tree.look(dir, name) {
+        Some(node) => tree.kind(node),
+        None => None,
+    };
     if there == kind {
         Some(Subject::Name(dir, **name))
     } else {

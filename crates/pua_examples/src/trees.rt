@@ -85,13 +85,19 @@ pub(crate) fn table_of(
     command: &Command<'_>,
 ) -> Result<CallTable, ToolFault> {
     match (command.table, files.table) {
-        (Some(_), Some(text)) => CallTable::read(alloc, text).map_err(ToolFault::Table),
+        (Some(_), Some(text)) => match CallTable::read(alloc, text) {
+            Ok(table) => Ok(table),
+            Err(fault) => Err(ToolFault::Table(fault)),
+        },
         _ => Ok(CallTable::standard()),
     }
 }
 
 fn or_memory(text: Result<Vec<u8>, AllocError>) -> Result<Vec<u8>, ToolFault> {
-    text.map_err(|_| ToolFault::OutOfMemory)
+    match text {
+        Ok(text) => Ok(text),
+        Err(_) => Err(ToolFault::OutOfMemory),
+    }
 }
 
 /// A line for each answer.
