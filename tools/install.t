@@ -1,0 +1,49 @@
+#!/usr/bin/perl
+# Installs into an empty folder, with a stand-in for the program, and takes all away again.
+use strict;
+use warnings;
+use Cwd qw(abs_path);
+use File::Basename qw(dirname);
+use File::Find qw(find);
+use File::Temp qw(tempdir);
+use Test::More;
+
+plan skip_all => 'there is no make(1) here' unless grep { -x "$_/make" } split /:/, $ENV{PATH};
+
+my $top = dirname(dirname(abs_path(__FILE__)));
+chdir $top or die "cannot enter $top: $!\n";
+my $to      = tempdir(CLEANUP => 1);
+my $program = "$to/stand-in";
+open my $made, '>', $program or die "cannot make $program: $!\n";
+print $made "#!/bin/sh\necho stand-in\n";
+close $made or die "cannot make $program: $!\n";
+
+# What `make WORD` ends with; what it prints is only shown where it fails.
+sub make {
+    my ($word) = @_;
+    my $said = `make DESTDIR='$to/root' PREFIX=/usr PROGRAM='$program' $word 2>&1`;
+    diag $said if $?;
+    return $?;
+}
+
+# The files below the root, each with its mode.
+sub installed {
+    my %modes;
+    find(sub { $modes{$File::Find::name =~ s{\A\Q$to\E/root}{}r} = sprintf '%03o', (stat)[2] & 0777 if -f }, "$to/root");
+    return \%modes;
+}
+
+my @tools = map { m{\Atools/(\w+)\.pl\z} ? $1 : () } glob 'tools/*.pl';
+my %wanted = (
+    '/usr/bin/pua'                => '755',
+    '/usr/share/man/man1/pua.1'   => '644',
+    map { ("/usr/bin/pua-$_" => '755') } @tools,
+);
+
+is make('install'), 0, 'it is installed';
+is_deeply installed(), \%wanted, 'the program, its page and each tool are there, with their modes';
+is `$to/root/usr/bin/pua`, "stand-in\n", 'the program is the one that was given';
+is make('install'), 0, 'it is installed again over itself';
+is make('uninstall'), 0, 'it is taken away';
+is_deeply installed(), {}, 'nothing is left';
+done_testing;
