@@ -1,15 +1,22 @@
 #!/usr/bin/perl
 # Prints the listing of real files and directories, as pua reads it:
 #
-#     list.pl [-r ROOT] [-x PATH]... PATH...
+#     list.pl [-kv] [-r ROOT] [-s SCRIPT] [-x PATH]... [PATH]...
 #
 # Each PATH is listed at its own place below the root, with all that is in it; of the directories on
 # the way to it, only what leads there is listed. What isn't listed, pua takes for missing.
 #
-#     -r ROOT   takes the directory ROOT for the root, as after chroot(2); every other path is then
-#               one below ROOT. With no PATH, all of ROOT is listed.
-#     -x PATH   leaves PATH out, with all that is in it. It may be given several times. Links in it
-#               are not followed.
+#     -k         goes on where a file, a directory or a link can't be read or listed. A directory
+#                that can't be read is listed as an empty one.
+#     -r ROOT    takes the directory ROOT for the root, as after chroot(2); every other path is then
+#                one below ROOT. With neither PATH nor SCRIPT, all of ROOT is listed.
+#     -s SCRIPT  lists what a script for pua can be about: for each path that it names the
+#                directories on the way, the links and what they lead to, and what stands there. Of a
+#                directory that it veils, opens, renames or removes, or to whose name it renames
+#                something, all that is in it is listed too. A relative path is taken from the root.
+#     -v         reports each link that leads out of the listing by itself.
+#     -x PATH    leaves PATH out, with all that is in it; a directory is listed as an empty one. It
+#                may be given several times. Links in it are not followed.
 #
 # Directories are listed as `dir`, symbolic links as `link`, plain files that someone may execute as
 # `prog`, and all else as `file`: plain files, sockets, fifos and devices. What has several names, by
@@ -18,32 +25,65 @@
 # not followed, except on the way to a PATH; mount points are crossed. Names come in the order of
 # their bytes, so two runs over the same files print the same.
 #
-# Lines on standard error report what a reader of the listing has to know: a link whose target is
-# there but isn't listed; each further name of what is listed, which a veil on the first one doesn't
-# cover; that something has a name which isn't listed; a -x that left nothing out.
+# Lines on standard error report what a reader of the listing has to know: links whose target is
+# there but isn't listed, summed up by where they lead to; each further name of what is listed, which
+# a veil on the first one doesn't cover; that something has a name which isn't listed; a directory
+# that was left out, and a -x that left nothing out; with -k what was passed over, and how much; with
+# -s what the script names in vain, where its relative paths are taken from, and each process that is
+# left without a veil, which sees all, and how many names aren't listed. To count these, -s reads all
+# directories below the root then.
 #
-# Status 0: the listing was printed. Status 1: a directory or a link can't be read, there are more
-# than 4,096 names, or a link's target is longer than pua reads; then nothing was printed.
+# Status 0: the listing was printed. Status 1: a file, a directory, a link or the script can't be read,
+# the script isn't one, there are more than 4,096 names (how many, and in which directories most of
+# them are, is reported), or a link's target is longer than pua reads; then nothing was printed.
 # Status 2: the words are no use of it.
 use strict;
 use warnings;
 use Cwd qw(getcwd);
+use Errno qw(ENOENT ENOTDIR ENAMETOOLONG);
 use Getopt::Long qw(:config posix_default no_ignore_case bundling);
 
 my $MOST_LISTED = 4096;    # names, the root among them
 my $MOST_TARGET = 1023;    # bytes in a link's target
 my $MOST_NAME   = 255;     # bytes in a component
 my $MOST_LINKS  = 32;      # links followed in one resolution
+my $MOST_NAMED  = 10;      # directories that are named where there are too many names
+
+# By the name of a call in a script: what each of its arguments is. A `path` is followed to what
+# stands there, and of a `tree` all that is in it matters too; with `new` nothing has to be there.
+my %arguments = (
+    (map { $_ => ['path'] } qw(stat lstat readlink unlink chmod chdir exec)),
+    (map { $_ => ['tree'] } qw(open-r open-w open-rw rmdir)),
+    (map { $_ => ['new path'] } qw(create mkdir)),
+    symlink => ['text', 'new path'],
+    rename  => ['tree', 'new tree'],
+    link    => ['path', 'new path'],
+    unveil  => ['tree', 'text'],
+    pledge  => ['text', 'text'],
+    fork    => ['text'],
+    exit    => [],
+);
 
 my $given;                 # ROOT, where it was given
 my $root = '';             # the directory that is taken for the root, without a slash at its end
-my %left_out;              # by path: whether this -x left something out
+my ($go_on, $each_link);   # whether -k and -v were given
+my %left_out;              # by path: what this -x left out, `name` or `directory`; empty: nothing
+my %passed_over;           # by path: that -k passed it over
+my %walked;                # by a directory's path: that all in it was taken
 my %nodes  = ('' => { kind => 'dir' });    # what is listed, by its path; the root's is empty
 my %inside = ('' => {});                   # by a directory's path: the names listed in it
 
 sub report { print STDERR "list.pl: @_\n"; return }
 
 sub fail { report(@_); exit 1 }
+
+# What can't be read or listed, and why: the end, or with -k passed over.
+sub pass_over {
+    my ($path, $why) = @_;
+    fail(shown($path) . ": $why") unless $go_on;
+    report(shown($path) . ": $why; passed over") unless $passed_over{$path}++;
+    return;
+}
 
 # Bytes that aren't visible, and backslashes, as a backslash and three octal digits.
 sub spelled {
@@ -74,19 +114,25 @@ sub whole {
 # What stands at a path on the disk: the fields of lstat, or none.
 sub found { my ($path) = @_; return lstat($path eq '' && $root eq '' ? '/' : "$root$path") }
 
-# Takes what stands at a path, whose directory is listed already, into the listing; answers its kind.
+# Takes what stands at a path, whose directory is listed already, into the listing; answers its kind,
+# and an empty one where it is passed over.
 sub take {
     my ($path) = @_;
     return $nodes{$path}{kind} if $nodes{$path};
-    my @stat = found($path) or fail(shown($path) . ": $!");
+    my @stat = found($path);
+    if (!@stat) {
+        pass_over($path, $!);
+        return '';
+    }
     my %node = (kind => 'file', file => "$stat[0]:$stat[1]", names => $stat[3]);
     if (-l _) {
         $node{kind} = 'link';
         $node{target} = readlink "$root$path";
-        fail(shown($path) . ": $!") unless defined $node{target};
-        fail(shown($path) . ": the target is too long; leave it out with -x")
-            if length $node{target} > $MOST_TARGET
-            || grep { length > $MOST_NAME } parts($node{target});
+        my $fault = defined $node{target} ? target_fault($node{target}) : "$!";
+        if ($fault) {
+            pass_over($path, $fault);
+            return '';
+        }
     } elsif (-d _) {
         $node{kind} = 'dir';
         $inside{$path} = {};
@@ -96,8 +142,36 @@ sub take {
     my ($name) = $path =~ m{([^/]*)\z};
     $inside{ above($path) }{$name} = 1;
     $nodes{$path} = \%node;
-    fail("more than $MOST_LISTED names; leave some out with -x") if keys %nodes > $MOST_LISTED;
     return $node{kind};
+}
+
+# Why pua reads no such target, or nothing.
+sub target_fault {
+    my ($target) = @_;
+    return '' if length $target <= $MOST_TARGET && !grep { length > $MOST_NAME } parts($target);
+    return 'the target is too long; leave it out with -x';
+}
+
+# The names in a directory on the disk, and the error where they can't be read.
+sub names_in {
+    my ($path) = @_;
+    opendir my $directory, "$root$path/" or return ([], "$!");
+    local $! = 0;
+    my @names = grep { $_ ne '.' && $_ ne '..' } readdir $directory;
+    my $fault = $! ? "$!" : '';
+    closedir $directory;
+    return (\@names, $fault);
+}
+
+# Leaves out what a -x names; of a directory the name stays.
+sub leave_out {
+    my ($path) = @_;
+    $left_out{$path} ||= 'name';
+    return unless found($path) && -d _;
+    take_way($path);
+    take($path);
+    $left_out{$path} = 'directory';
+    return;
 }
 
 # Takes a path, with all that is in it.
@@ -105,16 +179,13 @@ sub take_all {
     my @paths = @_;
     while (defined(my $path = shift @paths)) {
         if (exists $left_out{$path}) {
-            $left_out{$path} = 1;
+            leave_out($path);
             next;
         }
-        next if take($path) ne 'dir';
-        opendir my $directory, "$root$path/" or fail(shown($path) . ": $!");
-        local $! = 0;
-        my @names = grep { $_ ne '.' && $_ ne '..' } readdir $directory;
-        fail(shown($path) . ": $!") if $!;
-        closedir $directory;
-        push @paths, map { "$path/$_" } sort @names;
+        next if take($path) ne 'dir' || $walked{$path}++;
+        my ($names, $fault) = names_in($path);
+        pass_over($path, $fault) if $fault;
+        push @paths, map { "$path/$_" } sort @$names;
     }
     return;
 }
@@ -129,10 +200,11 @@ sub take_way {
     return;
 }
 
-# Takes an operand: all that is there, the directories that lead to it, and the links by which the
-# operand leads to it.
-sub take_operand {
-    my ($operand) = @_;
+# Follows a path on the disk, and takes the links by which it leads on. With $follows a link at its
+# end leads on too. Answers the path of what is there, and nothing where a -x left it out; where the
+# path leads nowhere, how far it leads, why it doesn't go on, and the path and the error there.
+sub follow {
+    my ($operand, $follows) = @_;
     my ($path, $links, @parts) = ('', 0, parts(whole($operand)));
     while (defined(my $part = shift @parts)) {
         if ($part eq '..') {
@@ -140,27 +212,163 @@ sub take_operand {
             next;
         }
         my $next = "$path/$part";
-        if (exists $left_out{$next}) {
-            $left_out{$next} = 1;
-            return;
-        }
-        found($next) or fail(shown($next) . ": $!");
-        if (-d _ || !@parts) {
-            $path = $next;
-        } elsif (-l _) {
-            fail(spelled($operand) . ': too many links') if ++$links > $MOST_LINKS;
+        return leave_out($next) if exists $left_out{$next};
+        found($next) or return ($path, shown($next) . ": $!", $next, $!);
+        if (-l _ && (@parts || $follows)) {
+            return ($path, spelled($operand) . ': too many links') if ++$links > $MOST_LINKS;
             take_way($next);
-            take($next);
+            return ($path) if take($next) ne 'link';
             my $target = $nodes{$next}{target};
             $path = '' if $target =~ m{\A/};
             unshift @parts, grep { $_ ne '.' } parts($target);
+        } elsif (-d _ || !@parts) {
+            $path = $next;
         } else {
-            fail(shown($next) . ': not a directory');
+            return ($next, shown($next) . ': not a directory');
         }
     }
+    return ($path);
+}
+
+# Takes an operand: all that is there, the directories that lead to it, and the links by which the
+# operand leads to it.
+sub take_operand {
+    my ($operand) = @_;
+    my ($path, $fault) = follow($operand, 0);
+    fail($fault) if defined $fault;
+    return unless defined $path;
     take_way($path);
     take_all($path);
     return;
+}
+
+# Takes what a script names by a path, in the role that the table of arguments has for it.
+sub take_named {
+    my ($named, $role) = @_;
+    my ($path, $fault, $at, $error) = follow("/$named", 1);
+    return unless defined $path;
+    take_way($path);
+    take($path);
+    if (!defined $fault) {
+        take_all($path) if $role =~ /tree/;
+    } elsif (defined $error && !grep { $error == $_ } ENOENT, ENOTDIR, ENAMETOOLONG) {
+        pass_over($at, "$error");
+    } elsif ($role !~ /new/) {
+        report('the script names ' . spelled($named) . ", which leads nowhere: $fault");
+    }
+    return;
+}
+
+# The bytes that a field of a script spells, or undef where it spells none: a NUL, no three digits
+# after a backslash, or three for a byte that stands for itself.
+sub unspelled {
+    my ($field) = @_;
+    return '' if $field eq '=';
+    return unless $field =~ /\A(?:[\x21-\x5b\x5d-\x7e]|\\[0-3][0-7]{2})+\z/;
+    (my $bytes = $field) =~ s/\\([0-7]{3})/chr oct $1/ge;
+    return $bytes !~ /\0/ && spelled($bytes) eq $field ? $bytes : undef;
+}
+
+# The lines of a script, each with its number, its process, its call and the call's arguments.
+sub requests {
+    my ($script) = @_;
+    my ($number, @requests) = (0);
+    open my $in, '<:raw', $script or fail(spelled($script) . ": $!");
+    while (defined(my $line = <$in>)) {
+        $number++;
+        $line =~ s/\r?\n\z//;
+        my $where = spelled($script) . ": line $number";
+        my ($process, $call, @words) = split / /, $line, -1;
+        fail("$where: bad line")
+            if $line !~ /\A[\x21-\x7e]+(?: [\x21-\x7e]+)*\z/ || $process !~ /\A[1-9][0-9]{0,5}\z/;
+        fail("$where: bad call")
+            if !defined $call || !$arguments{$call} || @words != @{ $arguments{$call} };
+        push @requests, [$where, $process, $call, @words];
+    }
+    fail(spelled($script) . ': it cannot be read') if $in->error;
+    return @requests;
+}
+
+# Takes what the requests of a script name, and reports where its relative paths are taken from.
+sub take_script {
+    my @requests = @_;
+    my %relative;
+    for my $request (@requests) {
+        my ($where, $process, $call, @words) = @$request;
+        next if $call eq 'unveil' && $words[0] eq '-';
+        for my $role (@{ $arguments{$call} }) {
+            my $word = shift @words;
+            next if $role eq 'text';
+            my $path = unspelled($word);
+            fail("$where: bad path") unless defined $path;
+            next if $path eq '';
+            $relative{$path} = 1 if $path !~ m{\A/};
+            take_named($path, $role);
+        }
+    }
+    my $moves = grep { $_->[2] eq 'chdir' } @requests;
+    report('relative paths of the script are taken from /'
+            . ($moves ? ', though it moves (chdir)' : '') . ': ' . keys %relative)
+        if %relative;
+    return;
+}
+
+# The processes that a script leaves without a veil, as far as its text shows: each request is taken
+# to succeed, and an exec drops the veils where no execpromises were set.
+sub unveiled {
+    my %state = (1 => { veils => 0, kept => 0 });
+    for my $request (@_) {
+        my (undef, $process, $call, @words) = @$request;
+        my $state = $state{$process} or next;
+        if ($call eq 'unveil') {
+            $state->{veils}++ if $words[0] ne '-';
+        } elsif ($call eq 'pledge') {
+            $state->{kept} = 1 if $words[1] ne '-';
+        } elsif ($call eq 'exec') {
+            $state->{veils} = 0 unless $state->{kept};
+            $state->{kept}  = 0;
+        } elsif ($call eq 'fork') {
+            $state{ $words[0] } ||= {%$state};
+        } elsif ($call eq 'exit') {
+            delete $state{$process};
+        }
+    }
+    return sort { $a <=> $b } grep { !$state{$_}{veils} } keys %state;
+}
+
+# How many names there are on the disk, the root among them, as far as directories can be read.
+sub names_there {
+    my ($count, @paths) = (1, '');
+    while (defined(my $path = pop @paths)) {
+        my ($names) = names_in($path);
+        $count += @$names;
+        push @paths, grep { found($_) && -d _ } map { "$path/$_" } @$names;
+    }
+    return $count;
+}
+
+# Reports the processes that see all, and how much of it isn't listed.
+sub report_unveiled {
+    my @processes = unveiled(@_) or return;
+    my $left = names_there() - keys %nodes;
+    report("process $_ is left without a veil, so it sees all; names that are not listed: $left")
+        for @processes;
+    return;
+}
+
+# Ends where there are more names than pua reads, and reports where most of them are.
+sub judge_size {
+    my $count = keys %nodes;
+    return if $count <= $MOST_LISTED;
+    report("$count names, and pua reads at most $MOST_LISTED; leave some out with -x");
+    my %below;
+    for my $path (keys %nodes) {
+        while (($path = above($path)) ne '') { $below{$path}++ }
+    }
+    my @largest = sort { $below{$b} <=> $below{$a} || $a cmp $b } keys %below;
+    splice @largest, $MOST_NAMED if @largest > $MOST_NAMED;
+    fail(join "\nlist.pl: ", map { shown($_) . ": $below{$_} names in it" } @largest) if @largest;
+    exit 1;
 }
 
 # The path, not listed but there on the disk, to which a link leads; undef where there is none.
@@ -217,47 +425,80 @@ sub lines {
     return (["$header\n", "0 dir\n", @lines], \@order);
 }
 
-# Reports, in the order of the listing, what its reader has to know.
-sub report_on {
+# Reports the links that lead out of the listing, by where they lead to, or with -v one by one.
+sub report_links {
+    my ($order) = @_;
+    my %leading;    # by what isn't listed: the links that lead there
+    for my $link (grep { $nodes{$_}{kind} eq 'link' } @$order) {
+        my $outside = outside($link);
+        push @{ $leading{ $each_link ? $link : $outside } }, [$link, $outside] if defined $outside;
+    }
+    for my $links (map { $leading{$_} } sort keys %leading) {
+        my ($link, $outside) = @{ $links->[0] };
+        my $what = 'the link to ' . spelled($nodes{$link}{target}) . ' leads to ' . shown($outside)
+            . ', which is not listed';
+        $what .= '; so do further links: ' . (@$links - 1) if @$links > 1;
+        report(shown($link) . ": $what");
+    }
+    return;
+}
+
+# Reports what was left out, and what was passed over.
+sub report_gaps {
+    for my $path (sort keys %left_out) {
+        report(shown($path) . ': nothing was left out') unless $left_out{$path};
+        report(shown($path) . ': left out, and listed as an empty directory')
+            if $left_out{$path} eq 'directory';
+    }
+    report('passed over, since they could not be read or listed: ' . keys %passed_over)
+        if %passed_over;
+    return;
+}
+
+# Reports, in the order of the listing, the names of what has several.
+sub report_names {
     my ($order) = @_;
     my %names;
     push @{ $names{ $nodes{$_}{file} } }, $_ for grep { $nodes{$_}{kind} ne 'dir' } @$order;
     for my $path (@$order) {
         my $node = $nodes{$path};
         next if $node->{kind} eq 'dir';
-        if ($node->{kind} eq 'link') {
-            my $outside = outside($path);
-            report(shown($path) . ': the link to ' . spelled($node->{target}) . ' leads to '
-                    . shown($outside) . ', which is not listed')
-                if defined $outside;
-        }
         my ($first, @others) = @{ $names{ $node->{file} } };
         report(shown($path) . ': a further name of ' . shown($first)) if $path ne $first;
         report(shown($path) . ': the file has a further name, which is not listed')
             if $path eq $first && $node->{names} > 1 + @others;
     }
-    for my $path (sort keys %left_out) {
-        report(shown($path) . ': nothing was left out') unless $left_out{$path};
-    }
     return;
 }
 
-my @exclusions;
-my $understood = GetOptions('r=s' => \$given, 'x=s' => \@exclusions);
-if (!$understood || (!@ARGV && !defined $given) || grep { $_ eq '' } @ARGV, @exclusions) {
-    print STDERR "usage: list.pl [-r ROOT] [-x PATH]... PATH...\n";
+my ($script, @exclusions);
+my $understood = GetOptions(
+    'k'   => \$go_on,
+    'r=s' => \$given,
+    's=s' => \$script,
+    'v'   => \$each_link,
+    'x=s' => \@exclusions,
+);
+if (!$understood || !(@ARGV || defined $given || defined $script) || grep { $_ eq '' } @ARGV, @exclusions) {
+    print STDERR "usage: list.pl [-kv] [-r ROOT] [-s SCRIPT] [-x PATH]... [PATH]...\n";
     exit 2;
 }
-utf8::is_utf8($_) && utf8::encode($_) for @ARGV, @exclusions, defined $given ? $given : ();
+utf8::is_utf8($_) && utf8::encode($_) for @ARGV, @exclusions, grep { defined } $given, $script;
 if (defined $given) {
     fail(spelled($given) . ': not a directory') unless -d $given;
     ($root = $given =~ m{\A/} ? $given : here() . "/$given") =~ s{/+\z}{};
-    @ARGV = ('/') unless @ARGV;
+    @ARGV = ('/') unless @ARGV || defined $script;
 }
-$left_out{ whole($_) } = 0 for @exclusions;
+$left_out{ whole($_) } = '' for @exclusions;
+my @requests = defined $script ? requests($script) : ();
 take_operand($_) for @ARGV;
+take_script(@requests);
+judge_size();
 my ($lines, $order) = lines();
-report_on($order);
+report_links($order);
+report_names($order);
+report_gaps();
+report_unveiled(@requests) if defined $script;
 binmode STDOUT;
 print @$lines or fail("standard output: $!");
 close STDOUT or fail("standard output: $!");

@@ -126,12 +126,20 @@ sub refuses {
     my $root = room();
     make_path('a/b', 'a/c', 'd');
     file($_) for 'a/b/1', 'a/c/2', 'd/3';
-    lists('one is left out', ['-r', $root, '-x', '/a/b'], ['1 dir 0 a', '2 dir 1 c', '3 file 2 2', '4 dir 0 d', '5 file 4 3']);
+    my $empty = 'left out, and listed as an empty directory';
+    lists('one is left out', ['-r', $root, '-x', '/a/b'],
+        ['1 dir 0 a', '2 dir 1 b', '3 dir 1 c', '4 file 3 2', '5 dir 0 d', '6 file 5 3'], "/a/b: $empty");
     lists('several are left out', ['-r', $root, '-x', '/a/b', '-x', 'd/3', '-x', '/a/c/2/'],
-        ['1 dir 0 a', '2 dir 1 c', '3 dir 0 d']);
-    lists('an operand is left out', ['-r', $root, '-x', '/a', '/a/b', '/d'], ['1 dir 0 d', '2 file 1 3']);
-    lists('nothing is left out', ['-r', $root, '-x', '/a', '-x', '/none'], ['1 dir 0 d', '2 file 1 3'],
-        '/none: nothing was left out');
+        ['1 dir 0 a', '2 dir 1 b', '3 dir 1 c', '4 dir 0 d'], "/a/b: $empty");
+    lists('an operand is left out', ['-r', $root, '-x', '/a', '/a/b', '/d'],
+        ['1 dir 0 a', '2 dir 0 d', '3 file 2 3'], "/a: $empty");
+    lists('nothing is left out', ['-r', $root, '-x', '/a', '-x', '/none'],
+        ['1 dir 0 a', '2 dir 0 d', '3 file 2 3'], "/a: $empty", '/none: nothing was left out');
+    lists('all is left out', ['-r', $root, '-x', '/'], [], "/: $empty");
+    symlink 'b/1', 'a/l' or die;
+    lists('a link into what is left out', ['-r', $root, '-x', '/a/b', '/a'],
+        ['1 dir 0 a', '2 dir 1 b', '3 dir 1 c', '4 file 3 2', '5 link 1 l b/1'],
+        '/a/l: the link to b/1 leads to /a/b/1, which is not listed', "/a/b: $empty");
 }
 
 # Kinds.
@@ -208,16 +216,19 @@ sub refuses {
         top     => '/../in/./',
     );
     symlink $target{$_}, "in/$_" or die "$_: $!" for keys %target;
-    my ($status, $out, $err) = list('-r', $root, '/in');
+    my ($status, $out, $err) = list('-v', '-r', $root, '/in');
     is($err, join('', map { "list.pl: /in/$_, which is not listed\n" }
         'by: the link to deep/../../out leads to /out',
         'first: the link to leads leads to /out',
         'leads: the link to ../out/secret leads to /out',
         'whole: the link to /out/secret leads to /out'), 'links that lead out');
     is($status, 0, 'links that lead out: the status');
+    ($status, $out, $err) = list('-r', $root, '/in');
+    is($err, "list.pl: /in/by: the link to deep/../../out leads to /out, which is not listed;"
+        . " so do further links: 3\n", 'links that lead out are summed up');
     ($status, $out, $err) = list('-r', $root, '/in', '/out');
     is($err, '', 'none of them leads out where all is listed');
-    ($status, $out, $err) = list('-r', $root, '-x', '/out/secret');
+    ($status, $out, $err) = list('-v', '-r', $root, '-x', '/out/secret');
     is($err, join('', map { "list.pl: /in/$_ leads to /out/secret, which is not listed\n" }
         'first: the link to leads', 'leads: the link to ../out/secret', 'whole: the link to /out/secret'),
         'links to what is left out');
@@ -283,11 +294,11 @@ sub refuses {
         $links ? ('/link: a further name of /d/link') : (),
         '/prog: a further name of /d/prog');
     lists('none of them twice', ['-r', $root, '-x', '/d'],
-        ['1 file 0 fifo', '2 link 0 link d', '3 file 0 other', '4 prog 0 prog', '5 file 0 same'],
+        ['1 dir 0 d', '2 file 0 fifo', '3 link 0 link d', '4 file 0 other', '5 prog 0 prog', '6 file 0 same'],
         '/fifo: the file has a further name, which is not listed',
-        '/link: the link to d leads to /d, which is not listed',
         $links ? ('/link: the file has a further name, which is not listed') : (),
-        '/prog: the file has a further name, which is not listed');
+        '/prog: the file has a further name, which is not listed',
+        '/d: left out, and listed as an empty directory');
 }
 
 # What is refused.
@@ -295,7 +306,7 @@ sub refuses {
     my $root = room();
     make_path('d');
     file('f');
-    my $usage = qr/^usage: list\.pl \[-r ROOT\] \[-x PATH\]\.\.\. PATH\.\.\.\n\z/m;
+    my $usage = qr/^usage: list\.pl \[-kv\] \[-r ROOT\] \[-s SCRIPT\] \[-x PATH\]\.\.\. \[PATH\]\.\.\.\n\z/m;
     refuses('no words',          [],                     2, $usage);
     refuses('an unknown option', ['-q', '/etc'],         2, $usage);
     refuses('no path',           ['-x', '/etc'],         2, $usage);
@@ -311,6 +322,9 @@ sub refuses {
     unlink 'd/longer';
     symlink 'x' x 256, 'd/wide' or die;
     refuses('a target with a long component', ['-r', "$root/d"], 1, qr/\Alist\.pl: \/wide: the target is too long/);
+    lists('what is passed over', ['-k', '-r', "$root/d"], ['1 link 0 long ' . 'x/' x 511 . 'y'],
+        '/wide: the target is too long; leave it out with -x; passed over',
+        'passed over, since they could not be read or listed: 1');
 }
 
 # As many names as may be, and one more, also where it is a further name.
@@ -321,12 +335,76 @@ sub refuses {
     is($status, 0, '4,096 names: the status');
     is(() = $out =~ /\n/g, 4097, '4,096 names: the lines');
     link 'f1', 'more' or die "link: $!";
-    refuses('4,097 names of 4,096 nodes', ['-r', $root], 1, qr/\Alist\.pl: more than 4096 names/);
+    refuses('4,097 names of 4,096 nodes', ['-r', $root], 1, qr/\Alist\.pl: 4097 names, and pua reads at most 4096/);
     unlink 'more';
     file('more');
-    refuses('4,097 names', ['-r', $root], 1, qr/\Alist\.pl: more than 4096 names/);
+    refuses('4,097 names', ['-r', $root], 1, qr/\Alist\.pl: 4097 names, and pua reads at most 4096/);
     ($status, $out) = list('-r', $root, '-x', '/f7');
     is($status, 0, 'all of them except one');
+    for my $directory ('big/a', 'big/b', map { "d$_" } 1 .. 12) {
+        make_path($directory);
+        file("$directory/$_") for 1 .. ($directory =~ /big/ ? 30 : 5);
+    }
+    my @most = ('/big: 62', '/big/a: 30', '/big/b: 30', map { "/$_: 5" } qw(d1 d10 d11 d12 d2 d3 d4));
+    refuses('where most of them are', ['-r', $root], 1,
+        qr/\Alist\.pl: 4232 names, and pua reads at most 4096; .*\n@{[ join '', map { "list\\.pl: $_ names in it\\n" } @most ]}\z/);
+}
+
+# What a script can be about.
+{
+    my $root = room();
+    make_path('www/site/deep', 'www/other', 'etc/x y', 'real/a', 'bin', 'old');
+    file($_) for 'www/site/index', 'www/site/deep/page', 'www/other/key', 'etc/passwd', 'etc/x y/z', 'old/f', 'real/a/f';
+    file('bin/worker', 0755);
+    symlink '/real', 'etc/to' or die;
+    symlink '../etc/passwd', 'bin/last' or die;
+    my $script = "$room/script";
+    my $try = sub {
+        my ($what, $text, $lines, @reports) = @_;
+        open my $out, '>', $script or die;
+        print $out $text;
+        close $out;
+        return lists("a script: $what", ['-r', $root, '-s', $script], $lines, @reports);
+    };
+    my $sees = sub { "process $_[0] is left without a veil, so it sees all; names that are not listed: $_[1]" };
+    my @site = ('1 dir 0 www', '2 dir 1 site', '3 dir 2 deep', '4 file 3 page', '5 file 2 index');
+    $try->('a veil', "1 unveil /www/site r\n1 unveil - -\n1 pledge stdio,rpath -\n1 stat /www\n", \@site);
+    $try->('DOS ends, and none', "1 unveil /www/site r\r\n1 stat /www", \@site);
+    $try->('it opens a directory', "1 open-r /www/site\n", \@site, $sees->(1, 15));
+    $try->('it names a directory', "1 unveil /www/site/index r\n1 stat /www/other\n",
+        ['1 dir 0 www', '2 dir 1 other', '3 dir 1 site', '4 file 3 index']);
+    $try->('links on the way and at the end', "1 unveil /etc/to/a r\n1 stat /bin/last\n",
+        ['1 dir 0 bin', '2 link 1 last ../etc/passwd', '3 dir 0 etc', '4 file 3 passwd', '5 link 3 to /real',
+            '6 dir 0 real', '7 dir 6 a', '8 file 7 f']);
+    $try->('spelled paths', "1 unveil /etc/x\\040y r\n", ['1 dir 0 etc', '2 dir 1 x\040y', '3 file 2 z']);
+    $try->('what it makes, and what is not there', "1 unveil /www/sitee r\n1 create /www/new\n1 stat /etc/passwd/x\n",
+        ['1 dir 0 etc', '2 file 1 passwd', '3 dir 0 www'],
+        'the script names /www/sitee, which leads nowhere: /www/sitee: No such file or directory',
+        'the script names /etc/passwd/x, which leads nowhere: /etc/passwd: not a directory');
+    $try->('relative paths', "1 unveil www/site r\n", \@site, 'relative paths of the script are taken from /: 1');
+    $try->('relative paths, and it moves', "1 unveil /www/site r\n1 chdir /www\n1 stat site/index\n", \@site,
+        'the script names site/index, which leads nowhere: /site: No such file or directory',
+        'relative paths of the script are taken from /, though it moves (chdir): 1');
+    $try->('what is renamed and removed', "1 unveil = r\n1 rename /old /new\n1 symlink /etc /s\n", ['1 dir 0 old', '2 file 1 f']);
+    $try->('processes', "1 fork 2\n1 unveil /old r\n1 fork 3\n3 exec /bin/worker\n1 pledge - stdio\n1 fork 4\n4 exec /bin/worker\n2 exit\n1 fork 5\n",
+        ['1 dir 0 bin', '2 prog 1 worker', '3 dir 0 old', '4 file 3 f'], $sees->(3, 16));
+    $try->('no line', '', [], $sees->(1, 20));
+    my ($status, $out) = list('-r', $root, '-s', $script, '/old');
+    is($out, lines('1 dir 0 old', '2 file 1 f'), 'a script and an operand');
+    for my $bad (["1 stat  /x\n", 'bad line'], ["1 stat /\t\n", 'bad line'], ["# x\n", 'bad line'], ["\n", 'bad line'],
+        ["0 exit\n", 'bad line'], ["1\n", 'bad call'], ["1 open /x\n", 'bad call'], ["1 stat\n", 'bad call'],
+        ["1 stat /\\141\n", 'bad path'], ["1 stat /\\000\n", 'bad path'], ["1 stat /\\08\n", 'bad path']) {
+        open my $to, '>', $script or die;
+        print $to "1 unveil - -\n$bad->[0]";
+        close $to;
+        refuses("a script: $bad->[1]", ['-r', $root, '-s', $script], 1, qr/\Alist\.pl: \S+: line 2: $bad->[1]\n\z/);
+    }
+    refuses('no script', ['-s', "$root/none"], 1, qr/\Alist\.pl: \S+: \S.*\n\z/);
+    refuses('a directory as a script', ['-s', $root], 1, qr/\Alist\.pl: \S+: \S.*\n\z/);
+    open my $to, '>', $script or die;
+    print $to "1 unveil /old r\n";
+    close $to;
+    is(`$^X -T -w $LIST -r $root -s $script 2>&1`, lines('1 dir 0 old', '2 file 1 f'), 'a script, with perl -T');
 }
 
 # A directory that can't be read, by a user who is not root.
@@ -346,14 +424,17 @@ SKIP: {
             POSIX::_exit($> == 65534 && !opendir(my $closed, 'closed') ? 0 : 1);
         }
         waitpid $child, 0;
-        skip('this root can be no other user', 6) if $?;
+        skip('this root can be no other user', 9) if $?;
         chmod 0777, $room;
         unlink "$room/out", "$room/err";
         ($(, $)) = (65534, '65534 65534');
         $> = 65534;
     }
     refuses('an unreadable directory', ['-r', $root], 1, qr/\Alist\.pl: \/closed: \S.*\n\z/);
-    lists('beside it', ['-r', $root, '-x', '/closed'], ['1 dir 0 open', '2 file 1 x']);
+    lists('beside it', ['-r', $root, '-x', '/closed'], ['1 dir 0 closed', '2 dir 0 open', '3 file 2 x'],
+        '/closed: left out, and listed as an empty directory');
+    lists('passed over', ['-k', '-r', $root], ['1 dir 0 closed', '2 dir 0 open', '3 file 2 x'],
+        '/closed: Permission denied; passed over', 'passed over, since they could not be read or listed: 1');
     unlink "$room/out", "$room/err";
     $> = $<;
     chmod 0755, 'closed';
