@@ -38,7 +38,7 @@ ghost use Rattle.std.specs.Ordering.{nat_cmp, as_partial_cmp};
 ghost use Rattle.std.specs.Cmp.Lexicographic.{slice_cmp, pointwise};
 ghost use Rattle.std.specs.List.{list_all};
 ghost use Rattle.pua_tree.specs.Limits.{most_name};
-ghost use Rattle.pua_tree.specs.Names.{is_name, is_name_byte, padded};
+ghost use Rattle.pua_tree.specs.Names.{is_name, is_name_byte, front, padded};
 ghost use Rattle.pua_tree.specs.Spelling.{name_of, name_of_bytes};
 
 impl Name {
@@ -114,7 +114,21 @@ impl Name {
         let _len = &self.len;
     }
 
+    /// The number that its first eight bytes write, the most significant one first, with zeros after
+    /// the last byte.
+    #[inline(always)]
+    fn front(&self) -> u64
+        ensures number { result ≡ front 8 0 self.now }
+        ensures name { IsTrue (is_name self.now) }
+    {
+        let bytes = &self.bytes;
+        u64::from_be_bytes([
+            bytes[0], bytes[1], bytes[2], bytes[3], bytes[4], bytes[5], bytes[6], bytes[7],
+        ])
+    }
+
     /// Its bytes.
+    #[inline(always)]
     pub fn bytes(&self) -> &[u8]
         ensures bytes { result.now ≡ self.now }
         ensures name { IsTrue (is_name self.now) }
@@ -146,7 +160,12 @@ impl Ord for Name {
 
     ghost matches_eq = { Prim.search (comparing, rules) };
 
+    /// Compares the first eight bytes at one time, and byte by byte only names that begin alike.
     fn cmp(&self, other: &Name) -> Ordering {
+        let order = self.front().cmp(&other.front());
+        if order.is_ne() {
+            return order;
+        }
         self.bytes().cmp(other.bytes())
     }
 }
