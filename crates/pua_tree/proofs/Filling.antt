@@ -1,5 +1,5 @@
 -- Fields are taken off a line one by one, and the first six kept.
-use Rattle.std.proofs.Common.{◌≡◌, ◌≤◌, ◌&&◌, ℕ, Bool, true, List, [], ◌∷◌, ◌++◌, length, Option, Some, None, sym, ap, ◌∙◌, cond, take}
+use Rattle.std.proofs.Common.{◌≡◌, ◌≤◌, ◌&&◌, ℕ, Bool, true, false, List, [], ◌∷◌, ◌++◌, length, Option, Some, None, sym, ap, ◌∙◌, cond, take}
 use Rattle.std.specs.List.{list_all}
 use Rattle.std.proofs.lemmas.List.{append-nil, take_all, take-append-le}
 use Rattle.pua_tree.specs.Spelling.{is_field}
@@ -20,3 +20,7 @@ filled-full kept field rest good full =
 -- no field is left
 pub filled-end : (kept : List (List ℕ)) → length kept ≤ 6 → filled kept [] ≡ Some kept
 filled-end kept short = ap Some (ap (take 6) (append-nil kept) ∙ take_all 6 kept short)
+
+-- what is left has a part that is no field
+pub filled-badly : (kept rest : List (List ℕ)) → list_all is_field rest ≡ false → filled kept rest ≡ None
+filled-badly kept rest bad = ap (λ t. cond t (Some (take 6 (kept ++ rest))) None) bad

@@ -1,6 +1,6 @@
 //! The fields of a line of a listing or script: what stands between single spaces.
 
-ghost use Rattle.std.specs.Prelude.{◌≡◌, ◌<◌, ◌==◌, ◌&&◌, ◌∷◌, [], length, IfSome, Some, None, if◌then◌else◌, map, nat_le, take};
+ghost use Rattle.std.specs.Prelude.{◌≡◌, ◌<◌, ◌==◌, ◌&&◌, ◌∷◌, [], length, IfSome, IfNone, Some, None, if◌then◌else◌, map, nat_le, not, take, true, false};
 ghost use Rattle.std.specs.List.{list_all, position};
 ghost use Rattle.std.specs.Option.{option_map_or};
 ghost use Rattle.pua_tree.specs.Fields.{first_fields};
@@ -39,10 +39,7 @@ impl<'a> Fields<'a> {
         let mut count = 0;
         let mut rest = Some(line);
         while let Some(text) = rest {
-            let (field, behind) = split_field(text);
-            if !is_field(field) {
-                return None;
-            }
+            let (field, behind) = take_field(text)?;
             if count < MOST_FIELDS {
                 fields[count] = field;
                 count += 1;
@@ -58,6 +55,33 @@ impl<'a> Fields<'a> {
     {
         &self.fields[..self.count]
     }
+}
+
+/// The first field of a line, and what stands after the space that ends it, if one does; None where
+/// that or a later one is no field. Each byte is looked at once.
+fn take_field(line: &[u8]) -> Option<(&[u8], Option<&[u8]>)>
+    ensures field { IfSome result (λ taken. is_field taken.0.now ≡ true) }
+    ensures fields { IfSome result (λ taken. fields line.now ≡ taken.0.now ∷ option_map_or (λ rest. fields rest.now) taken.1 []) }
+    ensures shorter { IfSome result (λ taken. IfSome taken.1 (λ rest. length rest.now < length line.now)) }
+    ensures none { IfNone result (list_all is_field (fields line.now) ≡ false) }
+{
+    if line.is_empty() {
+        return None;
+    }
+    let Some(end) = first_hidden(line) else {
+        return Some((line, None));
+    };
+    if end == 0 || line[end] != b' ' {
+        return None;
+    }
+    Some((&line[..end], Some(&line[end + 1..])))
+}
+
+/// Where the first byte stands that is not visible, as a space.
+fn first_hidden(line: &[u8]) -> Option<usize>
+    ensures { result ≡ position (λ b. not (nat_le 33 b && nat_le b 126)) line.now }
+{
+    line.iter().position(|byte| !is_visible(*byte))
 }
 
 /// Whether these bytes are a field: at least one, and each visible.
