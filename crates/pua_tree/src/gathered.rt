@@ -31,8 +31,9 @@ pub(crate) trait Gathered: FileTree + Drop {
     ghost use Rattle.pua_tree.specs.Tree.{empty_tree};
     ghost use Rattle.pua_tree.specs.Reading.{Follows, grown, said};
 
-    /// The root alone. The only error is that the memory for it is refused.
-    fn root_alone(alloc: Global) -> Result<Self, OutOfMemory>
+    /// The root alone, with room for so many rows. The only error is that the memory for it is
+    /// refused.
+    fn root_alone(alloc: Global, rows: usize) -> Result<Self, OutOfMemory>
         ensures { IfOk result (λ tree. Self.content tree ≡ empty_tree) };
 
     /// Puts the node of an entry into a new row, and the node itself into the tree where the entry

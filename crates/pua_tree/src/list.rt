@@ -173,7 +173,10 @@ impl FileTree for ListTree {
 }
 
 impl Gathered for ListTree {
-    fn root_alone(alloc: Global) -> Result<ListTree, OutOfMemory> {
+    fn root_alone(alloc: Global, rows: usize) -> Result<ListTree, OutOfMemory> {
+        let Ok(rows) = Vec::with_capacity(alloc, rows) else {
+            return Err(OutOfMemory);
+        };
         let mut nodes = Vec::new(alloc);
         let root = Node {
             id: NodeId::ROOT,
@@ -184,7 +187,7 @@ impl Gathered for ListTree {
             return Err(OutOfMemory);
         }
         Ok(ListTree {
-            rows: Vec::new(alloc),
+            rows,
             nodes,
             next: 1,
         })

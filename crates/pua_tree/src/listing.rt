@@ -1,7 +1,7 @@
 //! The reader of listings: one pass over the lines, each judged against those before it. It fills
 //! whatever tree takes its entries.
 
-ghost use Rattle.std.specs.Prelude.{ℕ, List, ◌≡◌, ◌≢◌, ◌≤◌, ◌+◌, ◌++◌, ◌∷◌, [], Some, Ok, Err, MatchResult, MatchOption, OnOk, OnErr, IfOk, IfErr, nat_lt, length, option_map, not, ◌&&◌};
+ghost use Rattle.std.specs.Prelude.{ℕ, List, ◌≡◌, ◌≢◌, ◌≤◌, ◌+◌, ◌++◌, ◌∷◌, [], Some, Ok, Err, MatchResult, MatchOption, OnOk, OnErr, IfOk, IfErr, nat_lt, length, option_map, not, ◌&&◌, ◌==◌, min, count_by};
 ghost use Rattle.std.specs.Bool.{OnTrue, OnFalse};
 ghost use Rattle.pua_tree.specs.Limits.{highest_listed};
 ghost use Rattle.pua_tree.specs.Spelling.{number_within};
@@ -65,8 +65,17 @@ fn read_tree<T: Gathered>(alloc: Global, bytes: &[u8]) -> Result<T, ListingFault
     if !take_line(&mut lines, b"0 dir") {
         return Err(ListingFault::BadLine(2));
     }
-    let Reading { tree, .. } = read_entries(alloc, hard, lines)?;
+    let Reading { tree, .. } = read_entries(alloc, hard, line_ends(bytes), lines)?;
     Ok(tree)
+}
+
+/// How many lines of these bytes have an end, up to as many as a listing has: for so many rows room is
+/// made at once.
+fn line_ends(bytes: &[u8]) -> usize
+    ensures { result ≡ min (count_by (λ b. b == 10) bytes.now) MOST_LISTED }
+{
+    let ends = bytes.iter().filter(|byte| **byte == b'\n').count();
+    ends.min(MOST_LISTED as usize)
 }
 
 /// Takes the first line. Answers whether hard links are known in the lines after it, and None where
@@ -104,10 +113,11 @@ struct Reading<T> {
     greatest: u32,
 }
 
-/// Reads the lines after the first two.
+/// Reads the lines after the first two, with room for so many rows.
 fn read_entries<T: Gathered>(
     alloc: Global,
     hard: bool,
+    rows: usize,
     lines: Lines<'_>,
 ) -> Result<Reading<T>, ListingFault>
     ensures ok { IfOk result (λ reading. (es : List Said)
@@ -116,7 +126,7 @@ fn read_entries<T: Gathered>(
     ensures err { IfErr result (λ fault. fault ≢ ListingFault.OutOfMemory
         → entries_of hard [] 3 lines.entry ≡ Err fault) }
 {
-    let mut reading = Reading::new(alloc, hard)?;
+    let mut reading = Reading::new(alloc, hard, rows)?;
     let mut n = 2;
     for text in lines {
         n += 1;
@@ -126,13 +136,13 @@ fn read_entries<T: Gathered>(
 }
 
 impl<T: Gathered> Reading<T> {
-    /// The root alone.
-    fn new(alloc: Global, hard: bool) -> Result<Reading<T>, ListingFault>
+    /// The root alone, with room for so many rows.
+    fn new(alloc: Global, hard: bool, rows: usize) -> Result<Reading<T>, ListingFault>
         ensures ok { IfOk result (λ reading. Gathers hard (T.content reading.tree) reading.greatest []) }
         ensures hard { IfOk result (λ reading. reading.hard ≡ hard) }
         ensures err { OnErr result (result ≡ Err ListingFault.OutOfMemory) }
     {
-        match T::root_alone(alloc) {
+        match T::root_alone(alloc, rows) {
             Ok(tree) => Ok(Reading {
                 hard,
                 tree,

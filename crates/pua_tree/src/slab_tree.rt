@@ -146,8 +146,8 @@ impl FileTree for SlabTree {
 }
 
 impl Gathered for SlabTree {
-    fn root_alone(alloc: Global) -> Result<SlabTree, OutOfMemory> {
-        match Slots::root_alone(alloc) {
+    fn root_alone(alloc: Global, rows: usize) -> Result<SlabTree, OutOfMemory> {
+        match Slots::root_alone(alloc, rows) {
             Ok(slots) => Ok(SlabTree { slots, next: 1 }),
             Err(_) => Err(OutOfMemory),
         }

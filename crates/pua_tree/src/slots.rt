@@ -340,13 +340,13 @@ impl Slots {
         self.nodes.reserve(1)
     }
 
-    /// The root alone. The only error is that memory is refused.
-    pub(crate) fn root_alone(alloc: Global) -> Result<Slots, AllocError>
+    /// The root alone, with room for so many rows. The only error is that memory is refused.
+    pub(crate) fn root_alone(alloc: Global, rows: usize) -> Result<Slots, AllocError>
         ensures kept { IfOk result IsKept }
         ensures root { IfOk result (λ slots. held_in_slots slots 1 ≡ empty_tree) }
     {
         let mut slots = Slots {
-            rows: IndexMap::new(alloc),
+            rows: IndexMap::with_capacity(alloc, rows)?,
             numbers: IndexMap::with_capacity(alloc, 1)?,
             nodes: Slab::with_capacity(alloc, 1)?,
         };
