@@ -13,8 +13,8 @@ pub use Rattle.pua_tree.proofs.Sound.{Sound, Reaches, InRow, sound_from, row_say
 pub use Rattle.pua_tree.proofs.Tallies.{only_key}
 -- what each edit leaves is a tree
 pub use Rattle.pua_tree.proofs.EditsKeep.{edits_keep_trees}
--- what is found at a key, also after another one was put or taken away, and how often a value is found
-pub use Rattle.pua_tree.proofs.Tallies.{same_or_other, put_here, put_elsewhere, without_here, without_elsewhere, all_found, tally_counts, tally_found}
+-- what is found at a key, also after another one was put or taken away, tests of all entries or of some, and how often a value is found
+pub use Rattle.pua_tree.proofs.Tallies.{same_or_other, put_here, put_elsewhere, without_here, without_elsewhere, all_found, none_found, all_from_found, tally_counts, tally_found}
 -- what a listing is, and what is true of an entry that fits those before it
 pub use Rattle.pua_tree.proofs.ListingGrammar.{listings_are_read, listings_list_trees}
 pub use Rattle.pua_tree.proofs.Entries.{Fits, fits_parts}

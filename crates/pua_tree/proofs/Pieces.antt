@@ -1,7 +1,7 @@
 -- The pieces of a text between separators.
-use Rattle.std.proofs.Common.{◌≡◌, ◌≤◌, ◌&&◌, ◌==◌, ℕ, ◌+◌, Bool, true, false, List, [], ◌∷◌, length, Some, None, refl, ap, ◌∙◌, arith, cond, not, suc, nat_lt, nat_le, take, drop}
+use Rattle.std.proofs.Common.{◌≡◌, ◌≤◌, ◌&&◌, ◌==◌, ℕ, ◌+◌, Bool, true, false, List, [], ◌∷◌, length, Some, None, refl, ap, ◌∙◌, arith, cond, not, suc, nat_lt, nat_le, take, drop, sym}
 use Rattle.std.specs.List.{list_all, filter, slice_split, position, position_or_len, onto_first}
-use Rattle.std.proofs.lemmas.Bool.{cond-true, lt-ltb, ltb-true, ltb-false}
+use Rattle.std.proofs.lemmas.Bool.{and_from, cond-true, le-leb, lt-ltb, ltb-true, ltb-false}
 use Rattle.std.proofs.lemmas.List.Splits.{slice_split_first}
 use Rattle.pua_tree.specs.Names.{has_short_components}
 
@@ -23,11 +23,11 @@ short_pieces ((x ∷ xs) ∷ pieces) =
 pub has_short_components-pieces : (text : List ℕ) → has_short_components text ≡ list_all is_short (slice_split (λ b. b == 47) text)
 has_short_components-pieces text = short_pieces (slice_split (λ b. b == 47) text)
 
-found : (test : Bool) (at end : ℕ) → cond test (Some at) None ≡ Some end → (test ≡ true) × (at ≡ end)
+pub found : (test : Bool) (at end : ℕ) → cond test (Some at) None ≡ Some end → (test ≡ true) × (at ≡ end)
 found true at end e = let same : at ≡ end = cc in (refl, same)
 found false at end e = cc
 
-not_found : (test : Bool) (at : ℕ) → cond test (Some at) None ≡ None → test ≡ false
+pub not_found : (test : Bool) (at : ℕ) → cond test (Some at) None ≡ None → test ≡ false
 not_found true at e = cc
 not_found false at e = refl
 
@@ -51,3 +51,33 @@ module _ (p : ℕ → Bool) where
   pub slice_split-None : (xs : List ℕ) → position p xs ≡ None → slice_split p xs ≡ xs ∷ []
   slice_split-None xs e =
       one_piece xs (ltb-false (position_or_len p xs) (length xs) (not_found (nat_lt (position_or_len p xs) (length xs)) (position_or_len p xs) e))
+
+-- the first piece leaves room for so many bytes more, and the others fit
+abbrev fits : ℕ → ℕ → List (List ℕ) → Bool
+fits more most [] = true
+fits more most (piece ∷ pieces) = nat_le (length piece + more) most && list_all (λ other. nat_le (length other) most) pieces
+
+all_fit : (most : ℕ) (pieces : List (List ℕ)) → fits 0 most pieces ≡ true → list_all (λ piece. nat_le (length piece) most) pieces ≡ true
+all_fit most [] h = refl
+all_fit most (piece ∷ pieces) h = let same : length piece + 0 ≡ length piece = omega arith in ap (λ n. nat_le n most && list_all (λ other. nat_le (length other) most) pieces) (sym same) ∙ h
+
+longer : (more most x : ℕ) (pieces : List (List ℕ)) → 1 + more ≤ most → fits (more + 1) most pieces ≡ true → fits more most (onto_first x pieces) ≡ true
+longer more most x [] room h = and_from _ _ (le-leb (1 + more) most room) refl
+longer more most x (piece ∷ pieces) room h =
+    let same : suc (length piece) + more ≡ length piece + (more + 1) = omega arith in
+    ap (λ n. nat_le n most && list_all (λ other. nat_le (length other) most) pieces) same ∙ h
+
+module _ (p : ℕ → Bool) where
+  -- no piece is longer than the list
+  pieces_fit : (most more : ℕ) (xs : List ℕ) → length xs + more ≤ most → fits more most (slice_split p xs) ≡ true
+  pieces_fit most more [] room = and_from _ _ (le-leb (0 + more) most room) refl
+  pieces_fit most more (x ∷ xs) room = by (p x) (pieces_fit most 0 xs (omega arith)) (pieces_fit most (more + 1) xs (omega arith))
+    where
+      by : (test : Bool) → fits 0 most (slice_split p xs) ≡ true → fits (more + 1) most (slice_split p xs) ≡ true → fits more most (cond test ([] ∷ slice_split p xs) (onto_first x (slice_split p xs))) ≡ true
+      by true first further = and_from _ _ (le-leb (0 + more) most (omega arith)) (all_fit most (slice_split p xs) first)
+      by false first further = longer more most x (slice_split p xs) (omega arith) further
+
+-- a text that is no longer than a name has no long component
+pub short_text : (text : List ℕ) → length text ≤ 255 → true ≡ has_short_components text
+short_text text short =
+    sym (has_short_components-pieces text ∙ all_fit 255 (slice_split (λ b. b == 47) text) (pieces_fit (λ b. b == 47) 255 0 text (omega arith)))

@@ -19,10 +19,14 @@ pub fn is_target(bytes: &[u8]) -> bool
     has_short_components(bytes)
 }
 
-/// Whether each component of a path or target, a piece between slashes, has at most 255 bytes.
+/// Whether each component of a path or target, a piece between slashes, has at most 255 bytes. A
+/// text that has no more is not looked through.
 pub fn has_short_components(text: &[u8]) -> bool
     ensures { result ≡ has_short_components text.now }
 {
+    if text.len() <= Name::MOST {
+        return true;
+    }
     text.split(|byte| *byte == b'/')
         .all(|component| component.len() <= Name::MOST)
 }

@@ -2,8 +2,11 @@ use Rattle.std.proofs.Common.{◌≡◌, ◌==◌, rules, tests, sym, ◌∙◌}
 use Rattle.std.specs.List.{list_all, slice_split}
 use Rattle.std.proofs.lemmas.Iterator.Search.{all_from_yields_List}
 use Rattle.std.proofs.lemmas.Iterator.Splits.{YieldsList-from_slice_split}
-use Rattle.pua_tree.proofs.Pieces.{is_short, has_short_components-pieces}
+use Rattle.pua_tree.proofs.Pieces.{is_short, has_short_components-pieces, short_text}
 use Rattle.pua_tree.proofs.link_target.has_short_components.Goals as goal
+
+pub returns-then-text-le-MOST : goal.returns-then-text-le-MOST
+returns-then-text-le-MOST c = short_text c.args.text.now c.if-text-le-MOST.true
 
 pub returns : goal.returns
 returns c =
