@@ -70,7 +70,7 @@ module _ (before after : History) (within : IsWithin before after) where
           or_right true e = refl
           or_right false e = e
 
-  may_yes : (alternatives : List ℕ) → AllByRecursion NamesNoError alternatives → may_any after alternatives ≡ Yes → may_any before alternatives ≡ Yes
+  pub may_yes : (alternatives : List ℕ) → AllByRecursion NamesNoError alternatives → may_any after alternatives ≡ Yes → may_any before alternatives ≡ Yes
   may_yes alternatives sound e = by (is_ended after) (list_any (holds (held after)) alternatives) (has_error after) refl refl e
     where
       by : (a b c : Bool) → is_ended after ≡ a → list_any (holds (held after)) alternatives ≡ b → cond a Death (cond b Yes (cond c Enosys Death)) ≡ Yes → may_any before alternatives ≡ Yes

@@ -20,12 +20,12 @@ stay_self : (h : History) (t : Tree) → UncoveredStay h t t
 stay_self h t s x here lacks = record { row = here; node = refl; covered = refl }
 
 -- histories with the same unveils spare the same rows
-by_other : (a b : History) → filter is_unveil a ≡ filter is_unveil b → (t u : Tree) → UncoveredStay a t u → UncoveredStay b t u
+pub by_other : (a b : History) → filter is_unveil a ≡ filter is_unveil b → (t u : Tree) → UncoveredStay a t u → UncoveredStay b t u
 by_other a b same t u stays s x here lacks =
     let stay = stays s x here (ap has_c (same_cover a b same t (object_in t s x)) ∙ lacks) in
     record { row = stay.row; node = stay.node; covered = sym (same_cover a b same u (object_in u s x)) ∙ stay.covered ∙ same_cover a b same t (object_in t s x) }
 
-first_tree : (table : CallTable) (w : World) (asks : List Asked) → TreesAlong table w asks → WellFormed w.tree
+pub first_tree : (table : CallTable) (w : World) (asks : List Asked) → TreesAlong table w asks → WellFormed w.tree
 first_tree table w [] trees = trees
 first_tree table w (ask ∷ asks) trees = trees.0
 
@@ -62,7 +62,7 @@ module _ (table : CallTable) (now : History) where
       (members_then table now w ask members false are (not_true (is_done is_exec table w ask members) parts.0)) parts.1 asked.1
       ∙ cpath_changes table needs w ask asker.0 asker.1 (lacking asker.0 asker.2.within lacks)
 
-at_all : (w : World) (members : List ℕ) (now : History) → Members w members now true → Members w members now false
+pub at_all : (w : World) (members : List ℕ) (now : History) → Members w members now true → Members w members now false
 at_all w members now are m belongs = let one = are m belongs in (one.0, one.1, record { within = one.2.within; dir = λ e. absurd (false≢true e) })
 
 pub families_confine : FamiliesConfine

@@ -1,42 +1,21 @@
 -- What a process does, by the effect of what it asks for.
 use Rattle.std.proofs.Common.{◌≡◌, ℕ, Some, Result, Ok, Err, IsOk, refl, sym, ap, subst, true≢false}
-use Rattle.std.proofs.lemmas.Option.{same_Some}
 use Rattle.pua_tree.specs.Tree.{Tree}
 use Rattle.pua_tree.specs.declared.fault.TreeFault.{TreeFault}
-use Rattle.pua_path.specs.declared.errno.Errno.{Errno}
-use Rattle.pua_path.specs.declared.found.Found.{Found}
-use Rattle.pua_policy.specs.Calls.{CallTable, rule_of}
-use Rattle.pua_policy.specs.declared.call.Call.{Call}
-use Rattle.pua_policy.specs.History.{History, ProcessState, StandsFor, may_any}
-use Rattle.pua_policy.specs.Verdict.{refusal_of, verdict_of}
-use Rattle.pua_policy.specs.Verdict.{if_promised as unless_refused}
-use Rattle.pua_policy.specs.declared.answer.Verdict.{Verdict}
+use Rattle.pua_policy.specs.History.{ProcessState, History, StandsFor}
+use Rattle.pua_policy.specs.Verdict.{refusal_of}
 use Rattle.pua_policy.specs.declared.answer.May.{May}
-use Rattle.pua_policy.specs.declared.answer.May.TheVariants as may
 use Rattle.pua_policy.specs.declared.answer.Refusal.{Refusal}
 use Rattle.pua_script.specs.declared.answer.Answer.{Answer}
 use Rattle.pua_script.specs.declared.answer.Answer.TheVariants.{Okay}
 use Rattle.pua_script.specs.declared.fault.WorldFault.{WorldFault}
-use Rattle.pua_script.specs.Replay.{Effect, by_verdict, on_found, if_promised, edited, edited_tree, answer_to}
-use Rattle.pua_script.specs.Judged.{refused}
+use Rattle.pua_script.specs.Decide.{Decision, promised, unless_refused}
+use Rattle.pua_script.specs.Replay.{Effect, edited, edited_tree, answer_to}
 use Rattle.pua_script.specs.Worlds.{Does, Edits, Attempts, AttemptsEdit}
 
--- where promises refuse, the effect is the refusal's
-pub promises_refuse : (m : May) (refusal : Refusal) (e : Effect) → refusal_of m ≡ Some refusal → if_promised m e ≡ refused refusal
-promises_refuse may.Yes refusal e is = cc
-promises_refuse may.Enosys refusal e is = ap refused (same_Some _ _ is)
-promises_refuse may.Death refusal e is = ap refused (same_Some _ _ is)
-
--- and so it is for a call, whatever its path names
-by_refusal : (m : May) (v : Verdict) (e : Effect) (refusal : Refusal) → refusal_of m ≡ Some refusal → by_verdict (unless_refused m v) e ≡ refused refusal
-by_refusal may.Yes v e refusal is = cc
-by_refusal may.Enosys v e refusal is = ap refused (same_Some _ _ is)
-by_refusal may.Death v e refusal is = ap refused (same_Some _ _ is)
-
-pub call_refused : (t : Tree) (table : CallTable) (h : History) (call : Call) (object : Result Found Errno) (f : Found → Effect) (refusal : Refusal)
-    → refusal_of (may_any h (rule_of table call).alternatives) ≡ Some refusal → by_verdict (verdict_of t table h call object) (on_found object f) ≡ refused refusal
-call_refused t table h call (Ok x) f refusal is = by_refusal _ _ _ refusal is
-call_refused t table h call (Err errno) f refusal is = by_refusal _ _ _ refusal is
+-- where promises refuse, the decision is the refusal
+pub promises_refuse : (m : May) (refusal : Refusal) (d : Decision) → refusal_of m ≡ Some refusal → promised m d ≡ Err refusal
+promises_refuse m refusal d is = ap (λ o. unless_refused o d) is
 
 module _ (t u : Tree) (h : History) (a : Answer) (q : ProcessState) where
   -- by an equal effect

@@ -15,7 +15,19 @@ use Rattle.pua_path.specs.declared.found.Found.{Found}
 use Rattle.pua_path.specs.declared.found.Found.TheVariants.{Whole, Slot}
 use Rattle.pua_policy.specs.Verdict.{object_of_kind, object_fault}
 use Rattle.pua_policy.specs.declared.call.Call.TheVariants as calls
-use Rattle.pua_script.specs.Judged.{IsFor, IsRemovable}
+use Rattle.pua_path.specs.Fits.{spot_named}
+use Rattle.pua_policy.specs.Verdict.{object_of}
+use Rattle.pua_policy.specs.declared.call.Call.{Call}
+use Rattle.pua_script.specs.Judged.{NameFits}
+
+-- what was found is of the tree, and nothing is wrong with it for a call
+pub record IsFor (t : Tree) (call : Call) (object : Found) : Type 0 where
+  pub name : NameFits t object
+  pub kind : object_fault t call (object_of t object) ≡ None
+
+-- the row by which something was found can be taken away
+abbrev pub IsRemovable : Tree → Found → Type 0
+IsRemovable t object = (spot : Spot) → spot_named object ≡ Some spot → IsOk (cut t spot.0 spot.1)
 
 pub some_none : {A : Type 0} (x : A) → Some x ≡ None → ⊥
 some_none x is = cc

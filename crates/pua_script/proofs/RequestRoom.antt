@@ -1,18 +1,15 @@
 -- A request is answered ENOSPC only where it adds a node or a name for which there is no room.
 use Rattle.std.proofs.Common.{◌≡◌, ◌≢◌, ℕ, zero, suc, List, [], ◌∷◌, ◌++◌, Bool, true, false, cond, refl, ap, ◌∙◌}
-use Rattle.std.specs.Prelude.{Option, Some, None, Result, Ok, Err, IsTrue, not, ◌&&◌, ◌||◌, nat_lt, nat_le, length, is_some}
-use Rattle.std.proofs.lemmas.Bool.{and_from}
+use Rattle.std.specs.Prelude.{Option, Some, None, Result, Ok, Err, IsTrue, not, ◌&&◌, ◌||◌, nat_lt, length, is_some}
 use Rattle.pua_tree.specs.Names.{has_byte, has_short_components}
 use Rattle.pua_tree.specs.Steps.{◌>>=◌}
 use Rattle.pua_tree.specs.Tree.{Tree, WellFormed, is_dir, is_empty, above}
-use Rattle.pua_tree.specs.Edits.{has_room}
 use Rattle.pua_path.specs.Limits.{path_limit}
 use Rattle.pua_path.specs.Paths.{parts_of, is_absolute, path_fault}
 use Rattle.pua_path.specs.Resolution.{Resolved, Directory, Linked, Plain, Nothing, standing_at, is_followed, slot_or, walk, start_of, resolve_parts, resolution_of_text, link_limit}
-use Rattle.pua_path.proofs.ForCallers.{resolutions_fit}
 use Rattle.pua_path.specs.Fits.{node_named}
 use Rattle.pua_path.specs.declared.errno.Errno.{Errno}
-use Rattle.pua_path.specs.declared.errno.Errno.TheVariants.{EPERM, ENOENT, EACCES, EAGAIN, ENAMETOOLONG, EINVAL, ENOTEMPTY, ENOSPC, ENOTDIR, ELOOP}
+use Rattle.pua_path.specs.declared.errno.Errno.TheVariants.{EPERM, ENOENT, EACCES, ENAMETOOLONG, EINVAL, ENOTEMPTY, ENOSPC, ENOTDIR, ELOOP}
 use Rattle.pua_path.specs.declared.text.Ending.{Ending}
 use Rattle.pua_path.specs.declared.text.Ending.TheVariants as ending
 use Rattle.pua_path.specs.declared.found.Part.{Part}
@@ -25,9 +22,8 @@ use Rattle.pua_path.specs.declared.found.Found.{Found}
 use Rattle.pua_path.specs.declared.found.Found.TheVariants.{Slot}
 use Rattle.pua_policy.specs.Promises.{cpath, creating, holds}
 use Rattle.pua_policy.specs.Calls.{CallTable, rule_of, ending_of, last_of}
-use Rattle.pua_policy.specs.History.{History, is_locked, working_dir, may_any, pledge_fault, unveil_fault}
-use Rattle.pua_policy.specs.Verdict.{Object, IsDir, IsFile, IsProg, IsLink, IsMissing, place_of, cover, cover_fault, rmdir_fault, object_fault, object_of, object_named, found_fault, allowed_unless, verdict_of}
-use Rattle.pua_policy.specs.Verdict.{if_promised as verdict_if}
+use Rattle.pua_policy.specs.History.{History, is_locked, working_dir, may_any, unveil_fault}
+use Rattle.pua_policy.specs.Verdict.{Object, IsDir, IsFile, IsProg, IsLink, IsMissing, place_of, cover, cover_fault, rmdir_fault, object_fault, object_of, object_named}
 use Rattle.pua_policy.specs.declared.call.Call.{Call}
 use Rattle.pua_policy.specs.declared.call.Call.TheVariants as call
 use Rattle.pua_policy.specs.declared.answer.Cover.{Cover}
@@ -36,14 +32,60 @@ use Rattle.pua_policy.specs.declared.answer.UnveilFault.{UnveilFault}
 use Rattle.pua_policy.specs.declared.answer.UnveilFault.TheVariants as unveil_faults
 use Rattle.pua_policy.specs.declared.answer.May.{May}
 use Rattle.pua_policy.specs.declared.answer.May.TheVariants as may
-use Rattle.pua_policy.specs.declared.answer.Verdict.TheVariants as verdicts
 use Rattle.pua_script.specs.declared.request.Action.TheVariants.{OnPath, Symlink, Rename, Link, Pledge, Unveil, Lock, Fork, Exit}
-use Rattle.pua_script.specs.Replay.{history_of, Effect, Fails, Leaves, Copies, if_promised, unless, added, change, by_verdict, on_found, link_node, on_two_paths, rename_found, link_found, unveil_errno, veil_on, veil_put, given_set, is_unknown}
-use Rattle.pua_script.specs.Limits.{process_limit}
-use Rattle.pua_script.specs.Judged.{NameFits}
-use Rattle.pua_script.specs.Laws.{RequestsLackRoom, adds_node}
-use Rattle.pua_script.proofs.Room.{adds, calls_lack}
-use Rattle.pua_script.proofs.NameRoom.{Apart, or_apart, or_none, other_errno, links_lack, renames_move}
+use Rattle.pua_tree.specs.Tree.{is_empty}
+use Rattle.pua_tree.specs.Edits.{is_inside, is_same_node}
+use Rattle.pua_path.specs.declared.errno.Errno.TheVariants.{EEXIST, EISDIR}
+use Rattle.pua_path.specs.Fits.{spot_named}
+use Rattle.pua_path.specs.declared.found.Found.TheVariants.{Whole}
+use Rattle.pua_tree.specs.Tree.{Spot}
+use Rattle.pua_policy.specs.Verdict.{or_fault}
+use Rattle.pua_policy.specs.declared.answer.Refusal.TheVariants.{Failed, Killed}
+use Rattle.pua_script.specs.declared.request.Action.{Action}
+use Rattle.std.proofs.Common.{sym, subst}
+use Rattle.pua_script.specs.Decide.{Change, NoChange, Decision, fails, promised, checked, named as decide_named, change_by, adding, link_node, decide_object, decide_pair, decide_rename, decide_link, decide_veil, decide, shifting, kept_named, dots_fault, top_fault, is_whole, fault_if, kinds_fault, inside_fault, unveil_errno, is_unknown}
+use Rattle.pua_script.specs.Guards.{IsDecided}
+use Rattle.pua_script.specs.Replay.{World, Fails, come_of, effect}
+use Rattle.pua_script.specs.Laws.{RefusalsLackNoRoom, LacksRoom, RequestLacksRoom, RequestsLackRoom, wants_room, lacks_room}
+use Rattle.pua_script.proofs.Changing.{by_placing, by_cutting, by_going, by_tying, by_moves}
+use Rattle.pua_script.proofs.Guarding.{decisions_are_guarded}
+use Rattle.pua_script.proofs.Possible.{decisions_are_possible}
+use Rattle.pua_script.proofs.Room.{changes_lack}
+
+-- faults other than ENOSPC
+abbrev pub Apart : Option Errno → Type 0
+Apart fault = fault ≢ Some ENOSPC
+
+pub or_apart : (a b : Option Errno) → Apart a → Apart b → Apart (or_fault a b)
+or_apart None b first second = second
+or_apart (Some errno) b first second = first
+
+if_apart : (b : Bool) (errno : Errno) → Apart (Some errno) → Apart (fault_if b errno)
+if_apart true errno apart = apart
+if_apart false errno apart = λ e. cc
+
+dots_apart : (object : Found) → Apart (dots_fault object)
+dots_apart (Whole dir way.Dot) e = cc
+dots_apart (Whole dir way.DotDot) e = cc
+dots_apart (Whole dir way.Top) e = cc
+dots_apart (Whole dir (way.Named parent name)) e = cc
+dots_apart (Slot dir name _) e = cc
+
+top_apart : (object : Found) → Apart (top_fault object)
+top_apart (Whole dir way.Dot) e = cc
+top_apart (Whole dir way.DotDot) e = cc
+top_apart (Whole dir way.Top) e = cc
+top_apart (Whole dir (way.Named parent name)) e = cc
+top_apart (Slot dir name _) e = cc
+
+inside_apart : (t : Tree) (x : ℕ) (spot : Option Spot) → Apart (inside_fault t x spot)
+inside_apart t x None = λ e. cc
+inside_apart t x (Some spot) = if_apart (is_inside t x spot.0) EINVAL (λ e. cc)
+
+kinds_apart : (t : Tree) (x : ℕ) (old new : Found) → Apart (kinds_fault t x old new)
+kinds_apart t x old (Whole y way) = or_apart _ _ (if_apart (not (is_whole old)) EISDIR (λ e. cc)) (if_apart (not (is_empty t y)) ENOTEMPTY (λ e. cc))
+kinds_apart t x old (Slot dir name None) = λ e. cc
+kinds_apart t x old (Slot dir name (Some y)) = if_apart (is_whole old) ENOTDIR (λ e. cc)
 
 -- faults that are not ENOSPC, of paths
 fault_or : (b : Bool) (errno : Errno) (o : Option Errno) → errno ≢ ENOSPC → Apart o → Apart (cond b (Some errno) o)
@@ -123,14 +165,6 @@ named t from end text mode = by (path_fault text) refl (path_apart text)
         (named_if (not (is_absolute text) && not (is_dir t from)) _ (named_from _ (resolve_apart link_limit t mode (start_of text from) way.Top (parts_of end text))))
     by (Some errno) e apart = rw e (λ is. apart (e ∙ ap (λ r. Some (errno_of r)) is))
 
--- and what it names is of the tree
-name_fits : (t : Tree) → WellFormed t → (from : ℕ) (end : Ending) (text : List ℕ) (mode : Last) (object : Found) → resolution_of_text t from end text mode ≡ Ok object → NameFits t object
-name_fits t well from end text mode object = by (path_fault text) refl
-  where
-    by : (o : Option Errno) → path_fault text ≡ o → resolution_of_text t from end text mode ≡ Ok object → NameFits t object
-    by None e = rw e (λ is. let of = (resolutions_fit t well).whole from end text mode object is in record { fits = of.fits; named = of.named })
-    by (Some errno) e = rw e (λ is. cc)
-
 -- faults of covers and of what was found
 cover_apart : (c : Cover) (perms : ℕ) → Apart (cover_fault c perms)
 cover_apart covers.All perms = λ e. cc
@@ -172,84 +206,120 @@ veil_apart (Some unveil_faults.NotPermitted) = λ e. cc
 veil_apart (Some unveil_faults.TooManyPlaces) = λ e. cc
 veil_apart (Some unveil_faults.OutOfMemory) = λ e. cc
 
--- an effect is ENOSPC only where this holds
-module _ (P : Type 0) where
-  abbrev Only : Effect → Type 0
-  Only e = e ≡ Fails ENOSPC → P
+-- a decision that lacks no room
+abbrev HasRoom : Decision → Type 0
+HasRoom d = d ≢ Err (Failed ENOSPC)
 
-  never_leaves : (t : Tree) (h : History) → Only (Leaves t h)
-  never_leaves t h e = cc
+fails_apart : (errno : Errno) → errno ≢ ENOSPC → HasRoom (fails errno)
+fails_apart errno other e = other (ap errno_in e)
+  where
+    errno_in : Decision → Errno
+    errno_in (Err (Failed errno)) = errno
+    errno_in _ = ENOSPC
 
-  only_fails : (errno : Errno) → errno ≢ ENOSPC → Only (Fails errno)
-  only_fails errno other e = absurd (other_errno errno other e)
+promised_apart : (m : May) (d : Decision) → HasRoom d → HasRoom (promised m d)
+promised_apart may.Yes d has = has
+promised_apart may.Enosys d has = λ e. cc
+promised_apart may.Death d has = λ e. cc
 
-  only_promised : (m : May) (e : Effect) → Only e → Only (if_promised m e)
-  only_promised may.Yes e only = only
-  only_promised may.Enosys e only = λ is. cc
-  only_promised may.Death e only = λ is. cc
+checked_apart : (o : Option Errno) (d : Decision) → Apart o → HasRoom d → HasRoom (checked o d)
+checked_apart None d apart has = has
+checked_apart (Some errno) d apart has = fails_apart errno (λ same. apart (ap Some same))
 
-  only_unless : (o : Option Errno) (e : Effect) → Apart o → Only e → Only (unless o e)
-  only_unless None e apart only = only
-  only_unless (Some errno) e apart only = only_fails errno (λ same. apart (ap Some same))
+named_apart : (r : Result Found Errno) (f : Found → Decision) → Named r → ((x : Found) → HasRoom (f x)) → HasRoom (decide_named r f)
+named_apart (Ok x) f other has = has x
+named_apart (Err errno) f other has = fails_apart errno (λ same. other (ap Err same))
 
-  only_if : (b : Bool) (d e : Effect) → Only d → Only e → Only (cond b d e)
-  only_if true d e first second = first
-  only_if false d e first second = second
+granted_apart : (c : Change) → HasRoom (Ok c)
+granted_apart c e = cc
 
-  only_found : (r : Result Found Errno) (f : Found → Effect) → Named r → ((x : Found) → r ≡ Ok x → Only (f x)) → Only (on_found r f)
-  only_found (Ok x) f other only = only x refl
-  only_found (Err errno) f other only = only_fails errno (λ same. other (ap Err same))
+object_has_room : (table : CallTable) (t : Tree) (h : History) (c : Call) (path : List ℕ) (f : Found → Change) → HasRoom (decide_object table t h c path (λ x. Ok (f x)))
+object_has_room table t h c path f = named_apart (object_named t h c path) _ (named t (working_dir h) (ending_of c) path (last_of c)) λ x.
+    checked_apart _ _ (or_apart _ _ (cover_apart (cover t h x) (rule_of table c).perms) (object_apart t c (object_of t x))) (granted_apart (f x))
 
-  -- a call on a path
-  only_judged : (t : Tree) (table : CallTable) (h : History) (c : Call) (object : Result Found Errno) (f : Found → Effect) → Named object
-      → ((x : Found) → object ≡ Ok x → object_fault t c (object_of t x) ≡ None → Only (f x)) → Only (by_verdict (verdict_of t table h c object) (on_found object f))
-  only_judged t table h c (Err errno) f other only = by (may_any h (rule_of table c).alternatives)
+pair_has_room : (t : Tree) (h : History) (end : Ending) (old_path new_path : List ℕ) (f : Found → Found → Decision) → ((old new : Found) → HasRoom (f old new)) → HasRoom (decide_pair t h end old_path new_path f)
+pair_has_room t h end old_path new_path f has = promised_apart (may_any h (cpath ∷ [])) _
+    (named_apart (kept_named t h end old_path) _ (named t (working_dir h) end old_path Kept) λ old.
+    named_apart (kept_named t h end new_path) _ (named t (working_dir h) end new_path Kept) λ new.
+    checked_apart _ _ (or_apart _ _ (cover_apart (cover t h old) creating) (cover_apart (cover t h new) creating)) (has old new))
+
+rename_has_room : (t : Tree) (old new : Found) (x : Option ℕ) → HasRoom (decide_rename t old new x)
+rename_has_room t old new None = λ e. cc
+rename_has_room t old new (Some x) =
+    checked_apart _ _ (or_apart _ _ (dots_apart old) (or_apart _ _ (dots_apart new) (or_apart _ _ (top_apart old) (top_apart new))))
+    (by (is_same_node x (node_named new)))
+  where
+    by : (same : Bool) → HasRoom (cond {A = Decision} same (Ok NoChange) (checked (or_fault (inside_fault t x (spot_named new)) (kinds_fault t x old new)) (Ok (shifting (spot_named old) (spot_named new)))))
+    by true = granted_apart NoChange
+    by false = checked_apart _ _ (or_apart _ _ (inside_apart t x (spot_named new)) (kinds_apart t x old new)) (granted_apart _)
+
+link_has_room : (old new : Found) (x : Option ℕ) → HasRoom (decide_link old new x)
+link_has_room old new None = λ e. cc
+link_has_room old new (Some x) =
+    checked_apart _ _ (or_apart _ _ (if_apart (is_whole old) EPERM (λ e. cc)) (if_apart (is_some (node_named new)) EEXIST (λ e. cc))) (granted_apart _)
+
+veil_has_room : (t : Tree) (h : History) (path : List ℕ) (perms : Option ℕ) → HasRoom (decide_veil t h path perms)
+veil_has_room t h path None = λ e. cc
+veil_has_room t h path (Some perms) = named_apart _ _ (named t (working_dir h) ending.Dot path Followed) λ x.
+    checked_apart _ _ (veil_apart (unveil_fault h (place_of x) perms)) (granted_apart _)
+
+pub refusals_lack_no_room : RefusalsLackNoRoom
+refusals_lack_no_room table t h (OnPath c path) = promised_apart _ _ (object_has_room table t h c path (change_by c))
+refusals_lack_no_room table t h (Symlink target path) = promised_apart _ _ (checked_apart _ _ (path_apart target) (object_has_room table t h call.Symlink path (adding (link_node target))))
+refusals_lack_no_room table t h (Rename old new) = pair_has_room t h ending.Dropped old new _ λ a b. rename_has_room t a b (node_named a)
+refusals_lack_no_room table t h (Link old new) = pair_has_room t h ending.Dot old new _ λ a b. link_has_room a b (node_named a)
+refusals_lack_no_room table t h (Pledge promises execpromises) =
+    checked_apart _ _ (if_apart (is_unknown promises || is_unknown execpromises) EINVAL (λ e. cc))
+    (checked_apart _ _ (none_or _ EPERM (λ e. cc)) (granted_apart _))
+refusals_lack_no_room table t h (Unveil path perms) = promised_apart _ _ (checked_apart _ _ (if_apart (is_locked h) EPERM (λ e. cc)) (veil_has_room t h path perms))
+refusals_lack_no_room table t h Lock = promised_apart _ _ (granted_apart _)
+refusals_lack_no_room table t h (Fork new) = promised_apart _ _ (granted_apart _)
+refusals_lack_no_room table t h Exit = granted_apart _
+
+-- which requests are granted a change that may want room
+module _ (t : Tree) where
+  abbrev Wants : Action → Change → Type 0
+  Wants action change = IsTrue (wants_room t change) → IsTrue (lacks_room t action)
+
+  call_wants : (c : Call) (path : List ℕ) (x : Found) → Wants (OnPath c path) (change_by c x)
+  call_wants call.Create path x = by_placing (Wants (OnPath call.Create path)) (λ e. cc) _ (spot_named x) (node_named x) (λ s is full. full)
+  call_wants call.Mkdir path x = by_placing (Wants (OnPath call.Mkdir path)) (λ e. cc) _ (spot_named x) (node_named x) (λ s is full. full)
+  call_wants call.Rmdir path x = by_cutting (Wants (OnPath call.Rmdir path)) (λ e. cc) (spot_named x) (node_named x) (λ s is e. cc)
+  call_wants call.Unlink path x = by_cutting (Wants (OnPath call.Unlink path)) (λ e. cc) (spot_named x) (node_named x) (λ s is e. cc)
+  call_wants call.Chdir path x = by_going (Wants (OnPath call.Chdir path)) (λ e. cc) x (λ dir e. cc)
+  call_wants _ path x = λ e. cc
+
+  module _ (h : History) (table : CallTable) where
+    wants_by : (action : Action) (c : Change) → IsDecided table t h action c → Wants action c
+    wants_by (OnPath asked path) c d = subst (Wants (OnPath asked path)) (sym d.2) (call_wants asked path d.0)
+    wants_by (Symlink target path) c d = subst (Wants (Symlink target path)) (sym d.3) (by_placing (Wants (Symlink target path)) (λ e. cc) _ (spot_named d.0) (node_named d.0) (λ s is full. full))
+    wants_by (Rename old new) c d = by_moves (Wants (Rename old new)) (λ e. cc) t d.old d.new d.node c d.moves (λ s r is is_new e. cc)
+    wants_by (Link old new) c d = subst (Wants (Link old new)) (sym d.is) (by_tying (Wants (Link old new)) (λ e. cc) d.node (spot_named d.new) (λ s is full. full))
+    wants_by (Pledge p x) c d = subst (Wants (Pledge p x)) (sym d.is) (λ e. cc)
+    wants_by (Unveil path perms) c d = subst (Wants (Unveil path perms)) (sym d.is) (λ e. cc)
+    wants_by Lock c d = subst (Wants Lock) (sym d.1) (λ e. cc)
+    wants_by (Fork new) c d = subst (Wants (Fork new)) (sym d.1) (λ e. cc)
+    wants_by Exit c d = subst (Wants Exit) (sym d) (λ e. cc)
+
+module _ (table : CallTable) (w : World) (h : History) (action : Action) (well : WellFormed w.tree) where
+  lacks : (d : Decision) → decide table w.tree h action ≡ d → come_of w h d ≡ Fails ENOSPC → LacksRoom table w.tree h action
+  lacks (Ok c) is e = record { change = c; granted = is; full = (changes_lack w h c (decisions_are_possible table w.tree h action c well is)).0 e }
+  lacks (Err (Failed errno)) is e = absurd (refusals_lack_no_room table w.tree h action (is ∙ ap fails (same_errno errno e)))
     where
-      by : (m : May) → Only (by_verdict (verdict_if m (verdicts.Failed errno)) (Fails errno))
-      by may.Yes = only_fails errno (λ same. other (ap Err same))
-      by may.Enosys = λ is. cc
-      by may.Death = λ is. cc
-  only_judged t table h c (Ok x) f other only = by (may_any h (rule_of table c).alternatives) (found_fault t table h c x) refl
-    where
-      by : (m : May) (o : Option Errno) → found_fault t table h c x ≡ o → Only (by_verdict (verdict_if m (allowed_unless o)) (f x))
-      by may.Yes None e = only x refl (or_none (cover_fault (cover t h x) (rule_of table c).perms) (object_fault t c (object_of t x)) e).1
-      by may.Yes (Some errno) e = only_fails errno λ same.
-          or_apart _ _ (cover_apart (cover t h x) (rule_of table c).perms) (object_apart t c (object_of t x)) (e ∙ ap Some same)
-      by may.Enosys o e = λ is. cc
-      by may.Death o e = λ is. cc
+      same_errno : (errno : Errno) → Fails errno ≡ Fails ENOSPC → errno ≡ ENOSPC
+      same_errno errno e = cc
+  lacks (Err Killed) is e = cc
 
-  -- two paths
-  only_two : (t : Tree) → WellFormed t → (h : History) (end : Ending) (old_path new_path : List ℕ) (f : Found → Found → Effect)
-      → ((old new : Found) → NameFits t old → NameFits t new → Only (f old new)) → Only (on_two_paths t h end old_path new_path f)
-  only_two t well h end old_path new_path f only =
-      only_promised (may_any h (cpath ∷ [])) _ (only_found _ _ (named t (working_dir h) end old_path Kept) λ old is_old.
-      only_found _ _ (named t (working_dir h) end new_path Kept) λ new is_new.
-      only_unless _ _ (or_apart _ _ (cover_apart (cover t h old) creating) (cover_apart (cover t h new) creating))
-      (only old new (name_fits t well (working_dir h) end old_path Kept old is_old) (name_fits t well (working_dir h) end new_path Kept new is_new)))
+  fails_so : LacksRoom table w.tree h action → effect table w h action ≡ Fails ENOSPC
+  fails_so lacking = ap (come_of w h) lacking.granted ∙ (changes_lack w h lacking.change (decisions_are_possible table w.tree h action lacking.change well lacking.granted)).1 lacking.full
+
+  request_lacks : RequestLacksRoom table w h action
+  request_lacks = record {
+    exact = (lacks (decide table w.tree h action) refl, fails_so);
+    only = λ e.
+        let lacking = lacks (decide table w.tree h action) refl e in
+        wants_by w.tree h table action lacking.change (decisions_are_guarded table w.tree h action lacking.change lacking.granted) lacking.full;
+  }
 
 pub requests_lack : RequestsLackRoom
-requests_lack table w h (OnPath c path) well =
-    let t = w.tree in
-    only_judged _ t table h c (object_named t h c path) (change t h c) (named t (working_dir h) (ending_of c) path (last_of c)) λ x is kind e.
-    let lacks = (calls_lack t h c x (record { name = name_fits t well (working_dir h) (ending_of c) path (last_of c) x is; kind = kind })).0 e in
-    and_from (adds_node c) (not (has_room t)) lacks.0 (ap not lacks.1.1)
-requests_lack table w h (Symlink target path) well =
-    let t = w.tree in
-    only_promised _ _ _ (only_unless _ (path_fault target) _ (path_apart target)
-    (only_judged _ t table h call.Symlink (object_named t h call.Symlink path) (added t h (link_node target)) (named t (working_dir h) ending.Dot path Kept) λ x is kind e.
-    ap not ((adds t h (link_node target) x (name_fits t well (working_dir h) ending.Dot path Kept x is)).0 e).1))
-requests_lack table w h (Rename old new) well =
-    only_two _ w.tree well h ending.Dropped old new (λ a b. rename_found w.tree h a b (node_named a)) λ a b from to e. absurd (renames_move w.tree h a b from to e)
-requests_lack table w h (Link old new) well =
-    only_two _ w.tree well h ending.Dot old new (λ a b. link_found w.tree h a b (node_named a)) λ a b from to e. ap not ((links_lack w.tree h well a b from to).0 e).full
-requests_lack table w h (Pledge promises execpromises) well =
-    only_if _ (is_unknown promises || is_unknown execpromises) _ _ (λ e. cc)
-    (only_unless _ (pledge_fault h (given_set promises) (given_set execpromises)) _ (none_or _ EPERM (λ e. cc)) (never_leaves _ _ _))
-requests_lack table w h (Unveil path perms) well = only_promised _ _ _ (only_if _ (is_locked h) _ _ (λ e. cc) (by perms))
-  where
-    by : (perms : Option ℕ) → veil_on w.tree h path perms (veil_put w.tree h) ≡ Fails ENOSPC → IsTrue false
-    by None = λ e. cc
-    by (Some perms) = only_found _ _ _ (named w.tree (working_dir h) ending.Dot path Followed) λ x is. only_unless _ _ _ (veil_apart (unveil_fault h (place_of x) perms)) (never_leaves _ _ _)
-requests_lack table w h Lock well = only_promised _ _ _ (never_leaves _ _ _)
-requests_lack table w h (Fork new) well = only_promised _ _ _ (only_if _ (is_some (history_of w new) || nat_le process_limit (length w.histories)) (Fails EAGAIN) (Copies new) (λ e. cc) (λ e. cc))
-requests_lack table w h Exit well = λ e. cc
+requests_lack table w h action well = request_lacks table w h action well

@@ -1,79 +1,70 @@
--- An edit lacks room exactly where it adds a node and there is none.
-use Rattle.std.proofs.Common.{◌≡◌, ◌≢◌, ℕ, List, Bool, true, false, cond, refl, sym, ap, ◌∙◌, true≢false}
-use Rattle.std.specs.Prelude.{◌↔◌, Some, None, Result, Ok, Err, IsOk, IsTrue, not, is_some}
-use Rattle.pua_tree.specs.Tree.{Tree, Node, is_dir, look}
-use Rattle.pua_tree.specs.Edits.{add, has_room, with_new}
+-- A change lacks room exactly where it adds a node or a name and there is none.
+use Rattle.std.proofs.Common.{◌≡◌, ◌≢◌, ℕ, Bool, true, false, not, cond, refl, sym, ap, ◌∙◌, true≢false}
+use Rattle.std.specs.Prelude.{◌↔◌, ◌||◌, Result, Ok, Err, IsOk, IsTrue, is_some, nat_le, length}
+use Rattle.pua_tree.specs.Tree.{Tree, Node, Spot, is_dir, is_living}
+use Rattle.pua_tree.specs.Edits.{add, tie, has_room, has_name_room, with_new, with_row}
 use Rattle.pua_tree.specs.declared.fault.TreeFault.{TreeFault}
 use Rattle.pua_tree.specs.declared.fault.TreeFault.TheVariants as faults
-use Rattle.pua_path.specs.declared.errno.Errno.TheVariants.{ENOSPC}
-use Rattle.pua_path.specs.declared.found.Way.TheVariants as ways
-use Rattle.pua_path.specs.declared.found.Found.{Found}
-use Rattle.pua_path.specs.declared.found.Found.TheVariants.{Whole, Slot}
+use Rattle.pua_path.specs.declared.errno.Errno.TheVariants.{EAGAIN, ENOSPC}
 use Rattle.pua_policy.specs.History.{History}
-use Rattle.pua_policy.specs.declared.call.Call.TheVariants as calls
-use Rattle.pua_script.specs.Replay.{Effect, Fails, Leaves, edited, added, removed, moved_to}
-use Rattle.pua_script.specs.Judged.{NameFits, IsRemovable}
-use Rattle.pua_script.specs.Laws.{LacksRoom, AddsLackRoom, CallsLackRoom}
-use Rattle.pua_script.proofs.Edits.{rmdir_removes, unlink_removes}
+use Rattle.pua_script.specs.Limits.{process_limit}
+use Rattle.pua_script.specs.Decide.{NoChange, AddNode, CutRow, ShiftRow, TieRow, BeginProgram, AddEvent, CopyAs}
+use Rattle.pua_script.specs.Guards.{IsFree}
+use Rattle.pua_script.specs.Replay.{Effect, Fails, Leaves, Copies, edited, edited_tree, history_of}
+use Rattle.pua_script.specs.Laws.{ChangesLackRoom}
 
-pub leaves_not_fails : (t : Tree) (h : History) → Leaves t h ≡ Fails ENOSPC → ⊥
+leaves_not_fails : (t : Tree) (h : History) → Leaves t h ≡ Fails ENOSPC → ⊥
 leaves_not_fails t h e = cc
 
-some_not_none : (x : ℕ) → Some x ≡ None → ⊥
-some_not_none x e = cc
+never : (e : Effect) → e ≢ Fails ENOSPC → (e ≡ Fails ENOSPC) ↔ IsTrue false
+never e other = (λ is. absurd (other is), λ b. absurd (true≢false (sym b)))
 
 module _ (t : Tree) (h : History) where
-  by_room : (b : Bool) (x : ℕ × Tree) → (edited h (cond b (Ok x) (Err faults.Full)) ≡ Fails ENOSPC) ↔ (b ≡ false)
-  by_room true x = (λ e. absurd (leaves_not_fails x.1 h e), λ e. absurd (true≢false e))
+  -- an edit that has no fault but want of room
+  by_room : (room : Bool) (x : ℕ × Tree) → (edited h (cond room (Ok x) (Err faults.Full)) ≡ Fails ENOSPC) ↔ IsTrue (not room)
+  by_room true x = never _ (leaves_not_fails x.1 h)
   by_room false x = (λ _. refl, λ _. refl)
 
-  -- a node is added where nothing stands
-  add_is : (dir : ℕ) (name : List ℕ) (node : Node) → is_dir t dir ≡ true → look t dir name ≡ None → add t dir name node ≡ cond (has_room t) (Ok (t.next, with_new t dir name node)) (Err faults.Full)
-  add_is dir name node lives free i = cond (not (lives i)) (Err faults.NotDir) (cond (is_some (free i)) (Err faults.Taken) (cond (has_room t) (Ok (t.next, with_new t dir name node)) (Err faults.Full)))
+  by_name_room : (room : Bool) (u : Tree) → (edited_tree h (cond room (Ok u) (Err faults.Full)) ≡ Fails ENOSPC) ↔ IsTrue (not room)
+  by_name_room true u = never _ (leaves_not_fails u h)
+  by_name_room false u = (λ _. refl, λ _. refl)
 
-  pub adds : AddsLackRoom t h
-  adds node (Slot dir name None) fits =
-      let is = add_is dir name node fits.named.0 fits.named.1 in
-      let room = by_room (has_room t) (t.next, with_new t dir name node) in
-      (λ e. (refl, room.0 (sym (ap (edited h) is) ∙ e)), λ lacks. ap (edited h) is ∙ room.1 lacks.1)
-  adds node (Slot dir name (Some x)) fits = (λ e. absurd (leaves_not_fails t h e), λ lacks. absurd (some_not_none x lacks.0))
-  adds node (Whole dir way) fits = (λ e. absurd (leaves_not_fails t h e), λ lacks. absurd (some_not_none dir lacks.0))
+  add_lacks : (spot : Spot) (node : Node) → IsFree t spot → (edited h (add t spot.0 spot.1 node) ≡ Fails ENOSPC) ↔ IsTrue (not (has_room t))
+  add_lacks spot node free =
+      let is : add t spot.0 spot.1 node ≡ cond (has_room t) (Ok (t.next, with_new t spot.0 spot.1 node)) (Err faults.Full) =
+      λ i. cond (not (free.0 i)) (Err faults.NotDir) (cond (is_some (free.1 i)) (Err faults.Taken) (cond (has_room t) (Ok (t.next, with_new t spot.0 spot.1 node)) (Err faults.Full))) in
+      let room = by_room (has_room t) (t.next, with_new t spot.0 spot.1 node) in
+      (λ e. room.0 (sym (ap (edited h) is) ∙ e), λ full. ap (edited h) is ∙ room.1 full)
 
-  -- an edit without a fault, and what leaves the tree as it is
-  cut_leaves : (r : Result (ℕ × Tree) TreeFault) → IsOk r → edited h r ≢ Fails ENOSPC
-  cut_leaves (Ok x) ok e = leaves_not_fails x.1 h e
-  cut_leaves (Err fault) ok e = absurd (true≢false (sym ok))
+  tie_lacks : (spot : Spot) (x : ℕ) → IsFree t spot → is_living t x ≡ true → is_dir t x ≡ false → (edited_tree h (tie t spot.0 spot.1 x) ≡ Fails ENOSPC) ↔ IsTrue (not (has_name_room t))
+  tie_lacks spot x free living other =
+      let is : tie t spot.0 spot.1 x ≡ cond (has_name_room t) (Ok (with_row t spot.0 spot.1 x)) (Err faults.Full) =
+      λ i. cond (not (free.0 i)) (Err faults.NotDir)
+      (cond (not (living i)) (Err faults.Missing)
+      (cond (other i) (Err faults.IsDir)
+      (cond (is_some (free.1 i)) (Err faults.Taken) (cond (has_name_room t) (Ok (with_row t spot.0 spot.1 x)) (Err faults.Full))))) in
+      let room = by_name_room (has_name_room t) (with_row t spot.0 spot.1 x) in
+      (λ e. room.0 (sym (ap (edited_tree h) is) ∙ e), λ full. ap (edited_tree h) is ∙ room.1 full)
 
-  removes : (object : Found) → IsRemovable t object → removed t h object ≢ Fails ENOSPC
-  removes (Whole dir (ways.Named parent name)) removable = cut_leaves _ (removable (parent, name) refl)
-  removes (Whole dir ways.Dot) removable = leaves_not_fails t h
-  removes (Whole dir ways.DotDot) removable = leaves_not_fails t h
-  removes (Whole dir ways.Top) removable = leaves_not_fails t h
-  removes (Slot dir name None) removable = leaves_not_fails t h
-  removes (Slot dir name (Some x)) removable = cut_leaves _ (removable (dir, name) refl)
+  -- an edit without a fault
+  edit_leaves : (r : Result (ℕ × Tree) TreeFault) → IsOk r → edited h r ≢ Fails ENOSPC
+  edit_leaves (Ok x) ok e = leaves_not_fails x.1 h e
+  edit_leaves (Err fault) ok e = absurd (true≢false (sym ok))
 
-  moves : (object : Found) → moved_to t h object ≢ Fails ENOSPC
-  moves (Whole dir way) e = leaves_not_fails _ _ e
-  moves (Slot dir name x) e = leaves_not_fails _ _ e
+  tree_leaves : (r : Result Tree TreeFault) → IsOk r → edited_tree h r ≢ Fails ENOSPC
+  tree_leaves (Ok u) ok e = leaves_not_fails u h e
+  tree_leaves (Err fault) ok e = absurd (true≢false (sym ok))
 
-  never : (e : Effect) (object : Found) → e ≢ Fails ENOSPC → (e ≡ Fails ENOSPC) ↔ (IsTrue false × LacksRoom t object)
-  never e object other = (λ is. absurd (other is), λ both. absurd (true≢false (sym both.0)))
-
-  made : (node : Node) (object : Found) → NameFits t object → (added t h node object ≡ Fails ENOSPC) ↔ (IsTrue true × LacksRoom t object)
-  made node object fits = let each = adds node object fits in (λ e. (refl, each.0 e), λ both. each.1 both.1)
-
-  pub calls_lack : CallsLackRoom t h
-  calls_lack calls.Create object for = made _ object for.name
-  calls_lack calls.Mkdir object for = made _ object for.name
-  calls_lack calls.Rmdir object for = never _ object (removes object (rmdir_removes t object for))
-  calls_lack calls.Unlink object for = never _ object (removes object (unlink_removes t object for))
-  calls_lack calls.Chdir object for = never _ object (moves object)
-  calls_lack calls.Exec object for = never _ object (leaves_not_fails t _)
-  calls_lack calls.Stat object for = never _ object (leaves_not_fails t h)
-  calls_lack calls.Lstat object for = never _ object (leaves_not_fails t h)
-  calls_lack calls.Readlink object for = never _ object (leaves_not_fails t h)
-  calls_lack calls.OpenRead object for = never _ object (leaves_not_fails t h)
-  calls_lack calls.OpenWrite object for = never _ object (leaves_not_fails t h)
-  calls_lack calls.OpenBoth object for = never _ object (leaves_not_fails t h)
-  calls_lack calls.Symlink object for = never _ object (leaves_not_fails t h)
-  calls_lack calls.Chmod object for = never _ object (leaves_not_fails t h)
+pub changes_lack : ChangesLackRoom
+changes_lack w h NoChange possible = never _ (leaves_not_fails w.tree h)
+changes_lack w h (AddNode spot node) possible = add_lacks w.tree h spot node possible.0
+changes_lack w h (CutRow spot) possible = never _ (edit_leaves w.tree h _ possible)
+changes_lack w h (ShiftRow old new) possible = never _ (tree_leaves w.tree h _ possible)
+changes_lack w h (TieRow spot x) possible = tie_lacks w.tree h spot x possible.0 possible.1 possible.2
+changes_lack w h BeginProgram possible = never _ (leaves_not_fails w.tree _)
+changes_lack w h (AddEvent event) possible = never _ (leaves_not_fails w.tree _)
+changes_lack w h (CopyAs new) possible = never _ (by (is_some (history_of w new) || nat_le process_limit (length w.histories)))
+  where
+    by : (full : Bool) → cond full (Fails EAGAIN) (Copies new) ≢ Fails ENOSPC
+    by true e = cc
+    by false e = cc

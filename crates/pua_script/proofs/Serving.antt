@@ -16,7 +16,8 @@ use Rattle.pua_script.specs.declared.fault.WorldFault.{WorldFault}
 use Rattle.pua_script.specs.declared.answer.Answer.TheVariants.{Okay, Gone}
 use Rattle.pua_script.specs.declared.request.Action.{Action}
 use Rattle.pua_script.specs.declared.request.Action.TheVariants.{Fork}
-use Rattle.pua_script.specs.Replay.{World, Effect, Fails, Kills, Leaves, Copies, if_promised, history_of, effect, answer_to, left_by, served, apply, world_after}
+use Rattle.pua_script.specs.Decide.{CopyAs, promised}
+use Rattle.pua_script.specs.Replay.{World, Effect, come_of, Fails, Kills, Leaves, Copies, history_of, effect, answer_to, left_by, served, apply, world_after}
 use Rattle.pua_script.specs.Limits.{process_limit}
 use Rattle.pua_script.specs.Worlds.{WorldState, StandsAt, StandsForWorld, HasReplay, process_at, IsOkay, IsServed, AreServed, Does, Acts}
 use Rattle.pua_script.proofs.Composition.{replay_composes}
@@ -87,10 +88,12 @@ module _ (s : WorldState) (ask : Asked) (p : ProcessState) (there : process_at s
           let own : StandsFor p h = subst (λ o. StandsAt o (Some h)) there at in
           lives (is_ended h) _ (sym own.ended ∙ living) (okay w h stands own)
 
--- where a fork is refused, so it is in the replay
-pub refused_alike : (s : WorldState) (w : World) → StandsForWorld s w → (h : History) (new : ℕ) (b : Bool) → b ≡ (is_some (process_at s new) || nat_le process_limit (length s.processes))
-    → effect s.table w h (Fork new) ≡ if_promised (may_any h (proc ∷ [])) (cond b (Fails EAGAIN) (Copies new))
-refused_alike s w stands h new b is = λ i. if_promised (may_any h (proc ∷ [])) (cond (sym (is ∙ (λ j. same_numbers _ _ (stands.processes new) j || nat_le process_limit (stands.count j))) i) (Fails EAGAIN) (Copies new))
+-- a fork whose promise is held fails where the world has the number, or the most processes
+pub fork_alike : (s : WorldState) (w : World) → StandsForWorld s w → (h : History) (new : ℕ) (b : Bool) → may_any h (proc ∷ []) ≡ may.Yes → b ≡ (is_some (process_at s new) || nat_le process_limit (length s.processes))
+    → effect s.table w h (Fork new) ≡ cond b (Fails EAGAIN) (Copies new)
+fork_alike s w stands h new b may is =
+    ap (λ m. come_of w h (promised m (Ok (CopyAs new)))) may
+    ∙ (λ i. cond (sym (is ∙ (λ j. same_numbers _ _ (stands.processes new) j || nat_le process_limit (stands.count j))) i) (Fails EAGAIN) (Copies new))
 
 unset : (b c : Bool) → (b || c) ≡ false → b ≡ false
 unset true c is = is
@@ -99,7 +102,7 @@ unset false c is = refl
 -- a process that may fork, and the processes with its copy
 module _ (s : WorldState) (number new : ℕ) (p copy : ProcessState) (mid more : List (ℕ × ProcessState)) (old : Option ProcessState)
     (there : process_at s number ≡ Some p) (living : p.ended ≡ false)
-    (promised : (h : History) → StandsFor p h → may_any h (proc ∷ []) ≡ may.Yes)
+    (may_fork : (h : History) → StandsFor p h → may_any h (proc ∷ []) ≡ may.Yes)
     (free : (is_some (process_at s new) || nat_le process_limit (length s.processes)) ≡ false)
     (copied : copy ≡ p) (same : mid ≡ s.processes) (puts : (n : ℕ) → lookup (nat_eq n) more ≡ cond (nat_eq new n) (Some copy) (lookup (nat_eq n) mid))
     (was : old ≡ lookup (nat_eq new) mid) (counted : length more ≡ length mid + cond (is_some old) 0 1) where
@@ -132,7 +135,7 @@ module _ (s : WorldState) (number new : ℕ) (p copy : ProcessState) (mid more :
       by (Some h) at =
           let own : StandsFor p h = subst (λ o. StandsAt o (Some h)) there at in
           copies h (is_ended h) (effect s.table w h (Fork new)) (sym own.ended ∙ living)
-          (refused_alike s w stands h new false (sym free) ∙ ap (λ m. if_promised m (Copies new)) (promised h own)) own
+          (fork_alike s w stands h new false (may_fork h own) (sym free)) own
 
 -- one request more
 pub served_more : (before mid after : WorldState) (asks : List Asked) (told : List Answer) (ask : Asked) (answer : Answer) → AreServed before asks told mid → IsServed mid ask answer after

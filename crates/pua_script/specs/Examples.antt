@@ -124,6 +124,10 @@ pub record ReplayRows : Type 0 where
   pub dangling_link : answers_of (root_alone ++ codes "1 link 0 l x" ∷ []) (codes "1 mkdir /l" ∷ codes "1 create /l" ∷ codes "1 lstat /x" ∷ codes "1 unlink /l" ∷ codes "1 stat /x" ∷ []) ≡ Failed EEXIST ∷ Okay ∷ Okay ∷ Okay ∷ Okay ∷ []
   -- the lock before the letters
   pub lock_before_letters : answers_of root_alone (codes "1 unveil - -" ∷ codes "1 unveil / q" ∷ []) ≡ Okay ∷ Failed EPERM ∷ []
+  -- the promise before the lock
+  pub promise_before_lock : answers_of root_alone (codes "1 unveil - -" ∷ codes "1 pledge stdio,rpath,error -" ∷ codes "1 unveil / r" ∷ []) ≡ Okay ∷ Okay ∷ Failed ENOSYS ∷ []
+  -- of a symlink the target before the path, and the promise before both
+  pub symlinks : answers_of example (codes "1 symlink = /etc/passwd/x" ∷ codes "1 pledge stdio,error -" ∷ codes "1 symlink = /x" ∷ []) ≡ Failed ENOENT ∷ Okay ∷ Failed ENOSYS ∷ []
   -- an unknown keyword in either argument before a promise that is not held
   pub unknown_before_increase : answers_of root_alone (codes "1 pledge stdio,rpath -" ∷ codes "1 pledge stdio,wpath zpath" ∷ []) ≡ Okay ∷ Failed EINVAL ∷ []
   -- unveil's checks in their order
@@ -164,6 +168,8 @@ replay_rows = record {
   working_directory_removed = refl;
   dangling_link = refl;
   lock_before_letters = refl;
+  promise_before_lock = refl;
+  symlinks = refl;
   unknown_before_increase = refl;
   unveils = refl;
   veil_moves = refl;

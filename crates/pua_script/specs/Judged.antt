@@ -1,42 +1,48 @@
--- What becomes of a request on a path, as an effect.
-use Rattle.std.specs.Prelude.{◌≡◌, Some, None, Result, Ok, Err, IsOk}
-use Rattle.pua_tree.specs.Tree.{Tree, Spot}
-use Rattle.pua_tree.specs.Edits.{cut}
-use Rattle.pua_path.specs.Fits.{FoundFits, StandsAsNamed, spot_named}
-use Rattle.pua_path.specs.declared.errno.Errno.{Errno}
+-- What the code decides, by the definitions.
+use Rattle.std.specs.Prelude.{Result, Ok, Err, IsTrue, option_copied}
+use Rattle.pua_tree.specs.Tree.{Tree, target_fits}
+use Rattle.pua_path.specs.Fits.{FoundFits, StandsAsNamed}
 use Rattle.pua_path.specs.declared.found.Found.{Found}
-use Rattle.pua_policy.specs.Verdict.{object_fault, object_of}
-use Rattle.pua_policy.specs.declared.call.Call.{Call}
+use Rattle.pua_policy.specs.History.{History, Locked, Moved, Ended}
 use Rattle.pua_policy.specs.declared.answer.Refusal.{Refusal}
-use Rattle.pua_policy.specs.declared.answer.Refusal.TheVariants.{Failed, Killed}
-use Rattle.pua_script.specs.Replay.{Effect, Fails, Kills}
-use Rattle.pua_script.specs.declared.pair.Pair.{Pair}
+use Rattle.pua_script.specs.Decide.{NoChange, AddNode, CutRow, ShiftRow, TieRow, BeginProgram, AddEvent, Decision, pledging, veiling}
+use Rattle.pua_script.specs.Guards.{IsFree, IsPossible}
+use Rattle.pua_script.specs.declared.granted.Granted.{Granted}
+use Rattle.pua_script.specs.declared.granted.Granted.TheVariants as granted
 
 -- what was found is of the tree, and stands at the name by which it was found
 pub record NameFits (t : Tree) (object : Found) : Type 0 where
   pub fits : FoundFits t object
   pub named : StandsAsNamed t object
 
--- and nothing is wrong with it for a call
-pub record IsFor (t : Tree) (call : Call) (object : Found) : Type 0 where
-  pub name : NameFits t object
-  pub kind : object_fault t call (object_of t object) ≡ None
+-- what was granted, as a decision: of a pledge and an unveil the process itself judges the last check
+abbrev pub decision_by : History → Granted → Decision
+decision_by h granted.NoChange = Ok NoChange
+decision_by h (granted.AddNode spot kind target) = Ok (AddNode spot (record { kind = kind; target = option_copied target }))
+decision_by h (granted.CutRow spot) = Ok (CutRow spot)
+decision_by h (granted.ShiftRow old new) = Ok (ShiftRow old new)
+decision_by h (granted.TieRow spot x) = Ok (TieRow spot x)
+decision_by h granted.BeginProgram = Ok BeginProgram
+decision_by h (granted.Pledge promises execpromises) = pledging h promises execpromises
+decision_by h (granted.Unveil place perms) = veiling h place perms
+decision_by h granted.Lock = Ok (AddEvent Locked)
+decision_by h (granted.Enter dir) = Ok (AddEvent (Moved dir))
+decision_by h granted.Exit = Ok (AddEvent Ended)
 
--- the row by which something was found can be taken away
-abbrev pub IsRemovable : Tree → Found → Type 0
-IsRemovable t object = (spot : Spot) → spot_named object ≡ Some spot → IsOk (cut t spot.0 spot.1)
+-- further checks of what was judged
+abbrev pub on_judged : {X : Type 0} → Result X Refusal → (X → Decision) → Decision
+on_judged (Ok x) further = further x
+on_judged (Err refusal) further = Err refusal
 
--- the effect of a refused request
-abbrev pub refused : Refusal → Effect
-refused (Failed errno) = Fails errno
-refused Killed = Kills
+-- what was granted, or refused, as a decision
+abbrev pub decided : History → Result Granted Refusal → Decision
+decided h (Ok granted) = decision_by h granted
+decided h (Err refusal) = Err refusal
 
--- the effect of a request that was judged, where an allowed one has this effect
-abbrev pub effect_on : {X : Type 0} → Result X Refusal → (X → Effect) → Effect
-effect_on (Ok x) f = f x
-effect_on (Err refusal) f = refused refusal
-
--- the effect on what both paths named, or the fault of the first that named nothing
-abbrev pub on_pair : Result Pair Errno → (Found → Found → Effect) → Effect
-on_pair (Ok pair) effect = effect pair.from pair.to
-on_pair (Err errno) effect = Fails errno
+-- what was granted can be done: want of room, or of memory, is the only fault of its edit
+abbrev pub CanBeDone : Tree → Granted → Type 0
+CanBeDone t (granted.AddNode spot kind target) = IsFree t spot × IsTrue (target_fits kind (option_copied target))
+CanBeDone t (granted.CutRow spot) = IsPossible t (CutRow spot)
+CanBeDone t (granted.ShiftRow old new) = IsPossible t (ShiftRow old new)
+CanBeDone t (granted.TieRow spot x) = IsPossible t (TieRow spot x)
+CanBeDone t _ = Unit {0}

@@ -3,6 +3,7 @@ pub mod Limits
 pub mod Requests
 pub mod Scripts
 pub mod ScriptGrammar
+pub mod Decide
 pub mod Replay
 pub mod Judged
 pub mod Worlds
@@ -14,3 +15,4 @@ pub mod Bytes
 pub mod Futures
 pub mod ErrorTables
 pub mod Examples
+pub mod Guards

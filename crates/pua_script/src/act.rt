@@ -4,11 +4,10 @@ ghost use Rattle.std.specs.Prelude.{◌≡◌, OnErr, IsFalse, false};
 ghost use Rattle.pua_script.specs.Worlds.{Acts, is_fork};
 
 use crate::answer::Answer;
+use crate::decide::decide;
 use crate::fault::WorldFault;
-use crate::link::link;
-use crate::on_path::{on_path, symlink, unveil};
-use crate::process::{exit, lock, pledge};
-use crate::rename::rename;
+use crate::granted::make;
+use crate::process::refuse;
 use crate::request::Action;
 use pua_policy::{CallTable, Process};
 use pua_tree::FileTree;
@@ -25,21 +24,10 @@ pub(crate) fn act<T: FileTree>(
     ensures exact { Acts table.now (T.content tree.old) process.old action.now result (T.content tree.new) process.new }
     ensures unchanged { OnErr result ((T.content tree.new ≡ T.content tree.old) × (process.new ≡ process.old)) }
 {
-    match action {
-        Action::OnPath(call, path) => on_path(tree, table, process, *call, path.bytes()),
-        Action::Symlink(target, path) => symlink(
-            tree,
-            table,
-            process,
-            target.bytes(),
-            path.bytes(),
-        ),
-        Action::Rename(old, new) => rename(tree, process, old.bytes(), new.bytes()),
-        Action::Link(old, new) => link(tree, process, old.bytes(), new.bytes()),
-        Action::Pledge(promises, execpromises) => Ok(pledge(process, promises, execpromises)),
-        Action::Unveil(path, perms) => unveil(tree, process, path.bytes(), *perms),
-        Action::Lock => Ok(lock(process)),
-        Action::Exit => Ok(exit(process)),
-        Action::Fork(_) => unreachable!(),
+    tree.known();
+    process.known();
+    match &decide(tree, table, process, action) {
+        Ok(granted) => make(tree, process, granted),
+        Err(refusal) => Ok(refuse(process, *refusal)),
     }
 }

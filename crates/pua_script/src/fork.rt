@@ -1,17 +1,11 @@
 //! How a process makes another one.
 
-ghost use Rattle.std.specs.Prelude.{◌≡◌, ◌∷◌, [], ◌||◌, IfOk, OnOk, OnErr, false, if◌then◌else◌, is_some, length, nat_eq, nat_le};
+ghost use Rattle.std.specs.Prelude.{◌≡◌, ◌||◌, IfOk, OnErr, is_some, length, nat_eq, nat_le};
 ghost use Rattle.std.specs.Map.{lookup};
 ghost use Rattle.pua_tree.specs.Tree.{Tree};
 ghost use Rattle.pua_policy.specs.Calls.{CallTable};
-ghost use Rattle.pua_policy.specs.History.{History, StandsFor, may_any};
-ghost use Rattle.pua_policy.specs.Promises.{proc};
-ghost use Rattle.pua_policy.specs.declared.answer.May.TheVariants as may;
-ghost use Rattle.pua_path.specs.declared.errno.Errno.TheVariants as errnos;
-ghost use Rattle.pua_script.specs.Replay.{Effect, Fails, if_promised};
-ghost use Rattle.pua_script.specs.Worlds.{IsServed, IsOkay};
-ghost use Rattle.pua_script.specs.Judged.{effect_on};
 ghost use Rattle.pua_script.specs.Limits.{process_limit};
+ghost use Rattle.pua_script.specs.Worlds.{IsServed, IsOkay};
 ghost use Rattle.pua_script.specs.declared.request.Action.TheVariants as actions;
 
 use crate::answer::Answer;
@@ -21,7 +15,7 @@ use crate::process::refuse;
 use indexmap::IndexMap;
 use pua_path::Errno;
 use pua_policy::judge::promised;
-use pua_policy::{Process, Promises, Refusal};
+use pua_policy::{Process, Promises};
 use std::alloc::Global;
 
 /// Serves a fork: the new process is a copy of the one that asks. A refused growth leaves all
@@ -45,9 +39,12 @@ pub(crate) fn fork(
     if process.ended() {
         return Ok(Answer::Gone);
     }
-    match judge_fork(process, is_refused) {
+    match promised(process, Promises::PROC) {
         Ok(()) => {}
         Err(refusal) => return Ok(refuse(process, refusal)),
+    }
+    if is_refused {
+        return Ok(Answer::Failed(Errno::EAGAIN));
     }
     let Ok(copy) = process.fork(alloc) else {
         return Err(WorldFault::OutOfMemory);
@@ -64,19 +61,4 @@ fn is_refused(processes: &IndexMap<u32, Process>, new: u32) -> bool
     ensures { result ≡ (is_some (lookup (nat_eq new) processes.now.entries) || nat_le process_limit (length processes.now.entries)) }
 {
     processes.contains_key(&new) || processes.len() >= PROCESS_LIMIT
-}
-
-/// What becomes of a fork, before the process is made: the promise, and then its number.
-fn judge_fork(process: &Process, is_refused: bool) -> Result<(), Refusal>
-    ensures exact { (h : History) → StandsFor process.now h → (e : Effect) →
-        if_promised (may_any h (proc ∷ [])) (if is_refused then Fails errnos.EAGAIN else e)
-        ≡ effect_on result (λ _. e) }
-    ensures number { OnOk result (is_refused ≡ false) }
-    ensures promise { OnOk result ((h : History) → StandsFor process.now h → may_any h (proc ∷ []) ≡ may.Yes) }
-{
-    promised(process, Promises::PROC)?;
-    if is_refused {
-        return Err(Refusal::Failed(Errno::EAGAIN));
-    }
-    Ok(())
 }

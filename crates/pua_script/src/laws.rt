@@ -2,11 +2,10 @@
 //! function that does nothing.
 
 ghost use Rattle.std.specs.Prelude.{◌≡◌};
-ghost use Rattle.pua_tree.specs.Tree.{Tree, WellFormed};
-ghost use Rattle.pua_policy.specs.History.{History};
 ghost use Rattle.pua_script.specs.Examples.{ExecRows, LinkRows, RenameRows, ReplayRows, ScriptRows};
+ghost use Rattle.pua_script.specs.Guards.{DecisionsAreGuarded};
 ghost use Rattle.pua_script.specs.Limits.{line_limit, number_limit, process_limit};
-ghost use Rattle.pua_script.specs.Laws.{AddsLackRoom, CallsLackRoom, LinksLackRoom, RenamesNeedNoRoom, ReplayComposes, RequestsLackRoom};
+ghost use Rattle.pua_script.specs.Laws.{ChangesLackRoom, DecisionsArePossible, RefusalsLackNoRoom, ReplayComposes, RequestsLackRoom};
 ghost use Rattle.pua_script.specs.ScriptGrammar.{ScriptsAreRead};
 ghost use Rattle.pua_script.specs.Worlds.{WorldsAnswerAlike};
 
@@ -38,6 +37,12 @@ pub fn replay_law()
     ensures { ReplayComposes }
 {}
 
+/// A request that is granted passed the checks of its kind: the promises, what its paths name, what
+/// the veils leave of it, and its kind. So what is to change says what was checked.
+pub fn decide_law()
+    ensures { DecisionsAreGuarded }
+{}
+
 /// Two worlds of the replay for which one world stands answer alike, to the end.
 pub fn standing_law()
     ensures { WorldsAnswerAlike }
@@ -48,13 +53,12 @@ pub fn script_law()
     ensures { ScriptsAreRead }
 {}
 
-/// An edit is answered `ENOSPC` exactly where it adds a node or a name and the tree has no room for
-/// it: after what is checked before it, no other fault of a tree comes. So a request is answered it
-/// only where it adds one, and there is no room.
+/// A request is answered `ENOSPC` exactly where it was granted a change that adds a node or a name,
+/// and the tree has no room for it: no check before a change is answered so, and what was checked
+/// leaves the change no other fault.
 pub fn room_law()
-    ensures adds { (t : Tree) (h : History) → AddsLackRoom t h }
-    ensures calls { (t : Tree) (h : History) → CallsLackRoom t h }
-    ensures links { (t : Tree) (h : History) → WellFormed t → LinksLackRoom t h }
-    ensures renames { (t : Tree) (h : History) → RenamesNeedNoRoom t h }
+    ensures possible { DecisionsArePossible }
+    ensures changes { ChangesLackRoom }
+    ensures refusals { RefusalsLackNoRoom }
     ensures requests { RequestsLackRoom }
 {}

@@ -3,16 +3,16 @@
 
 mod act;
 mod answer;
-mod change;
+mod decide;
 mod fault;
 mod fork;
 mod futures;
+mod granted;
 mod judged;
 mod laws;
 mod limits;
 mod line;
 mod link;
-mod on_path;
 mod pair;
 mod process;
 mod rename;
@@ -26,7 +26,8 @@ pub use futures::{
     bytes_law, confined_law, error_table_examples, families_law, others_law, steps_law, table_law,
 };
 pub use laws::{
-    limits_law, replay_examples, replay_law, room_law, script_examples, script_law, standing_law,
+    decide_law, limits_law, replay_examples, replay_law, room_law, script_examples, script_law,
+    standing_law,
 };
 pub use limits::{LINE_LIMIT, NUMBER_LIMIT, PROCESS_LIMIT};
 pub use request::{Action, Given, PathBytes, Request};

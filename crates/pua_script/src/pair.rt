@@ -1,14 +1,12 @@
 //! What the two paths of a request name, where a node of the one gets the name of the other.
 
-ghost use Rattle.std.specs.Prelude.{◌≡◌, ◌∷◌, [], IfOk};
+ghost use Rattle.std.specs.Prelude.{◌≡◌, IfOk};
 ghost use Rattle.pua_path.specs.Fits.{spot_named, node_named};
 ghost use Rattle.pua_path.specs.declared.found.Found as found;
-ghost use Rattle.pua_policy.specs.Promises.{cpath, creating};
-ghost use Rattle.pua_policy.specs.History.{History, StandsFor, may_any};
-ghost use Rattle.pua_policy.specs.Verdict.{FoundFits, cover, cover_fault, or_fault};
-ghost use Rattle.pua_policy.specs.declared.answer.May.TheVariants as may;
-ghost use Rattle.pua_script.specs.Replay.{Effect, on_two_paths, is_whole};
-ghost use Rattle.pua_script.specs.Judged.{NameFits, effect_on, on_pair};
+ghost use Rattle.pua_policy.specs.History.{History, StandsFor};
+ghost use Rattle.pua_policy.specs.Verdict.{FoundFits};
+ghost use Rattle.pua_script.specs.Decide.{Decision, covers_fault, decide_objects, decide_pair, is_whole, named};
+ghost use Rattle.pua_script.specs.Judged.{NameFits, on_judged};
 
 use crate::judged::named;
 use pua_path::{Counted, Ending, Errno, Found, Last, Probe, Way};
@@ -23,8 +21,8 @@ pub(crate) struct Pair {
     pub(crate) to: Found,
 }
 
-/// What becomes of a call that gives a node of one path the name of another: the promise, then what
-/// the paths name, where both are covered.
+/// What the two paths of a call name that gives a node of one the name of another: the promise, then
+/// the paths, and the covers of what they name. A link that a last part names is kept.
 pub(crate) fn judge_pair<T: FileTree>(
     tree: &T,
     process: &Process,
@@ -32,17 +30,15 @@ pub(crate) fn judge_pair<T: FileTree>(
     old: &[u8],
     new: &[u8],
 ) -> Result<Pair, Refusal>
-    ensures exact { (h : History) → StandsFor process.now h → (effect : found.Found → found.Found → Effect) →
-        on_two_paths (T.content tree.now) h ending old.now new.now effect
-        ≡ effect_on result (λ pair. effect pair.from pair.to) }
+    ensures exact { (h : History) → StandsFor process.now h → (further : found.Found → found.Found → Decision) →
+        decide_pair (T.content tree.now) h ending old.now new.now further ≡ on_judged result (λ pair. further pair.from pair.to) }
     ensures fit { IfOk result (λ pair. NameFits (T.content tree.now) pair.from × NameFits (T.content tree.now) pair.to) }
 {
     promised(process, Promises::CPATH)?;
     pair_named(tree, process, ending, old, new).map_err(Refusal::Failed)
 }
 
-/// What both paths name, where both are covered with the permission to create and remove. A link
-/// that a last part names is kept.
+/// What both paths name, where both are covered with the permission to create and remove.
 fn pair_named<T: FileTree>(
     tree: &T,
     process: &Process,
@@ -50,8 +46,8 @@ fn pair_named<T: FileTree>(
     old: &[u8],
     new: &[u8],
 ) -> Result<Pair, Errno>
-    ensures exact { (h : History) → StandsFor process.now h → may_any h (cpath ∷ []) ≡ may.Yes → (effect : found.Found → found.Found → Effect) →
-        on_two_paths (T.content tree.now) h ending old.now new.now effect ≡ on_pair result effect }
+    ensures exact { (h : History) → StandsFor process.now h → (further : found.Found → found.Found → Decision) →
+        decide_objects (T.content tree.now) h ending old.now new.now further ≡ named result (λ pair. further pair.from pair.to) }
     ensures fit { IfOk result (λ pair. NameFits (T.content tree.now) pair.from × NameFits (T.content tree.now) pair.to) }
 {
     let mut probe = Counted::new(tree);
@@ -72,8 +68,7 @@ fn covers_fault<'t, P: Probe<'t>>(
 ) -> Option<Errno>
     requires from { FoundFits (P.tree probe.old) from.now }
     requires to { FoundFits (P.tree probe.old) to.now }
-    ensures { (h : History) → StandsFor process.now h →
-        result ≡ or_fault (cover_fault (cover (P.tree probe.old) h from.now) creating) (cover_fault (cover (P.tree probe.old) h to.now) creating) }
+    ensures { (h : History) → StandsFor process.now h → result ≡ covers_fault (P.tree probe.old) h from.now to.now }
 {
     let cover = process.cover(probe, from);
     if let Some(errno) = cover_fault(cover, Perms::CREATE) {

@@ -1,14 +1,15 @@
-//! Requests that change the process that asks, and nothing else: a pledge, the lock, and its end.
+//! Requests that change the process that asks, and nothing else, and what a refused one leaves of it.
 
-ghost use Rattle.std.specs.Prelude.{◌≡◌, ◌∷◌, []};
+ghost use Rattle.std.specs.Prelude.{◌≡◌};
 ghost use Rattle.pua_tree.specs.Tree.{Tree};
-ghost use Rattle.pua_policy.specs.History.{History, StandsFor, Locked, Ended, may_any};
-ghost use Rattle.pua_policy.specs.Promises.{unveil as unveiling};
-ghost use Rattle.pua_script.specs.Replay.{Leaves, if_promised, pledge_effect, given_set, is_unknown};
-ghost use Rattle.pua_script.specs.Judged.{refused};
+ghost use Rattle.pua_policy.specs.History.{History, StandsFor};
+ghost use Rattle.pua_script.specs.Decide.{decide_lock, decide_pledge, given_set, is_unknown};
+ghost use Rattle.pua_script.specs.Judged.{decided};
+ghost use Rattle.pua_script.specs.Replay.{refused};
 ghost use Rattle.pua_script.specs.Worlds.{Does};
 
 use crate::answer::Answer;
+use crate::granted::Granted;
 use crate::request::Given;
 use pua_path::Errno;
 use pua_policy::judge::promised;
@@ -28,17 +29,17 @@ pub(crate) fn refuse(process: &mut Process, refusal: Refusal) -> Answer
     }
 }
 
-/// A pledge. An unknown keyword in either argument is judged before what is held.
-pub(crate) fn pledge(process: &mut Process, promises: &Given, execpromises: &Given) -> Answer
-    ensures { (h : History) (t : Tree) → StandsFor process.old h → Does t h (pledge_effect t h promises.now execpromises.now) result t process.new }
+/// What a pledge is to change. An unknown keyword in either argument is judged before what is held.
+pub(crate) fn decide_pledge<'a>(
+    promises: &Given,
+    execpromises: &Given,
+) -> Result<Granted<'a>, Refusal>
+    ensures { (h : History) → decided h result ≡ decide_pledge h promises.now execpromises.now }
 {
     if is_unknown(promises) || is_unknown(execpromises) {
-        return Answer::Failed(Errno::EINVAL);
+        return Err(Refusal::Failed(Errno::EINVAL));
     }
-    match process.pledge(given_set(promises), given_set(execpromises)) {
-        Ok(()) => Answer::Okay,
-        Err(errno) => Answer::Failed(errno),
-    }
+    Ok(Granted::Pledge(given_set(promises), given_set(execpromises)))
 }
 
 fn is_unknown(given: &Given) -> bool
@@ -56,24 +57,10 @@ fn given_set(given: &Given) -> Option<Promises>
     }
 }
 
-/// An unveil with two NULLs.
-pub(crate) fn lock(process: &mut Process) -> Answer
-    ensures { (h : History) (t : Tree) → StandsFor process.old h →
-        Does t h (if_promised (may_any h (unveiling ∷ [])) (Leaves t (Locked ∷ h))) result t process.new }
+/// What an unveil with two NULLs is to change.
+pub(crate) fn decide_lock<'a>(process: &Process) -> Result<Granted<'a>, Refusal>
+    ensures { (h : History) → StandsFor process.now h → decided h result ≡ decide_lock h }
 {
-    match promised(process, Promises::UNVEIL) {
-        Ok(()) => {
-            process.lock();
-            Answer::Okay
-        }
-        Err(refusal) => refuse(process, refusal),
-    }
-}
-
-/// An exit, which needs no promise.
-pub(crate) fn exit(process: &mut Process) -> Answer
-    ensures { (h : History) (t : Tree) → StandsFor process.old h → Does t h (Leaves t (Ended ∷ h)) result t process.new }
-{
-    process.end();
-    Answer::Okay
+    promised(process, Promises::UNVEIL)?;
+    Ok(Granted::Lock)
 }

@@ -1,66 +1,65 @@
 //! A rename: what is wrong with what its two paths name, and the row that moves.
 
-ghost use Rattle.std.specs.Prelude.{◌≡◌, ℕ, ◌==◌, Some, OnErr, IsOk, IsTrue};
+ghost use Rattle.std.specs.Prelude.{◌≡◌, ℕ, ◌==◌, Ok, IsTrue};
 ghost use Rattle.std.specs.List.{list_any};
-ghost use Rattle.pua_tree.specs.Tree.{Spot, is_dir, climb};
-ghost use Rattle.pua_tree.specs.Edits.{shift, is_same_node};
+ghost use Rattle.pua_tree.specs.Tree.{is_dir, climb};
+ghost use Rattle.pua_tree.specs.Edits.{is_same_node};
 ghost use Rattle.pua_path.specs.Fits.{spot_named, node_named};
 ghost use Rattle.pua_path.specs.declared.text.Ending.TheVariants as ending;
 ghost use Rattle.pua_policy.specs.History.{History, StandsFor};
 ghost use Rattle.pua_policy.specs.Verdict.{or_fault};
-ghost use Rattle.pua_script.specs.Replay.{on_two_paths, rename_found, dots_fault, top_fault, is_whole, kinds_fault, inside_fault, shifted};
-ghost use Rattle.pua_script.specs.Judged.{NameFits};
-ghost use Rattle.pua_script.specs.Worlds.{Attempts, AttemptsEdit};
+ghost use Rattle.pua_script.specs.Decide.{decide_pair, decide_rename, dots_fault, inside_fault, is_whole, kinds_fault, shifting, top_fault, ways_fault};
+ghost use Rattle.pua_script.specs.Judged.{NameFits, decided, decision_by};
 
-use crate::answer::Answer;
-use crate::fault::WorldFault;
+use crate::granted::Granted;
 use crate::pair::{is_whole, judge_pair, node_named, spot_named};
-use crate::process::refuse;
 use pua_path::{Ending, Errno, Found, Way};
-use pua_policy::Process;
-use pua_tree::{FileTree, Kind, NodeId, TreeFault};
+use pua_policy::{Process, Refusal};
+use pua_tree::{FileTree, Kind, NodeId};
 
-/// A rename: the promise, what is wrong with the old path and then with the new one, the covers in
-/// the same order, and what is wrong with what both paths named.
-pub(crate) fn rename<T: FileTree>(
-    tree: &mut T,
-    process: &mut Process,
-    old: &[u8],
+/// What a rename is to change: the promise, what is wrong with the old path and then with the new
+/// one, the covers in the same order, and what is wrong with what both paths named.
+pub(crate) fn decide_rename<'a, T: FileTree>(
+    tree: &T,
+    process: &Process,
+    old: &'a [u8],
     new: &[u8],
-) -> Result<Answer, WorldFault>
-    ensures exact { (h : History) → StandsFor process.old h →
-        Attempts (T.content tree.old) h (on_two_paths (T.content tree.old) h ending.Dropped old.now new.now
-        (λ a b. rename_found (T.content tree.old) h a b (node_named a)))
-        result (T.content tree.new) process.new }
-    ensures unchanged { OnErr result ((T.content tree.new ≡ T.content tree.old) × (process.new ≡ process.old)) }
+) -> Result<Granted<'a>, Refusal>
+    ensures { (h : History) → StandsFor process.now h →
+        decided h result ≡ decide_pair (T.content tree.now) h ending.Dropped old.now new.now (λ a b. decide_rename (T.content tree.now) a b (node_named a)) }
 {
-    match &judge_pair(tree, process, Ending::Dropped, old, new) {
-        Ok(pair) => rename_found(tree, &pair.from, &pair.to),
-        Err(refusal) => Ok(refuse(process, *refusal)),
-    }
+    let pair = judge_pair(tree, process, Ending::Dropped, old, new)?;
+    decide_shift(tree, &pair.from, &pair.to)
 }
 
-/// Moves what was found, unless something is wrong with it or with the place that it would get.
-fn rename_found<T: FileTree>(tree: &mut T, from: &Found, to: &Found) -> Result<Answer, WorldFault>
-    requires from { NameFits (T.content tree.old) from.now }
-    requires to { NameFits (T.content tree.old) to.now }
-    ensures exact { (h : History) → let effect = rename_found (T.content tree.old) h from.now to.now (node_named from.now) in
-        AttemptsEdit (T.content tree.old) h effect result (T.content tree.new) }
-    ensures unchanged { OnErr result (T.content tree.new ≡ T.content tree.old) }
+/// The row of what was found, unless something is wrong with it or with the place that it would get.
+fn decide_shift<'a, T: FileTree>(tree: &T, from: &Found, to: &Found) -> Result<Granted<'a>, Refusal>
+    requires { NameFits (T.content tree.now) to.now }
+    ensures { (h : History) → decided h result ≡ decide_rename (T.content tree.now) from.now to.now (node_named from.now) }
 {
     let Some(node) = node_named(from) else {
-        return Ok(Answer::Failed(Errno::ENOENT));
+        return Err(Refusal::Failed(Errno::ENOENT));
     };
-    if let Some(errno) = names_fault(from, to) {
-        return Ok(Answer::Failed(errno));
+    if let Some(errno) = ways_fault(from, to) {
+        return Err(Refusal::Failed(errno));
     }
     if is_node(node, to) {
-        return Ok(Answer::Okay);
+        return Ok(Granted::NoChange);
     }
     if let Some(errno) = move_fault(tree, node, from, to) {
-        return Ok(Answer::Failed(errno));
+        return Err(Refusal::Failed(errno));
     }
-    shift(tree, from, to)
+    Ok(shifting(from, to))
+}
+
+/// The row at one name moves to another.
+fn shifting<'a>(from: &Found, to: &Found) -> Granted<'a>
+    ensures { (h : History) → decision_by h result ≡ Ok (shifting (spot_named from.now) (spot_named to.now)) }
+{
+    match (spot_named(from), spot_named(to)) {
+        (Some(from), Some(to)) => Granted::ShiftRow(from, to),
+        _ => Granted::NoChange,
+    }
 }
 
 /// Whether this node was found.
@@ -76,8 +75,8 @@ fn is_node(node: NodeId, found: &Found) -> bool
 /// What is wrong with the way in which they were named: `.` or `..` on either side, then the root on
 /// either side.
 #[tactic(auto, using(crate::proofs::Renaming::first_fault))]
-fn names_fault(from: &Found, to: &Found) -> Option<Errno>
-    ensures { result ≡ or_fault (dots_fault from.now) (or_fault (dots_fault to.now) (or_fault (top_fault from.now) (top_fault to.now))) }
+fn ways_fault(from: &Found, to: &Found) -> Option<Errno>
+    ensures { result ≡ ways_fault from.now to.now }
 {
     dots_fault(from).or(dots_fault(to).or(top_fault(from).or(top_fault(to))))
 }
@@ -172,26 +171,5 @@ fn kinds_fault<T: FileTree>(tree: &T, from: &Found, to: &Found) -> Option<Errno>
                 None
             }
         }
-    }
-}
-
-/// Moves the row. What was checked before leaves want of memory as the only fault.
-fn shift<T: FileTree>(tree: &mut T, from: &Found, to: &Found) -> Result<Answer, WorldFault>
-    requires { (from_spot : Spot) (to_spot : Spot) → spot_named from.now ≡ Some from_spot → spot_named to.now ≡ Some to_spot →
-        IsOk (shift (T.content tree.old) from_spot.0 from_spot.1 to_spot.0 to_spot.1) }
-    ensures exact { (h : History) → let effect = shifted (T.content tree.old) h (spot_named from.now) (spot_named to.now) in
-        AttemptsEdit (T.content tree.old) h effect result (T.content tree.new) }
-    ensures unchanged { OnErr result (T.content tree.new ≡ T.content tree.old) }
-{
-    let Some((dir, name)) = spot_named(from) else {
-        return Ok(Answer::Okay);
-    };
-    let Some((new_dir, new_name)) = spot_named(to) else {
-        return Ok(Answer::Okay);
-    };
-    match tree.shift(dir, &name, new_dir, new_name) {
-        Ok(()) => Ok(Answer::Okay),
-        Err(TreeFault::OutOfMemory) => Err(WorldFault::OutOfMemory),
-        Err(_) => unreachable!(),
     }
 }

@@ -1,27 +1,24 @@
-use Rattle.std.proofs.Common.{◌∷◌, sym, ap, ◌∙◌}
-use Rattle.pua_path.specs.declared.text.Ending.TheVariants as ending
-use Rattle.pua_policy.specs.History.{Ended}
-use Rattle.pua_path.specs.Fits.{node_named}
-use Rattle.pua_script.specs.Replay.{Leaves, effect, symlink_effect, on_two_paths, rename_found, link_found}
+use Rattle.std.proofs.Common.{sym, ap, ◌∙◌}
+use Rattle.pua_script.specs.Decide.{decide}
+use Rattle.pua_script.specs.Judged.{decided}
+use Rattle.pua_script.specs.Replay.{come_of}
 use Rattle.pua_script.proofs.Doing.{as_same, attempts_same}
+use Rattle.pua_script.proofs.Possible.{can_be_done}
 use Rattle.pua_script.proofs.act.act.Goals as goal
 
-pub returns-in-Symlink-clause-exact : goal.returns-in-Symlink-clause-exact
-returns-in-Symlink-clause-exact g c = λ w h trees s. attempts_same _ _ h c.symlink.result _ _ _
-    (ap (effect c.args.table.now w h) c.in-Symlink.is
-    ∙ (λ i. symlink_effect c.args.table.now (trees i) h (sym c.bytes-in-Symlink.ensures i) (sym c.bytes-in-Symlink-2.ensures i))) (c.symlink.ensures.exact h s)
+pub make-requires-clause-possible : goal.make-requires-clause-possible
+make-requires-clause-possible g c =
+    let own = c.known-2.ensures in
+    can_be_done c.args.table.now (g.T.FileTree.content c.args.tree.now) own.history c.args.action.now c.in-Ok.granted c.known.ensures
+    (ap (decided own.history) (sym c.in-Ok.is) ∙ c.decide.ensures own.history own.stands)
 
-pub returns-in-Rename-clause-exact : goal.returns-in-Rename-clause-exact
-returns-in-Rename-clause-exact g c = λ w h trees s. attempts_same _ _ h c.rename.result _ _ _
-    (ap (effect c.args.table.now w h) c.in-Rename.is
-    ∙ (λ i. on_two_paths (trees i) h ending.Dropped (sym c.bytes-in-Rename.ensures i) (sym c.bytes-in-Rename-2.ensures i) (λ a b. rename_found (trees i) h a b (node_named a)))) (c.rename.ensures.exact h s)
+pub returns-in-Ok-clause-exact : goal.returns-in-Ok-clause-exact
+returns-in-Ok-clause-exact g c = λ w h trees s. attempts_same _ _ h c.make.result _ _ _
+    ((λ i. come_of (record { tree = trees i; histories = w.histories }) h (decide c.args.table.now (trees i) h c.args.action.now))
+    ∙ ap (come_of (record { tree = g.T.FileTree.content c.args.tree.now; histories = w.histories }) h) (sym (c.decide.ensures h s) ∙ ap (decided h) c.in-Ok.is))
+    (c.make.ensures.exact h w.histories s)
 
-pub returns-in-Link-clause-exact : goal.returns-in-Link-clause-exact
-returns-in-Link-clause-exact g c = λ w h trees s. attempts_same _ _ h c.link.result _ _ _
-    (ap (effect c.args.table.now w h) c.in-Link.is
-    ∙ (λ i. on_two_paths (trees i) h ending.Dot (sym c.bytes-in-Link.ensures i) (sym c.bytes-in-Link-2.ensures i) (λ a b. link_found (trees i) h a b (node_named a)))) (c.link.ensures.exact h s)
-
-pub returns-in-Exit-clause-exact : goal.returns-in-Exit-clause-exact
-returns-in-Exit-clause-exact g c = λ w h trees s. as_same _ _ h _ _ _ _
-    (ap (effect c.args.table.now w h) c.in-Exit.is ∙ ap (λ t. Leaves t (Ended ∷ h)) trees)
-    (c.exit.ensures h _ s)
+pub returns-in-Err-clause-exact : goal.returns-in-Err-clause-exact
+returns-in-Err-clause-exact g c = λ w h trees s. as_same _ _ h _ _ _ _
+    (ap (come_of w h) (ap (λ t. decide c.args.table.now t h c.args.action.now) trees ∙ sym (c.decide.ensures h s) ∙ ap (decided h) c.in-Err.is))
+    (c.refuse.ensures h _ s)

@@ -1,9 +1,13 @@
-use Rattle.std.proofs.Common.{sym, ap, ◌∙◌, is_some, refl}
-use Rattle.pua_script.specs.Replay.{Copies}
+use Rattle.std.proofs.Common.{◌∷◌, [], sym, ap, ◌∙◌, is_some, refl}
+use Rattle.std.specs.Prelude.{Ok}
+use Rattle.pua_policy.specs.History.{may_any}
+use Rattle.pua_policy.specs.Promises.{proc}
+use Rattle.pua_script.specs.Decide.{CopyAs}
+use Rattle.pua_script.specs.Replay.{come_of}
 use Rattle.pua_script.specs.Worlds.{WorldState}
 use Rattle.pua_script.specs.declared.request.Action.TheVariants.{Fork}
-use Rattle.pua_script.proofs.Doing.{as_same}
-use Rattle.pua_script.proofs.Serving.{serves, forks, refused_alike, same_entries}
+use Rattle.pua_script.proofs.Doing.{as_same, promises_refuse}
+use Rattle.pua_script.proofs.Serving.{serves, forks, same_entries}
 use Rattle.pua_script.proofs.fork.fork.Goals as goal
 
 -- a process that may fork stays as it was, so all do
@@ -24,7 +28,7 @@ returns-in-Err-clause-served c = λ t table.
     serves s (record { process = c.args.number; action = Fork c.args.new }) c.refuse.result t c.in-Some.process.now c.refuse.new.process _
     (sym there) (sym c.ended.ensures.state ∙ c.if-ended.false) (wrote.3 (sym (ap is_some there))).0 wrote.2
     (λ w h stands own. as_same t t h _ _ _ _
-    (refused_alike s w stands h c.args.new c.is_refused-is_refused.result c.is_refused-is_refused.ensures ∙ c.in-Err.ensures.exact h own (Copies c.args.new))
+    (ap (come_of w h) (promises_refuse (may_any h (proc ∷ [])) c.in-Err.refusal (Ok (CopyAs c.args.new)) (c.in-Err.ensures.exact h own)))
     (c.refuse.ensures h t own))
 
 pub returns-clause-served : goal.returns-clause-served
@@ -33,5 +37,5 @@ returns-clause-served c = λ t table.
     let inserted = c.in-Ok-insert.ensures in
     let same = same_entries c.args.number c.in-Some.process.now c.in-Some.process.now c.args.processes.now.entries _ there (c.get_mut.follows.holds c.in-Some.process.now).0 refl in
     forks (record { tree = t; table = table; processes = c.args.processes.now.entries }) c.args.number c.args.new c.in-Some.process.now c.in-Ok-fork.copy _ _ c.in-Ok-insert.field-0
-    (sym there) (sym c.ended.ensures.state ∙ c.if-ended.false) c.in-Ok.ensures.promise (sym c.is_refused-is_refused.ensures ∙ c.in-Ok.ensures.number)
+    (sym there) (sym c.ended.ensures.state ∙ c.if-ended.false) c.in-Ok.ensures.exact (sym c.is_refused-is_refused.ensures ∙ c.if-is_refused.false)
     c.in-Ok-fork.ensures same inserted.updates.0 inserted.old inserted.len

@@ -1,0 +1,160 @@
+-- A granted request passed its checks.
+use Rattle.std.proofs.Common.{◌≡◌, ℕ, List, [], ◌∷◌, Bool, true, false, cond, refl, inl, inr, ◌⊎◌}
+use Rattle.std.specs.Prelude.{Option, Some, None, Result, Ok, Err, is_some, ◌||◌}
+use Rattle.pua_tree.specs.Tree.{Tree}
+use Rattle.pua_tree.specs.Edits.{is_same_node}
+use Rattle.pua_path.specs.Paths.{path_fault}
+use Rattle.pua_path.specs.Resolution.{resolution_of_text}
+use Rattle.pua_path.specs.Fits.{spot_named, node_named}
+use Rattle.pua_path.specs.declared.errno.Errno.{Errno}
+use Rattle.pua_path.specs.declared.errno.Errno.TheVariants.{EPERM, EEXIST, EINVAL}
+use Rattle.pua_path.specs.declared.text.Ending.{Ending}
+use Rattle.pua_path.specs.declared.text.Ending.TheVariants as ending
+use Rattle.pua_path.specs.declared.found.Last.TheVariants.{Followed}
+use Rattle.pua_path.specs.declared.found.Found.{Found}
+use Rattle.pua_policy.specs.Promises.{cpath, proc, unveil, creating}
+use Rattle.pua_policy.specs.Calls.{CallTable, rule_of}
+use Rattle.pua_policy.specs.History.{History, is_locked, may_any, working_dir, unveil_fault, pledge_fault}
+use Rattle.pua_policy.specs.Verdict.{place_of, cover, cover_fault, or_fault, object_named, object_fault, object_of, found_fault}
+use Rattle.pua_policy.specs.declared.call.Call.{Call}
+use Rattle.pua_policy.specs.declared.call.Call.TheVariants as call
+use Rattle.pua_policy.specs.declared.answer.May.{May}
+use Rattle.pua_policy.specs.declared.answer.May.TheVariants as may
+use Rattle.pua_script.specs.Decide.{fault_if, is_whole, link_node, unveil_errno, given_set, is_unknown, inside_fault, kinds_fault, Change, NoChange, Decision, promised, checked, named, adding, change_by, decide_rename, decide_link, decide_veil, decide_pair, shifting, ways_fault, covers_fault, kept_named}
+use Rattle.pua_script.specs.declared.request.Action.TheVariants.{OnPath, Symlink, Rename, Link, Pledge, Unveil, Lock, Fork, Exit}
+use Rattle.pua_script.specs.Guards.{OnOne, OnTwo, IsShift, IsVeil, DecisionsAreGuarded}
+
+from_promised : (m : May) (d : Decision) (c : Change) → promised m d ≡ Ok c → (m ≡ may.Yes) × (d ≡ Ok c)
+from_promised may.Yes d c e = (refl, e)
+from_promised may.Enosys d c e = cc
+from_promised may.Death d c e = cc
+
+from_checked : (o : Option Errno) (d : Decision) (c : Change) → checked o d ≡ Ok c → (o ≡ None) × (d ≡ Ok c)
+from_checked None d c e = (refl, e)
+from_checked (Some errno) d c e = cc
+
+from_named : (r : Result Found Errno) (g : Found → Decision) (c : Change) → named r g ≡ Ok c → (x : Found) × (r ≡ Ok x) × (g x ≡ Ok c)
+from_named (Ok x) g c e = (x, refl, e)
+from_named (Err errno) g c e = cc
+
+pub not_faulty : (b : Bool) (errno : Errno) → fault_if b errno ≡ None → b ≡ false
+not_faulty true errno e = cc
+not_faulty false errno e = refl
+
+abbrev Granted : Change → Decision
+Granted c = Ok c
+
+is_ok : (c d : Change) → Granted c ≡ Granted d → d ≡ c
+is_ok c d e = cc
+
+pub first_none : (a b : Option Errno) → or_fault a b ≡ None → a ≡ None
+first_none None b e = refl
+first_none (Some errno) b e = cc
+
+pub second_none : (a b : Option Errno) → or_fault a b ≡ None → b ≡ None
+second_none None b e = e
+second_none (Some errno) b e = cc
+
+module _ (t : Tree) (h : History) where
+  -- a call's object, once its promises are held
+  one : (table : CallTable) (c : Call) (path : List ℕ) (g : Found → Change) (change : Change) → may_any h (rule_of table c).alternatives ≡ may.Yes
+      → (named (object_named t h c path) λ x. checked (found_fault t table h c x) (Ok (g x))) ≡ Ok change
+      → (object : Found) × OnOne table t h c path object × (change ≡ g object)
+  one table c path g change may e =
+      let at = from_named (object_named t h c path) (λ x. checked (found_fault t table h c x) (Ok (g x))) change e in
+      let free = from_checked (found_fault t table h c at.0) (Ok (g at.0)) change at.2 in
+      let a = cover_fault (cover t h at.0) (rule_of table c).perms in
+      let b = object_fault t c (object_of t at.0) in
+      (at.0, record { promised = may; found = at.1; covered = first_none a b free.0; fitting = second_none a b free.0 }, is_ok _ _ free.1)
+
+  -- what both paths named
+  abbrev Pair : Ending → List ℕ → List ℕ → (Found → Found → Option ℕ → Decision) → Change → Type 0
+  Pair end old_path new_path f change = (old : Found) × (new : Found) × (x : ℕ) × OnTwo t h end old_path new_path old new x × (f old new (Some x) ≡ Ok change)
+
+  pair : (end : Ending) (old new : List ℕ) (f : Found → Found → Option ℕ → Decision) (change : Change) → ((a b : Found) → f a b None ≡ Ok change → ⊥)
+      → decide_pair t h end old new (λ a b. f a b (node_named a)) ≡ Ok change → Pair end old new f change
+  pair end old new f change never e =
+      let may = from_promised (may_any h (cpath ∷ [])) _ change e in
+      let first = from_named (kept_named t h end old) (λ a. named (kept_named t h end new) λ b. checked (covers_fault t h a b) (f a b (node_named a))) change may.1 in
+      let a = first.0 in
+      let second = from_named (kept_named t h end new) (λ b. checked (covers_fault t h a b) (f a b (node_named a))) change first.2 in
+      let b = second.0 in
+      let free = from_checked (covers_fault t h a b) (f a b (node_named a)) change second.2 in
+      by a b (node_named a) refl may.0 first.1 second.1 free.0 free.1
+    where
+      by : (a b : Found) (o : Option ℕ) → node_named a ≡ o → may_any h (cpath ∷ []) ≡ may.Yes → kept_named t h end old ≡ Ok a → kept_named t h end new ≡ Ok b
+          → covers_fault t h a b ≡ None → f a b o ≡ Ok change → Pair end old new f change
+      by a b None is may fa fb none e = absurd (never a b e)
+      by a b (Some x) is may fa fb none e = (
+        a,
+        b,
+        x,
+        record {
+          promised = may;
+          found_old = fa;
+          found_new = fb;
+          covered_old = first_none (cover_fault (cover t h a) creating) (cover_fault (cover t h b) creating) none;
+          covered_new = second_none (cover_fault (cover t h a) creating) (cover_fault (cover t h b) creating) none;
+          named = is;
+        },
+        e,
+      )
+
+  renamed : (a b : Found) (x : ℕ) (change : Change) → decide_rename t a b (Some x) ≡ Ok change → (ways_fault a b ≡ None) × ((change ≡ NoChange) ⊎ IsShift t a b x change)
+  renamed a b x change e =
+      let free = from_checked (ways_fault a b) _ change e in
+      (free.0, by (is_same_node x (node_named b)) refl free.1)
+    where
+      kinds : Option Errno
+      kinds = or_fault (inside_fault t x (spot_named b)) (kinds_fault t x a b)
+
+      by : (same : Bool) → is_same_node x (node_named b) ≡ same → cond {A = Decision} same (Ok NoChange) (checked kinds (Ok (shifting (spot_named a) (spot_named b)))) ≡ Ok change → (change ≡ NoChange) ⊎ IsShift t a b x change
+      by true is e = inl (is_ok _ _ e)
+      by false is e =
+          let last = from_checked kinds (Ok (shifting (spot_named a) (spot_named b))) change e in
+          inr (record {
+            other = is;
+            inside = first_none (inside_fault t x (spot_named b)) (kinds_fault t x a b) last.0;
+            kinds = second_none (inside_fault t x (spot_named b)) (kinds_fault t x a b) last.0;
+            is = is_ok _ _ last.1;
+          })
+
+  veiled : (path : List ℕ) (letters : Option ℕ) (change : Change) → may_any h (unveil ∷ []) ≡ may.Yes → is_locked h ≡ false → decide_veil t h path letters ≡ Ok change → IsVeil t h path letters change
+  veiled path None change may unlocked e = cc
+  veiled path (Some perms) change may unlocked e =
+      let at = from_named (resolution_of_text t (working_dir h) ending.Dot path Followed) _ change e in
+      let free = from_checked (unveil_errno (unveil_fault h (place_of at.0) perms)) _ change at.2 in
+      record { object = at.0; perms = perms; promised = may; unlocked = unlocked; known = refl; found = at.1; room = free.0; is = is_ok _ _ free.1 }
+
+pub decisions_are_guarded : DecisionsAreGuarded
+decisions_are_guarded table t h (OnPath c path) change e =
+    let may = from_promised (may_any h (rule_of table c).alternatives) _ change e in
+    one t h table c path (change_by c) change may.0 may.1
+decisions_are_guarded table t h (Symlink target path) change e =
+    let may = from_promised (may_any h (rule_of table call.Symlink).alternatives) _ change e in
+    let text = from_checked (path_fault target) _ change may.1 in
+    let at = one t h table call.Symlink path (adding (link_node target)) change may.0 text.1 in
+    (at.0, at.1, text.0, at.2)
+decisions_are_guarded table t h (Rename old new) change e =
+    let p = pair t h ending.Dropped old new (decide_rename t) change (λ a b never. cc) e in
+    let r = renamed t h p.0 p.1 p.2 change p.4 in
+    record { old = p.0; new = p.1; node = p.2; two = p.3; ways = r.0; moves = r.1 }
+decisions_are_guarded table t h (Link old new) change e =
+    let p = pair t h ending.Dot old new decide_link change (λ a b never. cc) e in
+    let free = from_checked (or_fault (fault_if (is_whole p.0) EPERM) (fault_if (is_some (node_named p.1)) EEXIST)) _ change p.4 in
+    let a = fault_if (is_whole p.0) EPERM in
+    let b = fault_if (is_some (node_named p.1)) EEXIST in
+    record { old = p.0; new = p.1; node = p.2; two = p.3; no_dir = not_faulty _ EPERM (first_none a b free.0); free = not_faulty _ EEXIST (second_none a b free.0); is = is_ok _ _ free.1 }
+decisions_are_guarded table t h (Pledge p x) change e =
+    let known = from_checked (fault_if (is_unknown p || is_unknown x) EINVAL) _ change e in
+    let free = from_checked (pledge_fault h (given_set p) (given_set x)) _ change known.1 in
+    record { known = not_faulty _ EINVAL known.0; within = free.0; is = is_ok _ _ free.1 }
+decisions_are_guarded table t h (Unveil path perms) change e =
+    let may = from_promised (may_any h (unveil ∷ [])) _ change e in
+    let unlocked = from_checked (fault_if (is_locked h) EPERM) _ change may.1 in
+    veiled t h path perms change may.0 (not_faulty _ EPERM unlocked.0) unlocked.1
+decisions_are_guarded table t h Lock change e =
+    let may = from_promised (may_any h (unveil ∷ [])) _ change e in (may.0, is_ok _ _ may.1)
+decisions_are_guarded table t h (Fork new) change e =
+    let may = from_promised (may_any h (proc ∷ [])) _ change e in (may.0, is_ok _ _ may.1)
+decisions_are_guarded table t h Exit change e = is_ok _ _ e

@@ -1,0 +1,105 @@
+-- What the guards of a change had: which checks a granted request passed.
+use Rattle.std.specs.Prelude.{◌≡◌, ℕ, false, ◌||◌, List, [], ◌∷◌, ◌⊎◌, Option, Some, None, Ok, IsOk, IsTrue, IsFalse, is_some}
+use Rattle.pua_tree.specs.Tree.{Tree, Spot, is_dir, is_living, look, target_fits}
+use Rattle.pua_tree.specs.Edits.{is_same_node, cut, shift}
+use Rattle.pua_path.specs.Paths.{path_fault}
+use Rattle.pua_path.specs.Resolution.{resolution_of_text}
+use Rattle.pua_path.specs.Fits.{spot_named, node_named}
+use Rattle.pua_policy.specs.Promises.{cpath, proc, unveil, creating}
+use Rattle.pua_policy.specs.Calls.{CallTable, rule_of}
+use Rattle.pua_policy.specs.History.{History, Pledged, Unveiled, Locked, Ended, working_dir, is_locked, pledge_fault, unveil_fault, may_any}
+use Rattle.pua_policy.specs.Verdict.{place_of, cover, cover_fault, object_named, object_fault, object_of}
+use Rattle.pua_script.specs.Decide.{link_node, is_whole, kinds_fault, inside_fault, unveil_errno, given_set, is_unknown, Change, NoChange, AddNode, CutRow, ShiftRow, TieRow, AddEvent, CopyAs, adding, change_by, shifting, tying, ways_fault, kept_named, decide}
+use Rattle.pua_path.specs.declared.text.Ending.{Ending}
+use Rattle.pua_path.specs.declared.text.Ending.TheVariants as ending
+use Rattle.pua_path.specs.declared.found.Last.TheVariants.{Followed}
+use Rattle.pua_path.specs.declared.found.Found.{Found}
+use Rattle.pua_policy.specs.declared.call.Call.{Call}
+use Rattle.pua_policy.specs.declared.call.Call.TheVariants as call
+use Rattle.pua_policy.specs.declared.answer.May.TheVariants as may
+use Rattle.pua_script.specs.declared.request.Given.{Given}
+use Rattle.pua_script.specs.declared.request.Action.{Action}
+use Rattle.pua_script.specs.declared.request.Action.TheVariants.{OnPath, Symlink, Rename, Link, Pledge, Unveil, Lock, Fork, Exit}
+
+-- a call on what its path named: its promises, its letters, and the kind that it is for
+pub record OnOne (table : CallTable) (t : Tree) (h : History) (call : Call) (path : List ℕ) (object : Found) : Type 0 where
+  pub promised : may_any h (rule_of table call).alternatives ≡ may.Yes
+  pub found : object_named t h call path ≡ Ok object
+  pub covered : cover_fault (cover t h object) (rule_of table call).perms ≡ None
+  pub fitting : object_fault t call (object_of t object) ≡ None
+
+-- two paths that were kept, and the node that the old one named
+pub record OnTwo (t : Tree) (h : History) (ending : Ending) (old_path new_path : List ℕ) (old new : Found) (x : ℕ) : Type 0 where
+  pub promised : may_any h (cpath ∷ []) ≡ may.Yes
+  pub found_old : kept_named t h ending old_path ≡ Ok old
+  pub found_new : kept_named t h ending new_path ≡ Ok new
+  pub covered_old : cover_fault (cover t h old) creating ≡ None
+  pub covered_new : cover_fault (cover t h new) creating ≡ None
+  pub named : node_named old ≡ Some x
+
+-- a row that moves is of another node than what stands at its new spot, not beneath itself, and of its kind
+pub record IsShift (t : Tree) (old new : Found) (x : ℕ) (change : Change) : Type 0 where
+  pub other : is_same_node x (node_named new) ≡ false
+  pub inside : inside_fault t x (spot_named new) ≡ None
+  pub kinds : kinds_fault t x old new ≡ None
+  pub is : change ≡ shifting (spot_named old) (spot_named new)
+
+pub record IsRename (t : Tree) (h : History) (old_path new_path : List ℕ) (change : Change) : Type 0 where
+  pub old : Found
+  pub new : Found
+  pub node : ℕ
+  pub two : OnTwo t h ending.Dropped old_path new_path old new node
+  pub ways : ways_fault old new ≡ None
+  pub moves : (change ≡ NoChange) ⊎ IsShift t old new node change
+
+pub record IsLink (t : Tree) (h : History) (old_path new_path : List ℕ) (change : Change) : Type 0 where
+  pub old : Found
+  pub new : Found
+  pub node : ℕ
+  pub two : OnTwo t h ending.Dot old_path new_path old new node
+  pub no_dir : is_whole old ≡ false
+  pub free : is_some (node_named new) ≡ false
+  pub is : change ≡ tying node (spot_named new)
+
+pub record IsVeil (t : Tree) (h : History) (path : List ℕ) (letters : Option ℕ) (change : Change) : Type 0 where
+  pub object : Found
+  pub perms : ℕ
+  pub promised : may_any h (unveil ∷ []) ≡ may.Yes
+  pub unlocked : is_locked h ≡ false
+  pub known : letters ≡ Some perms
+  pub found : resolution_of_text t (working_dir h) ending.Dot path Followed ≡ Ok object
+  pub room : unveil_errno (unveil_fault h (place_of object) perms) ≡ None
+  pub is : change ≡ AddEvent (Unveiled (place_of object) perms)
+
+pub record IsPledge (h : History) (promises execpromises : Given) (change : Change) : Type 0 where
+  pub known : is_unknown promises || is_unknown execpromises ≡ false
+  pub within : pledge_fault h (given_set promises) (given_set execpromises) ≡ None
+  pub is : change ≡ AddEvent (Pledged (given_set promises) (given_set execpromises))
+
+-- which checks a request passed that changes this
+abbrev pub IsDecided : CallTable → Tree → History → Action → Change → Type 0
+IsDecided table t h (OnPath call path) change = (object : Found) × OnOne table t h call path object × (change ≡ change_by call object)
+IsDecided table t h (Symlink target path) change = (object : Found) × OnOne table t h call.Symlink path object × (path_fault target ≡ None) × (change ≡ adding (link_node target) object)
+IsDecided table t h (Rename old new) change = IsRename t h old new change
+IsDecided table t h (Link old new) change = IsLink t h old new change
+IsDecided table t h (Pledge promises execpromises) change = IsPledge h promises execpromises change
+IsDecided table t h (Unveil path perms) change = IsVeil t h path perms change
+IsDecided table t h Lock change = (may_any h (unveil ∷ []) ≡ may.Yes) × (change ≡ AddEvent Locked)
+IsDecided table t h (Fork new) change = (may_any h (proc ∷ []) ≡ may.Yes) × (change ≡ CopyAs new)
+IsDecided table t h Exit change = change ≡ AddEvent Ended
+
+-- each decision had its guards
+abbrev pub DecisionsAreGuarded : Type 0
+DecisionsAreGuarded = (table : CallTable) (t : Tree) (h : History) (action : Action) (change : Change) → decide table t h action ≡ Ok change → IsDecided table t h action change
+
+-- a spot at which nothing stands
+abbrev pub IsFree : Tree → Spot → Type 0
+IsFree t spot = IsTrue (is_dir t spot.0) × (look t spot.0 spot.1 ≡ None)
+
+-- want of room is the only fault of the edits of a change: what it takes away may be taken, and what it adds may stand where it is to
+abbrev pub IsPossible : Tree → Change → Type 0
+IsPossible t (AddNode spot node) = IsFree t spot × IsTrue (target_fits node.kind node.target)
+IsPossible t (CutRow spot) = IsOk (cut t spot.0 spot.1)
+IsPossible t (ShiftRow old new) = IsOk (shift t old.0 old.1 new.0 new.1)
+IsPossible t (TieRow spot x) = IsFree t spot × IsTrue (is_living t x) × IsFalse (is_dir t x)
+IsPossible t _ = Unit {0}
