@@ -29,7 +29,7 @@ use Rattle.pua_objects.proofs.Among.{Among, among_map, among_filter, filter_amon
 use Rattle.pua_objects.proofs.Judged.{told}
 use Rattle.pua_objects.proofs.Listing.{has_item}
 
-one_of_calls : (call : Call) → Among calls call
+pub one_of_calls : (call : Call) → Among calls call
 one_of_calls Stat = inl refl
 one_of_calls Lstat = inr (inl refl)
 one_of_calls Readlink = inr (inr (inl refl))
@@ -45,18 +45,18 @@ one_of_calls Chmod = inr (inr (inr (inr (inr (inr (inr (inr (inr (inr (inr (inl 
 one_of_calls Chdir = inr (inr (inr (inr (inr (inr (inr (inr (inr (inr (inr (inr (inl refl))))))))))))
 one_of_calls Exec = inr (inr (inr (inr (inr (inr (inr (inr (inr (inr (inr (inr (inr (inl refl)))))))))))))
 
-some_of : {X : Type 0} (xs : List X) (x : X) → Among xs x → nat_lt 0 (length xs) ≡ true
+pub some_of : {X : Type 0} (xs : List X) (x : X) → Among xs x → nat_lt 0 (length xs) ≡ true
 some_of [] x a = absurd a
 some_of (y ∷ xs) x a = lt-ltb 0 (length (y ∷ xs)) (omega arith)
 
-failed : (m : May) (errno : Errno) → if_promised m (Failed errno) ≡ Allowed → ⊥
+pub failed : (m : May) (errno : Errno) → if_promised m (Failed errno) ≡ Allowed → ⊥
 failed may.Yes errno e = cc
 failed may.Enosys errno e = cc
 failed may.Death errno e = cc
 
 -- a text without fault names what its resolution does
-no_fault : (t : Tree) (from : ℕ) (ending : Ending) (text : List ℕ) (mode : Last) (object : Found) → resolution_of_text t from ending text mode ≡ Ok object → resolution t from ending text mode ≡ Ok object
-no_fault t from ending text mode object e = by (path_fault text) refl
+pub named_within_text : (t : Tree) (from : ℕ) (ending : Ending) (text : List ℕ) (mode : Last) (object : Found) → resolution_of_text t from ending text mode ≡ Ok object → resolution t from ending text mode ≡ Ok object
+named_within_text t from ending text mode object e = by (path_fault text) refl
   where
     by : (o : Option Errno) → path_fault text ≡ o → resolution t from ending text mode ≡ Ok object
     by None is = rw is at e
@@ -90,7 +90,7 @@ module _ (t : Tree) (fits : WellFormed t) (table : CallTable) (h : History) (cal
       by : (named : Result Found Errno) → resolution_of_text t from (ending_of call) text (last_of call) ≡ named → verdict_of t table h call named ≡ Allowed → IsListed t table h call named
       by (Err errno) is e = absurd (failed (may_any h (rule_of table call).alternatives) errno e)
       by (Ok object) is e =
-          let named = no_fault t from (ending_of call) text (last_of call) object is in
+          let named = named_within_text t from (ending_of call) text (last_of call) object is in
           listed (Ok object) object refl ((resolutions_fit t fits).whole from (ending_of call) text (last_of call) object named) e
 
 pub complete : Complete

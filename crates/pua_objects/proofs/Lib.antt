@@ -1,3 +1,4 @@
+pub mod ForCallers
 pub mod Among
 pub mod Judged
 pub mod Listing

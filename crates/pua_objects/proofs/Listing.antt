@@ -26,7 +26,7 @@ use Rattle.pua_objects.proofs.Among.{Among, among_left, among_right, among_map, 
 use Rattle.pua_objects.proofs.Judged.{named_by_row}
 
 -- what is found by its key is among the entries
-found_among : (k : Spot) (v : ℕ) (es : List (Spot × ℕ)) → find_key spot_cmp k es ≡ Some v → Among es (k, v)
+pub found_among : (k : Spot) (v : ℕ) (es : List (Spot × ℕ)) → find_key spot_cmp k es ≡ Some v → Among es (k, v)
 found_among k v [] e = cc
 found_among k v (y ∷ ys) e =
     elim (is_eq (spot_cmp k y.0)) as (λ b. is_eq (spot_cmp k y.0) ≡ b → (if b then Some y.1 else find_key spot_cmp k ys) ≡ Some v → Among (y ∷ ys) (k, v)) [
@@ -76,7 +76,7 @@ module _ (t : Tree) (sound : Sound t) (h : History) where
       (let P : Option ℕ → Type 0 = λ o. Among (items_at t (items_below depth t (veils h)) dir word name o) item in subst P (sym is) a)))
 
   -- the items of a directory are among those of the root, under some names
-  abbrev IsVisited : ℕ → ℕ → ℕ → Type 0
+  abbrev pub IsVisited : ℕ → ℕ → ℕ → Type 0
   IsVisited depth d left = (word : Word) × ((item : Item) → Among (items_below (suc left) t (veils h) d (own_way t d) word) item → Among (items_below depth t (veils h) 0 Top []) item)
 
   visited : (k d : ℕ) → Reaches t k d → is_dir t d ≡ true → (depth left : ℕ) → depth ≡ suc k + left → IsVisited depth d left
@@ -98,7 +98,7 @@ module _ (t : Tree) (sound : Sound t) (h : History) where
       )
 
   -- so each living directory is visited
-  found_dir : (d : ℕ) → is_dir t d ≡ true → (left : ℕ) × IsVisited (length t.nodes) d left
+  pub found_dir : (d : ℕ) → is_dir t d ≡ true → (left : ℕ) × IsVisited (length t.nodes) d left
   found_dir zero living = let few = climb_ends t sound 0 living 0 refl in (length t.nodes - 1, visited zero zero refl living (length t.nodes) (length t.nodes - 1) (omega (arith, few)))
   found_dir (suc d) living =
       let rooted = sound.rooted (suc d) living (λ e. omega (arith, e)) in
