@@ -64,20 +64,84 @@ the standard table: all promises of one of some lists, and letters of a veil.
 In names and paths a backslash, and each byte that is not visible ASCII, is
 written as a backslash and three octal digits: `a\\040b`.
 
-Example: pua objects TREE SCRIPT";
+Example: pua objects TREE SCRIPT
+`pua run --help` lists the calls of a SCRIPT, and what is behind each fault.";
 
-pub(crate) const RUN_OUTPUT: &str =
-    "Prints `N ANSWER` for each line N: ok, the name of an error, killed or gone.";
+/// What a command prints, and behind it what all commands share: the calls of a script, and what is
+/// behind each fault; and then the faults of this command alone.
+macro_rules! with_calls_and_faults {
+    ($output:literal, $faults:literal) => {
+        concat!(
+            $output,
+            "\n\n\
+A line of SCRIPT is a process P, a call and its arguments, one blank between:
+  P stat|lstat|readlink|open-r|open-w|open-rw|create PATH
+  P mkdir|rmdir|unlink|chmod|chdir|exec PATH
+  P symlink TARGET PATH
+  P rename|link OLD NEW
+  P pledge PROMISES EXECPROMISES  (with commas between; - is NULL, = is none)
+  P unveil PATH LETTERS           (of r, w, x and c, = is none; `- -` locks)
+  P fork Q                        (Q is the number of the new process)
+  P exit
 
-pub(crate) const OBJECTS_OUTPUT: &str = "\
+A fault is one line on standard error. It says, or most often comes from:
+  table: bad toml      FILE is no TOML document
+  table: bad key       a key is not the name of a call from stat to exec
+  table: .. bad row    not the two keys `promises`, an array, and `veil`, a text
+  table: .. bad promises, bad veil
+                       an unknown keyword or letter; no row may have `error`
+  listing: bad header  TREE and SCRIPT are exchanged
+  bad line             a tab, two blanks, a blank at the end, a comment or an
+                       empty line; in SCRIPT the process was left out
+  bad number           a line was put in, and its number does not rise
+  bad parent           a file has this number, or the directory comes later
+  bad name, bad target, bad path
+                       a slash in a name; a byte is not written as it has to be
+  bad node             a `hard` line for a directory, or for a `hard` line
+  name taken           the directory has this name: a line stands there twice
+  too many nodes       TREE has more than 4096, the root among them
+  bad call             `open` for `open-r`, blanks between promises, or the
+                       second argument of pledge or unveil was left out
+  bad list             a comma too many, or `-` for no letters, which is `=`
+  too many lines       SCRIPT has more than 60000
+  cannot read FILE     it is missing, is no file, or has over 67108864 bytes
+  cannot write         the disk is full, or the reader is gone, as of `| head`
+  out of memory        memory was refused",
+            $faults
+        )
+    };
+}
+
+pub(crate) const RUN_OUTPUT: &str = with_calls_and_faults!(
+    "Prints `N ANSWER` for each line N: ok, the name of an error, killed or gone.",
+    ""
+);
+
+pub(crate) const OBJECTS_OUTPUT: &str = with_calls_and_faults!(
+    "\
 Prints what `pua run` prints, then `objects P`, then `KIND PATH CALLS` for each
 object on which a call is allowed. KIND is dir, file, prog or link; missing, a
 name that is not there but has a veil of its own; or other, all further names
 of the directory PATH. The calls stand in one order, with commas between them.
 
-Example: pua objects --process 2 TREE SCRIPT";
+Example: pua objects --process 2 TREE SCRIPT",
+    "
+  no such process      no fork of SCRIPT made it: its answer says why"
+);
 
-pub(crate) const AUDIT_OUTPUT: &str = "\
+pub(crate) const AUDIT_OUTPUT: &str = with_calls_and_faults!(
+    "\
 Prints what `pua run` prints, then `reach P`, then `PATH CALL` for each pair.
 
-Example: pua audit --limit 3 --base cwd --after stat:etc TREE SCRIPT core";
+Example: pua audit --limit 3 --base cwd --after stat:etc TREE SCRIPT core",
+    "
+  no such process      no fork of SCRIPT made it: its answer says why
+  limit too large      `--limit` is above 16
+  paths too long       the limit times one more than the longest name is above
+                       1023: a lower limit helps, or a TREE without that name
+  too many names       more than 1024 were given
+  bad candidate N      a candidate is a NAME; the one at this place is a path,
+                       or not spelled
+  bad resume           the resume is what `--after` has: not in the form
+                       `stat:/etc`, or not of this limit, base and these names"
+);
