@@ -9,7 +9,7 @@ MANDIR = $(DESTDIR)$(PREFIX)/share/man/man1
 PROGRAM = crates/pua/out/pua
 
 # Each tool is installed as pua-NAME, for tools/NAME.pl.
-TOOLS = list trace
+TOOLS = list trace page
 
 all:
 	cd crates/pua && rt run -- --version

@@ -1,0 +1,218 @@
+#!/usr/bin/perl
+# Tests of page.pl: perl tools/page.t
+use strict;
+use warnings;
+use Cwd qw(abs_path);
+use File::Basename qw(dirname);
+use File::Temp qw(tempdir);
+use POSIX ();
+use Test::More;
+
+my $TOOLS = dirname(abs_path(__FILE__));
+my $PAGE  = "$TOOLS/page.pl";
+my $room  = tempdir(CLEANUP => 1);
+chdir $room or die "$room: $!";
+
+sub file {
+    my ($name, @lines) = @_;
+    open my $out, '>', $name or die "$name: $!";
+    print $out map { "$_\n" } @lines;
+    close $out or die "$name: $!";
+    return $name;
+}
+
+# The whole content of a file.
+sub content {
+    my ($name) = @_;
+    open my $in, '<:raw', $name or die "$name: $!";
+    local $/ = undef;
+    my $bytes = <$in>;
+    close $in;
+    return defined $bytes ? $bytes : '';
+}
+
+# Runs page.pl as for foreign text, with these words: its status, and what it wrote on both outputs.
+sub page {
+    my @words = @_;
+    my $child = fork;
+    die "fork: $!" unless defined $child;
+    if (!$child) {
+        open STDOUT, '>', "$room/out" or POSIX::_exit(99);
+        open STDERR, '>', "$room/err" or POSIX::_exit(99);
+        exec $^X, '-T', $PAGE, @words or POSIX::_exit(99);
+    }
+    waitpid $child, 0;
+    return ($? >> 8, content("$room/out"), content("$room/err"));
+}
+
+# The page of a listing and of what `pua objects` printed, which has to be written without a report.
+sub page_of {
+    my ($what, $listing, $objects) = @_;
+    my ($status, $out, $err) = page(file('tree', 'tree 2', '0 dir', @$listing), file('objects', @$objects));
+    is("$status $err", '0 ', "$what: the status");
+    return $out;
+}
+
+# The rows of a page below its headings, each as its depth, its first cell, and its other cells with
+# their titles; tags and entities are taken back.
+sub rows {
+    my ($page) = @_;
+    my ($depth, @rows) = (0);
+    for my $piece (split /^/, $page) {
+        if ($piece =~ m{<(summary|div) class="row(?: untouched)?"><span>(.*?)</span><span title}) {
+            my ($tag, $first) = ($1, $2);
+            my %cells = $piece =~ m{<span title="(\w+)">([^<]+)</span>}g;
+            $first =~ s/<[^>]*>//g;
+            $first =~ s/&#([0-9]+);/chr $1/ge;
+            push @rows, join ' | ', $depth, $first, map { "$_: $cells{$_}" } sort keys %cells;
+            $depth++ if $tag eq 'summary';
+        }
+        $depth-- if $piece =~ m{</details>};
+    }
+    return @rows;
+}
+
+my @site = ('1 dir 0 www', '2 dir 1 site', '3 file 2 index', '4 file 1 key', '5 dir 0 etc', '6 file 5 passwd');
+
+# A list as it was before it had lines on the state.
+{
+    my $page = page_of('a site', \@site, ['1 ok', '2 ok', '3 ENOENT', 'objects 1',
+        'dir /www stat,lstat,open-r,chdir', 'other /www create,mkdir,symlink',
+        'file /www/key open-w,open-rw,create,unlink,chmod', 'prog /www/made exec', 'missing /www/not create']);
+    is_deeply([rows($page)], [
+        '0 | /',
+        '1 | etc/ names in it, none to be touched: 1',
+        '2 | passwd file',
+        '1 | www/ | read: stat lstat open-r chdir',
+        '2 | any other name | made: create mkdir symlink',
+        '2 | key file | read: open-rw | removed: unlink | written: open-w open-rw create chmod',
+        '2 | made prog not listed | executed: exec',
+        '2 | not missing | made: create',
+        '2 | site/ names in it, none to be touched: 1',
+        '3 | index file',
+    ], 'each name has its calls in their columns, and the root stands above');
+    my @folds = map { /<details( open)?><summary class="[a-z ]*"><span>([^ <]*)/ ? ($2 . ($1 || '')) : () } split /^/, $page;
+    is_deeply(\@folds, ['/ open', 'etc/', 'www/ open', 'site/'], 'what has nothing to be touched is folded');
+    like($page, qr{<p>Answers to the script: 2 ok, <code>3 ENOENT</code>\.</p>}, 'the answers are summed up');
+    like($page, qr{<li><code>no lines on the state of the process</code> </li>}, 'it says that the state is not known');
+}
+
+# The lines of the state, and several lists.
+{
+    my $page = page_of('a state', \@site, ['1 ok', 'objects 1', 'process alive', 'promises stdio,rpath',
+        'execpromises -', 'unveil open', 'veil /www/site r', 'veil /none =', 'veil - rwc',
+        'dir /www/site stat', 'objects 2', 'process ended', 'objects 3', 'process alive', 'promises =',
+        'execpromises =', 'unveil locked']);
+    my @state = map { m{<li><code( class="alarm")?>([^<]*)</code> ([^<]*)</li>} ? ($1 ? '! ' : '') . "$2: $3" : () }
+        split /^/, $page;
+    is_deeply(\@state, ['process alive: ', 'promises stdio,rpath: ', 'execpromises -: ',
+        '! unveil open: further veils can be put: the list holds for now alone', 'veil /www/site r: ',
+        'veil /none =: ', 'veil - rwc: on a directory that was removed', '! process ended: it can touch nothing',
+        'process alive: ', 'promises =: ', 'execpromises =: ', 'unveil locked: no further veil can be put',
+    ], 'the state of each process stands above its tree');
+    is_deeply([$page =~ m{<h2>(.*)</h2>}g], [map { "What process $_ can touch" } 1 .. 3], 'each list has a heading');
+    my @rows = rows($page);
+    is_deeply([@rows[0 .. 4]], ['0 | /', '1 | etc/ names in it, none to be touched: 1', '2 | passwd file',
+        '1 | none  not listed veil =', '1 | www/'], 'a veil is shown where it stands, also where nothing is listed');
+    is($rows[6], '2 | site/ veil r names in it, none to be touched: 1 | read: stat', 'and on a directory that is listed');
+    is(scalar(grep { $_ eq '0 | / names in it, none to be touched: 6' } @rows), 2, 'each list has a tree of its own');
+}
+
+# What later outputs have: reasons, lists for ever, words that are not known here.
+{
+    my $page = page_of('for ever', \@site, ['1 ok', '2 EACCES veil /etc lacks w since line 1', 'ever 1', 'process alive',
+        'limits none', 'file /www/key open-r,swap rpath /www r 1', 'dir new mkdir', 'other new create', 'file new open-w']);
+    my @rows = rows($page);
+    is_deeply([grep { /new|key/ } @rows], ['0 | new dir | made: mkdir', '0 | new other | made: create',
+        '0 | new file | written: open-w', '2 | key file by rpath /www r 1 | else: swap | read: open-r'],
+        'what can be made, reasons and further calls are shown');
+    like($page, qr{<h2>What process 1 can ever touch</h2>}, 'the heading says for ever');
+    like($page, qr{<li><code>limits none</code> </li>}, 'a line of the state that is not known stands as it is');
+}
+
+# Links, further names, what a script changed, and the order of names.
+{
+    my $page = page_of('kinds', ['1 link 0 b /etc', '2 file 0 a', '3 hard 0 c 2', '4 prog 0 \134', '5 prog 0 \040',
+        '6 link 0 gone /etc', '7 link 0 B x', '8 hard 0 d 7'],
+        ['objects 1', 'link /b lstat', 'file /gone stat', 'link /d lstat']);
+    is_deeply([rows($page)], ['0 | /', '1 | \040 prog', '1 | B link -> x', '1 | \134 prog', '1 | a file',
+        '1 | b link -> /etc | read: lstat', '1 | c file (a further name of node 2)',
+        '1 | d link (a further name of node 7) | read: lstat', '1 | gone file | read: stat'],
+        'links have their targets, further names their nodes, and names stand in the order of their bytes');
+}
+
+# Hostile names stay text: whatever a listing or a list has, the page has the tags of page.pl alone.
+{
+    my @hostile = ('<script>alert(1)<\057script>', '"><img', "'onclick='alert(1)", '&amp;', '<!--', '-->', ']]>',
+        '<\057details>', '&#60;b&#62;', '<style>', 'javascript:alert(1)');
+    my $page = page_of('hostile names', [(map { ($_ + 1) . " file 0 $hostile[$_]" } 0 .. $#hostile), '90 link 0 l </b>"\'&'],
+        ['1 <b>', 'objects 1', 'promises <b>', 'veil /<b> <i>', 'limits "<b>',
+            (map { "file /$_ stat,<b>,\"' <b> </b> \"" } @hostile), 'other /<u> </b>', 'file new </b>']);
+    my @shown = map { /\A1 \| (\S+) file by / ? $1 : () } rows($page);
+    is_deeply([sort @shown], [sort @hostile], 'each is read as it is spelled');
+    (my $rest = $page) =~ s{<style>.*?</style>}{}s;
+    my $fixed = join '|', '!DOCTYPE html', 'html lang="en"', 'meta charset="utf-8"',
+        q{meta http-equiv="Content-Security-Policy" content="default-src 'none'; style-src 'unsafe-inline'"},
+        'meta name="viewport" content="width=device-width"', '(?:div|summary) class="row(?: head| untouched)?"',
+        'span title="(?:read|written|executed|made|removed|else)"', 'details(?: open)?', 'b class="veil"',
+        'code(?: class="alarm")?', '/?(?:head|title|body|html|p|h2|ul|li|div|span|small|i|b|code|details|summary)';
+    $rest =~ s/<(?:$fixed)>//g;
+    unlike($rest, qr/[<>"']/, 'the tags are those of page.pl, and no name has a part in one');
+    unlike($rest =~ s/&#[0-9]+;//gr, qr/&/, 'and no name is an entity');
+    is(() = $page =~ /<details/g, () = $page =~ m{</details>}g, 'each fold has an end');
+}
+
+# Faults: nothing is written, and one line says why.
+{
+    my ($tree, $list) = (file('good-tree', 'tree 1', '0 dir', '1 file 0 a'), file('good-list', '1 ok', 'objects 1'));
+    my @faults = (
+        ['a listing that is missing', 'none', $list, "none: No such file or directory"],
+        ['a folder', $tree, '.', '.: it cannot be read'],
+        ['exchanged operands', $list, $tree, "$tree: line 1: no line of a list of objects"],
+        ['a script in place of a listing', file('script', '1 stat /'), $list, 'script: it is no listing'],
+        ['no line', file('empty'), $list, 'empty: it is no listing'],
+        ['a tab', file('tab', 'tree 1', '0 dir', "1 file\t0 a"), $list, 'tab: line 3: bad line'],
+        ['two blanks', $tree, file('blanks', 'objects 1', 'file  /a stat'), 'blanks: line 2: bad line'],
+        ['a slash in a name', file('slash', 'tree 1', '0 dir', '1 file 0 a/b'), $list, 'slash: line 3: bad line'],
+        ['a target too many', file('more', 'tree 1', '0 dir', '1 file 0 a b'), $list, 'more: line 3: bad line'],
+        ['a target that lacks', file('less', 'tree 1', '0 dir', '1 link 0 a'), $list, 'less: line 3: bad line'],
+        ['a number that was there', file('twice', 'tree 1', '0 dir', '0 dir 0 a'), $list, 'twice: line 3: bad number'],
+        ['a name in a file', file('in', 'tree 1', '0 dir', '1 file 0 a', '2 file 1 b'), $list, 'in: line 4: bad parent'],
+        ['a second name of a directory', file('loop', 'tree 2', '0 dir', '1 dir 0 a', '2 hard 1 b 1'), $list,
+            'loop: line 4: bad node'],
+        ['answers alone', $tree, file('run', '1 ok'), 'run: it has no list of objects'],
+        ['an audit', $tree, file('audit', '1 ok', 'reach 1', '/a stat'), 'audit: line 2: no line of a list of objects'],
+        ['a kind that is none', $tree, file('kind', 'objects 1', '<i> / x'), 'kind: line 2: no line of a list of objects'],
+        ['a fault of pua', $tree, file('fault', 'pua: listing: bad header'), 'fault: line 1: no line of a list of objects'],
+    );
+    for my $fault (@faults) {
+        my ($what, $listing, $objects, $says) = @$fault;
+        is_deeply([page($listing, $objects)], [1, '', "page.pl: $says\n"], $what);
+    }
+    for my $words ([], [$tree, $list, $list]) {
+        is_deeply([page(@$words)], [2, '', "usage: page.pl TREE [OBJECTS]\n"], 'words that are no use of it: ' . @$words);
+    }
+    is(system("$^X -T $PAGE $tree < $list > piped && $^X -T $PAGE $tree $list | cmp -s - piped"), 0,
+        'standard input is read');
+    SKIP: {
+        skip 'there is no /dev/full here', 1 unless -c '/dev/full';
+        isnt(system("$^X -T $PAGE $tree $list > /dev/full 2> err"), 0, 'an output that is full');
+    }
+}
+
+# A chain of directories as deep as a listing allows.
+{
+    my @chain = map { ($_ + 1) . " dir $_ d" } 0 .. 4094;
+    my $page = page_of('a deep chain', \@chain, ['objects 1', 'dir ' . '/d' x 4095 . ' stat']);
+    is((rows($page))[-1], '4095 | d/ | read: stat', 'its last name is shown');
+}
+
+# Each story that pua is tested with: each line about an object is a row with something in it.
+for my $output (glob "$TOOLS/../crates/pua_examples/data/*/objects-output") {
+    my $story = dirname($output);
+    my ($status, $page, $err) = page("$story/listing", $output);
+    my $objects = grep { m{\A(?!veil )\S+ /} } split /^/, content($output);
+    my $rows = () = $page =~ /class="row">/g;
+    is("$status $err$rows", "0 $objects", 'each object has a row: ' . ($story =~ m{([^/]*)\z})[0]);
+}
+done_testing;
