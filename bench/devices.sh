@@ -48,6 +48,10 @@ expect 'as long as may be' 1 'pua: listing: bad header'
 run run "$(printf '\377')" script
 expect 'a word that is no text' 2 \
     'pua: usage: pua run [--table FILE] TREE SCRIPT; pua audit --limit N [--process P] [--base root|cwd] [--after CALL:PATH] [--table FILE] TREE SCRIPT [NAME...]'
+run audit --limit 1 --after '' tree script
+expect 'an empty word' 1 'pua: audit: bad resume'
+run run '' script
+expect 'a file without a name' 3 'pua: cannot read '
 "$program" audit --limit 1 tree script > /dev/full 2> told
 status=$?
 expect 'a full device' 3 'pua: cannot write'
