@@ -1,0 +1,53 @@
+-- The cover of what stands in a row, by what it is.
+use Rattle.std.proofs.Common.{◌≡◌, ◌≢◌, ◌⊎◌, ◌<◌, ◌≤◌, ℕ, true, false, cond, refl, ap, ◌∙◌, inl, inr, ltb-true}
+use Rattle.std.specs.Prelude.{Option, Some, None, is_some, nat_lt, option_map}
+use Rattle.std.proofs.lemmas.Bool.{false≢true, ltb-false}
+use Rattle.pua_tree.specs.Tree.{Tree, Node, WellFormed, Spot, is_dir, is_dir_kind, is_living, look, node_at}
+use Rattle.pua_tree.proofs.ForCallers.{sound_from, row_of}
+use Rattle.pua_path.specs.declared.found.Found.TheVariants.{Whole, Slot}
+use Rattle.pua_path.specs.declared.found.Way.TheVariants.{Named}
+use Rattle.pua_policy.specs.History.{History, kept}
+use Rattle.pua_policy.specs.Verdict.{cover}
+use Rattle.pua_policy.specs.declared.place.Place.TheVariants as place
+use Rattle.pua_policy.specs.declared.answer.Cover.TheVariants.{Only}
+use Rattle.pua_objects.specs.Objects.{cover_in}
+use Rattle.pua_objects.specs.Laws.{own_or}
+use Rattle.pua_objects.proofs.ForCallers.{covers_descend}
+use Rattle.pua_ever.specs.Ever.{row_cover}
+
+-- the cover of what stands in a row, by what it is
+module _ (t : Tree) (h : History) (well : WellFormed t) where
+  pub dir_row : (s : Spot) (d : ℕ) → is_dir t d ≡ true → row_cover t h s d ≡ cover_in t h d
+  dir_row s d is = ap (λ b. cover t h (cond b (Whole d (Named s.0 s.1)) (Slot s.0 s.1 (Some d)))) is ∙ (covers_descend t h well).directory d (Named s.0 s.1) is
+
+  pub slot_row : (s : Spot) (x : ℕ) → is_dir t x ≡ false → row_cover t h s x ≡ own_or (kept h (place.Slot s.0 s.1)) (cover_in t h s.0)
+  slot_row s x is = ap (λ b. cover t h (cond b (Whole x (Named s.0 s.1)) (Slot s.0 s.1 (Some x)))) is ∙ (covers_descend t h well).at_name s.0 s.1 (Some x)
+
+  pub own_dir : (d : ℕ) (perms : ℕ) → is_dir t d ≡ true → d ≢ 0 → kept h (place.Dir d) ≡ Some perms → cover_in t h d ≡ Only perms
+  own_dir d perms is n e =
+      let row = row_of t (sound_from t well) d is n in
+      (covers_descend t h well).below row.0.0 row.0.1 d row.1 is ∙ ap (λ o. own_or o (cover_in t h row.0.0)) e
+
+  pub under_dir : (s : Spot) (d : ℕ) → is_dir t d ≡ true → look t s.0 s.1 ≡ Some d → kept h (place.Dir d) ≡ None → cover_in t h d ≡ cover_in t h s.0
+  under_dir s d is e none = (covers_descend t h well).below s.0 s.1 d e is ∙ ap (λ o. own_or o (cover_in t h s.0)) none
+
+  pub living_dir : (d : ℕ) → is_dir t d ≡ true → is_living t d ≡ true
+  living_dir d is = elim (node_at t d) as (λ o. is_dir_kind (option_map (λ n. n.kind) o) ≡ true → is_some o ≡ true) [ None ↦ λ e. absurd (false≢true e) | Some n ↦ λ e. refl ] is
+
+  pub below_next : (x : ℕ) → is_living t x ≡ true → x < t.next
+  below_next x = by (node_at t x) refl
+    where
+      by : (o : Option Node) → node_at t x ≡ o → is_some o ≡ true → x < t.next
+      by None e l = absurd (false≢true l)
+      by (Some n) e l = ((sound_from t well).node x n e).0
+
+pub same_dir : (t u : Tree) (x : ℕ) → node_at u x ≡ node_at t x → is_dir u x ≡ is_dir t x
+same_dir t u x e = ap (λ o. is_dir_kind (option_map (λ n. n.kind) o)) e
+
+-- a number was given, or is new
+pub given_or_new : (t : Tree) (d : ℕ) → (d < t.next) ⊎ (t.next ≤ d)
+given_or_new t d =
+    elim (nat_lt d t.next) as (λ b. nat_lt d t.next ≡ b → (d < t.next) ⊎ (t.next ≤ d)) [
+      | true ↦ λ e. inl (ltb-true d t.next e)
+      | false ↦ λ e. inr (ltb-false d t.next e)
+    ] refl

@@ -1,0 +1,179 @@
+-- What a request makes of the rows and nodes of a tree.
+use Rattle.std.proofs.Common.{◌≡◌, ◌≤◌, ◌⊎◌, ℕ, Bool, true, false, not, cond, refl, sym, ap, subst, ◌∙◌, inl, inr, arith}
+use Rattle.std.specs.Prelude.{Option, Some, None, is_some, ◌||◌, nat_le, length}
+use Rattle.std.proofs.lemmas.Bool.{false≢true}
+use Rattle.pua_tree.specs.Tree.{Tree, Node, WellFormed, Spot, is_dir, look, is_empty, empty_tree}
+use Rattle.pua_tree.specs.declared.node.Kind.TheVariants as kind
+use Rattle.pua_tree.proofs.ForCallers.{same_Some}
+use Rattle.pua_path.specs.Fits.{spot_named, node_named}
+use Rattle.pua_path.specs.declared.errno.Errno.TheVariants.{EISDIR, ENOTEMPTY, EAGAIN}
+use Rattle.pua_path.specs.declared.text.Ending.TheVariants.{Dot, Dropped}
+use Rattle.pua_path.specs.declared.found.Last.TheVariants.{Kept}
+use Rattle.pua_path.specs.declared.found.Found.{Found}
+use Rattle.pua_path.specs.declared.found.Found.TheVariants.{Whole, Slot}
+use Rattle.pua_path.specs.declared.found.Way.TheVariants as way
+use Rattle.pua_policy.specs.Promises.{holds, creating}
+use Rattle.pua_policy.specs.Calls.{CallTable, rule_of}
+use Rattle.pua_policy.specs.History.{History, may_any, working_dir}
+use Rattle.pua_policy.specs.Verdict.{IsMissing, cover, cover_fault, covered_verdict, or_fault, object_fault, allowed_unless, if_promised, is_allowed}
+use Rattle.pua_policy.specs.declared.call.Call.{Call}
+use Rattle.pua_policy.specs.declared.call.Call.TheVariants as call
+use Rattle.pua_policy.specs.declared.answer.May.TheVariants as may
+use Rattle.pua_script.specs.Requests.{Asked}
+use Rattle.pua_script.specs.Judged.{NameFits}
+use Rattle.pua_script.specs.Limits.{process_limit}
+use Rattle.pua_script.specs.Replay.{World, Fails, Copies, made, history_of, apply}
+use Rattle.pua_script.specs.Worlds.{tree_left}
+use Rattle.pua_script.specs.declared.request.Action.{Action}
+use Rattle.pua_script.specs.declared.request.Action.TheVariants.{OnPath, Symlink, Rename, Link, Pledge, Unveil, Lock, Fork, Exit}
+use Rattle.pua_script.specs.Confinement.{has_c, TakingNeedsC}
+use Rattle.pua_script.specs.Decide.{Change, NoChange, AddNode, CutRow, ShiftRow, TieRow, CopyAs, adding, shifting, change_by, fault_if, is_whole, plain_node, link_node, kinds_fault}
+use Rattle.pua_script.specs.Guards.{IsDecided, IsShift}
+use Rattle.pua_script.proofs.ForCallers.{name_fits, c_from_cover, has_spot, by_tree, by_own_tree, by_cutting, by_going, by_tying, first_none, second_none, not_faulty, not_false}
+use Rattle.pua_objects.proofs.ForCallers.{covers_descend}
+use Rattle.pua_ever.specs.Ever.{New, NewDir, NewFile, NewLink, maker}
+use Rattle.pua_ever.specs.Laws.{EditsNeedC}
+use Rattle.pua_ever.proofs.Grown.{Grown, Written, by_name, by_turn, From, is_moved, new_kind, name_cover, grown_all, grown_add, grown_tie, grown_cut, grown_shift}
+
+pub takes : (table : CallTable) → EditsNeedC table → TakingNeedsC table
+takes table needs = record { rmdir = needs.rmdir; unlink = needs.unlink }
+
+module _ (table : CallTable) (needs : EditsNeedC table) (t : Tree) (h : History) (well : WellFormed t) where
+  abbrev IsMade : New → Spot → Type 0
+  IsMade new s = (is_allowed (covered_verdict empty_tree table h (maker new) (name_cover table t h s) IsMissing) ≡ true) × (has_c (name_cover table t h s) ≡ true)
+
+  -- what is asked of a change, so that what it leaves has grown so
+  abbrev Grows : Change → Type 0
+  Grows (AddNode s node) = (new : New) × (node.kind ≡ new_kind new) × IsMade new s
+  Grows (ShiftRow s r) = (x : ℕ) × (look t s.0 s.1 ≡ Some x) × (is_dir t r.0 ≡ true) × Written table t h r x × From table t h x
+  Grows (TieRow s x) = (is_dir t s.0 ≡ true) × Written table t h s x × From table t h x
+  Grows _ = Unit {0}
+
+  by_added : (new : New) (node : Node) → node.kind ≡ new_kind new → object_fault empty_tree (maker new) IsMissing ≡ None → holds (rule_of table (maker new)).perms creating ≡ true
+      → (x : Found) → may_any h (rule_of table (maker new)).alternatives ≡ may.Yes → cover_fault (cover t h x) (rule_of table (maker new)).perms ≡ None → Grows (adding node x)
+  by_added new node is fine has (Slot dir name None) granted covered = (
+    new,
+    is,
+    (
+      λ i. is_allowed (if_promised (granted i) (allowed_unless (or_fault (covered i) (fine i)))),
+      c_from_cover (cover t h (Slot dir name None)) (rule_of table (maker new)).perms has covered,
+    ),
+  )
+  by_added new node is fine has (Slot dir name (Some y)) granted covered = tt
+  by_added new node is fine has (Whole dir (way.Named parent name)) granted covered = tt
+  by_added new node is fine has (Whole dir way.Dot) granted covered = tt
+  by_added new node is fine has (Whole dir way.DotDot) granted covered = tt
+  by_added new node is fine has (Whole dir way.Top) granted covered = tt
+
+  by_call : (c : Call) (x : Found) → may_any h (rule_of table c).alternatives ≡ may.Yes → cover_fault (cover t h x) (rule_of table c).perms ≡ None → Grows (change_by c x)
+  by_call call.Create x granted covered = by_added NewFile (plain_node kind.File) refl refl needs.create x granted covered
+  by_call call.Mkdir x granted covered = by_added NewDir (plain_node kind.Dir) refl refl needs.mkdir x granted covered
+  by_call call.Rmdir x granted covered = by_cutting Grows tt (spot_named x) (node_named x) (λ s is. tt)
+  by_call call.Unlink x granted covered = by_cutting Grows tt (spot_named x) (node_named x) (λ s is. tt)
+  by_call call.Chdir x granted covered = by_going Grows tt x (λ dir. tt)
+  by_call _ x granted covered = tt
+
+  -- what stands at the spot by whose name something was found
+  standing : (a : Found) → NameFits t a → (s : Spot) → spot_named a ≡ Some s → (is_dir t s.0 ≡ true) × (look t s.0 s.1 ≡ node_named a)
+  standing (Whole dir (way.Named parent name)) fits s e =
+      let is : (parent, name) ≡ s = same_Some (parent, name) s e in
+      (ap (λ (r : Spot). is_dir t r.0) (sym is) ∙ fits.named.0, ap (λ (r : Spot). look t r.0 r.1) (sym is) ∙ fits.named.1)
+  standing (Whole dir way.Dot) fits s e = cc
+  standing (Whole dir way.DotDot) fits s e = cc
+  standing (Whole dir way.Top) fits s e = cc
+  standing (Slot dir name o) fits s e =
+      let is : (dir, name) ≡ s = same_Some (dir, name) s e in
+      (ap (λ (r : Spot). is_dir t r.0) (sym is) ∙ fits.named.0, ap (λ (r : Spot). look t r.0 r.1) (sym is) ∙ fits.named.1)
+
+  -- the row of what is moved or gets a further name is covered with `c`
+  comes : (a : Found) (x : ℕ) → NameFits t a → cover_fault (cover t h a) creating ≡ None → node_named a ≡ Some x → (s : Spot) → spot_named a ≡ Some s → From table t h x
+  comes a x fits covered is s e =
+      let here = (standing a fits s e).1 ∙ is in
+      is_moved s here (has_spot t h well table (takes table needs) a fits creating refl covered s e x here)
+
+  whole_dir : (a : Found) (x : ℕ) → NameFits t a → node_named a ≡ Some x → is_whole a ≡ true → is_dir t x ≡ true
+  whole_dir (Whole dir w) x fits is e = ap (is_dir t) (sym (same_Some dir x is)) ∙ fits.fits
+  whole_dir (Slot dir name o) x fits is e = absurd (false≢true e)
+
+  -- where it goes
+  goes : (a b : Found) (x : ℕ) → NameFits t a → NameFits t b → has_c (cover t h b) ≡ true → node_named a ≡ Some x → kinds_fault t x a b ≡ None
+      → (s : Spot) → spot_named b ≡ Some s → Written table t h s x
+  goes a (Slot dir name o) x fa fb has is kinds s e = subst (λ r. Written table t h r x) (same_Some (dir, name) s e) (by_name has)
+  goes a (Whole y (way.Named parent name)) x fa fb has is kinds s e =
+      let whole = not_false (is_whole a) (not_faulty (not (is_whole a)) EISDIR (first_none (fault_if (not (is_whole a)) EISDIR) _ kinds)) in
+      let empty = not_false (is_empty t y) (not_faulty (not (is_empty t y)) ENOTEMPTY (second_none _ (fault_if (not (is_empty t y)) ENOTEMPTY) kinds)) in
+      subst (λ r. Written table t h r x) (same_Some (parent, name) s e)
+      (by_turn y fb.named.1 empty (ap has_c (sym ((covers_descend t h well).directory y (way.Named parent name) fb.fits)) ∙ has) (whole_dir a x fa is whole))
+  goes a (Whole y way.Dot) x fa fb has is kinds s e = cc
+  goes a (Whole y way.DotDot) x fa fb has is kinds s e = cc
+  goes a (Whole y way.Top) x fa fb has is kinds s e = cc
+
+  named_c : (a : Found) → cover_fault (cover t h a) creating ≡ None → has_c (cover t h a) ≡ true
+  named_c a covered = c_from_cover (cover t h a) creating refl covered
+
+  by_shifted : (a b : Found) (x : ℕ) → NameFits t a → NameFits t b → cover_fault (cover t h a) creating ≡ None → cover_fault (cover t h b) creating ≡ None → node_named a ≡ Some x → kinds_fault t x a b ≡ None
+      → (oa ob : Option Spot) → spot_named a ≡ oa → spot_named b ≡ ob → Grows (shifting oa ob)
+  by_shifted a b x fa fb ca cb is kinds (Some sa) (Some sb) ea eb =
+      (x, (standing a fa sa ea).1 ∙ is, (standing b fb sb eb).0, goes a b x fa fb (named_c b cb) is kinds sb eb, comes a x fa ca is sa ea)
+  by_shifted a b x fa fb ca cb is kinds (Some sa) None ea eb = tt
+  by_shifted a b x fa fb ca cb is kinds None ob ea eb = tt
+
+  by_moved : (a b : Found) (x : ℕ) (c : Change) → NameFits t a → NameFits t b → cover_fault (cover t h a) creating ≡ None → cover_fault (cover t h b) creating ≡ None → node_named a ≡ Some x
+      → (c ≡ NoChange) ⊎ IsShift t a b x c → Grows c
+  by_moved a b x c fa fb ca cb is (inl same) = subst Grows (sym same) tt
+  by_moved a b x c fa fb ca cb is (inr shifts) = subst Grows (sym shifts.is) (by_shifted a b x fa fb ca cb is shifts.kinds (spot_named a) (spot_named b) refl refl)
+
+  free_name : (b : Found) → is_some (node_named b) ≡ false → (s : Spot) → spot_named b ≡ Some s → has_c (cover t h b) ≡ true → has_c (name_cover table t h s) ≡ true
+  free_name (Slot dir name o) free s e has = ap (λ (r : Spot). has_c (name_cover table t h r)) (sym (same_Some (dir, name) s e)) ∙ has
+  free_name (Whole y w) free s e has = cc
+
+  came : (a : Found) (x : ℕ) → NameFits t a → cover_fault (cover t h a) creating ≡ None → node_named a ≡ Some x → is_whole a ≡ false → From table t h x
+  came (Slot dir name o) x fits covered is other = comes (Slot dir name o) x fits covered is (dir, name) refl
+  came (Whole dir w) x fits covered is other = cc
+
+  grows_by : (action : Action) (c : Change) → IsDecided table t h action c → Grows c
+  grows_by (OnPath asked path) c d = subst Grows (sym d.2) (by_call asked d.0 d.1.promised d.1.covered)
+  grows_by (Symlink target path) c d = subst Grows (sym d.3) (by_added NewLink (link_node target) refl refl needs.symlink d.0 d.1.promised d.1.covered)
+  grows_by (Rename old new) c d =
+      by_moved d.old d.new d.node c (name_fits t well (working_dir h) Dropped old Kept d.old d.two.found_old)
+      (name_fits t well (working_dir h) Dropped new Kept d.new d.two.found_new) d.two.covered_old d.two.covered_new d.two.named d.moves
+  grows_by (Link old new) c d =
+      let fits_old = name_fits t well (working_dir h) Dot old Kept d.old d.two.found_old in
+      let fits_new = name_fits t well (working_dir h) Dot new Kept d.new d.two.found_new in
+      subst Grows (sym d.is)
+      (by_tying Grows tt d.node (spot_named d.new)
+      (λ s is. (
+        (standing d.new fits_new s is).0,
+        by_name (free_name d.new d.free s is (named_c d.new d.two.covered_new)),
+        came d.old d.node fits_old d.two.covered_old d.two.named d.no_dir,
+      )))
+  grows_by (Pledge p x) c d = subst Grows (sym d.is) tt
+  grows_by (Unveil path perms) c d = subst Grows (sym d.is) tt
+  grows_by Lock c d = subst Grows (sym d.1) tt
+  grows_by (Fork new) c d = subst Grows (sym d.1) tt
+  grows_by Exit c d = subst Grows (sym d) tt
+
+grown_made : (table : CallTable) (needs : EditsNeedC table) (w : World) (h : History) (well : WellFormed w.tree) (c : Change) → Grows table needs w.tree h well c → Grown table w.tree h (tree_left w.tree (made w h c))
+grown_made table needs w h well (AddNode s node) grows = grown_add table w.tree h grows.0 s.0 s.1 node grows.1 grows.2.0 grows.2.1
+grown_made table needs w h well (CutRow s) grows = grown_cut table w.tree h s.0 s.1
+grown_made table needs w h well (ShiftRow s r) grows = grown_shift table w.tree h s.0 r.0 s.1 r.1 grows.0 grows.1 grows.2 grows.3 grows.4
+grown_made table needs w h well (TieRow s x) grows = grown_tie table w.tree h s.0 s.1 x grows.0 grows.1 grows.2
+grown_made table needs w h well (CopyAs new) grows = by (is_some (history_of w new) || nat_le process_limit (length w.histories))
+  where
+    by : (full : Bool) → Grown table w.tree h (tree_left w.tree (cond full (Fails EAGAIN) (Copies new)))
+    by true = grown_all table w.tree h
+    by false = grown_all table w.tree h
+grown_made table needs w h well _ grows = grown_all table w.tree h
+
+-- each row and each node that a request leaves was there, or came where the one that asks has `c`
+pub requests_grow : (table : CallTable) → EditsNeedC table → (w : World) (ask : Asked) (h : History) →
+    WellFormed w.tree → history_of w ask.process ≡ Some h → Grown table w.tree h (apply table w ask).1.tree
+requests_grow table needs w ask h well here =
+    by_own_tree table w ask h here (Grown table w.tree h) (grown_all table w.tree h)
+    (λ c guards. grown_made table needs w h well c (grows_by table needs w.tree h well ask.action c guards))
+
+-- and no number is taken back
+pub numbers_grow : (table : CallTable) → EditsNeedC table → (w : World) (ask : Asked) → WellFormed w.tree → w.tree.next ≤ (apply table w ask).1.tree.next
+numbers_grow table needs w ask well =
+    by_tree table w ask (λ u. w.tree.next ≤ u.next) (omega arith)
+    (λ h here c guards. (grown_made table needs w h well c (grows_by table needs w.tree h well ask.action c guards)).next)

@@ -1,0 +1,210 @@
+-- What one request makes of the rows and nodes of a tree, by the covers that the tree had.
+use Rattle.std.proofs.Common.{◌≡◌, ◌≢◌, ◌⊎◌, ◌≤◌, ℕ, List, Bool, true, false, not, ◌&&◌, cond, refl, sym, ap, subst, ◌∙◌, inl, inr, arith}
+use Rattle.std.specs.Prelude.{Option, Some, None, Ok, Err, is_some, ◌==◌, option_map}
+use Rattle.std.specs.Ordering.{nat_cmp}
+use Rattle.std.specs.Cmp.{nat_cmp_total}
+use Rattle.std.specs.FinMap.{nat_cmp-IsAntisymmetric}
+use Rattle.std.proofs.lemmas.Bool.{false≢true}
+use Rattle.pua_tree.specs.Tree.{Tree, Node, Spot, spot_cmp, is_dir, is_living, look, node_at, kind_at, rows_of, is_empty, empty_tree}
+use Rattle.pua_tree.specs.Edits.{with_row, without_row, without_node, without_unnamed, with_new, add, tie, cut, cut_found, shift, shift_found, moved, is_full_dir, is_full_dir_there, is_inside, is_same_node, has_room, has_name_room}
+use Rattle.pua_tree.specs.declared.node.Kind.{Kind}
+use Rattle.pua_tree.specs.declared.node.Kind.TheVariants as kind
+use Rattle.pua_tree.specs.declared.fault.TreeFault.TheVariants.{Missing, Taken, NotDir, NotEmpty, Inside, Full, IsDir}
+use Rattle.pua_tree.proofs.ForCallers.{spots_total, exact_spots, same_or_other, put_here, put_elsewhere, without_here, without_elsewhere, Some≢None, same_Some}
+use Rattle.pua_path.specs.declared.found.Found.TheVariants.{Slot}
+use Rattle.pua_policy.specs.Calls.{CallTable}
+use Rattle.pua_policy.specs.History.{History}
+use Rattle.pua_policy.specs.Verdict.{IsMissing, cover, covered_verdict, is_allowed}
+use Rattle.pua_policy.specs.declared.answer.Cover.{Cover}
+use Rattle.pua_script.specs.Replay.{edited, edited_tree}
+use Rattle.pua_script.specs.Worlds.{tree_left}
+use Rattle.pua_script.specs.Confinement.{has_c}
+use Rattle.pua_objects.specs.Objects.{cover_in}
+use Rattle.pua_ever.specs.Ever.{row_cover, New, NewDir, NewOthers, NewFile, NewLink, maker}
+
+-- what is made, as a node
+abbrev pub new_kind : New → Kind
+new_kind NewDir = kind.Dir
+new_kind NewOthers = kind.Dir
+new_kind NewFile = kind.File
+new_kind NewLink = kind.Link
+
+module _ (table : CallTable) (t : Tree) (h : History) where
+  -- what covers a name at which nothing stands
+  abbrev pub name_cover : Spot → Cover
+  name_cover s = cover t h (Slot s.0 s.1 None)
+
+  -- it could be made at some name
+  pub record Makes (made : New) : Type 0 where
+    pub spot : Spot
+    pub lives : is_dir t spot.0 ≡ true
+    pub free : look t spot.0 spot.1 ≡ None
+    pub allowed : is_allowed (covered_verdict empty_tree table h (maker made) (name_cover spot) IsMissing) ≡ true
+    pub covered : has_c (name_cover spot) ≡ true
+
+  -- a row was written where the name, or the empty directory that stood there, is covered with `c`
+  pub data Written (s : Spot) (x : ℕ) : Type 0 where
+    by_name : has_c (name_cover s) ≡ true → Written s x
+    by_turn : (y : ℕ) → look t s.0 s.1 ≡ Some y → is_empty t y ≡ true → has_c (cover_in t h y) ≡ true → is_dir t x ≡ true → Written s x
+
+  -- its node is new, or has a row that is covered with `c`
+  pub data From (x : ℕ) : Type 0 where
+    is_new : x ≡ t.next → From x
+    is_moved : (r : Spot) → look t r.0 r.1 ≡ Some x → has_c (row_cover t h r x) ≡ true → From x
+
+  pub record Put (s : Spot) (x : ℕ) : Type 0 where
+    pub lives : is_dir t s.0 ≡ true
+    pub written : Written s x
+    pub from : From x
+
+  pub record Born (u : Tree) (x : ℕ) : Type 0 where
+    pub new : x ≡ t.next
+    pub made : New
+    pub kinds : kind_at u x ≡ Some (new_kind made)
+    pub makes : Makes made
+
+  -- each row and each node of the later tree is one of the earlier, or came so
+  pub record Grown (u : Tree) : Type 0 where
+    pub rows : (s : Spot) (x : ℕ) → look u s.0 s.1 ≡ Some x → (look t s.0 s.1 ≡ Some x) ⊎ Put s x
+    pub nodes : (x : ℕ) → is_living u x ≡ true → (node_at u x ≡ node_at t x) ⊎ Born u x
+    pub next : t.next ≤ u.next
+
+  pub grown_all : Grown t
+  grown_all = record { rows = λ s x e. inl e; nodes = λ x l. inl refl; next = omega arith }
+
+  same_look : (v : Tree) (s : Spot) (y : ℕ) → look (without_unnamed v y) s.0 s.1 ≡ look v s.0 s.1
+  same_look v s y = elim (rows_of v y == 0) as (λ b. look (cond b (without_node v y) v) s.0 s.1 ≡ look v s.0 s.1) [ true ↦ refl | false ↦ refl ]
+
+  -- a node that lives still is as it was
+  lives_same : (v : Tree) (x y : ℕ) → is_living (without_unnamed v y) x ≡ true → node_at (without_unnamed v y) x ≡ node_at v x
+  lives_same v x y = by (rows_of v y == 0)
+    where
+      by : (b : Bool) → is_living (cond b (without_node v y) v) x ≡ true → node_at (cond b (without_node v y) v) x ≡ node_at v x
+      by false lives = refl
+      by true lives = elim (same_or_other nat_cmp nat_cmp_total nat_cmp-IsAntisymmetric x y) [
+        | inl same ↦ absurd (false≢true (sym (ap is_some (ap (node_at (without_node v y)) same.0 ∙ without_here nat_cmp nat_cmp_total nat_cmp-IsAntisymmetric y v.nodes)) ∙ lives))
+        | inr other ↦ without_elsewhere nat_cmp nat_cmp_total nat_cmp-IsAntisymmetric x y v.nodes other.0
+      ]
+
+  same_next : (v : Tree) (y : ℕ) → (without_unnamed v y).next ≡ v.next
+  same_next v y = elim (rows_of v y == 0) as (λ b. (cond b (without_node v y) v).next ≡ v.next) [ true ↦ refl | false ↦ refl ]
+
+  at_or_not : (s spot : Spot) → (s ≡ spot) ⊎ (s ≢ spot)
+  at_or_not s spot = elim (same_or_other spot_cmp spots_total exact_spots s spot) [ inl same ↦ inl same.0 | inr other ↦ inr other.0 ]
+
+  pub grown_add : (made : New) (dir : ℕ) (name : List ℕ) (node : Node) → node.kind ≡ new_kind made
+      → is_allowed (covered_verdict empty_tree table h (maker made) (name_cover (dir, name)) IsMissing) ≡ true → has_c (name_cover (dir, name)) ≡ true
+      → Grown (tree_left t (edited h (add t dir name node)))
+  grown_add made dir name node is allowed has = by (is_dir t dir) (look t dir name) (has_room t) refl refl
+    where
+      grown : is_dir t dir ≡ true → look t dir name ≡ None → Grown (with_new t dir name node)
+      grown lives free = record {
+        rows = λ s x e. elim (at_or_not s (dir, name)) [
+          | inl same ↦ inr (record {
+            lives = ap (λ (r : Spot). is_dir t r.0) same ∙ lives;
+            written = by_name (ap (λ (r : Spot). has_c (name_cover r)) same ∙ has);
+            from = is_new (same_Some x t.next (sym e ∙ ap (λ (r : Spot). look (with_new t dir name node) r.0 r.1) same ∙ put_here spot_cmp spots_total exact_spots (dir, name) t.next t.rows));
+          })
+          | inr other ↦ inl (sym (put_elsewhere spot_cmp spots_total exact_spots s (dir, name) t.next t.rows other) ∙ e)
+        ];
+        nodes = λ x l. elim (same_or_other nat_cmp nat_cmp_total nat_cmp-IsAntisymmetric x t.next) [
+          | inl same ↦ inr (record {
+            new = same.0;
+            made = made;
+            kinds = ap (kind_at (with_new t dir name node)) same.0 ∙ ap (option_map (λ n. n.kind)) (put_here nat_cmp nat_cmp_total nat_cmp-IsAntisymmetric t.next node t.nodes) ∙ ap Some is;
+            makes = record { spot = (dir, name); lives = lives; free = free; allowed = allowed; covered = has };
+          })
+          | inr other ↦ inl (put_elsewhere nat_cmp nat_cmp_total nat_cmp-IsAntisymmetric x t.next node t.nodes other.0)
+        ];
+        next = omega arith;
+      }
+
+      by : (a : Bool) (o : Option ℕ) (room : Bool) → is_dir t dir ≡ a → look t dir name ≡ o →
+          Grown (tree_left t (edited h (cond (not a) (Err NotDir) (cond (is_some o) (Err Taken) (cond room (Ok (t.next, with_new t dir name node)) (Err Full))))))
+      by false o room l e = grown_all
+      by true (Some y) room l e = grown_all
+      by true None false l e = grown_all
+      by true None true l e = grown l e
+
+  pub grown_tie : (dir : ℕ) (name : List ℕ) (x : ℕ) → is_dir t dir ≡ true → Written (dir, name) x → From x → Grown (tree_left t (edited_tree h (tie t dir name x)))
+  grown_tie dir name y lives written from = by (is_dir t dir) (is_living t y) (is_dir t y) (look t dir name) (has_name_room t)
+    where
+      grown : Grown (with_row t dir name y)
+      grown = record {
+        rows = λ s x e. elim (at_or_not s (dir, name)) [
+          | inl same ↦ (let is : y ≡ x = same_Some y x (sym (put_here spot_cmp spots_total exact_spots (dir, name) y t.rows) ∙ ap (λ (r : Spot). look (with_row t dir name y) r.0 r.1) (sym same) ∙ e) in
+              inr (subst (λ (r : Spot). Put r x) (sym same) (subst (Put (dir, name)) is (record { lives = lives; written = written; from = from }))))
+          | inr other ↦ inl (sym (put_elsewhere spot_cmp spots_total exact_spots s (dir, name) y t.rows other) ∙ e)
+        ];
+        nodes = λ x l. inl refl;
+        next = omega arith;
+      }
+
+      by : (a b c : Bool) (o : Option ℕ) (room : Bool) →
+          Grown (tree_left t (edited_tree h (cond (not a) (Err NotDir) (cond (not b) (Err Missing) (cond c (Err IsDir) (cond (is_some o) (Err Taken) (cond room (Ok (with_row t dir name y)) (Err Full))))))))
+      by false b c o room = grown_all
+      by true false c o room = grown_all
+      by true true true o room = grown_all
+      by true true false (Some z) room = grown_all
+      by true true false None false = grown_all
+      by true true false None true = grown
+
+  -- a row that is there without another was there with it
+  was_there : (spot s : Spot) (x : ℕ) → look (without_row t spot.0 spot.1) s.0 s.1 ≡ Some x → look t s.0 s.1 ≡ Some x
+  was_there spot s x e = elim (at_or_not s spot) [
+    | inl same ↦ absurd (Some≢None x (sym e ∙ ap (λ (r : Spot). look (without_row t spot.0 spot.1) r.0 r.1) same ∙ without_here spot_cmp spots_total exact_spots spot t.rows))
+    | inr other ↦ sym (without_elsewhere spot_cmp spots_total exact_spots s spot t.rows other) ∙ e
+  ]
+
+  pub grown_cut : (dir : ℕ) (name : List ℕ) → Grown (tree_left t (edited h (cut t dir name)))
+  grown_cut dir name = by (is_dir t dir) (look t dir name)
+    where
+      gone : (y : ℕ) → Grown (without_unnamed (without_row t dir name) y)
+      gone y = record {
+        rows = λ s x e. inl (was_there (dir, name) s x (sym (same_look (without_row t dir name) s y) ∙ e));
+        nodes = λ x l. inl (lives_same (without_row t dir name) x y l);
+        next = let same = same_next (without_row t dir name) y in omega arith;
+      }
+
+      found : (y : ℕ) (full : Bool) → Grown (tree_left t (edited h (cond full (Err NotEmpty) (Ok (y, without_unnamed (without_row t dir name) y)))))
+      found y true = grown_all
+      found y false = gone y
+
+      by : (a : Bool) (o : Option ℕ) → Grown (tree_left t (edited h (cond (not a) (Err NotDir) (cut_found t dir name o))))
+      by false o = grown_all
+      by true None = grown_all
+      by true (Some y) = found y (is_full_dir t y)
+
+  pub grown_shift : (from to : ℕ) (name new_name : List ℕ) (x : ℕ) → look t from name ≡ Some x → is_dir t to ≡ true → Written (to, new_name) x → From x
+      → Grown (tree_left t (edited_tree h (shift t from name to new_name)))
+  grown_shift from to name new_name x here lives written comes = by (is_dir t from && is_dir t to) (look t from name) here
+    where
+      turned : Tree
+      turned = with_row (without_row t from name) to new_name x
+
+      rows_turned : (s : Spot) (z : ℕ) → look turned s.0 s.1 ≡ Some z → (look t s.0 s.1 ≡ Some z) ⊎ Put s z
+      rows_turned s z e = elim (at_or_not s (to, new_name)) [
+        | inl same ↦ (let is : x ≡ z = same_Some x z (sym (put_here spot_cmp spots_total exact_spots (to, new_name) x (without_row t from name).rows) ∙ ap (λ (r : Spot). look turned r.0 r.1) (sym same) ∙ e) in
+            inr (subst (λ (r : Spot). Put r z) (sym same) (subst (Put (to, new_name)) is (record { lives = lives; written = written; from = comes }))))
+        | inr other ↦ inl (was_there (from, name) s z (sym (put_elsewhere spot_cmp spots_total exact_spots s (to, new_name) x (without_row t from name).rows other) ∙ e))
+      ]
+
+      shifts : (there : Option ℕ) → Grown (moved t from name to new_name x there)
+      shifts None = record { rows = rows_turned; nodes = λ z l. inl refl; next = omega arith }
+      shifts (Some y) = record {
+        rows = λ s z e. rows_turned s z (sym (same_look turned s y) ∙ e);
+        nodes = λ z l. inl (lives_same turned z y l);
+        next = let same = same_next turned y in omega arith;
+      }
+
+      found : (a b c : Bool) (there : Option ℕ) → Grown (tree_left t (edited_tree h (cond a (Ok t) (cond b (Err Inside) (cond c (Err NotEmpty) (Ok (moved t from name to new_name x there)))))))
+      found true b c there = grown_all
+      found false true c there = grown_all
+      found false false true there = grown_all
+      found false false false there = shifts there
+
+      by : (a : Bool) (o : Option ℕ) → o ≡ Some x → Grown (tree_left t (edited_tree h (cond (not a) (Err NotDir) (shift_found t from name to new_name o (look t to new_name)))))
+      by false o e = grown_all
+      by true None e = grown_all
+      by true (Some z) e = subst (λ y. Grown (tree_left t (edited_tree h (shift_found t from name to new_name (Some y) (look t to new_name))))) (sym (same_Some z x e))
+          (found (is_same_node x (look t to new_name)) (is_inside t x to) (is_full_dir_there t (look t to new_name)) (look t to new_name))

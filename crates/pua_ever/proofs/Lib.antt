@@ -1,0 +1,15 @@
+pub mod Covers
+pub mod Grown
+pub mod Growing
+pub mod Ways
+pub mod Quiet
+pub mod Origins
+pub mod Stepping
+pub mod Along
+pub mod Unedited
+pub mod KindFaults
+pub mod Ending
+pub mod Complete
+pub mod NoExec
+pub mod Standing
+pub mod Standard

@@ -1,0 +1,175 @@
+-- One request keeps what is known of each row.
+use Rattle.std.proofs.Common.{◌≡◌, ◌≢◌, ◌⊎◌, ◌≤◌, ◌<◌, ℕ, true, false, refl, sym, ap, subst, ◌∙◌, inl, inr, arith}
+use Rattle.std.specs.Prelude.{Option, Some, None, ◌==◌, is_some, option_map}
+use Rattle.std.proofs.lemmas.Bool.{false≢true, and_parts, eqb-true}
+use Rattle.pua_tree.specs.Tree.{Tree, WellFormed, Spot, is_dir, is_living, look, node_at, is_empty, has_no_row, empty_tree}
+use Rattle.pua_tree.proofs.ForCallers.{sound_from, row_says}
+use Rattle.pua_policy.specs.Calls.{CallTable}
+use Rattle.pua_policy.specs.History.{History, kept}
+use Rattle.pua_policy.specs.Verdict.{IsMissing, covered_verdict, is_allowed}
+use Rattle.pua_policy.specs.declared.place.Place.TheVariants as place
+use Rattle.pua_script.specs.Confinement.{has_c, UncoveredStay}
+use Rattle.pua_script.proofs.ForCallers.{spared_twice}
+use Rattle.pua_objects.specs.Objects.{cover_in}
+use Rattle.pua_objects.specs.Laws.{own_or}
+use Rattle.pua_objects.proofs.ForCallers.{covers_descend}
+use Rattle.pua_ever.specs.Ever.{row_cover, has_c_outside, some_dir_has_c, New, maker, can_make}
+use Rattle.pua_ever.specs.Laws.{VeilsStand}
+use Rattle.pua_ever.proofs.Grown.{Grown, Written, by_name, by_turn, From, is_new, is_moved, Makes, name_cover}
+use Rattle.pua_ever.proofs.Ways.{any_among, some_dir_by, some_dir_among}
+use Rattle.pua_ever.proofs.Covers.{dir_row, living_dir, below_next, same_dir}
+use Rattle.pua_ever.proofs.Quiet.{quiet_then, never_turned}
+use Rattle.pua_ever.proofs.Origins.{Fixed, Origin, since, Entrance, by_veil, turned, still, Came, Known, Stays, DirUnder, at_rest, come, dir_under, name_under, could_empty, free_then}
+
+module _ (table : CallTable) (t0 : Tree) (h : History) (well0 : WellFormed t0) (stand : VeilsStand t0 h) where
+  abbrev Came0 : Tree → Spot → ℕ → Type 0
+  Came0 = Came table t0 h well0 stand
+
+  abbrev Stays0 : Tree → Type 0
+  Stays0 = Stays table t0 h well0 stand
+
+  abbrev Origin0 : ℕ → Type 0
+  Origin0 = Origin table t0 h well0 stand
+
+  abbrev Entrance0 : Spot → ℕ → Type 0
+  Entrance0 = Entrance table t0 h well0 stand
+
+  abbrev Under0 : Tree → ℕ → Type 0
+  Under0 = DirUnder table t0 h well0 stand
+
+  module _ (t u : Tree) (k : Stays0 t) (well : WellFormed u) (grown : Grown table t h u) (spared : UncoveredStay h t u) where
+    -- a node of t that lives still is what it was
+    same_node : (x : ℕ) → is_living t x ≡ true → is_living u x ≡ true → node_at u x ≡ node_at t x
+    same_node x was is = elim (grown.nodes x is) [
+      | inl same ↦ same
+      | inr born ↦ (let below = below_next t h k.well x was in let new = born.new in absurd (omega arith))
+    ]
+
+    lives : (s : Spot) (x : ℕ) → look u s.0 s.1 ≡ Some x → is_living u x ≡ true
+    lives s x e = (row_says u (sound_from u well) s x e).2
+
+    -- a row that was there with `c`, by the tree before, came with its origin
+    came_from : (r : Spot) (x : ℕ) → look t r.0 r.1 ≡ Some x → has_c (row_cover t h r x) ≡ true → Origin0 x
+    came_from r x e has = elim (k.rows r x e) [
+      | inl fixed ↦ absurd (false≢true (sym (ap has_c (k.uncovered r x fixed.0 fixed.1).covered ∙ fixed.1) ∙ has))
+      | inr came ↦ came.origin
+    ]
+
+    origin_of : (x : ℕ) → From table t h x → Origin0 x
+    origin_of x (is_new new) = since (let from = k.next in omega arith)
+    origin_of x (is_moved r e has) = came_from r x e has
+
+    -- a directory that has `c` now had it at the beginning, or is not of the beginning
+    had_c : (d : ℕ) → is_dir t0 d ≡ true → Under0 t d → has_c (cover_in t h d) ≡ true → has_c (cover_in t0 h d) ≡ true
+    had_c d dir (at_rest is same) has = ap has_c (sym same) ∙ has
+    had_c d dir (come a n had) has = had dir
+
+    -- something that has `c` now is carried, if it isn't of the beginning
+    carried : (d : ℕ) → Under0 t d → has_c (cover_in t h d) ≡ true → some_dir_has_c t0 h ≡ true
+    carried d (at_rest dir same) has = some_dir_by t0 h d dir (ap has_c (sym same) ∙ has)
+    carried d (come a n had) has = some_dir_among t0 h (cover_in t h d) a has
+
+    -- what stood in a directory without `c` and had `c` gave way
+    gave_way : (s : Spot) (y x : ℕ) → look t s.0 s.1 ≡ Some y → is_dir t y ≡ true → is_empty t y ≡ true → has_c (cover_in t h y) ≡ true → is_dir t x ≡ true → From table t h x
+        → is_dir t0 s.0 ≡ true → has_c (cover_in t0 h s.0) ≡ false → Entrance0 s x
+    gave_way s y x e dir empty has is from over lacks = elim (k.rows s y e) [
+      | inl fixed ↦ absurd (false≢true (sym (ap has_c (sym (dir_row t h k.well s y dir) ∙ (k.uncovered s y fixed.0 fixed.1).covered) ∙ fixed.1) ∙ has))
+      | inr came ↦ elim (x == y) as (λ b. (x == y) ≡ b → Entrance0 s x) [
+        | true ↦ λ same. subst (Entrance0 s) (sym (eqb-true x y same)) (came.dir dir over lacks)
+        | false ↦ λ differs. by differs (came.dir dir over lacks)
+      ] refl
+    ]
+      where
+        other : y ≢ 0
+        other = (row_says t (sound_from t k.well) s y e).3
+
+        more : (x == y) ≡ false → has_c_outside t0 h y ≡ true
+        more differs = elim (has_c_outside t0 h y) as (λ b. has_c_outside t0 h y ≡ b → has_c_outside t0 h y ≡ true) [
+          | true ↦ λ some. some
+          | false ↦ λ none. absurd (never_turned table h t u k.well well grown spared y other (k.quiet y other none) x is from differs empty)
+        ] refl
+
+        by : (x == y) ≡ false → Entrance0 s y → Entrance0 s x
+        by differs (by_veil perms e c) = by_veil perms e c
+        by differs (turned z at is c can some) = turned z at is c can some
+        by differs (still at is c) = turned y at is c (could_empty table t0 h well0 stand t k y empty) (more differs)
+
+    named_c : (s : Spot) → has_c (name_cover table t h s) ≡ true → has_c (own_or (kept h (place.Slot s.0 s.1)) (cover_in t h s.0)) ≡ true
+    named_c s has = ap has_c (sym ((covers_descend t h k.well).at_name s.0 s.1 None)) ∙ has
+
+    put_file : (s : Spot) (x : ℕ) → look u s.0 s.1 ≡ Some x → is_dir t s.0 ≡ true → Written table t h s x → is_dir u x ≡ false → is_dir t0 s.0 ≡ true
+        → has_c (own_or (kept h (place.Slot s.0 s.1)) (cover_in t0 h s.0)) ≡ true
+    put_file s x e over (by_name has) other dir = by (kept h (place.Slot s.0 s.1)) (named_c s has)
+      where
+        by : (o : Option ℕ) → has_c (own_or o (cover_in t h s.0)) ≡ true → has_c (own_or o (cover_in t0 h s.0)) ≡ true
+        by (Some perms) has = has
+        by None has = had_c s.0 dir (dir_under table t0 h well0 stand t k s.0 over) has
+    put_file s x e over (by_turn y at empty has is) other dir =
+        absurd (false≢true (sym other ∙ same_dir t u x (same_node x (living_dir t h k.well x is) (lives s x e)) ∙ is))
+
+    put_dir : (s : Spot) (x : ℕ) → is_dir t s.0 ≡ true → From table t h x → Written table t h s x → is_dir t0 s.0 ≡ true → has_c (cover_in t0 h s.0) ≡ false → Entrance0 s x
+    put_dir s x over from (by_name has) dir lacks = by (kept h (place.Slot s.0 s.1)) refl (named_c s has)
+      where
+        by : (o : Option ℕ) → kept h (place.Slot s.0 s.1) ≡ o → has_c (own_or o (cover_in t h s.0)) ≡ true → Entrance0 s x
+        by (Some perms) e has = by_veil perms e has
+        by None e has = absurd (false≢true (sym lacks ∙ had_c s.0 dir (dir_under table t0 h well0 stand t k s.0 over) has))
+    put_dir s x over from (by_turn y at empty has is) dir lacks = gave_way s y x at (and_parts (is_dir t y) (has_no_row t y) empty).0 empty has is from dir lacks
+
+    put_inner : (s : Spot) (x : ℕ) → is_dir t s.0 ≡ true → Written table t h s x → t0.next ≤ s.0 → some_dir_has_c t0 h ≡ true
+    put_inner s x over (by_name has) from = by (kept h (place.Slot s.0 s.1)) refl (named_c s has)
+      where
+        by : (o : Option ℕ) → kept h (place.Slot s.0 s.1) ≡ o → has_c (own_or o (cover_in t h s.0)) ≡ true → some_dir_has_c t0 h ≡ true
+        by (Some perms) e has = let below : s.0 < t0.next = stand (place.Slot s.0 s.1) perms e in absurd (omega arith)
+        by None e has = carried s.0 (dir_under table t0 h well0 stand t k s.0 over) has
+    put_inner s x over (by_turn y at empty has is) from =
+        carried y (dir_under table t0 h well0 stand t k y (and_parts (is_dir t y) (has_no_row t y) empty).0) has
+
+    rows_then : (s : Spot) (x : ℕ) → look u s.0 s.1 ≡ Some x → Fixed table t0 h well0 stand s x ⊎ Came0 u s x
+    rows_then s x e = elim (grown.rows s x e) [
+      | inl there ↦ elim (k.rows s x there) [
+        | inl fixed ↦ inl fixed
+        | inr came ↦ (let same = same_dir t u x (same_node x (row_says t (sound_from t k.well) s x there).2 (lives s x e)) in
+            inr (record {
+              origin = came.origin;
+              file = λ other dir. came.file (sym same ∙ other) dir;
+              dir = λ is dir lacks. came.dir (sym same ∙ is) dir lacks;
+              inner = came.inner;
+            }))
+      ]
+      | inr put ↦ inr (record {
+        origin = origin_of x put.from;
+        file = λ other dir. put_file s x e put.lives put.written other dir;
+        dir = λ is dir lacks. put_dir s x put.lives put.from put.written dir lacks;
+        inner = λ from. put_inner s x put.lives put.written from;
+      })
+    ]
+
+    can : (made : New) → Makes table t h made → can_make t0 table h made ≡ true
+    can made makes =
+        any_among (λ left. is_allowed (covered_verdict empty_tree table h (maker made) left IsMissing)) _ _
+        (name_under table t0 h well0 stand t k makes.spot makes.lives (free_then table t0 h well0 stand t k makes.spot makes.free) (named_c makes.spot makes.covered))
+        (ap (λ left. is_allowed (covered_verdict empty_tree table h (maker made) left IsMissing)) (sym ((covers_descend t h k.well).at_name makes.spot.0 makes.spot.1 None)) ∙ makes.allowed)
+
+    young_then : (x : ℕ) → t0.next ≤ x → is_living u x ≡ true → Known table t0 h well0 stand u x
+    young_then x from is = elim (grown.nodes x is) [
+      | inl same ↦ (let was = k.young x from (sym (ap is_some same) ∙ is) in
+          record { made = was.made; kinds = ap (option_map (λ n. n.kind)) same ∙ was.kinds; can = was.can })
+      | inr born ↦ record { made = born.made; kinds = born.kinds; can = can born.made born.makes }
+    ]
+
+    old_then : (x : ℕ) → x < t0.next → is_living u x ≡ true → node_at u x ≡ node_at t0 x
+    old_then x below is = elim (grown.nodes x is) [
+      | inl same ↦ same ∙ k.old x below (sym (ap is_some same) ∙ is)
+      | inr born ↦ (let new = born.new in let from = k.next in absurd (omega arith))
+    ]
+
+    pub stays_then : Stays0 u
+    stays_then = record {
+      well = well;
+      uncovered = spared_twice h t0 t u k.uncovered spared;
+      rows = rows_then;
+      old = old_then;
+      young = young_then;
+      next = let more = grown.next in let from = k.next in omega arith;
+      quiet = λ y n none. quiet_then table h t u k.well well grown spared y n (k.quiet y n none);
+    }

@@ -1,0 +1,106 @@
+-- Who holds what none of the edits needs leaves the tree.
+use Rattle.std.proofs.Common.{◌≡◌, ℕ, List, [], ◌∷◌, Bool, true, false, cond, refl, sym, ap, subst, ◌∙◌, ◌||◌, lit<, inl, inr}
+use Rattle.std.specs.List.{list_any, AllByRecursion}
+use Rattle.std.specs.Prelude.{Some, is_some, nat_le, length, not}
+use Rattle.std.proofs.lemmas.Bool.{false≢true, and_parts, or_left, or_right}
+use Rattle.pua_path.specs.declared.errno.Errno.TheVariants.{EAGAIN}
+use Rattle.pua_path.specs.declared.found.Found.{Found}
+use Rattle.pua_policy.specs.Promises.{cpath}
+use Rattle.pua_policy.specs.History.{History, may_any}
+use Rattle.pua_policy.specs.Calls.{CallTable, rule_of}
+use Rattle.pua_policy.specs.Tables.{NamesNoError, NoCallNeedsError}
+use Rattle.pua_policy.specs.declared.call.Call.{Call}
+use Rattle.pua_policy.specs.declared.call.Call.TheVariants as call
+use Rattle.pua_policy.specs.declared.answer.May.{May}
+use Rattle.pua_policy.specs.declared.answer.May.TheVariants.{Yes, Enosys, Death}
+use Rattle.pua_script.specs.Limits.{process_limit}
+use Rattle.pua_script.specs.Requests.{Asked}
+use Rattle.pua_script.specs.Worlds.{tree_left}
+use Rattle.pua_script.specs.Family.{is_member, is_exec, is_done, none_done, members_alone, family_then}
+use Rattle.pua_script.specs.Replay.{World, Fails, Copies, made, history_of, apply, world_after}
+use Rattle.pua_script.specs.Decide.{Change, CopyAs, change_by}
+use Rattle.pua_script.specs.Guards.{IsDecided}
+use Rattle.pua_script.specs.declared.request.Action.{Action}
+use Rattle.pua_script.specs.declared.request.Action.TheVariants.{OnPath, Symlink, Rename, Link, Pledge, Unveil, Lock, Fork, Exit}
+use Rattle.pua_script.proofs.ForCallers.{by_own_tree, by_going}
+use Rattle.pua_script.proofs.ForCallers.{IsWithin, may_yes}
+use Rattle.pua_script.proofs.ForCallers.{Members, members_then, not_true}
+use Rattle.pua_objects.proofs.ForCallers.{Among}
+use Rattle.pua_ever.specs.Ever.{is_yes, may_edit, edit_calls}
+use Rattle.pua_ever.proofs.Ways.{any_among, any_found}
+
+module _ (table : CallTable) (w : World) (h : History) (lacks : may_edit table h ≡ false) where
+  -- a change that leaves the tree
+  abbrev Keeps : Change → Type 0
+  Keeps c = tree_left w.tree (made w h c) ≡ w.tree
+
+  -- no edit is promised
+  unpromised : (edit : Call) → Among edit_calls edit → may_any h (rule_of table edit).alternatives ≡ Yes → ⊥
+  unpromised edit a e =
+      false≢true (sym lacks ∙ or_right (is_yes (may_any h (cpath ∷ []))) _
+      (any_among (λ edit. is_yes (may_any h (rule_of table edit).alternatives)) edit_calls edit a (ap is_yes e)))
+
+  no_cpath : may_any h (cpath ∷ []) ≡ Yes → ⊥
+  no_cpath e = false≢true (sym lacks ∙ or_left (is_yes (may_any h (cpath ∷ []))) _ (ap is_yes e))
+
+  keeps_call : (c : Call) (x : Found) → may_any h (rule_of table c).alternatives ≡ Yes → Keeps (change_by c x)
+  keeps_call call.Create x is = absurd (unpromised call.Create (inl refl) is)
+  keeps_call call.Mkdir x is = absurd (unpromised call.Mkdir (inr (inl refl)) is)
+  keeps_call call.Rmdir x is = absurd (unpromised call.Rmdir (inr (inr (inl refl))) is)
+  keeps_call call.Unlink x is = absurd (unpromised call.Unlink (inr (inr (inr (inl refl)))) is)
+  keeps_call call.Chdir x is = by_going Keeps refl x (λ dir. refl)
+  keeps_call call.Exec x is = refl
+  keeps_call _ x is = refl
+
+  keeps_copy : (new : ℕ) → Keeps (CopyAs new)
+  keeps_copy new = by (is_some (history_of w new) || nat_le process_limit (length w.histories))
+    where
+      by : (full : Bool) → tree_left w.tree (cond full (Fails EAGAIN) (Copies new)) ≡ w.tree
+      by true = refl
+      by false = refl
+
+  keeps_by : (action : Action) (c : Change) → IsDecided table w.tree h action c → Keeps c
+  keeps_by (OnPath asked path) c d = subst Keeps (sym d.2) (keeps_call asked d.0 d.1.promised)
+  keeps_by (Symlink target path) c d = absurd (unpromised call.Symlink (inr (inr (inr (inr (inl refl))))) d.1.promised)
+  keeps_by (Rename old new) c d = absurd (no_cpath d.two.promised)
+  keeps_by (Link old new) c d = absurd (no_cpath d.two.promised)
+  keeps_by (Pledge p x) c d = subst Keeps (sym d.is) refl
+  keeps_by (Unveil path perms) c d = subst Keeps (sym d.is) refl
+  keeps_by Lock c d = subst Keeps (sym d.1) refl
+  keeps_by (Fork new) c d = subst Keeps (sym d.1) (keeps_copy new)
+  keeps_by Exit c d = subst Keeps (sym d) refl
+
+pub unedited : (table : CallTable) (w : World) (ask : Asked) (h : History) → history_of w ask.process ≡ Some h → may_edit table h ≡ false → (apply table w ask).1.tree ≡ w.tree
+unedited table w ask h here lacks = by_own_tree table w ask h here (λ u. u ≡ w.tree) refl (λ c guards. keeps_by table w h lacks ask.action c guards)
+
+-- who edits nothing by what it holds edits nothing by what is left of it
+module _ (table : CallTable) (sound : NoCallNeedsError table) (now : History) where
+  yes_before : (h : History) → IsWithin now h → (sets : List ℕ) → AllByRecursion NamesNoError sets → is_yes (may_any h sets) ≡ true → is_yes (may_any now sets) ≡ true
+  yes_before h within sets fine e = by (may_any h sets) refl e
+    where
+      by : (m : May) → may_any h sets ≡ m → is_yes m ≡ true → is_yes (may_any now sets) ≡ true
+      by Yes is e = ap is_yes (may_yes now h within sets fine is)
+      by Enosys is e = absurd (false≢true e)
+      by Death is e = absurd (false≢true e)
+
+  pub still_unable : (h : History) → IsWithin now h → may_edit table now ≡ false → may_edit table h ≡ false
+  still_unable h within lacks = by (is_yes (may_any h (cpath ∷ []))) (list_any (λ edit. is_yes (may_any h (rule_of table edit).alternatives)) edit_calls) refl refl
+    where
+      by : (a b : Bool) → is_yes (may_any h (cpath ∷ [])) ≡ a → list_any (λ edit. is_yes (may_any h (rule_of table edit).alternatives)) edit_calls ≡ b → may_edit table h ≡ false
+      by true b is e = absurd (false≢true (sym lacks ∙ or_left _ _ (yes_before h within (cpath ∷ []) ((lit< tt, refl), tt) is)))
+      by false true is e =
+          let found = any_found (λ edit. is_yes (may_any h (rule_of table edit).alternatives)) edit_calls e in
+          absurd (false≢true (sym lacks ∙ or_right (is_yes (may_any now (cpath ∷ []))) _
+          (any_among (λ edit. is_yes (may_any now (rule_of table edit).alternatives)) edit_calls found.0 found.1 (yes_before h within (rule_of table found.0).alternatives (sound found.0) found.2))))
+      by false false is e = λ i. is i || e i
+
+  pub unedited_along : may_edit table now ≡ false → (asks : List Asked) (w : World) (members : List ℕ) → Members w members now false
+      → none_done is_exec table w asks members ≡ true → members_alone table w asks members ≡ true → (world_after table w asks).tree ≡ w.tree
+  unedited_along lacks [] w members are none alone = refl
+  unedited_along lacks (ask ∷ asks) w members are none alone =
+      let asked = and_parts (is_member members ask.process) _ alone in
+      let parts = and_parts (not (is_done is_exec table w ask members)) _ none in
+      let asker = are ask.process asked.0 in
+      unedited_along lacks asks (apply table w ask).1 (family_then table w ask members)
+      (members_then table now w ask members false are (not_true (is_done is_exec table w ask members) parts.0)) parts.1 asked.1
+      ∙ unedited table w ask asker.0 asker.1 (still_unable asker.0 asker.2.within lacks)

@@ -1,0 +1,190 @@
+-- Which covers are among those that a thing can come under.
+use Rattle.std.proofs.Common.{◌≡◌, ℕ, List, [], ◌∷◌, Bool, true, false, cond, refl, sym, ap, ◌∙◌, inl, inr}
+use Rattle.std.specs.Prelude.{Option, Some, None, not, ◌&&◌, ◌||◌, ◌==◌, filter, filter_map, option_map}
+use Rattle.std.specs.List.{list_any, list_all}
+use Rattle.std.specs.Option.{option_eq}
+use Rattle.std.specs.Ordering.{nat_cmp, is_eq}
+use Rattle.std.specs.Cmp.{Equal-is, nat_cmp_total}
+use Rattle.std.specs.FinMap.{find as find_key, nat_cmp-IsAntisymmetric}
+use Rattle.std.proofs.lemmas.Bool.{false≢true, eq-eqb, eqb-true, and_parts, and_from, or_left, or_right}
+use Rattle.pua_tree.specs.Tree.{Tree, Node, WellFormed, Spot, spot_cmp, is_dir, is_dir_kind, look, node_at}
+use Rattle.pua_tree.proofs.ForCallers.{sound_from, spots_total, exact_spots, all_from_found}
+use Rattle.pua_policy.specs.History.{History, kept, veils, veil_at, same_place}
+use Rattle.pua_policy.specs.declared.place.Place.{Place}
+use Rattle.pua_policy.specs.declared.place.Place.TheVariants as place
+use Rattle.pua_policy.specs.declared.answer.Cover.{Cover}
+use Rattle.pua_policy.specs.declared.answer.Cover.TheVariants.{Only}
+use Rattle.pua_policy.proofs.ForCallers.{veils_are_kept, same_place_is}
+use Rattle.pua_script.specs.Confinement.{has_c}
+use Rattle.pua_objects.specs.Objects.{cover_in}
+use Rattle.pua_objects.proofs.ForCallers.{found_among, Among, among_left, among_right, among_map, map_among, among_filter, filter_among}
+use Rattle.pua_ever.specs.Ever.{is_free, can_empty, opens_at, gives_way, is_below, opens_outside, has_c_outside, is_way_in, is_dir_entry, directories, dir_covers, veil_cover_at, name_covers, some_dir_has_c, file_covers}
+
+-- some element passes
+pub any_among : {X : Type 0} (p : X → Bool) (xs : List X) (x : X) → Among xs x → p x ≡ true → list_any p xs ≡ true
+any_among p [] x a h = absurd a
+any_among p (y ∷ xs) x (inl e) h = or_left (p y) (list_any p xs) (ap p e ∙ h)
+any_among p (y ∷ xs) x (inr a) h = or_right (p y) (list_any p xs) (any_among p xs x a h)
+
+-- what some element passes, one of the elements passes
+pub any_found : {X : Type 0} (p : X → Bool) (xs : List X) → list_any p xs ≡ true → (x : X) × Among xs x × (p x ≡ true)
+any_found p [] e = absurd (false≢true e)
+any_found {X = X} p (x ∷ xs) e = by (p x) refl (any_found p xs) e
+  where
+    by : (b : Bool) → p x ≡ b → (list_any p xs ≡ true → (y : X) × Among xs y × (p y ≡ true)) → (b || list_any p xs) ≡ true → (y : X) × Among (x ∷ xs) y × (p y ≡ true)
+    by true is more e = (x, inl refl, is)
+    by false is more e = let found = more e in (found.0, inr found.1, found.2)
+
+pub among_kept : {X Y : Type 0} (f : X → Option Y) (xs : List X) (x : X) (y : Y) → Among xs x → f x ≡ Some y → Among (filter_map f xs) y
+among_kept f [] x y a h = absurd a
+among_kept f (z ∷ xs) x y (inl e) h = rw (ap f e ∙ h) (inl refl)
+among_kept f (z ∷ xs) x y (inr a) h = by (f z) refl (among_kept f xs x y a h)
+  where
+    by : (o : Option _) → f z ≡ o → Among (filter_map f xs) y → Among (filter_map f (z ∷ xs)) y
+    by None is more = rw is more
+    by (Some w) is more = rw is (inr more)
+
+-- what is found by its number is among the nodes
+node_among : (k : ℕ) (v : Node) (es : List (ℕ × Node)) → find_key nat_cmp k es ≡ Some v → Among es (k, v)
+node_among k v [] e = cc
+node_among k v (y ∷ ys) e =
+    elim (is_eq (nat_cmp k y.0)) as (λ b. is_eq (nat_cmp k y.0) ≡ b → cond b (Some y.1) (find_key nat_cmp k ys) ≡ Some v → Among (y ∷ ys) (k, v)) [
+      | true ↦ λ same is.
+          let key : k ≡ y.0 = nat_cmp-IsAntisymmetric k y.0 ((Equal-is (nat_cmp k y.0)).0 same) in
+          let value : y.1 ≡ v = cc in
+          inl (λ i. (sym key i, value i))
+      | false ↦ λ other is. inr (node_among k v ys is)
+    ] refl e
+
+-- what is true of all elements is true of each
+pub all_among : {X : Type 0} (p : X → Bool) (xs : List X) (x : X) → list_all p xs ≡ true → Among xs x → p x ≡ true
+all_among p [] x all a = absurd a
+all_among p (y ∷ xs) x all (inl e) = ap p (sym e) ∙ (and_parts (p y) (list_all p xs) all).0
+all_among p (y ∷ xs) x all (inr a) = all_among p xs x (and_parts (p y) (list_all p xs) all).1 a
+
+-- what is kept at a place is among the veils
+veil_among : (vs : List (Place × ℕ)) (at : Place) (perms : ℕ) → veil_at vs at ≡ Some perms → Among vs (at, perms)
+veil_among [] at perms e = cc
+veil_among (v ∷ vs) at perms e =
+    elim (same_place at v.0) as (λ b. same_place at v.0 ≡ b → cond b (Some v.1) (veil_at vs at) ≡ Some perms → Among (v ∷ vs) (at, perms)) [
+      | true ↦ λ same is.
+          let key : at ≡ v.0 = same_place_is at v.0 same in
+          let value : v.1 ≡ perms = cc in
+          inl (λ i. (sym key i, value i))
+      | false ↦ λ other is. inr (veil_among vs at perms is)
+    ] refl e
+
+module _ (t : Tree) (h : History) where
+  pub dir_among : (d : ℕ) → is_dir t d ≡ true → Among (directories t) d
+  dir_among d is = by (node_at t d) refl is
+    where
+      by : (o : Option Node) → node_at t d ≡ o → is_dir_kind (option_map (λ n. n.kind) o) ≡ true → Among (directories t) d
+      by None e is = absurd (false≢true is)
+      by (Some n) e is = among_map (λ (entry : ℕ × Node). entry.0) (filter is_dir_entry t.nodes) (d, n) (among_filter is_dir_entry t.nodes (d, n) is (node_among d n t.nodes e))
+
+  pub kept_among : (at : Place) (perms : ℕ) → kept h at ≡ Some perms → Among (veils h) (at, perms)
+  kept_among at perms e = veil_among (veils h) at perms (veils_are_kept h at ∙ e)
+
+  -- a way in gives its cover
+  way_covers : (d : ℕ) → is_dir t d ≡ true → is_way_in t h d ≡ true → Among (dir_covers t h) (cover_in t h d)
+  way_covers d is way = among_map (cover_in t h) (filter (is_way_in t h) (directories t)) d (among_filter (is_way_in t h) (directories t) d way (dir_among d is))
+
+  -- by its own `c`
+  pub way_by_c : (d : ℕ) → is_dir t d ≡ true → has_c (cover_in t h d) ≡ true → Among (dir_covers t h) (cover_in t h d)
+  way_by_c d is has = way_covers d is (or_left (has_c (cover_in t h d)) _ has)
+
+  -- by a name with a veil of its own
+  pub way_by_name : (d : ℕ) (name : List ℕ) (perms : ℕ) → is_dir t d ≡ true → kept h (place.Slot d name) ≡ Some perms → has_c (Only perms) ≡ true → is_free t h (d, name) ≡ true
+      → Among (dir_covers t h) (cover_in t h d)
+  way_by_name d name perms is e has free =
+      way_covers d is
+      (or_right (has_c (cover_in t h d)) _ (or_left (list_any (λ veil. opens_at t h d veil.0 veil.1) (veils h)) _
+      (any_among (λ veil. opens_at t h d veil.0 veil.1) (veils h) (place.Slot d name, perms) (kept_among (place.Slot d name) perms e)
+      (and_from (d == d) _ (eq-eqb d d refl) (and_from (has_c (Only perms)) _ has free)))))
+
+  -- by a directory that gives way
+  pub way_by_turn : (d : ℕ) (name : List ℕ) (y : ℕ) → is_dir t d ≡ true → look t d name ≡ Some y → is_dir t y ≡ true → has_c (cover_in t h y) ≡ true → can_empty t h y ≡ true → has_c_outside t h y ≡ true
+      → Among (dir_covers t h) (cover_in t h d)
+  way_by_turn d name y is e dir has empty more =
+      way_covers d is
+      (or_right (has_c (cover_in t h d)) _ (or_right (list_any (λ veil. opens_at t h d veil.0 veil.1) (veils h)) _
+      (any_among (gives_way t h d) t.rows ((d, name), y) (found_among (d, name) y t.rows e)
+      (and_from (d == d) _ (eq-eqb d d refl) (and_from (is_dir t y) _ dir (and_from (has_c (cover_in t h y)) _ has (and_from (can_empty t h y) _ empty more)))))))
+
+  -- the cover of a name with a veil of its own
+  pub name_by_veil : (d : ℕ) (name : List ℕ) (perms : ℕ) → is_dir t d ≡ true → kept h (place.Slot d name) ≡ Some perms → has_c (Only perms) ≡ true → is_free t h (d, name) ≡ true
+      → Among (name_covers t h) (Only perms)
+  name_by_veil d name perms is e has free =
+      among_kept (λ veil. veil_cover_at t h veil.0 veil.1) (veils h) (place.Slot d name, perms) (Only perms) (kept_among (place.Slot d name) perms e)
+      (ap (λ b. cond b (Some (Only perms)) None) (and_from (is_dir t d) _ is (and_from (has_c (Only perms)) _ has free)))
+
+  pub some_dir_by : (d : ℕ) → is_dir t d ≡ true → has_c (cover_in t h d) ≡ true → some_dir_has_c t h ≡ true
+  some_dir_by d is has = any_among (λ dir. has_c (cover_in t h dir)) (directories t) d (dir_among d is) has
+
+  -- a cover with `c` under which a directory can come is one of a directory
+  pub some_dir_among : (c : Cover) → Among (dir_covers t h) c → has_c c ≡ true → some_dir_has_c t h ≡ true
+  some_dir_among c a has =
+      let from = map_among (cover_in t h) (filter (is_way_in t h) (directories t)) c a in
+      any_among (λ dir. has_c (cover_in t h dir)) (directories t) from.0 (filter_among (is_way_in t h) (directories t) from.0 from.1).0 (ap has_c from.2 ∙ has)
+
+  pub file_by_name : (c : Cover) → Among (name_covers t h) c → Among (file_covers t h) c
+  file_by_name c a = among_left (name_covers t h) _ c a
+
+  pub file_by_dir : (c : Cover) → Among (dir_covers t h) c → some_dir_has_c t h ≡ true → Among (file_covers t h) c
+  file_by_dir c a some = among_right (name_covers t h) _ c (rw some a)
+
+  -- where nothing outside has `c`, no directory and no name there has
+  pub quiet_dir : (y d : ℕ) → has_c_outside t h y ≡ false → is_dir t d ≡ true → is_below t y d ≡ false → has_c (cover_in t h d) ≡ false
+  quiet_dir y d none is outside = by (has_c (cover_in t h d)) refl
+    where
+      by : (b : Bool) → has_c (cover_in t h d) ≡ b → has_c (cover_in t h d) ≡ false
+      by false e = e
+      by true has = absurd (false≢true (sym none ∙ or_left _ _ (any_among (λ dir. not (is_below t y dir) && has_c (cover_in t h dir)) (directories t) d (dir_among d is) (and_from (not (is_below t y d)) _ (ap not outside) has))))
+
+  pub quiet_name : (y d : ℕ) (name : List ℕ) (perms : ℕ) → has_c_outside t h y ≡ false → is_dir t d ≡ true → is_below t y d ≡ false → kept h (place.Slot d name) ≡ Some perms → has_c (Only perms) ≡ false
+  quiet_name y d name perms none is outside e = by (has_c (Only perms)) refl
+    where
+      by : (b : Bool) → has_c (Only perms) ≡ b → has_c (Only perms) ≡ false
+      by false e = e
+      by true has = absurd (false≢true (sym none ∙ or_right (list_any (λ dir. not (is_below t y dir) && has_c (cover_in t h dir)) (directories t)) _ (any_among (λ veil. opens_outside t y veil.0 veil.1) (veils h) (place.Slot d name, perms) (kept_among (place.Slot d name) perms e)
+          (and_from (is_dir t d) _ is (and_from (not (is_below t y d)) _ (ap not outside) has)))))
+
+module _ (t : Tree) (well : WellFormed t) where
+  -- what is among the nodes as a directory lives
+  pub among_dir : (d : ℕ) → Among (directories t) d → is_dir t d ≡ true
+  among_dir d a =
+      let from = map_among (λ (entry : ℕ × Node). entry.0) (filter is_dir_entry t.nodes) d a in
+      let entry = filter_among is_dir_entry t.nodes from.0 from.1 in
+      ap (is_dir t) (sym from.2) ∙ lives from.0 entry.1 (all_among agrees t.nodes from.0 all entry.0)
+    where
+      agrees : (ℕ × Node) → Bool
+      agrees entry = not (is_dir_entry entry) || is_dir t entry.0
+
+      found : (k : ℕ) (v : Node) → node_at t k ≡ Some v → agrees (k, v) ≡ true
+      found k v e = ap (λ o. not (is_dir_entry (k, v)) || is_dir_kind (option_map (λ n. n.kind) o)) e ∙ either (is_dir_kind (Some v.kind))
+        where
+          either : (b : Bool) → (not b || b) ≡ true
+          either true = refl
+          either false = refl
+
+      all : list_all agrees t.nodes ≡ true
+      all = all_from_found nat_cmp nat_cmp_total nat_cmp-IsAntisymmetric agrees t.nodes (sound_from t well).nodes_sorted found
+
+      lives : (entry : ℕ × Node) → is_dir_entry entry ≡ true → agrees entry ≡ true → is_dir t entry.0 ≡ true
+      lives entry is fits = ap (λ b. not b || is_dir t entry.0) (sym is) ∙ fits
+
+  -- what is among the rows is found there
+  pub among_rows : (row : Spot × ℕ) → Among t.rows row → look t row.0.0 row.0.1 ≡ Some row.1
+  among_rows row a = same (look t row.0.0 row.0.1) (all_among agrees t.rows row all a)
+    where
+      agrees : (Spot × ℕ) → Bool
+      agrees row = option_eq ◌==◌ (look t row.0.0 row.0.1) (Some row.1)
+
+      all : list_all agrees t.rows ≡ true
+      all =
+          all_from_found spot_cmp spots_total exact_spots agrees t.rows (sound_from t well).rows_sorted
+          (λ s x e. ap (λ o. option_eq ◌==◌ o (Some x)) e ∙ eq-eqb x x refl)
+
+      same : (o : Option ℕ) → option_eq ◌==◌ o (Some row.1) ≡ true → o ≡ Some row.1
+      same None e = absurd (false≢true e)
+      same (Some y) e = ap Some (eqb-true y row.1 e)

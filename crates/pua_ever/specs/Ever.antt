@@ -1,0 +1,278 @@
+-- What a process and all that it forks can ever touch by their own doing, once they can put no veil any
+-- more: each thing that stands or could stand in the tree now, or can be made, with the calls that can
+-- ever be allowed on it. A thing **has c** where what covers it has the letter `c`; where there is no veil
+-- at all, everything has. What has no `c` is never moved, replaced or removed.
+use Rattle.std.specs.Prelude.{ℕ, Bool, true, false, not, ◌&&◌, ◌||◌, if◌then◌else◌, List, [], ◌∷◌, ◌++◌, map, filter, filter_map, flat_map, ◌==◌, Option, Some, None, is_some, is_none, nat_lt, length, codes}
+use Rattle.std.specs.List.{list_any, list_all}
+use Rattle.pua_tree.specs.Tree.{Tree, Node, Spot, is_dir_kind, is_dir, look, climb, empty_tree}
+use Rattle.pua_path.specs.declared.found.Found.TheVariants.{Whole, Slot}
+use Rattle.pua_path.specs.declared.found.Way.{Way}
+use Rattle.pua_path.specs.declared.found.Way.TheVariants.{Named, Top}
+use Rattle.pua_policy.specs.Promises.{cpath}
+use Rattle.pua_policy.specs.Calls.{CallTable, rule_of, calls, call_name}
+use Rattle.pua_policy.specs.CallSets.{keeps_link}
+use Rattle.pua_policy.specs.History.{History, kept, veils, may_any}
+use Rattle.pua_policy.specs.declared.answer.May.{May}
+use Rattle.pua_policy.specs.declared.answer.May.TheVariants.{Yes}
+use Rattle.pua_policy.specs.Verdict.{Object, IsDir, IsFile, IsLink, IsMissing, object_of, cover, covered_verdict, is_allowed}
+use Rattle.pua_policy.specs.declared.answer.Cover.{Cover}
+use Rattle.pua_policy.specs.declared.answer.Cover.TheVariants.{Only}
+use Rattle.pua_policy.specs.declared.call.Call.{Call}
+use Rattle.pua_policy.specs.declared.call.Call.TheVariants as call
+use Rattle.pua_policy.specs.declared.place.Place.{Place}
+use Rattle.pua_policy.specs.declared.place.Place.TheVariants as place
+use Rattle.pua_script.specs.Confinement.{object_in, has_c}
+use Rattle.pua_audit.specs.Reach.{Word, printed_path}
+use Rattle.pua_audit.specs.declared.base.Base.TheVariants.{Root}
+use Rattle.pua_objects.specs.Objects.{Subject, At, Others, Item, items, cover_in, is_named_by, subject_word, with_commas}
+
+-- what covers that which stands in a row
+abbrev pub row_cover : Tree → History → Spot → ℕ → Cover
+row_cover t h spot node = cover t h (object_in t spot node)
+
+-- a name can come to be free: nothing stands there, or what does has `c`
+abbrev pub is_free : Tree → History → Spot → Bool
+is_free t h spot = by (look t spot.0 spot.1)
+  where
+    by : Option ℕ → Bool
+    by None = true
+    by (Some node) = has_c (row_cover t h spot node)
+
+-- a directory can come to be empty: each thing in it has `c`
+abbrev pub can_empty : Tree → History → ℕ → Bool
+can_empty t h dir = list_all (λ row. not (row.0.0 == dir) || has_c (row_cover t h row.0 row.1)) t.rows
+
+-- a veil with `c` at a name of this directory that can come to be free
+abbrev pub opens_at : Tree → History → ℕ → Place → ℕ → Bool
+opens_at t h dir (place.Slot other name) perms =
+    other == dir && (has_c (Only perms) && is_free t h (other, name))
+opens_at t h dir (place.Dir other) perms = false
+
+-- the living directories
+abbrev pub is_dir_entry : (ℕ × Node) → Bool
+is_dir_entry entry = is_dir_kind (Some entry.1.kind)
+
+abbrev pub directories : Tree → List ℕ
+directories t = map (λ entry. entry.0) (filter is_dir_entry t.nodes)
+
+-- a directory is the other, or below it
+abbrev pub is_below : Tree → ℕ → ℕ → Bool
+is_below t other dir = list_any (λ over. over == other) (climb t dir)
+
+-- there is something with `c` that is neither a directory nor in it: a directory, or a name with a veil
+-- of its own
+abbrev pub opens_outside : Tree → ℕ → Place → ℕ → Bool
+opens_outside t inner (place.Slot dir name) perms =
+    is_dir t dir && (not (is_below t inner dir) && has_c (Only perms))
+opens_outside t inner (place.Dir dir) perms = false
+
+abbrev pub has_c_outside : Tree → History → ℕ → Bool
+has_c_outside t h inner =
+    list_any (λ dir. not (is_below t inner dir) && has_c (cover_in t h dir)) (directories t)
+    || list_any (λ veil. opens_outside t inner veil.0 veil.1) (veils h)
+
+-- a directory that stands in this one gives way to another that is moved onto it: it has `c` and can come
+-- to be empty, and something outside of it has `c`, from where the other can come
+abbrev pub gives_way : Tree → History → ℕ → (Spot × ℕ) → Bool
+gives_way t h dir row =
+    row.0.0 == dir
+    && (is_dir t row.1 && (has_c (cover_in t h row.1)
+    && (can_empty t h row.1 && has_c_outside t h row.1)))
+
+-- a directory can come to stand in this one: by a further name, by a name with a veil of its own, or in
+-- the place of another directory
+abbrev pub is_way_in : Tree → History → ℕ → Bool
+is_way_in t h dir =
+    has_c (cover_in t h dir)
+    || (list_any (λ veil. opens_at t h dir veil.0 veil.1) (veils h) || list_any (gives_way t h dir) t.rows)
+
+-- the covers under which a directory can come that is moved or made
+abbrev pub dir_covers : Tree → History → List Cover
+dir_covers t h = map (cover_in t h) (filter (is_way_in t h) (directories t))
+
+-- the covers of names with a veil of their own to which something else can be moved
+abbrev pub veil_cover_at : Tree → History → Place → ℕ → Option Cover
+veil_cover_at t h (place.Slot dir name) perms =
+    if is_dir t dir && (has_c (Only perms) && is_free t h (dir, name)) then Some (Only perms) else None
+veil_cover_at t h (place.Dir dir) perms = None
+
+abbrev pub name_covers : Tree → History → List Cover
+name_covers t h = filter_map (λ veil. veil_cover_at t h veil.0 veil.1) (veils h)
+
+-- some directory has `c`: so a file can be put into a directory, and be moved with it
+abbrev pub some_dir_has_c : Tree → History → Bool
+some_dir_has_c t h = list_any (λ dir. has_c (cover_in t h dir)) (directories t)
+
+-- the covers under which anything else can come
+abbrev pub file_covers : Tree → History → List Cover
+file_covers t h = name_covers t h ++ (if some_dir_has_c t h then dir_covers t h else [])
+
+-- the tree can change by them at all: they may do what needs cpath, or one of the five calls that edit a tree
+abbrev pub edit_calls : List Call
+edit_calls = call.Create ∷ call.Mkdir ∷ call.Rmdir ∷ call.Unlink ∷ call.Symlink ∷ []
+
+abbrev pub is_yes : May → Bool
+is_yes Yes = true
+is_yes _ = false
+
+abbrev pub may_edit : CallTable → History → Bool
+may_edit table h =
+    is_yes (may_any h (cpath ∷ []))
+    || list_any (λ edit. is_yes (may_any h (rule_of table edit).alternatives)) edit_calls
+
+-- all covers under which a thing can come, by what covers it now and those to which it can be moved
+abbrev pub ever_covers : Bool → Cover → List Cover → List Cover
+ever_covers moves now others = if moves && has_c now then others else now ∷ []
+
+-- a directory with a veil of its own keeps its cover wherever it is
+abbrev pub covers_of_dir : Tree → CallTable → History → ℕ → List Cover
+covers_of_dir t table h dir =
+    ever_covers (may_edit table h && is_none (kept h (place.Dir dir))) (cover_in t h dir) (dir_covers t h)
+
+-- and a missing name keeps its own veil
+abbrev pub covers_of : Tree → CallTable → History → Subject → List Cover
+covers_of t table h (At (Whole dir way)) = covers_of_dir t table h dir
+covers_of t table h (Others dir) = covers_of_dir t table h dir
+covers_of t table h (At (Slot dir name (Some node))) =
+    ever_covers (may_edit table h) (cover t h (Slot dir name (Some node))) (file_covers t h)
+covers_of t table h (At (Slot dir name None)) = cover t h (Slot dir name None) ∷ []
+
+-- a thing as the last check of a call sees it, which asks for its kind; rmdir asks more of a directory: one
+-- that has a name can be removed where it can come to be empty. No tree is asked any more
+abbrev pub removable_dir : Object
+removable_dir = IsDir 0 (Named 0 [])
+
+abbrev pub lasting_dir : Object
+lasting_dir = IsDir 0 Top
+
+abbrev pub is_named_way : Way → Bool
+is_named_way (Named dir name) = true
+is_named_way _ = false
+
+abbrev pub ever_object : Tree → CallTable → History → Subject → Object
+ever_object t table h (At (Whole dir way)) =
+    if is_named_way way && (can_empty t h dir && (may_edit table h || is_none_in dir))
+    then removable_dir else lasting_dir
+  where
+    is_none_in : ℕ → Bool
+    is_none_in dir = not (list_any (λ row. row.0.0 == dir) t.rows)
+ever_object t table h (Others dir) = IsMissing
+ever_object t table h (At (Slot dir name node)) = object_of t (Slot dir name node)
+
+-- a call is allowed on such an object under one of these covers
+abbrev pub is_allowed_under : CallTable → History → List Cover → Object → Call → Bool
+is_allowed_under table h covers object call =
+    list_any (λ left. is_allowed (covered_verdict empty_tree table h call left object)) covers
+
+-- the calls that can ever be allowed on what stands or could stand now
+abbrev pub ever_calls : Tree → CallTable → History → Subject → List Call
+ever_calls t table h subject =
+    filter (λ call. is_named_by t call subject
+    && is_allowed_under table h (covers_of t table h subject) (ever_object t table h subject) call) calls
+
+-- what can be made: a directory, the further names of such a directory, a file, a link
+pub data New : Type 0 where
+  NewDir : New
+  NewOthers : New
+  NewFile : New
+  NewLink : New
+
+-- the call that makes it, the covers under which it can come, and what it is
+abbrev pub maker : New → Call
+maker NewDir = call.Mkdir
+maker NewOthers = call.Mkdir
+maker NewFile = call.Create
+maker NewLink = call.Symlink
+
+abbrev pub new_covers : Tree → History → New → List Cover
+new_covers t h NewDir = dir_covers t h
+new_covers t h NewOthers = dir_covers t h
+new_covers t h NewFile = file_covers t h
+new_covers t h NewLink = file_covers t h
+
+abbrev pub new_object : New → Object
+new_object NewDir = removable_dir
+new_object NewOthers = IsMissing
+new_object NewFile = IsFile
+new_object NewLink = IsLink
+
+abbrev pub is_new_named : New → Call → Bool
+is_new_named NewLink call = keeps_link call
+is_new_named _ call = true
+
+-- it can be made where its call is allowed on a missing name, under some cover that a name can have
+abbrev pub can_make : Tree → CallTable → History → New → Bool
+can_make t table h new = is_allowed_under table h (name_covers t h ++ dir_covers t h) IsMissing (maker new)
+
+abbrev pub new_calls : Tree → CallTable → History → New → List Call
+new_calls t table h new =
+    if may_edit table h && can_make t table h new
+    then filter (λ call. is_new_named new call
+    && is_allowed_under table h (new_covers t h new) (new_object new) call) calls
+    else []
+
+-- what a line is about
+pub data Thing : Type 0 where
+  Stands : Subject → Thing
+  Comes : New → Thing
+
+-- a line: the names that lead now to what it is about, and the calls that can ever be allowed on it
+pub record EverLine : Type 0 where
+  pub word : Word
+  pub thing : Thing
+  pub calls : List Call
+
+-- where something stands at a name with a veil of its own and can be taken away, the name is a thing too
+abbrev pub names_to_free : Tree → CallTable → History → Subject → List Subject
+names_to_free t table h subject = by (name_of subject)
+  where
+    name_of : Subject → Option Spot
+    name_of (At (Slot dir name (Some node))) = Some (dir, name)
+    name_of (At (Whole dir (Named parent name))) = Some (parent, name)
+    name_of _ = None
+
+    by : Option Spot → List Subject
+    by None = []
+    by (Some spot) =
+        if is_some (kept h (place.Slot spot.0 spot.1)) && (may_edit table h && is_free t h spot)
+        then At (Slot spot.0 spot.1 None) ∷ []
+        else []
+
+abbrev pub subjects_of : Tree → CallTable → History → Item → List (Word × Subject)
+subjects_of t table h item =
+    (item.word, item.subject) ∷ map (λ subject. (item.word, subject)) (names_to_free t table h item.subject)
+
+abbrev pub all_new : List New
+all_new = NewDir ∷ NewOthers ∷ NewFile ∷ NewLink ∷ []
+
+abbrev pub ever_line : Tree → CallTable → History → (Word × Subject) → EverLine
+ever_line t table h about =
+    record { word = about.0; thing = Stands about.1; calls = ever_calls t table h about.1 }
+
+abbrev pub new_line : Tree → CallTable → History → New → EverLine
+new_line t table h new = record { word = []; thing = Comes new; calls = new_calls t table h new }
+
+abbrev pub has_calls : EverLine → Bool
+has_calls line = nat_lt 0 (length line.calls)
+
+-- all that can ever be touched: what stands or could stand now, in the order of the objects, and then what
+-- can be made
+abbrev pub ever : Tree → CallTable → History → List EverLine
+ever t table h =
+    filter has_calls
+    (map (ever_line t table h) (flat_map (subjects_of t table h) (items t (veils h)))
+    ++ map (new_line t table h) all_new)
+
+-- a line's text: the kind, the path of now as it is printed, or `new`, and the calls
+abbrev pub new_word : New → List ℕ
+new_word NewDir = codes "dir"
+new_word NewOthers = codes "other"
+new_word NewFile = codes "file"
+new_word NewLink = codes "link"
+
+abbrev pub thing_text : Tree → Word → Thing → List ℕ
+thing_text t word (Stands subject) = subject_word t subject ++ 32 ∷ printed_path Root word
+thing_text t word (Comes new) = new_word new ++ 32 ∷ codes "new"
+
+abbrev pub ever_text : Tree → EverLine → List ℕ
+ever_text t line = thing_text t line.word line.thing ++ 32 ∷ with_commas (map call_name line.calls)

@@ -1,0 +1,293 @@
+-- Worked rows on what can ever be touched, by the standard table.
+use Rattle.std.specs.Prelude.{◌≡◌, ◌+◌, ℕ, List, [], ◌∷◌, map, Some, None, codes, refl}
+use Rattle.pua_tree.specs.Tree.{Tree, Node}
+use Rattle.pua_tree.specs.declared.node.Kind.TheVariants.{Dir, File, Prog}
+use Rattle.pua_policy.specs.Promises.{rpath, wpath, cpath, fattr, exec, reading, writing, executing, creating}
+use Rattle.pua_policy.specs.Calls.{standard_table}
+use Rattle.pua_policy.specs.History.{History, Pledged, Unveiled, Locked, new_history}
+use Rattle.pua_policy.specs.declared.place.Place.TheVariants as place
+use Rattle.pua_ever.specs.Ever.{ever, ever_text}
+
+abbrev pub lines : Tree → History → List (List ℕ)
+lines t h = map (ever_text t) (ever t standard_table h)
+
+abbrev directory : Node
+directory = record { kind = Dir; target = None }
+
+abbrev file : Node
+file = record { kind = File; target = None }
+
+abbrev program : Node
+program = record { kind = Prog; target = None }
+
+-- what was put before, and then the lock and promises for every call of the table
+abbrev locked_after : History → History
+locked_after before = Pledged (Some (rpath + wpath + cpath + fattr + exec)) None ∷ Locked ∷ before
+
+-- `/a` has rwc and `/b` has c: what stands in `/b` can be moved into `/a`, and be read there
+abbrev pub moved_on_tree : Tree
+moved_on_tree = record {
+  rows = ((0, codes "a"), 1) ∷ ((0, codes "b"), 2) ∷ ((2, codes "x"), 3) ∷ ((3, codes "f"), 4) ∷ [];
+  nodes = (0, directory) ∷ (1, directory) ∷ (2, directory) ∷ (3, directory) ∷ (4, file) ∷ [];
+  next = 5;
+}
+
+abbrev pub moved_on_history : History
+moved_on_history =
+    locked_after (
+    Unveiled (place.Dir 2) creating
+    ∷ Unveiled (place.Dir 1) (reading + writing + creating)
+    ∷ new_history)
+
+-- `/` has rx, `/a` and `/b` have c: a directory in one can take the place of the other, and then stands under the veil of `/`, where the program in it can be run
+abbrev pub in_the_place_tree : Tree
+in_the_place_tree = record {
+  rows = ((0, codes "a"), 1) ∷ ((0, codes "b"), 2) ∷ ((1, codes "x"), 3) ∷ ((3, codes "p"), 4) ∷ [];
+  nodes = (0, directory) ∷ (1, directory) ∷ (2, directory) ∷ (3, directory) ∷ (4, program) ∷ [];
+  next = 5;
+}
+
+abbrev pub in_the_place_history : History
+in_the_place_history =
+    locked_after (
+    Unveiled (place.Dir 2) creating
+    ∷ Unveiled (place.Dir 1) creating
+    ∷ Unveiled (place.Dir 0) (reading + executing)
+    ∷ new_history)
+
+-- `/` has rx and `/a` has rwc: nothing outside of `/a` has c, so nothing takes its place, and the program in it is never run
+abbrev pub one_area_tree : Tree
+one_area_tree = record {
+  rows = ((0, codes "a"), 1) ∷ ((1, codes "x"), 2) ∷ ((2, codes "p"), 3) ∷ [];
+  nodes = (0, directory) ∷ (1, directory) ∷ (2, directory) ∷ (3, program) ∷ [];
+  next = 4;
+}
+
+abbrev pub one_area_history : History
+one_area_history =
+    locked_after (
+    Unveiled (place.Dir 1) (reading + writing + creating)
+    ∷ Unveiled (place.Dir 0) (reading + executing)
+    ∷ new_history)
+
+-- `/` has rx and the name `/f` has rwc: a file there has the letters of the name, and a directory made there is covered as `/` is
+abbrev pub name_alone_tree : Tree
+name_alone_tree = record {
+  rows = ((0, codes "f"), 1) ∷ [];
+  nodes = (0, directory) ∷ (1, program) ∷ [];
+  next = 2;
+}
+
+abbrev pub name_alone_history : History
+name_alone_history =
+    locked_after (
+    Unveiled (place.Slot 0 (codes "f")) (reading + writing + creating)
+    ∷ Unveiled (place.Dir 0) (reading + executing)
+    ∷ new_history)
+
+-- and `/a` has wc: the program in it can be moved to the name, and in a directory to where x is
+abbrev pub name_and_area_tree : Tree
+name_and_area_tree = record {
+  rows = ((0, codes "a"), 2) ∷ ((0, codes "f"), 1) ∷ ((2, codes "p"), 3) ∷ [];
+  nodes = (0, directory) ∷ (1, program) ∷ (2, directory) ∷ (3, program) ∷ [];
+  next = 4;
+}
+
+abbrev pub name_and_area_history : History
+name_and_area_history =
+    locked_after (
+    Unveiled (place.Dir 2) (writing + creating)
+    ∷ Unveiled (place.Slot 0 (codes "f")) (reading + writing + creating)
+    ∷ Unveiled (place.Dir 0) (reading + executing)
+    ∷ new_history)
+
+-- a name with rwc that is taken by a directory without c: nothing else ever comes there
+abbrev pub dead_name_tree : Tree
+dead_name_tree = record {
+  rows = ((0, codes "a"), 2) ∷ ((0, codes "n"), 1) ∷ ((2, codes "f"), 3) ∷ [];
+  nodes = (0, directory) ∷ (1, directory) ∷ (2, directory) ∷ (3, file) ∷ [];
+  next = 4;
+}
+
+abbrev pub dead_name_history : History
+dead_name_history =
+    locked_after (
+    Unveiled (place.Dir 2) creating
+    ∷ Unveiled (place.Slot 0 (codes "n")) (reading + writing + creating)
+    ∷ new_history)
+
+-- a file with two names, one of them under c: by that name it is moved to where everything is allowed
+abbrev pub second_name_tree : Tree
+second_name_tree = record {
+  rows = ((0, codes "a"), 2) ∷ ((0, codes "b"), 3) ∷ ((0, codes "k"), 1) ∷ ((2, codes "k"), 1) ∷ [];
+  nodes = (0, directory) ∷ (1, file) ∷ (2, directory) ∷ (3, directory) ∷ [];
+  next = 4;
+}
+
+abbrev pub second_name_history : History
+second_name_history =
+    locked_after (
+    Unveiled (place.Dir 3) (reading + writing + creating)
+    ∷ Unveiled (place.Dir 2) creating
+    ∷ Unveiled (place.Slot 0 (codes "k")) 0
+    ∷ new_history)
+
+-- everything has rwc but the file `/a/k`, which has r: so `/a` never comes to be empty
+abbrev pub one_that_stays_tree : Tree
+one_that_stays_tree = record {
+  rows = ((0, codes "a"), 1) ∷ ((0, codes "b"), 3) ∷ ((1, codes "k"), 2) ∷ ((3, codes "k"), 4) ∷ [];
+  nodes = (0, directory) ∷ (1, directory) ∷ (2, file) ∷ (3, directory) ∷ (4, file) ∷ [];
+  next = 5;
+}
+
+abbrev pub one_that_stays_history : History
+one_that_stays_history =
+    locked_after (
+    Unveiled (place.Slot 1 (codes "k")) reading
+    ∷ Unveiled (place.Dir 0) (reading + writing + creating)
+    ∷ new_history)
+
+-- no veil at all
+abbrev pub no_veil_tree : Tree
+no_veil_tree = record {
+  rows = ((0, codes "a"), 1) ∷ ((1, codes "k"), 2) ∷ [];
+  nodes = (0, directory) ∷ (1, directory) ∷ (2, file) ∷ [];
+  next = 3;
+}
+
+abbrev pub no_veil_history : History
+no_veil_history = locked_after new_history
+
+-- no veil, and no promise to change the tree
+abbrev pub no_cpath_tree : Tree
+no_cpath_tree = record {
+  rows = ((0, codes "a"), 1) ∷ ((1, codes "k"), 2) ∷ [];
+  nodes = (0, directory) ∷ (1, directory) ∷ (2, file) ∷ [];
+  next = 3;
+}
+
+abbrev pub no_cpath_history : History
+no_cpath_history = Pledged (Some (rpath + wpath)) None ∷ Locked ∷ new_history
+
+pub record EverRows : Type 0 where
+  pub moved_on : lines moved_on_tree moved_on_history ≡
+      codes "dir /a stat,lstat,open-r,rmdir,chmod,chdir"
+      ∷ codes "other /a create,mkdir,symlink"
+      ∷ codes "dir /b rmdir"
+      ∷ codes "other /b mkdir,symlink"
+      ∷ codes "dir /b/x stat,lstat,open-r,rmdir,chmod,chdir"
+      ∷ codes "other /b/x create,mkdir,symlink"
+      ∷ codes "file /b/x/f stat,lstat,open-r,open-w,open-rw,create,unlink,chmod"
+      ∷ codes "dir new stat,lstat,open-r,rmdir,chmod,chdir"
+      ∷ codes "other new create,mkdir,symlink"
+      ∷ codes "file new stat,lstat,open-r,open-w,open-rw,create,unlink,chmod"
+      ∷ codes "link new lstat,readlink,unlink"
+      ∷ []
+  pub in_the_place : lines in_the_place_tree in_the_place_history ≡
+      codes "dir / stat,lstat,open-r,chdir"
+      ∷ codes "dir /a rmdir"
+      ∷ codes "other /a mkdir,symlink"
+      ∷ codes "dir /a/x stat,lstat,open-r,rmdir,chdir"
+      ∷ codes "other /a/x mkdir,symlink"
+      ∷ codes "prog /a/x/p stat,lstat,open-r,unlink,exec"
+      ∷ codes "dir /b rmdir"
+      ∷ codes "other /b mkdir,symlink"
+      ∷ codes "dir new stat,lstat,open-r,rmdir,chdir"
+      ∷ codes "other new mkdir,symlink"
+      ∷ codes "link new lstat,readlink,unlink"
+      ∷ []
+  pub one_area : lines one_area_tree one_area_history ≡
+      codes "dir / stat,lstat,open-r,chdir"
+      ∷ codes "dir /a stat,lstat,open-r,rmdir,chmod,chdir"
+      ∷ codes "other /a create,mkdir,symlink"
+      ∷ codes "dir /a/x stat,lstat,open-r,rmdir,chmod,chdir"
+      ∷ codes "other /a/x create,mkdir,symlink"
+      ∷ codes "prog /a/x/p stat,lstat,open-r,open-w,open-rw,create,unlink,chmod"
+      ∷ codes "dir new stat,lstat,open-r,rmdir,chmod,chdir"
+      ∷ codes "other new create,mkdir,symlink"
+      ∷ codes "file new stat,lstat,open-r,open-w,open-rw,create,unlink,chmod"
+      ∷ codes "link new lstat,readlink,unlink"
+      ∷ []
+  pub name_alone : lines name_alone_tree name_alone_history ≡
+      codes "dir / stat,lstat,open-r,chdir"
+      ∷ codes "prog /f stat,lstat,open-r,open-w,open-rw,create,unlink,chmod"
+      ∷ codes "missing /f create,mkdir,symlink"
+      ∷ codes "dir new stat,lstat,open-r,chdir"
+      ∷ codes "file new stat,lstat,open-r,open-w,open-rw,create,unlink,chmod"
+      ∷ codes "link new lstat,readlink,unlink"
+      ∷ []
+  pub name_and_area : lines name_and_area_tree name_and_area_history ≡
+      codes "dir / stat,lstat,open-r,chdir"
+      ∷ codes "dir /a rmdir,chmod"
+      ∷ codes "other /a create,mkdir,symlink"
+      ∷ codes "prog /a/p stat,lstat,open-r,open-w,open-rw,create,unlink,chmod,exec"
+      ∷ codes "prog /f stat,lstat,open-r,open-w,open-rw,create,unlink,chmod,exec"
+      ∷ codes "missing /f create,mkdir,symlink"
+      ∷ codes "dir new stat,lstat,open-r,rmdir,chmod,chdir"
+      ∷ codes "other new create,mkdir,symlink"
+      ∷ codes "file new stat,lstat,open-r,open-w,open-rw,create,unlink,chmod"
+      ∷ codes "link new lstat,readlink,unlink"
+      ∷ []
+  pub dead_name : lines dead_name_tree dead_name_history ≡
+      codes "dir /a rmdir"
+      ∷ codes "other /a mkdir,symlink"
+      ∷ codes "file /a/f unlink"
+      ∷ codes "dir new rmdir"
+      ∷ codes "other new mkdir,symlink"
+      ∷ codes "link new unlink"
+      ∷ []
+  pub second_name : lines second_name_tree second_name_history ≡
+      codes "dir /a rmdir"
+      ∷ codes "other /a mkdir,symlink"
+      ∷ codes "file /a/k stat,lstat,open-r,open-w,open-rw,create,unlink,chmod"
+      ∷ codes "dir /b stat,lstat,open-r,rmdir,chmod,chdir"
+      ∷ codes "other /b create,mkdir,symlink"
+      ∷ codes "dir new stat,lstat,open-r,rmdir,chmod,chdir"
+      ∷ codes "other new create,mkdir,symlink"
+      ∷ codes "file new stat,lstat,open-r,open-w,open-rw,create,unlink,chmod"
+      ∷ codes "link new lstat,readlink,unlink"
+      ∷ []
+  pub one_that_stays : lines one_that_stays_tree one_that_stays_history ≡
+      codes "dir / stat,lstat,open-r,chmod,chdir"
+      ∷ codes "other / create,mkdir,symlink"
+      ∷ codes "dir /a stat,lstat,open-r,chmod,chdir"
+      ∷ codes "other /a create,mkdir,symlink"
+      ∷ codes "file /a/k stat,lstat,open-r"
+      ∷ codes "dir /b stat,lstat,open-r,rmdir,chmod,chdir"
+      ∷ codes "other /b create,mkdir,symlink"
+      ∷ codes "file /b/k stat,lstat,open-r,open-w,open-rw,create,unlink,chmod"
+      ∷ codes "dir new stat,lstat,open-r,rmdir,chmod,chdir"
+      ∷ codes "other new create,mkdir,symlink"
+      ∷ codes "file new stat,lstat,open-r,open-w,open-rw,create,unlink,chmod"
+      ∷ codes "link new lstat,readlink,unlink"
+      ∷ []
+  pub no_veil : lines no_veil_tree no_veil_history ≡
+      codes "dir / stat,lstat,open-r,chmod,chdir"
+      ∷ codes "other / create,mkdir,symlink"
+      ∷ codes "dir /a stat,lstat,open-r,rmdir,chmod,chdir"
+      ∷ codes "other /a create,mkdir,symlink"
+      ∷ codes "file /a/k stat,lstat,open-r,open-w,open-rw,create,unlink,chmod"
+      ∷ codes "dir new stat,lstat,open-r,rmdir,chmod,chdir"
+      ∷ codes "other new create,mkdir,symlink"
+      ∷ codes "file new stat,lstat,open-r,open-w,open-rw,create,unlink,chmod"
+      ∷ codes "link new lstat,readlink,unlink"
+      ∷ []
+  pub no_cpath : lines no_cpath_tree no_cpath_history ≡
+      codes "dir / stat,lstat,open-r,chdir"
+      ∷ codes "dir /a stat,lstat,open-r,chdir"
+      ∷ codes "file /a/k stat,lstat,open-r,open-w,open-rw"
+      ∷ []
+
+pub ever_rows : EverRows
+ever_rows = record {
+  moved_on = refl;
+  in_the_place = refl;
+  one_area = refl;
+  name_alone = refl;
+  name_and_area = refl;
+  dead_name = refl;
+  second_name = refl;
+  one_that_stays = refl;
+  no_veil = refl;
+  no_cpath = refl;
+}

@@ -1,0 +1,165 @@
+-- What is true of all that can ever be touched.
+use Rattle.std.specs.Prelude.{◌≡◌, ◌<◌, ◌≤◌, ◌++◌, ℕ, List, [], ◌∷◌, Some, None, Result, Ok, IsTrue, IsFalse}
+use Rattle.std.specs.List.{Contains}
+use Rattle.pua_tree.specs.Tree.{Tree, Spot, look, kind_at}
+use Rattle.pua_tree.specs.declared.node.Kind.TheVariants as kind
+use Rattle.pua_path.specs.Resolution.{resolution_of_text}
+use Rattle.pua_path.specs.declared.errno.Errno.{Errno}
+use Rattle.pua_path.specs.declared.found.Way.{Way}
+use Rattle.pua_path.specs.declared.found.Found.{Found}
+use Rattle.pua_path.specs.declared.found.Found.TheVariants.{Whole, Slot}
+use Rattle.pua_policy.specs.Promises.{holds, creating}
+use Rattle.pua_policy.specs.Calls.{CallTable, standard_table, rule_of, ending_of, last_of}
+use Rattle.pua_policy.specs.History.{History, kept, is_ended}
+use Rattle.pua_policy.specs.Verdict.{verdict_of}
+use Rattle.pua_policy.specs.declared.answer.Verdict.TheVariants.{Allowed}
+use Rattle.pua_policy.specs.declared.call.Call.{Call}
+use Rattle.pua_policy.specs.declared.call.Call.TheVariants as call
+use Rattle.pua_policy.specs.declared.place.Place.{Place}
+use Rattle.pua_policy.specs.declared.place.Place.TheVariants as place
+use Rattle.pua_script.specs.Requests.{Asked}
+use Rattle.pua_tree.specs.Listing.{listing}
+use Rattle.pua_script.specs.Scripts.{script}
+use Rattle.pua_script.specs.Replay.{World, new_world, history_of, world_after}
+use Rattle.pua_script.specs.Laws.{IsConfined}
+use Rattle.pua_script.specs.Family.{family, is_member, none_done, members_alone, is_exec, HasHistoryOf}
+use Rattle.pua_script.specs.Tightening.{NoCallNeedsError, Tightens}
+use Rattle.pua_script.specs.Confinement.{TreesAlong}
+use Rattle.pua_objects.specs.Objects.{At, Others, own_way}
+use Rattle.pua_ever.specs.Ever.{NewDir, NewOthers, NewFile, NewLink, Thing, Stands, Comes, EverLine, ever}
+
+-- the five calls that make a name or take one away need `c`
+pub record EditsNeedC (table : CallTable) : Type 0 where
+  pub create : IsTrue (holds (rule_of table call.Create).perms creating)
+  pub mkdir : IsTrue (holds (rule_of table call.Mkdir).perms creating)
+  pub rmdir : IsTrue (holds (rule_of table call.Rmdir).perms creating)
+  pub unlink : IsTrue (holds (rule_of table call.Unlink).perms creating)
+  pub symlink : IsTrue (holds (rule_of table call.Symlink).perms creating)
+
+-- each veil stands on a directory, or in one, whose number was given
+abbrev pub dir_of_place : Place → ℕ
+dir_of_place (place.Dir dir) = dir
+dir_of_place (place.Slot dir name) = dir
+
+abbrev pub VeilsStand : Tree → History → Type 0
+VeilsStand t h = (at : Place) (perms : ℕ) → kept h at ≡ Some perms → dir_of_place at < t.next
+
+-- the line of what a path named in a later tree, by what stood in the tree `t` of the beginning:
+-- a directory of then has its own; a file, program or link of then that of a row in which it stood then;
+-- a missing name its own, where a veil is kept at it, and else that of its directory's further names.
+-- What has a number that was not given then is new, and its line is that of its kind
+pub data IsLineOf (t later : Tree) (h : History) : Thing → Found → Type 0 where
+  of_dir : {dir : ℕ} {way : Way} →
+      dir < t.next → IsLineOf t later h (Stands (At (Whole dir (own_way t dir)))) (Whole dir way)
+  of_row : {dir : ℕ} {name : List ℕ} {node : ℕ} →
+      (row : Spot) → look t row.0 row.1 ≡ Some node →
+      IsLineOf t later h (Stands (At (Slot row.0 row.1 (Some node)))) (Slot dir name (Some node))
+  of_name : {dir : ℕ} {name : List ℕ} →
+      (perms : ℕ) → kept h (place.Slot dir name) ≡ Some perms →
+      IsLineOf t later h (Stands (At (Slot dir name None))) (Slot dir name None)
+  of_others : {dir : ℕ} {name : List ℕ} →
+      dir < t.next → kept h (place.Slot dir name) ≡ None →
+      IsLineOf t later h (Stands (Others dir)) (Slot dir name None)
+  of_new_dir : {dir : ℕ} {way : Way} →
+      t.next ≤ dir → IsLineOf t later h (Comes NewDir) (Whole dir way)
+  of_new_file : {dir : ℕ} {name : List ℕ} {node : ℕ} →
+      t.next ≤ node → kind_at later node ≡ Some kind.File →
+      IsLineOf t later h (Comes NewFile) (Slot dir name (Some node))
+  of_new_link : {dir : ℕ} {name : List ℕ} {node : ℕ} →
+      t.next ≤ node → kind_at later node ≡ Some kind.Link →
+      IsLineOf t later h (Comes NewLink) (Slot dir name (Some node))
+  of_new_others : {dir : ℕ} {name : List ℕ} →
+      t.next ≤ dir → IsLineOf t later h (Comes NewOthers) (Slot dir name None)
+
+-- what a path named has a line, and the line has the call
+pub record IsForeseen (t : Tree) (table : CallTable) (h : History)
+    (later : Tree) (call : Call) (named : Result Found Errno) : Type 0 where
+  pub object : Found
+  pub names : named ≡ Ok object
+  pub line : EverLine
+  pub listed : Contains (ever t table h) line
+  pub about : IsLineOf t later h line.thing object
+  pub allows : Contains line.calls call
+
+-- over a later tree: whatever path is spelled, of whatever length, from whatever directory, if a call is
+-- allowed on it by a history, the line of what it names has the call
+abbrev pub Foresees : Tree → CallTable → History → Tree → History → Type 0
+Foresees t table now later last =
+    (from : ℕ) (call : Call) (text : List ℕ) →
+    let named = resolution_of_text later from (ending_of call) text (last_of call) in
+    verdict_of later table last call named ≡ Allowed → IsForeseen t table now later call named
+
+-- a process that can put no veil any more, and what it forks from now on: whatever they alone ask for, as
+-- long as no exec of a member is answered ok, each call that is then allowed to a member has its line now.
+-- Each list begins with its own shorter ones, so this is of every moment on the way
+abbrev pub EverComplete : Type 0
+EverComplete =
+    (table : CallTable) → NoCallNeedsError table → EditsNeedC table →
+    (w : World) (asks : List Asked) (process : ℕ) (now : History) →
+    history_of w process ≡ Some now → IsConfined now → VeilsStand w.tree now → TreesAlong table w asks →
+    IsTrue (none_done is_exec table w asks (process ∷ [])) →
+    IsTrue (members_alone table w asks (process ∷ [])) →
+    (member : ℕ) → IsTrue (is_member (family table w asks (process ∷ [])) member) →
+    let after = world_after table w asks in
+    HasHistoryOf after member (Foresees w.tree table now after.tree)
+
+-- no line has `exec`
+abbrev pub NoLineHasExec : Tree → CallTable → History → Type 0
+NoLineHasExec t table h =
+    (line : EverLine) → Contains (ever t table h) line → Contains line.calls call.Exec → ⊥
+
+-- then no exec of a member can be answered ok: what the law asks for is so by itself
+abbrev pub WithoutExec : Type 0
+WithoutExec =
+    (table : CallTable) → NoCallNeedsError table → EditsNeedC table →
+    (w : World) (asks : List Asked) (process : ℕ) (now : History) →
+    history_of w process ≡ Some now → IsConfined now → VeilsStand w.tree now → TreesAlong table w asks →
+    IsTrue (members_alone table w asks (process ∷ [])) → NoLineHasExec w.tree table now →
+    IsTrue (none_done is_exec table w asks (process ∷ []))
+
+-- several processes that act together: each has the veils of a history, no promise beyond it but `error`,
+-- and is ended where that is. Such are a process and those that it forked before now, if none has put a
+-- veil since
+abbrev pub ActsWithin : World → History → List ℕ → Type 0
+ActsWithin w now members =
+    (member : ℕ) → IsTrue (is_member members member) →
+    HasHistoryOf w member (λ h. Tightens now h × (IsFalse (is_ended h) → IsFalse (is_ended now)))
+
+-- the same of them, and of what they fork
+abbrev pub EverOfMany : Type 0
+EverOfMany =
+    (table : CallTable) → NoCallNeedsError table → EditsNeedC table →
+    (w : World) (asks : List Asked) (members : List ℕ) (now : History) →
+    ActsWithin w now members → VeilsStand w.tree now → TreesAlong table w asks →
+    IsTrue (none_done is_exec table w asks members) → IsTrue (members_alone table w asks members) →
+    (member : ℕ) → IsTrue (is_member (family table w asks members) member) →
+    let after = world_after table w asks in
+    HasHistoryOf after member (Foresees w.tree table now after.tree)
+
+-- each veil of each process stands on a number that was given: so it is in each world that a replay leaves
+abbrev pub PlacesStand : World → Type 0
+PlacesStand w = (process : ℕ) (h : History) → history_of w process ≡ Some h → VeilsStand w.tree h
+
+abbrev pub ReplaysKeepPlaces : Type 0
+ReplaysKeepPlaces =
+    (table : CallTable) → EditsNeedC table → (w : World) (asks : List Asked) →
+    TreesAlong table w asks → PlacesStand w → PlacesStand (world_after table w asks)
+
+-- a listing and a script as a command reads them, cut anywhere: the first lines left a world, in which some
+-- process can put no veil any more, and its family alone asks the further ones
+abbrev pub EverAsRead : Type 0
+EverAsRead =
+    (table : CallTable) → NoCallNeedsError table → EditsNeedC table →
+    (tree_bytes script_bytes : List ℕ) (t : Tree) (first asks : List Asked) →
+    listing tree_bytes ≡ Ok t → script script_bytes ≡ Ok (first ++ asks) →
+    let w = world_after table (new_world t) first in
+    (process : ℕ) (now : History) → history_of w process ≡ Some now → IsConfined now →
+    IsTrue (none_done is_exec table w asks (process ∷ [])) →
+    IsTrue (members_alone table w asks (process ∷ [])) →
+    (member : ℕ) → IsTrue (is_member (family table w asks (process ∷ [])) member) →
+    let after = world_after table w asks in
+    HasHistoryOf after member (Foresees w.tree table now after.tree)
+
+-- the standard table is one of those that the laws speak of
+abbrev pub StandardEditsNeedC : Type 0
+StandardEditsNeedC = EditsNeedC standard_table

@@ -1,0 +1,30 @@
+//! Laws and worked examples, each the contract of a function that does nothing.
+
+ghost use Rattle.pua_ever.specs.Examples.{EverRows};
+ghost use Rattle.pua_ever.specs.Laws.{EverAsRead, EverComplete, EverOfMany, ReplaysKeepPlaces, StandardEditsNeedC, WithoutExec};
+
+/// Whatever a process that can put no veil any more and what it forks ask for, as long as they alone ask
+/// and no exec of theirs succeeds: if a call of one of them is then allowed on what a path names, the line
+/// of that thing in the list of the beginning has the call. So it is of several processes with the same
+/// veils, and of a listing and a script as a command reads them. Where no line has an exec, none can
+/// succeed.
+pub fn ever_law()
+    ensures complete { EverComplete }
+    ensures many { EverOfMany }
+    ensures exec { WithoutExec }
+    ensures read { EverAsRead }
+{}
+
+/// Each veil stands on a number that was given, in each world that a replay leaves; and the standard
+/// table is one of those that the laws speak of.
+#[tactic(auto, using(crate::proofs::Standing::replays_keep_places, crate::proofs::Standard::standard_edits_need_c))]
+pub fn premises_law()
+    ensures places { ReplaysKeepPlaces }
+    ensures table { StandardEditsNeedC }
+{}
+
+/// Examples of what can ever be touched.
+#[tactic(auto, using(crate::specs::Examples::ever_rows))]
+pub fn ever_examples()
+    ensures { EverRows }
+{}
