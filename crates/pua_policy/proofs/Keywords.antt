@@ -1,10 +1,10 @@
 -- The keywords' flags are the rows of the definition.
 use Rattle.std.proofs.Common.{◌≡◌, ℕ, ◌<◌, ◌^◌, List, [], ◌∷◌, Bool, true, false, cond, map, refl, sym, ap, ◌∙◌, arith}
 use Rattle.std.proofs.lemmas.Bool.Decides.{nat_tests}
-use Rattle.std.specs.List.{find}
+use Rattle.std.specs.List.{find, filter}
 use Rattle.std.specs.Prelude.{Option, Some, None, option_map, nat_lt}
 use Rattle.pua_tree.specs.Names.{same_bytes}
-use Rattle.pua_policy.specs.Promises.{keyword_rows, promise_of}
+use Rattle.pua_policy.specs.Promises.{holds, keyword_rows, keywords_of, promise_of}
 use Rattle.pua_path.proofs.ForCallers.{find_passes}
 
 -- finding after a map is a map after finding
@@ -34,3 +34,17 @@ promise_of-below word bits e = by (find (λ row. same_bytes row.0 word) keyword_
         let low : nat_lt row.1 (2 ^ 36) ≡ true = find_passes (λ row. nat_lt row.1 (2 ^ 36)) (λ row. same_bytes row.0 word) keyword_rows row refl found in
         let same : row.1 ≡ bits = cc in
         grind (arith, nat_tests)
+
+-- what a map gives of the elements that pass, which are told by what it gives of them
+filter-map : {X Y Z : Type 0} (f : X → Y) (g : Y → Z) (p : Y → Bool) (xs : List X) → map g (filter p (map f xs)) ≡ map (λ x. g (f x)) (filter (λ x. p (f x)) xs)
+filter-map f g p [] = refl
+filter-map f g p (x ∷ xs) = elim (p (f x)) as (λ b. map g (cond b (f x ∷ filter p (map f xs)) (filter p (map f xs))) ≡ map (λ x. g (f x)) (cond b (x ∷ filter (λ x. p (f x)) xs) (filter (λ x. p (f x)) xs))) [
+  | true ↦ ap (λ t. g (f x) ∷ t) (filter-map f g p xs)
+  | false ↦ filter-map f g p xs
+]
+
+-- the keywords of a set are those of its flags
+pub keywords_of-filter : {F : Type 0} (row : F → (List ℕ × ℕ)) (flags : List F) (set : ℕ) → map row flags ≡ keyword_rows →
+    keywords_of set ≡ map (λ flag. (row flag).0) (filter (λ flag. holds set (row flag).1) flags)
+keywords_of-filter row flags set e =
+    ap (λ rows. map (λ row. row.0) (filter (λ row. holds set row.1) rows)) (sym e) ∙ filter-map row (λ row. row.0) (λ row. holds set row.1) flags

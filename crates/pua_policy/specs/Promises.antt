@@ -1,5 +1,5 @@
 -- Sets of promises and of permissions as numbers, a bit for each member, and how they are read.
-use Rattle.std.specs.Prelude.{ℕ, map, ◌*◌, ◌-◌, ◌^◌, Bool, List, [], ◌∷◌, ◌==◌, Option, Some, None, Result, Ok, Err, codes, bit_and, bit_or, filter, find, not, position, option_map}
+use Rattle.std.specs.Prelude.{ℕ, map, ◌*◌, ◌++◌, if◌then◌else◌, ◌-◌, ◌^◌, Bool, List, [], ◌∷◌, ◌==◌, Option, Some, None, Result, Ok, Err, codes, bit_and, bit_or, filter, find, not, position, option_map}
 use Rattle.std.specs.List.{slice_split}
 use Rattle.pua_tree.specs.Names.{same_bytes}
 use Rattle.pua_path.specs.declared.errno.Errno.{Errno}
@@ -78,6 +78,10 @@ promises_of (b ∷ more) = union_of (map promise_of (slice_split (λ b. b == 44)
 abbrev pub other_promises : List ℕ → Result ℕ Errno
 other_promises word = union_of (map (λ row. Some row.1) (filter (λ row. not (same_bytes row.0 word)) keyword_rows))
 
+-- the keywords of a set's members, in the order of all keywords
+abbrev pub keywords_of : ℕ → List (List ℕ)
+keywords_of set = map (λ row. row.0) (filter (λ row. holds set row.1) keyword_rows)
+
 -- the letters of permissions
 abbrev pub letter_of : ℕ → Option ℕ
 letter_of b = option_map (λ place. 2 ^ place) (position (λ letter. letter == b) (codes "rwxc"))
@@ -96,3 +100,8 @@ executing = 4
 
 abbrev pub creating : ℕ
 creating = 8
+
+-- the letters of a set of permissions, in their order
+abbrev pub letters_of : ℕ → List ℕ
+letters_of perms = (if holds perms reading then codes "r" else []) ++ (if holds perms writing then codes "w" else [])
+    ++ (if holds perms executing then codes "x" else []) ++ (if holds perms creating then codes "c" else [])

@@ -27,7 +27,7 @@ impl Model for Perms {
 }
 
 ghost use Rattle.std.specs.Prelude.{⊤, ◌≡◌, [], ◌∷◌, codes, bit_or};
-ghost use Rattle.pua_policy.specs.Promises.{holds, perms_of, letter_of, reading, writing, executing, creating};
+ghost use Rattle.pua_policy.specs.Promises.{holds, perms_of, letter_of, letters_of, reading, writing, executing, creating};
 
 use pua_path::Errno;
 
@@ -108,6 +108,35 @@ impl Perms {
             perms = perms.union(letter(*byte).ok_or(Errno::EINVAL)?);
         }
         Ok(perms)
+    }
+
+    /// The letters of these, in the order r, w, x, c; no letters for none.
+    pub fn letters(self) -> &'static str
+        ensures { result.now ≡ letters_of self }
+    {
+        match (
+            self.contains(Perms::READ),
+            self.contains(Perms::WRITE),
+            self.contains(Perms::EXEC),
+            self.contains(Perms::CREATE),
+        ) {
+            (false, false, false, false) => "",
+            (false, false, false, true) => "c",
+            (false, false, true, false) => "x",
+            (false, false, true, true) => "xc",
+            (false, true, false, false) => "w",
+            (false, true, false, true) => "wc",
+            (false, true, true, false) => "wx",
+            (false, true, true, true) => "wxc",
+            (true, false, false, false) => "r",
+            (true, false, false, true) => "rc",
+            (true, false, true, false) => "rx",
+            (true, false, true, true) => "rxc",
+            (true, true, false, false) => "rw",
+            (true, true, false, true) => "rwc",
+            (true, true, true, false) => "rwx",
+            (true, true, true, true) => "rwxc",
+        }
     }
 
     /// Whether each of the others is one of these.

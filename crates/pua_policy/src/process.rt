@@ -41,7 +41,7 @@ impl Model for Process {
 ghost use Rattle.std.specs.Prelude.{◌≡◌, ◌≢◌, ◌-◌, [], ◌∷◌, length, map, Option, Some, None, Err, IfOk, OnOk, OnErr, IfErr, IfSome, if◌then◌else◌, false, MatchResult, unwrap_or};
 ghost use Rattle.std.specs.List.{list_any};
 ghost use Rattle.pua_policy.specs.Promises.{holds, all_promises, error};
-ghost use Rattle.pua_policy.specs.History.{History, StandsFor, Pledged, Unveiled, Locked, Moved, Ended, new_history, HasHistory, after_exec, pledge_fault, unveil_fault, place_fault, is_within, narrowed, may_any, is_locked, is_ended, working_dir, kept, veil_at, has_veil};
+ghost use Rattle.pua_policy.specs.History.{History, StandsFor, Pledged, Unveiled, Locked, Moved, Ended, new_history, HasHistory, after_exec, pledge_fault, unveil_fault, place_fault, is_within, narrowed, may_any, is_locked, is_ended, working_dir, pledged, held_for_exec, kept, veils, veil_at, has_veil};
 
 impl Process {
     /// A new process, in the root: it holds every promise but `error`, and has no veil (this
@@ -123,6 +123,24 @@ impl Process {
         ensures history { (h : History) → StandsFor self.now h → result ≡ is_locked h }
     {
         self.locked
+    }
+
+    /// The promises that its pledges left it. None where no pledge gave promises, and it holds every
+    /// one but `error`.
+    pub fn promises(&self) -> Option<Promises>
+        ensures state { result ≡ self.now.promises }
+        ensures history { (h : History) → StandsFor self.now h → result ≡ pledged h }
+    {
+        self.promises
+    }
+
+    /// The promises that its pledges left to a program that it starts. None where no pledge gave
+    /// execpromises.
+    pub fn execpromises(&self) -> Option<Promises>
+        ensures state { result ≡ self.now.execpromises }
+        ensures history { (h : History) → StandsFor self.now h → result ≡ held_for_exec h }
+    {
+        self.execpromises
     }
 
     /// Makes this its working directory, as chdir(2) does.
@@ -258,6 +276,15 @@ impl Process {
         lent_places(alloc, &self.veils).map_err(|_| OutOfMemory)
     }
 
+    /// Lends the places with veils, in the order in which they were first kept, each with the
+    /// permissions that are kept there now. The only error is that the memory for the list is refused.
+    pub fn veils(&self, alloc: Global) -> Result<Vec<(&Place, &Perms)>, OutOfMemory>
+        ensures state { IfOk result (λ lent. map (λ veil. (veil.0.now, veil.1.now)) lent.items ≡ self.now.veils) }
+        ensures history { IfOk result (λ lent. (h : History) → StandsFor self.now h → map (λ veil. (veil.0.now, veil.1.now)) lent.items ≡ veils h) }
+    {
+        lent_veils(alloc, &self.veils).map_err(|_| OutOfMemory)
+    }
+
     /// Whether a veil is kept.
     pub fn is_veiled(&self) -> bool
         ensures { result ≡ has_veil self.now.veils }
@@ -280,6 +307,16 @@ fn lent_places(alloc: Global, veils: &IndexMap<Place, Perms>) -> Result<Vec<&Pla
     ensures { IfOk result (λ places. map (λ place. place.now) places.items ≡ map (λ veil. veil.0) veils.now.entries) }
 {
     veils.keys().collect(alloc)
+}
+
+/// Veils with their places, in the order in which the places were first kept.
+fn lent_veils(
+    alloc: Global,
+    veils: &IndexMap<Place, Perms>,
+) -> Result<Vec<(&Place, &Perms)>, AllocError>
+    ensures { IfOk result (λ lent. map (λ veil. (veil.0.now, veil.1.now)) lent.items ≡ veils.now.entries) }
+{
+    veils.iter().collect(alloc)
 }
 
 /// Whether these promises hold one of the sets.

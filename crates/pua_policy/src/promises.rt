@@ -26,11 +26,13 @@ impl Model for Promises {
     ghost inverse = { λ n. record { keywords = record { 0 = n } } };
 }
 
-ghost use Rattle.std.specs.Prelude.{⊤, ◌≡◌, ◌==◌, bit_and, bit_or, map, option_map};
-ghost use Rattle.pua_policy.specs.Promises.{holds, promises_of, promise_of, union_of, keyword_rows};
+ghost use Rattle.std.specs.Prelude.{⊤, ◌≡◌, ◌==◌, IfOk, bit_and, bit_or, map, option_map};
+ghost use Rattle.pua_policy.specs.Promises.{holds, keywords_of, promises_of, promise_of, union_of, keyword_rows};
 ghost use Rattle.std.specs.List.{slice_split};
 
 use pua_path::Errno;
+use pua_tree::OutOfMemory;
+use std::alloc::{AllocError, Global};
 
 /// The keywords that a call needs, or that decide what a call without its promises gets.
 impl Keywords {
@@ -308,6 +310,28 @@ impl Promises {
             keywords: self.keywords.intersection(others.keywords),
         }
     }
+
+    /// The keywords of these, each once, in the order of all keywords. The only error is that the
+    /// memory for the list is refused.
+    pub fn names(self, alloc: Global) -> Result<Vec<&'static str>, OutOfMemory>
+        ensures { IfOk result (λ names. map (λ name. name.now) names.items ≡ keywords_of self) }
+    {
+        match lent_names(alloc, self.keywords) {
+            Ok(names) => Ok(names),
+            Err(_) => Err(OutOfMemory),
+        }
+    }
+}
+
+/// The keywords of a set's members, in their order.
+fn lent_names(alloc: Global, set: Keywords) -> Result<Vec<&'static str>, AllocError>
+    ensures { IfOk result (λ names. map (λ name. name.now) names.items ≡ keywords_of set.0) }
+{
+    Keywords::flags()
+        .iter()
+        .filter(|flag| set.contains(flag.value))
+        .map(|flag| flag.name)
+        .collect(alloc)
 }
 
 /// The promises that keywords with a comma between each two name.

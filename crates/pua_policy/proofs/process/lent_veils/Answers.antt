@@ -1,0 +1,5 @@
+use Rattle.std.proofs.lemmas.Iterator.Consumers.{map_from_collect, YieldsList-from_rest}
+use Rattle.pua_policy.proofs.process.lent_veils.Goals as goal
+
+pub returns : goal.returns
+returns c = map_from_collect _ c.collect.ensures.ran (YieldsList-from_rest c.args.veils.now.entries c.iter.ensures.rest)
