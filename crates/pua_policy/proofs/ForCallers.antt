@@ -16,6 +16,8 @@ pub use Rattle.pua_policy.proofs.Unveiled.{unveiled_alike, unveiled_within, miss
 pub use Rattle.pua_policy.proofs.CallBits.{bit_below, call_at_bit, bit_of_call_at, same_bit}
 -- covers, one directory after another
 pub use Rattle.pua_policy.proofs.Climbs.{climb_root, nearest_here, nearest_above, nearest_root, nearest_whole}
+-- covers go down from directory to directory
+pub use Rattle.pua_policy.proofs.Descending.{covers_descend}
 -- the veils that are kept, places that test alike, and whether there is any veil
 pub use Rattle.pua_policy.proofs.Veils.{veils_are_kept, same_place_is}
 pub use Rattle.pua_policy.proofs.Standing.{any_veil}

@@ -13,6 +13,7 @@ pub mod Exec
 pub mod Standing
 pub mod Covers
 pub mod Unveiled
+pub mod Descending
 pub mod Histories
 pub mod SoundTexts
 pub mod ForCallers

@@ -1,15 +1,19 @@
 -- What is true of histories and of covers.
-use Rattle.std.specs.Prelude.{◌≡◌, ℕ, List, ◌∷◌, ◌++◌, map, Option, Some, None, is_none, IsTrue, IsFalse, bit_and, ◌<◌, ◌^◌}
-use Rattle.std.specs.List.{list_all}
-use Rattle.pua_tree.specs.Tree.{Tree}
+use Rattle.std.specs.Prelude.{◌≡◌, ℕ, List, ◌∷◌, ◌++◌, map, Option, Some, None, is_none, true, if◌then◌else◌, IsTrue, IsFalse, bit_and, ◌<◌, ◌^◌}
+use Rattle.std.specs.List.{list_all, list_any}
+use Rattle.pua_tree.specs.Tree.{Tree, WellFormed, look, is_dir, above}
+use Rattle.pua_path.specs.declared.found.Way.{Way}
 use Rattle.pua_path.specs.declared.found.Found.{Found}
+use Rattle.pua_path.specs.declared.found.Found.TheVariants.{Whole}
+use Rattle.pua_path.specs.declared.found.Found.TheVariants as found
 use Rattle.pua_policy.specs.declared.place.Place.{Place}
-use Rattle.pua_policy.specs.declared.place.Place.TheVariants.{Dir}
-use Rattle.pua_policy.specs.declared.answer.Cover.TheVariants.{Only}
+use Rattle.pua_policy.specs.declared.place.Place.TheVariants.{Dir, Slot}
+use Rattle.pua_policy.specs.declared.answer.Cover.TheVariants.{All, Nothing, Only}
 use Rattle.pua_policy.specs.declared.answer.Verdict.TheVariants.{Allowed}
 use Rattle.pua_policy.specs.Promises.{holds, error}
 use Rattle.pua_policy.specs.History.{History, Event, Pledged, Unveiled, kept, veils, held, veil_at, pledge_fault, unveil_fault, may_any, ProcessState, StandsFor}
 use Rattle.pua_policy.specs.Verdict.{place_of, directories_over, cover, cover_fault, is_unveil, verdict, verdict_on}
+use Rattle.pua_policy.specs.Descent.{cover_in, own_or}
 use Rattle.pua_policy.specs.Calls.{CallTable}
 use Rattle.pua_policy.specs.Tables.{NoCallNeedsError}
 use Rattle.pua_policy.specs.declared.call.Call.{Call}
@@ -42,6 +46,17 @@ places_over t object = place_of object ∷ map Dir (directories_over t object)
 abbrev pub NearestCounts : Type 0
 NearestCounts = (t : Tree) (h : History) (object : Found) (near far : List Place) (place : Place) (perms : ℕ) →
     places_over t object ≡ near ++ place ∷ far → IsTrue (list_all (λ other. is_none (kept h other)) near) → kept h place ≡ Some perms → cover t h object ≡ Only perms
+
+-- covers go down from directory to directory, so none needs a climb
+pub record CoversGoDown (t : Tree) (h : History) : Type 0 where
+  pub root : cover_in t h 0 ≡ own_or (kept h (Dir 0)) (if list_any is_unveil h then Nothing else All)
+  pub below : (dir : ℕ) (name : List ℕ) (x : ℕ) → look t dir name ≡ Some x → is_dir t x ≡ true → cover_in t h x ≡ own_or (kept h (Dir x)) (cover_in t h dir)
+  pub over : (dir : ℕ) → is_dir t dir ≡ true → cover_in t h dir ≡ own_or (kept h (Dir dir)) (cover_in t h (above t dir))
+  pub directory : (dir : ℕ) (way : Way) → is_dir t dir ≡ true → cover t h (Whole dir way) ≡ cover_in t h dir
+  pub at_name : (dir : ℕ) (name : List ℕ) (node : Option ℕ) → cover t h (found.Slot dir name node) ≡ own_or (kept h (Slot dir name)) (cover_in t h dir)
+
+abbrev pub CoversDescend : Type 0
+CoversDescend = (t : Tree) (h : History) → WellFormed t → CoversGoDown t h
 
 -- an accepted unveil at a place that is kept leaves no object more than it had
 abbrev pub KeptPlacesNarrow : Type 0

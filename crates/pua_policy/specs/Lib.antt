@@ -7,6 +7,7 @@ pub mod TableTexts
 pub mod History
 pub mod Verdict
 pub mod Objects
+pub mod Descent
 pub mod Laws
 pub mod Examples
 pub mod TableExamples

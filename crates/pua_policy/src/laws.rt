@@ -2,7 +2,7 @@
 //! nothing, or that hands out the constants of which it speaks.
 
 ghost use Rattle.std.specs.Prelude.{◌≡◌, [], ◌∷◌, Ok, codes, map};
-ghost use Rattle.pua_policy.specs.Laws.{VeilsAreKept, CoverNeedsUnveil, NearestCounts, KeptPlacesNarrow, HeldNeverGrows, PledgesNarrow, ProcessesDecide};
+ghost use Rattle.pua_policy.specs.Laws.{VeilsAreKept, CoverNeedsUnveil, NearestCounts, KeptPlacesNarrow, CoversDescend, HeldNeverGrows, PledgesNarrow, ProcessesDecide};
 ghost use Rattle.pua_policy.specs.Calls.{calls};
 ghost use Rattle.pua_policy.specs.Limits.{place_limit};
 ghost use Rattle.pua_policy.specs.Tables.{alternative_limit};
@@ -92,6 +92,12 @@ pub fn cover_laws()
     ensures unveils { CoverNeedsUnveil }
     ensures nearest { NearestCounts }
     ensures narrows { KeptPlacesNarrow }
+{}
+
+/// Covers go down from directory to directory: a directory, or a name in one, has the permissions of
+/// its own veil, and without one what the veils leave of the names in the directory over it.
+pub fn descent_law()
+    ensures { CoversDescend }
 {}
 
 /// No event brings back a promise but `error`, so no pledge makes a call allowed by a table that does

@@ -19,7 +19,7 @@ pub use answer::{Cover, May, Refusal, UnveilFault, Verdict};
 pub use call::{Call, Need};
 pub use calls::Calls;
 pub use laws::{
-    cover_examples, cover_laws, limits_law, permission_constants, promise_bounds,
+    cover_examples, cover_laws, descent_law, limits_law, permission_constants, promise_bounds,
     promise_constants, promise_laws, standing_law, table_examples, verdict_examples,
 };
 pub use object::Object;
