@@ -43,15 +43,15 @@ code, .row { font-family: monospace; overflow-wrap: anywhere }
 .row > :nth-child(7) { grid-column: 2 / -1 } .row > :nth-child(7)::before { content: 'else: ' }
 .head { background: Canvas; font-weight: bold; position: sticky; top: 0 }
 details > :not(summary) { margin-left: 1.2em }
-summary::-webkit-details-marker { display: none }
-summary > :first-child::before { content: '\25b8 ' }
-details[open] > summary > :first-child::before { content: '\25be ' }
+summary::-webkit-details-marker { display: none } div > span:first-child::before { content: '\a0\a0' }
+summary > :first-child::before { content: '\25b8\a0' }
+details[open] > summary > :first-child::before { content: '\25be\a0' }
 .untouched { color: GrayText; color: light-dark(#666, #aaa) }
 .veil, .alarm { background: #369; border-radius: 3px; color: #fff; padding: 0 .4em }
 .alarm { background: #b30 }
 @media (max-width: 76em) {
   .row { display: block; padding: .2em 0 }
-  .head { display: none }
+  .head { display: none } details > :not(summary) { margin-left: .6em }
   .row > span + span:not(:empty) { display: block; padding-left: 2em }
   .row > span + span:not(:empty)::before { content: attr(title) ': ' }
 }
