@@ -45,7 +45,7 @@ sub content {
     return defined $bytes ? $bytes : '';
 }
 
-# Runs list.pl with these words: its status, and what it wrote on both outputs.
+# Runs list.pl as for foreign text, with these words: its status, and what it wrote on both outputs.
 sub list {
     my @words = @_;
     my ($out, $err) = ("$room/out", "$room/err");
@@ -54,7 +54,7 @@ sub list {
     if (!$child) {
         open STDOUT, '>', $out or POSIX::_exit(99);
         open STDERR, '>', $err or POSIX::_exit(99);
-        exec $^X, $LIST, @words or POSIX::_exit(99);
+        exec $^X, '-T', '-w', $LIST, @words or POSIX::_exit(99);
     }
     waitpid $child, 0;
     return ($? >> 8, content($out), content($err));
@@ -401,10 +401,6 @@ sub refuses {
     }
     refuses('no script', ['-s', "$root/none"], 1, qr/\Alist\.pl: \S+: \S.*\n\z/);
     refuses('a directory as a script', ['-s', $root], 1, qr/\Alist\.pl: \S+: \S.*\n\z/);
-    open my $to, '>', $script or die;
-    print $to "1 unveil /old r\n";
-    close $to;
-    is(`$^X -T -w $LIST -r $root -s $script 2>&1`, lines('1 dir 0 old', '2 file 1 f'), 'a script, with perl -T');
 }
 
 # A directory that can't be read, by a user who is not root.

@@ -39,7 +39,7 @@ sub page {
     if (!$child) {
         open STDOUT, '>', "$room/out" or POSIX::_exit(99);
         open STDERR, '>', "$room/err" or POSIX::_exit(99);
-        exec $^X, '-T', $PAGE, @words or POSIX::_exit(99);
+        exec $^X, '-T', '-w', $PAGE, @words or POSIX::_exit(99);
     }
     waitpid $child, 0;
     return ($? >> 8, content("$room/out"), content("$room/err"));
