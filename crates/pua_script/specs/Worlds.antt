@@ -1,5 +1,5 @@
 -- What a world keeps, and for which worlds of the replay it stands.
-use Rattle.std.specs.Prelude.{◌≡◌, ℕ, Bool, true, false, List, ◌∷◌, length, nat_eq, Option, Some, None, Result, Ok, Err, IsTrue}
+use Rattle.std.specs.Prelude.{◌≡◌, ℕ, Bool, true, false, List, ◌∷◌, length, map, nat_eq, Option, Some, None, Result, Ok, Err, IsTrue}
 use Rattle.std.specs.Ordering.{nat_cmp}
 use Rattle.std.specs.FinMap.{is_sorted}
 use Rattle.std.specs.Map.{lookup}
@@ -60,6 +60,10 @@ AreServed before asks told after =
 -- what the world keeps at a number stands for the history at that number, in each world for which it stands
 abbrev pub IsProcessOf : WorldState → ℕ → Option ProcessState → Type 0
 IsProcessOf s process kept = (w : World) → StandsForWorld s w → StandsAt kept (history_of w process)
+
+-- the numbers of all processes ever made, each above the one before it, in each world for which it stands
+abbrev pub AreNumbersOf : WorldState → List ℕ → Type 0
+AreNumbersOf s numbers = (w : World) → StandsForWorld s w → numbers ≡ map (λ made. made.0) w.histories
 
 -- a request that makes a process
 abbrev pub is_fork : Action → Bool

@@ -9,7 +9,7 @@ use crate::script::Script;
 use indexmap::IndexMap;
 use pua_policy::{CallTable, Process};
 use pua_tree::{FileTree, OutOfMemory};
-use std::alloc::Global;
+use std::alloc::{AllocError, Global};
 use std::marker::Model;
 
 /// The number of the process that a new world has.
@@ -36,11 +36,12 @@ impl<T: FileTree> Model for World<T> {
 }
 
 ghost use Rattle.std.specs.Prelude.{◌≡◌, IfOk, OnErr, MatchResult, IsFalse, option_copied};
-ghost use Rattle.pua_tree.specs.Tree.{WellFormed};
+ghost use Rattle.pua_tree.specs.Tree.{Tree, WellFormed};
+ghost use Rattle.pua_policy.specs.Calls.{CallTable as Calls};
 ghost use Rattle.pua_policy.specs.Tables.{NoCallNeedsError};
 ghost use Rattle.pua_script.specs.Futures.{AreDone, AreDoneInPart, AreHeld, AreServedInPart, IsNarrowing, IsSparing};
 ghost use Rattle.pua_script.specs.Replay.{new_world};
-ghost use Rattle.pua_script.specs.Worlds.{HasReplay, StandsForWorld, IsProcessOf, IsOkay, IsServed, AreServed, is_fork, process_at};
+ghost use Rattle.pua_script.specs.Worlds.{AreNumbersOf, HasReplay, StandsForWorld, IsProcessOf, IsOkay, IsServed, AreServed, is_fork, process_at};
 
 impl<T: FileTree> World<T> {
     /// A world over this tree with process 1 alone, which is new. It answers calls by this table.
@@ -94,6 +95,17 @@ impl<T: FileTree> World<T> {
         ensures history { IsProcessOf self.now number (option_copied result) }
     {
         self.processes.get(&number)
+    }
+
+    /// The numbers of all processes that were ever made, in ascending order. `OutOfMemory` where a
+    /// growth was refused.
+    pub fn numbers(&self, alloc: Global) -> Result<Vec<u32>, OutOfMemory>
+        ensures { IfOk result (λ numbers. AreNumbersOf self.now numbers.items) }
+    {
+        match sorted_keys(alloc, &self.processes) {
+            Ok(numbers) => Ok(numbers),
+            Err(_) => Err(OutOfMemory),
+        }
     }
 
     /// Serves one request, and answers it, by the rules of the calls' manual pages, and by this
@@ -176,6 +188,15 @@ impl<T: FileTree> World<T> {
         }
         Ok(told)
     }
+}
+
+/// The keys of processes, in ascending order.
+fn sorted_keys(alloc: Global, processes: &IndexMap<u32, Process>) -> Result<Vec<u32>, AllocError>
+    ensures { IfOk result (λ numbers. (t : Tree) (rules : Calls) → AreNumbersOf (record { tree = t; table = rules; processes = processes.now.entries }) numbers.items) }
+{
+    let mut numbers: Vec<u32> = processes.keys().copied().collect(alloc)?;
+    numbers.sort_unstable();
+    Ok(numbers)
 }
 
 /// Serves a request that makes no process.
