@@ -8,7 +8,6 @@ use Rattle.pua_tree.proofs.ForCallers.{same_Some}
 use Rattle.pua_path.specs.Fits.{spot_named, node_named}
 use Rattle.pua_path.specs.declared.errno.Errno.TheVariants.{EISDIR, ENOTEMPTY, EAGAIN}
 use Rattle.pua_path.specs.declared.text.Ending.TheVariants.{Dot, Dropped}
-use Rattle.pua_path.specs.declared.found.Last.TheVariants.{Kept}
 use Rattle.pua_path.specs.declared.found.Found.{Found}
 use Rattle.pua_path.specs.declared.found.Found.TheVariants.{Whole, Slot}
 use Rattle.pua_path.specs.declared.found.Way.TheVariants as way
@@ -29,14 +28,14 @@ use Rattle.pua_script.specs.declared.request.Action.TheVariants.{OnPath, Symlink
 use Rattle.pua_script.specs.Confinement.{has_c, TakingNeedsC}
 use Rattle.pua_script.specs.Decide.{Change, NoChange, AddNode, CutRow, ShiftRow, TieRow, CopyAs, adding, shifting, change_by, fault_if, is_whole, plain_node, link_node, kinds_fault}
 use Rattle.pua_script.specs.Guards.{IsDecided, IsShift}
-use Rattle.pua_script.proofs.ForCallers.{name_fits, c_from_cover, has_spot, by_tree, by_own_tree, by_cutting, by_going, by_tying, first_none, second_none, not_faulty, not_false}
+use Rattle.pua_script.proofs.ForCallers.{name_fits, c_from_cover, covered_by_c, has_spot, by_tree, by_own_tree, by_cutting, by_going, by_tying, first_none, second_none, not_faulty, not_false}
 use Rattle.pua_objects.proofs.ForCallers.{covers_descend}
 use Rattle.pua_ever.specs.Ever.{New, NewDir, NewFile, NewLink, maker}
 use Rattle.pua_ever.specs.Laws.{EditsNeedC}
 use Rattle.pua_ever.proofs.Grown.{Grown, Written, by_name, by_turn, From, is_moved, new_kind, name_cover, grown_all, grown_add, grown_tie, grown_cut, grown_shift}
 
 pub takes : (table : CallTable) → EditsNeedC table → TakingNeedsC table
-takes table needs = record { rmdir = needs.rmdir; unlink = needs.unlink }
+takes table needs = record { rmdir = needs.rmdir; unlink = needs.unlink; rename_old = needs.rename_old; rename_new = needs.rename_new }
 
 module _ (table : CallTable) (needs : EditsNeedC table) (t : Tree) (h : History) (well : WellFormed t) where
   abbrev IsMade : New → Spot → Type 0
@@ -135,17 +134,18 @@ module _ (table : CallTable) (needs : EditsNeedC table) (t : Tree) (h : History)
   grows_by (OnPath asked path) c d = subst Grows (sym d.2) (by_call asked d.0 d.1.promised d.1.covered)
   grows_by (Symlink target path) c d = subst Grows (sym d.3) (by_added NewLink (link_node target) refl refl needs.symlink d.0 d.1.promised d.1.covered)
   grows_by (Rename old new) c d =
-      by_moved d.old d.new d.node c (name_fits t well (working_dir h) Dropped old Kept d.old d.two.found_old)
-      (name_fits t well (working_dir h) Dropped new Kept d.new d.two.found_new) d.two.covered_old d.two.covered_new d.two.named d.moves
+      by_moved d.old d.new d.node c (name_fits t well (working_dir h) Dropped old table.rename.old.last d.old d.two.found_old)
+      (name_fits t well (working_dir h) Dropped new table.rename.new.last d.new d.two.found_new)
+      (covered_by_c (cover t h d.old) _ needs.rename_old d.two.covered_old) (covered_by_c (cover t h d.new) _ needs.rename_new d.two.covered_new) d.two.named d.moves
   grows_by (Link old new) c d =
-      let fits_old = name_fits t well (working_dir h) Dot old Kept d.old d.two.found_old in
-      let fits_new = name_fits t well (working_dir h) Dot new Kept d.new d.two.found_new in
+      let fits_old = name_fits t well (working_dir h) Dot old table.link.old.last d.old d.two.found_old in
+      let fits_new = name_fits t well (working_dir h) Dot new table.link.new.last d.new d.two.found_new in
       subst Grows (sym d.is)
       (by_tying Grows tt d.node (spot_named d.new)
       (λ s is. (
         (standing d.new fits_new s is).0,
-        by_name (free_name d.new d.free s is (named_c d.new d.two.covered_new)),
-        came d.old d.node fits_old d.two.covered_old d.two.named d.no_dir,
+        by_name (free_name d.new d.free s is (named_c d.new (covered_by_c (cover t h d.new) _ needs.link_new d.two.covered_new))),
+        came d.old d.node fits_old (covered_by_c (cover t h d.old) _ needs.link_old d.two.covered_old) d.two.named d.no_dir,
       )))
   grows_by (Pledge p x) c d = subst Grows (sym d.is) tt
   grows_by (Unveil path perms) c d = subst Grows (sym d.is) tt

@@ -5,7 +5,6 @@ use Rattle.std.specs.Prelude.{Some, is_some, nat_le, length, not}
 use Rattle.std.proofs.lemmas.Bool.{false≢true, and_parts, or_left, or_right}
 use Rattle.pua_path.specs.declared.errno.Errno.TheVariants.{EAGAIN}
 use Rattle.pua_path.specs.declared.found.Found.{Found}
-use Rattle.pua_policy.specs.Promises.{cpath}
 use Rattle.pua_policy.specs.History.{History, may_any}
 use Rattle.pua_policy.specs.Calls.{CallTable, rule_of}
 use Rattle.pua_policy.specs.Tables.{NamesNoError, NoCallNeedsError}
@@ -37,11 +36,14 @@ module _ (table : CallTable) (w : World) (h : History) (lacks : may_edit table h
   -- no edit is promised
   unpromised : (edit : Call) → Among edit_calls edit → may_any h (rule_of table edit).alternatives ≡ Yes → ⊥
   unpromised edit a e =
-      false≢true (sym lacks ∙ or_right (is_yes (may_any h (cpath ∷ []))) _
-      (any_among (λ edit. is_yes (may_any h (rule_of table edit).alternatives)) edit_calls edit a (ap is_yes e)))
+      false≢true (sym lacks ∙ or_right (is_yes (may_any h table.rename.new.needs.alternatives)) _ (or_right (is_yes (may_any h table.link.new.needs.alternatives)) _
+      (any_among (λ edit. is_yes (may_any h (rule_of table edit).alternatives)) edit_calls edit a (ap is_yes e))))
 
-  no_cpath : may_any h (cpath ∷ []) ≡ Yes → ⊥
-  no_cpath e = false≢true (sym lacks ∙ or_left (is_yes (may_any h (cpath ∷ []))) _ (ap is_yes e))
+  no_rename : may_any h table.rename.new.needs.alternatives ≡ Yes → ⊥
+  no_rename e = false≢true (sym lacks ∙ or_left (is_yes (may_any h table.rename.new.needs.alternatives)) _ (ap is_yes e))
+
+  no_link : may_any h table.link.new.needs.alternatives ≡ Yes → ⊥
+  no_link e = false≢true (sym lacks ∙ or_right (is_yes (may_any h table.rename.new.needs.alternatives)) _ (or_left (is_yes (may_any h table.link.new.needs.alternatives)) _ (ap is_yes e)))
 
   keeps_call : (c : Call) (x : Found) → may_any h (rule_of table c).alternatives ≡ Yes → Keeps (change_by c x)
   keeps_call call.Create x is = absurd (unpromised call.Create (inl refl) is)
@@ -62,8 +64,8 @@ module _ (table : CallTable) (w : World) (h : History) (lacks : may_edit table h
   keeps_by : (action : Action) (c : Change) → IsDecided table w.tree h action c → Keeps c
   keeps_by (OnPath asked path) c d = subst Keeps (sym d.2) (keeps_call asked d.0 d.1.promised)
   keeps_by (Symlink target path) c d = absurd (unpromised call.Symlink (inr (inr (inr (inr (inl refl))))) d.1.promised)
-  keeps_by (Rename old new) c d = absurd (no_cpath d.two.promised)
-  keeps_by (Link old new) c d = absurd (no_cpath d.two.promised)
+  keeps_by (Rename old new) c d = absurd (no_rename d.two.promised_new)
+  keeps_by (Link old new) c d = absurd (no_link d.two.promised_new)
   keeps_by (Pledge p x) c d = subst Keeps (sym d.is) refl
   keeps_by (Unveil path perms) c d = subst Keeps (sym d.is) refl
   keeps_by Lock c d = subst Keeps (sym d.1) refl
@@ -84,15 +86,21 @@ module _ (table : CallTable) (sound : NoCallNeedsError table) (now : History) wh
       by Death is e = absurd (false≢true e)
 
   pub still_unable : (h : History) → IsWithin now h → may_edit table now ≡ false → may_edit table h ≡ false
-  still_unable h within lacks = by (is_yes (may_any h (cpath ∷ []))) (list_any (λ edit. is_yes (may_any h (rule_of table edit).alternatives)) edit_calls) refl refl
+  still_unable h within lacks =
+      by (is_yes (may_any h table.rename.new.needs.alternatives)) (is_yes (may_any h table.link.new.needs.alternatives))
+      (list_any (λ edit. is_yes (may_any h (rule_of table edit).alternatives)) edit_calls) refl refl refl
     where
-      by : (a b : Bool) → is_yes (may_any h (cpath ∷ [])) ≡ a → list_any (λ edit. is_yes (may_any h (rule_of table edit).alternatives)) edit_calls ≡ b → may_edit table h ≡ false
-      by true b is e = absurd (false≢true (sym lacks ∙ or_left _ _ (yes_before h within (cpath ∷ []) ((lit< tt, refl), tt) is)))
-      by false true is e =
+      by : (a b c : Bool) → is_yes (may_any h table.rename.new.needs.alternatives) ≡ a → is_yes (may_any h table.link.new.needs.alternatives) ≡ b
+          → list_any (λ edit. is_yes (may_any h (rule_of table edit).alternatives)) edit_calls ≡ c → may_edit table h ≡ false
+      by true b c is in_link e = absurd (false≢true (sym lacks ∙ or_left _ _ (yes_before h within table.rename.new.needs.alternatives sound.rename.1 is)))
+      by false true c is in_link e =
+          absurd (false≢true (sym lacks ∙ or_right (is_yes (may_any now table.rename.new.needs.alternatives)) _
+          (or_left _ _ (yes_before h within table.link.new.needs.alternatives sound.link.1 in_link))))
+      by false false true is in_link e =
           let found = any_found (λ edit. is_yes (may_any h (rule_of table edit).alternatives)) edit_calls e in
-          absurd (false≢true (sym lacks ∙ or_right (is_yes (may_any now (cpath ∷ []))) _
-          (any_among (λ edit. is_yes (may_any now (rule_of table edit).alternatives)) edit_calls found.0 found.1 (yes_before h within (rule_of table found.0).alternatives (sound found.0) found.2))))
-      by false false is e = λ i. is i || e i
+          absurd (false≢true (sym lacks ∙ or_right (is_yes (may_any now table.rename.new.needs.alternatives)) _ (or_right (is_yes (may_any now table.link.new.needs.alternatives)) _
+          (any_among (λ edit. is_yes (may_any now (rule_of table edit).alternatives)) edit_calls found.0 found.1 (yes_before h within (rule_of table found.0).alternatives (sound.calls found.0) found.2)))))
+      by false false false is in_link e = λ i. is i || (in_link i || e i)
 
   pub unedited_along : may_edit table now ≡ false → (asks : List Asked) (w : World) (members : List ℕ) → Members w members now false
       → none_done is_exec table w asks members ≡ true → members_alone table w asks members ≡ true → (world_after table w asks).tree ≡ w.tree

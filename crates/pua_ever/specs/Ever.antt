@@ -8,7 +8,6 @@ use Rattle.pua_tree.specs.Tree.{Tree, Node, Spot, is_dir_kind, is_dir, look, cli
 use Rattle.pua_path.specs.declared.found.Found.TheVariants.{Whole, Slot}
 use Rattle.pua_path.specs.declared.found.Way.{Way}
 use Rattle.pua_path.specs.declared.found.Way.TheVariants.{Named, Top}
-use Rattle.pua_policy.specs.Promises.{cpath}
 use Rattle.pua_policy.specs.Calls.{CallTable, rule_of, calls, call_name}
 use Rattle.pua_policy.specs.CallSets.{keeps_link}
 use Rattle.pua_policy.specs.History.{History, kept, veils, may_any}
@@ -107,7 +106,7 @@ some_dir_has_c t h = list_any (λ dir. has_c (cover_in t h dir)) (directories t)
 abbrev pub file_covers : Tree → History → List Cover
 file_covers t h = name_covers t h ++ (if some_dir_has_c t h then dir_covers t h else [])
 
--- the tree can change by them at all: they may do what needs cpath, or one of the five calls that edit a tree
+-- the tree can change by them at all: they may give a new name by rename or link, or make one of the five calls that edit a tree
 abbrev pub edit_calls : List Call
 edit_calls = call.Create ∷ call.Mkdir ∷ call.Rmdir ∷ call.Unlink ∷ call.Symlink ∷ []
 
@@ -117,8 +116,9 @@ is_yes _ = false
 
 abbrev pub may_edit : CallTable → History → Bool
 may_edit table h =
-    is_yes (may_any h (cpath ∷ []))
-    || list_any (λ edit. is_yes (may_any h (rule_of table edit).alternatives)) edit_calls
+    is_yes (may_any h table.rename.new.needs.alternatives)
+    || (is_yes (may_any h table.link.new.needs.alternatives)
+    || list_any (λ edit. is_yes (may_any h (rule_of table edit).alternatives)) edit_calls)
 
 -- all covers under which a thing can come, by what covers it now and those to which it can be moved
 abbrev pub ever_covers : Bool → Cover → List Cover → List Cover

@@ -28,13 +28,17 @@ use Rattle.pua_script.specs.Confinement.{TreesAlong}
 use Rattle.pua_objects.specs.Objects.{At, Others, own_way}
 use Rattle.pua_ever.specs.Ever.{NewDir, NewOthers, NewFile, NewLink, Thing, Stands, Comes, EverLine, ever}
 
--- the five calls that make a name or take one away need `c`
+-- the five calls that make a name or take one away need `c`, and so do the names of rename and link
 pub record EditsNeedC (table : CallTable) : Type 0 where
   pub create : IsTrue (holds (rule_of table call.Create).perms creating)
   pub mkdir : IsTrue (holds (rule_of table call.Mkdir).perms creating)
   pub rmdir : IsTrue (holds (rule_of table call.Rmdir).perms creating)
   pub unlink : IsTrue (holds (rule_of table call.Unlink).perms creating)
   pub symlink : IsTrue (holds (rule_of table call.Symlink).perms creating)
+  pub rename_old : IsTrue (holds table.rename.old.needs.perms creating)
+  pub rename_new : IsTrue (holds table.rename.new.needs.perms creating)
+  pub link_old : IsTrue (holds table.link.old.needs.perms creating)
+  pub link_new : IsTrue (holds table.link.new.needs.perms creating)
 
 -- each veil stands on a directory, or in one, whose number was given
 abbrev pub dir_of_place : Place → ℕ

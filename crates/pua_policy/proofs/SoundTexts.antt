@@ -11,7 +11,7 @@ use Rattle.pua_tree.proofs.ForCallers.{step_read}
 use Rattle.pua_path.specs.declared.errno.Errno.{Errno}
 use Rattle.pua_policy.specs.Promises.{holds, error, promise_of, promises_of, perms_of, joined, union_of}
 use Rattle.pua_policy.specs.Calls.{CallTable, Rule, standard_table, standard_rule, call_named}
-use Rattle.pua_policy.specs.Tables.{NamesNoError, NeedsNoError, NoCallNeedsError}
+use Rattle.pua_policy.specs.Tables.{NamesNoError, NeedsNoError, NoCallNeedsError, HasStandardPairs}
 use Rattle.pua_policy.specs.TableTexts.{alternative_of, alternatives_of, veil_of, row_of, rule_in, rules_with, with_rule, document_of, table_of_document, table_of}
 use Rattle.pua_policy.specs.declared.call.Call.{Call}
 use Rattle.pua_policy.specs.declared.table.read.TableFault.TheVariants.{BadKey, BadRow, BadPromises}
@@ -88,20 +88,31 @@ at_set P (x ∷ xs) zero (suc j) y d new old = old
 at_set P (x ∷ xs) (suc i) zero y d new old = old
 at_set P (x ∷ xs) (suc i) (suc j) y d new old = at_set P xs i j y d new old
 
-rules_need_no_error : (rules : CallTable) (members : Members) (table : CallTable) → NoCallNeedsError rules → rules_with rules members ≡ Ok table → NoCallNeedsError table
-rules_need_no_error rules no_members table sound is =
-    let same : rules ≡ table = cc in
-    subst NoCallNeedsError same sound
-rules_need_no_error rules (member key value members) table sound is =
-    let named = step_read (ok_or (call_named key) BadKey) _ table is in
-    let rule = step_read (rule_in named.0 value) _ table named.2 in
-    rules_need_no_error (with_rule rules named.0 rule.0) members table
-    (λ call. at_set NeedsNoError rules _ _ rule.0 (standard_rule call) (rule_needs_no_error named.0 value rule.0 rule.1) (sound call))
-    rule.2
+-- what a table keeps by each row that is read is so of the table of a text
+module _ (P : CallTable → Type 0) (keeps : (rules : CallTable) (call : Call) (rule : Rule) → NeedsNoError rule → P rules → P (with_rule rules call rule)) where
+  rules_keep : (rules : CallTable) (members : Members) (table : CallTable) → P rules → rules_with rules members ≡ Ok table → P table
+  rules_keep rules no_members table so is =
+      let same : rules ≡ table = cc in
+      subst P same so
+  rules_keep rules (member key value members) table so is =
+      let named = step_read (ok_or (call_named key) BadKey) _ table is in
+      let rule = step_read (rule_in named.0 value) _ table named.2 in
+      rules_keep (with_rule rules named.0 rule.0) members table (keeps rules named.0 rule.0 (rule_needs_no_error named.0 value rule.0 rule.1) so) rule.2
+
+  texts_keep : P standard_table → (text : List ℕ) (table : CallTable) → table_of text ≡ Ok table → P table
+  texts_keep standard text table is = by (document_of text) is
+    where
+      by : (document : Option Members) → table_of_document document ≡ Ok table → P table
+      by None is = cc
+      by (Some members) is = rules_keep standard_table members table standard is
 
 pub texts_need_no_error : NoCallNeedsError standard_table → (text : List ℕ) (table : CallTable) → table_of text ≡ Ok table → NoCallNeedsError table
-texts_need_no_error standard text table is = by (document_of text) is
-  where
-    by : (document : Option Members) → table_of_document document ≡ Ok table → NoCallNeedsError table
-    by None is = cc
-    by (Some members) is = rules_need_no_error standard_table members table standard is
+texts_need_no_error = texts_keep NoCallNeedsError (λ rules call rule none sound. record {
+  calls = λ asked. at_set NeedsNoError rules.rules _ _ rule (standard_rule asked) none (sound.calls asked);
+  rename = sound.rename;
+  link = sound.link;
+})
+
+-- and rename and link need by it what they need by the standard table
+pub texts_keep_pairs : (text : List ℕ) (table : CallTable) → table_of text ≡ Ok table → HasStandardPairs table
+texts_keep_pairs = texts_keep HasStandardPairs (λ rules call rule none same. same) (refl, refl)

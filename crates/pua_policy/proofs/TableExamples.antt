@@ -1,8 +1,8 @@
 -- The worked examples of tables, by computing each text.
-use Rattle.std.proofs.Common.{refl}
+use Rattle.std.proofs.Common.{refl, lit<}
 use Rattle.std.specs.Str.{chars, is_utf8}
 use Rattle.toml.proofs.OnLiterals.{toml_on_literals}
-use Rattle.pua_policy.specs.TableExamples.{TableRows}
+use Rattle.pua_policy.specs.TableExamples.{TableRows, ReadingTable}
 
 pub table_rows : TableRows
 unfolding toml_on_literals chars is_utf8
@@ -31,4 +31,16 @@ table_rows = record {
   named_twice = refl;
   open_bracket = refl;
   no_utf8 = refl;
+}
+
+pub reading_table_is_one : ReadingTable
+reading_table_is_one = record {
+  kept = record {
+    fourteen = refl;
+    rules = (((lit< tt, refl), tt), (((lit< tt, refl), tt), (((lit< tt, refl), tt), (((lit< tt, refl), tt), (((lit< tt, refl), tt), (((lit< tt, refl), tt), (((lit< tt, refl), tt), (((lit< tt, refl), tt), (((lit< tt, refl), tt), (((lit< tt, refl), tt), (((lit< tt, refl), tt), (((lit< tt, refl), tt), (((lit< tt, refl), tt), (((lit< tt, refl), tt), tt))))))))))))));
+    rename = (((lit< tt, refl), tt), ((lit< tt, refl), tt));
+    link = (((lit< tt, refl), tt), ((lit< tt, refl), tt));
+  };
+  chmod = refl;
+  standard_chmod = refl;
 }

@@ -1,4 +1,4 @@
--- The fourteen calls with one path, and what each of them needs.
+-- The fourteen calls with one path, and what each of them needs; and what rename and link need, which have two.
 use Rattle.std.specs.Prelude.{ℕ, ◌+◌, ◌-◌, List, [], ◌∷◌, map, Option, codes, find, slice_index_or}
 use Rattle.pua_tree.specs.Names.{same_bytes}
 use Rattle.pua_policy.specs.Promises.{rpath, wpath, cpath, fattr, exec, reading, writing, executing, creating}
@@ -69,15 +69,34 @@ standard_rule Chmod = record { alternatives = fattr ∷ []; perms = writing }
 standard_rule Chdir = record { alternatives = rpath ∷ []; perms = reading }
 standard_rule Exec = record { alternatives = exec ∷ []; perms = executing }
 
--- a rule for each call, in the order of their numbers
-abbrev pub CallTable : Type 0
-CallTable = List Rule
+-- what a request with two paths needs of what one of them names, and whether its last part is followed if it is a link
+pub record NameRule : Type 0 where
+  pub needs : Rule
+  pub last : Last
+
+-- of the old name and of the new one
+pub record PairRule : Type 0 where
+  pub old : NameRule
+  pub new : NameRule
+
+-- a name is made and taken away by cpath and `c`, and a link is kept
+abbrev pub standard_name : NameRule
+standard_name = record { needs = record { alternatives = cpath ∷ []; perms = creating }; last = Kept }
+
+abbrev pub standard_pair : PairRule
+standard_pair = record { old = standard_name; new = standard_name }
+
+-- a rule for each call, in the order of their numbers, and those of rename and of link
+pub record CallTable : Type 0 where
+  pub rules : List Rule
+  pub rename : PairRule
+  pub link : PairRule
 
 abbrev pub standard_table : CallTable
-standard_table = map standard_rule calls
+standard_table = record { rules = map standard_rule calls; rename = standard_pair; link = standard_pair }
 
 abbrev pub rule_of : CallTable → Call → Rule
-rule_of table call = slice_index_or table (call_number call - 1) (standard_rule call)
+rule_of table call = slice_index_or table.rules (call_number call - 1) (standard_rule call)
 
 -- whether the last part is followed if it is a link
 abbrev pub last_of : Call → Last

@@ -1,10 +1,16 @@
 -- Worked examples of texts and of the tables that they give.
-use Rattle.std.specs.Prelude.{◌≡◌, ℕ, List, [], ◌∷◌, ◌++◌, Ok, Err, codes}
+use Rattle.std.specs.Prelude.{◌≡◌, ℕ, ◌+◌, List, [], ◌∷◌, ◌++◌, Some, None, Ok, Err, codes}
 use Rattle.pua_tree.specs.Examples.{text_of_lines}
-use Rattle.pua_policy.specs.Promises.{cpath}
-use Rattle.pua_policy.specs.Calls.{standard_table}
+use Rattle.pua_tree.specs.Examples.{example_tree}
+use Rattle.pua_policy.specs.Promises.{rpath, cpath, fattr, reading, writing, creating}
+use Rattle.pua_policy.specs.Calls.{CallTable, standard_name, standard_table}
+use Rattle.pua_policy.specs.Tables.{IsTable}
+use Rattle.pua_policy.specs.History.{History, Pledged, new_history}
+use Rattle.pua_policy.specs.Verdict.{verdict_on}
 use Rattle.pua_policy.specs.TableTexts.{table_of, with_rule}
-use Rattle.pua_policy.specs.declared.call.Call.TheVariants.{Stat, Mkdir}
+use Rattle.pua_path.specs.declared.found.Last.TheVariants.{Kept, Followed}
+use Rattle.pua_policy.specs.declared.answer.Verdict.TheVariants.{Allowed, Death}
+use Rattle.pua_policy.specs.declared.call.Call.TheVariants.{Stat, Mkdir, Chmod}
 use Rattle.pua_policy.specs.declared.table.read.TableFault.TheVariants.{BadToml, BadKey, BadRow, BadPromises, BadVeil}
 
 -- a text with a row of stat, of this array of promises and this veil
@@ -39,3 +45,19 @@ pub record TableRows : Type 0 where
   pub named_twice : table_of (stat_row (codes "['']") (codes "''\n[stat]")) ≡ Err BadToml
   pub open_bracket : table_of (text_of_lines (codes "[stat" ∷ [])) ≡ Err BadToml
   pub no_utf8 : table_of (text_of_lines ((codes "# " ++ 255 ∷ []) ∷ [])) ≡ Err BadToml
+
+-- a table that no text gives: chmod and rename ask to read too, and link asks to read alone what its old name leads to
+abbrev pub reading_table : CallTable
+reading_table = record (with_rule standard_table Chmod (record { alternatives = (fattr + rpath) ∷ []; perms = writing })) {
+  rename = record { old = record { needs = record { alternatives = (rpath + cpath) ∷ []; perms = reading + creating }; last = Kept }; new = standard_name };
+  link = record { old = record { needs = record { alternatives = rpath ∷ []; perms = reading }; last = Followed }; new = standard_name };
+}
+
+abbrev pub fattr_alone : History
+fattr_alone = Pledged (Some fattr) None ∷ new_history
+
+pub record ReadingTable : Type 0 where
+  -- it is one of those that may be kept
+  pub kept : IsTable reading_table
+  pub chmod : verdict_on example_tree reading_table fattr_alone Chmod (codes "/etc") ≡ Death
+  pub standard_chmod : verdict_on example_tree standard_table fattr_alone Chmod (codes "/etc") ≡ Allowed

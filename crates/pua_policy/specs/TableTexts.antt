@@ -69,20 +69,20 @@ rule_in call value = do
   Ok (record { alternatives = alternatives; perms = perms })
 
 abbrev pub with_rule : CallTable → Call → Rule → CallTable
-with_rule rules call rule = slice_set rules (call_number call - 1) rule
+with_rule table call rule = record table { rules = slice_set table.rules (call_number call - 1) rule }
 
 -- the keys ascend by their bytes, so no key stands twice
 abbrev pub keys_ascend : Members → Bool
 keys_ascend no_members = true
 keys_ascend (member key value members) = is_before key members && keys_ascend members
 
--- the rules with those of the members, in their order; a document's keys ascend
+-- the table with the rules of the members, in their order; a document's keys ascend, and none can name rename or link
 abbrev pub rules_with : CallTable → Members → Result CallTable TableFault
-rules_with rules no_members = Ok rules
-rules_with rules (member key value members) = do
+rules_with table no_members = Ok table
+rules_with table (member key value members) = do
   call ← ok_or (call_named key) BadKey
   rule ← rule_in call value
-  rules_with (with_rule rules call rule) members
+  rules_with (with_rule table call rule) members
 
 abbrev pub document_of : List ℕ → Option Members
 document_of text = if is_utf8 text then parse_document text else None

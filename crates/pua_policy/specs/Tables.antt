@@ -2,7 +2,7 @@
 use Rattle.std.specs.Prelude.{◌≡◌, ℕ, ◌-◌, ◌<◌, ◌^◌, List, ◌++◌, length, replicate, bit_and}
 use Rattle.std.specs.List.{AllByRecursion}
 use Rattle.pua_policy.specs.Promises.{error}
-use Rattle.pua_policy.specs.Calls.{Rule, CallTable, rule_of}
+use Rattle.pua_policy.specs.Calls.{Rule, PairRule, CallTable, standard_pair, rule_of}
 use Rattle.pua_policy.specs.declared.call.Call.{Call}
 
 -- at most so many alternatives have a call
@@ -17,14 +17,25 @@ padded sets = sets ++ replicate (alternative_limit - length sets) 0
 abbrev pub NamesNoError : ℕ → Type 0
 NamesNoError set = (set < 2 ^ 36) × (bit_and set error ≡ 0)
 
--- no alternative of any call names `error`
-abbrev pub NoCallNeedsError : CallTable → Type 0
-NoCallNeedsError table = (call : Call) → AllByRecursion NamesNoError (rule_of table call).alternatives
-
 abbrev pub NeedsNoError : Rule → Type 0
 NeedsNoError rule = AllByRecursion NamesNoError rule.alternatives
 
--- a rule for each of the fourteen calls, and none of them names `error`
+abbrev pub PairNeedsNoError : PairRule → Type 0
+PairNeedsNoError pair = NeedsNoError pair.old.needs × NeedsNoError pair.new.needs
+
+-- no alternative of any call names `error`, nor of a name of rename and link
+pub record NoCallNeedsError (table : CallTable) : Type 0 where
+  pub calls : (call : Call) → NeedsNoError (rule_of table call)
+  pub rename : PairNeedsNoError table.rename
+  pub link : PairNeedsNoError table.link
+
+-- rename and link need what they need by the standard table
+abbrev pub HasStandardPairs : CallTable → Type 0
+HasStandardPairs table = (table.rename ≡ standard_pair) × (table.link ≡ standard_pair)
+
+-- a rule for each of the fourteen calls, and none of these names `error`, nor one of rename and link
 pub record IsTable (table : CallTable) : Type 0 where
-  pub fourteen : length table ≡ 14
-  pub rules : AllByRecursion NeedsNoError table
+  pub fourteen : length table.rules ≡ 14
+  pub rules : AllByRecursion NeedsNoError table.rules
+  pub rename : PairNeedsNoError table.rename
+  pub link : PairNeedsNoError table.link

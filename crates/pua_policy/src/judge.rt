@@ -44,7 +44,7 @@ pub fn promised_for(process: &Process, table: &CallTable, call: Call) -> Result<
 /// Whether a process may do what needs all promises of one of these sets. Promises are asked here
 /// and nowhere else. Where it holds none of the sets the call fails with `ENOSYS` if `error` is
 /// held, and else the process is killed; one that has ended may do nothing.
-fn promised_any(process: &Process, alternatives: &[Promises]) -> Result<(), Refusal>
+pub fn promised_any(process: &Process, alternatives: &[Promises]) -> Result<(), Refusal>
     ensures exact { (h : History) → StandsFor process.now h → MatchResult result
         (λ _. may_any h alternatives.now ≡ May.Yes)
         (λ refusal. refusal_of (may_any h alternatives.now) ≡ Some refusal) }

@@ -8,7 +8,7 @@ ghost use Rattle.pua_policy.specs.Limits.{place_limit};
 ghost use Rattle.pua_policy.specs.Tables.{alternative_limit};
 ghost use Rattle.pua_policy.specs.Promises.{promises_of, other_promises, perms_of};
 ghost use Rattle.pua_policy.specs.Examples.{CoverRows, VerdictRows, LastCheckRows, SetRows};
-ghost use Rattle.pua_policy.specs.TableExamples.{TableRows};
+ghost use Rattle.pua_policy.specs.TableExamples.{ReadingTable, TableRows};
 
 use crate::call::Call;
 use crate::perms::Perms;
@@ -78,10 +78,12 @@ pub fn verdict_examples()
     ensures sets { SetRows }
 {}
 
-/// Examples of texts and of the tables that they give, or what refuses them.
-#[tactic(auto, using(crate::proofs::TableExamples::table_rows))]
+/// Examples of texts and of the tables that they give, or what refuses them; and of a table that no
+/// text gives, by which rename and link need something else.
+#[tactic(auto, using(crate::proofs::TableExamples::table_rows, crate::proofs::TableExamples::reading_table_is_one))]
 pub fn table_examples()
-    ensures { TableRows }
+    ensures texts { TableRows }
+    ensures other { ReadingTable }
 {}
 
 /// The veils of a process are exactly the places with their last permissions. Of all events only

@@ -27,4 +27,4 @@ pub use perms::Perms;
 pub use place::Place;
 pub use process::{PLACE_LIMIT, Process};
 pub use promises::Promises;
-pub use table::{ALTERNATIVE_LIMIT, CallTable, TableFault};
+pub use table::{ALTERNATIVE_LIMIT, CallTable, NameNeed, PairNeed, TableFault};

@@ -1,11 +1,13 @@
 //! The table of calls: what each of them needs, as a value.
 
+mod pair;
 mod read;
 
 use crate::call::Call;
 use crate::needs;
 use crate::perms::Perms;
 use crate::promises::Promises;
+pub use pair::{NameNeed, PairNeed};
 pub use read::TableFault;
 use std::marker::Model;
 
@@ -37,12 +39,15 @@ impl Model for Row {
     ghost inverse_ok = { λ a h i. record { sets = h.0 i; count = h.1 i; perms = a.perms } };
 }
 
-/// What each of the fourteen calls needs. It is kept inline, so that a copy takes no memory.
-/// Contracts see a list of fourteen rules, in the order of the calls' numbers, of which none has an
-/// alternative that names `error`: a process can gain that promise, and no other.
+/// What each of the fourteen calls needs, and what rename and link need, which have two paths. It is
+/// kept inline, so that a copy takes no memory. Contracts see a list of fourteen rules, in the order
+/// of the calls' numbers, and those of rename and link. No alternative names `error`: a process can
+/// gain that promise, and no other.
 #[derive(Clone, Copy)]
 pub struct CallTable {
     rows: [Row; 14],
+    rename: PairNeed,
+    link: PairNeed,
 }
 
 impl Model for CallTable {
@@ -51,11 +56,11 @@ impl Model for CallTable {
 
     ghost Value = { Rules };
 
-    ghost view = { λ a. a.rows };
+    ghost view = { λ a. record { rules = a.rows; rename = a.rename; link = a.link } };
 
-    ghost invariant = { λ a. IsTable a.rows };
+    ghost invariant = { λ a. IsTable (record { rules = a.rows; rename = a.rename; link = a.link }) };
 
-    ghost inverse = { λ rules. record { rows = rules } };
+    ghost inverse = { λ t. record { rows = t.rules; rename = t.rename; link = t.link } };
 }
 
 ghost use Rattle.std.specs.Prelude.{◌≡◌, ◌<◌, [], ◌∷◌, ◌++◌, length};
@@ -80,28 +85,45 @@ impl Row {
         self.count += 1;
     }
 
+    /// A row with one alternative.
+    fn one(promises: Promises, perms: Perms) -> Row
+        ensures { result ≡ record { alternatives = promises ∷ []; perms = perms } }
+    {
+        let mut sets = [Promises::NONE; ALTERNATIVE_LIMIT];
+        sets[0] = promises;
+        Row {
+            sets,
+            count: 1,
+            perms,
+        }
+    }
+
+    /// The sets of promises of which one is needed.
+    fn alternatives(&self) -> &[Promises]
+        ensures { result.now ≡ self.now.alternatives }
+    {
+        &self.sets[..self.count as usize]
+    }
+
     /// What a call needs by this project's own table.
     fn standard(call: Call) -> Row
         ensures { result ≡ standard_rule call }
     {
         let need = needs::need(call);
-        let mut sets = [Promises::NONE; ALTERNATIVE_LIMIT];
-        sets[0] = need.promises;
-        Row {
-            sets,
-            count: 1,
-            perms: need.perms,
-        }
+        Row::one(need.promises, need.perms)
     }
 }
 
 impl CallTable {
-    /// This project's own table: each call needs what `needs::need` answers (this profile).
+    /// This project's own table: each call needs what `needs::need` answers, and both names of
+    /// rename and of link need cpath and `c`, of a link itself (this profile).
     pub fn standard() -> CallTable
         ensures { result ≡ standard_table }
     {
         CallTable {
             rows: Call::ALL.map(Row::standard),
+            rename: PairNeed::standard(),
+            link: PairNeed::standard(),
         }
     }
 
@@ -117,8 +139,7 @@ impl CallTable {
     pub fn alternatives(&self, call: Call) -> &[Promises]
         ensures { result.now ≡ (rule_of self.now call).alternatives }
     {
-        let row = &self.rows[call.number() as usize - 1];
-        &row.sets[..row.count as usize]
+        self.rows[call.number() as usize - 1].alternatives()
     }
 
     /// The permissions that a call needs, each of them.
@@ -129,9 +150,23 @@ impl CallTable {
         row.perms
     }
 
+    /// What rename needs of its old name and of its new one.
+    pub fn rename(&self) -> &PairNeed
+        ensures { result.now ≡ self.now.rename }
+    {
+        &self.rename
+    }
+
+    /// What link needs of its old name and of its new one.
+    pub fn link(&self) -> &PairNeed
+        ensures { result.now ≡ self.now.link }
+    {
+        &self.link
+    }
+
     /// Does nothing. A caller learns from it what is true of each table.
     pub fn known(&self)
-        ensures fourteen { length self.now ≡ 14 }
+        ensures fourteen { length self.now.rules ≡ 14 }
         ensures no_error { NoCallNeedsError self.now }
     {
         let _rows = &self.rows;

@@ -15,9 +15,9 @@ use Rattle.pua_path.specs.declared.errno.Errno.TheVariants.{EPERM, EINVAL, EAGAI
 use Rattle.pua_path.specs.declared.text.Ending.{Ending}
 use Rattle.pua_path.specs.declared.text.Ending.TheVariants as ending
 use Rattle.pua_path.specs.declared.found.Found.{Found}
-use Rattle.pua_path.specs.declared.found.Last.TheVariants.{Followed, Kept}
-use Rattle.pua_policy.specs.Promises.{cpath, proc, unveil, creating}
-use Rattle.pua_policy.specs.Calls.{CallTable, rule_of, ending_of, last_of}
+use Rattle.pua_path.specs.declared.found.Last.TheVariants.{Followed}
+use Rattle.pua_policy.specs.Promises.{proc, unveil}
+use Rattle.pua_policy.specs.Calls.{CallTable, PairRule, rule_of, ending_of, last_of}
 use Rattle.pua_policy.specs.History.{History, Pledged, Unveiled, Locked, Ended, ProcessState, is_ended}
 use Rattle.pua_policy.specs.Verdict.{place_of, cover_fault, or_fault, object_fault, object_of, object_named}
 use Rattle.pua_policy.specs.Laws.{AllowAlike}
@@ -57,10 +57,11 @@ module _ (h k : History) (a : Same h k) where
   call_alike table t c path f i = named (resolution_of_text t (a.dir i) (ending_of c) path (last_of c))
       λ x. checked (or_fault (cover_fault (allow.covers t x i) (rule_of table c).perms) (object_fault t c (object_of t x))) (Ok (f x))
 
-  pair_alike : (t : Tree) (end : Ending) (old new : List ℕ) (f : Found → Found → Decision) → decide_pair t h end old new f ≡ decide_pair t k end old new f
-  pair_alike t end old new f i =
-      promised (allow.promises (cpath ∷ []) i) (named (resolution_of_text t (a.dir i) end old Kept) λ x. named (resolution_of_text t (a.dir i) end new Kept) λ y.
-      checked (or_fault (cover_fault (allow.covers t x i) creating) (cover_fault (allow.covers t y i) creating)) (f x y))
+  pair_alike : (pair : PairRule) (t : Tree) (end : Ending) (old new : List ℕ) (f : Found → Found → Decision) → decide_pair pair t h end old new f ≡ decide_pair pair t k end old new f
+  pair_alike pair t end old new f i =
+      promised (allow.promises pair.old.needs.alternatives i) (promised (allow.promises pair.new.needs.alternatives i)
+      (named (resolution_of_text t (a.dir i) end old pair.old.last) λ x. named (resolution_of_text t (a.dir i) end new pair.new.last) λ y.
+      checked (or_fault (cover_fault (allow.covers t x i) pair.old.needs.perms) (cover_fault (allow.covers t y i) pair.new.needs.perms)) (f x y)))
 
   veil_alike : (t : Tree) (path : List ℕ) (letters : Option ℕ) → decide_veil t h path letters ≡ decide_veil t k path letters
   veil_alike t path None = refl
@@ -69,8 +70,8 @@ module _ (h k : History) (a : Same h k) where
   decide_alike : (table : CallTable) (t : Tree) (action : Action) → decide table t h action ≡ decide table t k action
   decide_alike table t (OnPath c path) = λ i. promised (allow.promises (rule_of table c).alternatives i) (call_alike table t c path (change_by c) i)
   decide_alike table t (Symlink target path) = λ i. promised (allow.promises (rule_of table call.Symlink).alternatives i) (checked (path_fault target) (call_alike table t call.Symlink path (adding (link_node target)) i))
-  decide_alike table t (Rename old new) = pair_alike t ending.Dropped old new _
-  decide_alike table t (Link old new) = pair_alike t ending.Dot old new _
+  decide_alike table t (Rename old new) = pair_alike table.rename t ending.Dropped old new _
+  decide_alike table t (Link old new) = pair_alike table.link t ending.Dot old new _
   decide_alike table t (Pledge p x) = λ i. checked (fault_if (is_unknown p || is_unknown x) EINVAL) (checked (allow.pledges (given_set p) (given_set x) i) (Ok (AddEvent (Pledged (given_set p) (given_set x)))))
   decide_alike table t (Unveil path perms) = λ i. promised (allow.promises (unveil ∷ []) i) (checked (fault_if (a.locked i) EPERM) (veil_alike t path perms i))
   decide_alike table t Lock = λ i. promised (allow.promises (unveil ∷ []) i) (Ok (AddEvent Locked))

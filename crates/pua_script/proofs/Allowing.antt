@@ -90,12 +90,12 @@ module _ (before after : History) (within : IsWithin before after) where
       is_allowed (verdict_of t table after call r) ≡ true → is_allowed (verdict_of t table before call r) ≡ true
   verdicts_within table sound t call (Ok object) e =
       allowed_before (may_any after (rule_of table call).alternatives) (may_any before (rule_of table call).alternatives) (allowed_unless (found_fault t table before call object))
-      (may_yes (rule_of table call).alternatives (sound call))
+      (may_yes (rule_of table call).alternatives (sound.calls call))
       (ap (λ c. is_allowed (if_promised (may_any after (rule_of table call).alternatives) (allowed_unless (or_fault (cover_fault c (rule_of table call).perms) (object_fault t call (object_of t object))))))
       (sym (same_cover after before within.tightens.unveils t object)) ∙ e)
   verdicts_within table sound t call (Err errno) e =
       allowed_before (may_any after (rule_of table call).alternatives) (may_any before (rule_of table call).alternatives) (verdicts.Failed errno)
-      (may_yes (rule_of table call).alternatives (sound call)) e
+      (may_yes (rule_of table call).alternatives (sound.calls call)) e
 
 -- an absolute text names the same from everywhere
 from_root_alike : (t : Tree) (a b : ℕ) (ending : Ending) (text : List ℕ) (mode : Last) → is_absolute text ≡ true → resolution t a ending text mode ≡ resolution t b ending text mode

@@ -12,15 +12,15 @@ use Rattle.pua_path.specs.declared.text.Ending.{Ending}
 use Rattle.pua_path.specs.declared.text.Ending.TheVariants as ending
 use Rattle.pua_path.specs.declared.found.Last.TheVariants.{Followed}
 use Rattle.pua_path.specs.declared.found.Found.{Found}
-use Rattle.pua_policy.specs.Promises.{cpath, proc, unveil, creating}
-use Rattle.pua_policy.specs.Calls.{CallTable, rule_of}
+use Rattle.pua_policy.specs.Promises.{proc, unveil}
+use Rattle.pua_policy.specs.Calls.{CallTable, PairRule, rule_of}
 use Rattle.pua_policy.specs.History.{History, is_locked, may_any, working_dir, unveil_fault, pledge_fault}
 use Rattle.pua_policy.specs.Verdict.{place_of, cover, cover_fault, or_fault, object_named, object_fault, object_of, found_fault}
 use Rattle.pua_policy.specs.declared.call.Call.{Call}
 use Rattle.pua_policy.specs.declared.call.Call.TheVariants as call
 use Rattle.pua_policy.specs.declared.answer.May.{May}
 use Rattle.pua_policy.specs.declared.answer.May.TheVariants as may
-use Rattle.pua_script.specs.Decide.{fault_if, is_whole, link_node, unveil_errno, given_set, is_unknown, inside_fault, kinds_fault, Change, NoChange, Decision, promised, checked, named, adding, change_by, decide_rename, decide_link, decide_veil, decide_pair, shifting, ways_fault, covers_fault, kept_named}
+use Rattle.pua_script.specs.Decide.{fault_if, is_whole, link_node, unveil_errno, given_set, is_unknown, inside_fault, kinds_fault, Change, NoChange, Decision, promised, checked, named, adding, change_by, decide_rename, decide_link, decide_veil, decide_pair, shifting, ways_fault, covers_fault, named_by}
 use Rattle.pua_script.specs.declared.request.Action.TheVariants.{OnPath, Symlink, Rename, Link, Pledge, Unveil, Lock, Fork, Exit}
 use Rattle.pua_script.specs.Guards.{OnOne, OnTwo, IsShift, IsVeil, DecisionsAreGuarded}
 
@@ -68,33 +68,35 @@ module _ (t : Tree) (h : History) where
       (at.0, record { promised = may; found = at.1; covered = first_none a b free.0; fitting = second_none a b free.0 }, is_ok _ _ free.1)
 
   -- what both paths named
-  abbrev Pair : Ending → List ℕ → List ℕ → (Found → Found → Option ℕ → Decision) → Change → Type 0
-  Pair end old_path new_path f change = (old : Found) × (new : Found) × (x : ℕ) × OnTwo t h end old_path new_path old new x × (f old new (Some x) ≡ Ok change)
+  abbrev Pair : PairRule → Ending → List ℕ → List ℕ → (Found → Found → Option ℕ → Decision) → Change → Type 0
+  Pair rules end old_path new_path f change = (old : Found) × (new : Found) × (x : ℕ) × OnTwo rules t h end old_path new_path old new x × (f old new (Some x) ≡ Ok change)
 
-  pair : (end : Ending) (old new : List ℕ) (f : Found → Found → Option ℕ → Decision) (change : Change) → ((a b : Found) → f a b None ≡ Ok change → ⊥)
-      → decide_pair t h end old new (λ a b. f a b (node_named a)) ≡ Ok change → Pair end old new f change
-  pair end old new f change never e =
-      let may = from_promised (may_any h (cpath ∷ [])) _ change e in
-      let first = from_named (kept_named t h end old) (λ a. named (kept_named t h end new) λ b. checked (covers_fault t h a b) (f a b (node_named a))) change may.1 in
+  pair : (rules : PairRule) (end : Ending) (old new : List ℕ) (f : Found → Found → Option ℕ → Decision) (change : Change) → ((a b : Found) → f a b None ≡ Ok change → ⊥)
+      → decide_pair rules t h end old new (λ a b. f a b (node_named a)) ≡ Ok change → Pair rules end old new f change
+  pair rules end old new f change never e =
+      let may_old = from_promised (may_any h rules.old.needs.alternatives) _ change e in
+      let may_new = from_promised (may_any h rules.new.needs.alternatives) _ change may_old.1 in
+      let first = from_named (named_by rules.old t h end old) (λ a. named (named_by rules.new t h end new) λ b. checked (covers_fault rules t h a b) (f a b (node_named a))) change may_new.1 in
       let a = first.0 in
-      let second = from_named (kept_named t h end new) (λ b. checked (covers_fault t h a b) (f a b (node_named a))) change first.2 in
+      let second = from_named (named_by rules.new t h end new) (λ b. checked (covers_fault rules t h a b) (f a b (node_named a))) change first.2 in
       let b = second.0 in
-      let free = from_checked (covers_fault t h a b) (f a b (node_named a)) change second.2 in
-      by a b (node_named a) refl may.0 first.1 second.1 free.0 free.1
+      let free = from_checked (covers_fault rules t h a b) (f a b (node_named a)) change second.2 in
+      by a b (node_named a) refl may_old.0 may_new.0 first.1 second.1 free.0 free.1
     where
-      by : (a b : Found) (o : Option ℕ) → node_named a ≡ o → may_any h (cpath ∷ []) ≡ may.Yes → kept_named t h end old ≡ Ok a → kept_named t h end new ≡ Ok b
-          → covers_fault t h a b ≡ None → f a b o ≡ Ok change → Pair end old new f change
-      by a b None is may fa fb none e = absurd (never a b e)
-      by a b (Some x) is may fa fb none e = (
+      by : (a b : Found) (o : Option ℕ) → node_named a ≡ o → may_any h rules.old.needs.alternatives ≡ may.Yes → may_any h rules.new.needs.alternatives ≡ may.Yes → named_by rules.old t h end old ≡ Ok a → named_by rules.new t h end new ≡ Ok b
+          → covers_fault rules t h a b ≡ None → f a b o ≡ Ok change → Pair rules end old new f change
+      by a b None is may_old may_new fa fb none e = absurd (never a b e)
+      by a b (Some x) is may_old may_new fa fb none e = (
         a,
         b,
         x,
         record {
-          promised = may;
+          promised_old = may_old;
+          promised_new = may_new;
           found_old = fa;
           found_new = fb;
-          covered_old = first_none (cover_fault (cover t h a) creating) (cover_fault (cover t h b) creating) none;
-          covered_new = second_none (cover_fault (cover t h a) creating) (cover_fault (cover t h b) creating) none;
+          covered_old = first_none (cover_fault (cover t h a) rules.old.needs.perms) (cover_fault (cover t h b) rules.new.needs.perms) none;
+          covered_new = second_none (cover_fault (cover t h a) rules.old.needs.perms) (cover_fault (cover t h b) rules.new.needs.perms) none;
           named = is;
         },
         e,
@@ -136,11 +138,11 @@ decisions_are_guarded table t h (Symlink target path) change e =
     let at = one t h table call.Symlink path (adding (link_node target)) change may.0 text.1 in
     (at.0, at.1, text.0, at.2)
 decisions_are_guarded table t h (Rename old new) change e =
-    let p = pair t h ending.Dropped old new (decide_rename t) change (λ a b never. cc) e in
+    let p = pair t h table.rename ending.Dropped old new (decide_rename t) change (λ a b never. cc) e in
     let r = renamed t h p.0 p.1 p.2 change p.4 in
     record { old = p.0; new = p.1; node = p.2; two = p.3; ways = r.0; moves = r.1 }
 decisions_are_guarded table t h (Link old new) change e =
-    let p = pair t h ending.Dot old new decide_link change (λ a b never. cc) e in
+    let p = pair t h table.link ending.Dot old new decide_link change (λ a b never. cc) e in
     let free = from_checked (or_fault (fault_if (is_whole p.0) EPERM) (fault_if (is_some (node_named p.1)) EEXIST)) _ change p.4 in
     let a = fault_if (is_whole p.0) EPERM in
     let b = fault_if (is_some (node_named p.1)) EEXIST in

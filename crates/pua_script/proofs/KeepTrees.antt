@@ -17,7 +17,6 @@ use Rattle.pua_path.specs.Resolution.{resolution_of_text}
 use Rattle.pua_path.specs.declared.errno.Errno.TheVariants.{EAGAIN}
 use Rattle.pua_path.specs.declared.text.Ending.{Ending}
 use Rattle.pua_path.specs.declared.text.Ending.TheVariants.{Dot, Dropped}
-use Rattle.pua_path.specs.declared.found.Last.TheVariants.{Kept}
 use Rattle.pua_path.specs.declared.found.Found.{Found}
 use Rattle.pua_path.specs.declared.found.Found.TheVariants.{Whole, Slot}
 use Rattle.pua_path.specs.declared.found.Way.TheVariants as way
@@ -203,10 +202,10 @@ module _ (w : World) (is_tree : IsByteTree w.tree) (h : History) where
       let two = and_parts (is_bytes target) (is_bytes path) small in
       subst FitsBytes (sym d.3) (fits_adding (link_node target) (target_is target d.2) (link_leads w.tree is_tree h target two.0) d.0 (found_named (ending_of call.Symlink) path (last_of call.Symlink) d.0 two.1 d.1.found))
   fits_bytes table (Rename old new) c d small =
-      let named = found_named Dropped new Kept d.new (and_parts (is_bytes old) (is_bytes new) small).1 d.two.found_new in
+      let named = found_named Dropped new table.rename.new.last d.new (and_parts (is_bytes old) (is_bytes new) small).1 d.two.found_new in
       by_moves FitsBytes tt w.tree d.old d.new d.node c d.moves (λ s r is is_new. spot_is_name w.tree is_tree h d.new named r is_new)
   fits_bytes table (Link old new) c d small =
-      let named = found_named Dot new Kept d.new (and_parts (is_bytes old) (is_bytes new) small).1 d.two.found_new in
+      let named = found_named Dot new table.link.new.last d.new (and_parts (is_bytes old) (is_bytes new) small).1 d.two.found_new in
       subst FitsBytes (sym d.is) (by_tying FitsBytes tt d.node (spot_named d.new) (spot_is_name w.tree is_tree h d.new named))
   fits_bytes table (Pledge p x) c d small = subst FitsBytes (sym d.is) tt
   fits_bytes table (Unveil path perms) c d small = subst FitsBytes (sym d.is) tt

@@ -19,7 +19,6 @@ use Rattle.pua_path.specs.declared.errno.Errno.TheVariants.{EINVAL, ENAMETOOLONG
 use Rattle.pua_path.specs.declared.text.Ending.{Ending}
 use Rattle.pua_path.specs.declared.text.Ending.TheVariants.{Dot, Dropped}
 use Rattle.pua_path.specs.declared.found.Last.{Last}
-use Rattle.pua_path.specs.declared.found.Last.TheVariants.{Kept}
 use Rattle.pua_path.specs.declared.found.Found.{Found}
 use Rattle.pua_path.specs.declared.found.Found.TheVariants.{Whole, Slot}
 use Rattle.pua_path.proofs.ForCallers.{resolutions_fit}
@@ -129,10 +128,10 @@ module _ (t : Tree) where
     possible_by table (Rename old new) c d = by d.moves
       where
         from : NameFits t d.old
-        from = name_fits t well (working_dir h) Dropped old Kept d.old d.two.found_old
+        from = name_fits t well (working_dir h) Dropped old table.rename.old.last d.old d.two.found_old
 
         to : NameFits t d.new
-        to = name_fits t well (working_dir h) Dropped new Kept d.new d.two.found_new
+        to = name_fits t well (working_dir h) Dropped new table.rename.new.last d.new d.two.found_new
 
         by : (c ≡ NoChange) ⊎ IsShift t d.old d.new d.node c → IsPossible t c
         by (inl same) = subst (IsPossible t) (sym same) tt
@@ -140,8 +139,8 @@ module _ (t : Tree) where
             (shifting_possible d.node (node_named d.new) (spot_named d.old) (spot_named d.new) (subst (StandsAtSpot t (spot_named d.old)) d.two.named from.named) to.named
             moves.other moves.inside (kinds_alone d.node d.old d.new to moves.kinds))
     possible_by table (Link old new) c d =
-        let from = name_fits t well (working_dir h) Dot old Kept d.old d.two.found_old in
-        let to = name_fits t well (working_dir h) Dot new Kept d.new d.two.found_new in
+        let from = name_fits t well (working_dir h) Dot old table.link.old.last d.old d.two.found_old in
+        let to = name_fits t well (working_dir h) Dot new table.link.new.last d.new d.two.found_new in
         subst (IsPossible t) (sym d.is)
         (tying_possible d.node (spot_named d.new) (subst (StandsAtSpot t (spot_named d.new)) (nothing_named (node_named d.new) d.free) to.named)
         (named_lives t well d.old d.node from d.two.named) (other_named d.old d.node from.fits d.no_dir d.two.named))

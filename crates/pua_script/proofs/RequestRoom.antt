@@ -15,13 +15,13 @@ use Rattle.pua_path.specs.declared.text.Ending.TheVariants as ending
 use Rattle.pua_path.specs.declared.found.Part.{Part}
 use Rattle.pua_path.specs.declared.found.Part.TheVariants as parts
 use Rattle.pua_path.specs.declared.found.Last.{Last}
-use Rattle.pua_path.specs.declared.found.Last.TheVariants.{Followed, Kept}
+use Rattle.pua_path.specs.declared.found.Last.TheVariants.{Followed}
 use Rattle.pua_path.specs.declared.found.Way.{Way}
 use Rattle.pua_path.specs.declared.found.Way.TheVariants as way
 use Rattle.pua_path.specs.declared.found.Found.{Found}
 use Rattle.pua_path.specs.declared.found.Found.TheVariants.{Slot}
-use Rattle.pua_policy.specs.Promises.{cpath, creating, holds}
-use Rattle.pua_policy.specs.Calls.{CallTable, rule_of, ending_of, last_of}
+use Rattle.pua_policy.specs.Promises.{holds}
+use Rattle.pua_policy.specs.Calls.{CallTable, PairRule, rule_of, ending_of, last_of}
 use Rattle.pua_policy.specs.History.{History, is_locked, working_dir, may_any, unveil_fault}
 use Rattle.pua_policy.specs.Verdict.{Object, IsDir, IsFile, IsProg, IsLink, IsMissing, place_of, cover, cover_fault, rmdir_fault, object_fault, object_of, object_named}
 use Rattle.pua_policy.specs.declared.call.Call.{Call}
@@ -43,7 +43,7 @@ use Rattle.pua_policy.specs.Verdict.{or_fault}
 use Rattle.pua_policy.specs.declared.answer.Refusal.TheVariants.{Failed, Killed}
 use Rattle.pua_script.specs.declared.request.Action.{Action}
 use Rattle.std.proofs.Common.{sym, subst}
-use Rattle.pua_script.specs.Decide.{Change, NoChange, Decision, fails, promised, checked, named as decide_named, change_by, adding, link_node, decide_object, decide_pair, decide_rename, decide_link, decide_veil, decide, shifting, kept_named, dots_fault, top_fault, is_whole, fault_if, kinds_fault, inside_fault, unveil_errno, is_unknown}
+use Rattle.pua_script.specs.Decide.{Change, NoChange, Decision, fails, promised, checked, named as decide_named, change_by, adding, link_node, decide_object, decide_pair, decide_rename, decide_link, decide_veil, decide, shifting, named_by, dots_fault, top_fault, is_whole, fault_if, kinds_fault, inside_fault, unveil_errno, is_unknown}
 use Rattle.pua_script.specs.Guards.{IsDecided}
 use Rattle.pua_script.specs.Replay.{World, Fails, come_of, effect}
 use Rattle.pua_script.specs.Laws.{RefusalsLackNoRoom, LacksRoom, RequestLacksRoom, RequestsLackRoom, wants_room, lacks_room}
@@ -237,11 +237,13 @@ object_has_room : (table : CallTable) (t : Tree) (h : History) (c : Call) (path 
 object_has_room table t h c path f = named_apart (object_named t h c path) _ (named t (working_dir h) (ending_of c) path (last_of c)) λ x.
     checked_apart _ _ (or_apart _ _ (cover_apart (cover t h x) (rule_of table c).perms) (object_apart t c (object_of t x))) (granted_apart (f x))
 
-pair_has_room : (t : Tree) (h : History) (end : Ending) (old_path new_path : List ℕ) (f : Found → Found → Decision) → ((old new : Found) → HasRoom (f old new)) → HasRoom (decide_pair t h end old_path new_path f)
-pair_has_room t h end old_path new_path f has = promised_apart (may_any h (cpath ∷ [])) _
-    (named_apart (kept_named t h end old_path) _ (named t (working_dir h) end old_path Kept) λ old.
-    named_apart (kept_named t h end new_path) _ (named t (working_dir h) end new_path Kept) λ new.
-    checked_apart _ _ (or_apart _ _ (cover_apart (cover t h old) creating) (cover_apart (cover t h new) creating)) (has old new))
+pair_has_room : (pair : PairRule) (t : Tree) (h : History) (end : Ending) (old_path new_path : List ℕ) (f : Found → Found → Decision) → ((old new : Found) → HasRoom (f old new)) → HasRoom (decide_pair pair t h end old_path new_path f)
+pair_has_room pair t h end old_path new_path f has =
+    promised_apart (may_any h pair.old.needs.alternatives) _
+    (promised_apart (may_any h pair.new.needs.alternatives) _
+    (named_apart (named_by pair.old t h end old_path) _ (named t (working_dir h) end old_path pair.old.last) λ old.
+    named_apart (named_by pair.new t h end new_path) _ (named t (working_dir h) end new_path pair.new.last) λ new.
+    checked_apart _ _ (or_apart _ _ (cover_apart (cover t h old) pair.old.needs.perms) (cover_apart (cover t h new) pair.new.needs.perms)) (has old new)))
 
 rename_has_room : (t : Tree) (old new : Found) (x : Option ℕ) → HasRoom (decide_rename t old new x)
 rename_has_room t old new None = λ e. cc
@@ -266,8 +268,8 @@ veil_has_room t h path (Some perms) = named_apart _ _ (named t (working_dir h) e
 pub refusals_lack_no_room : RefusalsLackNoRoom
 refusals_lack_no_room table t h (OnPath c path) = promised_apart _ _ (object_has_room table t h c path (change_by c))
 refusals_lack_no_room table t h (Symlink target path) = promised_apart _ _ (checked_apart _ _ (path_apart target) (object_has_room table t h call.Symlink path (adding (link_node target))))
-refusals_lack_no_room table t h (Rename old new) = pair_has_room t h ending.Dropped old new _ λ a b. rename_has_room t a b (node_named a)
-refusals_lack_no_room table t h (Link old new) = pair_has_room t h ending.Dot old new _ λ a b. link_has_room a b (node_named a)
+refusals_lack_no_room table t h (Rename old new) = pair_has_room table.rename t h ending.Dropped old new _ λ a b. rename_has_room t a b (node_named a)
+refusals_lack_no_room table t h (Link old new) = pair_has_room table.link t h ending.Dot old new _ λ a b. link_has_room a b (node_named a)
 refusals_lack_no_room table t h (Pledge promises execpromises) =
     checked_apart _ _ (if_apart (is_unknown promises || is_unknown execpromises) EINVAL (λ e. cc))
     (checked_apart _ _ (none_or _ EPERM (λ e. cc)) (granted_apart _))

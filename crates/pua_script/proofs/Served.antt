@@ -3,16 +3,19 @@ use Rattle.std.proofs.Common.{◌≡◌, ℕ, ◌+◌, ◌<◌, List, [], ◌∷
 use Rattle.std.proofs.Math.Seq.{take-suc}
 use Rattle.std.specs.Prelude.{Option, Some, None, Result, Ok, Err, IfOk, OnErr, MatchResult}
 use Rattle.pua_tree.specs.Tree.{WellFormed}
-use Rattle.pua_policy.specs.Calls.{CallTable, standard_table}
+use Rattle.pua_policy.proofs.ForCallers.{texts_need_no_error, texts_keep_pairs}
+use Rattle.pua_policy.specs.Calls.{PairRule, CallTable, standard_table, rule_of}
+use Rattle.pua_policy.specs.Tables.{NeedsNoError}
+use Rattle.pua_policy.specs.declared.call.Call.{Call}
 use Rattle.pua_policy.specs.History.{History, ProcessState}
 use Rattle.pua_policy.specs.declared.call.Call.TheVariants.{Stat, Lstat, Readlink, OpenRead, OpenWrite, OpenBoth, Create, Mkdir, Rmdir, Unlink, Symlink, Chmod, Chdir, Exec}
 use Rattle.pua_script.specs.Requests.{Asked}
 use Rattle.pua_script.specs.Replay.{World, apply, world_after}
 use Rattle.pua_script.specs.Worlds.{WorldState, StandsAt, StandsForWorld, IsServed, AreServed, process_at}
 use Rattle.pua_script.specs.Family.{HasHistoryOf}
-use Rattle.pua_script.specs.Tightening.{NoCallNeedsError, IsNarrowedBy, EndsWithin}
-use Rattle.pua_script.specs.Confinement.{UncoveredStay, TreesAlong}
-use Rattle.pua_script.specs.Futures.{StandardTableNarrows, HasProcessOf, IsNarrowing, IsSparing, AreDone, AreDoneInPart, AreHeld, AreServedInPart}
+use Rattle.pua_script.specs.Tightening.{IsNarrowedBy, EndsWithin}
+use Rattle.pua_script.specs.Confinement.{NeedsC, NamesCpath, UncoveredStay, TreesAlong}
+use Rattle.pua_script.specs.Futures.{StandardTableNarrows, ReadTablesNarrow, HasProcessOf, IsNarrowing, IsSparing, AreDone, AreDoneInPart, AreHeld, AreServedInPart}
 use Rattle.pua_script.specs.declared.answer.Answer.{Answer}
 use Rattle.pua_script.proofs.Tightening.{each_narrows, within_self}
 use Rattle.pua_script.proofs.Confining.{each_spares}
@@ -20,7 +23,7 @@ use Rattle.pua_script.proofs.Families.{families_narrow}
 use Rattle.pua_script.proofs.Confined.{families_confine}
 use Rattle.pua_script.proofs.Serving.{served_more}
 
-standard_error : NoCallNeedsError standard_table
+standard_error : (call : Call) → NeedsNoError (rule_of standard_table call)
 standard_error Stat = ((lit< tt, refl), tt)
 standard_error Lstat = ((lit< tt, refl), tt)
 standard_error Readlink = ((lit< tt, refl), tt)
@@ -38,9 +41,41 @@ standard_error Exec = ((lit< tt, refl), tt)
 
 pub standard_table_narrows : StandardTableNarrows
 standard_table_narrows = record {
-  error = standard_error;
-  taking = record { rmdir = refl; unlink = refl };
-  changing = record { create = (refl, tt); mkdir = (refl, tt); rmdir = (refl, tt); unlink = (refl, tt); symlink = (refl, tt) };
+  error = record { calls = standard_error; rename = (((lit< tt, refl), tt), ((lit< tt, refl), tt)); link = (((lit< tt, refl), tt), ((lit< tt, refl), tt)) };
+  taking = record { rmdir = refl; unlink = refl; rename_old = refl; rename_new = refl };
+  changing = record {
+    create = (refl, tt);
+    mkdir = (refl, tt);
+    rmdir = (refl, tt);
+    unlink = (refl, tt);
+    symlink = (refl, tt);
+    rename = (refl, tt);
+    link = (refl, tt);
+  };
+}
+
+pub read_tables_narrow : ReadTablesNarrow
+read_tables_narrow = record {
+  error = texts_need_no_error standard_table_narrows.error;
+  taking = λ text table is rmdir unlink.
+      let renames = (texts_keep_pairs text table is).0 in
+      record {
+        rmdir = rmdir;
+        unlink = unlink;
+        rename_old = subst (λ (pair : PairRule). NeedsC pair.old.needs) (sym renames) refl;
+        rename_new = subst (λ (pair : PairRule). NeedsC pair.new.needs) (sym renames) refl;
+      };
+  changing = λ text table is create mkdir rmdir unlink symlink.
+      let same = texts_keep_pairs text table is in
+      record {
+        create = create;
+        mkdir = mkdir;
+        rmdir = rmdir;
+        unlink = unlink;
+        symlink = symlink;
+        rename = subst (λ (pair : PairRule). NamesCpath pair.new.needs) (sym same.0) (refl, tt);
+        link = subst (λ (pair : PairRule). NamesCpath pair.new.needs) (sym same.1) (refl, tt);
+      };
 }
 
 -- what has a history has a process that stands for it

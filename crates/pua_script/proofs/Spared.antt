@@ -7,7 +7,6 @@ use Rattle.pua_tree.specs.Tree.{Tree, WellFormed, Spot, is_dir, look}
 use Rattle.pua_path.specs.Fits.{spot_named, node_named}
 use Rattle.pua_path.specs.declared.errno.Errno.TheVariants.{EACCES, EAGAIN}
 use Rattle.pua_path.specs.declared.text.Ending.TheVariants.{Dropped}
-use Rattle.pua_path.specs.declared.found.Last.TheVariants.{Kept}
 use Rattle.pua_path.specs.declared.found.Found.{Found}
 use Rattle.pua_path.specs.declared.found.Found.TheVariants.{Whole, Slot}
 use Rattle.pua_path.specs.declared.found.Way.TheVariants as way
@@ -44,6 +43,12 @@ c_from_cover (Only given) perms needs e = by (holds given perms) refl e
     by : (b : Bool) → holds given perms ≡ b → cond b None (Some EACCES) ≡ None → holds given creating ≡ true
     by true is none = second_holds perms given creating (ap (λ s. holds s creating) (and_comm perms given ∙ eqb-true _ _ is) ∙ needs)
     by false is none = cc
+
+-- and has what `c` alone needs
+pub covered_by_c : (c : Cover) (perms : ℕ) → holds perms creating ≡ true → cover_fault c perms ≡ None → cover_fault c creating ≡ None
+covered_by_c All perms needs e = refl
+covered_by_c Nothing perms needs e = cc
+covered_by_c (Only given) perms needs e = ap (λ b. cond b None (Some EACCES)) (c_from_cover (Only given) perms needs e)
 
 module _ (t : Tree) (h : History) where
   -- what was found is what stands in its row, as veils see it
@@ -99,8 +104,8 @@ module _ (t : Tree) (h : History) where
     has_c_by (OnPath asked path) c d = subst HasC (sym d.2) (has_change asked d.0 (name_fits t well (working_dir h) (ending_of asked) path (last_of asked) d.0 d.1.found) d.1.covered)
     has_c_by (Symlink target path) c d = subst HasC (sym d.3) (by_placing HasC tt (link_node target) (spot_named d.0) (node_named d.0) (λ s is. tt))
     has_c_by (Rename old new) c d = by_moves HasC tt t d.old d.new d.node c d.moves λ s r is is_new. (
-      has_spot d.old (name_fits t well (working_dir h) Dropped old Kept d.old d.two.found_old) creating refl d.two.covered_old s is,
-      has_spot d.new (name_fits t well (working_dir h) Dropped new Kept d.new d.two.found_new) creating refl d.two.covered_new r is_new,
+      has_spot d.old (name_fits t well (working_dir h) Dropped old table.rename.old.last d.old d.two.found_old) _ needs.rename_old d.two.covered_old s is,
+      has_spot d.new (name_fits t well (working_dir h) Dropped new table.rename.new.last d.new d.two.found_new) _ needs.rename_new d.two.covered_new r is_new,
     )
     has_c_by (Link old new) c d = subst HasC (sym d.is) (by_tying HasC tt d.node (spot_named d.new) (λ s is. tt))
     has_c_by (Pledge p x) c d = subst HasC (sym d.is) tt

@@ -9,7 +9,7 @@ use Rattle.pua_path.specs.declared.errno.Errno.TheVariants.{EAGAIN}
 use Rattle.pua_path.specs.declared.found.Found.{Found}
 use Rattle.pua_policy.specs.Promises.{holds, cpath}
 use Rattle.pua_policy.specs.History.{History, held, has_error, is_ended, may_any}
-use Rattle.pua_policy.specs.Calls.{CallTable, rule_of}
+use Rattle.pua_policy.specs.Calls.{Rule, CallTable, rule_of}
 use Rattle.pua_policy.specs.declared.call.Call.{Call}
 use Rattle.pua_policy.specs.declared.call.Call.TheVariants as call
 use Rattle.pua_policy.specs.declared.answer.May.TheVariants.{Yes, Enosys, Death}
@@ -68,23 +68,23 @@ keeps w h (CopyAs new) none = by (is_some (history_of w new) || nat_le process_l
 keeps w h _ none = refl
 
 module _ (table : CallTable) (needs : ChangingNeedsCpath table) (t : Tree) (h : History) (lacks : holds (held h) cpath ≡ false) where
-  never : {A : Type 0} (call : Call) → NamesCpath table call → may_any h (rule_of table call).alternatives ≡ Yes → A
-  never call names may = absurd (may_not h lacks (rule_of table call).alternatives names may)
+  never : {A : Type 0} (rule : Rule) → NamesCpath rule → may_any h rule.alternatives ≡ Yes → A
+  never rule names may = absurd (may_not h lacks rule.alternatives names may)
 
   no_change : (c : Call) (x : Found) → may_any h (rule_of table c).alternatives ≡ Yes → is_edit (change_by c x) ≡ false
-  no_change call.Create x may = never call.Create needs.create may
-  no_change call.Mkdir x may = never call.Mkdir needs.mkdir may
-  no_change call.Rmdir x may = never call.Rmdir needs.rmdir may
-  no_change call.Unlink x may = never call.Unlink needs.unlink may
+  no_change call.Create x may = never (rule_of table call.Create) needs.create may
+  no_change call.Mkdir x may = never (rule_of table call.Mkdir) needs.mkdir may
+  no_change call.Rmdir x may = never (rule_of table call.Rmdir) needs.rmdir may
+  no_change call.Unlink x may = never (rule_of table call.Unlink) needs.unlink may
   no_change call.Chdir x may = by_going (λ c. is_edit c ≡ false) refl x (λ dir. refl)
   no_change _ x may = refl
 
   -- without cpath no edit is decided
   no_edit : (action : Action) (c : Change) → IsDecided table t h action c → is_edit c ≡ false
   no_edit (OnPath asked path) c d = ap is_edit d.2 ∙ no_change asked d.0 d.1.promised
-  no_edit (Symlink target path) c d = never call.Symlink needs.symlink d.1.promised
-  no_edit (Rename old new) c d = absurd (may_not h lacks (cpath ∷ []) (refl, tt) d.two.promised)
-  no_edit (Link old new) c d = absurd (may_not h lacks (cpath ∷ []) (refl, tt) d.two.promised)
+  no_edit (Symlink target path) c d = never (rule_of table call.Symlink) needs.symlink d.1.promised
+  no_edit (Rename old new) c d = never table.rename.new.needs needs.rename d.two.promised_new
+  no_edit (Link old new) c d = never table.link.new.needs needs.link d.two.promised_new
   no_edit (Pledge p x) c d = ap is_edit d.is
   no_edit (Unveil path perms) c d = ap is_edit d.is
   no_edit Lock c d = ap is_edit d.1

@@ -6,34 +6,40 @@ use Rattle.pua_path.specs.declared.found.Found.{Found}
 use Rattle.pua_path.specs.declared.found.Found.TheVariants.{Whole, Slot}
 use Rattle.pua_path.specs.declared.found.Way.TheVariants.{Named}
 use Rattle.pua_policy.specs.Promises.{holds, cpath, creating}
-use Rattle.pua_policy.specs.Calls.{CallTable, rule_of}
+use Rattle.pua_policy.specs.Calls.{Rule, CallTable, rule_of}
 use Rattle.pua_policy.specs.History.{History, held}
 use Rattle.pua_policy.specs.Verdict.{cover}
 use Rattle.pua_policy.specs.declared.answer.Cover.{Cover}
 use Rattle.pua_policy.specs.declared.answer.Cover.TheVariants.{All, Nothing, Only}
-use Rattle.pua_policy.specs.declared.call.Call.{Call}
 use Rattle.pua_policy.specs.declared.call.Call.TheVariants as call
 use Rattle.pua_script.specs.Requests.{Asked}
 use Rattle.pua_script.specs.Replay.{World, history_of, apply, world_after}
 use Rattle.pua_script.specs.Laws.{IsConfined}
 use Rattle.pua_script.specs.Family.{is_exec, none_done, members_alone}
 
--- the two calls that take a name away need `c`
+abbrev pub NeedsC : Rule → Type 0
+NeedsC rule = IsTrue (holds rule.perms creating)
+
+-- what takes a name away needs `c`: two calls, and rename, which takes away its old name and what has the new one
 pub record TakingNeedsC (table : CallTable) : Type 0 where
-  pub rmdir : IsTrue (holds (rule_of table call.Rmdir).perms creating)
-  pub unlink : IsTrue (holds (rule_of table call.Unlink).perms creating)
+  pub rmdir : NeedsC (rule_of table call.Rmdir)
+  pub unlink : NeedsC (rule_of table call.Unlink)
+  pub rename_old : NeedsC table.rename.old.needs
+  pub rename_new : NeedsC table.rename.new.needs
 
--- each alternative of a call names cpath
-abbrev pub NamesCpath : CallTable → Call → Type 0
-NamesCpath table call = AllByRecursion (λ set. IsTrue (holds set cpath)) (rule_of table call).alternatives
+-- each alternative names cpath
+abbrev pub NamesCpath : Rule → Type 0
+NamesCpath rule = AllByRecursion (λ set. IsTrue (holds set cpath)) rule.alternatives
 
--- the five calls that make a name or take one away
+-- the five calls that make a name or take one away, and the new names of rename and of link
 pub record ChangingNeedsCpath (table : CallTable) : Type 0 where
-  pub create : NamesCpath table call.Create
-  pub mkdir : NamesCpath table call.Mkdir
-  pub rmdir : NamesCpath table call.Rmdir
-  pub unlink : NamesCpath table call.Unlink
-  pub symlink : NamesCpath table call.Symlink
+  pub create : NamesCpath (rule_of table call.Create)
+  pub mkdir : NamesCpath (rule_of table call.Mkdir)
+  pub rmdir : NamesCpath (rule_of table call.Rmdir)
+  pub unlink : NamesCpath (rule_of table call.Unlink)
+  pub symlink : NamesCpath (rule_of table call.Symlink)
+  pub rename : NamesCpath table.rename.new.needs
+  pub link : NamesCpath table.link.new.needs
 
 -- what stands in a row, as veils see it: a directory by its node, anything else by its name
 abbrev pub object_in : Tree → Spot → ℕ → Found

@@ -5,8 +5,8 @@ use Rattle.pua_tree.specs.Edits.{is_inside, is_same_node}
 use Rattle.pua_path.specs.Paths.{path_fault}
 use Rattle.pua_path.specs.Resolution.{resolution_of_text}
 use Rattle.pua_path.specs.Fits.{spot_named, node_named}
-use Rattle.pua_policy.specs.Promises.{cpath, proc, unveil, creating}
-use Rattle.pua_policy.specs.Calls.{CallTable, rule_of}
+use Rattle.pua_policy.specs.Promises.{proc, unveil}
+use Rattle.pua_policy.specs.Calls.{CallTable, NameRule, PairRule, rule_of}
 use Rattle.pua_policy.specs.History.{History, Event, Pledged, Unveiled, Locked, Moved, Ended, working_dir, is_locked, pledge_fault, unveil_fault, may_any}
 use Rattle.pua_policy.specs.Verdict.{place_of, cover, cover_fault, or_fault, object_named, found_fault, refusal_of}
 use Rattle.pua_tree.specs.declared.node.Kind.{Kind}
@@ -15,7 +15,7 @@ use Rattle.pua_path.specs.declared.errno.Errno.{Errno}
 use Rattle.pua_path.specs.declared.errno.Errno.TheVariants.{EPERM, ENOENT, E2BIG, EBUSY, EEXIST, ENOTDIR, EISDIR, EINVAL, ENOTEMPTY}
 use Rattle.pua_path.specs.declared.text.Ending.{Ending}
 use Rattle.pua_path.specs.declared.text.Ending.TheVariants as ending
-use Rattle.pua_path.specs.declared.found.Last.TheVariants.{Followed, Kept}
+use Rattle.pua_path.specs.declared.found.Last.TheVariants.{Followed}
 use Rattle.pua_path.specs.declared.found.Way.TheVariants as way
 use Rattle.pua_path.specs.declared.found.Found.{Found}
 use Rattle.pua_path.specs.declared.found.Found.TheVariants.{Whole, Slot}
@@ -173,24 +173,26 @@ decide_link old new None = fails ENOENT
 decide_link old new (Some x) =
     checked (or_fault (fault_if (is_whole old) EPERM) (fault_if (is_some (node_named new)) EEXIST)) (Ok (tying x (spot_named new)))
 
--- what a path that is kept named
-abbrev pub kept_named : Tree → History → Ending → List ℕ → Result Found Errno
-kept_named t h ending path = resolution_of_text t (working_dir h) ending path Kept
+-- what a path names of which this is needed
+abbrev pub named_by : NameRule → Tree → History → Ending → List ℕ → Result Found Errno
+named_by name t h ending path = resolution_of_text t (working_dir h) ending path name.last
 
--- what is wrong with the covers of two objects that are to change
-abbrev pub covers_fault : Tree → History → Found → Found → Option Errno
-covers_fault t h old new = or_fault (cover_fault (cover t h old) creating) (cover_fault (cover t h new) creating)
+-- what is wrong with the covers of two objects
+abbrev pub covers_fault : PairRule → Tree → History → Found → Found → Option Errno
+covers_fault pair t h old new = or_fault (cover_fault (cover t h old) pair.old.needs.perms) (cover_fault (cover t h new) pair.new.needs.perms)
 
--- what two kept paths named, where the veils leave enough of both: the old path first each time
-abbrev pub decide_objects : Tree → History → Ending → List ℕ → List ℕ → (Found → Found → Decision) → Decision
-decide_objects t h ending old_path new_path further =
-    named (kept_named t h ending old_path) λ old.
-    named (kept_named t h ending new_path) λ new.
-    checked (covers_fault t h old new) (further old new)
+-- what two paths named, where the veils leave enough of both: the old path first each time
+abbrev pub decide_objects : PairRule → Tree → History → Ending → List ℕ → List ℕ → (Found → Found → Decision) → Decision
+decide_objects pair t h ending old_path new_path further =
+    named (named_by pair.old t h ending old_path) λ old.
+    named (named_by pair.new t h ending new_path) λ new.
+    checked (covers_fault pair t h old new) (further old new)
 
--- two paths: the promise first
-abbrev pub decide_pair : Tree → History → Ending → List ℕ → List ℕ → (Found → Found → Decision) → Decision
-decide_pair t h ending old_path new_path further = promised (may_any h (cpath ∷ [])) (decide_objects t h ending old_path new_path further)
+-- two paths: the promises of both names first
+abbrev pub decide_pair : PairRule → Tree → History → Ending → List ℕ → List ℕ → (Found → Found → Decision) → Decision
+decide_pair pair t h ending old_path new_path further =
+    promised (may_any h pair.old.needs.alternatives)
+    (promised (may_any h pair.new.needs.alternatives) (decide_objects pair t h ending old_path new_path further))
 
 abbrev pub unveil_errno : Option UnveilFault → Option Errno
 unveil_errno None = None
@@ -237,8 +239,8 @@ decide_pledge h promises execpromises =
 abbrev pub decide : CallTable → Tree → History → Action → Decision
 decide table t h (OnPath call path) = decide_call table t h call path
 decide table t h (Symlink target path) = decide_symlink table t h target path
-decide table t h (Rename old new) = decide_pair t h ending.Dropped old new (λ a b. decide_rename t a b (node_named a))
-decide table t h (Link old new) = decide_pair t h ending.Dot old new (λ a b. decide_link a b (node_named a))
+decide table t h (Rename old new) = decide_pair table.rename t h ending.Dropped old new (λ a b. decide_rename t a b (node_named a))
+decide table t h (Link old new) = decide_pair table.link t h ending.Dot old new (λ a b. decide_link a b (node_named a))
 decide table t h (Pledge promises execpromises) = decide_pledge h promises execpromises
 decide table t h (Unveil path perms) = decide_unveil t h path perms
 decide table t h Lock = decide_lock h

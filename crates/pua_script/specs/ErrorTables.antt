@@ -2,7 +2,8 @@
 use Rattle.std.specs.Prelude.{◌≡◌, [], ◌∷◌, Some, None, codes, refl}
 use Rattle.pua_tree.specs.Tree.{empty_tree}
 use Rattle.pua_policy.specs.Promises.{error}
-use Rattle.pua_policy.specs.Calls.{CallTable}
+use Rattle.pua_policy.specs.Calls.{CallTable, standard_table}
+use Rattle.pua_policy.specs.TableTexts.{with_rule}
 use Rattle.pua_policy.specs.History.{History, Pledged, Locked, new_history}
 use Rattle.pua_policy.specs.Verdict.{verdict_on, is_allowed}
 use Rattle.pua_policy.specs.declared.call.Call.TheVariants.{Stat}
@@ -13,7 +14,7 @@ use Rattle.pua_script.specs.declared.request.Given.TheVariants.{Good, Null}
 
 -- a table by which stat needs `error`
 abbrev pub error_table : CallTable
-error_table = record { alternatives = error ∷ []; perms = 0 } ∷ []
+error_table = with_rule standard_table Stat (record { alternatives = error ∷ []; perms = 0 })
 
 abbrev pub locked : History
 locked = Locked ∷ new_history

@@ -3,7 +3,8 @@ use Rattle.std.specs.Prelude.{◌≡◌, ℕ, Bool, true, false, List, [], ◌�
 use Rattle.pua_tree.specs.Examples.{text_of_lines}
 use Rattle.pua_tree.specs.Listing.{listing}
 use Rattle.pua_tree.specs.Tree.{Tree}
-use Rattle.pua_policy.specs.Calls.{standard_table}
+use Rattle.pua_policy.specs.Calls.{CallTable, standard_table}
+use Rattle.pua_policy.specs.TableExamples.{reading_table}
 use Rattle.pua_script.specs.Requests.{Asked}
 use Rattle.pua_script.specs.Scripts.{script}
 use Rattle.pua_script.specs.Replay.{answers, new_world}
@@ -16,9 +17,12 @@ use Rattle.pua_script.specs.declared.fault.ScriptFault.{ScriptFault}
 use Rattle.pua_script.specs.declared.fault.ScriptFault.TheVariants.{BadLine, BadCall, BadPath, BadList}
 
 -- the answers of a script over a listing, where both are accepted
+abbrev pub answers_by : CallTable → Result Tree ListingFault → Result (List Asked) ScriptFault → List Answer
+answers_by table (Ok t) (Ok asks) = answers table (new_world t) asks
+answers_by table _ _ = []
+
 abbrev pub answers_over : Result Tree ListingFault → Result (List Asked) ScriptFault → List Answer
-answers_over (Ok t) (Ok asks) = answers standard_table (new_world t) asks
-answers_over _ _ = []
+answers_over tree asks = answers_by standard_table tree asks
 
 abbrev pub answers_of : List (List ℕ) → List (List ℕ) → List Answer
 answers_of tree lines = answers_over (listing (text_of_lines tree)) (script (text_of_lines lines))
@@ -95,6 +99,53 @@ link_rows = record {
   directory_before_there = refl;
   there = refl;
   final_slash = refl;
+}
+
+-- the answers where rename and link need something else
+abbrev pub answers_to_reader : List (List ℕ) → List (List ℕ) → List Answer
+answers_to_reader tree lines = answers_by reading_table (listing (text_of_lines tree)) (script (text_of_lines lines))
+
+-- two directories, of which a process may read the one, and make names in the other
+abbrev pub read_and_made : List (List ℕ)
+read_and_made = codes "1 unveil /d r" ∷ codes "1 unveil /d/e rwc" ∷ codes "1 link /d/f /d/e/g" ∷ []
+
+-- a process that may make and remove names in a directory, and not read
+abbrev pub made_alone : List (List ℕ)
+made_alone = codes "1 unveil /d wc" ∷ codes "1 rename /d/f /d/h" ∷ []
+
+-- a link to a file, and a dangling one
+abbrev pub file_linked : List (List ℕ)
+file_linked = root_alone ++ codes "1 file 0 f" ∷ codes "2 link 0 l f" ∷ codes "3 link 0 no x" ∷ []
+
+abbrev pub link_linked : List (List ℕ)
+link_linked = codes "1 link /l /g" ∷ codes "1 readlink /g" ∷ codes "1 link /no /h" ∷ []
+
+-- by each of two tables: rename and link need what the table says of them, promises before paths
+pub record PairRows : Type 0 where
+  pub letters_of_link : answers_to_reader ordered read_and_made ≡ Okay ∷ Okay ∷ Okay ∷ []
+  pub standard_letters_of_link : answers_of ordered read_and_made ≡ Okay ∷ Okay ∷ Failed EACCES ∷ []
+  pub letters_of_rename : answers_to_reader ordered made_alone ≡ Okay ∷ Failed EACCES ∷ []
+  pub standard_letters_of_rename : answers_of ordered made_alone ≡ Okay ∷ Okay ∷ []
+  pub followed : answers_to_reader file_linked link_linked ≡ Okay ∷ Failed EINVAL ∷ Failed ENOENT ∷ []
+  pub kept : answers_of file_linked link_linked ≡ Okay ∷ Okay ∷ Okay ∷ []
+  pub promises_of_old : answers_to_reader ordered (codes "1 pledge stdio,cpath,error -" ∷ codes "1 rename /no/x /y" ∷ codes "1 link /no/x /y" ∷ []) ≡ Okay ∷ Failed ENOSYS ∷ Failed ENOSYS ∷ []
+  pub standard_promises_of_old : answers_of ordered (codes "1 pledge stdio,cpath,error -" ∷ codes "1 rename /no/x /y" ∷ codes "1 link /no/x /y" ∷ []) ≡ Okay ∷ Failed ENOENT ∷ Failed ENOENT ∷ []
+  pub promises_of_new : answers_to_reader ordered (codes "1 pledge stdio,rpath -" ∷ codes "1 link /no/x /y" ∷ []) ≡ Okay ∷ Killed ∷ []
+  -- another table changes nothing of the order of further checks
+  pub directory_linked : answers_to_reader example (codes "1 link /t /u" ∷ codes "1 rename /etc /tmp" ∷ []) ≡ Failed EPERM ∷ Failed ENOTEMPTY ∷ []
+
+pub pair_rows : PairRows
+pair_rows = record {
+  letters_of_link = refl;
+  standard_letters_of_link = refl;
+  letters_of_rename = refl;
+  standard_letters_of_rename = refl;
+  followed = refl;
+  kept = refl;
+  promises_of_old = refl;
+  standard_promises_of_old = refl;
+  promises_of_new = refl;
+  directory_linked = refl;
 }
 
 pub record ReplayRows : Type 0 where

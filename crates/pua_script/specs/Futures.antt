@@ -1,12 +1,14 @@
 -- What a world's requests leave of its processes and of its tree, whichever world of the replay it stands for.
-use Rattle.std.specs.Prelude.{◌≡◌, ℕ, List, [], ◌∷◌, Some, take, IsTrue, IsFalse}
-use Rattle.pua_policy.specs.Calls.{standard_table}
+use Rattle.std.specs.Prelude.{◌≡◌, ℕ, List, [], ◌∷◌, Some, Ok, take, IsTrue, IsFalse}
+use Rattle.pua_policy.specs.Calls.{CallTable, standard_table, rule_of}
+use Rattle.pua_policy.specs.TableTexts.{table_of}
 use Rattle.pua_policy.specs.Promises.{holds, cpath}
 use Rattle.pua_policy.specs.History.{History, ProcessState, StandsFor, held}
 use Rattle.pua_script.specs.Requests.{Asked}
 use Rattle.pua_script.specs.Replay.{World, history_of, world_after}
 use Rattle.pua_script.specs.Tightening.{NoCallNeedsError, IsNarrowedBy, EndsWithin}
-use Rattle.pua_script.specs.Confinement.{TakingNeedsC, ChangingNeedsCpath, UncoveredStay, TreesAlong}
+use Rattle.pua_policy.specs.declared.call.Call.TheVariants.{Create, Mkdir, Rmdir, Unlink, Symlink}
+use Rattle.pua_script.specs.Confinement.{NeedsC, NamesCpath, TakingNeedsC, ChangingNeedsCpath, UncoveredStay, TreesAlong}
 use Rattle.pua_script.specs.Family.{is_exec, is_done, none_done, members_alone, family, is_member}
 use Rattle.pua_script.specs.Laws.{IsConfined}
 use Rattle.pua_script.specs.declared.answer.Answer.{Answer}
@@ -17,6 +19,14 @@ pub record StandardTableNarrows : Type 0 where
   pub error : NoCallNeedsError standard_table
   pub taking : TakingNeedsC standard_table
   pub changing : ChangingNeedsCpath standard_table
+
+-- of a table that a text gives the laws ask no more than of its calls: rename and link need what they need by the standard table
+pub record ReadTablesNarrow : Type 0 where
+  pub error : (text : List ℕ) (table : CallTable) → table_of text ≡ Ok table → NoCallNeedsError table
+  pub taking : (text : List ℕ) (table : CallTable) → table_of text ≡ Ok table → NeedsC (rule_of table Rmdir) → NeedsC (rule_of table Unlink) → TakingNeedsC table
+  pub changing : (text : List ℕ) (table : CallTable) → table_of text ≡ Ok table →
+      NamesCpath (rule_of table Create) → NamesCpath (rule_of table Mkdir) → NamesCpath (rule_of table Rmdir) → NamesCpath (rule_of table Unlink) → NamesCpath (rule_of table Symlink) →
+      ChangingNeedsCpath table
 
 -- a process is kept at the number, and stands for a history of this kind
 pub record HasProcessOf (s : WorldState) (process : ℕ) (IsSo : History → Type 0) : Type 0 where

@@ -5,11 +5,11 @@ use Rattle.pua_tree.specs.Edits.{is_same_node, cut, shift}
 use Rattle.pua_path.specs.Paths.{path_fault}
 use Rattle.pua_path.specs.Resolution.{resolution_of_text}
 use Rattle.pua_path.specs.Fits.{spot_named, node_named}
-use Rattle.pua_policy.specs.Promises.{cpath, proc, unveil, creating}
-use Rattle.pua_policy.specs.Calls.{CallTable, rule_of}
+use Rattle.pua_policy.specs.Promises.{proc, unveil}
+use Rattle.pua_policy.specs.Calls.{CallTable, PairRule, rule_of}
 use Rattle.pua_policy.specs.History.{History, Pledged, Unveiled, Locked, Ended, working_dir, is_locked, pledge_fault, unveil_fault, may_any}
 use Rattle.pua_policy.specs.Verdict.{place_of, cover, cover_fault, object_named, object_fault, object_of}
-use Rattle.pua_script.specs.Decide.{link_node, is_whole, kinds_fault, inside_fault, unveil_errno, given_set, is_unknown, Change, NoChange, AddNode, CutRow, ShiftRow, TieRow, AddEvent, CopyAs, adding, change_by, shifting, tying, ways_fault, kept_named, decide}
+use Rattle.pua_script.specs.Decide.{link_node, is_whole, kinds_fault, inside_fault, unveil_errno, given_set, is_unknown, Change, NoChange, AddNode, CutRow, ShiftRow, TieRow, AddEvent, CopyAs, adding, change_by, shifting, tying, ways_fault, named_by, decide}
 use Rattle.pua_path.specs.declared.text.Ending.{Ending}
 use Rattle.pua_path.specs.declared.text.Ending.TheVariants as ending
 use Rattle.pua_path.specs.declared.found.Last.TheVariants.{Followed}
@@ -28,13 +28,14 @@ pub record OnOne (table : CallTable) (t : Tree) (h : History) (call : Call) (pat
   pub covered : cover_fault (cover t h object) (rule_of table call).perms ≡ None
   pub fitting : object_fault t call (object_of t object) ≡ None
 
--- two paths that were kept, and the node that the old one named
-pub record OnTwo (t : Tree) (h : History) (ending : Ending) (old_path new_path : List ℕ) (old new : Found) (x : ℕ) : Type 0 where
-  pub promised : may_any h (cpath ∷ []) ≡ may.Yes
-  pub found_old : kept_named t h ending old_path ≡ Ok old
-  pub found_new : kept_named t h ending new_path ≡ Ok new
-  pub covered_old : cover_fault (cover t h old) creating ≡ None
-  pub covered_new : cover_fault (cover t h new) creating ≡ None
+-- two paths: the promises and the letters of both names, and the node that the old one named
+pub record OnTwo (pair : PairRule) (t : Tree) (h : History) (ending : Ending) (old_path new_path : List ℕ) (old new : Found) (x : ℕ) : Type 0 where
+  pub promised_old : may_any h pair.old.needs.alternatives ≡ may.Yes
+  pub promised_new : may_any h pair.new.needs.alternatives ≡ may.Yes
+  pub found_old : named_by pair.old t h ending old_path ≡ Ok old
+  pub found_new : named_by pair.new t h ending new_path ≡ Ok new
+  pub covered_old : cover_fault (cover t h old) pair.old.needs.perms ≡ None
+  pub covered_new : cover_fault (cover t h new) pair.new.needs.perms ≡ None
   pub named : node_named old ≡ Some x
 
 -- a row that moves is of another node than what stands at its new spot, not beneath itself, and of its kind
@@ -44,19 +45,19 @@ pub record IsShift (t : Tree) (old new : Found) (x : ℕ) (change : Change) : Ty
   pub kinds : kinds_fault t x old new ≡ None
   pub is : change ≡ shifting (spot_named old) (spot_named new)
 
-pub record IsRename (t : Tree) (h : History) (old_path new_path : List ℕ) (change : Change) : Type 0 where
+pub record IsRename (pair : PairRule) (t : Tree) (h : History) (old_path new_path : List ℕ) (change : Change) : Type 0 where
   pub old : Found
   pub new : Found
   pub node : ℕ
-  pub two : OnTwo t h ending.Dropped old_path new_path old new node
+  pub two : OnTwo pair t h ending.Dropped old_path new_path old new node
   pub ways : ways_fault old new ≡ None
   pub moves : (change ≡ NoChange) ⊎ IsShift t old new node change
 
-pub record IsLink (t : Tree) (h : History) (old_path new_path : List ℕ) (change : Change) : Type 0 where
+pub record IsLink (pair : PairRule) (t : Tree) (h : History) (old_path new_path : List ℕ) (change : Change) : Type 0 where
   pub old : Found
   pub new : Found
   pub node : ℕ
-  pub two : OnTwo t h ending.Dot old_path new_path old new node
+  pub two : OnTwo pair t h ending.Dot old_path new_path old new node
   pub no_dir : is_whole old ≡ false
   pub free : is_some (node_named new) ≡ false
   pub is : change ≡ tying node (spot_named new)
@@ -80,8 +81,8 @@ pub record IsPledge (h : History) (promises execpromises : Given) (change : Chan
 abbrev pub IsDecided : CallTable → Tree → History → Action → Change → Type 0
 IsDecided table t h (OnPath call path) change = (object : Found) × OnOne table t h call path object × (change ≡ change_by call object)
 IsDecided table t h (Symlink target path) change = (object : Found) × OnOne table t h call.Symlink path object × (path_fault target ≡ None) × (change ≡ adding (link_node target) object)
-IsDecided table t h (Rename old new) change = IsRename t h old new change
-IsDecided table t h (Link old new) change = IsLink t h old new change
+IsDecided table t h (Rename old new) change = IsRename table.rename t h old new change
+IsDecided table t h (Link old new) change = IsLink table.link t h old new change
 IsDecided table t h (Pledge promises execpromises) change = IsPledge h promises execpromises change
 IsDecided table t h (Unveil path perms) change = IsVeil t h path perms change
 IsDecided table t h Lock change = (may_any h (unveil ∷ []) ≡ may.Yes) × (change ≡ AddEvent Locked)

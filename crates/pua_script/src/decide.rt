@@ -35,8 +35,10 @@ pub(crate) fn decide<'a, T: FileTree>(
             target.bytes(),
             path.bytes(),
         ),
-        Action::Rename(old, new) => decide_rename(tree, process, old.bytes(), new.bytes()),
-        Action::Link(old, new) => decide_link(tree, process, old.bytes(), new.bytes()),
+        Action::Rename(old, new) => {
+            decide_rename(tree, table, process, old.bytes(), new.bytes())
+        },
+        Action::Link(old, new) => decide_link(tree, table, process, old.bytes(), new.bytes()),
         Action::Pledge(promises, execpromises) => decide_pledge(promises, execpromises),
         Action::Unveil(path, perms) => decide_unveil(tree, process, path.bytes(), *perms),
         Action::Lock => decide_lock(process),

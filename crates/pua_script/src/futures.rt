@@ -4,7 +4,7 @@
 ghost use Rattle.pua_script.specs.Bytes.{ListingsListByteTrees, ReplaysKeepByteTrees, ReplaysKeepTrees, RequestsKeepTrees, ScriptsAskInBytes};
 ghost use Rattle.pua_script.specs.Confinement.{CpathChanges, EachRequestSpares, FamiliesConfine};
 ghost use Rattle.pua_script.specs.ErrorTables.{ErrorTables};
-ghost use Rattle.pua_script.specs.Futures.{StandardTableNarrows};
+ghost use Rattle.pua_script.specs.Futures.{ReadTablesNarrow, StandardTableNarrows};
 ghost use Rattle.pua_script.specs.Tightening.{EachRequestNarrows, FamiliesNarrow, ForksCopy, OthersLeave, OthersLeaveAlways};
 
 /// A request leaves the history of each process but the one that asks: its promises and execpromises,
@@ -32,9 +32,10 @@ pub fn families_law()
 
 /// What a family alone asks for leaves each row whose object it can't touch with `c`, with the
 /// node, the kind, the target and the cover, as long as no member's exec succeeds, where the table
-/// asks rmdir and unlink for `c` and each tree on the way is one; and without cpath it leaves the
-/// tree, where the five calls that make a name or take one away need it. A single request of any
-/// process does so by the history that it had before.
+/// asks rmdir, unlink and both names of rename for `c` and each tree on the way is one; and without
+/// cpath it leaves the tree, where the five calls that make a name or take one away need it, and the
+/// new names of rename and link. A single request of any process does so by the history that it had
+/// before.
 pub fn confined_law()
     ensures requests { EachRequestSpares }
     ensures lists { FamiliesConfine }
@@ -51,10 +52,13 @@ pub fn bytes_law()
     ensures scripts { ScriptsAskInBytes }
 {}
 
-/// The standard table is one of those that the laws speak of: no call needs `error`, rmdir and unlink
-/// need `c`, and the five calls that make a name or take one away need cpath.
+/// The standard table is one of those that the laws speak of: no call needs `error`, rmdir, unlink
+/// and both names of rename need `c`, and the five calls that make a name or take one away need cpath,
+/// as the new names of rename and link do. Of a table that a text gives no more is asked than of
+/// these calls.
 pub fn table_law()
-    ensures { StandardTableNarrows }
+    ensures standard { StandardTableNarrows }
+    ensures read { ReadTablesNarrow }
 {}
 
 /// An example of a table by which a call needs `error`: a locked process pledges it and may make the

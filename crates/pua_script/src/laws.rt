@@ -2,7 +2,7 @@
 //! function that does nothing.
 
 ghost use Rattle.std.specs.Prelude.{◌≡◌};
-ghost use Rattle.pua_script.specs.Examples.{ExecRows, LinkRows, RenameRows, ReplayRows, ScriptRows};
+ghost use Rattle.pua_script.specs.Examples.{ExecRows, LinkRows, PairRows, RenameRows, ReplayRows, ScriptRows};
 ghost use Rattle.pua_script.specs.Guards.{DecisionsAreGuarded};
 ghost use Rattle.pua_script.specs.Limits.{line_limit, number_limit, process_limit};
 ghost use Rattle.pua_script.specs.Laws.{ChangesLackRoom, DecisionsArePossible, RefusalsLackNoRoom, ReplayComposes, RequestsLackRoom};
@@ -23,12 +23,13 @@ pub fn script_examples()
     ensures { ScriptRows }
 {}
 
-/// Examples of scripts and their answers, of what a rename and a link check first, and of an exec
-/// by which a locked process reaches more.
+/// Examples of scripts and their answers, of what a rename and a link check first, of these by
+/// another table, and of an exec by which a locked process reaches more.
 pub fn replay_examples()
     ensures replays { ReplayRows }
     ensures renames { RenameRows }
     ensures links { LinkRows }
+    ensures pairs { PairRows }
     ensures execs { ExecRows }
 {}
 

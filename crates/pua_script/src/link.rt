@@ -10,22 +10,23 @@ ghost use Rattle.pua_script.specs.Judged.{decided, decision_by};
 use crate::granted::Granted;
 use crate::pair::{is_whole, judge_pair, node_named, spot_named};
 use pua_path::{Ending, Errno, Found};
-use pua_policy::{Process, Refusal};
+use pua_policy::{CallTable, Process, Refusal};
 use pua_tree::{FileTree, NodeId};
 
-/// What a link is to change: the promise, what is wrong with the old path and then with the new one,
-/// the covers in the same order, and what is wrong with what both paths named. A symbolic link at
-/// the old path's end is not followed: it gets the name itself (this profile).
+/// What a link is to change: the promises of both names, what is wrong with the old path and then
+/// with the new one, the covers in the same order, and what is wrong with what both paths named. By
+/// the standard table a symbolic link at the old path's end gets the name itself (this profile).
 pub(crate) fn decide_link<'a, T: FileTree>(
     tree: &T,
+    table: &CallTable,
     process: &Process,
     old: &'a [u8],
     new: &[u8],
 ) -> Result<Granted<'a>, Refusal>
     ensures { (h : History) → StandsFor process.now h →
-        decided h result ≡ decide_pair (T.content tree.now) h ending.Dot old.now new.now (λ a b. decide_link a b (node_named a)) }
+        decided h result ≡ decide_pair table.now.link (T.content tree.now) h ending.Dot old.now new.now (λ a b. decide_link a b (node_named a)) }
 {
-    let pair = judge_pair(tree, process, Ending::Dot, old, new)?;
+    let pair = judge_pair(tree, table.link(), process, Ending::Dot, old, new)?;
     decide_tie(&pair.from, &pair.to)
 }
 

@@ -9,9 +9,9 @@ ghost use Rattle.pua_script.specs.Decide.{Decision, covers_fault, decide_objects
 ghost use Rattle.pua_script.specs.Judged.{NameFits, on_judged};
 
 use crate::judged::named;
-use pua_path::{Counted, Ending, Errno, Found, Last, Probe, Way};
-use pua_policy::judge::{cover_fault, promised};
-use pua_policy::{Perms, Process, Promises, Refusal};
+use pua_path::{Counted, Ending, Errno, Found, Probe, Way};
+use pua_policy::judge::{cover_fault, promised_any};
+use pua_policy::{PairNeed, Process, Refusal};
 use pua_tree::{FileTree, Name, NodeId};
 
 /// What an old path and a new one name.
@@ -21,39 +21,43 @@ pub(crate) struct Pair {
     pub(crate) to: Found,
 }
 
-/// What the two paths of a call name that gives a node of one the name of another: the promise, then
-/// the paths, and the covers of what they name. A link that a last part names is kept.
+/// What the two paths of a request name that gives a node of one the name of another: the promises of
+/// both names, then the paths, and the covers of what they name, the old name first each time.
 pub(crate) fn judge_pair<T: FileTree>(
     tree: &T,
+    need: &PairNeed,
     process: &Process,
     ending: Ending,
     old: &[u8],
     new: &[u8],
 ) -> Result<Pair, Refusal>
     ensures exact { (h : History) → StandsFor process.now h → (further : found.Found → found.Found → Decision) →
-        decide_pair (T.content tree.now) h ending old.now new.now further ≡ on_judged result (λ pair. further pair.from pair.to) }
+        decide_pair need.now (T.content tree.now) h ending old.now new.now further ≡ on_judged result (λ pair. further pair.from pair.to) }
     ensures fit { IfOk result (λ pair. NameFits (T.content tree.now) pair.from × NameFits (T.content tree.now) pair.to) }
 {
-    promised(process, Promises::CPATH)?;
-    pair_named(tree, process, ending, old, new).map_err(Refusal::Failed)
+    promised_any(process, need.old_name().alternatives())?;
+    promised_any(process, need.new_name().alternatives())?;
+    pair_named(tree, need, process, ending, old, new).map_err(Refusal::Failed)
 }
 
-/// What both paths name, where both are covered with the permission to create and remove.
+/// What both paths name, where both are covered with the permissions that they need.
 fn pair_named<T: FileTree>(
     tree: &T,
+    need: &PairNeed,
     process: &Process,
     ending: Ending,
     old: &[u8],
     new: &[u8],
 ) -> Result<Pair, Errno>
     ensures exact { (h : History) → StandsFor process.now h → (further : found.Found → found.Found → Decision) →
-        decide_objects (T.content tree.now) h ending old.now new.now further ≡ named result (λ pair. further pair.from pair.to) }
+        decide_objects need.now (T.content tree.now) h ending old.now new.now further ≡ named result (λ pair. further pair.from pair.to) }
     ensures fit { IfOk result (λ pair. NameFits (T.content tree.now) pair.from × NameFits (T.content tree.now) pair.to) }
 {
     let mut probe = Counted::new(tree);
-    let from = named(&mut probe, process.dir(), old, ending, Last::Kept)?;
-    let to = named(&mut probe, process.dir(), new, ending, Last::Kept)?;
-    if let Some(errno) = covers_fault(&mut probe, process, &from, &to) {
+    let dir = process.dir();
+    let from = named(&mut probe, dir, old, ending, need.old_name().last())?;
+    let to = named(&mut probe, dir, new, ending, need.new_name().last())?;
+    if let Some(errno) = covers_fault(&mut probe, need, process, &from, &to) {
         return Err(errno);
     }
     Ok(Pair { from, to })
@@ -62,20 +66,21 @@ fn pair_named<T: FileTree>(
 /// What is wrong with the two covers, the first one first.
 fn covers_fault<'t, P: Probe<'t>>(
     probe: &mut P,
+    need: &PairNeed,
     process: &Process,
     from: &Found,
     to: &Found,
 ) -> Option<Errno>
     requires from { FoundFits (P.tree probe.old) from.now }
     requires to { FoundFits (P.tree probe.old) to.now }
-    ensures { (h : History) → StandsFor process.now h → result ≡ covers_fault (P.tree probe.old) h from.now to.now }
+    ensures { (h : History) → StandsFor process.now h → result ≡ covers_fault need.now (P.tree probe.old) h from.now to.now }
 {
     let cover = process.cover(probe, from);
-    if let Some(errno) = cover_fault(cover, Perms::CREATE) {
+    if let Some(errno) = cover_fault(cover, need.old_name().perms()) {
         return Some(errno);
     }
     let cover = process.cover(probe, to);
-    cover_fault(cover, Perms::CREATE)
+    cover_fault(cover, need.new_name().perms())
 }
 
 /// The node that was found.

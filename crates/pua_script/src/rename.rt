@@ -14,21 +14,22 @@ ghost use Rattle.pua_script.specs.Judged.{NameFits, decided, decision_by};
 use crate::granted::Granted;
 use crate::pair::{is_whole, judge_pair, node_named, spot_named};
 use pua_path::{Ending, Errno, Found, Way};
-use pua_policy::{Process, Refusal};
+use pua_policy::{CallTable, Process, Refusal};
 use pua_tree::{FileTree, Kind, NodeId};
 
-/// What a rename is to change: the promise, what is wrong with the old path and then with the new
+/// What a rename is to change: the promises of both names, what is wrong with the old path and then with the new
 /// one, the covers in the same order, and what is wrong with what both paths named.
 pub(crate) fn decide_rename<'a, T: FileTree>(
     tree: &T,
+    table: &CallTable,
     process: &Process,
     old: &'a [u8],
     new: &[u8],
 ) -> Result<Granted<'a>, Refusal>
     ensures { (h : History) → StandsFor process.now h →
-        decided h result ≡ decide_pair (T.content tree.now) h ending.Dropped old.now new.now (λ a b. decide_rename (T.content tree.now) a b (node_named a)) }
+        decided h result ≡ decide_pair table.now.rename (T.content tree.now) h ending.Dropped old.now new.now (λ a b. decide_rename (T.content tree.now) a b (node_named a)) }
 {
-    let pair = judge_pair(tree, process, Ending::Dropped, old, new)?;
+    let pair = judge_pair(tree, table.rename(), process, Ending::Dropped, old, new)?;
     decide_shift(tree, &pair.from, &pair.to)
 }
 

@@ -6,7 +6,7 @@ ghost use Rattle.toml.specs.Errors.{IsBlank};
 ghost use Rattle.toml.specs.View.{view, items_view, table_view};
 ghost use Rattle.pua_policy.specs.Promises.{promises_of};
 ghost use Rattle.pua_policy.specs.Calls.{Rule, standard_table};
-ghost use Rattle.pua_policy.specs.Tables.{NamesNoError, NeedsNoError, alternative_limit};
+ghost use Rattle.pua_policy.specs.Tables.{HasStandardPairs, NamesNoError, NeedsNoError, alternative_limit};
 ghost use Rattle.pua_policy.specs.TableTexts.{alternative_of, alternatives_of, are_alternatives, are_texts, document_of, keys_ascend, row_of, rule_in, rules_with, table_of, values_of};
 
 use crate::call::Call;
@@ -45,14 +45,15 @@ impl CallTable {
     /// The table that a TOML text gives. Each key of the document is the name of a call, and its
     /// value a table with the keys `promises`, an array of 1 to 8 texts, and `veil`, a text: the
     /// call needs all keywords of one of these texts, and the permissions of the veil. A text may
-    /// be empty. Calls that the text does not name need what they need by the standard table. The
-    /// format is this program's own.
+    /// be empty. Calls that the text does not name need what they need by the standard table, and so
+    /// do rename and link, which no text can name. The format is this program's own.
     ///
     /// `BadToml` where the text is no document; else the fault of the first key by the bytes of the
     /// keys, in the order `BadKey`, `BadRow`, `BadPromises`, `BadVeil`. `OutOfMemory` where a growth
     /// was refused, which happens to no text of white space and comments alone.
     pub fn read(alloc: Global, text: &[u8]) -> Result<CallTable, TableFault>
         ensures read { IfOk result (λ table. table_of text.now ≡ Ok table) }
+        ensures pairs { IfOk result HasStandardPairs }
         ensures refused { IfErr result (λ fault. fault ≢ TableFault.OutOfMemory → table_of text.now ≡ Err fault) }
         ensures in_order { result ≢ Err TableFault.OutOfMemory → IfSome (document_of text.now) (λ members. IsTrue (keys_ascend members)) }
         ensures memory { result ≡ Err TableFault.OutOfMemory → ¬ IsBlank text.now }
@@ -80,6 +81,7 @@ fn document(alloc: Global, text: &[u8]) -> Result<Table, TableFault>
 #[tactic(auto, using(crate::proofs::TableTexts::keys_in_order))]
 fn with_rows(document: &Table) -> Result<CallTable, TableFault>
     ensures exact { result ≡ rules_with standard_table (table_view document.now) }
+    ensures pairs { IfOk result HasStandardPairs }
     ensures in_order { IsTrue (keys_ascend (table_view document.now)) }
     ensures no_memory { result ≢ Err TableFault.OutOfMemory }
 {

@@ -15,12 +15,12 @@ pub returns-in-Rename : goal.returns-in-Rename
 returns-in-Rename g c = λ h s.
     let t = g.T.FileTree.content c.args.tree.now in
     c.decide_rename.ensures h s
-    ∙ (λ i. decide_pair t h ending.Dropped (c.bytes-in-Rename.ensures i) (c.bytes-in-Rename-2.ensures i) (λ a b. decide_rename t a b (node_named a)))
+    ∙ (λ i. decide_pair c.args.table.now.rename t h ending.Dropped (c.bytes-in-Rename.ensures i) (c.bytes-in-Rename-2.ensures i) (λ a b. decide_rename t a b (node_named a)))
     ∙ sym (ap (decide c.args.table.now t h) c.in-Rename.is)
 
 pub returns-in-Link : goal.returns-in-Link
 returns-in-Link g c = λ h s.
     let t = g.T.FileTree.content c.args.tree.now in
     c.decide_link.ensures h s
-    ∙ (λ i. decide_pair t h ending.Dot (c.bytes-in-Link.ensures i) (c.bytes-in-Link-2.ensures i) (λ a b. decide_link a b (node_named a)))
+    ∙ (λ i. decide_pair c.args.table.now.link t h ending.Dot (c.bytes-in-Link.ensures i) (c.bytes-in-Link-2.ensures i) (λ a b. decide_link a b (node_named a)))
     ∙ sym (ap (decide c.args.table.now t h) c.in-Link.is)

@@ -1,8 +1,12 @@
 use Rattle.std.proofs.Common.{◌≡◌}
 use Rattle.toml.specs.View.{members_view}
 use Rattle.pua_policy.specs.Calls.{standard_table}
+use Rattle.pua_policy.specs.Tables.{HasStandardPairs}
 use Rattle.pua_policy.specs.TableTexts.{rules_with}
 use Rattle.pua_policy.proofs.table.read.with_rows.Given as goal
 
 abbrev pub invariant-loop-key : goal.invariant-loop-key
-invariant-loop-key l = rules_with l.table (members_view l.key-iterator) ≡ rules_with standard_table (members_view l.fn.document.entries)
+invariant-loop-key l = record {
+  rows : rules_with l.table (members_view l.key-iterator) ≡ rules_with standard_table (members_view l.fn.document.entries);
+  pairs : HasStandardPairs l.table;
+}

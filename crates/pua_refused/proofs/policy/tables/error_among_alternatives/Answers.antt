@@ -3,5 +3,5 @@ use Rattle.pua_refused.proofs.policy.tables.error_among_alternatives.Goals as go
 
 pub unreachable-requires : goal.unreachable-requires
 unreachable-requires c =
-    let clash = sym c.in-Ok.ensures.read ∙ c.table_examples.ensures.error_promise in
+    let clash = sym c.in-Ok.ensures.read ∙ c.table_examples.ensures.texts.error_promise in
     cc

@@ -5,5 +5,5 @@ pub unreachable-requires : goal.unreachable-requires
 unreachable-requires c =
     let fault = c.in-Err-BadToml.field-0-is in
     let read = c.in-Err-BadToml.ensures.refused (λ memory. cc) in
-    let example = sym read ∙ c.table_examples.ensures.first_row in
+    let example = sym read ∙ c.table_examples.ensures.texts.first_row in
     cc

@@ -3,5 +3,5 @@ use Rattle.pua_refused.proofs.policy.tables.nine_alternatives_taken.Goals as goa
 
 pub unreachable-requires : goal.unreachable-requires
 unreachable-requires c =
-    let clash = sym c.in-Ok.ensures.read ∙ c.table_examples.ensures.nine_alternatives in
+    let clash = sym c.in-Ok.ensures.read ∙ c.table_examples.ensures.texts.nine_alternatives in
     cc
