@@ -12,7 +12,7 @@ use Rattle.pua_script.specs.Tightening.{FamiliesNarrow}
 use Rattle.pua_script.specs.declared.answer.Answer.{Answer}
 use Rattle.pua_script.specs.declared.answer.Answer.TheVariants.{Okay, Failed, Killed, Gone}
 use Rattle.pua_script.specs.declared.request.Action.{Action}
-use Rattle.pua_script.specs.declared.request.Action.TheVariants.{OnPath, Symlink, Rename, Link, Pledge, Unveil, Lock, Fork, Exit}
+use Rattle.pua_script.specs.declared.request.Action.TheVariants.{Fork}
 use Rattle.pua_script.proofs.Others.{forks_copy}
 use Rattle.pua_script.proofs.Allowing.{IsWithin, allows_no_more}
 use Rattle.pua_script.proofs.Tightening.{is_own, is_one, each_steps, within_self, within_twice}
@@ -55,14 +55,7 @@ child_or_old (Fork new) members m P belongs old child = by (new == m) refl belon
     by : (b : Bool) → (new == m) ≡ b → (b || is_member members m) ≡ true → P
     by true e belongs = child new refl (eqb-true new m e)
     by false e belongs = old belongs
-child_or_old (OnPath c path) members m P belongs old child = old belongs
-child_or_old (Symlink target path) members m P belongs old child = old belongs
-child_or_old (Rename from to) members m P belongs old child = old belongs
-child_or_old (Link from to) members m P belongs old child = old belongs
-child_or_old (Pledge p x) members m P belongs old child = old belongs
-child_or_old (Unveil path perms) members m P belongs old child = old belongs
-child_or_old Lock members m P belongs old child = old belongs
-child_or_old Exit members m P belongs old child = old belongs
+child_or_old _ members m P belongs old child = old belongs
 
 module _ (table : CallTable) (now : History) where
   module _ (w : World) (ask : Asked) (members : List ℕ) (still : Bool) (are : Members w members now still) (none : is_done is_exec table w ask members ≡ false) where

@@ -4,7 +4,8 @@ use Rattle.std.specs.Prelude.{◌≢◌, codes, IsTrue, ok_or, option_map, nat_l
 use Rattle.std.specs.List.{list_all}
 use Rattle.std.specs.Result.{result_ok}
 use Rattle.std.specs.Str.Lines.{lines}
-use Rattle.std.proofs.lemmas.Bool.{not-true, le-ltb, ltb-false, cond-true}
+use Rattle.std.proofs.lemmas.Bool.{not-true, not_from_false, and_from, le-leb, le-ltb, ltb-false, cond-true}
+use Rattle.pua_script.specs.Bytes.{is_bytes, is_in_bytes}
 use Rattle.std.proofs.lemmas.List.{take_all}
 use lib.Pointwise.{bytes_decides}
 use Rattle.pua_tree.specs.Names.{same_bytes}
@@ -17,7 +18,7 @@ use Rattle.pua_policy.specs.Promises.{promises_of, perms_of}
 use Rattle.pua_policy.specs.Calls.{calls, call_name, call_named}
 use Rattle.pua_policy.specs.declared.call.Call.{Call}
 use Rattle.pua_policy.specs.declared.call.Call.TheVariants as call
-use Rattle.pua_script.specs.Requests.{Asked, is_symlink, has_no_nul}
+use Rattle.pua_script.specs.Requests.{Asked, is_symlink, has_no_nul, is_askable}
 use Rattle.pua_script.specs.declared.request.Given.{Given}
 use Rattle.pua_script.specs.declared.request.Given.TheVariants.{Null, Good}
 use Rattle.pua_script.specs.declared.request.Action.{Action}
@@ -334,3 +335,35 @@ within_told limit texts asks short spells =
 
 pub scripts_are_read : ScriptsAreRead
 scripts_are_read bytes asks = (within_read 60000 (lines bytes) asks, λ is. within_told 60000 (lines bytes) asks is.0 is.1)
+
+-- what spells an action is bytes
+path_bytes : (field text : List ℕ) → SpellsPath field text → is_bytes text ≡ true
+path_bytes _ _ (empty is) = refl
+path_bytes _ _ (spelled other bytes no_nul is) = bytes
+
+pub action_bytes : (more : List (List ℕ)) (action : Action) → SpellsAction more action → is_in_bytes action ≡ true
+action_bytes _ _ (on_path {a = a} {path = path} other named spells) = path_bytes a path spells
+action_bytes _ _ (symlink {a = a} {b = b} {target = x} {path = y} named first second) = and_from _ _ (path_bytes a x first) (path_bytes b y second)
+action_bytes _ _ (rename {a = a} {b = b} {old = x} {new = y} named first second) = and_from _ _ (path_bytes a x first) (path_bytes b y second)
+action_bytes _ _ (link {a = a} {b = b} {old = x} {new = y} named first second) = and_from _ _ (path_bytes a x first) (path_bytes b y second)
+action_bytes _ _ (pledge named first second) = refl
+action_bytes _ _ (unveil {a = a} {path = path} named no_a no_b first second) = path_bytes a path first
+action_bytes _ _ (lock named first second) = refl
+action_bytes _ _ (fork named first low high) = refl
+action_bytes _ _ (exit named) = refl
+
+-- what spells an action can be asked
+path_clean : (field text : List ℕ) → SpellsPath field text → IsTrue (has_no_nul text)
+path_clean field _ (empty e) = refl
+path_clean field text (spelled ne small clean e) = clean
+
+pub askable : (more : List (List ℕ)) (action : Action) → SpellsAction more action → IsTrue (is_askable action)
+askable _ _ (on_path {path = path} other named spells) = and_from _ _ (not_from_false _ other) (path_clean _ path spells)
+askable _ _ (symlink {target = x} {path = y} named first second) = and_from _ _ (path_clean _ x first) (path_clean _ y second)
+askable _ _ (rename {old = x} {new = y} named first second) = and_from _ _ (path_clean _ x first) (path_clean _ y second)
+askable _ _ (link {old = x} {new = y} named first second) = and_from _ _ (path_clean _ x first) (path_clean _ y second)
+askable _ _ (pledge named first second) = refl
+askable _ _ (unveil {path = path} named no_a no_b first second) = path_clean _ path first
+askable _ _ (lock named first second) = refl
+askable _ _ (fork {new = new} named first low high) = and_from _ _ (le-leb 1 new low) (le-leb new 999999 high)
+askable _ _ (exit named) = refl

@@ -1,4 +1,4 @@
--- A granted request passed its checks.
+-- Request by request: one that is granted passed its checks, so its change has grounds; and none is refused for want of room.
 use Rattle.std.proofs.Common.{◌≡◌, ℕ, List, [], ◌∷◌, Bool, true, false, cond, refl, inl, inr, ◌⊎◌}
 use Rattle.std.specs.Prelude.{Option, Some, None, Result, Ok, Err, is_some, ◌||◌}
 use Rattle.pua_tree.specs.Tree.{Tree}
@@ -23,6 +23,15 @@ use Rattle.pua_policy.specs.declared.answer.May.TheVariants as may
 use Rattle.pua_script.specs.Decide.{fault_if, is_whole, link_node, unveil_errno, given_set, is_unknown, inside_fault, kinds_fault, Change, NoChange, Decision, promised, checked, named, adding, change_by, decide_rename, decide_link, decide_veil, decide_pair, shifting, ways_fault, covers_fault, named_by}
 use Rattle.pua_script.specs.declared.request.Action.TheVariants.{OnPath, Symlink, Rename, Link, Pledge, Unveil, Lock, Fork, Exit}
 use Rattle.pua_script.specs.Guards.{OnOne, OnTwo, IsShift, IsVeil, DecisionsAreGuarded}
+use Rattle.std.proofs.lemmas.Bool.{and_parts}
+use Rattle.std.proofs.Common.{sym, subst}
+use Rattle.pua_script.specs.Bytes.{is_bytes}
+use Rattle.pua_script.specs.Guards.{IsDecided}
+use Rattle.pua_script.specs.Laws.{RefusalsLackNoRoom}
+use Rattle.pua_script.specs.declared.request.Action.{Action}
+use Rattle.pua_script.proofs.Faults.{promised_apart, checked_apart, if_apart, none_or, path_apart, granted_apart, object_has_room, pair_has_room, rename_has_room, link_has_room, veil_has_room}
+use Rattle.pua_script.proofs.Grounds.{Grounds, on_adding, on_call, on_rename, on_link, link_leads}
+use Rattle.pua_script.proofs.Linking.{target_is}
 
 from_promised : (m : May) (d : Decision) (c : Change) → promised m d ≡ Ok c → (m ≡ may.Yes) × (d ≡ Ok c)
 from_promised may.Yes d c e = (refl, e)
@@ -160,3 +169,32 @@ decisions_are_guarded table t h Lock change e =
 decisions_are_guarded table t h (Fork new) change e =
     let may = from_promised (may_any h (proc ∷ [])) _ change e in (may.0, is_ok _ _ may.1)
 decisions_are_guarded table t h Exit change e = is_ok _ _ e
+
+module _ (table : CallTable) (t : Tree) (h : History) where
+  -- what each request that was granted a change has checked
+  pub grounds : (action : Action) (c : Change) → IsDecided table t h action c → Grounds table t h action c
+  grounds (OnPath asked path) c d = subst (Grounds table t h (OnPath asked path)) (sym d.2) (on_call table t h asked path d.0 d.1)
+  grounds (Symlink target path) c d = subst (Grounds table t h (Symlink target path)) (sym d.3)
+      (on_adding table t h (Symlink target path) call.Symlink path d.0 (link_node target) d.1 refl (target_is target d.2)
+      (λ small. let two = and_parts (is_bytes target) (is_bytes path) small in (two.1, link_leads table t h target two.0)) (λ full. full))
+  grounds (Rename old new) c d = on_rename table t h (Rename old new) old new d.old d.new d.node c d.two (λ small. (and_parts (is_bytes old) (is_bytes new) small).1) d.moves
+  grounds (Link old new) c d = subst (Grounds table t h (Link old new)) (sym d.is)
+      (on_link table t h (Link old new) old new d.old d.new d.node d.two d.no_dir d.free (λ small. (and_parts (is_bytes old) (is_bytes new) small).1) (λ full. full))
+  grounds (Pledge p x) c d = subst (Grounds table t h (Pledge p x)) (sym d.is) tt
+  grounds (Unveil path perms) c d = subst (Grounds table t h (Unveil path perms)) (sym d.is) (d.promised, d.unlocked)
+  grounds Lock c d = subst (Grounds table t h Lock) (sym d.1) tt
+  grounds (Fork new) c d = subst (Grounds table t h (Fork new)) (sym d.1) tt
+  grounds Exit c d = subst (Grounds table t h Exit) (sym d) tt
+
+pub refusals_lack_no_room : RefusalsLackNoRoom
+refusals_lack_no_room table t h (OnPath c path) = promised_apart _ _ (object_has_room table t h c path (change_by c))
+refusals_lack_no_room table t h (Symlink target path) = promised_apart _ _ (checked_apart _ _ (path_apart target) (object_has_room table t h call.Symlink path (adding (link_node target))))
+refusals_lack_no_room table t h (Rename old new) = pair_has_room table.rename t h ending.Dropped old new _ λ a b. rename_has_room t a b (node_named a)
+refusals_lack_no_room table t h (Link old new) = pair_has_room table.link t h ending.Dot old new _ λ a b. link_has_room a b (node_named a)
+refusals_lack_no_room table t h (Pledge promises execpromises) =
+    checked_apart _ _ (if_apart (is_unknown promises || is_unknown execpromises) EINVAL (λ e. cc))
+    (checked_apart _ _ (none_or _ EPERM (λ e. cc)) (granted_apart _))
+refusals_lack_no_room table t h (Unveil path perms) = promised_apart _ _ (checked_apart _ _ (if_apart (is_locked h) EPERM (λ e. cc)) (veil_has_room t h path perms))
+refusals_lack_no_room table t h Lock = promised_apart _ _ (granted_apart _)
+refusals_lack_no_room table t h (Fork new) = promised_apart _ _ (granted_apart _)
+refusals_lack_no_room table t h Exit = granted_apart _

@@ -15,12 +15,11 @@ use Rattle.pua_tree.specs.declared.node.Kind.{Kind}
 use Rattle.pua_tree.specs.declared.node.Kind.TheVariants.{Dir, File, Prog, Link as LinkKind}
 use Rattle.pua_tree.proofs.ForCallers.{None≢Some, all_found, listings_are_read, listings_list_trees, fits_parts}
 use Rattle.pua_script.specs.Requests.{Asked}
-use Rattle.pua_script.specs.ScriptGrammar.{SpellsPath, empty, spelled, SpellsAction, on_path, symlink, rename, link, pledge, unveil, lock, fork, exit, SpellRequests}
+use Rattle.pua_script.specs.ScriptGrammar.{SpellRequests}
 use Rattle.pua_script.specs.Replay.{apply}
 use Rattle.pua_script.specs.Bytes.{is_bytes, is_in_bytes, are_in_bytes, ReplaysKeepByteTrees, ListingsListByteTrees, ScriptsAskInBytes}
-use Rattle.pua_script.specs.declared.request.Action.{Action}
 use Rattle.pua_script.proofs.KeepTrees.{requests_keep_trees}
-use Rattle.pua_script.proofs.Grammar.{scripts_are_read}
+use Rattle.pua_script.proofs.Grammar.{action_bytes, scripts_are_read}
 
 -- a target, where there is one, is bytes
 abbrev leads_to_bytes : Option (List ℕ) → Bool
@@ -63,21 +62,6 @@ listings_list_byte_trees bytes t read =
       tree = listings_list_trees bytes t is;
       targets = targets_lead t (ap (λ (u : Tree). list_all node_leads u.nodes) is.4 ∙ entries_lead is.0 [] is.1 is.2);
     }
-
-path_bytes : (field text : List ℕ) → SpellsPath field text → is_bytes text ≡ true
-path_bytes _ _ (empty is) = refl
-path_bytes _ _ (spelled other bytes no_nul is) = bytes
-
-action_bytes : (more : List (List ℕ)) (action : Action) → SpellsAction more action → is_in_bytes action ≡ true
-action_bytes _ _ (on_path {a = a} {path = path} other named spells) = path_bytes a path spells
-action_bytes _ _ (symlink {a = a} {b = b} {target = x} {path = y} named first second) = and_from _ _ (path_bytes a x first) (path_bytes b y second)
-action_bytes _ _ (rename {a = a} {b = b} {old = x} {new = y} named first second) = and_from _ _ (path_bytes a x first) (path_bytes b y second)
-action_bytes _ _ (link {a = a} {b = b} {old = x} {new = y} named first second) = and_from _ _ (path_bytes a x first) (path_bytes b y second)
-action_bytes _ _ (pledge named first second) = refl
-action_bytes _ _ (unveil {a = a} {path = path} named no_a no_b first second) = path_bytes a path first
-action_bytes _ _ (lock named first second) = refl
-action_bytes _ _ (fork named first low high) = refl
-action_bytes _ _ (exit named) = refl
 
 requests_bytes : (texts : List (List ℕ)) (asks : List Asked) → SpellRequests texts asks → are_in_bytes asks ≡ true
 requests_bytes [] [] spells = refl

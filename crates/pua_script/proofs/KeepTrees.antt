@@ -8,11 +8,10 @@ use Rattle.std.specs.FinMap.{nat_cmp-IsAntisymmetric}
 use Rattle.pua_tree.specs.Names.{is_name}
 use Rattle.pua_tree.specs.Tree.{Tree, Node, WellFormed, Spot, is_dir, is_living, look, node_at, target_at, target_fits, rows_of}
 use Rattle.pua_tree.specs.Edits.{with_row, without_row, without_node, without_unnamed, with_new, add, tie, cut, cut_found, shift, shift_found, moved, is_full_dir, is_full_dir_there, is_inside, is_same_node, has_room, has_name_room}
-use Rattle.pua_tree.specs.declared.node.Kind.TheVariants as kind
 use Rattle.pua_tree.specs.declared.fault.TreeFault.{TreeFault}
 use Rattle.pua_tree.specs.declared.fault.TreeFault.TheVariants.{Missing, Taken, NotDir, NotEmpty, Inside, Full, IsDir}
 use Rattle.pua_tree.proofs.ForCallers.{edits_keep_trees, same_or_other, put_here, put_elsewhere, without_here, without_elsewhere, None≢Some}
-use Rattle.pua_path.specs.Fits.{spot_named, node_named}
+use Rattle.pua_path.specs.Fits.{spot_named}
 use Rattle.pua_path.specs.Resolution.{resolution_of_text}
 use Rattle.pua_path.specs.declared.errno.Errno.TheVariants.{EAGAIN}
 use Rattle.pua_path.specs.declared.text.Ending.{Ending}
@@ -22,25 +21,17 @@ use Rattle.pua_path.specs.declared.found.Found.TheVariants.{Whole, Slot}
 use Rattle.pua_path.specs.declared.found.Way.TheVariants as way
 use Rattle.pua_policy.specs.Calls.{CallTable, ending_of, last_of}
 use Rattle.pua_policy.specs.History.{History, working_dir}
-use Rattle.pua_policy.specs.declared.call.Call.{Call}
-use Rattle.pua_policy.specs.declared.call.Call.TheVariants as call
 use Rattle.pua_script.specs.Limits.{process_limit}
 use Rattle.pua_script.specs.Bytes.{is_bytes, is_in_bytes, are_in_bytes, IsByteTree, RequestsKeepTrees, ReplaysKeepTrees}
-use Rattle.pua_script.specs.Decide.{link_node, plain_node, Change, AddNode, CutRow, ShiftRow, TieRow, CopyAs, adding, change_by}
+use Rattle.pua_script.specs.Decide.{Change, AddNode, CutRow, ShiftRow, TieRow, CopyAs}
 use Rattle.pua_script.specs.Replay.{World, Fails, Copies, edited, edited_tree, history_of, apply, made}
 use Rattle.pua_script.specs.Worlds.{tree_left}
 use Rattle.pua_script.specs.declared.request.Action.{Action}
-use Rattle.pua_script.specs.declared.request.Action.TheVariants.{OnPath, Symlink, Rename, Link, Pledge, Unveil, Lock, Fork, Exit}
 use Rattle.pua_path.specs.declared.found.Last.{Last}
-use Rattle.pua_script.specs.Guards.{IsDecided}
-use Rattle.pua_script.proofs.Changing.{by_placing, by_cutting, by_going, by_tying, by_moves}
-use Rattle.pua_script.proofs.Possible.{target_is}
+use Rattle.pua_script.proofs.Guarding.{grounds}
+use Rattle.pua_script.proofs.Grounds.{LeadsToBytes, Grounds}
 use Rattle.pua_script.proofs.Applied.{by_tree}
 use Rattle.pua_script.proofs.Naming.{has_name, FoundNamed, text_named}
-
--- a node whose target, if it has one, is bytes
-abbrev LeadsToBytes : Node → Type 0
-LeadsToBytes node = (target : List ℕ) → node.target ≡ Some target → is_bytes target ≡ true
 
 module _ (t : Tree) (is_tree : IsByteTree t) (h : History) where
   -- each node was there before
@@ -136,12 +127,6 @@ module _ (t : Tree) (is_tree : IsByteTree t) (h : History) where
   well_edited_tree (Ok u) each = each u refl
   well_edited_tree (Err fault) each = is_tree.tree
 
-  no_target : (target : List ℕ) → None ≡ Some target → is_bytes target ≡ true
-  no_target target e = absurd (None≢Some target e)
-
-  link_leads : (target : List ℕ) → is_bytes target ≡ true → LeadsToBytes (link_node target)
-  link_leads target small other e = let same : target ≡ other = cc in subst (λ x. is_bytes x ≡ true) same small
-
   -- the name of a spot
   spot_is_name : (x : Found) → has_name x ≡ true → (s : Spot) → spot_named x ≡ Some s → is_name s.1 ≡ true
   spot_is_name (Whole dir (way.Named parent name)) named s e = let same : (parent, name) ≡ s = cc in subst (λ (r : Spot). is_name r.1 ≡ true) same named
@@ -182,39 +167,22 @@ module _ (w : World) (is_tree : IsByteTree w.tree) (h : History) where
       by false = is_tree
   keeps _ fits = is_tree
 
-  fits_adding : (node : Node) → target_fits node.kind node.target ≡ true → LeadsToBytes node → (x : Found) → has_name x ≡ true → FitsBytes (adding node x)
-  fits_adding node fits leads x named = by_placing FitsBytes tt node (spot_named x) (node_named x) (λ s is. (spot_is_name w.tree is_tree h x named s is, fits, leads))
-
-  fits_change : (c : Call) (x : Found) → has_name x ≡ true → FitsBytes (change_by c x)
-  fits_change call.Create x named = fits_adding (plain_node kind.File) refl (no_target w.tree is_tree h) x named
-  fits_change call.Mkdir x named = fits_adding (plain_node kind.Dir) refl (no_target w.tree is_tree h) x named
-  fits_change call.Rmdir x named = by_cutting FitsBytes tt (spot_named x) (node_named x) (λ s is. tt)
-  fits_change call.Unlink x named = by_cutting FitsBytes tt (spot_named x) (node_named x) (λ s is. tt)
-  fits_change call.Chdir x named = by_going FitsBytes tt x (λ dir. tt)
-  fits_change _ x named = tt
-
   found_named : (end : Ending) (path : List ℕ) (mode : Last) (x : Found) → is_bytes path ≡ true → resolution_of_text w.tree (working_dir h) end path mode ≡ Ok x → has_name x ≡ true
   found_named end path mode x small found = subst (FoundNamed w.tree is_tree) found (text_named w.tree is_tree (working_dir h) end path mode small)
 
-  fits_bytes : (table : CallTable) (action : Action) (c : Change) → IsDecided table w.tree h action c → is_in_bytes action ≡ true → FitsBytes c
-  fits_bytes table (OnPath asked path) c d small = subst FitsBytes (sym d.2) (fits_change asked d.0 (found_named (ending_of asked) path (last_of asked) d.0 small d.1.found))
-  fits_bytes table (Symlink target path) c d small =
-      let two = and_parts (is_bytes target) (is_bytes path) small in
-      subst FitsBytes (sym d.3) (fits_adding (link_node target) (target_is target d.2) (link_leads w.tree is_tree h target two.0) d.0 (found_named (ending_of call.Symlink) path (last_of call.Symlink) d.0 two.1 d.1.found))
-  fits_bytes table (Rename old new) c d small =
-      let named = found_named Dropped new table.rename.new.last d.new (and_parts (is_bytes old) (is_bytes new) small).1 d.two.found_new in
-      by_moves FitsBytes tt w.tree d.old d.new d.node c d.moves (λ s r is is_new. spot_is_name w.tree is_tree h d.new named r is_new)
-  fits_bytes table (Link old new) c d small =
-      let named = found_named Dot new table.link.new.last d.new (and_parts (is_bytes old) (is_bytes new) small).1 d.two.found_new in
-      subst FitsBytes (sym d.is) (by_tying FitsBytes tt d.node (spot_named d.new) (spot_is_name w.tree is_tree h d.new named))
-  fits_bytes table (Pledge p x) c d small = subst FitsBytes (sym d.is) tt
-  fits_bytes table (Unveil path perms) c d small = subst FitsBytes (sym d.is) tt
-  fits_bytes table Lock c d small = subst FitsBytes (sym d.1) tt
-  fits_bytes table (Fork new) c d small = subst FitsBytes (sym d.1) tt
-  fits_bytes table Exit c d small = subst FitsBytes (sym d) tt
+  name_in_bytes : (end : Ending) (path : List ℕ) (mode : Last) (x : Found) (s : Spot) → is_bytes path ≡ true → resolution_of_text w.tree (working_dir h) end path mode ≡ Ok x → spot_named x ≡ Some s → is_name s.1 ≡ true
+  name_in_bytes end path mode x s small found at = spot_is_name w.tree is_tree h x (found_named end path mode x small found) s at
+
+  fits_bytes : (table : CallTable) (action : Action) (c : Change) → Grounds table w.tree h action c → is_in_bytes action ≡ true → FitsBytes c
+  fits_bytes table action (AddNode spot node) g small =
+      let bytes = g.bytes small in
+      (name_in_bytes (ending_of g.call) g.path (last_of g.call) g.object spot bytes.0 g.on.found g.at, g.target, bytes.1)
+  fits_bytes table action (ShiftRow from to) g small = name_in_bytes Dropped g.new_path table.rename.new.last g.new to (g.bytes small) g.two.found_new g.at_new
+  fits_bytes table action (TieRow spot x) g small = name_in_bytes Dot g.new_path table.link.new.last g.new spot (g.bytes small) g.two.found_new g.at
+  fits_bytes table action _ g small = tt
 
 pub requests_keep_trees : RequestsKeepTrees
-requests_keep_trees table w ask is_tree small = by_tree table w ask IsByteTree is_tree (λ h _ c guards. keeps w is_tree h c (fits_bytes w is_tree h table ask.action c guards small))
+requests_keep_trees table w ask is_tree small = by_tree table w ask IsByteTree is_tree (λ h _ c guards. keeps w is_tree h c (fits_bytes w is_tree h table ask.action c (grounds table w.tree h ask.action c guards) small))
 
 pub replays_keep_trees : ReplaysKeepTrees
 replays_keep_trees table w [] is_tree small = is_tree.tree

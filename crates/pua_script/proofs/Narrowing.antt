@@ -1,30 +1,24 @@
 -- What a request of a process that can put no veil any more adds to its history.
-use Rattle.std.proofs.Common.{◌≡◌, ℕ, List, [], ◌∷◌, Bool, true, false, cond, refl, sym, ap, subst, ◌∙◌, inl, inr, ◌⊎◌, lit<, ◌||◌}
+use Rattle.std.proofs.Common.{◌≡◌, ℕ, [], ◌∷◌, Bool, true, false, cond, refl, sym, ap, ◌∙◌, inl, inr, ◌⊎◌, lit<, ◌||◌}
 use Rattle.std.proofs.lemmas.Bool.{true≢false}
 use Rattle.std.specs.Prelude.{Result, Ok, Err, IsTrue, is_some, nat_le, length}
 use Rattle.pua_tree.specs.Tree.{Tree}
 use Rattle.pua_path.specs.declared.errno.Errno.{Errno}
 use Rattle.pua_path.specs.declared.errno.Errno.TheVariants.{EAGAIN}
-use Rattle.pua_path.specs.declared.found.Found.{Found}
 use Rattle.pua_tree.specs.declared.fault.TreeFault.{TreeFault}
 use Rattle.pua_policy.specs.Promises.{unveil}
 use Rattle.pua_policy.specs.Calls.{CallTable}
 use Rattle.pua_policy.specs.History.{History, Event, Pledged, Unveiled, Locked, Moved, Ended, is_locked, is_ended, has_error, may_any}
 use Rattle.pua_policy.proofs.ForCallers.{held_never_grows}
-use Rattle.pua_policy.specs.declared.call.Call.{Call}
-use Rattle.pua_policy.specs.declared.call.Call.TheVariants as call
 use Rattle.pua_policy.specs.declared.answer.May.TheVariants as may
 use Rattle.pua_script.specs.declared.request.Action.{Action}
-use Rattle.pua_script.specs.declared.request.Action.TheVariants.{OnPath, Symlink, Rename, Link, Pledge, Unveil, Lock, Fork, Exit}
-use Rattle.pua_script.specs.Decide.{link_node, Change, NoChange, AddNode, CutRow, ShiftRow, TieRow, BeginProgram, AddEvent, CopyAs, change_by, decide}
+use Rattle.pua_script.specs.Decide.{Change, NoChange, AddNode, CutRow, ShiftRow, TieRow, BeginProgram, AddEvent, CopyAs, decide}
 use Rattle.pua_script.specs.Replay.{World, Effect, Fails, Kills, Leaves, Copies, history_of, effect, edited, edited_tree, made, refused}
 use Rattle.pua_script.specs.Limits.{process_limit}
-use Rattle.pua_path.specs.Fits.{spot_named, node_named}
 use Rattle.pua_policy.specs.declared.answer.Refusal.{Refusal}
 use Rattle.pua_policy.specs.declared.answer.Refusal.TheVariants.{Failed, Killed}
-use Rattle.pua_script.specs.Guards.{IsDecided}
-use Rattle.pua_script.proofs.Guarding.{decisions_are_guarded}
-use Rattle.pua_script.proofs.Changing.{by_placing, by_cutting, by_going, by_tying, by_moves}
+use Rattle.pua_script.proofs.Guarding.{decisions_are_guarded, grounds}
+use Rattle.pua_script.proofs.Grounds.{Grounds}
 use Rattle.pua_script.proofs.Applied.{by_decision}
 use Rattle.pua_script.specs.Family.{is_exec, is_chdir}
 use Rattle.pua_script.specs.Laws.{IsConfined}
@@ -80,18 +74,6 @@ module _ (m : Bool) (w : World) (h : History) where
   fine_refused Killed = kills
 
 module _ (m : Bool) (t : Tree) (h : History) where
-  abbrev On : Change → Type 0
-  On c = StepsOn m c
-
-  on_change : (c : Call) (path : List ℕ) → is_exec (OnPath c path) ≡ false → (IsTrue (is_chdir (OnPath c path)) → IsTrue m) → (x : Found) → On (change_by c x)
-  on_change call.Create path other moving x = by_placing On tt _ (spot_named x) (node_named x) (λ s is. tt)
-  on_change call.Mkdir path other moving x = by_placing On tt _ (spot_named x) (node_named x) (λ s is. tt)
-  on_change call.Rmdir path other moving x = by_cutting On tt (spot_named x) (node_named x) (λ s is. tt)
-  on_change call.Unlink path other moving x = by_cutting On tt (spot_named x) (node_named x) (λ s is. tt)
-  on_change call.Chdir path other moving x = by_going On tt x (λ dir. moving refl)
-  on_change call.Exec path other moving x = absurd (true≢false other)
-  on_change _ path other moving x = tt
-
   -- a process that can put no veil may not unveil
   no_unveil : IsConfined h → may_any h (unveil ∷ []) ≡ may.Yes → is_locked h ≡ false → ⊥
   no_unveil (inl locked) says unlocked = true≢false (sym locked ∙ unlocked)
@@ -102,16 +84,12 @@ module _ (m : Bool) (t : Tree) (h : History) where
       by false true e = cc
       by false false e = cc
 
-  steps_by : (table : CallTable) (action : Action) (c : Change) → IsDecided table t h action c → IsConfined h → is_exec action ≡ false → (IsTrue (is_chdir action) → IsTrue m) → On c
-  steps_by table (OnPath asked path) c d confined other moving = subst On (sym d.2) (on_change asked path other moving d.0)
-  steps_by table (Symlink target path) c d confined other moving = subst On (sym d.3) (by_placing On tt (link_node target) (spot_named d.0) (node_named d.0) (λ s is. tt))
-  steps_by table (Rename old new) c d confined other moving = by_moves On tt t d.old d.new d.node c d.moves (λ s r is is_new. tt)
-  steps_by table (Link old new) c d confined other moving = subst On (sym d.is) (by_tying On tt d.node (spot_named d.new) (λ s is. tt))
-  steps_by table (Pledge p x) c d confined other moving = subst On (sym d.is) refl
-  steps_by table (Unveil path perms) c d confined other moving = absurd (no_unveil confined d.promised d.unlocked)
-  steps_by table Lock c d confined other moving = subst On (sym d.1) refl
-  steps_by table (Fork new) c d confined other moving = subst On (sym d.1) tt
-  steps_by table Exit c d confined other moving = subst On (sym d) refl
+  steps_by : (table : CallTable) (action : Action) (c : Change) → Grounds table t h action c → IsConfined h → is_exec action ≡ false → (IsTrue (is_chdir action) → IsTrue m) → StepsOn m c
+  steps_by table action BeginProgram g confined other moving = absurd (true≢false (sym g ∙ other))
+  steps_by table action (AddEvent (Unveiled place perms)) g confined other moving = absurd (no_unveil confined g.0 g.1)
+  steps_by table action (AddEvent (Moved dir)) g confined other moving = moving g
+  steps_by table action (AddEvent _) g confined other moving = refl
+  steps_by table action _ g confined other moving = tt
 
 locked_after : (event : Event) (h : History) → is_locked h ≡ true → is_locked (event ∷ h) ≡ true
 locked_after Locked h locked = refl
@@ -130,4 +108,4 @@ confined_after event h (inr lacking) = inr (not_true _ (λ holding. let again = 
 
 pub fine_effect : (m : Bool) (table : CallTable) (w : World) (h : History) (action : Action) → IsConfined h → is_exec action ≡ false → (IsTrue (is_chdir action) → IsTrue m) → Fine m h (effect table w h action)
 fine_effect m table w h action confined other moving = by_decision w h (Fine m h) (decide table w.tree h action) (fine_refused m w h)
-    (λ c is. fine_made m w h c (steps_by m w.tree h table action c (decisions_are_guarded table w.tree h action c is) confined other moving))
+    (λ c is. fine_made m w h c (steps_by m w.tree h table action c (grounds table w.tree h action c (decisions_are_guarded table w.tree h action c is)) confined other moving))

@@ -3,16 +3,15 @@ use Rattle.std.proofs.Common.{◌≡◌, ℕ, ◌≤◌, cond, List, [], ◌∷�
 use Rattle.std.specs.Borrow.{Bor}
 use Rattle.std.specs.Prelude.{IsTrue, ok_or}
 use Rattle.std.specs.List.{list_all}
-use Rattle.std.proofs.lemmas.Bool.{and_from, le-leb, not_from_false}
+use Rattle.std.proofs.lemmas.Bool.{and_from, le-leb}
 use Rattle.pua_tree.specs.Spelling.{fields, is_field, number_within}
 use Rattle.pua_tree.specs.Fields.{first_fields}
 use Rattle.pua_tree.proofs.ForCallers.{guarded, number_read}
-use Rattle.pua_script.specs.Requests.{has_no_nul, is_asked, is_askable}
+use Rattle.pua_script.specs.Requests.{is_asked}
 use Rattle.pua_script.specs.declared.request.Action.{Action}
 use Rattle.pua_script.specs.declared.fault.ScriptFault.TheVariants.{BadLine, BadCall}
 use Rattle.pua_script.specs.Scripts.{action_in, form_in, action_of, request_of_fields, request_of}
-use Rattle.pua_script.specs.ScriptGrammar.{SpellsPath, empty, spelled, SpellsAction, on_path, symlink, rename, link, pledge, unveil, lock, fork, exit}
-use Rattle.pua_script.proofs.Grammar.{bound, found, action_read}
+use Rattle.pua_script.proofs.Grammar.{bound, found, action_read, askable}
 
 -- no call has more than two arguments
 pub many_arguments : (n : ℕ) (fs : List (Bor (List ℕ))) → 4 ≤ length fs → action_in n (map (λ f. f.now) fs) ≡ Err (BadCall n)
@@ -37,21 +36,6 @@ by_fields n line fs e =
     ap (λ s. cond s (request_of_fields n (fields line)) (Err (BadLine n))) read.0 ∙ six_decide n (fields line) ∙ ap (request_of_fields n) read.1
 
 -- what is read can be asked
-path_clean : (field text : List ℕ) → SpellsPath field text → IsTrue (has_no_nul text)
-path_clean field _ (empty e) = refl
-path_clean field text (spelled ne small clean e) = clean
-
-askable : (more : List (List ℕ)) (action : Action) → SpellsAction more action → IsTrue (is_askable action)
-askable _ _ (on_path {path = path} other named spells) = and_from _ _ (not_from_false _ other) (path_clean _ path spells)
-askable _ _ (symlink {target = x} {path = y} named first second) = and_from _ _ (path_clean _ x first) (path_clean _ y second)
-askable _ _ (rename {old = x} {new = y} named first second) = and_from _ _ (path_clean _ x first) (path_clean _ y second)
-askable _ _ (link {old = x} {new = y} named first second) = and_from _ _ (path_clean _ x first) (path_clean _ y second)
-askable _ _ (pledge named first second) = refl
-askable _ _ (unveil {path = path} named no_a no_b first second) = path_clean _ path first
-askable _ _ (lock named first second) = refl
-askable _ _ (fork {new = new} named first low high) = and_from _ _ (le-leb 1 new low) (le-leb new 999999 high)
-askable _ _ (exit named) = refl
-
 pub asked : (n number : ℕ) (process : List ℕ) (more : List (List ℕ)) (action : Action) → number_within 1 999999 process ≡ Some number → action_in n more ≡ Ok action → IsTrue (is_asked (record { process = number; action = action }))
 asked n number process more action numbered acts =
     let read = number_read 1 999999 process number (lit< tt) numbered in

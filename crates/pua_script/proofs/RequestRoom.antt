@@ -1,307 +1,31 @@
 -- A request is answered ENOSPC only where it adds a node or a name for which there is no room.
-use Rattle.std.proofs.Common.{◌≡◌, ◌≢◌, ℕ, zero, suc, List, [], ◌∷◌, ◌++◌, Bool, true, false, cond, refl, ap, ◌∙◌}
-use Rattle.std.specs.Prelude.{Option, Some, None, Result, Ok, Err, IsTrue, not, ◌&&◌, ◌||◌, nat_lt, length, is_some}
-use Rattle.pua_tree.specs.Names.{has_byte, has_short_components}
-use Rattle.pua_tree.specs.Steps.{◌>>=◌}
-use Rattle.pua_tree.specs.Tree.{Tree, WellFormed, is_dir, is_empty, above}
-use Rattle.pua_path.specs.Limits.{path_limit}
-use Rattle.pua_path.specs.Paths.{parts_of, is_absolute, path_fault}
-use Rattle.pua_path.specs.Resolution.{Resolved, Directory, Linked, Plain, Nothing, standing_at, is_followed, slot_or, walk, start_of, resolve_parts, resolution_of_text, link_limit}
-use Rattle.pua_path.specs.Fits.{node_named}
+use Rattle.std.proofs.Common.{◌≡◌, refl, ap, ◌∙◌}
+use Rattle.std.specs.Prelude.{Ok, Err, IsTrue}
+use Rattle.pua_tree.specs.Tree.{Tree, WellFormed}
 use Rattle.pua_path.specs.declared.errno.Errno.{Errno}
-use Rattle.pua_path.specs.declared.errno.Errno.TheVariants.{EPERM, ENOENT, EACCES, ENAMETOOLONG, EINVAL, ENOTEMPTY, ENOSPC, ENOTDIR, ELOOP}
-use Rattle.pua_path.specs.declared.text.Ending.{Ending}
-use Rattle.pua_path.specs.declared.text.Ending.TheVariants as ending
-use Rattle.pua_path.specs.declared.found.Part.{Part}
-use Rattle.pua_path.specs.declared.found.Part.TheVariants as parts
-use Rattle.pua_path.specs.declared.found.Last.{Last}
-use Rattle.pua_path.specs.declared.found.Last.TheVariants.{Followed}
-use Rattle.pua_path.specs.declared.found.Way.{Way}
-use Rattle.pua_path.specs.declared.found.Way.TheVariants as way
-use Rattle.pua_path.specs.declared.found.Found.{Found}
-use Rattle.pua_path.specs.declared.found.Found.TheVariants.{Slot}
-use Rattle.pua_policy.specs.Promises.{holds}
-use Rattle.pua_policy.specs.Calls.{CallTable, PairRule, rule_of, ending_of, last_of}
-use Rattle.pua_policy.specs.History.{History, is_locked, working_dir, may_any, unveil_fault}
-use Rattle.pua_policy.specs.Verdict.{Object, IsDir, IsFile, IsProg, IsLink, IsMissing, place_of, cover, cover_fault, rmdir_fault, object_fault, object_of, object_named}
-use Rattle.pua_policy.specs.declared.call.Call.{Call}
-use Rattle.pua_policy.specs.declared.call.Call.TheVariants as call
-use Rattle.pua_policy.specs.declared.answer.Cover.{Cover}
-use Rattle.pua_policy.specs.declared.answer.Cover.TheVariants as covers
-use Rattle.pua_policy.specs.declared.answer.UnveilFault.{UnveilFault}
-use Rattle.pua_policy.specs.declared.answer.UnveilFault.TheVariants as unveil_faults
-use Rattle.pua_policy.specs.declared.answer.May.{May}
-use Rattle.pua_policy.specs.declared.answer.May.TheVariants as may
-use Rattle.pua_script.specs.declared.request.Action.TheVariants.{OnPath, Symlink, Rename, Link, Pledge, Unveil, Lock, Fork, Exit}
-use Rattle.pua_tree.specs.Tree.{is_empty}
-use Rattle.pua_tree.specs.Edits.{is_inside, is_same_node}
-use Rattle.pua_path.specs.declared.errno.Errno.TheVariants.{EEXIST, EISDIR}
-use Rattle.pua_path.specs.Fits.{spot_named}
-use Rattle.pua_path.specs.declared.found.Found.TheVariants.{Whole}
-use Rattle.pua_tree.specs.Tree.{Spot}
-use Rattle.pua_policy.specs.Verdict.{or_fault}
+use Rattle.pua_path.specs.declared.errno.Errno.TheVariants.{ENOSPC}
+use Rattle.pua_policy.specs.Calls.{CallTable}
+use Rattle.pua_policy.specs.History.{History}
 use Rattle.pua_policy.specs.declared.answer.Refusal.TheVariants.{Failed, Killed}
 use Rattle.pua_script.specs.declared.request.Action.{Action}
-use Rattle.std.proofs.Common.{sym, subst}
-use Rattle.pua_script.specs.Decide.{Change, NoChange, Decision, fails, promised, checked, named as decide_named, change_by, adding, link_node, decide_object, decide_pair, decide_rename, decide_link, decide_veil, decide, shifting, named_by, dots_fault, top_fault, is_whole, fault_if, kinds_fault, inside_fault, unveil_errno, is_unknown}
-use Rattle.pua_script.specs.Guards.{IsDecided}
+use Rattle.pua_script.specs.Decide.{Change, AddNode, TieRow, Decision, fails, decide}
 use Rattle.pua_script.specs.Replay.{World, Fails, come_of, effect}
-use Rattle.pua_script.specs.Laws.{RefusalsLackNoRoom, LacksRoom, RequestLacksRoom, RequestsLackRoom, wants_room, lacks_room}
-use Rattle.pua_script.proofs.Changing.{by_placing, by_cutting, by_going, by_tying, by_moves}
-use Rattle.pua_script.proofs.Guarding.{decisions_are_guarded}
+use Rattle.pua_script.specs.Laws.{LacksRoom, RequestLacksRoom, RequestsLackRoom, wants_room, lacks_room}
+use Rattle.pua_script.proofs.Guarding.{decisions_are_guarded, grounds, refusals_lack_no_room}
 use Rattle.pua_script.proofs.Possible.{decisions_are_possible}
 use Rattle.pua_script.proofs.Room.{changes_lack}
-
--- faults other than ENOSPC
-abbrev pub Apart : Option Errno → Type 0
-Apart fault = fault ≢ Some ENOSPC
-
-pub or_apart : (a b : Option Errno) → Apart a → Apart b → Apart (or_fault a b)
-or_apart None b first second = second
-or_apart (Some errno) b first second = first
-
-if_apart : (b : Bool) (errno : Errno) → Apart (Some errno) → Apart (fault_if b errno)
-if_apart true errno apart = apart
-if_apart false errno apart = λ e. cc
-
-dots_apart : (object : Found) → Apart (dots_fault object)
-dots_apart (Whole dir way.Dot) e = cc
-dots_apart (Whole dir way.DotDot) e = cc
-dots_apart (Whole dir way.Top) e = cc
-dots_apart (Whole dir (way.Named parent name)) e = cc
-dots_apart (Slot dir name _) e = cc
-
-top_apart : (object : Found) → Apart (top_fault object)
-top_apart (Whole dir way.Dot) e = cc
-top_apart (Whole dir way.DotDot) e = cc
-top_apart (Whole dir way.Top) e = cc
-top_apart (Whole dir (way.Named parent name)) e = cc
-top_apart (Slot dir name _) e = cc
-
-inside_apart : (t : Tree) (x : ℕ) (spot : Option Spot) → Apart (inside_fault t x spot)
-inside_apart t x None = λ e. cc
-inside_apart t x (Some spot) = if_apart (is_inside t x spot.0) EINVAL (λ e. cc)
-
-kinds_apart : (t : Tree) (x : ℕ) (old new : Found) → Apart (kinds_fault t x old new)
-kinds_apart t x old (Whole y way) = or_apart _ _ (if_apart (not (is_whole old)) EISDIR (λ e. cc)) (if_apart (not (is_empty t y)) ENOTEMPTY (λ e. cc))
-kinds_apart t x old (Slot dir name None) = λ e. cc
-kinds_apart t x old (Slot dir name (Some y)) = if_apart (is_whole old) ENOTDIR (λ e. cc)
-
--- faults that are not ENOSPC, of paths
-fault_or : (b : Bool) (errno : Errno) (o : Option Errno) → errno ≢ ENOSPC → Apart o → Apart (cond b (Some errno) o)
-fault_or true errno o other apart e = other (same errno e)
-  where
-    same : (errno : Errno) → Some errno ≡ Some ENOSPC → errno ≡ ENOSPC
-    same errno e = cc
-fault_or false errno o other apart e = apart e
-
-none_or : (b : Bool) (errno : Errno) → errno ≢ ENOSPC → Apart (cond b None (Some errno))
-none_or true errno other e = cc
-none_or false errno other e = fault_or true errno None other (λ e. cc) e
-
-path_apart : (text : List ℕ) → Apart (path_fault text)
-path_apart [] = λ e. cc
-path_apart (b ∷ more) =
-    fault_or (nat_lt path_limit (length (b ∷ more))) ENAMETOOLONG _ (λ e. cc)
-    (fault_or (not (has_short_components (b ∷ more))) ENAMETOOLONG _ (λ e. cc)
-    (fault_or (has_byte 0 (b ∷ more)) EINVAL None (λ e. cc) (λ e. cc)))
-
-abbrev IsApart : Resolved → Type 0
-IsApart (Ok found) = Unit {0}
-IsApart (Err errno) = errno ≢ ENOSPC
-
-slot_apart : (rest : List Part) (found : Found) (errno : Errno) (links : ℕ) → errno ≢ ENOSPC → IsApart (slot_or rest found errno links)
-slot_apart [] found errno links other = tt
-slot_apart (part ∷ rest) found errno links other = other
-
-module _ (t : Tree) (mode : Last) (links : ℕ) (follow : ℕ → List ℕ → List Part → Resolved)
-    (follows : (from : ℕ) (target : List ℕ) (rest : List Part) → IsApart (follow from target rest)) where
-  linked_apart : (b : Bool) (from : ℕ) (target : List ℕ) (rest : List Part) (found : Found) → IsApart (cond b (follow from target rest) (Ok (found, links)))
-  linked_apart true from target rest found = follows from target rest
-  linked_apart false from target rest found = tt
-
-  walk_apart : (ps : List Part) (dir : ℕ) (by : Way) → IsApart (walk t mode links follow dir by ps)
-  walk_apart [] dir by = tt
-  walk_apart (parts.Dot ∷ ps) dir by = walk_apart ps dir way.Dot
-  walk_apart (parts.DotDot ∷ ps) dir by = walk_apart ps (above t dir) way.DotDot
-  walk_apart (parts.Name name ∷ ps) dir by = elim (standing_at t dir name) as (λ s. IsApart (elim s [
-    | Directory x ↦ walk t mode links follow x (way.Named dir name) ps
-    | Linked x target ↦ cond (is_followed mode ps) (follow dir target ps) (Ok (Slot dir name (Some x), links))
-    | Plain x ↦ slot_or ps (Slot dir name (Some x)) ENOTDIR links
-    | Nothing ↦ slot_or ps (Slot dir name None) ENOENT links
-  ])) [
-    | Directory x ↦ walk_apart ps x (way.Named dir name)
-    | Linked x target ↦ linked_apart (is_followed mode ps) dir target ps (Slot dir name (Some x))
-    | Plain x ↦ slot_apart ps (Slot dir name (Some x)) ENOTDIR links (λ e. cc)
-    | Nothing ↦ slot_apart ps (Slot dir name None) ENOENT links (λ e. cc)
-  ]
-
-resolve_apart : (links : ℕ) (t : Tree) (mode : Last) (dir : ℕ) (by : Way) (ps : List Part) → IsApart (resolve_parts links t mode dir by ps)
-resolve_apart zero t mode dir by ps = walk_apart t mode 0 (λ from target rest. Err ELOOP) (λ from target rest e. cc) ps dir by
-resolve_apart (suc links) t mode dir by ps =
-    walk_apart t mode (suc links) _ (λ from target rest. resolve_apart links t mode (start_of target from) way.Top (parts_of ending.Dot target ++ rest)) ps dir by
-
-abbrev errno_of : Result Found Errno → Errno
-errno_of (Ok found) = ENOSPC
-errno_of (Err errno) = errno
-
--- what a text names is never ENOSPC
-abbrev Named : Result Found Errno → Type 0
-Named r = r ≢ Err ENOSPC
-
-named_from : (r : Resolved) → IsApart r → Named (r >>= λ found. Ok found.0)
-named_from (Ok found) apart e = cc
-named_from (Err errno) apart e = apart (ap errno_of e)
-
-named_if : (b : Bool) (r : Result Found Errno) → Named r → Named (cond b (Err ENOENT) r)
-named_if true r named e = cc
-named_if false r named e = named e
-
-named : (t : Tree) (from : ℕ) (end : Ending) (text : List ℕ) (mode : Last) → Named (resolution_of_text t from end text mode)
-named t from end text mode = by (path_fault text) refl (path_apart text)
-  where
-    by : (o : Option Errno) → path_fault text ≡ o → Apart (path_fault text) → Named (resolution_of_text t from end text mode)
-    by None e apart = rw e
-        (named_if (not (is_absolute text) && not (is_dir t from)) _ (named_from _ (resolve_apart link_limit t mode (start_of text from) way.Top (parts_of end text))))
-    by (Some errno) e apart = rw e (λ is. apart (e ∙ ap (λ r. Some (errno_of r)) is))
-
--- faults of covers and of what was found
-cover_apart : (c : Cover) (perms : ℕ) → Apart (cover_fault c perms)
-cover_apart covers.All perms = λ e. cc
-cover_apart covers.Nothing perms = λ e. cc
-cover_apart (covers.Only given) perms = none_or (holds given perms) EACCES (λ e. cc)
-
-rmdir_apart : (t : Tree) (dir : ℕ) (by : Way) → Apart (rmdir_fault t dir by)
-rmdir_apart t dir way.Dot = λ e. cc
-rmdir_apart t dir way.DotDot = λ e. cc
-rmdir_apart t dir way.Top = λ e. cc
-rmdir_apart t dir (way.Named parent name) = none_or (is_empty t dir) ENOTEMPTY (λ e. cc)
-
-each_apart : (f : Object → Option Errno) → ((dir : ℕ) (by : Way) → Apart (f (IsDir dir by))) → Apart (f IsFile) → Apart (f IsProg) → Apart (f IsLink) → Apart (f IsMissing) → (o : Object) → Apart (f o)
-each_apart f dirs file prog link missing (IsDir dir by) = dirs dir by
-each_apart f dirs file prog link missing IsFile = file
-each_apart f dirs file prog link missing IsProg = prog
-each_apart f dirs file prog link missing IsLink = link
-each_apart f dirs file prog link missing IsMissing = missing
-
-object_apart : (t : Tree) (c : Call) (o : Object) → Apart (object_fault t c o)
-object_apart t call.Stat = each_apart (object_fault t call.Stat) (λ d b e. cc) (λ e. cc) (λ e. cc) (λ e. cc) (λ e. cc)
-object_apart t call.Lstat = each_apart (object_fault t call.Lstat) (λ d b e. cc) (λ e. cc) (λ e. cc) (λ e. cc) (λ e. cc)
-object_apart t call.Readlink = each_apart (object_fault t call.Readlink) (λ d b e. cc) (λ e. cc) (λ e. cc) (λ e. cc) (λ e. cc)
-object_apart t call.OpenRead = each_apart (object_fault t call.OpenRead) (λ d b e. cc) (λ e. cc) (λ e. cc) (λ e. cc) (λ e. cc)
-object_apart t call.OpenWrite = each_apart (object_fault t call.OpenWrite) (λ d b e. cc) (λ e. cc) (λ e. cc) (λ e. cc) (λ e. cc)
-object_apart t call.OpenBoth = each_apart (object_fault t call.OpenBoth) (λ d b e. cc) (λ e. cc) (λ e. cc) (λ e. cc) (λ e. cc)
-object_apart t call.Create = each_apart (object_fault t call.Create) (λ d b e. cc) (λ e. cc) (λ e. cc) (λ e. cc) (λ e. cc)
-object_apart t call.Mkdir = each_apart (object_fault t call.Mkdir) (λ d b e. cc) (λ e. cc) (λ e. cc) (λ e. cc) (λ e. cc)
-object_apart t call.Rmdir = each_apart (object_fault t call.Rmdir) (rmdir_apart t) (λ e. cc) (λ e. cc) (λ e. cc) (λ e. cc)
-object_apart t call.Unlink = each_apart (object_fault t call.Unlink) (λ d b e. cc) (λ e. cc) (λ e. cc) (λ e. cc) (λ e. cc)
-object_apart t call.Symlink = each_apart (object_fault t call.Symlink) (λ d b e. cc) (λ e. cc) (λ e. cc) (λ e. cc) (λ e. cc)
-object_apart t call.Chmod = each_apart (object_fault t call.Chmod) (λ d b e. cc) (λ e. cc) (λ e. cc) (λ e. cc) (λ e. cc)
-object_apart t call.Chdir = each_apart (object_fault t call.Chdir) (λ d b e. cc) (λ e. cc) (λ e. cc) (λ e. cc) (λ e. cc)
-object_apart t call.Exec = each_apart (object_fault t call.Exec) (λ d b e. cc) (λ e. cc) (λ e. cc) (λ e. cc) (λ e. cc)
-
-veil_apart : (o : Option UnveilFault) → Apart (unveil_errno o)
-veil_apart None = λ e. cc
-veil_apart (Some unveil_faults.NotPermitted) = λ e. cc
-veil_apart (Some unveil_faults.TooManyPlaces) = λ e. cc
-veil_apart (Some unveil_faults.OutOfMemory) = λ e. cc
-
--- a decision that lacks no room
-abbrev HasRoom : Decision → Type 0
-HasRoom d = d ≢ Err (Failed ENOSPC)
-
-fails_apart : (errno : Errno) → errno ≢ ENOSPC → HasRoom (fails errno)
-fails_apart errno other e = other (ap errno_in e)
-  where
-    errno_in : Decision → Errno
-    errno_in (Err (Failed errno)) = errno
-    errno_in _ = ENOSPC
-
-promised_apart : (m : May) (d : Decision) → HasRoom d → HasRoom (promised m d)
-promised_apart may.Yes d has = has
-promised_apart may.Enosys d has = λ e. cc
-promised_apart may.Death d has = λ e. cc
-
-checked_apart : (o : Option Errno) (d : Decision) → Apart o → HasRoom d → HasRoom (checked o d)
-checked_apart None d apart has = has
-checked_apart (Some errno) d apart has = fails_apart errno (λ same. apart (ap Some same))
-
-named_apart : (r : Result Found Errno) (f : Found → Decision) → Named r → ((x : Found) → HasRoom (f x)) → HasRoom (decide_named r f)
-named_apart (Ok x) f other has = has x
-named_apart (Err errno) f other has = fails_apart errno (λ same. other (ap Err same))
-
-granted_apart : (c : Change) → HasRoom (Ok c)
-granted_apart c e = cc
-
-object_has_room : (table : CallTable) (t : Tree) (h : History) (c : Call) (path : List ℕ) (f : Found → Change) → HasRoom (decide_object table t h c path (λ x. Ok (f x)))
-object_has_room table t h c path f = named_apart (object_named t h c path) _ (named t (working_dir h) (ending_of c) path (last_of c)) λ x.
-    checked_apart _ _ (or_apart _ _ (cover_apart (cover t h x) (rule_of table c).perms) (object_apart t c (object_of t x))) (granted_apart (f x))
-
-pair_has_room : (pair : PairRule) (t : Tree) (h : History) (end : Ending) (old_path new_path : List ℕ) (f : Found → Found → Decision) → ((old new : Found) → HasRoom (f old new)) → HasRoom (decide_pair pair t h end old_path new_path f)
-pair_has_room pair t h end old_path new_path f has =
-    promised_apart (may_any h pair.old.needs.alternatives) _
-    (promised_apart (may_any h pair.new.needs.alternatives) _
-    (named_apart (named_by pair.old t h end old_path) _ (named t (working_dir h) end old_path pair.old.last) λ old.
-    named_apart (named_by pair.new t h end new_path) _ (named t (working_dir h) end new_path pair.new.last) λ new.
-    checked_apart _ _ (or_apart _ _ (cover_apart (cover t h old) pair.old.needs.perms) (cover_apart (cover t h new) pair.new.needs.perms)) (has old new)))
-
-rename_has_room : (t : Tree) (old new : Found) (x : Option ℕ) → HasRoom (decide_rename t old new x)
-rename_has_room t old new None = λ e. cc
-rename_has_room t old new (Some x) =
-    checked_apart _ _ (or_apart _ _ (dots_apart old) (or_apart _ _ (dots_apart new) (or_apart _ _ (top_apart old) (top_apart new))))
-    (by (is_same_node x (node_named new)))
-  where
-    by : (same : Bool) → HasRoom (cond {A = Decision} same (Ok NoChange) (checked (or_fault (inside_fault t x (spot_named new)) (kinds_fault t x old new)) (Ok (shifting (spot_named old) (spot_named new)))))
-    by true = granted_apart NoChange
-    by false = checked_apart _ _ (or_apart _ _ (inside_apart t x (spot_named new)) (kinds_apart t x old new)) (granted_apart _)
-
-link_has_room : (old new : Found) (x : Option ℕ) → HasRoom (decide_link old new x)
-link_has_room old new None = λ e. cc
-link_has_room old new (Some x) =
-    checked_apart _ _ (or_apart _ _ (if_apart (is_whole old) EPERM (λ e. cc)) (if_apart (is_some (node_named new)) EEXIST (λ e. cc))) (granted_apart _)
-
-veil_has_room : (t : Tree) (h : History) (path : List ℕ) (perms : Option ℕ) → HasRoom (decide_veil t h path perms)
-veil_has_room t h path None = λ e. cc
-veil_has_room t h path (Some perms) = named_apart _ _ (named t (working_dir h) ending.Dot path Followed) λ x.
-    checked_apart _ _ (veil_apart (unveil_fault h (place_of x) perms)) (granted_apart _)
-
-pub refusals_lack_no_room : RefusalsLackNoRoom
-refusals_lack_no_room table t h (OnPath c path) = promised_apart _ _ (object_has_room table t h c path (change_by c))
-refusals_lack_no_room table t h (Symlink target path) = promised_apart _ _ (checked_apart _ _ (path_apart target) (object_has_room table t h call.Symlink path (adding (link_node target))))
-refusals_lack_no_room table t h (Rename old new) = pair_has_room table.rename t h ending.Dropped old new _ λ a b. rename_has_room t a b (node_named a)
-refusals_lack_no_room table t h (Link old new) = pair_has_room table.link t h ending.Dot old new _ λ a b. link_has_room a b (node_named a)
-refusals_lack_no_room table t h (Pledge promises execpromises) =
-    checked_apart _ _ (if_apart (is_unknown promises || is_unknown execpromises) EINVAL (λ e. cc))
-    (checked_apart _ _ (none_or _ EPERM (λ e. cc)) (granted_apart _))
-refusals_lack_no_room table t h (Unveil path perms) = promised_apart _ _ (checked_apart _ _ (if_apart (is_locked h) EPERM (λ e. cc)) (veil_has_room t h path perms))
-refusals_lack_no_room table t h Lock = promised_apart _ _ (granted_apart _)
-refusals_lack_no_room table t h (Fork new) = promised_apart _ _ (granted_apart _)
-refusals_lack_no_room table t h Exit = granted_apart _
+use Rattle.pua_script.proofs.Grounds.{Grounds}
 
 -- which requests are granted a change that may want room
 module _ (t : Tree) where
   abbrev Wants : Action → Change → Type 0
   Wants action change = IsTrue (wants_room t change) → IsTrue (lacks_room t action)
 
-  call_wants : (c : Call) (path : List ℕ) (x : Found) → Wants (OnPath c path) (change_by c x)
-  call_wants call.Create path x = by_placing (Wants (OnPath call.Create path)) (λ e. cc) _ (spot_named x) (node_named x) (λ s is full. full)
-  call_wants call.Mkdir path x = by_placing (Wants (OnPath call.Mkdir path)) (λ e. cc) _ (spot_named x) (node_named x) (λ s is full. full)
-  call_wants call.Rmdir path x = by_cutting (Wants (OnPath call.Rmdir path)) (λ e. cc) (spot_named x) (node_named x) (λ s is e. cc)
-  call_wants call.Unlink path x = by_cutting (Wants (OnPath call.Unlink path)) (λ e. cc) (spot_named x) (node_named x) (λ s is e. cc)
-  call_wants call.Chdir path x = by_going (Wants (OnPath call.Chdir path)) (λ e. cc) x (λ dir e. cc)
-  call_wants _ path x = λ e. cc
-
   module _ (h : History) (table : CallTable) where
-    wants_by : (action : Action) (c : Change) → IsDecided table t h action c → Wants action c
-    wants_by (OnPath asked path) c d = subst (Wants (OnPath asked path)) (sym d.2) (call_wants asked path d.0)
-    wants_by (Symlink target path) c d = subst (Wants (Symlink target path)) (sym d.3) (by_placing (Wants (Symlink target path)) (λ e. cc) _ (spot_named d.0) (node_named d.0) (λ s is full. full))
-    wants_by (Rename old new) c d = by_moves (Wants (Rename old new)) (λ e. cc) t d.old d.new d.node c d.moves (λ s r is is_new e. cc)
-    wants_by (Link old new) c d = subst (Wants (Link old new)) (sym d.is) (by_tying (Wants (Link old new)) (λ e. cc) d.node (spot_named d.new) (λ s is full. full))
-    wants_by (Pledge p x) c d = subst (Wants (Pledge p x)) (sym d.is) (λ e. cc)
-    wants_by (Unveil path perms) c d = subst (Wants (Unveil path perms)) (sym d.is) (λ e. cc)
-    wants_by Lock c d = subst (Wants Lock) (sym d.1) (λ e. cc)
-    wants_by (Fork new) c d = subst (Wants (Fork new)) (sym d.1) (λ e. cc)
-    wants_by Exit c d = subst (Wants Exit) (sym d) (λ e. cc)
+    wants_by : (action : Action) (c : Change) → Grounds table t h action c → Wants action c
+    wants_by action (AddNode spot node) g = g.room
+    wants_by action (TieRow spot x) g = g.room
+    wants_by action _ g = λ e. cc
 
 module _ (table : CallTable) (w : World) (h : History) (action : Action) (well : WellFormed w.tree) where
   lacks : (d : Decision) → decide table w.tree h action ≡ d → come_of w h d ≡ Fails ENOSPC → LacksRoom table w.tree h action
@@ -320,7 +44,7 @@ module _ (table : CallTable) (w : World) (h : History) (action : Action) (well :
     exact = (lacks (decide table w.tree h action) refl, fails_so);
     only = λ e.
         let lacking = lacks (decide table w.tree h action) refl e in
-        wants_by w.tree h table action lacking.change (decisions_are_guarded table w.tree h action lacking.change lacking.granted) lacking.full;
+        wants_by w.tree h table action lacking.change (grounds table w.tree h action lacking.change (decisions_are_guarded table w.tree h action lacking.change lacking.granted)) lacking.full;
   }
 
 pub requests_lack : RequestsLackRoom

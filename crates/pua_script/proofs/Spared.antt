@@ -1,10 +1,10 @@
 -- No request takes a row away that isn't covered with `c`.
-use Rattle.std.proofs.Common.{◌≡◌, ℕ, Bool, true, false, cond, refl, sym, ap, subst, ◌∙◌}
+use Rattle.std.proofs.Common.{◌≡◌, ℕ, Bool, true, false, cond, refl, sym, ap, ◌∙◌}
 use Rattle.std.specs.Prelude.{Some, None, is_some, ◌||◌, nat_le, length}
 use Rattle.std.proofs.lemmas.Bool.{eqb-true, and_parts, not-true}
 use Rattle.std.proofs.lemmas.Nat.{and_comm}
 use Rattle.pua_tree.specs.Tree.{Tree, WellFormed, Spot, is_dir, look}
-use Rattle.pua_path.specs.Fits.{spot_named, node_named}
+use Rattle.pua_path.specs.Fits.{spot_named}
 use Rattle.pua_path.specs.declared.errno.Errno.TheVariants.{EACCES, EAGAIN}
 use Rattle.pua_path.specs.declared.text.Ending.TheVariants.{Dropped}
 use Rattle.pua_path.specs.declared.found.Found.{Found}
@@ -20,17 +20,16 @@ use Rattle.pua_policy.specs.declared.call.Call.TheVariants as call
 use Rattle.pua_policy.specs.declared.answer.Cover.{Cover}
 use Rattle.pua_policy.specs.declared.answer.Cover.TheVariants.{All, Nothing, Only}
 use Rattle.pua_script.specs.Requests.{Asked}
-use Rattle.pua_script.specs.Decide.{link_node, Change, AddNode, CutRow, ShiftRow, TieRow, CopyAs, change_by}
+use Rattle.pua_script.specs.Decide.{Change, AddNode, CutRow, ShiftRow, TieRow, CopyAs}
 use Rattle.pua_script.specs.Judged.{NameFits}
 use Rattle.pua_script.specs.Replay.{World, Fails, Copies, history_of, apply, made}
 use Rattle.pua_script.specs.Worlds.{tree_left}
 use Rattle.pua_script.specs.declared.request.Action.{Action}
-use Rattle.pua_script.specs.declared.request.Action.TheVariants.{OnPath, Symlink, Rename, Link, Pledge, Unveil, Lock, Fork, Exit}
-use Rattle.pua_script.specs.Confinement.{has_c, TakingNeedsC}
+use Rattle.pua_script.specs.Confinement.{has_c, NeedsC, TakingNeedsC}
 use Rattle.pua_script.specs.Limits.{process_limit}
-use Rattle.pua_script.specs.Guards.{IsDecided}
 use Rattle.pua_script.proofs.Applied.{by_own_tree}
-use Rattle.pua_script.proofs.Changing.{by_placing, by_cutting, by_going, by_tying, by_moves}
+use Rattle.pua_script.proofs.Guarding.{grounds}
+use Rattle.pua_script.proofs.Grounds.{Grounds, takes}
 use Rattle.pua_script.proofs.Possible.{name_fits}
 use Rattle.pua_script.proofs.Sparing.{Spares, SpotHasC, spares_all, spares_add, spares_tie, spares_cut, spares_shift}
 
@@ -92,27 +91,20 @@ module _ (t : Tree) (h : History) where
     pub has_spot : (x : Found) → NameFits t x → (perms : ℕ) → holds perms creating ≡ true → cover_fault (cover t h x) perms ≡ None → (s : Spot) → spot_named x ≡ Some s → SpotHasC t h s
     has_spot x fits perms has covered s is = spot_has_c x s fits is (c_from_cover (cover t h x) perms has covered)
 
-    has_change : (c : Call) (x : Found) → NameFits t x → cover_fault (cover t h x) (rule_of table c).perms ≡ None → HasC (change_by c x)
-    has_change call.Create x fits covered = by_placing HasC tt _ (spot_named x) (node_named x) (λ s is. tt)
-    has_change call.Mkdir x fits covered = by_placing HasC tt _ (spot_named x) (node_named x) (λ s is. tt)
-    has_change call.Rmdir x fits covered = by_cutting HasC tt (spot_named x) (node_named x) (has_spot x fits _ needs.rmdir covered)
-    has_change call.Unlink x fits covered = by_cutting HasC tt (spot_named x) (node_named x) (has_spot x fits _ needs.unlink covered)
-    has_change call.Chdir x fits covered = by_going HasC tt x (λ dir. tt)
-    has_change _ x fits covered = tt
+    taking_needs : (c : Call) → takes c ≡ true → NeedsC (rule_of table c)
+    taking_needs call.Rmdir taken = needs.rmdir
+    taking_needs call.Unlink taken = needs.unlink
+    taking_needs _ taken = cc
 
-    has_c_by : (action : Action) (c : Change) → IsDecided table t h action c → HasC c
-    has_c_by (OnPath asked path) c d = subst HasC (sym d.2) (has_change asked d.0 (name_fits t well (working_dir h) (ending_of asked) path (last_of asked) d.0 d.1.found) d.1.covered)
-    has_c_by (Symlink target path) c d = subst HasC (sym d.3) (by_placing HasC tt (link_node target) (spot_named d.0) (node_named d.0) (λ s is. tt))
-    has_c_by (Rename old new) c d = by_moves HasC tt t d.old d.new d.node c d.moves λ s r is is_new. (
-      has_spot d.old (name_fits t well (working_dir h) Dropped old table.rename.old.last d.old d.two.found_old) _ needs.rename_old d.two.covered_old s is,
-      has_spot d.new (name_fits t well (working_dir h) Dropped new table.rename.new.last d.new d.two.found_new) _ needs.rename_new d.two.covered_new r is_new,
+    has_c_by : (action : Action) (c : Change) → Grounds table t h action c → HasC c
+    has_c_by action (CutRow spot) g =
+        let fits = name_fits t well (working_dir h) (ending_of g.call) g.path (last_of g.call) g.object g.on.found in
+        has_spot g.object fits _ (taking_needs g.call g.taken) g.on.covered spot g.at
+    has_c_by action (ShiftRow from to) g = (
+      has_spot g.old (name_fits t well (working_dir h) Dropped g.old_path table.rename.old.last g.old g.two.found_old) _ needs.rename_old g.two.covered_old from g.at_old,
+      has_spot g.new (name_fits t well (working_dir h) Dropped g.new_path table.rename.new.last g.new g.two.found_new) _ needs.rename_new g.two.covered_new to g.at_new,
     )
-    has_c_by (Link old new) c d = subst HasC (sym d.is) (by_tying HasC tt d.node (spot_named d.new) (λ s is. tt))
-    has_c_by (Pledge p x) c d = subst HasC (sym d.is) tt
-    has_c_by (Unveil path perms) c d = subst HasC (sym d.is) tt
-    has_c_by Lock c d = subst HasC (sym d.1) tt
-    has_c_by (Fork new) c d = subst HasC (sym d.1) tt
-    has_c_by Exit c d = subst HasC (sym d) tt
+    has_c_by action _ g = tt
 
 spares_made : (w : World) → WellFormed w.tree → (h : History) (c : Change) → HasC w.tree h c → Spares w.tree h (tree_left w.tree (made w h c))
 spares_made w well h (AddNode spot node) has = spares_add w.tree h well spot.0 spot.1 node
@@ -130,4 +122,4 @@ spares_made w well h _ has = spares_all w.tree h
 pub requests_spare : (table : CallTable) → TakingNeedsC table → (w : World) (ask : Asked) (h : History) →
     WellFormed w.tree → history_of w ask.process ≡ Some h → Spares w.tree h (apply table w ask).1.tree
 requests_spare table needs w ask h well here = by_own_tree table w ask h here (Spares w.tree h) (spares_all w.tree h)
-    (λ c guards. spares_made w well h c (has_c_by w.tree h well table needs ask.action c guards))
+    (λ c guards. spares_made w well h c (has_c_by w.tree h well table needs ask.action c (grounds table w.tree h ask.action c guards)))

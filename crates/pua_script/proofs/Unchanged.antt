@@ -6,7 +6,6 @@ use Rattle.std.proofs.lemmas.Bool.{false≢true, eqb-true}
 use Rattle.std.proofs.lemmas.Nat.{and_comm}
 use Rattle.pua_tree.specs.Tree.{Tree}
 use Rattle.pua_path.specs.declared.errno.Errno.TheVariants.{EAGAIN}
-use Rattle.pua_path.specs.declared.found.Found.{Found}
 use Rattle.pua_policy.specs.Promises.{holds, cpath}
 use Rattle.pua_policy.specs.History.{History, held, has_error, is_ended, may_any}
 use Rattle.pua_policy.specs.Calls.{Rule, CallTable, rule_of}
@@ -17,12 +16,11 @@ use Rattle.pua_policy.proofs.ForCallers.{second_holds}
 use Rattle.pua_script.specs.Limits.{process_limit}
 use Rattle.pua_script.specs.Worlds.{tree_left}
 use Rattle.pua_script.specs.Confinement.{NamesCpath, ChangingNeedsCpath, CpathChanges}
-use Rattle.pua_script.specs.Decide.{Change, AddNode, CutRow, ShiftRow, TieRow, CopyAs, change_by}
+use Rattle.pua_script.specs.Decide.{Change, AddNode, CutRow, ShiftRow, TieRow, CopyAs}
 use Rattle.pua_script.specs.Replay.{World, Fails, Copies, history_of, made}
 use Rattle.pua_script.specs.declared.request.Action.{Action}
-use Rattle.pua_script.specs.declared.request.Action.TheVariants.{OnPath, Symlink, Rename, Link, Pledge, Unveil, Lock, Fork, Exit}
-use Rattle.pua_script.specs.Guards.{IsDecided}
-use Rattle.pua_script.proofs.Changing.{by_going}
+use Rattle.pua_script.proofs.Guarding.{grounds}
+use Rattle.pua_script.proofs.Grounds.{Grounds, makes, takes}
 use Rattle.pua_script.proofs.Applied.{by_own_tree}
 
 -- what holds a set holds what the set holds
@@ -71,25 +69,24 @@ module _ (table : CallTable) (needs : ChangingNeedsCpath table) (t : Tree) (h : 
   never : {A : Type 0} (rule : Rule) → NamesCpath rule → may_any h rule.alternatives ≡ Yes → A
   never rule names may = absurd (may_not h lacks rule.alternatives names may)
 
-  no_change : (c : Call) (x : Found) → may_any h (rule_of table c).alternatives ≡ Yes → is_edit (change_by c x) ≡ false
-  no_change call.Create x may = never (rule_of table call.Create) needs.create may
-  no_change call.Mkdir x may = never (rule_of table call.Mkdir) needs.mkdir may
-  no_change call.Rmdir x may = never (rule_of table call.Rmdir) needs.rmdir may
-  no_change call.Unlink x may = never (rule_of table call.Unlink) needs.unlink may
-  no_change call.Chdir x may = by_going (λ c. is_edit c ≡ false) refl x (λ dir. refl)
-  no_change _ x may = refl
+  making_needs : (c : Call) → makes c ≡ true → NamesCpath (rule_of table c)
+  making_needs call.Create made = needs.create
+  making_needs call.Mkdir made = needs.mkdir
+  making_needs call.Symlink made = needs.symlink
+  making_needs _ made = cc
+
+  taking_needs : (c : Call) → takes c ≡ true → NamesCpath (rule_of table c)
+  taking_needs call.Rmdir taken = needs.rmdir
+  taking_needs call.Unlink taken = needs.unlink
+  taking_needs _ taken = cc
 
   -- without cpath no edit is decided
-  no_edit : (action : Action) (c : Change) → IsDecided table t h action c → is_edit c ≡ false
-  no_edit (OnPath asked path) c d = ap is_edit d.2 ∙ no_change asked d.0 d.1.promised
-  no_edit (Symlink target path) c d = never (rule_of table call.Symlink) needs.symlink d.1.promised
-  no_edit (Rename old new) c d = never table.rename.new.needs needs.rename d.two.promised_new
-  no_edit (Link old new) c d = never table.link.new.needs needs.link d.two.promised_new
-  no_edit (Pledge p x) c d = ap is_edit d.is
-  no_edit (Unveil path perms) c d = ap is_edit d.is
-  no_edit Lock c d = ap is_edit d.1
-  no_edit (Fork new) c d = ap is_edit d.1
-  no_edit Exit c d = ap is_edit d
+  no_edit : (action : Action) (c : Change) → Grounds table t h action c → is_edit c ≡ false
+  no_edit action (AddNode spot node) g = never (rule_of table g.call) (making_needs g.call g.made) g.on.promised
+  no_edit action (CutRow spot) g = never (rule_of table g.call) (taking_needs g.call g.taken) g.on.promised
+  no_edit action (ShiftRow from to) g = never table.rename.new.needs needs.rename g.two.promised_new
+  no_edit action (TieRow spot x) g = never table.link.new.needs needs.link g.two.promised_new
+  no_edit action _ g = refl
 
 pub cpath_changes : CpathChanges
-cpath_changes table needs w ask h here lacks = by_own_tree table w ask h here (λ t. t ≡ w.tree) refl (λ c guards. keeps w h c (no_edit table needs w.tree h lacks ask.action c guards))
+cpath_changes table needs w ask h here lacks = by_own_tree table w ask h here (λ t. t ≡ w.tree) refl (λ c guards. keeps w h c (no_edit table needs w.tree h lacks ask.action c (grounds table w.tree h ask.action c guards)))

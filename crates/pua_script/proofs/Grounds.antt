@@ -1,0 +1,167 @@
+-- What was checked before a change, whichever request was granted it.
+use Rattle.std.proofs.Common.{◌≡◌, ℕ, List, [], ◌∷◌, Bool, true, false, not, refl, sym, subst, ◌⊎◌, inl, inr}
+use Rattle.std.specs.Prelude.{Option, Some, None, IsTrue, is_some}
+use Rattle.pua_tree.specs.Tree.{Tree, Node, Spot, target_fits}
+use Rattle.pua_tree.specs.Edits.{has_room, has_name_room}
+use Rattle.pua_tree.specs.declared.node.Kind.TheVariants as kind
+use Rattle.pua_path.specs.Fits.{spot_named, node_named}
+use Rattle.pua_path.specs.declared.text.Ending.TheVariants.{Dot, Dropped}
+use Rattle.pua_path.specs.declared.found.Found.{Found}
+use Rattle.pua_path.specs.declared.found.Found.TheVariants.{Whole, Slot}
+use Rattle.pua_policy.specs.Promises.{unveil}
+use Rattle.pua_policy.specs.Calls.{CallTable}
+use Rattle.pua_policy.specs.History.{History, Event, Unveiled, Moved, is_locked, may_any}
+use Rattle.pua_policy.specs.declared.answer.May.TheVariants.{Yes}
+use Rattle.pua_policy.specs.declared.call.Call.{Call}
+use Rattle.pua_policy.specs.declared.call.Call.TheVariants as call
+use Rattle.pua_script.specs.Bytes.{is_bytes, is_in_bytes}
+use Rattle.pua_script.specs.Decide.{Change, NoChange, AddNode, CutRow, ShiftRow, TieRow, BeginProgram, AddEvent, CopyAs, plain_node, link_node, placing, cutting, shifting, tying, change_by, adding, removing, is_whole}
+use Rattle.pua_script.specs.Family.{is_exec, is_chdir}
+use Rattle.pua_script.specs.Guards.{OnOne, OnTwo, IsShift}
+use Rattle.pua_script.specs.Laws.{lacks_room}
+use Rattle.pua_script.specs.declared.request.Action.{Action}
+use Rattle.pua_script.specs.declared.request.Action.TheVariants.{OnPath, Symlink}
+
+-- the calls that make a name, and those that take one away
+abbrev pub makes : Call → Bool
+makes call.Create = true
+makes call.Mkdir = true
+makes call.Symlink = true
+makes _ = false
+
+abbrev pub takes : Call → Bool
+takes call.Rmdir = true
+takes call.Unlink = true
+takes _ = false
+
+abbrev pub LeadsToBytes : Node → Type 0
+LeadsToBytes node = (target : List ℕ) → node.target ≡ Some target → is_bytes target ≡ true
+
+module _ (table : CallTable) (t : Tree) (h : History) (action : Action) where
+  -- a node where nothing stands, at the spot that the path of an allowed call named
+  pub record IsAdded (spot : Spot) (node : Node) : Type 0 where
+    pub call : Call
+    pub path : List ℕ
+    pub object : Found
+    pub on : OnOne table t h call path object
+    pub made : makes call ≡ true
+    pub at : spot_named object ≡ Some spot
+    pub free : node_named object ≡ None
+    pub target : target_fits node.kind node.target ≡ true
+    pub bytes : is_in_bytes action ≡ true → (is_bytes path ≡ true) × LeadsToBytes node
+    pub room : IsTrue (not (has_room t)) → IsTrue (lacks_room t action)
+
+  -- the row by whose name the path of an allowed call named something
+  pub record IsCut (spot : Spot) : Type 0 where
+    pub call : Call
+    pub path : List ℕ
+    pub object : Found
+    pub on : OnOne table t h call path object
+    pub taken : takes call ≡ true
+    pub at : spot_named object ≡ Some spot
+
+  -- the rows that the two names of a rename are
+  pub record IsShifted (from to : Spot) : Type 0 where
+    pub old_path : List ℕ
+    pub new_path : List ℕ
+    pub old : Found
+    pub new : Found
+    pub node : ℕ
+    pub two : OnTwo table.rename t h Dropped old_path new_path old new node
+    pub shift : IsShift t old new node (ShiftRow from to)
+    pub at_old : spot_named old ≡ Some from
+    pub at_new : spot_named new ≡ Some to
+    pub bytes : is_in_bytes action ≡ true → is_bytes new_path ≡ true
+
+  -- the row that the new name of a link is, and what its old name named
+  pub record IsTied (spot : Spot) (x : ℕ) : Type 0 where
+    pub old_path : List ℕ
+    pub new_path : List ℕ
+    pub old : Found
+    pub new : Found
+    pub two : OnTwo table.link t h Dot old_path new_path old new x
+    pub no_dir : is_whole old ≡ false
+    pub free : is_some (node_named new) ≡ false
+    pub at : spot_named new ≡ Some spot
+    pub bytes : is_in_bytes action ≡ true → is_bytes new_path ≡ true
+    pub room : IsTrue (not (has_name_room t)) → IsTrue (lacks_room t action)
+
+  -- an unveil of a process that may, and a move by chdir
+  abbrev pub IsSaid : Event → Type 0
+  IsSaid (Unveiled place perms) = (may_any h (unveil ∷ []) ≡ Yes) × (is_locked h ≡ false)
+  IsSaid (Moved dir) = is_chdir action ≡ true
+  IsSaid _ = Unit {0}
+
+  abbrev pub Grounds : Change → Type 0
+  Grounds NoChange = Unit {0}
+  Grounds (AddNode spot node) = IsAdded spot node
+  Grounds (CutRow spot) = IsCut spot
+  Grounds (ShiftRow from to) = IsShifted from to
+  Grounds (TieRow spot x) = IsTied spot x
+  Grounds BeginProgram = is_exec action ≡ true
+  Grounds (AddEvent event) = IsSaid event
+  Grounds (CopyAs new) = Unit {0}
+
+module _ (table : CallTable) (t : Tree) (h : History) where
+  pub on_adding : (action : Action) (c : Call) (path : List ℕ) (x : Found) (node : Node) → OnOne table t h c path x → makes c ≡ true → target_fits node.kind node.target ≡ true
+      → (is_in_bytes action ≡ true → (is_bytes path ≡ true) × LeadsToBytes node) → (IsTrue (not (has_room t)) → IsTrue (lacks_room t action))
+      → Grounds table t h action (adding node x)
+  on_adding action c path x node on made target bytes room = by (spot_named x) (node_named x) refl refl
+    where
+      by : (s : Option Spot) (y : Option ℕ) → spot_named x ≡ s → node_named x ≡ y → Grounds table t h action (placing node s y)
+      by (Some s) None at free = record { call = c; path = path; object = x; on = on; made = made; at = at; free = free; target = target; bytes = bytes; room = room }
+      by (Some s) (Some y) at free = tt
+      by None y at free = tt
+
+  on_cutting : (action : Action) (c : Call) (path : List ℕ) (x : Found) → OnOne table t h c path x → takes c ≡ true → Grounds table t h action (removing x)
+  on_cutting action c path x on taken = by (spot_named x) (node_named x) refl
+    where
+      by : (s : Option Spot) (y : Option ℕ) → spot_named x ≡ s → Grounds table t h action (cutting s y)
+      by (Some s) (Some y) at = record { call = c; path = path; object = x; on = on; taken = taken; at = at }
+      by (Some s) None at = tt
+      by None y at = tt
+
+  no_target : (target : List ℕ) → None ≡ Some target → is_bytes target ≡ true
+  no_target target e = cc
+
+  pub on_call : (c : Call) (path : List ℕ) (x : Found) → OnOne table t h c path x → Grounds table t h (OnPath c path) (change_by c x)
+  on_call call.Create path x on = on_adding (OnPath call.Create path) call.Create path x (plain_node kind.File) on refl refl (λ small. (small, no_target)) (λ full. full)
+  on_call call.Mkdir path x on = on_adding (OnPath call.Mkdir path) call.Mkdir path x (plain_node kind.Dir) on refl refl (λ small. (small, no_target)) (λ full. full)
+  on_call call.Rmdir path x on = on_cutting (OnPath call.Rmdir path) call.Rmdir path x on refl
+  on_call call.Unlink path x on = on_cutting (OnPath call.Unlink path) call.Unlink path x on refl
+  on_call call.Chdir path (Whole dir way) on = refl
+  on_call call.Chdir path (Slot dir name y) on = tt
+  on_call call.Exec path x on = refl
+  on_call _ path x on = tt
+
+  pub link_leads : (target : List ℕ) → is_bytes target ≡ true → LeadsToBytes (link_node target)
+  link_leads target small other e = let same : target ≡ other = cc in subst (λ x. is_bytes x ≡ true) same small
+
+  pub on_rename : (action : Action) (old_path new_path : List ℕ) (old new : Found) (x : ℕ) (c : Change) → OnTwo table.rename t h Dropped old_path new_path old new x
+      → (is_in_bytes action ≡ true → is_bytes new_path ≡ true) → (c ≡ NoChange) ⊎ IsShift t old new x c → Grounds table t h action c
+  on_rename action old_path new_path old new x c two bytes (inl same) = subst (Grounds table t h action) (sym same) tt
+  on_rename action old_path new_path old new x c two bytes (inr moves) = subst (Grounds table t h action) (sym moves.is) (by (spot_named old) (spot_named new) refl refl)
+    where
+      by : (a b : Option Spot) → spot_named old ≡ a → spot_named new ≡ b → Grounds table t h action (shifting a b)
+      by (Some a) (Some b) at_old at_new = record {
+        old_path = old_path;
+        new_path = new_path;
+        old = old;
+        new = new;
+        node = x;
+        two = two;
+        shift = record { other = moves.other; inside = moves.inside; kinds = moves.kinds; is = (λ i. shifting (sym at_old i) (sym at_new i)) };
+        at_old = at_old;
+        at_new = at_new;
+        bytes = bytes;
+      }
+      by (Some a) None at_old at_new = tt
+      by None b at_old at_new = tt
+
+  pub on_link : (action : Action) (old_path new_path : List ℕ) (old new : Found) (x : ℕ) → OnTwo table.link t h Dot old_path new_path old new x → is_whole old ≡ false → is_some (node_named new) ≡ false
+      → (is_in_bytes action ≡ true → is_bytes new_path ≡ true) → (IsTrue (not (has_name_room t)) → IsTrue (lacks_room t action)) → Grounds table t h action (tying x (spot_named new))
+  on_link action old_path new_path old new x two no_dir free bytes room = by (spot_named new) refl
+    where
+      by : (s : Option Spot) → spot_named new ≡ s → Grounds table t h action (tying x s)
+      by (Some s) at = record { old_path = old_path; new_path = new_path; old = old; new = new; two = two; no_dir = no_dir; free = free; at = at; bytes = bytes; room = room }
+      by None at = tt
