@@ -21,7 +21,7 @@ use Rattle.pua_objects.specs.declared.line.ObjectLine.{ObjectLine}
 use Rattle.pua_objects.specs.declared.open_dir.OpenDir.{OpenDir}
 use Rattle.pua_objects.specs.declared.open_dir.Coming.TheVariants.{Names, Others}
 use Rattle.pua_objects.specs.declared.walk.Walk.{Walk}
-use Rattle.pua_objects.proofs.Descending.{covers_descend}
+use Rattle.pua_policy.proofs.ForCallers.{covers_descend}
 use Rattle.pua_objects.proofs.Framed.{names_no_root, others_no_root, reverse_more, frames_longer}
 use Rattle.pua_objects.proofs.Walking.{reaches, walks_objects}
 

@@ -3,7 +3,7 @@
 -- what is among the elements of a list, also once it was mapped, filtered or joined
 pub use Rattle.pua_objects.proofs.Among.{Among, among_left, among_right, among_either, among_map, map_among, among_filter, filter_among, among_flat, contained}
 -- covers go down from directory to directory
-pub use Rattle.pua_objects.proofs.Descending.{covers_descend}
+pub use Rattle.pua_policy.proofs.ForCallers.{covers_descend}
 -- what stands in a row or at a veil is among what is found there, and what was found has an item
 pub use Rattle.pua_objects.proofs.Listing.{found_among, found_dir, IsVisited, has_item}
 -- a directory that stands in a row is named by it

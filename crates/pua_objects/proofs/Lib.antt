@@ -5,7 +5,6 @@ pub mod Listing
 pub mod Completeness
 pub mod Leading
 pub mod Soundness
-pub mod Descending
 pub mod Processes
 pub mod Rising
 pub mod Walking

@@ -20,7 +20,7 @@ use Rattle.pua_objects.specs.declared.line.ObjectLine.{ObjectLine}
 use Rattle.pua_objects.specs.declared.open_dir.OpenDir.{OpenDir}
 use Rattle.pua_objects.specs.declared.open_dir.Coming.TheVariants.{Root, Others, Names}
 use Rattle.pua_objects.specs.declared.walk.Walk.{Walk}
-use Rattle.pua_objects.proofs.Descending.{covers_descend}
+use Rattle.pua_policy.proofs.ForCallers.{covers_descend}
 
 headed : {A : Type 0} (xs : List A) → 0 < length xs → (x : A) × (ys : List A) × (xs ≡ x ∷ ys)
 headed [] some = absurd (omega (arith, some))

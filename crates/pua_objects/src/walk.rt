@@ -5,11 +5,11 @@ ghost use Rattle.std.specs.List.{AllByRecursion, list_any};
 ghost use Rattle.pua_tree.specs.Tree.{Tree, WellFormed, is_dir, is_dir_kind, look, spot_cmp};
 ghost use Rattle.pua_path.specs.declared.found.Found.TheVariants as found;
 ghost use Rattle.pua_path.specs.declared.found.Way.TheVariants as way;
-ghost use Rattle.pua_policy.specs.History.{History, StandsFor, ProcessState, kept};
+ghost use Rattle.pua_policy.specs.History.{History, StandsFor, ProcessState};
 ghost use Rattle.pua_policy.specs.Objects.{object_seen};
 ghost use Rattle.pua_policy.specs.Verdict.{IsDir, is_unveil, object_of, object_of_kind};
 ghost use Rattle.pua_audit.specs.Laws.{Rises};
-ghost use Rattle.pua_objects.specs.Laws.{own_or, HasPlaces};
+ghost use Rattle.pua_objects.specs.Laws.{HasPlaces};
 ghost use Rattle.pua_objects.specs.Lines.{IsLineOn};
 ghost use Rattle.pua_objects.specs.Objects.{At, cover_in, items};
 ghost use Rattle.pua_objects.specs.Spots.{names_at};
@@ -56,7 +56,7 @@ impl<'t> Walk<'t> {
         let Ok(word) = Vec::with_capacity(alloc, most) else {
             return Err(OutOfMemory);
         };
-        let cover = own_cover(process, &Place::Dir(NodeId::ROOT), outermost(process));
+        let cover = process.own_cover(&Place::Dir(NodeId::ROOT), outermost(process));
         dirs.push_reserved(OpenDir {
             dir: NodeId::ROOT,
             next: 0,
@@ -141,7 +141,7 @@ impl<'t> Walk<'t> {
             dirs_in self.old ≡ inner ∷ around → inner.cover ≡ cover_in t h dir → object ≡ object_seen t (object_of t (found.Slot dir name.entry.now node)) →
             IsLineOn t table.now h (At (found.Slot dir name.entry.now node)) result }
     {
-        let cover = own_cover(process, &Place::Slot(dir, *name), self.cover());
+        let cover = process.own_cover(&Place::Slot(dir, *name), self.cover());
         self.word.push_reserved(name);
         line_at(process, table, &cover, object)
     }
@@ -167,7 +167,7 @@ impl<'t> Walk<'t> {
             dirs_in self.old ≡ inner ∷ around → inner.cover ≡ cover_in (T.content tree.now) h dir → look (T.content tree.now) dir name.entry.now ≡ Some id → is_dir (T.content tree.now) id ≡ true →
             IsLineOn (T.content tree.now) table.now h (At (found.Whole id (way.Named dir name.entry.now))) result }
     {
-        let cover = own_cover(process, &Place::Dir(id), self.cover());
+        let cover = process.own_cover(&Place::Dir(id), self.cover());
         let line = line_at(process, table, &cover, directory(tree, id));
         let next = self.start_of(id);
         self.word.push_reserved(name);
@@ -277,17 +277,6 @@ fn outermost(process: &Process) -> Cover
         Cover::Nothing
     } else {
         Cover::All
-    }
-}
-
-/// The permissions at a veil's own place, or without one what the veils leave of the directory's
-/// further names.
-fn own_cover(process: &Process, place: &Place, over: Cover) -> Cover
-    ensures { (h : History) → StandsFor process.now h → result ≡ own_or (kept h place.now) over }
-{
-    match process.kept(place) {
-        Some(perms) => Cover::Only(perms),
-        None => over,
     }
 }
 

@@ -4,7 +4,7 @@ use Rattle.pua_path.specs.declared.found.Way.TheVariants as way
 use Rattle.pua_policy.specs.History.{kept}
 use Rattle.pua_policy.specs.declared.place.Place.TheVariants as place
 use Rattle.pua_objects.specs.Laws.{own_or}
-use Rattle.pua_objects.proofs.Descending.{covers_descend}
+use Rattle.pua_policy.proofs.ForCallers.{covers_descend}
 use Rattle.pua_objects.proofs.walk.Walk.enter.Goals as goal
 
 pub returns-clause-line : goal.returns-clause-line

@@ -7,7 +7,7 @@ use Rattle.pua_objects.specs.Laws.{own_or}
 use Rattle.pua_objects.specs.Ready.{entered}
 use Rattle.pua_objects.specs.declared.open_dir.Coming.TheVariants.{Root}
 use Rattle.pua_objects.specs.declared.walk.Walk.{Walk}
-use Rattle.pua_objects.proofs.Descending.{covers_descend}
+use Rattle.pua_policy.proofs.ForCallers.{covers_descend}
 use Rattle.pua_objects.proofs.Nodes.{nodes_few}
 use Rattle.pua_objects.proofs.Starting.{begun_ready, begun_left}
 use Rattle.pua_objects.proofs.walk.Walk.new.Goals as goal
