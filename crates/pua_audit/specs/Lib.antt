@@ -21,5 +21,6 @@ pub mod Entries
 pub mod Live
 pub mod Table
 pub mod Rows
+pub mod Covers
 pub mod Placed
 pub mod Spots

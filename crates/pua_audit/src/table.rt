@@ -3,13 +3,16 @@
 ghost use Rattle.std.specs.Prelude.{◌≡◌, ◌<◌, ◌≤◌, ◌+◌, ◌^◌, ℕ, List, length, get_or, IfOk, IsTrue, map};
 ghost use Rattle.pua_tree.specs.LentRows.{lent_entry};
 ghost use Rattle.pua_tree.specs.Tree.{is_dir, name_cmp};
+ghost use Rattle.pua_policy.specs.Descent.{cover_in};
 ghost use Rattle.pua_audit.specs.Bounds.{table_cost};
 ghost use Rattle.pua_audit.specs.Graphs.{AreApart};
 ghost use Rattle.pua_audit.specs.Laws.{Rises};
+ghost use Rattle.pua_audit.specs.Past.{history_of};
 ghost use Rattle.pua_audit.specs.Ready.{IsSound, judge_in, letters_of};
 ghost use Rattle.pua_audit.specs.Table.{IsTableOf};
 
 pub(crate) mod begun;
+mod covers;
 mod directories;
 mod letter;
 mod placed;
@@ -20,13 +23,14 @@ mod within;
 use crate::table::directories::Directories;
 use crate::terms::Terms;
 use pua_path::Probe;
+use pua_policy::Cover;
 use pua_steps::Steps;
 use pua_tree::{LentRow, NodeId, OutOfMemory};
 use std::alloc::Global;
 
 impl Terms {
     /// The table of steps of all directories to which words from a living directory lead. That
-    /// directory has the first place. The error is that a growth was refused.
+    /// directory has the first place, and its cover is given. The error is that a growth was refused.
     #[tactic(auto, using(crate::proofs::Moves::all_at_index))]
     pub(crate) fn table<'t, P: Probe<'t>>(
         &self,
@@ -34,12 +38,14 @@ impl Terms {
         probe: &mut P,
         rows: &[LentRow<'_>],
         base: NodeId,
+        cover: Cover,
     ) -> Result<Steps, OutOfMemory>
         requires tree { P.tree probe.old ≡ self.now.seen.tree }
         requires rows { map lent_entry rows.now ≡ self.now.seen.tree.rows }
         requires sound { IsSound self.now }
         requires rises { Rises name_cmp (letters_of self.now) }
         requires living { IsTrue (is_dir self.now.seen.tree base) }
+        requires covered { cover ≡ cover_in self.now.seen.tree (history_of self.now.process) base }
         ensures table { IfOk result (λ steps. (names : List ℕ) × (IsTableOf (judge_in self.now) (letters_of self.now) names steps × AreApart names × (0 < length names) × (get_or names 0 0 ≡ base))) }
         ensures few { IfOk result (λ steps. length steps.rows.items ≤ 2 ^ 32) }
         ensures tree { P.tree probe.new ≡ P.tree probe.old }
@@ -47,10 +53,11 @@ impl Terms {
     {
         let spots = self.spots(alloc, rows)?;
         let mut dirs = Directories::new(alloc);
-        dirs.place(base)?;
+        dirs.place(base, cover)?;
         let mut rows = Vec::new(alloc);
         while let Some(dir) = dirs.at(rows.len()) {
-            let row = self.row(alloc, probe, &spots, &mut dirs, dir)?;
+            let over = dirs.cover_at(rows.len());
+            let row = self.row(alloc, probe, &spots, &mut dirs, dir, over)?;
             let Ok(()) = rows.push(row) else {
                 return Err(OutOfMemory);
             };

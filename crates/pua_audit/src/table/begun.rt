@@ -1,21 +1,19 @@
 //! The walk over the table of steps, before its first pair.
 
-ghost use Rattle.std.specs.Prelude.{◌≡◌, ◌<◌, ◌≤◌, ◌+◌, ◌^◌, ◌*◌, suc, true, false, length, Option, option_map, None, IfOk, IfSome, IsTrue, map};
+ghost use Rattle.std.specs.Prelude.{◌≡◌, ◌<◌, ◌≤◌, ◌+◌, ◌^◌, ◌*◌, true, false, length, Option, option_map, None, IfOk, IfSome, map};
 ghost use Rattle.pua_tree.specs.LentRows.{lent_entry};
 ghost use Rattle.std.specs.List.{AllByRecursion};
-ghost use Rattle.pua_tree.specs.Tree.{is_dir};
-ghost use Rattle.pua_policy.specs.CallSets.{has};
-ghost use Rattle.pua_policy.specs.declared.call.Call.{Call};
-ghost use Rattle.pua_audit.specs.Bounds.{object_cost, pairs_cost};
+ghost use Rattle.pua_path.specs.declared.found.Found.TheVariants.{Whole};
+ghost use Rattle.pua_audit.specs.Bounds.{pairs_cost};
 ghost use Rattle.pua_audit.specs.Past.{history_of};
 ghost use Rattle.pua_audit.specs.Coming.{pairs_after, pairs_at};
 ghost use Rattle.pua_audit.specs.Reach.{Pair, rest_after};
-ghost use Rattle.pua_audit.specs.Judge.{Start, base_dir, is_open};
+ghost use Rattle.pua_audit.specs.Judge.{base_dir, base_way, is_open};
 ghost use Rattle.pua_audit.specs.Live.{live_states};
-ghost use Rattle.pua_audit.specs.Ready.{IsSound, judge_in, letters_of, scope_in};
+ghost use Rattle.pua_audit.specs.Ready.{IsSound, letters_of, scope_in};
 ghost use Rattle.pua_audit.specs.Starting.{AreLetters, AreSound, pair_in};
 ghost use Rattle.pua_steps.specs.Graph.{reach};
-ghost use Rattle.pua_steps.specs.Limits.{call_count, most_letters, search_cost};
+ghost use Rattle.pua_steps.specs.Limits.{call_count, search_cost};
 ghost use Rattle.pua_steps.specs.Lists.{IsListed};
 ghost use Rattle.pua_steps.specs.Live.{IsSized};
 ghost use Rattle.pua_steps.specs.Ready.{IsReady, trail};
@@ -26,7 +24,6 @@ ghost use Rattle.pua_steps.specs.Within.{IsPair};
 use crate::resume_text::Resumption;
 use crate::terms::Terms;
 use pua_path::{Found, Probe};
-use pua_policy::Calls;
 use pua_steps::{State, Steps, Tables, Walk};
 use pua_tree::{LentRow, OutOfMemory};
 use std::alloc::{AllocError, Global};
@@ -98,8 +95,9 @@ impl Terms {
         ensures tree { P.tree probe.new ≡ P.tree probe.old }
         ensures cost { P.count probe.new + 1 ≤ P.count probe.old + pairs_cost self.now.seen.tree (length self.now.letters.items) }
     {
-        let steps = self.table(alloc, probe, rows, self.base_dir())?;
-        let calls = self.base_calls(probe).bits();
+        let cover = self.process.cover(probe, &self.base_found());
+        let calls = self.calls_on(probe, &Ok(self.base_found()), &cover).bits();
+        let steps = self.table(alloc, probe, rows, self.base_dir(), cover)?;
         let base = Some(State { dir: 0, used: 0 });
         let Ok(tables) = Tables::fill(alloc, steps, self.limit) else {
             return Err(OutOfMemory);
@@ -140,20 +138,15 @@ impl Terms {
         Ok(Begun { walk, live: 0 })
     }
 
-    /// The calls that are allowed on the base itself.
-    fn base_calls<'t, P: Probe<'t>>(&self, probe: &mut P) -> Calls
-        requires tree { P.tree probe.old ≡ self.now.seen.tree }
-        requires sound { IsSound self.now }
-        requires living { IsTrue (is_dir self.now.seen.tree (base_dir self.now.base (history_of self.now.process))) }
-        ensures own { (call : Call) → has result call ≡ (judge_in self.now).own Start call }
-        ensures tree { P.tree probe.new ≡ P.tree probe.old }
-        ensures cost { P.count probe.new ≤ P.count probe.old + object_cost self.now.seen.tree }
+    /// The base itself, as it is found.
+    fn base_found(&self) -> Found
+        requires { IsSound self.now }
+        ensures { result ≡ Whole (base_dir self.now.base (history_of self.now.process)) (base_way self.now.base) }
     {
-        let found = Ok(Found::Whole {
+        Found::Whole {
             dir: self.base_dir(),
             way: self.base_way(),
-        });
-        self.calls_on(probe, &found)
+        }
     }
 }
 

@@ -1,6 +1,6 @@
 //! What a letter is in a directory.
 
-ghost use Rattle.std.specs.Prelude.{◌≡◌, ◌≢◌, ◌<◌, ◌≤◌, ◌+◌, ◌*◌, ◌&&◌, ℕ, false, true, [], length, get_or, None, Some, Ok, Err, IfSome, IfNone, IsTrue};
+ghost use Rattle.std.specs.Prelude.{◌≡◌, ◌≢◌, ◌<◌, ◌≤◌, ◌+◌, ◌*◌, ◌&&◌, ℕ, false, true, [], length, get_or, None, Some, Ok, Err, IfOk, IfSome, IfNone, IsTrue};
 ghost use Rattle.pua_tree.specs.Tree.{is_dir, found_at};
 ghost use Rattle.pua_tree.specs.declared.node.Kind.{Kind};
 ghost use Rattle.pua_path.specs.Kinds.{is_file};
@@ -12,8 +12,10 @@ ghost use Rattle.pua_policy.specs.declared.place.Place.TheVariants.{Slot};
 ghost use Rattle.pua_policy.specs.History.{kept};
 ghost use Rattle.pua_policy.specs.CallSets.{has, keeps_link};
 ghost use Rattle.pua_policy.specs.declared.call.Call.{Call};
-ghost use Rattle.pua_policy.specs.Verdict.{FoundsFit, verdict_of, is_allowed};
+ghost use Rattle.pua_policy.specs.Descent.{cover_in};
+ghost use Rattle.pua_policy.specs.Verdict.{FoundsFit, cover, verdict_of, is_allowed};
 ghost use Rattle.pua_audit.specs.Bounds.{letter_cost, object_cost};
+ghost use Rattle.pua_audit.specs.Covers.{AreCovered};
 ghost use Rattle.pua_audit.specs.Past.{history_of};
 ghost use Rattle.pua_audit.specs.Ready.{IsSound, judge_in, letters_of, part_bytes};
 ghost use Rattle.pua_audit.specs.Entries.{AreWithin, links_of, found_of, leads_to};
@@ -21,10 +23,11 @@ ghost use Rattle.pua_audit.specs.Table.{IsLetter};
 ghost use Rattle.pua_steps.specs.Limits.{most_links};
 
 use crate::component::Component;
+use crate::table::directories::Directories;
 use crate::table::within::Within;
 use crate::terms::Terms;
 use pua_path::{Errno, Found, Last, Part, Probe};
-use pua_policy::{Calls, Place, judge};
+use pua_policy::{Calls, Cover, Place, judge};
 use pua_tree::NodeId;
 
 /// A letter in a directory, for any number of links that were followed before it.
@@ -38,6 +41,8 @@ pub(crate) struct Letter {
     pub(crate) links: u8,
     /// The directory to which it leads, if it leads to one.
     pub(crate) leads: Option<NodeId>,
+    /// What the veils leave of what it names; where it leads to a directory, of the names in that.
+    pub(crate) cover: Cover,
 }
 
 impl Terms {
@@ -46,6 +51,7 @@ impl Terms {
     pub(crate) fn letter<'t, P: Probe<'t>>(
         &self,
         probe: &mut P,
+        dirs: &Directories,
         dir: NodeId,
         letter: usize,
         within: &Within,
@@ -55,21 +61,24 @@ impl Terms {
         requires living { IsTrue (is_dir self.now.seen.tree dir) }
         requires letter { letter < length self.now.letters.items }
         requires within { AreWithin self.now.seen.tree self.now.table (history_of self.now.process) dir within.now }
+        requires covered { AreCovered self.now.seen.tree (history_of self.now.process) dirs.now }
         ensures exact { IsLetter (judge_in self.now) dir (get_or (letters_of self.now) letter []) result.all result.kept result.links result.leads }
         ensures kept { (call : Call) → has result.kept call ≡ (has result.all call && keeps_link call) }
         ensures links { result.links ≤ most_links }
         ensures lives { IfSome result.leads (λ to. IsTrue (is_dir self.now.seen.tree to)) }
+        ensures covered { IfSome result.leads (λ to. result.cover ≡ cover_in self.now.seen.tree (history_of self.now.process) to) }
         ensures tree { P.tree probe.new ≡ P.tree probe.old }
         ensures cost { P.count probe.new ≤ P.count probe.old + letter_cost self.now.seen.tree }
     {
         let Some(calls) = self.calls_on_file(probe, dir, &self.letters[letter], within) else {
-            return self.followed(probe, dir, letter);
+            return self.followed(probe, dirs, dir, letter);
         };
         Letter {
             all: calls,
             kept: calls.keeping(),
             links: 0,
             leads: None,
+            cover: Cover::Nothing,
         }
     }
 
@@ -116,28 +125,38 @@ impl Terms {
     }
 
     /// What a letter is in a living directory, followed once, with no link used before it.
-    fn followed<'t, P: Probe<'t>>(&self, probe: &mut P, dir: NodeId, letter: usize) -> Letter
+    fn followed<'t, P: Probe<'t>>(
+        &self,
+        probe: &mut P,
+        dirs: &Directories,
+        dir: NodeId,
+        letter: usize,
+    ) -> Letter
         requires tree { P.tree probe.old ≡ self.now.seen.tree }
         requires sound { IsSound self.now }
         requires living { IsTrue (is_dir self.now.seen.tree dir) }
         requires letter { letter < length self.now.letters.items }
+        requires covered { AreCovered self.now.seen.tree (history_of self.now.process) dirs.now }
         ensures exact { IsLetter (judge_in self.now) dir (get_or (letters_of self.now) letter []) result.all result.kept result.links result.leads }
         ensures kept { (call : Call) → has result.kept call ≡ (has result.all call && keeps_link call) }
         ensures links { result.links ≤ most_links }
         ensures lives { IfSome result.leads (λ to. IsTrue (is_dir self.now.seen.tree to)) }
+        ensures covered { IfSome result.leads (λ to. result.cover ≡ cover_in self.now.seen.tree (history_of self.now.process) to) }
         ensures tree { P.tree probe.new ≡ P.tree probe.old }
         ensures cost { P.count probe.new ≤ P.count probe.old + 2 * (part_cost self.now.seen.tree + object_cost self.now.seen.tree) }
     {
         let part = self.letters[letter].part();
         let (followed, links) = counted(pua_path::follow(probe, dir, &part));
-        let near = self.calls_on(probe, &followed);
-        let far = self.calls_kept(probe, dir, &part, &followed, links, near);
+        let cover = self.cover_of(probe, dirs, dir, &part, &followed);
+        let near = self.calls_on(probe, &followed, &cover);
+        let far = self.calls_kept(probe, dirs, dir, &part, &followed, links, near);
         let all = near.following().union(far.keeping());
         Letter {
             all,
             kept: all.keeping(),
             links,
             leads: directory_of(&followed),
+            cover,
         }
     }
 
@@ -146,6 +165,7 @@ impl Terms {
     fn calls_kept<'t, P: Probe<'t>>(
         &self,
         probe: &mut P,
+        dirs: &Directories,
         dir: NodeId,
         part: &Part,
         followed: &Result<Found, Errno>,
@@ -155,6 +175,7 @@ impl Terms {
         requires tree { P.tree probe.old ≡ self.now.seen.tree }
         requires sound { IsSound self.now }
         requires living { IsTrue (is_dir self.now.seen.tree dir) }
+        requires covered { AreCovered self.now.seen.tree (history_of self.now.process) dirs.now }
         requires followed { followed.now ≡ found_of (follow self.now.seen.tree dir part.now) }
         requires links { links ≡ links_of (follow self.now.seen.tree dir part.now) }
         requires near { (call : Call) → has near call ≡ is_allowed (verdict_of self.now.seen.tree self.now.table (history_of self.now.process) call followed.now) }
@@ -166,28 +187,30 @@ impl Terms {
             return near;
         }
         let kept = pua_path::last(probe, dir, 0, part, Last::Kept);
-        self.calls_on(probe, &kept)
+        let cover = self.cover_of(probe, dirs, dir, part, &kept);
+        self.calls_on(probe, &kept, &cover)
     }
 
-    /// The calls that are allowed on what a path named.
+    /// The calls that are allowed on what a path named, by what the veils leave of it.
     pub(crate) fn calls_on<'t, P: Probe<'t>>(
         &self,
         probe: &mut P,
         found: &Result<Found, Errno>,
+        left: &Cover,
     ) -> Calls
         requires tree { P.tree probe.old ≡ self.now.seen.tree }
         requires sound { IsSound self.now }
         requires fits { FoundsFit self.now.seen.tree found.now }
+        requires left { IfOk found.now (λ object. left.now ≡ cover self.now.seen.tree (history_of self.now.process) object) }
         ensures exact { (call : Call) → has result call ≡ is_allowed (verdict_of self.now.seen.tree self.now.table (history_of self.now.process) call found.now) }
         ensures tree { P.tree probe.new ≡ P.tree probe.old }
-        ensures cost { P.count probe.new ≤ P.count probe.old + object_cost self.now.seen.tree }
+        ensures cost { P.count probe.new ≤ P.count probe.old + 1 }
     {
         let Ok(found) = found else {
             return Calls::NONE;
         };
-        let cover = self.process.cover(probe, found);
         let object = judge::object(probe, found);
-        judge::allowed(&self.process, &self.table, cover, object)
+        judge::allowed(&self.process, &self.table, *left, object)
     }
 }
 

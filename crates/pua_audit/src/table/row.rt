@@ -1,10 +1,13 @@
 //! The row of a directory.
 
-ghost use Rattle.std.specs.Prelude.{◌≡◌, ◌<◌, ◌≤◌, ◌+◌, ◌^◌, ◌&&◌, ℕ, List, [], length, get_or, option_map, Option, None, IfOk, IfSome, IsTrue};
+ghost use Rattle.std.specs.Prelude.{◌≡◌, ◌<◌, ◌≤◌, ◌+◌, ◌&&◌, ℕ, List, [], length, get_or, option_map, Option, None, IfOk, IfSome, IsTrue};
 ghost use Rattle.pua_tree.specs.Tree.{Tree, is_dir};
 ghost use Rattle.pua_policy.specs.CallSets.{has, keeps_link};
+ghost use Rattle.pua_policy.specs.Descent.{cover_in};
+ghost use Rattle.pua_policy.specs.History.{History};
 ghost use Rattle.pua_policy.specs.declared.call.Call.{Call};
 ghost use Rattle.pua_audit.specs.Bounds.{row_cost};
+ghost use Rattle.pua_audit.specs.Covers.{AreCovered};
 ghost use Rattle.pua_audit.specs.Judge.{Judge};
 ghost use Rattle.pua_audit.specs.Past.{history_of};
 ghost use Rattle.pua_audit.specs.Ready.{IsSound, judge_in, letters_of};
@@ -18,15 +21,15 @@ use crate::table::letter::Letter;
 use crate::table::spots::Spots;
 use crate::terms::Terms;
 use pua_path::Probe;
-use pua_policy::Calls;
+use pua_policy::{Calls, Cover};
 use pua_steps::{Entry, Row};
 use pua_tree::{NodeId, OutOfMemory};
 use std::alloc::Global;
 
 impl Terms {
-    /// The row of a living directory. Only the letters that it tells apart are looked up: one set of
-    /// calls tells all others. What a letter leads to is put after the other directories. The error is
-    /// that a growth was refused.
+    /// The row of a living directory, by its cover. Only the letters that it tells apart are looked
+    /// up: one set of calls tells all others. What a letter leads to is put after the other
+    /// directories. The error is that a growth was refused.
     pub(crate) fn row<'t, P: Probe<'t>>(
         &self,
         alloc: Global,
@@ -34,24 +37,28 @@ impl Terms {
         spots: &Spots,
         dirs: &mut Directories,
         dir: NodeId,
+        over: Cover,
     ) -> Result<Row, OutOfMemory>
         requires tree { P.tree probe.old ≡ self.now.seen.tree }
         requires sound { IsSound self.now }
         requires spots { AreSpots self.now.seen.tree (history_of self.now.process) (letters_of self.now) spots.now.dots.items spots.now.names.items }
         requires living { IsTrue (is_dir self.now.seen.tree dir) }
-        requires dirs { AreLiving self.now.seen.tree dirs.old }
-        ensures row { IfOk result (λ row. IsRow (judge_in self.now) (letters_of self.now) dirs.new dir (length self.now.letters.items) row.missing row.entries.items) }
-        ensures grown { IfOk result (λ _. IsGrown dirs.old dirs.new) }
-        ensures living { IfOk result (λ _. AreLiving self.now.seen.tree dirs.new) }
+        requires dirs { AreLiving self.now.seen.tree dirs.old.numbers }
+        requires covers { AreCovered self.now.seen.tree (history_of self.now.process) dirs.old }
+        requires over { over ≡ cover_in self.now.seen.tree (history_of self.now.process) dir }
+        ensures row { IfOk result (λ row. IsRow (judge_in self.now) (letters_of self.now) dirs.new.numbers dir (length self.now.letters.items) row.missing row.entries.items) }
+        ensures grown { IfOk result (λ _. IsGrown dirs.old.numbers dirs.new.numbers) }
+        ensures living { IfOk result (λ _. AreLiving self.now.seen.tree dirs.new.numbers) }
+        ensures covered { IfOk result (λ _. AreCovered self.now.seen.tree (history_of self.now.process) dirs.new) }
         ensures tree { P.tree probe.new ≡ P.tree probe.old }
         ensures cost { P.count probe.new ≤ P.count probe.old + row_cost self.now.seen.tree (length self.now.letters.items) }
     {
-        let within = self.within(probe, dir);
+        let within = self.within(over);
         let missing = within.missing.bits();
         let letters = spots.letters_in(alloc, dir)?;
         let mut entries = Vec::new(alloc);
         for letter in &letters {
-            let found = self.letter(probe, dir, *letter, &within);
+            let found = self.letter(probe, dirs, dir, *letter, &within);
             found.put(*letter, within.missing, dirs, &mut entries)?;
         }
         Ok(Row { entries, missing })
@@ -72,9 +79,10 @@ impl Letter {
         requires kept { (call : Call) → has self.now.kept call ≡ (has self.now.all call && keeps_link call) }
         requires links { self.now.links ≤ most_links }
         ensures row { IfOk result (λ _. (w : Judge) (letters : List (List ℕ)) (dir : ℕ) → IsLetter w dir (get_or letters letter []) self.now.all self.now.kept self.now.links self.now.leads
-            → IsRow w letters dirs.old dir letter missing entries.old.items → IsRow w letters dirs.new dir (letter + 1) missing entries.new.items) }
-        ensures grown { IfOk result (λ _. IsGrown dirs.old dirs.new) }
-        ensures living { IfOk result (λ _. (t : Tree) → IfSome self.now.leads (λ d. IsTrue (is_dir t d)) → AreLiving t dirs.old → AreLiving t dirs.new) }
+            → IsRow w letters dirs.old.numbers dir letter missing entries.old.items → IsRow w letters dirs.new.numbers dir (letter + 1) missing entries.new.items) }
+        ensures grown { IfOk result (λ _. IsGrown dirs.old.numbers dirs.new.numbers) }
+        ensures living { IfOk result (λ _. (t : Tree) → IfSome self.now.leads (λ d. IsTrue (is_dir t d)) → AreLiving t dirs.old.numbers → AreLiving t dirs.new.numbers) }
+        ensures covered { IfOk result (λ _. (t : Tree) (h : History) → IfSome self.now.leads (λ d. self.now.cover ≡ cover_in t h d) → AreCovered t h dirs.old → AreCovered t h dirs.new) }
     {
         if self.is_told_by(missing) {
             return Ok(());
@@ -102,13 +110,14 @@ impl Letter {
 
     /// The place of the directory to which it leads.
     fn place(&self, dirs: &mut Directories) -> Result<Option<u32>, OutOfMemory>
-        ensures to { IfOk result (λ to. (option_map (λ d. get_or dirs.new d 0) to ≡ self.now.leads) × IfSome to (λ d. d < length dirs.new)) }
-        ensures grown { IfOk result (λ _. IsGrown dirs.old dirs.new) }
-        ensures living { IfOk result (λ _. (t : Tree) → IfSome self.now.leads (λ d. IsTrue (is_dir t d)) → AreLiving t dirs.old → AreLiving t dirs.new) }
+        ensures to { IfOk result (λ to. (option_map (λ d. get_or dirs.new.numbers d 0) to ≡ self.now.leads) × IfSome to (λ d. d < length dirs.new.numbers)) }
+        ensures grown { IfOk result (λ _. IsGrown dirs.old.numbers dirs.new.numbers) }
+        ensures living { IfOk result (λ _. (t : Tree) → IfSome self.now.leads (λ d. IsTrue (is_dir t d)) → AreLiving t dirs.old.numbers → AreLiving t dirs.new.numbers) }
+        ensures covered { IfOk result (λ _. (t : Tree) (h : History) → IfSome self.now.leads (λ d. self.now.cover ≡ cover_in t h d) → AreCovered t h dirs.old → AreCovered t h dirs.new) }
     {
         let Some(dir) = self.leads else {
             return Ok(None);
         };
-        Ok(Some(dirs.place(dir)?))
+        Ok(Some(dirs.place(dir, self.cover)?))
     }
 }

@@ -1,24 +1,23 @@
 //! The calls on names of a directory that have no veil of their own.
 
-ghost use Rattle.std.specs.Prelude.{◌≡◌, ◌≤◌, ◌+◌, ℕ, true, false, Some, IfSome, IfNone, IsTrue};
+ghost use Rattle.std.specs.Prelude.{◌≡◌, ℕ, true, false, Some, IfSome, IfNone, IsTrue};
 ghost use Rattle.pua_tree.specs.Tree.{Tree, is_dir};
 ghost use Rattle.pua_path.specs.Kinds.{is_file};
 ghost use Rattle.pua_policy.specs.CallSets.{has};
 ghost use Rattle.pua_policy.specs.Calls.{CallTable};
+ghost use Rattle.pua_policy.specs.Descent.{cover_in};
 ghost use Rattle.pua_policy.specs.History.{History};
 ghost use Rattle.pua_policy.specs.Objects.{object_seen};
 ghost use Rattle.pua_policy.specs.Verdict as judged;
 ghost use Rattle.pua_policy.specs.Verdict.{covered_verdict, is_allowed, object_of_kind};
 ghost use Rattle.pua_policy.specs.declared.call.Call.{Call};
-ghost use Rattle.pua_audit.specs.Bounds.{object_cost};
 ghost use Rattle.pua_audit.specs.Entries.{AreWithin, allowed_within};
 ghost use Rattle.pua_audit.specs.Past.{history_of};
 ghost use Rattle.pua_audit.specs.Ready.{IsSound};
 
 use crate::terms::Terms;
-use pua_path::{Found, Probe, Way};
 use pua_policy::{Calls, Cover, Object, judge};
-use pua_tree::{Kind, NodeId};
+use pua_tree::Kind;
 
 /// The calls that are allowed in a directory on names without a veil of their own, by what stands
 /// there: what the veils leave of such a name is what they leave of the directory.
@@ -30,17 +29,12 @@ pub(crate) struct Within {
 }
 
 impl Terms {
-    /// The calls on names of a living directory that have no veil of their own.
-    pub(crate) fn within<'t, P: Probe<'t>>(&self, probe: &mut P, dir: NodeId) -> Within
-        requires tree { P.tree probe.old ≡ self.now.seen.tree }
-        requires sound { IsSound self.now }
-        requires living { IsTrue (is_dir self.now.seen.tree dir) }
-        ensures exact { AreWithin self.now.seen.tree self.now.table (history_of self.now.process) dir result }
-        ensures tree { P.tree probe.new ≡ P.tree probe.old }
-        ensures cost { P.count probe.new ≤ P.count probe.old + object_cost self.now.seen.tree }
+    /// The calls on names that have no veil of their own, in any living directory that has this cover.
+    pub(crate) fn within(&self, cover: Cover) -> Within
+        requires { IsSound self.now }
+        ensures { (dir : ℕ) → IsTrue (is_dir self.now.seen.tree dir) → cover ≡ cover_in self.now.seen.tree (history_of self.now.process) dir
+            → AreWithin self.now.seen.tree self.now.table (history_of self.now.process) dir result }
     {
-        let whole = Found::Whole { dir, way: Way::Top };
-        let cover = self.process.cover(probe, &whole);
         Within {
             missing: self.calls_over(&cover, Object::Missing),
             file: self.calls_over(&cover, Object::File),

@@ -11,13 +11,13 @@ pub returns-then-is_told_by-clause-row : goal.returns-then-is_told_by-clause-row
 returns-then-is_told_by-clause-row c = λ w letters dir letter row.
     let a = c.args.self.now in
     let same = c.is_told_by.ensures c.if-is_told_by.true in
-    row_skipped w letters dir c.args.missing c.args.dirs.now c.args.letter a.all a.kept a.links a.leads c.args.entries.now.items row letter same.0 same.1 same.2
+    row_skipped w letters dir c.args.missing c.args.dirs.now.numbers c.args.letter a.all a.kept a.links a.leads c.args.entries.now.items row letter same.0 same.1 same.2
 
 pub returns-clause-row : goal.returns-clause-row
 returns-clause-row c = λ w letters dir letter row.
     let a = c.args.self.now in
     let n : ℕ = c.args.letter in
-    let dirs : List ℕ = c.place.new.dirs in
+    let dirs : List ℕ = c.place.new.dirs.numbers in
     let es : List Entry = c.args.entries.now.items in
     let to = c.in_ok-to.ensures.to in
     let e : Entry = record { letter = n; all = c.bits.result; kept = c.bits-2.result; links = a.links; to = c.in_ok-to.to } in
@@ -29,4 +29,4 @@ returns-clause-row c = λ w letters dir letter row.
     kept_none e.all e.kept c.bits-2.ensures.calls (λ call. ap (λ m. has m call) c.bits-2.ensures.number ∙ c.requires.kept call ∙ ap (λ m. has m call && keeps_link call) (sym c.bits.ensures.number)) in
     let fits : IsEntryFor (n + 1) (length dirs) e = record { letter = omega arith; kept = c.bits-2.ensures.calls; all = c.bits.ensures.calls; more = more; links = c.requires.links; to = to.1 } in
     subst (IsRow w letters dirs dir (n + 1) c.args.missing) (sym c.in-Ok.ensures.items)
-    (row_added w letters dir c.args.missing dirs n e es (row_grown w letters dir c.args.missing c.args.dirs.now dirs n es c.in_ok-to.ensures.grown row) here refl fits)
+    (row_added w letters dir c.args.missing dirs n e es (row_grown w letters dir c.args.missing c.args.dirs.now.numbers dirs n es c.in_ok-to.ensures.grown row) here refl fits)
