@@ -43,10 +43,10 @@ pub fn narrowing()
 /// Where such a family alone asks, and no member's exec succeeds, each row whose object the process
 /// can't touch with `c` by its history now stays, with its node, kind and target and with its cover;
 /// and where the process doesn't hold cpath the tree stays. The first is so for each table of calls
-/// in which rmdir and unlink need `c`, and a tree and requests whose texts are bytes; the second for
-/// each table by which the five calls that make a name or take one away need cpath. The standard table
-/// is both, and so both hold of what a command reads without a table of its own: the texts of a
-/// listing and a script are bytes.
+/// in which rmdir, unlink and both names of rename need `c`, and a tree and requests whose texts are
+/// bytes; the second for each table by which the five calls that make a name or take one away need
+/// cpath, and so do the new names of rename and link. The standard table is both, and so both hold of
+/// what a command reads without a table of its own: the texts of a listing and a script are bytes.
 pub fn confined()
     ensures rows { Confinement }
     ensures read { ConfinementAsRead }
