@@ -1,5 +1,6 @@
 #!/bin/sh
-# What the whole program does where files and its own output and fault line fail: sh devices.sh PROGRAM
+# What the whole program does where files, its own output and fault line, or the memory for its words fail:
+# sh devices.sh PROGRAM
 # It prints a line for each case that is not as it has to be, and at last how many were.
 set -u
 program=$(realpath "$1")
@@ -79,5 +80,26 @@ expect 'a fault line that is not asked for' 0 ''
 status=$?
 : > told
 expect 'a fault line that cannot be written' 2 ''
+# (the memory that it may have grows until it suffices: before, the program does not start, or says so)
+set -- $(yes word | head -n 2000)
+memory=1048576
+refused=0
+while [ "$memory" -lt 268435456 ]; do
+    (
+        prlimit --as="$memory" "$program" "$@" > written 2> told
+        exit $?
+    ) 2> stopped
+    status=$?
+    if [ "$status" = 2 ]; then break; fi
+    if [ "$status" -lt 126 ]; then
+        refused=$((refused + 1))
+        expect "many words and $memory bytes of memory" 4 'pua: out of memory'
+    fi
+    memory=$((memory + 65536))
+done
+if [ "$refused" = 0 ]; then
+    echo 'many words: no memory was refused'
+    wrong=$((wrong + 1))
+fi
 echo "$wrong wrong"
 [ "$wrong" = 0 ]

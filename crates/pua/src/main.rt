@@ -2,21 +2,37 @@
 //! of files.
 #![tactic(auto)]
 
-use pua_tool::{DiskInputs, StreamSink, ToolFault, USAGE, UsageLine, program};
-use std::alloc::{AllocError, Global};
+ghost use Rattle.std.specs.Prelude.{◌≡◌};
+
+use pua_tool::{DiskInputs, MEMORY, StreamSink, ToolFault, USAGE, UsageLine, program};
+use std::alloc::AllocError;
 use std::io::BufWriter;
 use std::process::ExitCode;
 use std::{env, io};
 
 fn main(rt: HostRuntime) -> ExitCode {
-    match words_given(&rt) {
-        Ok(Some(args)) => ExitCode::from(run(&rt, args.as_slice())),
-        Ok(None) => {
-            let _ = eprintln!(rt; "{}", UsageLine::Program.text());
-            ExitCode::from(USAGE)
-        }
-        Err(AllocError) => ExitCode::from(report(&rt, ToolFault::OutOfMemory)),
-    }
+    ExitCode::from(match answered(&rt) {
+        Ok(status) => status,
+        Err(AllocError) => out_of_memory(&rt),
+    })
+}
+
+/// Runs the program over the machine's files, and answers the status. The error is that a growth was
+/// refused before the words were read.
+fn answered(rt: &HostRuntime) -> Result<u8, AllocError> {
+    let Some(args) = words_given(rt)? else {
+        let _ = eprintln!(rt; "{}", UsageLine::Program.text());
+        return Ok(USAGE);
+    };
+    let words: Vec<&str> = args.iter().map(|arg| arg.as_str()).collect(rt.alloc())?;
+    let writer = BufWriter::new(rt.alloc(), io::writer(rt)).map_err(|_| AllocError)?;
+    Ok(program(
+        rt.alloc(),
+        words.as_slice(),
+        &mut DiskInputs::new(rt),
+        &mut StreamSink::new(writer),
+        &mut StreamSink::new(rt.stderr()),
+    ))
 }
 
 /// The words after the program's name; None where one is no text.
@@ -28,29 +44,10 @@ fn words_given(rt: &HostRuntime) -> Result<Option<Vec<String>>, AllocError> {
     }
 }
 
-/// Runs the program over the machine's files, and answers the status.
-fn run(rt: &HostRuntime, args: &[String]) -> u8 {
-    let (Ok(words), Ok(writer)) = (
-        lent(rt.alloc(), args),
-        BufWriter::new(rt.alloc(), io::writer(rt)),
-    ) else {
-        return report(rt, ToolFault::OutOfMemory);
-    };
-    program(
-        rt.alloc(),
-        words.as_slice(),
-        &mut DiskInputs::new(rt),
-        &mut StreamSink::new(writer),
-        &mut StreamSink::new(rt.stderr()),
-    )
-}
-
-fn lent<'a>(alloc: Global, args: &'a [String]) -> Result<Vec<&'a str>, AllocError> {
-    args.iter().map(|arg| arg.as_str()).collect(alloc)
-}
-
-/// Reports a fault that comes before the words are read, and answers the status.
-fn report(rt: &HostRuntime, fault: ToolFault) -> u8 {
-    let _ = eprintln!(rt; "{fault}");
-    fault.status()
+/// Tells that a growth was refused before the words were read, and answers the status.
+fn out_of_memory(rt: &HostRuntime) -> u8
+    ensures { result ≡ MEMORY }
+{
+    let _ = eprintln!(rt; "{}", ToolFault::OutOfMemory);
+    MEMORY
 }
