@@ -227,6 +227,7 @@ impl Lists {
         ensures high { IfSome (first_of (drop result (within self.now.entries.items span.place span.end)))
             (λ e. letter ≤ e.letter) }
         ensures reads { reads.new ≤ reads.old + 64 }
+        ensures raised { min reads.old 18446744073709551615 ≤ reads.new }
     {
         let list = &self.entries[span.place..span.end];
         let mut low = 0;
@@ -254,6 +255,7 @@ impl Lists {
         requires { end ≤ length self.now.entries.items }
         ensures entry { result ≡ with_letter letter (first_of (within self.now.entries.items place end)) }
         ensures reads { reads.new ≤ reads.old + 1 }
+        ensures raised { min reads.old 18446744073709551615 ≤ reads.new }
     {
         let entry = self.entry(place, end, reads)?;
         if entry.letter == letter {

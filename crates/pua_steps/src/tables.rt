@@ -1,6 +1,6 @@
 //! The tables of a walk, and the one way to their entries: what reads an entry is counted here.
 
-ghost use Rattle.std.specs.Prelude.{◌≡◌, ◌<◌, ◌≤◌, ◌+◌, ◌*◌, ◌^◌, ℕ, suc, length, get_or, IfOk, IfSome};
+ghost use Rattle.std.specs.Prelude.{◌≡◌, ◌<◌, ◌≤◌, ◌+◌, ◌*◌, ◌^◌, ℕ, suc, length, get_or, min, IfOk, IfSome};
 ghost use Rattle.pua_steps.specs.Limits.{most_letters, search_cost};
 ghost use Rattle.pua_steps.specs.Live.{IsSized, entrance, live_of};
 ghost use Rattle.pua_steps.specs.Lists.{IsListed, IsOpen, narrow_of, rest_of, span_of};
@@ -149,6 +149,7 @@ impl Tables {
         ensures split { IsSplit letter (narrow_of self.old.steps self.old.live left state) result.visit
             (rest_of self.old.steps self.old.lists result.frame) }
         ensures reads { self.new.reads ≤ self.old.reads + search_cost }
+        ensures raised { min self.old.reads 18446744073709551615 ≤ self.new.reads }
     {
         prove!(letter < self.steps.letters);
         let row = &self.steps.rows[state.dir as usize];

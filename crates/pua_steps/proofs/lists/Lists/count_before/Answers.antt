@@ -20,6 +20,7 @@ loop-low-init c = record {
   few = omega arith;
   below = λ k less. absurd (omega (arith, less));
   above = λ k low less. absurd (omega (arith, low, less));
+  raised = omega arith;
   halves = (64, (omega (arith, length-take (c.args.span.end - c.args.span.place) (drop c.args.span.place c.deref.result.now), c.requires.inside, c.deref.type_inv.0, ap length c.deref.ensures.value), omega arith));
 }
 
@@ -39,6 +40,7 @@ loop-low-preserved-then-read-letter c =
       few = inv.few;
       below = λ k less. omega (arith, here, upward 0 xs no_entry rises k m (omega (arith, less)) (omega (arith, c.loop-low-test.true, inv.few)));
       above = inv.above;
+      raised = omega (arith, inv.raised, c.read.ensures.reads);
       halves = (half.0, (half.1.1, omega (arith, half.1.0, far.1.1, c.read.ensures.reads)));
     }
 
@@ -58,6 +60,7 @@ loop-low-preserved c =
       few = omega (arith, c.loop-low-test.true, inv.few);
       below = inv.below;
       above = λ k least less. omega (arith, here, upward 0 xs no_entry rises m k (omega (arith, least)) less);
+      raised = omega (arith, inv.raised, c.read.ensures.reads);
       halves = (half.0, (half.1.1, omega (arith, half.1.0, far.1.1, c.read.ensures.reads)));
     }
 
