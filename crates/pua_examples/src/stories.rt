@@ -1,5 +1,6 @@
 //! The stories: each folder has a listing, a script, the words of a command over them, and what it
-//! writes; and the same of a list of objects. One has a table of calls too, and further commands.
+//! writes; and the same of a list of objects. Some have a table of calls or a narrower script too, and
+//! further commands over these.
 
 use crate::written::{SMALL, as_expected, run_command};
 use anyhow::Result;
@@ -8,7 +9,7 @@ use std::fs;
 use std::rt::Files;
 
 /// The folders of the stories.
-pub(crate) const STORIES: [&str; 12] = [
+pub(crate) const STORIES: [&str; 15] = [
     "first-run",
     "links",
     "wide-veil",
@@ -21,18 +22,24 @@ pub(crate) const STORIES: [&str; 12] = [
     "patch",
     "second-name",
     "free-stat",
+    "key-directory",
+    "log-daemon",
+    "socket-server",
 ];
 
-/// The further commands of the story with a table: a run, the objects of its child, and its objects by
-/// the standard table.
-const WITH_TABLE: [(&str, &str); 3] = [
-    ("run-command", "run-output"),
-    ("child-command", "child-output"),
-    ("standard-command", "standard-output"),
+/// The further commands of stories, and what they write: of the one with a table a run, the objects of
+/// its child, and its objects by the standard table; of those with a narrower script the objects by it.
+const FURTHER: [(&str, &str, &str); 6] = [
+    ("free-stat", "run-command", "run-output"),
+    ("free-stat", "child-command", "child-output"),
+    ("free-stat", "standard-command", "standard-output"),
+    ("key-directory", "narrow-command", "narrow-output"),
+    ("log-daemon", "narrow-command", "narrow-output"),
+    ("socket-server", "narrow-command", "narrow-output"),
 ];
 
 /// Prints a line for each folder, which says whether its two commands write what the folder has; one
-/// for each further command of the story with a table; and one for a command whose listing isn't there.
+/// for each further command; and one for a command whose listing isn't there.
 pub(crate) fn run(rt: &HostRuntime) -> Result<()> {
     for story in &STORIES {
         let is_told = is_so(rt, story, "command", "output")?;
@@ -40,9 +47,9 @@ pub(crate) fn run(rt: &HostRuntime) -> Result<()> {
         let seen = as_expected(is_told && is_listed);
         println!(rt; "{story}: {seen}")?;
     }
-    for (command, output) in &WITH_TABLE {
-        let seen = as_expected(is_so(rt, "free-stat", command, output)?);
-        println!(rt; "free-stat, {command}: {seen}")?;
+    for (story, command, output) in &FURTHER {
+        let seen = as_expected(is_so(rt, story, command, output)?);
+        println!(rt; "{story}, {command}: {seen}")?;
     }
     let seen = as_expected(is_missed(rt)?);
     println!(rt; "a listing that is not there: {seen}")?;
