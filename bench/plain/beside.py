@@ -32,7 +32,8 @@ def has_table(words):
 
 
 def asked_by(words):
-    """The process that a command asks about, and the base, limit and names of an audit."""
+    """The process that a command asks about, and the base, limit and names of an audit. Where it asks about all, process 1
+    stands for them."""
     command, *rest = words
     options, operands = {"--process": "1", "--base": "root", "--limit": "0"}, []
     while rest:
@@ -45,7 +46,8 @@ def asked_by(words):
             option, _, value = word.partition("=")
             options[option] = value or rest.pop(0)
     base = options["--base"] if command == "audit" else "-"
-    return [options["--process"], WORDS, base, options["--limit"], *operands[2:]]
+    process = "1" if options["--process"] == "all" else options["--process"]
+    return [process, WORDS, base, options["--limit"], *operands[2:]]
 
 
 class Random:

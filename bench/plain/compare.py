@@ -41,7 +41,7 @@ def output_of(row):
     for line in row.get("pairs", "").splitlines():
         path, *calls = line.split()
         lines += [f"{path} {call}" for call in calls]
-    lines += row.get("lines", "").splitlines()
+    lines += (row.get("state", "") + row.get("lines", "")).splitlines()
     return [line + "\n" for line in lines], front
 
 
