@@ -168,7 +168,7 @@ sub add_list {
     push @$page, "<h2>What process $process can " . ($what eq 'ever' ? 'ever ' : '') . "touch</h2>\n<ul>\n";
     for my $line (@{ $list->{state} || ['no lines on the state of the process'] }) {
         my $class = $line =~ /\A(?:unveil open|process ended)\z/ ? ' class="alarm"' : '';
-        my $says = $STATES{$line} || ($line =~ /\Aveil - / ? 'on a directory that was removed' : '');
+        my $says = $STATES{$line} || ($line =~ /\Aveil - / ? 'its directory was removed' : '');
         push @$page, "<li><code$class>" . text($line) . "</code> $says</li>\n";
         push @{ node($tree, $1)->{veils} }, $2 if $line =~ m{\Aveil (/\S*) (\S+)\z};
     }

@@ -109,7 +109,7 @@ my @site = ('1 dir 0 www', '2 dir 1 site', '3 file 2 index', '4 file 1 key', '5 
     is_deeply(\@state, ['process alive: ', 'promises rpath,stdio,unveil: ',
         'execpromises -: unset: a program that it starts has no veils, and all promises but error',
         '! unveil open: further veils can be put: the list holds for now alone', 'veil /www/site r: ',
-        'veil /none =: ', 'veil - rwc: on a directory that was removed', '! process ended: it can touch nothing',
+        'veil /none =: ', 'veil - rwc: its directory was removed', '! process ended: it can touch nothing',
         'process alive: ', 'promises =: ', 'execpromises =: ', 'unveil locked: no further veil can be put',
         'process alive: ', 'promises -: none were ever pledged: it holds all but error', 'execpromises exec: ',
         'unveil given-up: no further veil can be put, since the promise unveil was given up', 'veil /www r: ',
