@@ -72,7 +72,11 @@ fn kind_bytes(kind: ObjectKind) -> &'static [u8]
 }
 
 /// Adds the path that leads by these names from the root, as it is printed, and a blank.
-fn add_path<S: Sink>(block: &mut Vec<u8>, word: &[&Name], sink: &mut S) -> Result<(), PutFault>
+pub(crate) fn add_path<S: Sink>(
+    block: &mut Vec<u8>,
+    word: &[&Name],
+    sink: &mut S,
+) -> Result<(), PutFault>
     requires { BLOCK ≤ vec_capacity block.old }
     ensures path { Passes (printed_path base.Root (map (λ name. name.now) word.now) ++ 32 ∷ []) result
         block.old.items block.new.items (S.written sink.old) (S.written sink.new) (S.failed sink.old) (S.failed sink.new) }
@@ -142,7 +146,11 @@ fn add_next(block: &mut Vec<u8>, is_first: bool, call: Call)
 }
 
 /// Adds bytes: no more than a line of an audit takes while it is written.
-fn add_bytes<S: Sink>(block: &mut Vec<u8>, bytes: &[u8], sink: &mut S) -> Result<(), PutFault>
+pub(crate) fn add_bytes<S: Sink>(
+    block: &mut Vec<u8>,
+    bytes: &[u8],
+    sink: &mut S,
+) -> Result<(), PutFault>
     requires short { length bytes.now ≤ MOST_LINE }
     requires room { BLOCK ≤ vec_capacity block.old }
     ensures bytes { Passes bytes.now result
