@@ -8,4 +8,5 @@ pub mod Passing
 pub mod ObjectTexts
 pub mod Stops
 pub mod States
+pub mod Lists
 pub mod Climbing
