@@ -25,6 +25,8 @@ printf '%s\n' '1 fork 2' '1 unveil /d rwc' '1 link /d/f /d/h' '2 link /g /d/i' '
     '1 link /d/h /d' '1 link /g /d/x' '2 link /d /e' '2 rename /d/h /d/i' '1 stat /d/h' > links
 printf '%s\n' '1 unveil /etc/passwd r' '1 unveil - -' > one
 printf '%s\n' '1 pledge stdio,cpath -' '1 mkdir /d' '1 chdir /d' > makes
+printf '%s\n' '1 fork 2' '2 mkdir /n' '1 unveil /n rwc' '1 unveil /n/x =' '1 unveil /tmp/sh rx' \
+    '1 pledge stdio,rpath,exec stdio,rpath' '2 rmdir /n' > gone
 printf '%s\n' '1 pledge stdio,,rpath -' > list
 printf '%s\n' '[chmod]' 'promises = ["fattr", "rpath"]' 'veil = "r"' 'stat = { promises = [""], veil = "" }' > nested
 printf '%s\n' 'stat = { promises = [""], veil = "" }' '[chmod]' 'promises = ["fattr", "rpath"]' 'veil = "r"' > calls
@@ -83,6 +85,8 @@ sweep 'an audit of many lines' 0 audit --limit 6 tree none
 sweep 'an audit of further names' 0 audit --limit 2 --process 2 twice links
 sweep 'objects' 0 objects tree one
 sweep 'objects of another process' 0 objects --process 2 twice links
+sweep 'objects of all processes' 0 objects --process all tree forks
+sweep 'objects, and places that are gone' 0 objects tree gone
 sweep 'a run by a table' 0 run --table calls tree veils
 sweep 'an audit by a table' 0 audit --limit 3 --table calls tree one
 sweep 'objects by a table' 0 objects --table calls tree one

@@ -4,11 +4,11 @@
 #     page.pl TREE [OBJECTS]
 #
 # TREE is the listing, and OBJECTS the output of `pua objects` over it; standard input if it is left
-# out. What is written is one HTML file, without scripts, that loads nothing. For each list of OBJECTS
-# it has the state of the process, if there are lines about it, and the tree: beside each name what can
-# be read, written, executed, made and removed there, and its veil. A directory is folded where nothing
-# below it can be touched and no veil stands there. An open-rw stands in two columns, and a create of
-# what is there among what is written.
+# out. What is written is one HTML file, without scripts, that loads nothing. For each list of OBJECTS,
+# of which `--process all` prints several, it has the state of the process, if there are lines about it,
+# and the tree: beside each name what can be read, written, executed, made and removed there, and the
+# veil whose place stands there now. A directory is folded where nothing below it can be touched and no
+# veil stands. An open-rw stands in two columns, and a create of what is there among what is written.
 #
 # The tree is that of the listing, before the script, with what the list adds; such a name is marked
 # `not listed`. What the script removed stands there still, as something that can't be touched.
@@ -30,6 +30,8 @@ my %COLUMNS = (
 my %FIELDS = (dir => 4, file => 4, prog => 4, link => 5, hard => 5);    # of a line of a listing
 my %STATES = (
     'process ended'   => 'it can touch nothing',
+    'promises -'      => 'none were ever pledged: it holds all but error',
+    'execpromises -'  => 'unset: a program that it starts has no veils, and all promises but error',
     'unveil locked'   => 'no further veil can be put',
     'unveil given-up' => 'no further veil can be put, since the promise unveil was given up',
     'unveil open'     => 'further veils can be put: the list holds for now alone',
@@ -166,7 +168,7 @@ sub add_list {
     push @$page, "<h2>What process $process can " . ($what eq 'ever' ? 'ever ' : '') . "touch</h2>\n<ul>\n";
     for my $line (@{ $list->{state} || ['no lines on the state of the process'] }) {
         my $class = $line =~ /\A(?:unveil open|process ended)\z/ ? ' class="alarm"' : '';
-        my $says = $STATES{$line} || ($line =~ /\Aveil - / ? 'on a directory that was removed' : '');
+        my $says = $STATES{$line} || ($line =~ /\Aveil - / ? 'its directory was removed' : '');
         push @$page, "<li><code$class>" . text($line) . "</code> $says</li>\n";
         push @{ node($tree, $1)->{veils} }, $2 if $line =~ m{\Aveil (/\S*) (\S+)\z};
     }

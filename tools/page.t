@@ -99,22 +99,29 @@ my @site = ('1 dir 0 www', '2 dir 1 site', '3 file 2 index', '4 file 1 key', '5 
 
 # The lines of the state, and several lists.
 {
-    my $page = page_of('a state', \@site, ['1 ok', 'objects 1', 'process alive', 'promises stdio,rpath',
+    my $page = page_of('a state', \@site, ['1 ok', 'objects 1', 'process alive', 'promises rpath,stdio,unveil',
         'execpromises -', 'unveil open', 'veil /www/site r', 'veil /none =', 'veil - rwc',
         'dir /www/site stat', 'objects 2', 'process ended', 'objects 3', 'process alive', 'promises =',
-        'execpromises =', 'unveil locked']);
+        'execpromises =', 'unveil locked', 'objects 4', 'process alive', 'promises -', 'execpromises exec',
+        'unveil given-up', 'veil /www r', 'veil /www rw']);
     my @state = map { m{<li><code( class="alarm")?>([^<]*)</code> ([^<]*)</li>} ? ($1 ? '! ' : '') . "$2: $3" : () }
         split /^/, $page;
-    is_deeply(\@state, ['process alive: ', 'promises stdio,rpath: ', 'execpromises -: ',
+    is_deeply(\@state, ['process alive: ', 'promises rpath,stdio,unveil: ',
+        'execpromises -: unset: a program that it starts has no veils, and all promises but error',
         '! unveil open: further veils can be put: the list holds for now alone', 'veil /www/site r: ',
-        'veil /none =: ', 'veil - rwc: on a directory that was removed', '! process ended: it can touch nothing',
+        'veil /none =: ', 'veil - rwc: its directory was removed', '! process ended: it can touch nothing',
         'process alive: ', 'promises =: ', 'execpromises =: ', 'unveil locked: no further veil can be put',
+        'process alive: ', 'promises -: none were ever pledged: it holds all but error', 'execpromises exec: ',
+        'unveil given-up: no further veil can be put, since the promise unveil was given up', 'veil /www r: ',
+        'veil /www rw: ',
     ], 'the state of each process stands above its tree');
-    is_deeply([$page =~ m{<h2>(.*)</h2>}g], [map { "What process $_ can touch" } 1 .. 3], 'each list has a heading');
+    is_deeply([$page =~ m{<h2>(.*)</h2>}g], [map { "What process $_ can touch" } 1 .. 4], 'each list has a heading');
     my @rows = rows($page);
     is_deeply([@rows[0 .. 4]], ['0 | /', '1 | etc/ names in it, none to be touched: 1', '2 | passwd file',
         '1 | none  not listed veil =', '1 | www/'], 'a veil is shown where it stands, also where nothing is listed');
     is($rows[6], '2 | site/ veil r names in it, none to be touched: 1 | read: stat', 'and on a directory that is listed');
+    is((grep { /www/ } @rows)[-1], '1 | www/ veil r veil rw names in it, none to be touched: 3',
+        'a name and the directory that took it may both have one');
     is(scalar(grep { $_ eq '0 | / names in it, none to be touched: 6' } @rows), 2, 'each list has a tree of its own');
 }
 
@@ -207,12 +214,14 @@ my @site = ('1 dir 0 www', '2 dir 1 site', '3 file 2 index', '4 file 1 key', '5 
     is((rows($page))[-1], '4095 | d/ | read: stat', 'its last name is shown');
 }
 
-# Each story that pua is tested with: each line about an object is a row with something in it.
-for my $output (glob "$TOOLS/../crates/pua_examples/data/*/objects-output") {
-    my $story = dirname($output);
+# Each story that pua is tested with: each line about an object is a row with something in it, each other
+# line stands above, and each veil whose place is there stands in the tree too.
+for my $output (glob "$TOOLS/../crates/pua_examples/data/*/{objects,all}-output") {
+    my ($story, $text) = (dirname($output), content($output));
     my ($status, $page, $err) = page("$story/listing", $output);
-    my $objects = grep { m{\A(?!veil )\S+ /} } split /^/, content($output);
-    my $rows = () = $page =~ /class="row">/g;
-    is("$status $err$rows", "0 $objects", 'each object has a row: ' . ($story =~ m{([^/]*)\z})[0]);
+    my @counts = map { my $pattern = $_; scalar(() = $page =~ /$pattern/g) } 'class="row">', '<li>', '<b class="veil">';
+    my @lines = map { my $pattern = $_; scalar(() = $text =~ /$pattern/mg) } '^(?!veil )[a-z]+ /',
+        '^(?:process|promises|execpromises|unveil|veil) ', '^veil /';
+    is("$status $err@counts", "0 @lines", 'objects, states and veils: ' . ($output =~ m{([^/]*/[^/]*)\z})[0]);
 }
 done_testing;

@@ -484,14 +484,18 @@ fn object_fault(call: Call, object: Object) -> Option<Errno> {
 
 // ---- Processes
 
-/// What stays of a process's calls. Veils stand on directories, and on names in directories.
+/// Where a veil is kept: on a directory, or on a name in one.
+type Place = (u32, Option<Box<[u8]>>);
+
+/// What stays of a process's calls. Veils stand on directories, and on names in directories; `places` has them in the
+/// order in which they were first kept.
 #[derive(Clone, Default)]
 struct Process {
     promises: Option<u64>,
     execpromises: Option<u64>,
     on_dirs: Map<u32, u8>,
     on_names: Map<u32, Map<Box<[u8]>, u8>>,
-    veils: usize,
+    places: Vec<Place>,
     is_locked: bool,
     has_ended: bool,
     dir: u32,
@@ -522,7 +526,7 @@ impl Process {
     }
 
     fn dir_cover(&self, tree: &Tree, dir: u32) -> Cover {
-        if self.veils == 0 {
+        if self.places.is_empty() {
             return Some(ALL);
         }
         let mut at = dir;
@@ -568,8 +572,11 @@ impl Process {
         match kept {
             Some(kept) if kept & perms != perms => return Err("EPERM"),
             Some(_) => {}
-            None if self.veils == 128 => return Err("E2BIG"),
-            None => self.veils += 1,
+            None if self.places.len() == 128 => return Err("E2BIG"),
+            None => self.places.push(match found {
+                Found::Whole(dir, _) => (dir, None),
+                Found::Slot(dir, name, _) => (dir, Some(name.into())),
+            }),
         }
         match found {
             Found::Whole(dir, _) => self.on_dirs.insert(dir, perms),
@@ -581,7 +588,8 @@ impl Process {
     fn exec(&mut self) {
         self.promises = self.execpromises.take();
         if self.promises.is_none() {
-            (self.on_dirs, self.on_names, self.veils, self.is_locked) = (Map::default(), Map::default(), 0, false);
+            (self.on_dirs, self.on_names, self.is_locked) = (Map::default(), Map::default(), false);
+            self.places.clear();
         }
     }
 
@@ -1108,7 +1116,8 @@ enum Command {
 
 struct Words<'a> {
     limit: Option<u8>,
-    process: u32,
+    /// None for all processes, for which only `objects` can be asked.
+    process: Option<u32>,
     from_root: bool,
     after: Option<&'a str>,
     operands: Vec<&'a str>,
@@ -1123,8 +1132,8 @@ fn read_words(words: &[String]) -> Option<(Command, Words<'_>)> {
         _ => return None,
     };
     let is_audit = command == Command::Audit;
-    let mut read = Words { limit: None, process: 1, from_root: true, after: None, operands: Vec::new() };
-    let mut has_options = command != Command::Run;
+    let mut read = Words { limit: None, process: Some(1), from_root: true, after: None, operands: Vec::new() };
+    let (mut has_options, mut given) = (command != Command::Run, Vec::new());
     while let [word, more @ ..] = rest {
         rest = more;
         if !has_options || !word.starts_with("--") {
@@ -1138,10 +1147,15 @@ fn read_words(words: &[String]) -> Option<(Command, Words<'_>)> {
             Some(both) => both,
             None => (&word[..], &rest.split_off_first()?[..]),
         };
+        if given.contains(&option) {
+            return None;
+        }
+        given.push(option);
         match option {
-            "--process" => read.process = value.parse().ok().filter(|process| (1..=999_999).contains(process))?,
+            "--process" if !is_audit && value == "all" => read.process = None,
+            "--process" => read.process = Some(value.parse().ok().filter(|process| (1..=999_999).contains(process))?),
             _ if !is_audit => return None,
-            "--limit" if read.limit.is_none() => read.limit = Some(value.parse().ok()?),
+            "--limit" => read.limit = Some(value.parse().ok()?),
             "--base" => read.from_root = *["root", "cwd"].iter().find(|base| value == **base)? == "root",
             "--after" => read.after = Some(value),
             _ => return None,
@@ -1149,6 +1163,60 @@ fn read_words(words: &[String]) -> Option<(Command, Words<'_>)> {
     }
     let has_enough = if is_audit { read.limit.is_some() && read.operands.len() >= 2 } else { read.operands.len() == 2 };
     has_enough.then_some((command, read))
+}
+
+/// Adds the lines of a process's state.
+fn state(out: &mut Vec<u8>, tree: &Tree, process: &Process) {
+    if process.has_ended {
+        out.extend_from_slice(b"process ended\n");
+        return;
+    }
+    let unveil = match process.held() & UNVEIL {
+        _ if process.is_locked => "locked",
+        0 => "given-up",
+        _ => "open",
+    };
+    let (promises, execpromises) = (keywords(process.promises), keywords(process.execpromises));
+    let _ = writeln!(out, "process alive\npromises {promises}\nexecpromises {execpromises}\nunveil {unveil}");
+    for place in &process.places {
+        let (dir, name) = place;
+        let kept = match name {
+            None => process.on_dirs[dir],
+            Some(name) => process.on_names[dir][name],
+        };
+        let letters = [(R, 'r'), (W, 'w'), (X, 'x'), (C, 'c')];
+        let letters: String = letters.iter().filter(|(bit, _)| kept & bit != 0).map(|(_, letter)| letter).collect();
+        out.extend_from_slice(b"veil ");
+        out.extend_from_slice(&place_path(tree, place));
+        let _ = writeln!(out, " {}", if letters.is_empty() { "=" } else { &letters });
+    }
+}
+
+/// A set of promises as a script has it.
+fn keywords(set: Option<u64>) -> String {
+    let Some(set) = set else { return "-".into() };
+    let held = KEYWORDS.iter().zip(0..).filter(|(_, bit)| set & 1 << bit != 0);
+    let text = held.map(|(keyword, _)| *keyword).collect::<Vec<_>>().join(",");
+    if text.is_empty() { "=".into() } else { text }
+}
+
+/// Where a place stands now, spelled; `-` where its directory was removed.
+fn place_path(tree: &Tree, (dir, name): &Place) -> Vec<u8> {
+    let (mut names, mut at) = (Vec::from_iter(name.as_deref()), *dir);
+    if tree.node(at).links == 0 {
+        return b"-".to_vec();
+    }
+    while at != ROOT {
+        let rows = &tree.node(tree.node(at).parent).rows;
+        names.extend(rows.iter().find(|(_, node)| **node == at).map(|(name, _)| &**name));
+        at = tree.node(at).parent;
+    }
+    let mut path = Vec::new();
+    for name in names.iter().rev() {
+        path.push(b'/');
+        spell(&mut path, name);
+    }
+    if path.is_empty() { b"/".to_vec() } else { path }
 }
 
 /// A directory that is open: its names that are still to come, how long its path is, and what is left of names in it.
@@ -1226,7 +1294,10 @@ impl<'a> List<'a> {
     }
 
     fn write(mut self) -> io::Result<()> {
-        let over = if self.process.veils == 0 { Some(ALL) } else { None };
+        if self.process.has_ended {
+            return flush(&mut self.out);
+        }
+        let over = if self.process.places.is_empty() { Some(ALL) } else { None };
         let mut open = vec![self.open(ROOT, Some("EBUSY"), over)?];
         while let Some(inner) = open.last_mut() {
             self.path.truncate(inner.len);
@@ -1241,20 +1312,27 @@ impl<'a> List<'a> {
 }
 
 fn objects(world: &World, words: &Words, mut front: Vec<u8>) -> Result<(), (u8, String)> {
-    let process = world.processes.get(&words.process).ok_or_else(|| (1, "pua: no such process".to_string()))?;
-    let _ = writeln!(front, "objects {}", words.process);
-    let cannot_write = |_| (3, "pua: cannot write".to_string());
-    if process.has_ended {
-        return flush(&mut front).map_err(cannot_write);
+    let mut numbers: Vec<u32> = match words.process {
+        Some(number) => vec![number],
+        None => world.processes.keys().copied().collect(),
+    };
+    numbers.sort_unstable();
+    for number in numbers {
+        let process = world.processes.get(&number).ok_or_else(|| (1, "pua: no such process".to_string()))?;
+        let _ = writeln!(front, "objects {number}");
+        state(&mut front, &world.tree, process);
+        let out = std::mem::take(&mut front);
+        let list = List { tree: &world.tree, process, path: Vec::new(), out };
+        list.write().map_err(|_| (3, "pua: cannot write".to_string()))?;
     }
-    let list = List { tree: &world.tree, process, path: Vec::new(), out: front };
-    list.write().map_err(cannot_write)
+    Ok(())
 }
 
 fn audit(world: &World, words: &Words, front: Vec<u8>) -> Result<(), (u8, String)> {
     let refused = |fault: String| (1, format!("pua: {fault}"));
     let limit = usize::from(words.limit.unwrap_or(0));
-    let process = world.processes.get(&words.process).ok_or_else(|| refused("no such process".into()))?;
+    let process = words.process.and_then(|number| world.processes.get(&number));
+    let process = process.ok_or_else(|| refused("no such process".into()))?;
     let names = &words.operands[2..];
     if limit > 16 {
         return Err(refused("audit: limit too large".into()));
@@ -1279,7 +1357,7 @@ fn audit(world: &World, words: &Words, front: Vec<u8>) -> Result<(), (u8, String
     if after.is_some() {
         front.clear();
     } else {
-        let _ = writeln!(front, "reach {}", words.process);
+        let _ = writeln!(front, "reach {}", words.process.unwrap_or(1));
     }
     flush(&mut front).map_err(cannot_write)?;
     if is_empty {
@@ -1332,7 +1410,7 @@ fn perform(command: Command, words: &Words) -> Result<(), (u8, String)> {
 /// Those of the program beside which this one stands. Here no table is read.
 const USAGE: &str = "pua: usage: pua run [--table FILE] TREE SCRIPT; \
                      pua audit --limit N [--process P] [--base root|cwd] [--after CALL:PATH] [--table FILE] TREE SCRIPT [NAME...]";
-const OBJECTS_USAGE: &str = "pua: usage: pua objects [--process P] [--table FILE] TREE SCRIPT";
+const OBJECTS_USAGE: &str = "pua: usage: pua objects [--process P|all] [--table FILE] TREE SCRIPT";
 
 fn main() -> ExitCode {
     let words: Vec<String> = std::env::args().skip(1).collect();

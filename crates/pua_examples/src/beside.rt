@@ -11,7 +11,7 @@ use crate::written::Files;
 use anyhow::{Result, anyhow};
 use pua_policy::{CallTable, Process};
 use pua_script::{World, read_script};
-use pua_tool::{AuditWords, Text};
+use pua_tool::{AuditWords, Processes, Text};
 use pua_tree::{ListTree, read_listing};
 use pua_words::read_words;
 use std::alloc::Global;
@@ -115,7 +115,7 @@ fn run_worlds(rt: &HostRuntime, counts: &mut Counts) -> Result<()> {
 
 /// Whether audits of the process that a command asks about are as its list of objects says: the one
 /// that the command asks for, if it does, and those at the longest limit that is cheap. A run asks
-/// about none: process 1 stands for it. Nothing is compared where the command names a table and is not to,
+/// about none, and a list may ask about all: process 1 stands for them. Nothing is compared where the command names a table and is not to,
 /// or names none and is to.
 fn is_as_listed(
     alloc: Global,
@@ -134,7 +134,13 @@ fn is_as_listed(
     let world = world_of(alloc, files, table)?;
     match &command.text {
         Text::Run => is_deep_listed(alloc, &world, 1, &[], counts),
-        Text::Objects(words) => is_deep_listed(alloc, &world, words.process, &[], counts),
+        Text::Objects(words) => {
+            let process = match words.processes {
+                Processes::One(process) => process,
+                Processes::All => 1,
+            };
+            is_deep_listed(alloc, &world, process, &[], counts)
+        }
         Text::Audit(words) => {
             let names = words.names.as_slice();
             let is_listed = is_audit_listed(alloc, &world, words, counts)?;

@@ -18,7 +18,7 @@ pub(crate) const LINES: usize = 8;
 /// How many veils process 1 of a family is given before its lock.
 const VEILS: usize = 3;
 
-/// How many lines a family's script has after the lock.
+/// How many lines a family's script has after the lock, and one of states after its first line.
 const FAMILY_LINES: usize = 24;
 
 const KINDS: [&str; 9] = [
@@ -49,6 +49,17 @@ const PLEDGES: [&str; 8] = [
 
 const CALLS: [&str; 9] = [
     "chdir", "chdir", "mkdir", "rmdir", "unlink", "create", "exec", "exec", "stat",
+];
+
+const TURNS: [&str; 8] = [
+    "fork 3",
+    "fork 3",
+    "fork 3",
+    "unveil - -",
+    "unveil - -",
+    "exec /d",
+    "exec /b",
+    "exit",
 ];
 
 /// A generator of numbers (xorshift).
@@ -207,6 +218,58 @@ pub(crate) fn family_script(alloc: Global, random: &mut Random) -> Result<String
         }
     }
     Ok(text)
+}
+
+/// The lines of a script of up to three processes that leaves each line that a state can have. Process 2,
+/// which the first makes, puts no veil, and makes, moves and takes away directories at which those of the
+/// others stand.
+pub(crate) fn state_script(alloc: Global, random: &mut Random) -> Result<String> {
+    let mut text = String::from_str(alloc, "1 fork 2\n")?;
+    for _ in 0..FAMILY_LINES {
+        let process = random.below(2).saturating_mul(2).saturating_add(1);
+        state_line(&mut text, random, process)?;
+    }
+    Ok(text)
+}
+
+/// Adds a line of this process or of process 2, or one of each.
+fn state_line(text: &mut String, random: &mut Random, process: usize) -> Result<()> {
+    match random.below(8) {
+        0 | 1 | 2 => writeln!(
+            text,
+            "{process} unveil {} {}",
+            random.pick(&PATHS),
+            random.pick(&PERMS)
+        )?,
+        3 if random.below(2) == 0 => writeln!(
+            text,
+            "{process} pledge {} {}",
+            random.pick(&PLEDGES),
+            random.pick(&PLEDGES)
+        )?,
+        4 => {
+            let path = random.pick(&PATHS);
+            writeln!(text, "{process} unveil {path} r\n2 rmdir {path}")?;
+        }
+        5 => {
+            let path = random.pick(&PATHS);
+            writeln!(text, "{process} unveil {path} r\n2 mkdir {path}")?;
+        }
+        6 => writeln!(
+            text,
+            "2 rename {} {}",
+            random.pick(&PATHS),
+            random.pick(&PATHS)
+        )?,
+        7 if random.below(2) == 0 => writeln!(
+            text,
+            "{process} {} {}",
+            random.pick(&CALLS),
+            random.pick(&PATHS)
+        )?,
+        _ => writeln!(text, "{process} {}", random.pick(&TURNS))?,
+    }
+    Ok(())
 }
 
 /// Adds what a line asks for, and its end.

@@ -38,7 +38,7 @@ impl Case {
         Ok(())
     }
 
-    /// Adds a line of the reach.
+    /// Adds lines that come after the answers.
     fn reach(&mut self, line: &str) -> Result<()> {
         self.output.push_str(line)?;
         self.output.push('\n')?;
@@ -74,6 +74,7 @@ pub(crate) fn run(rt: &HostRuntime) -> Result<()> {
     let alloc = rt.alloc();
     tell(rt, "128 veils", are_veils(alloc)?)?;
     tell(rt, "256 processes", are_processes(alloc)?)?;
+    tell(rt, "veils below 69 of the longest names", are_deep(alloc)?)?;
     tell(rt, "4,096 nodes with names of 255 bytes", are_names(alloc)?)?;
     tell(
         rt,
@@ -101,7 +102,7 @@ fn tell(rt: &HostRuntime, limit: &str, holds: bool) -> Result<()> {
     Ok(println!(rt; "{limit}: {}", as_expected(holds))?)
 }
 
-/// A process keeps 128 veils, and no more; it is forked, execs and is audited with them.
+/// A process keeps 128 veils, and no more; it is forked, execs, and is audited and listed with them.
 fn are_veils(alloc: Global) -> Result<bool> {
     let mut case = Case::new(alloc)?;
     for number in 1..=129u32 {
@@ -127,7 +128,7 @@ fn are_veils(alloc: Global) -> Result<bool> {
     ] {
         case.ask(line, answer)?;
     }
-    if !case.holds(alloc, &["run", "TREE", "SCRIPT"])? {
+    if !case.holds(alloc, &["run", "TREE", "SCRIPT"])? || !are_veils_listed(alloc, &case)? {
         return Ok(false);
     }
     case.reach("reach 2")?;
@@ -141,7 +142,24 @@ fn are_veils(alloc: Global) -> Result<bool> {
     case.holds(alloc, &words)
 }
 
-/// 256 processes are made, and no more, also where one has ended.
+/// Whether the list of objects has each of the 128 veils, though the first was put once more.
+fn are_veils_listed(alloc: Global, case: &Case) -> Result<bool> {
+    let mut text = String::from_str(alloc, case.output.as_str())?;
+    text.push_str("objects 2\nprocess alive\npromises rpath,stdio\nexecpromises -\n")?;
+    text.push_str("unveil given-up\nveil /f001 =\n")?;
+    for number in 2..=127u32 {
+        writeln!(text, "veil /f{number:03} r")?;
+    }
+    text.push_str("veil /f128 rx\n")?;
+    for number in 2..=127u32 {
+        writeln!(text, "file /f{number:03} stat,lstat,open-r")?;
+    }
+    text.push_str("prog /f128 stat,lstat,open-r\n")?;
+    let words = ["objects", "--process", "2", "TREE", "SCRIPT"];
+    case.writes(alloc, &words, 0, text.as_str(), "")
+}
+
+/// 256 processes are made, and no more, also where one has ended. All their lists are written.
 fn are_processes(alloc: Global) -> Result<bool> {
     let mut case = Case::new(alloc)?;
     for number in 2..=256u32 {
@@ -157,7 +175,46 @@ fn are_processes(alloc: Global) -> Result<bool> {
     ] {
         case.ask(line, answer)?;
     }
-    case.holds(alloc, &["run", "TREE", "SCRIPT"])
+    let is_run = case.holds(alloc, &["run", "TREE", "SCRIPT"])?;
+    for number in 1..=255u32 {
+        writeln!(case.output, "objects {number}\nprocess alive")?;
+        case.reach("promises -\nexecpromises -\nunveil open")?;
+        case.reach("dir / stat,lstat,open-r,chmod,chdir\nother / create,mkdir,symlink")?;
+    }
+    case.reach("objects 256\nprocess ended")?;
+    Ok(is_run && case.holds(alloc, &["objects", "--process", "all", "TREE", "SCRIPT"])?)
+}
+
+/// How many directories, three for each line of the script, stand one in another below the root.
+const DEEP: u32 = 69;
+
+/// Veils on a directory, and on a name in it, whose paths have 70,449 and more bytes as they are printed:
+/// more than what is written at once. The process goes down there by relative paths.
+fn are_deep(alloc: Global) -> Result<bool> {
+    let mut case = Case::new(alloc)?;
+    let mut path = String::new(alloc);
+    let mut part = String::from_str(alloc, "1 chdir ")?;
+    for number in 1..=DEEP {
+        let name = long_name(alloc, number)?;
+        writeln!(
+            case.tree,
+            "{number} dir {} {name}",
+            number.saturating_sub(1)
+        )?;
+        write!(path, "/{name}")?;
+        write!(part, "{name}/")?;
+        if number % 3 == 0 {
+            case.ask(part.as_str(), "ok")?;
+            part = String::from_str(alloc, "1 chdir ")?;
+        }
+    }
+    for line in ["1 unveil . r", "1 unveil x w", "1 unveil - -"] {
+        case.ask(line, "ok")?;
+    }
+    case.reach("objects 1\nprocess alive\npromises -\nexecpromises -\nunveil locked")?;
+    writeln!(case.output, "veil {path} r\nveil {path}/x w")?;
+    writeln!(case.output, "dir {path} stat,lstat,open-r,chdir")?;
+    Ok(path.len() == 70_449 && case.holds(alloc, &["objects", "TREE", "SCRIPT"])?)
 }
 
 /// A name of 255 bytes, each of which is escaped, by its number in the order of such names.
@@ -384,8 +441,8 @@ const MADE: u32 = 59_990;
 /// moves. What it leaves is run, audited and listed. The process keeps `cpath` alone. So an audit of one
 /// component has 59,995 answers, its heading, `rmdir` on each of 59,990 directories and `unlink` on two
 /// names: 119,988 lines, and none on `/` and `/..`. The list of objects has the same answers, its heading,
-/// one line for the root's further names, two for each directory, itself and its further names, and two
-/// for the file: 179,979 lines.
+/// four lines of the state, one line for the root's further names, two for each directory, itself and its
+/// further names, and two for the file: 179,983 lines.
 fn are_made(alloc: Global) -> Result<bool> {
     let mut case = Case::new(alloc)?;
     case.ask("1 pledge stdio,wpath,cpath -", "ok")?;
@@ -412,7 +469,7 @@ fn are_made(alloc: Global) -> Result<bool> {
     case.reach("/f unlink")?;
     case.reach("/h unlink")?;
     let are_counted = case.output.as_str().lines().count() == 119_988
-        && listed.as_str().lines().count() == 179_979;
+        && listed.as_str().lines().count() == 179_983;
     let words = ["audit", "--limit", "1", "TREE", "SCRIPT"];
     Ok(is_run && is_listed && are_counted && case.holds(alloc, &words)?)
 }
@@ -420,7 +477,8 @@ fn are_made(alloc: Global) -> Result<bool> {
 /// The text of the list of these objects, after the answers.
 fn made_objects(alloc: Global, answers: &str) -> Result<String> {
     let mut text = String::from_str(alloc, answers)?;
-    text.push_str("objects 1\nother / mkdir,symlink\n")?;
+    text.push_str("objects 1\nprocess alive\npromises cpath,stdio\nexecpromises -\n")?;
+    text.push_str("unveil given-up\nother / mkdir,symlink\n")?;
     for number in 1..=MADE {
         writeln!(
             text,

@@ -1,13 +1,36 @@
 //! The lines of a list of objects, by calls of the libraries over a tree that is kept in any way.
 
+use crate::state::State;
 use crate::trees::spell;
+use anyhow::{Result, anyhow};
 use pua_objects::{ObjectKind, ObjectLine, Objects};
 use pua_policy::{Call, Calls};
+use pua_script::World;
 use pua_tree::{FileTree, Name};
-use std::alloc::AllocError;
+use std::alloc::{AllocError, Global};
+
+/// Adds the list of a process in this state: its heading, the state, and a line for each object.
+pub(crate) fn add_list<T: FileTree>(
+    alloc: Global,
+    world: &World<T>,
+    number: u32,
+    state: &State,
+    text: &mut Vec<u8>,
+) -> Result<()> {
+    let Some(process) = world.process(number) else {
+        return Err(anyhow!("there is no process {number}"));
+    };
+    let heading = format!(in alloc; "objects {number}\n")?;
+    text.extend_from_slice(heading.as_bytes())?;
+    state.add_lines(alloc, world.tree(), text)?;
+    let begun = Objects::begin(alloc, world.tree(), process, world.table());
+    let mut list = begun?;
+    let lines = object_lines(&mut list, Vec::new(alloc))?;
+    Ok(text.extend_from_slice(lines.as_slice())?)
+}
 
 /// A text, and after it a line for each object that a list has still to give.
-pub(crate) fn object_lines<T: FileTree>(
+fn object_lines<T: FileTree>(
     list: &mut Objects<'_, T>,
     front: Vec<u8>,
 ) -> Result<Vec<u8>, AllocError> {

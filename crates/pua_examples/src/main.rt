@@ -1,8 +1,8 @@
 //! Runs the examples: the story of each folder, the table of rows, what the program prints of itself,
 //! the limits, edits of two kinds of trees, chosen walks, random cases by a fixed seed, what requests
-//! leave of random worlds, and audits beside lists of objects. A line is printed for each folder and
-//! each limit, which says whether what is written is what was expected; then one for each row, edit and
-//! case of which that isn't so, with their counts.
+//! leave of random worlds, the states of their processes, and audits beside lists of objects. A line is
+//! printed for each folder and each limit, which says whether what is written is what was expected; then
+//! one for each row, edit and case of which that isn't so, with their counts.
 #![tactic(auto)]
 
 mod beside;
@@ -19,6 +19,8 @@ mod reached;
 mod rows;
 mod shown;
 mod spared;
+mod state;
+mod stated;
 mod stories;
 mod subjects;
 mod table;
@@ -37,5 +39,6 @@ fn main(rt: HostRuntime) -> Result<()> {
     walks::run(&rt)?;
     random::run(&rt)?;
     futures::run(&rt)?;
+    stated::run(&rt)?;
     beside::run(&rt)
 }

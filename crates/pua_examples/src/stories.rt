@@ -1,6 +1,6 @@
 //! The stories: each folder has a listing, a script, the words of a command over them, and what it
-//! writes; and the same of a list of objects. Some have a table of calls or a narrower script too, and
-//! further commands over these.
+//! writes; and the same of a list of objects. Some have further commands: all lists, or over a narrower
+//! script or a table of calls.
 
 use crate::written::{SMALL, as_expected, run_command};
 use anyhow::Result;
@@ -27,9 +27,12 @@ pub(crate) const STORIES: [&str; 15] = [
     "socket-server",
 ];
 
-/// The further commands of stories, and what they write: of the one with a table a run, the objects of
-/// its child, and its objects by the standard table; of those with a narrower script the objects by it.
-const FURTHER: [(&str, &str, &str); 6] = [
+/// The further commands of stories, and what they write: the objects of all processes, where there are
+/// two; of those with a narrower script the objects by it; and of the one with a table a run, the objects
+/// of its child, and its objects by the standard table.
+const FURTHER: [(&str, &str, &str); 8] = [
+    ("separated-pair", "all-command", "all-output"),
+    ("web-logger", "all-command", "all-output"),
     ("free-stat", "run-command", "run-output"),
     ("free-stat", "child-command", "child-output"),
     ("free-stat", "standard-command", "standard-output"),

@@ -69,6 +69,9 @@ pub(crate) struct Row {
     #[serde(default)]
     pub(crate) pairs: String,
     pub(crate) objects: Option<u32>,
+    /// The lines of the process's state.
+    #[serde(default)]
+    pub(crate) state: String,
     #[serde(default)]
     pub(crate) lines: String,
     #[serde(default)]
@@ -88,8 +91,8 @@ impl Row {
     }
 
     /// The text that the row's command writes: each answer after the number of its line; of an audit
-    /// the line `reach P`, and a line for each pair; of a list of objects the line `objects P`, and
-    /// its lines.
+    /// the line `reach P`, and a line for each pair; of a list of objects the line `objects P`, the
+    /// state of the process, and the list's lines.
     pub(crate) fn output(&self, alloc: Global) -> Result<String> {
         let mut text = String::new(alloc);
         for (place, answer) in self.answers.as_str().split_whitespace().enumerate() {
@@ -109,6 +112,7 @@ impl Row {
         if let Some(process) = self.objects {
             writeln!(text, "objects {process}")?;
         }
+        text.push_str(self.state.as_str())?;
         text.push_str(self.lines.as_str())?;
         Ok(text)
     }

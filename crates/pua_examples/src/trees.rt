@@ -3,15 +3,15 @@
 
 ghost use Rattle.std.specs.Prelude.{◌≡◌};
 
-use crate::listed::object_lines;
+use crate::listed::add_list;
+use crate::state::State;
 use crate::written::Files;
 use anyhow::{Result, anyhow};
 use pua_audit::Audit;
-use pua_objects::Objects;
 use pua_path::{Counted, Probe};
 use pua_policy::CallTable;
 use pua_script::{Answer, World, read_script};
-use pua_tool::{AuditWords, Command, ObjectWords, Text, ToolFault};
+use pua_tool::{AuditWords, Command, Processes, Text, ToolFault};
 use pua_tree::{FileTree, ListingFault, byte_spelling, read_listing, read_listing_slab};
 use pua_words::read_words;
 use std::alloc::{AllocError, Global};
@@ -73,7 +73,7 @@ fn text_over<T: FileTree + Drop>(
     };
     match &command.text {
         Text::Run => or_memory(answer_lines(alloc, told.as_slice())),
-        Text::Objects(words) => object_text(alloc, &world, told.as_slice(), words),
+        Text::Objects(words) => object_text(alloc, &world, told.as_slice(), words.processes),
         Text::Audit(words) => audit_lines(alloc, &world, told.as_slice(), words),
     }
 }
@@ -110,21 +110,41 @@ fn answer_lines(alloc: Global, told: &[Answer]) -> Result<Vec<u8>, AllocError> {
     Ok(text)
 }
 
-/// The answers and the heading, and a line for each object.
+/// The answers, and the list of each process that is asked for.
 fn object_text<T: FileTree>(
     alloc: Global,
     world: &World<T>,
     told: &[Answer],
-    words: &ObjectWords,
+    processes: Processes,
 ) -> Result<Vec<u8>, ToolFault> {
-    let Some(process) = world.process(words.process) else {
-        return Err(ToolFault::NoProcess);
-    };
-    let Ok(mut list) = Objects::begin(alloc, world.tree(), process, world.table()) else {
+    let Ok(numbers) = numbers_of(alloc, world, processes) else {
         return Err(ToolFault::OutOfMemory);
     };
-    let front = or_memory(headed_lines(alloc, told, "objects", words.process))?;
-    or_memory(object_lines(&mut list, front))
+    let mut text = or_memory(answer_lines(alloc, told))?;
+    for number in &numbers {
+        let Some(process) = world.process(*number) else {
+            return Err(ToolFault::NoProcess);
+        };
+        let Ok(state) = State::of(alloc, process) else {
+            return Err(ToolFault::OutOfMemory);
+        };
+        if add_list(alloc, world, *number, &state, &mut text).is_err() {
+            return Err(ToolFault::OutOfMemory);
+        }
+    }
+    Ok(text)
+}
+
+/// The numbers of the processes that are asked for.
+fn numbers_of<T: FileTree>(
+    alloc: Global,
+    world: &World<T>,
+    processes: Processes,
+) -> Result<Vec<u32>> {
+    Ok(match processes {
+        Processes::One(number) => Vec::from_slice(alloc, &[number])?,
+        Processes::All => world.numbers(alloc)?,
+    })
 }
 
 /// The answers and the heading, unless the audit is resumed, and a line for each pair.
@@ -167,18 +187,8 @@ fn front_lines(
     if words.after.is_some() {
         return Ok(Vec::new(alloc));
     }
-    headed_lines(alloc, told, "reach", words.process)
-}
-
-/// A line for each answer, and the heading of a process.
-fn headed_lines(
-    alloc: Global,
-    told: &[Answer],
-    heading: &str,
-    process: u32,
-) -> Result<Vec<u8>, AllocError> {
     let mut text = answer_lines(alloc, told)?;
-    let heading = format!(in alloc; "{heading} {process}\n")?;
+    let heading = format!(in alloc; "reach {}\n", words.process)?;
     text.extend_from_slice(heading.as_bytes())?;
     Ok(text)
 }

@@ -11,8 +11,9 @@ use std::fs::{self, File, OpenOptions};
 use std::io::{self, BufWriter, PipeReader, PipeWriter, Write};
 
 /// Commands that write something: their words.
-const COMMANDS: [&[&str]; 4] = [
+const COMMANDS: [&[&str]; 5] = [
     &["audit", "--limit", "0", "T", "S"],
+    &["objects", "--process", "all", "T", "S"],
     &["run", "T", "S"],
     &["--help"],
     &["--version"],

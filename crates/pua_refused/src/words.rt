@@ -1,6 +1,6 @@
 //! Wrong bodies of `pua_words`.
 
-use pua_words::{Stop, Text, UsageLine, read_words};
+use pua_words::{Processes, Stop, Text, UsageLine, read_words};
 use std::alloc::Global;
 
 /// No process has the number 0.
@@ -9,7 +9,7 @@ fn process_0_taken(alloc: Global, words: &[&str]) {
         return;
     };
     if let Text::Objects(words) = command.text
-        && words.process == 0
+        && let Processes::One(0) = words.processes
     {
         unreachable!()
     }

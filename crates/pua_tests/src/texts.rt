@@ -2,7 +2,7 @@
 
 use crate::example::ROOT;
 use crate::expect::expect_bytes;
-use pua_tool::{MemorySink, objects_to, run_to};
+use pua_tool::{MemorySink, Processes, objects_to, run_to};
 use std::test::Fail;
 
 #[test]
@@ -11,8 +11,9 @@ fn texts_stand_after_what_was_there(rt: HostRuntime) -> Result<(), Fail> {
     let mut sink = MemorySink::new(alloc, 256)?;
     run_to(alloc, ROOT, b"1 stat /\n1 stat /a\n", None, &mut sink)?;
     let script = b"1 pledge stdio,cpath -\n";
-    objects_to(alloc, ROOT, script, None, 1, &mut sink)?;
-    let text = b"1 ok\n2 ENOENT\n1 ok\nobjects 1\nother / mkdir,symlink\n";
+    objects_to(alloc, ROOT, script, None, Processes::One(1), &mut sink)?;
+    let text =
+        b"1 ok\n2 ENOENT\n1 ok\nobjects 1\nprocess alive\npromises cpath,stdio\nexecpromises -\nunveil given-up\nother / mkdir,symlink\n";
     expect_bytes(&rt, "both texts", sink.bytes(), text);
     Ok(())
 }

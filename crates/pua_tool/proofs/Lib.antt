@@ -7,3 +7,6 @@ pub mod Alike
 pub mod Passing
 pub mod ObjectTexts
 pub mod Stops
+pub mod States
+pub mod Lists
+pub mod Climbing

@@ -1,6 +1,6 @@
--- The text of the objects of a process, step by step.
+-- The text of lists, step by step.
 use Rattle.std.proofs.Common.{◌≡◌, ℕ, ◌+◌, List, [], ◌∷◌, ◌++◌, ◌<◌, ◌≤◌, ◌∙◌, slice_index_or, get_or, subst, refl, sym, ap, map, drop, length, append_assoc, append-nil, arith, Bool, true, false, cond}
-use Rattle.std.specs.Prelude.{Option, Some, None, Result, Ok, Err, ok_or, filter, ◌==◌, ◌≢◌, OnOk, IfErr}
+use Rattle.std.specs.Prelude.{Option, Some, None, is_none, option_map, Result, Ok, Err, ok_or, filter, ◌==◌, ◌≢◌, OnOk, IfErr}
 use Rattle.std.proofs.lemmas.Grind.{flat_map-append}
 use Rattle.std.proofs.lemmas.Bool.{true≢false}
 use Rattle.std.proofs.lemmas.List.{drop_more}
@@ -13,38 +13,53 @@ use Rattle.pua_policy.specs.declared.call.Call.{Call}
 use Rattle.pua_policy.specs.declared.call.Call.TheVariants.{Stat, Lstat, Readlink, OpenRead, OpenWrite, OpenBoth, Create, Mkdir, Rmdir, Unlink, Symlink, Chmod, Chdir, Exec}
 use Rattle.pua_policy.specs.History.{History, ProcessState, StandsFor}
 use Rattle.pua_tree.specs.Tree.{Tree}
-use Rattle.pua_script.specs.Replay.{history_of}
+use Rattle.pua_script.specs.Replay.{World, history_of}
+use Rattle.pua_script.specs.Worlds.{StandsAt}
+use Rattle.pua_words.specs.declared.command.Processes.{Processes}
+use Rattle.pua_words.specs.declared.command.Processes.TheVariants.{One}
+use Rattle.pua_tool.proofs.Replays.{is_made, none_made}
 use Rattle.pua_audit.specs.Reach.{Word, from_root, printed_path}
 use Rattle.pua_audit.specs.declared.base.Base.TheVariants.{Root}
 use Rattle.pua_objects.specs.Lines.{kind_word}
-use Rattle.pua_objects.specs.Objects.{Item, objects, with_commas}
+use Rattle.pua_objects.specs.Objects.{Item, with_commas}
 use Rattle.pua_objects.specs.Ready.{IsListed, HasNoLine, lines_of}
 use Rattle.pua_objects.specs.declared.line.ObjectLine.{ObjectLine}
 use Rattle.std.specs.Borrow.{Bor}
 use Rattle.pua_tool.specs.Texts.{Replayed, replayed, ended}
 use Rattle.pua_tool.specs.Sinks.{Adds, AddsFront, HasFailed}
-use Rattle.pua_tool.specs.ObjectTexts.{object_lines, objects_after, objects_text, Tells}
+use Rattle.pua_tool.specs.ObjectTexts.{object_lines, lists_of, numbers_asked, objects_after, objects_text, Tells}
 use Rattle.pua_tool.specs.declared.fault.ToolFault.{ToolFault}
 use Rattle.pua_tool.specs.declared.fault.ToolFault.TheVariants.{Listing, Script, NoProcess, Audit, Write, OutOfMemory, Table}
 
-module _ (table_bytes : Option (List ℕ)) (tree_bytes script_bytes : List ℕ) (process : ℕ) where
-  abbrev listed_by : Replayed → Option History → Result (List ℕ) ToolFault
-  listed_by done made = ok_or made NoProcess >>= λ h. Ok (objects_after done.table process done.told done.world.tree h)
+module _ (table_bytes : Option (List ℕ)) (tree_bytes script_bytes : List ℕ) (which : Processes) where
+  abbrev listed_by : Replayed → Result (List ℕ) ToolFault → Result (List ℕ) ToolFault
+  listed_by done asked = asked >>= λ numbers. Ok (objects_after done.table done.told done.world numbers)
 
-  pub objects_are : (done : Replayed) (h : History) → replayed table_bytes tree_bytes script_bytes ≡ Ok done → history_of done.world process ≡ Some h
-      → objects_text table_bytes tree_bytes script_bytes process ≡ Ok (objects_after done.table process done.told done.world.tree h)
+  pub objects_are : (done : Replayed) (numbers : List ℕ) → replayed table_bytes tree_bytes script_bytes ≡ Ok done → numbers_asked done.world which ≡ Ok numbers
+      → objects_text table_bytes tree_bytes script_bytes which ≡ Ok (objects_after done.table done.told done.world numbers)
   unfolding objects_text
-  objects_are done h r m = (λ i. r i >>= λ done. listed_by done (history_of done.world process)) ∙ (λ i. listed_by done (m i))
+  objects_are done numbers r m = (λ i. r i >>= λ done. listed_by done (numbers_asked done.world which)) ∙ (λ i. listed_by done (m i))
 
   -- what refuses the replay comes first
-  pub replay_refuses : (fault : ToolFault) → replayed table_bytes tree_bytes script_bytes ≡ Err fault → objects_text table_bytes tree_bytes script_bytes process ≡ Err fault
+  pub replay_refuses : (fault : ToolFault) → replayed table_bytes tree_bytes script_bytes ≡ Err fault → objects_text table_bytes tree_bytes script_bytes which ≡ Err fault
   unfolding objects_text
-  replay_refuses fault r = λ i. r i >>= λ done. listed_by done (history_of done.world process)
+  replay_refuses fault r = λ i. r i >>= λ done. listed_by done (numbers_asked done.world which)
 
-  -- a process never made comes where the replay is not refused
-  pub process_refuses : (done : Replayed) → replayed table_bytes tree_bytes script_bytes ≡ Ok done → history_of done.world process ≡ None → objects_text table_bytes tree_bytes script_bytes process ≡ Err NoProcess
+  -- what refuses the numbers comes where the replay is not refused
+  pub asked_refuses : (done : Replayed) (fault : ToolFault) → replayed table_bytes tree_bytes script_bytes ≡ Ok done → numbers_asked done.world which ≡ Err fault → objects_text table_bytes tree_bytes script_bytes which ≡ Err fault
   unfolding objects_text
-  process_refuses done r m = (λ i. r i >>= λ done. listed_by done (history_of done.world process)) ∙ (λ i. listed_by done (m i))
+  asked_refuses done fault r m = (λ i. r i >>= λ done. listed_by done (numbers_asked done.world which)) ∙ (λ i. listed_by done (m i))
+
+-- what is asked of one process, by what the world keeps at its number
+pub asked_made : (w : World) (process : ℕ) (o : Option ProcessState) → StandsAt o (history_of w process) → is_none o ≡ false → numbers_asked w (One process) ≡ Ok (process ∷ [])
+asked_made w process None at some = absurd (true≢false some)
+asked_made w process (Some p) at some =
+    let made = is_made p (history_of w process) at in
+    ap (λ h. ok_or (option_map (λ g. process ∷ []) h) NoProcess) made.is
+
+pub asked_none : (w : World) (process : ℕ) (o : Option ProcessState) → StandsAt o (history_of w process) → is_none o ≡ true → numbers_asked w (One process) ≡ Err NoProcess
+asked_none w process None at none = ap (λ h. ok_or (option_map (λ g. process ∷ []) h) NoProcess) (none_made (history_of w process) at)
+asked_none w process (Some p) at none = absurd (true≢false (sym none))
 
 -- a path from the root goes on with a slash and a spelled name
 pub name_next : (name : List ℕ) (word : Word) → spelling (from_root (name ∷ word)) ≡ (47 ∷ spelling name) ++ spelling (from_root word)
@@ -155,9 +170,9 @@ no_line t u a b p q h left same equal alike stands none =
     (ap (object_lines t) (none h (subst (λ (r : ProcessState). StandsFor r h) (sym alike) stands))))
 
 -- the same text by other names
-pub told_as : (table rules : CallTable) (h : History) (front told : List ℕ) (t u : Tree) (r : Result (Unit {0}) ToolFault) (a b : Option (List ℕ)) (n m : ℕ) → table ≡ rules → front ≡ told → t ≡ u
-    → Tells (front ++ object_lines t (objects t table h)) r a b n m → Tells (told ++ object_lines u (objects u rules h)) r a b n m
-told_as table rules h front told t u r a b n m ruled same alike tells = subst (λ (text : List ℕ). Tells text r a b n m) (λ i. same i ++ object_lines (alike i) (objects (alike i) (ruled i) h)) tells
+pub told_as : (front told : List ℕ) (table rules : CallTable) (w : World) (lent numbers : List ℕ) (r : Result (Unit {0}) ToolFault) (a b : Option (List ℕ)) (n m : ℕ) → front ≡ told → table ≡ rules → lent ≡ numbers
+    → Tells (front ++ lists_of table w lent) r a b n m → Tells (told ++ lists_of rules w numbers) r a b n m
+told_as front told table rules w lent numbers r a b n m same ruled alike tells = subst (λ (text : List ℕ). Tells text r a b n m) (λ i. same i ++ lists_of (ruled i) w (alike i)) tells
 
 -- what the telling of a text leaves, where that text is the answer
 module _ (answer : Result (List ℕ) ToolFault) (text : List ℕ) (a b : Option (List ℕ)) (n m : ℕ) (is : answer ≡ Ok text) where

@@ -93,3 +93,21 @@ passing_put text rest block r a b c n m k begun none adds unfailed front failed 
 pub passing_unput : (text rest first more mid new : List ℕ) (fault : PutFault) (a b c : Option (List ℕ)) (n m k : ℕ)
     → Passing text rest [] mid a b n m → rest ≡ first ++ more → Passes first (Err fault) mid new b c m k → Writes text (Err fault) a c n k
 passing_unput text rest first more mid new fault a b c n m k begun is next = passing_fails text rest first more [] mid new [] fault a b c n m k begun is next
+
+-- a block that is put, and then a text of its own
+pub passes_put : (text old new : List ℕ) (r : Result (Unit {0}) PutFault) (a b c : Option (List ℕ)) (n m k : ℕ)
+    → Adds old a b → m ≡ n → new ≡ [] → OnOk r (Adds text b c) → OnOk r (k ≡ m) → OnErr r (AddsFront text b c) → OnErr r (HasFailed m k) → Passes text r old new a c n k
+passes_put text old new (Ok done) a b c n m k adds same empty whole unfailed front failed = (
+  record {
+    text = old ++ text;
+    parts = sym (append-nil (old ++ text)) ∙ ap (λ rest. (old ++ text) ++ rest) (sym empty);
+    adds = Appends-trans a b c old text adds whole;
+  },
+  unfailed ∙ same,
+)
+passes_put text old new (Err fault) a b c n m k adds same empty whole unfailed front failed = writes_then old text (Err fault) a b c n m k adds same (front, failed)
+
+-- a text of its own in an empty block, which is put
+pub passes_written : (text block : List ℕ) (r : Result (Unit {0}) PutFault) (a b c : Option (List ℕ)) (n m k : ℕ)
+    → Passes text (Ok tt) [] block a b n m → OnOk r (Adds block b c) → OnOk r (k ≡ m) → OnErr r (AddsFront block b c) → OnErr r (HasFailed m k) → Writes text r a c n k
+passes_written text block r a b c n m k added = passing_put text [] block r a b c n m k (record { done = text; parts = sym (append-nil text); passes = added }) refl

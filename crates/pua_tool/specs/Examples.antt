@@ -6,6 +6,7 @@ use Rattle.pua_tree.specs.declared.fault.ListingFault.TheVariants.{BadLine}
 use Rattle.pua_script.specs.declared.fault.ScriptFault.TheVariants.{BadCall}
 use Rattle.pua_audit.specs.declared.base.Base.TheVariants.{Root, Cwd}
 use Rattle.pua_audit.specs.declared.fault.AuditFault.TheVariants.{BadResume}
+use Rattle.pua_words.specs.declared.command.Processes.TheVariants.{One, All}
 use Rattle.pua_tool.specs.Texts.{Wanted, replayed, begun, run_text, audit_text}
 use Rattle.pua_tool.specs.ObjectTexts.{objects_text}
 use Rattle.pua_tool.specs.declared.fault.ToolFault.TheVariants.{Listing, Script, NoProcess, Audit}
@@ -21,6 +22,12 @@ ending = text_of_lines (codes "1 pledge = -" ∷ codes "1 stat /" ∷ codes "1 e
 
 abbrev pub forking : List ℕ
 forking = text_of_lines (codes "1 fork 2" ∷ codes "2 chdir /" ∷ [])
+
+abbrev pub veiling : List ℕ
+veiling = text_of_lines (codes "1 mkdir /d" ∷ codes "1 unveil /d rwc" ∷ codes "1 unveil /d/a\\040b =" ∷ codes "1 unveil /d rc" ∷ codes "1 pledge - =" ∷ codes "1 unveil - -" ∷ [])
+
+abbrev pub pairing : List ℕ
+pairing = text_of_lines (codes "1 fork 7" ∷ codes "7 pledge = -" ∷ codes "1 exit" ∷ [])
 
 abbrev pub plain_job : Wanted
 plain_job = record { limit = 2; process = 1; base = Root; after = None; candidates = codes "a" ∷ [] }
@@ -38,9 +45,15 @@ pub record TextRows : Type 0 where
       ≡ Ok (text_of_lines (codes "1 ok" ∷ codes "2 killed" ∷ codes "3 gone" ∷ codes "reach 1" ∷ []))
   pub another_process : audit_text None root_alone forking (record plain_job { limit = 0; process = 2; base = Cwd })
       ≡ Ok (text_of_lines (codes "1 ok" ∷ codes "2 ok" ∷ codes "reach 2" ∷ codes ". stat" ∷ codes ". lstat" ∷ codes ". open-r" ∷ codes ". chmod" ∷ codes ". chdir" ∷ []))
-  pub objects : objects_text None root_alone creating_alone 1 ≡ Ok (text_of_lines (codes "1 ok" ∷ codes "objects 1" ∷ codes "other / mkdir,symlink" ∷ []))
-  pub ended_objects : objects_text None root_alone ending 1 ≡ Ok (text_of_lines (codes "1 ok" ∷ codes "2 killed" ∷ codes "3 gone" ∷ codes "objects 1" ∷ []))
-  pub never_listed : objects_text None root_alone [] 2 ≡ Err NoProcess
+  pub objects : objects_text None root_alone creating_alone (One 1)
+      ≡ Ok (text_of_lines (codes "1 ok" ∷ codes "objects 1" ∷ codes "process alive" ∷ codes "promises cpath,stdio" ∷ codes "execpromises -" ∷ codes "unveil given-up" ∷ codes "other / mkdir,symlink" ∷ []))
+  pub ended_objects : objects_text None root_alone ending (One 1) ≡ Ok (text_of_lines (codes "1 ok" ∷ codes "2 killed" ∷ codes "3 gone" ∷ codes "objects 1" ∷ codes "process ended" ∷ []))
+  pub veiled_objects : objects_text None root_alone veiling (One 1)
+      ≡ Ok (text_of_lines (codes "1 ok" ∷ codes "2 ok" ∷ codes "3 ok" ∷ codes "4 ok" ∷ codes "5 ok" ∷ codes "6 ok" ∷ codes "objects 1" ∷ codes "process alive" ∷ codes "promises -" ∷ codes "execpromises =" ∷ codes "unveil locked"
+      ∷ codes "veil /d rc" ∷ codes "veil /d/a\\040b =" ∷ codes "dir /d stat,lstat,open-r,rmdir,chdir" ∷ codes "other /d mkdir,symlink" ∷ []))
+  pub all_objects : objects_text None root_alone pairing All
+      ≡ Ok (text_of_lines (codes "1 ok" ∷ codes "2 ok" ∷ codes "3 ok" ∷ codes "objects 1" ∷ codes "process ended" ∷ codes "objects 7" ∷ codes "process alive" ∷ codes "promises =" ∷ codes "execpromises -" ∷ codes "unveil given-up" ∷ []))
+  pub never_listed : objects_text None root_alone [] (One 2) ≡ Err NoProcess
   pub bad_listing : audit_text None (text_of_lines (codes "tree 1" ∷ codes "0 dir" ∷ codes "1 dir 0" ∷ [])) (codes "1") plain_job ≡ Err (Listing (BadLine 3))
   pub bad_script : audit_text None root_alone (codes "1 stat") (record plain_job { process = 2 }) ≡ Err (Script (BadCall 1))
   pub never_made : audit_text None root_alone [] (record plain_job { process = 2; limit = 17 }) ≡ Err NoProcess
@@ -58,6 +71,8 @@ text_rows = record {
   another_process = refl;
   objects = refl;
   ended_objects = refl;
+  veiled_objects = refl;
+  all_objects = refl;
   never_listed = refl;
   bad_listing = refl;
   bad_script = refl;

@@ -5,7 +5,9 @@ pub mod Named
 pub mod Held
 pub mod Statuses
 pub mod Texts
+pub mod States
 pub mod ObjectTexts
+pub mod Lists
 pub mod Begun
 pub mod Performed
 pub mod Futures

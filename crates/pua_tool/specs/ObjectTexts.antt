@@ -1,12 +1,16 @@
--- The text of the objects of a process, and what refuses it.
-use Rattle.std.specs.Prelude.{◌≡◌, ℕ, List, ◌++◌, flat_map, Option, Result, Ok, Err, codes, ok_or, decimal}
+-- The text of the lists of processes, and what refuses it.
+use Rattle.std.specs.Prelude.{◌≡◌, ℕ, List, [], ◌∷◌, ◌++◌, map, flat_map, Option, option_map, Result, Ok, Err, codes, ok_or, decimal}
+use Rattle.std.specs.Option.{option_map_or}
 use Rattle.pua_tree.specs.Tree.{Tree}
 use Rattle.pua_tree.specs.Steps.{◌>>=◌}
 use Rattle.pua_policy.specs.Calls.{CallTable}
 use Rattle.pua_policy.specs.History.{History}
-use Rattle.pua_script.specs.Replay.{history_of}
+use Rattle.pua_script.specs.Replay.{World, history_of}
 use Rattle.pua_script.specs.declared.answer.Answer.{Answer}
 use Rattle.pua_objects.specs.Objects.{Line, line_text, objects}
+use Rattle.pua_words.specs.declared.command.Processes.{Processes}
+use Rattle.pua_words.specs.declared.command.Processes.TheVariants.{One, All}
+use Rattle.pua_tool.specs.States.{own_lines, living_veils, veil_lines}
 use Rattle.pua_tool.specs.Texts.{ended, answer_lines, replayed}
 use Rattle.pua_tool.specs.declared.fault.ToolFault.{ToolFault}
 use Rattle.pua_tool.specs.declared.fault.ToolFault.TheVariants.{NoProcess, Write, OutOfMemory}
@@ -18,16 +22,32 @@ object_lines t lines = flat_map (λ line. ended (line_text t line)) lines
 abbrev pub objects_line : ℕ → List ℕ
 objects_line process = ended (codes "objects " ++ decimal process)
 
--- the answers and the heading, and a line for each object on which a history allows a call
-abbrev pub objects_after : CallTable → ℕ → List Answer → Tree → History → List ℕ
-objects_after table process told t h = (answer_lines 1 told ++ objects_line process) ++ object_lines t (objects t table h)
+-- the list of a process: its heading, its state, and a line for each object on which its history allows a call
+abbrev pub process_list : CallTable → Tree → ℕ → History → List ℕ
+process_list table t process h = (objects_line process ++ own_lines h) ++ (veil_lines t (living_veils h) ++ object_lines t (objects t table h))
 
--- the objects of a process at the end of a script over a listing, or the first fault: the table's, the listing's, the script's, or a process never made
-unfoldable pub objects_text : Option (List ℕ) → List ℕ → List ℕ → ℕ → Result (List ℕ) ToolFault
-objects_text table_bytes tree_bytes script_bytes process = do
+-- a number that was never made has no list
+abbrev pub list_of : CallTable → World → ℕ → List ℕ
+list_of table w process = option_map_or (process_list table w.tree process) (history_of w process) []
+
+abbrev pub lists_of : CallTable → World → List ℕ → List ℕ
+lists_of table w numbers = flat_map (list_of table w) numbers
+
+-- the number that is asked for, if it was made; or those of all processes that were ever made, in ascending order
+abbrev pub numbers_asked : World → Processes → Result (List ℕ) ToolFault
+numbers_asked w (One process) = ok_or (option_map (λ h. process ∷ []) (history_of w process)) NoProcess
+numbers_asked w All = Ok (map (λ made. made.0) w.histories)
+
+-- the answers, and then the lists
+abbrev pub objects_after : CallTable → List Answer → World → List ℕ → List ℕ
+objects_after table told w numbers = answer_lines 1 told ++ lists_of table w numbers
+
+-- the lists of processes at the end of a script over a listing, or the first fault: the table's, the listing's, the script's, or a process never made
+unfoldable pub objects_text : Option (List ℕ) → List ℕ → List ℕ → Processes → Result (List ℕ) ToolFault
+objects_text table_bytes tree_bytes script_bytes which = do
   done ← replayed table_bytes tree_bytes script_bytes
-  h ← ok_or (history_of done.world process) NoProcess
-  Ok (objects_after done.table process done.told done.world.tree h)
+  numbers ← numbers_asked done.world which
+  Ok (objects_after done.table done.told done.world numbers)
 
 -- why a text was not told, or not whole: a put failed after a front of it, or memory was refused before it
 abbrev pub IsUntold : List ℕ → ToolFault → Option (List ℕ) → Option (List ℕ) → ℕ → ℕ → Type 0

@@ -20,7 +20,7 @@ use Rattle.pua_tool.specs.ObjectTexts.{objects_text}
 abbrev pub text_asked : Text → Option (List ℕ) → List ℕ → List ℕ → Result (List ℕ) ToolFault
 text_asked Run table tree script = run_text table tree script
 text_asked (Audit words) table tree script = audit_text table tree script (wanted_by words)
-text_asked (Objects words) table tree script = objects_text table tree script words.process
+text_asked (Objects words) table tree script = objects_text table tree script words.processes
 
 -- the table's bytes are held under its name, or no table is named and there are none
 abbrev pub HoldsTable : Held → Option (Bor (List ℕ)) → Option (List ℕ) → Type 0

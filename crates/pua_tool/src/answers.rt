@@ -2,7 +2,6 @@
 
 ghost use Rattle.std.specs.Prelude.{◌≡◌, ◌++◌, IfOk, OnOk, string_bytes, option_map};
 ghost use Rattle.pua_tool.specs.Texts.{answer_line, answer_lines, front_of};
-ghost use Rattle.pua_tool.specs.ObjectTexts.{objects_line};
 
 use pua_script::Answer;
 use std::alloc::{AllocError, Global};
@@ -41,17 +40,4 @@ pub(crate) fn front_text(
     let mut text = answer_text(alloc, told)?;
     writeln!(text, "reach {process}")?;
     Ok(text)
-}
-
-/// What stands before the lines of the objects: the answers and the heading.
-pub(crate) fn objects_front(
-    alloc: Global,
-    told: &[Answer],
-    process: u32,
-) -> Result<String, AllocError>
-    ensures { IfOk result (λ front. string_bytes front ≡ answer_lines 1 told.now ++ objects_line process) }
-{
-    let mut front = answer_text(alloc, told)?;
-    writeln!(front, "objects {process}")?;
-    Ok(front)
 }

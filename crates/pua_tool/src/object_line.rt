@@ -1,4 +1,4 @@
-//! The lines of the objects of a list, written in blocks.
+//! The lines of the objects of a list, added to a block.
 
 ghost use Rattle.std.specs.Prelude.{◌≡◌, ◌≤◌, ◌+◌, ◌++◌, ◌∷◌, [], if◌then◌else◌, length, map, vec_capacity, vec_len};
 ghost use Rattle.pua_policy.specs.Calls.{call_name};
@@ -12,31 +12,30 @@ ghost use Rattle.pua_objects.specs.Ready.{lines_of};
 ghost use Rattle.pua_tree.specs.Spelling.{spelling};
 ghost use Rattle.pua_tool.specs.Blocks.{Passes};
 ghost use Rattle.pua_tool.specs.ObjectTexts.{object_lines};
-ghost use Rattle.pua_tool.specs.Sinks.{Writes};
 ghost use Rattle.pua_tool.specs.Texts.{ended};
 
 use crate::line::{BLOCK, MOST_LINE, MOST_NAME, add_call, add_printed, make_room};
-use crate::sink::{PutFault, Sink, put_all};
+use crate::sink::{PutFault, Sink};
 use pua_objects::{ObjectKind, ObjectLine, Objects};
 use pua_policy::{Call, Calls};
 use pua_tree::{FileTree, Name};
 
-/// Writes a line for each object that a list has still to give: many of them in a block, which is
-/// put where the next part of a line might not fit, and after the last. Its memory is used again, so
-/// a path may be as long as it is.
-pub(crate) fn write_objects<T: FileTree, S: Sink>(
-    list: &mut Objects<'_, T>,
+/// Adds a line for each object that a list has still to give. A block is put where the next part of a
+/// line might not fit. Its memory is used again, so a path may be as long as it is.
+pub(crate) fn add_objects<T: FileTree, S: Sink>(
     block: &mut Vec<u8>,
+    list: &mut Objects<'_, T>,
     sink: &mut S,
 ) -> Result<(), PutFault>
-    requires empty { block.old.items ≡ [] }
-    requires room { BLOCK ≤ vec_capacity block.old }
-    ensures { (h : History) → StandsFor list.old.process h → Writes (object_lines list.old.tree (lines_of list.old.tree list.old.table h list.old.left)) result (S.written sink.old) (S.written sink.new) (S.failed sink.old) (S.failed sink.new) }
+    requires { BLOCK ≤ vec_capacity block.old }
+    ensures lines { (h : History) → StandsFor list.old.process h → Passes (object_lines list.old.tree (lines_of list.old.tree list.old.table h list.old.left)) result
+        block.old.items block.new.items (S.written sink.old) (S.written sink.new) (S.failed sink.old) (S.failed sink.new) }
+    ensures room { BLOCK ≤ vec_capacity block.new }
 {
     while let Some(line) = list.next_line() {
         add_line(block, line, list.word(), sink)?;
     }
-    put_all(sink, block.as_slice())
+    Ok(())
 }
 
 /// Adds the line of what stands at the end of these names.
@@ -72,7 +71,11 @@ fn kind_bytes(kind: ObjectKind) -> &'static [u8]
 }
 
 /// Adds the path that leads by these names from the root, as it is printed, and a blank.
-fn add_path<S: Sink>(block: &mut Vec<u8>, word: &[&Name], sink: &mut S) -> Result<(), PutFault>
+pub(crate) fn add_path<S: Sink>(
+    block: &mut Vec<u8>,
+    word: &[&Name],
+    sink: &mut S,
+) -> Result<(), PutFault>
     requires { BLOCK ≤ vec_capacity block.old }
     ensures path { Passes (printed_path base.Root (map (λ name. name.now) word.now) ++ 32 ∷ []) result
         block.old.items block.new.items (S.written sink.old) (S.written sink.new) (S.failed sink.old) (S.failed sink.new) }
@@ -142,7 +145,11 @@ fn add_next(block: &mut Vec<u8>, is_first: bool, call: Call)
 }
 
 /// Adds bytes: no more than a line of an audit takes while it is written.
-fn add_bytes<S: Sink>(block: &mut Vec<u8>, bytes: &[u8], sink: &mut S) -> Result<(), PutFault>
+pub(crate) fn add_bytes<S: Sink>(
+    block: &mut Vec<u8>,
+    bytes: &[u8],
+    sink: &mut S,
+) -> Result<(), PutFault>
     requires short { length bytes.now ≤ MOST_LINE }
     requires room { BLOCK ≤ vec_capacity block.old }
     ensures bytes { Passes bytes.now result

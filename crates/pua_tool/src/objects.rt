@@ -1,31 +1,43 @@
-//! The text of the objects of a process.
+//! The text of the lists of processes.
 
-ghost use Rattle.std.specs.Prelude.{◌≡◌, ◌≢◌, ◌≤◌, ◌++◌, ℕ, List, [], Option, Ok, Err, IfErr, OnOk, vec_capacity};
-ghost use Rattle.pua_policy.specs.History.{History, StandsFor};
-ghost use Rattle.pua_objects.specs.Objects.{objects};
-ghost use Rattle.pua_objects.specs.Ready.{lines_of};
-ghost use Rattle.pua_tool.specs.ObjectTexts.{Tells, object_lines, objects_text};
+ghost use Rattle.std.specs.Prelude.{◌≡◌, ◌≢◌, ◌≤◌, ◌++◌, ℕ, List, [], Option, Ok, Err, IfOk, IfErr, OnOk, vec_capacity};
+ghost use Rattle.pua_policy.specs.Calls.{CallTable as Rules};
+ghost use Rattle.pua_script.specs.Replay.{World as Replayed};
+ghost use Rattle.pua_script.specs.Worlds.{StandsForWorld};
+ghost use Rattle.pua_words.specs.declared.command.Processes.TheVariants as which;
+ghost use Rattle.pua_tool.specs.Blocks.{Passes};
+ghost use Rattle.pua_tool.specs.Lists.{AreListsOf};
+ghost use Rattle.pua_tool.specs.ObjectTexts.{Tells, lists_of, numbers_asked, objects_text};
 ghost use Rattle.pua_tool.specs.Texts.{given};
 ghost use Rattle.pua_tool.specs.Sinks.{Adds, AddsFront, HasFailed, Writes};
 
-use crate::answers::objects_front;
+use crate::answers::answer_text;
 use crate::fault::ToolFault;
 use crate::line::BLOCK;
-use crate::object_line::write_objects;
+use crate::places::Places;
+use crate::process_list::ProcessList;
 use crate::script::{Replay, replay_script};
 use crate::sink::{PutFault, Sink, put_all};
-use pua_objects::Objects;
-use pua_policy::{CallTable, Process};
-use pua_tree::FileTree;
+use pua_script::World;
+use pua_tree::{FileTree, OutOfMemory};
+use pua_words::Processes;
 use std::alloc::Global;
+use std::collections::VecDeque;
 
-/// Writes the text of the objects that a process can still touch: for each line of the script its
-/// number and what it was answered, then `objects P`, and then a line `KIND PATH CALLS` for each
-/// object on which a call is allowed where the script ends, each once: a directory, its further
-/// names, then what has or could have a name in it by the bytes of the names, each directory
-/// followed by what is below it. Paths begin at the root and may have any length. A process that has
-/// ended has no lines. What a call needs is said by the text with the table of calls, or by the
-/// standard table where there is none.
+/// Writes the lists of processes, of one or of all that were ever made, in the order of their numbers:
+/// for each line of the script its number and what it was answered, then for each process `objects P`,
+/// the lines of its state where the script ends, and a line `KIND PATH CALLS` for each object on which
+/// a call is allowed, each once: a directory, its further names, then what has or could have a name in
+/// it by the bytes of the names, each directory followed by what is below it. Paths begin at the root
+/// and may have any length.
+///
+/// The state of a process that has ended is `process ended`, and it has no objects. Otherwise it is
+/// `process alive`; `promises` and `execpromises` with the keywords, `=` for none, and `-` where no
+/// pledge gave any; `unveil` with `locked`, with `given-up` where it isn't locked and lacks the promise
+/// `unveil`, or with `open`; and for each veil that is kept, in the order in which their places were
+/// first kept, `veil PATH LETTERS`: where its place stands now, `-` where its directory was removed,
+/// and its letters, `=` for none. What a call needs is said by the text with the table of calls, or by
+/// the standard table where there is none.
 ///
 /// The first that holds of `Table`, `Listing`, `Script` and `NoProcess` is answered before anything is
 /// written. So is `OutOfMemory`, wherever a growth was refused. `Write` is answered only where a put
@@ -35,55 +47,109 @@ pub fn objects_to<S: Sink>(
     tree_bytes: &[u8],
     script_bytes: &[u8],
     table: Option<&[u8]>,
-    process: u32,
+    processes: Processes,
     sink: &mut S,
 ) -> Result<(), ToolFault>
-    ensures whole { OnOk result ((text : List ℕ) × (objects_text (given table.entry) tree_bytes.now script_bytes.now process ≡ Ok text) × Adds text (S.written sink.old) (S.written sink.new)) }
+    ensures whole { OnOk result ((text : List ℕ) × (objects_text (given table.entry) tree_bytes.now script_bytes.now processes ≡ Ok text) × Adds text (S.written sink.old) (S.written sink.new)) }
     ensures unfailed { OnOk result (S.failed sink.new ≡ S.failed sink.old) }
-    ensures write { result ≡ Err ToolFault.Write → (text : List ℕ) × (objects_text (given table.entry) tree_bytes.now script_bytes.now process ≡ Ok text)
+    ensures write { result ≡ Err ToolFault.Write → (text : List ℕ) × (objects_text (given table.entry) tree_bytes.now script_bytes.now processes ≡ Ok text)
         × AddsFront text (S.written sink.old) (S.written sink.new) × HasFailed (S.failed sink.old) (S.failed sink.new) }
     ensures refused { IfErr result (λ fault. fault ≢ ToolFault.Write → fault ≢ ToolFault.OutOfMemory →
-        (objects_text (given table.entry) tree_bytes.now script_bytes.now process ≡ Err fault)) }
+        (objects_text (given table.entry) tree_bytes.now script_bytes.now processes ≡ Err fault)) }
     ensures unwritten { IfErr result (λ fault. fault ≢ ToolFault.Write → S.written sink.new ≡ S.written sink.old) }
 {
     let Replay { world, told } = replay_script(alloc, tree_bytes, script_bytes, table)?;
-    let Some(known) = world.process(process) else {
-        return Err(ToolFault::NoProcess);
-    };
-    let Ok(front) = objects_front(alloc, told.as_slice(), process) else {
+    let numbers = numbers_of(alloc, &world, processes)?;
+    let Ok(front) = answer_text(alloc, told.as_slice()) else {
         return Err(ToolFault::OutOfMemory);
     };
-    list_to(
-        alloc,
-        world.tree(),
-        known,
-        world.table(),
-        front.as_str(),
-        sink,
-    )
+    lists_to(alloc, &world, numbers.as_slice(), front.as_str(), sink)
 }
 
-/// Writes the front of a text, and then a line for each object of a tree on which a process is
-/// allowed a call by a table. `OutOfMemory` is answered before anything is written, and no other fault but
-/// `Write`.
-fn list_to<T: FileTree, S: Sink>(
+/// The numbers of the processes that are asked for: `NoProcess` where the one that is named was never
+/// made. The only other fault is `OutOfMemory`, where a growth was refused.
+fn numbers_of<T: FileTree>(
     alloc: Global,
-    tree: &T,
-    process: &Process,
-    table: &CallTable,
+    world: &World<T>,
+    processes: Processes,
+) -> Result<Vec<u32>, ToolFault>
+    ensures asked { IfOk result (λ numbers. (w : Replayed) → StandsForWorld world.now w → numbers_asked w processes ≡ Ok numbers.items) }
+    ensures refused { IfErr result (λ fault. fault ≢ ToolFault.OutOfMemory → (w : Replayed) → StandsForWorld world.now w → numbers_asked w processes ≡ Err fault) }
+    ensures unwritten { IfErr result (λ fault. fault ≢ ToolFault.Write) }
+{
+    match processes {
+        Processes::One(number) => one_number(alloc, world, number),
+        Processes::All => match world.numbers(alloc) {
+            Ok(numbers) => Ok(numbers),
+            Err(OutOfMemory) => Err(ToolFault::OutOfMemory),
+        },
+    }
+}
+
+/// The number of a process that was made.
+fn one_number<T: FileTree>(
+    alloc: Global,
+    world: &World<T>,
+    number: u32,
+) -> Result<Vec<u32>, ToolFault>
+    ensures asked { IfOk result (λ numbers. (w : Replayed) → StandsForWorld world.now w → numbers_asked w (which.One number) ≡ Ok numbers.items) }
+    ensures refused { IfErr result (λ fault. fault ≢ ToolFault.OutOfMemory → (w : Replayed) → StandsForWorld world.now w → numbers_asked w (which.One number) ≡ Err fault) }
+    ensures unwritten { IfErr result (λ fault. fault ≢ ToolFault.Write) }
+{
+    if world.process(number).is_none() {
+        return Err(ToolFault::NoProcess);
+    }
+    let Ok(numbers) = vec![in alloc; number] else {
+        return Err(ToolFault::OutOfMemory);
+    };
+    Ok(numbers)
+}
+
+/// Writes the front of a text, and then the lists of these processes, of which those are left out that
+/// were never made. `OutOfMemory` is answered before anything is written, and no other fault but
+/// `Write`.
+fn lists_to<T: FileTree, S: Sink>(
+    alloc: Global,
+    world: &World<T>,
+    numbers: &[u32],
     front: &str,
     sink: &mut S,
 ) -> Result<(), ToolFault>
-    ensures { (h : History) → StandsFor process.now h → Tells (front.now ++ object_lines (T.content tree.now) (objects (T.content tree.now) table.now h)) result
+    ensures { (w : Replayed) → StandsForWorld world.now w → Tells (front.now ++ lists_of world.now.table w numbers.now) result
         (S.written sink.old) (S.written sink.new) (S.failed sink.old) (S.failed sink.new) }
 {
-    let Ok(mut list) = Objects::begin(alloc, tree, process, table) else {
+    let Ok(mut lists) = begin_lists(alloc, world, numbers) else {
+        return Err(ToolFault::OutOfMemory);
+    };
+    let Ok(mut places) = Places::new(alloc, world.tree()) else {
         return Err(ToolFault::OutOfMemory);
     };
     let Ok(mut block) = Vec::with_capacity(alloc, BLOCK) else {
         return Err(ToolFault::OutOfMemory);
     };
-    told(write_text(&mut list, front, &mut block, sink))
+    told(write_text(front, &mut lists, &mut places, &mut block, sink))
+}
+
+/// Begins the list of each of these processes that was ever made. The only error is that a growth was
+/// refused.
+fn begin_lists<'t, T: FileTree>(
+    alloc: Global,
+    world: &'t World<T>,
+    numbers: &[u32],
+) -> Result<VecDeque<ProcessList<'t, T>>, OutOfMemory>
+    ensures { IfOk result (λ lists. (w : Replayed) → StandsForWorld world.now w → AreListsOf world.now.table w numbers.now lists.items) }
+{
+    let mut lists = VecDeque::new(alloc);
+    for number in numbers {
+        let Some(process) = world.process(*number) else {
+            continue;
+        };
+        let list = ProcessList::begin(alloc, world.tree(), world.table(), *number, process)?;
+        let Ok(()) = lists.push_back(list) else {
+            return Err(OutOfMemory);
+        };
+    }
+    Ok(lists)
 }
 
 /// What a writing left, as the tool reports it.
@@ -96,19 +162,38 @@ fn told(written: Result<(), PutFault>) -> Result<(), ToolFault>
     }
 }
 
-/// Writes the front of a text, and then a line for each object that a list has still to give. The
-/// front is put before the list is asked for its first line.
-fn write_text<T: FileTree, S: Sink>(
-    list: &mut Objects<'_, T>,
+/// Writes the front of a text, and then lists, one after another: the front before any line of
+/// them, and many lines in a block.
+fn write_text<'t, T: FileTree, S: Sink>(
     front: &str,
+    lists: &mut VecDeque<ProcessList<'t, T>>,
+    places: &mut Places<'t, T>,
     block: &mut Vec<u8>,
     sink: &mut S,
 ) -> Result<(), PutFault>
     requires empty { block.old.items ≡ [] }
     requires room { BLOCK ≤ vec_capacity block.old }
-    ensures { (h : History) → StandsFor list.old.process h → Writes (front.now ++ object_lines list.old.tree (lines_of list.old.tree list.old.table h list.old.left)) result
+    ensures { (table : Rules) (w : Replayed) (numbers : List ℕ) → places.old.tree ≡ w.tree → AreListsOf table w numbers lists.old.items → Writes (front.now ++ lists_of table w numbers) result
         (S.written sink.old) (S.written sink.new) (S.failed sink.old) (S.failed sink.new) }
 {
     put_all(sink, front.as_bytes())?;
-    write_objects(list, block, sink)
+    add_lists(block, lists, places, sink)?;
+    put_all(sink, block.as_slice())
+}
+
+/// Adds lists to a block, one after another.
+fn add_lists<'t, T: FileTree, S: Sink>(
+    block: &mut Vec<u8>,
+    lists: &mut VecDeque<ProcessList<'t, T>>,
+    places: &mut Places<'t, T>,
+    sink: &mut S,
+) -> Result<(), PutFault>
+    requires { BLOCK ≤ vec_capacity block.old }
+    ensures { (table : Rules) (w : Replayed) (numbers : List ℕ) → places.old.tree ≡ w.tree → AreListsOf table w numbers lists.old.items → Passes (lists_of table w numbers) result
+        block.old.items block.new.items (S.written sink.old) (S.written sink.new) (S.failed sink.old) (S.failed sink.new) }
+{
+    while let Some(mut list) = lists.pop_front() {
+        list.add_to(block, places, sink)?;
+    }
+    Ok(())
 }

@@ -159,6 +159,6 @@ fn write_text<O: Sink>(
     match text {
         Text::Run => run_to(alloc, tree, script, table, out),
         Text::Audit(words) => audit_to(alloc, tree, script, &job_of(words, table), out),
-        Text::Objects(words) => objects_to(alloc, tree, script, table, words.process, out),
+        Text::Objects(words) => objects_to(alloc, tree, script, table, words.processes, out),
     }
 }

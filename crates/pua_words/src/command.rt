@@ -41,9 +41,18 @@ pub struct AuditWords<'a> {
     pub names: Vec<&'a [u8]>,
 }
 
+/// Of which processes a list of objects is asked.
+#[derive(Clone, Copy, Debug, PartialEq, Eq)]
+pub enum Processes {
+    /// The process of this number, 1 to 999,999 where the words of the command line named it.
+    One(u32),
+    /// All that were ever made, in the order of their numbers.
+    All,
+}
+
 /// What a list of objects is asked for, besides its inputs.
 #[derive(Clone, Copy, Debug)]
 pub struct ObjectWords {
-    /// The number of the process, 1 to 999,999 where the words of the command line named it.
-    pub process: u32,
+    /// The processes.
+    pub processes: Processes,
 }

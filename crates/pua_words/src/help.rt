@@ -6,7 +6,7 @@ pub(crate) const PROGRAM_USAGE: &str =
 
 /// How a list of objects is asked for, in one line.
 pub(crate) const OBJECTS_USAGE: &str =
-    "pua: usage: pua objects [--process P] [--table FILE] TREE SCRIPT";
+    "pua: usage: pua objects [--process P|all] [--table FILE] TREE SCRIPT";
 
 pub(crate) const PUA: &str =
     "Lists what a pledged and unveiled process may still do to a file tree";
@@ -29,6 +29,8 @@ pub(crate) const NAMES: &str = "Further components to try, spelled as in TREE: a
 pub(crate) const LIMIT: &str = "Most components of a path, from 0 to 16";
 
 pub(crate) const PROCESS: &str = "Number of the process, from 1 to 999999";
+
+pub(crate) const PROCESSES: &str = "Process number, 1 to 999999, or `all`";
 
 pub(crate) const BASE: &str = "Where paths begin";
 
@@ -119,12 +121,21 @@ pub(crate) const RUN_OUTPUT: &str = with_calls_and_faults!(
 
 pub(crate) const OBJECTS_OUTPUT: &str = with_calls_and_faults!(
     "\
-Prints what `pua run` prints, then `objects P`, then `KIND PATH CALLS` for each
-object on which a call is allowed. KIND is dir, file, prog or link; missing, a
-name that is not there but has a veil of its own; or other, all further names
-of the directory PATH. The calls stand in one order, with commas between them.
+Prints what `pua run` prints, then `objects P`, then the state of process P:
+  process alive       or `process ended`, which has no further line
+  promises LIST       - where none were ever pledged, = for none
+  execpromises LIST   the same of those of the program that it starts
+  unveil locked       or given-up, where it lacks the promise `unveil`; or open:
+                      it may put further veils, and the list holds for now alone
+  veil PATH LETTERS   a line for each veil, = for no letters; PATH is where its
+                      place stands now, - where the directory was removed
+Then `KIND PATH CALLS` for each object on which a call is allowed. KIND is dir,
+file, prog or link; missing, a name that is not there but has a veil of its own;
+or other, all further names of the directory PATH. The calls stand in one order,
+with commas between them. With `--process all` the lists of all processes that
+were ever made come one after another.
 
-Example: pua objects --process 2 TREE SCRIPT",
+Example: pua objects --process all TREE SCRIPT",
     "
   no such process      no fork of SCRIPT made it: its answer says why"
 );

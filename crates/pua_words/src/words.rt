@@ -1,10 +1,10 @@
 //! The words of the command line, read by `clap`.
 
 ghost use Rattle.std.specs.Prelude.{◌≡◌, ◌↔◌, IfErr, IfOk, IfSome, Some, codes, map, option_map};
-ghost use Rattle.pua_words.specs.Commands.{AsksSoundly, IsProcessNumber};
+ghost use Rattle.pua_words.specs.Commands.{AreSound, AsksSoundly, IsProcessNumber};
 ghost use Rattle.pua_words.specs.Usages.{IsStop, line_for};
 
-use crate::command::{AuditWords, Command, ObjectWords, Text};
+use crate::command::{AuditWords, Command, ObjectWords, Processes, Text};
 use crate::help;
 use crate::usage::UsageLine;
 use crate::version::VERSION;
@@ -110,7 +110,7 @@ fn objects_command<'a>(alloc: Global) -> Result<clap::Command<'a>, AllocError> {
     clap::Command::new(alloc, "objects")
         .about(help::OBJECTS)
         .after_help(help::OBJECTS_OUTPUT)
-        .arg(process(alloc))?
+        .arg(processes(alloc))?
         .arg(table(alloc))?
         .arg(tree(alloc))?
         .arg(script(alloc))
@@ -153,6 +153,15 @@ fn process<'a>(alloc: Global) -> Arg<'a> {
         .help(help::PROCESS)
         .default_value("1")
         .value_parser(value_parser!(u32).range(1..=i64::from(MOST_PROCESS)))
+}
+
+fn processes<'a>(alloc: Global) -> Arg<'a> {
+    Arg::new(alloc, "process")
+        .long("process")
+        .action(ArgAction::Set)
+        .value_name("P|all")
+        .help(help::PROCESSES)
+        .default_value("1")
 }
 
 fn base<'a>(alloc: Global) -> Arg<'a> {
@@ -227,11 +236,26 @@ fn read_inputs<'a>(found: &ArgMatches<'a>, text: Text<'a>) -> Option<Command<'a>
 }
 
 fn read_objects(found: &ArgMatches<'_>) -> Option<ObjectWords>
-    ensures { IfSome result (λ words. IsProcessNumber words.process) }
+    ensures { IfSome result (λ words. AreSound words.processes) }
 {
     Some(ObjectWords {
-        process: read_process(found)?,
+        processes: read_processes(found.get_str("process"))?,
     })
+}
+
+/// The process of a number, or all; None for any other text.
+fn read_processes(text: Option<&str>) -> Option<Processes>
+    ensures sound { IfSome result AreSound }
+    ensures all { (result ≡ Some Processes.All) ↔ (option_map (λ s. s.now) text.entry ≡ Some (codes "all")) }
+{
+    match text {
+        Some("all") => Some(Processes::All),
+        Some(number) => match number.parse::<u32>() {
+            Ok(process @ 1..=MOST_PROCESS) => Some(Processes::One(process)),
+            _ => None,
+        },
+        None => None,
+    }
 }
 
 fn read_audit<'a>(

@@ -5,8 +5,8 @@ use crate::LISTING;
 use anyhow::Result;
 use pua_audit::Base;
 use pua_tool::{
-    DONE, Job, MEMORY, MemoryInputs, MemorySink, Sink, ToolFault, audit_to, command, objects_to,
-    run_to,
+    DONE, Job, MEMORY, MemoryInputs, MemorySink, Processes, Sink, ToolFault, audit_to, command,
+    objects_to, run_to,
 };
 use std::alloc::Global;
 
@@ -23,8 +23,12 @@ const RUN: &[u8] = b"1 ok\n2 ok\n";
 const AUDIT: &[u8] =
     b"1 ok\n2 ok\nreach 1\n/../etc/passwd stat\n/../etc/passwd lstat\n/../etc/passwd open-r\n/../etc/passwd chmod\n/etc/passwd stat\n/etc/passwd lstat\n/etc/passwd open-r\n/etc/passwd chmod\n/t/up/passwd stat\n/t/up/passwd lstat\n/t/up/passwd open-r\n/t/up/passwd chmod\n/tmp/up/passwd stat\n/tmp/up/passwd lstat\n/tmp/up/passwd open-r\n/tmp/up/passwd chmod\n";
 
-/// What it may touch.
-const OBJECTS: &[u8] = b"1 ok\n2 ok\nobjects 1\nfile /etc/passwd stat,lstat,open-r,chmod\n";
+/// Its state, and what it may touch.
+const OBJECTS: &[u8] =
+    b"1 ok\n2 ok\nobjects 1\nprocess alive\npromises -\nexecpromises -\nunveil locked\nveil /etc/passwd r\nfile /etc/passwd stat,lstat,open-r,chmod\n";
+
+/// Of which processes the list is.
+const PROCESSES: Processes = Processes::All;
 
 /// What the audit is asked for.
 const JOB: Job<'static> = Job {
@@ -84,11 +88,11 @@ fn is_run(alloc: Global, again: &mut u32) -> Result<bool> {
 /// Whether a list of objects is written whole.
 fn is_listed(alloc: Global, again: &mut u32) -> Result<bool> {
     let mut sink = sink_made(alloc, again)?;
-    match objects_to(alloc, LISTING, SCRIPT, Some(TABLE), 1, &mut sink) {
+    match objects_to(alloc, LISTING, SCRIPT, Some(TABLE), PROCESSES, &mut sink) {
         Err(ToolFault::OutOfMemory) => {
             *again = again.saturating_add(1);
             let is_empty = sink.bytes().is_empty();
-            let answer = objects_to(alloc, LISTING, SCRIPT, Some(TABLE), 1, &mut sink);
+            let answer = objects_to(alloc, LISTING, SCRIPT, Some(TABLE), PROCESSES, &mut sink);
             Ok(is_empty && answer == Ok(()) && sink.bytes() == OBJECTS)
         }
         answer => Ok(answer == Ok(()) && sink.bytes() == OBJECTS),

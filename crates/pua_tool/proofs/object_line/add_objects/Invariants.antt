@@ -1,11 +1,11 @@
-use Rattle.std.proofs.Common.{◌≡◌, ◌≤◌, [], length, vec_capacity}
+use Rattle.std.proofs.Common.{◌≡◌, ◌≤◌, length, vec_capacity}
 use Rattle.pua_policy.specs.History.{History, StandsFor}
 use Rattle.pua_objects.specs.Ready.{lines_of}
 use Rattle.pua_tool.specs.ObjectTexts.{object_lines}
 use Rattle.pua_tool.proofs.Passing.{Passing}
-use Rattle.pua_tool.proofs.object_line.write_objects.Given as goal
+use Rattle.pua_tool.proofs.object_line.add_objects.Given as goal
 
--- the lines that were given are written or stand in the block, and the others are still to come
+-- the lines that were given are added, and the others are still to come
 abbrev pub invariant-loop-line : goal.invariant-loop-line
 invariant-loop-line g l = record {
   tree : l.list.tree ≡ l.fn.list.tree;
@@ -13,7 +13,7 @@ invariant-loop-line g l = record {
   table : l.list.table ≡ l.fn.list.table;
   room : 65536 ≤ vec_capacity l.block;
   lines : (h : History) → StandsFor l.fn.list.process h → Passing (object_lines l.fn.list.tree (lines_of l.fn.list.tree l.fn.list.table h l.fn.list.left)) (object_lines l.fn.list.tree (lines_of l.fn.list.tree l.fn.list.table h l.list.left))
-      [] l.block.items (g.S.Sink.written l.fn.sink) (g.S.Sink.written l.sink) (g.S.Sink.failed l.fn.sink) (g.S.Sink.failed l.sink);
+      l.fn.block.items l.block.items (g.S.Sink.written l.fn.sink) (g.S.Sink.written l.sink) (g.S.Sink.failed l.fn.sink) (g.S.Sink.failed l.sink);
 }
 
 abbrev pub decreases-loop-line : goal.decreases-loop-line

@@ -1,0 +1,44 @@
+-- Lists that the code has begun, as the definitions see them.
+use Rattle.std.specs.Prelude.{◌≡◌, ℕ, List, [], ◌∷◌, ◌++◌, Option, Some, None}
+use Rattle.pua_tree.specs.Tree.{Tree}
+use Rattle.pua_policy.specs.Calls.{CallTable}
+use Rattle.pua_policy.specs.History.{History, StandsFor}
+use Rattle.pua_policy.specs.declared.place.Place.{Place}
+use Rattle.pua_script.specs.Replay.{World, history_of}
+use Rattle.pua_audit.specs.Reach.{Word}
+use Rattle.pua_objects.specs.Objects.{objects}
+use Rattle.pua_objects.specs.ObjectsState.{ObjectsState}
+use Rattle.pua_objects.specs.Ready.{lines_of}
+use Rattle.pua_tool.specs.States.{own_lines, living_veils}
+use Rattle.pua_tool.specs.ObjectTexts.{objects_line}
+
+-- the tree in which places are looked for, and the names that lead to the one that was found last
+pub record PlacesState : Type 0 where
+  pub tree : Tree
+  pub names : Word
+
+-- the heading of a list with the first lines of the state, the veils, and the objects that are still to come
+pub record ListState : Type 0 where
+  pub head : List ℕ
+  pub veils : List (Place × ℕ)
+  pub objects : ObjectsState
+
+-- a list that was begun is that of a process with this number and history
+pub record IsListOf (table : CallTable) (t : Tree) (process : ℕ) (h : History) (list : ListState) : Type 0 where
+  pub head : list.head ≡ objects_line process ++ own_lines h
+  pub veils : list.veils ≡ living_veils h
+  pub tree : list.objects.tree ≡ t
+  pub rules : list.objects.table ≡ table
+  pub stands : StandsFor list.objects.process h
+  pub left : lines_of t table h list.objects.left ≡ objects t table h
+
+-- the first list is that of a number, if it was made
+abbrev pub BeginsWith : CallTable → Tree → ℕ → Option History → (List ListState → Type 0) → List ListState → Type 0
+BeginsWith table t process None Others lists = Others lists
+BeginsWith table t process (Some h) Others [] = ⊥
+BeginsWith table t process (Some h) Others (list ∷ more) = IsListOf table t process h list × Others more
+
+-- the lists that were begun are those of these numbers
+abbrev pub AreListsOf : CallTable → World → List ℕ → List ListState → Type 0
+AreListsOf table w [] lists = lists ≡ []
+AreListsOf table w (process ∷ more) lists = BeginsWith table w.tree process (history_of w process) (AreListsOf table w more) lists
