@@ -13,3 +13,7 @@ pub mod Complete
 pub mod NoExec
 pub mod Standing
 pub mod Standard
+pub mod KeptVeils
+pub mod Origin
+pub mod Opened
+pub mod Opening
