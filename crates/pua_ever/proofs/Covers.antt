@@ -1,15 +1,19 @@
 -- The cover of what stands in a row, by what it is.
-use Rattle.std.proofs.Common.{◌≡◌, ◌≢◌, ◌⊎◌, ◌<◌, ◌≤◌, ℕ, true, false, cond, refl, ap, ◌∙◌, inl, inr, ltb-true}
-use Rattle.std.specs.Prelude.{Option, Some, None, is_some, nat_lt, option_map}
-use Rattle.std.proofs.lemmas.Bool.{false≢true, ltb-false}
-use Rattle.pua_tree.specs.Tree.{Tree, Node, WellFormed, Spot, is_dir, is_dir_kind, is_living, look, node_at}
-use Rattle.pua_tree.proofs.ForCallers.{sound_from, row_of}
+use Rattle.std.proofs.Common.{◌≡◌, Bool, ◌≢◌, ◌⊎◌, ◌<◌, ◌≤◌, ℕ, true, false, cond, refl, sym, ap, ◌∙◌, inl, inr, ltb-true}
+use Rattle.std.specs.Prelude.{Option, Some, None, is_some, nat_lt, option_map, not, ◌==◌}
+use Rattle.std.specs.Option.{option_eq}
+use Rattle.std.proofs.lemmas.Bool.{false≢true, ltb-false, and_from, eq-eqb}
+use Rattle.pua_tree.specs.Tree.{Tree, Node, WellFormed, Spot, is_dir, is_dir_kind, is_living, look, node_at, above, parent}
+use Rattle.pua_tree.proofs.ForCallers.{sound_from, row_of, row_says, same_Some, None≢Some}
+use Rattle.pua_path.proofs.ForCallers.{above_lives}
 use Rattle.pua_path.specs.declared.found.Found.TheVariants.{Whole, Slot}
 use Rattle.pua_path.specs.declared.found.Way.TheVariants.{Named}
 use Rattle.pua_policy.specs.History.{History, kept}
-use Rattle.pua_policy.specs.Verdict.{cover}
+use Rattle.pua_policy.specs.Verdict.{cover, FoundFits}
 use Rattle.pua_policy.specs.declared.place.Place.TheVariants as place
+use Rattle.pua_policy.specs.declared.answer.Cover.{Cover}
 use Rattle.pua_policy.specs.declared.answer.Cover.TheVariants.{Only}
+use Rattle.pua_script.specs.Confinement.{object_in}
 use Rattle.pua_objects.specs.Objects.{cover_in}
 use Rattle.pua_objects.specs.Laws.{own_or}
 use Rattle.pua_objects.proofs.ForCallers.{covers_descend}
@@ -51,3 +55,22 @@ given_or_new t d =
       | true ↦ λ e. inl (ltb-true d t.next e)
       | false ↦ λ e. inr (ltb-false d t.next e)
     ] refl
+
+-- what stands in a row is of the tree
+pub row_fits : (t : Tree) → WellFormed t → (s : Spot) (x : ℕ) → look t s.0 s.1 ≡ Some x → FoundFits t (object_in t s x)
+row_fits t well s x row = by (is_dir t x) refl
+  where
+    by : (b : Bool) → is_dir t x ≡ b → FoundFits t (cond b (Whole x (Named s.0 s.1)) (Slot s.0 s.1 (Some x)))
+    by true is = is
+    by false is = and_from (is_dir t s.0) _ (row_says t (sound_from t well) s x row).0 (and_from _ _ (ap (λ o. option_eq ◌==◌ o (Some x)) row ∙ eq-eqb x x refl) (ap not is))
+
+-- the cover of the directory above one
+pub cover_over : (t : Tree) (h : History) → WellFormed t → (dir x : ℕ) (r : Option Cover) → parent t dir ≡ Some x
+    → r ≡ cond (is_dir t x) (Some (cover_in t h x)) None → r ≡ cond (is_dir t dir) (Some (cover_in t h (above t dir))) None
+cover_over t h well dir x r over is = by (is_dir t dir) over
+  where
+    by : (b : Bool) → cond b (Some (above t dir)) None ≡ Some x → r ≡ cond b (Some (cover_in t h (above t dir))) None
+    by true over =
+        let same : x ≡ above t dir = sym (same_Some (above t dir) x over) in
+        is ∙ ap (λ d. cond (is_dir t d) (Some (cover_in t h d)) None) same ∙ ap (λ b. cond b (Some (cover_in t h (above t dir))) None) (above_lives t dir well)
+    by false over = absurd (None≢Some x over)

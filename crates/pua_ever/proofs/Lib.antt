@@ -17,3 +17,4 @@ pub mod KeptVeils
 pub mod Origin
 pub mod Opened
 pub mod Opening
+pub mod Picked

@@ -1,0 +1,29 @@
+use Rattle.std.proofs.Common.{◌≡◌, [], ◌∷◌, ◌++◌, map, true, false, sym, ap, ◌∙◌}
+use Rattle.std.specs.Prelude.{filter_map, if◌then◌else◌}
+use Rattle.std.proofs.lemmas.List.{append-nil}
+use Rattle.pua_policy.specs.History.{has_veil}
+use Rattle.pua_policy.specs.declared.answer.Cover.TheVariants.{All}
+use Rattle.pua_ever.specs.Openings.{dir_opening, entrance, opened_dir}
+use Rattle.pua_ever.proofs.openings.gathered.Goals as goal
+use Rattle.pua_ever.proofs.openings.gathered.Goals.{then-not-is_veiled+in_ok-push, else-not-is_veiled}
+
+pub returns-clause-dirs : goal.returns-clause-dirs
+returns-clause-dirs g c = λ h stands.
+    let t = g.T.FileTree.content c.args.tree.now in
+    let given = filter_map (dir_opening t h) (map (λ place. place.now) c.args.places.now) in
+    let own : c.in_ok-dirs.dirs.items ≡ given = c.in_ok-dirs.ensures h stands in
+    elim c.if-not-is_veiled.branch [
+      | then-not-is_veiled+in_ok-push w ↦
+          let none : has_veil c.args.process.now.veils ≡ false = sym c.is_veiled.ensures ∙ w.if-not-is_veiled.true in
+          ap (λ v. v.items) w.dirs-is ∙ w.in_ok-push.ensures.items ∙ (λ i. own i ++ (if sym none i then [] else All ∷ []))
+      | else-not-is_veiled w ↦
+          let some : has_veil c.args.process.now.veils ≡ true = sym c.is_veiled.ensures ∙ w.if-not-is_veiled.false in
+          ap (λ v. v.items) w.dirs-is ∙ sym (append-nil c.in_ok-dirs.dirs.items) ∙ (λ i. own i ++ (if sym some i then [] else All ∷ []))
+    ]
+
+pub returns-clause-entrances : goal.returns-clause-entrances
+returns-clause-entrances g c = λ h stands.
+    let t = g.T.FileTree.content c.args.tree.now in
+    let places = map (λ place. place.now) c.args.places.now in
+    let opened : c.deref-2.result.now ≡ filter_map (opened_dir h) places = c.deref-2.ensures.value ∙ c.in_ok-opened.ensures h stands in
+    c.in_ok-entrances.ensures h stands ∙ (λ i. filter_map (entrance t h (c.deref.ensures.value i) (opened i)) places)

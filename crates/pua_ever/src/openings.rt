@@ -1,0 +1,429 @@
+//! Where things can come that are moved or made, by the veils of a process.
+
+ghost use Rattle.std.specs.Prelude.{◌≡◌, ◌++◌, ◌∷◌, [], ℕ, Some, None, true, not, ◌==◌, IfOk, IsTrue, filter_map, map, length, nat_lt, if◌then◌else◌};
+ghost use Rattle.std.specs.List.{list_any};
+ghost use Rattle.pua_tree.specs.Tree.{above, is_dir as lives_as_dir, look as node_at_name};
+ghost use Rattle.pua_policy.specs.History.{History, StandsFor, has_veil};
+ghost use Rattle.pua_script.specs.Confinement.{has_c as cover_has_c, object_in};
+ghost use Rattle.pua_objects.specs.Objects.{cover_in as cover_of_others};
+ghost use Rattle.pua_ever.specs.Ever.{row_cover as cover_of_row, is_free as can_be_free, can_empty, is_below as stands_below, dir_covers, name_covers, some_dir_has_c};
+ghost use Rattle.pua_ever.specs.Openings.{opening as opening_of, is_barred as barred_by, dir_opening as dir_opening_of, name_opening as name_opening_of, opened_dir as opened_dir_of, held_dir as held_dir_of, entrance as entrance_of, can_give_way as gives_way_to, is_outside as stands_outside, HaveSame};
+
+use pua_path::{Counted, Found, Way};
+use pua_policy::{Cover, Perms, Place, Process};
+use pua_tree::{FileTree, Kind, Name, NodeId, OutOfMemory};
+use std::alloc::{AllocError, Global};
+
+/// Where things can come that are moved or made.
+#[derive(Drop)]
+pub(crate) struct Openings {
+    /// The covers of directories that have `c`.
+    pub(crate) dirs: Vec<Cover>,
+    /// The covers under which a directory can come beside: at names with veils of their own, and in
+    /// the place of others.
+    pub(crate) entrances: Vec<Cover>,
+    /// The covers of names that have `c` by a veil of their own and can come to be free.
+    pub(crate) names: Vec<Cover>,
+    /// The directories in which something stands that has a veil of its own without `c`.
+    pub(crate) held: Vec<NodeId>,
+}
+
+/// Finds by the veils of a process where things can come that are moved or made: a directory under
+/// the covers of `dirs` and `entrances`, anything else at a name under those of `names`; some
+/// directory has `c` where `dirs` is not empty. A directory that has `c` can be emptied where it is
+/// not one of `held`. The only error is that a growth was refused. Each veil costs as many steps as
+/// its directory stands deep, and a veil on a directory as many times as there are veils.
+pub(crate) fn find_openings<T: FileTree>(
+    alloc: Global,
+    tree: &T,
+    process: &Process,
+) -> Result<Openings, OutOfMemory>
+    ensures dirs { IfOk result (λ found. (h : History) → StandsFor process.now h →
+        HaveSame (found.dirs.items
+        ++ found.entrances.items) (dir_covers (T.content tree.now) h)) }
+    ensures names { IfOk result (λ found. (h : History) → StandsFor process.now h →
+        HaveSame found.names.items (name_covers (T.content tree.now) h)) }
+    ensures some { IfOk result (λ found. (h : History) → StandsFor process.now h →
+        nat_lt 0 (length found.dirs.items) ≡ some_dir_has_c (T.content tree.now) h) }
+    ensures held { IfOk result (λ found. (h : History) (dir : ℕ) → StandsFor process.now h →
+        lives_as_dir (T.content tree.now) dir ≡ true →
+        cover_has_c (cover_of_others (T.content tree.now) h dir) ≡ true →
+        can_empty (T.content tree.now) h dir
+        ≡ not (list_any (λ other. other == dir) found.held.items)) }
+{
+    tree.known();
+    let places = process.places(alloc)?;
+    match gathered(alloc, tree, process, &places) {
+        Ok(found) => Ok(found),
+        Err(_) => Err(OutOfMemory),
+    }
+}
+
+/// What the veils at these places give.
+fn gathered<T: FileTree>(
+    alloc: Global,
+    tree: &T,
+    process: &Process,
+    places: &[&Place],
+) -> Result<Openings, AllocError>
+    ensures dirs { IfOk result (λ found. (h : History) → StandsFor process.now h →
+        found.dirs.items
+        ≡ filter_map (dir_opening_of (T.content tree.now) h) (map
+        (λ place. place.now) places.now)
+        ++ (if has_veil process.now.veils then [] else Cover.All ∷ [])) }
+    ensures entrances { IfOk result (λ found. (h : History) → StandsFor process.now h →
+        found.entrances.items
+        ≡ filter_map (entrance_of (T.content tree.now) h found.held.items (filter_map
+        (opened_dir_of h) (map (λ place. place.now) places.now))) (map
+        (λ place. place.now) places.now)) }
+    ensures names { IfOk result (λ found. (h : History) → StandsFor process.now h →
+        found.names.items
+        ≡ filter_map (name_opening_of (T.content tree.now) h) (map
+        (λ place. place.now) places.now)) }
+    ensures held { IfOk result (λ found. (h : History) → StandsFor process.now h →
+        found.held.items
+        ≡ filter_map (held_dir_of (T.content tree.now) h) (map
+        (λ place. place.now) places.now)) }
+{
+    let mut dirs = dir_openings(alloc, tree, process, places)?;
+    if !process.is_veiled() {
+        dirs.push(Cover::All)?;
+    }
+    let held = held_dirs(alloc, tree, process, places)?;
+    let opened = opened_dirs(alloc, process, places)?;
+    let entrances = entrances(alloc, tree, process, &held, &opened, places)?;
+    let names = name_openings(alloc, tree, process, places)?;
+    Ok(Openings {
+        dirs,
+        entrances,
+        names,
+        held,
+    })
+}
+
+/// The covers of directories that have `c` by a veil of their own.
+fn dir_openings<T: FileTree>(
+    alloc: Global,
+    tree: &T,
+    process: &Process,
+    places: &[&Place],
+) -> Result<Vec<Cover>, AllocError>
+    ensures { IfOk result (λ found. (h : History) → StandsFor process.now h → found.items
+        ≡ filter_map (dir_opening_of (T.content tree.now) h) (map
+        (λ place. place.now) places.now)) }
+{
+    places
+        .iter()
+        .filter_map(|place| dir_opening(tree, process, place))
+        .collect(alloc)
+}
+
+/// The covers of names that have `c` by a veil of their own and can come to be free.
+fn name_openings<T: FileTree>(
+    alloc: Global,
+    tree: &T,
+    process: &Process,
+    places: &[&Place],
+) -> Result<Vec<Cover>, AllocError>
+    ensures { IfOk result (λ found. (h : History) → StandsFor process.now h → found.items
+        ≡ filter_map (name_opening_of (T.content tree.now) h) (map
+        (λ place. place.now) places.now)) }
+{
+    places
+        .iter()
+        .filter_map(|place| name_opening(tree, process, place))
+        .collect(alloc)
+}
+
+/// The directories that have `c` by a veil, or in which a name has.
+fn opened_dirs(
+    alloc: Global,
+    process: &Process,
+    places: &[&Place],
+) -> Result<Vec<NodeId>, AllocError>
+    ensures { IfOk result (λ found. (h : History) → StandsFor process.now h → found.items
+        ≡ filter_map (opened_dir_of h) (map (λ place. place.now) places.now)) }
+{
+    places
+        .iter()
+        .filter_map(|place| opened_dir(process, place))
+        .collect(alloc)
+}
+
+/// The directories in which something stands that has no `c` by a veil of its own.
+fn held_dirs<T: FileTree>(
+    alloc: Global,
+    tree: &T,
+    process: &Process,
+    places: &[&Place],
+) -> Result<Vec<NodeId>, AllocError>
+    ensures { IfOk result (λ found. (h : History) → StandsFor process.now h → found.items
+        ≡ filter_map (held_dir_of (T.content tree.now) h) (map
+        (λ place. place.now) places.now)) }
+{
+    places
+        .iter()
+        .filter_map(|place| held_dir(tree, process, place))
+        .collect(alloc)
+}
+
+/// The covers under which a directory can come by a veil.
+fn entrances<T: FileTree>(
+    alloc: Global,
+    tree: &T,
+    process: &Process,
+    held: &[NodeId],
+    opened: &[NodeId],
+    places: &[&Place],
+) -> Result<Vec<Cover>, AllocError>
+    ensures { IfOk result (λ found. (h : History) → StandsFor process.now h → found.items
+        ≡ filter_map (entrance_of (T.content tree.now) h held.now opened.now) (map
+        (λ place. place.now) places.now)) }
+{
+    places
+        .iter()
+        .filter_map(|place| entrance(tree, process, held, opened, place))
+        .collect(alloc)
+}
+
+/// What a place's own veil leaves, if it has `c`.
+fn opening(process: &Process, place: &Place) -> Option<Cover>
+    ensures { (h : History) → StandsFor process.now h → result ≡ opening_of h place.now }
+{
+    match process.kept(place) {
+        Some(perms) if perms.contains(Perms::CREATE) => Some(Cover::Only(perms)),
+        _ => None,
+    }
+}
+
+/// Whether a place has a veil of its own, without `c`.
+fn is_barred(process: &Process, place: &Place) -> bool
+    ensures { (h : History) → StandsFor process.now h → result ≡ barred_by h place.now }
+{
+    match process.kept(place) {
+        Some(perms) => !perms.contains(Perms::CREATE),
+        None => false,
+    }
+}
+
+/// The cover of a directory that has `c` by its own veil.
+fn dir_opening<T: FileTree>(tree: &T, process: &Process, place: &Place) -> Option<Cover>
+    ensures { (h : History) → StandsFor process.now h → result
+        ≡ dir_opening_of (T.content tree.now) h place.now }
+{
+    match place {
+        Place::Dir(dir) if is_dir(tree, *dir) => opening(process, place),
+        _ => None,
+    }
+}
+
+/// The cover of a name that has `c` by its own veil and can come to be free.
+fn name_opening<T: FileTree>(tree: &T, process: &Process, place: &Place) -> Option<Cover>
+    ensures { (h : History) → StandsFor process.now h → result
+        ≡ name_opening_of (T.content tree.now) h place.now }
+{
+    match place {
+        Place::Slot(dir, name) if is_dir(tree, *dir) && is_free(tree, process, *dir, name) => {
+            opening(process, place)
+        }
+        _ => None,
+    }
+}
+
+/// The directory that has `c` by this veil, or in which a name has.
+fn opened_dir(process: &Process, place: &Place) -> Option<NodeId>
+    ensures { (h : History) → StandsFor process.now h → result ≡ opened_dir_of h place.now }
+{
+    let (Place::Dir(dir) | Place::Slot(dir, _)) = place;
+    if opening(process, place).is_some() {
+        Some(*dir)
+    } else {
+        None
+    }
+}
+
+/// The directory in which something stands that has no `c` by this veil.
+fn held_dir<T: FileTree>(tree: &T, process: &Process, place: &Place) -> Option<NodeId>
+    ensures { (h : History) → StandsFor process.now h → result
+        ≡ held_dir_of (T.content tree.now) h place.now }
+{
+    if !is_barred(process, place) {
+        return None;
+    }
+    match place {
+        Place::Dir(dir) if *dir == NodeId::ROOT => None,
+        Place::Dir(dir) => tree.parent(*dir),
+        Place::Slot(dir, name) => match tree.look(*dir, name) {
+            Some(node) if !is_dir(tree, node) => Some(*dir),
+            _ => None,
+        },
+    }
+}
+
+/// The cover under which a directory can come by this veil.
+fn entrance<T: FileTree>(
+    tree: &T,
+    process: &Process,
+    held: &[NodeId],
+    opened: &[NodeId],
+    place: &Place,
+) -> Option<Cover>
+    ensures { (h : History) → StandsFor process.now h → result
+        ≡ entrance_of (T.content tree.now) h held.now opened.now place.now }
+{
+    if opening(process, place).is_none() {
+        return None;
+    }
+    match place {
+        Place::Slot(dir, name) if is_free(tree, process, *dir, name) => {
+            cover_in(tree, process, *dir)
+        }
+        Place::Dir(dir) if *dir != NodeId::ROOT && can_give_way(tree, held, opened, *dir) => {
+            cover_above(tree, process, *dir)
+        }
+        _ => None,
+    }
+}
+
+/// Whether another directory can come in the place of one that has `c`: nothing in it stays for
+/// ever, and something has `c` that isn't in it.
+fn can_give_way<T: FileTree>(tree: &T, held: &[NodeId], opened: &[NodeId], dir: NodeId) -> bool
+    ensures { result ≡ gives_way_to (T.content tree.now) held.now opened.now dir }
+{
+    !held.contains(&dir) && is_any_outside(tree, opened, dir)
+}
+
+/// Whether one of these directories is neither another one nor below it.
+fn is_any_outside<T: FileTree>(tree: &T, dirs: &[NodeId], other: NodeId) -> bool
+    ensures { result ≡ list_any (stands_outside (T.content tree.now) other) dirs.now }
+{
+    dirs.iter().any(|dir| is_outside(tree, *dir, other))
+}
+
+/// Whether a name in a directory can come to be free: nothing stands there, or what does has `c`.
+fn is_free<T: FileTree>(tree: &T, process: &Process, dir: NodeId, name: &Name) -> bool
+    ensures { (h : History) → StandsFor process.now h → result
+        ≡ can_be_free (T.content tree.now) h (dir, name.now) }
+{
+    match tree.look(dir, name) {
+        Some(node) => has_c(row_cover(tree, process, dir, name, node)),
+        None => true,
+    }
+}
+
+/// What covers that which stands in a row.
+fn row_cover<T: FileTree>(
+    tree: &T,
+    process: &Process,
+    dir: NodeId,
+    name: &Name,
+    node: NodeId,
+) -> Cover
+    requires { node_at_name (T.content tree.now) dir name.now ≡ Some node }
+    ensures { (h : History) → StandsFor process.now h → result
+        ≡ cover_of_row (T.content tree.now) h (dir, name.now) node }
+{
+    tree.known();
+    let found = found_in(tree, dir, name, node);
+    process.cover(&mut Counted::new(tree), &found)
+}
+
+/// What stands in a row, as a path names it.
+fn found_in<T: FileTree>(tree: &T, dir: NodeId, name: &Name, node: NodeId) -> Found
+    ensures { result ≡ object_in (T.content tree.now) (dir, name.now) node }
+{
+    if is_dir(tree, node) {
+        let way = Way::Named {
+            parent: dir,
+            name: *name,
+        };
+        return Found::Whole { dir: node, way };
+    }
+    Found::Slot {
+        dir,
+        name: *name,
+        node: Some(node),
+    }
+}
+
+/// What the veils leave of the further names of the directory above a directory.
+fn cover_above<T: FileTree>(tree: &T, process: &Process, dir: NodeId) -> Option<Cover>
+    ensures { (h : History) → StandsFor process.now h → result
+        ≡ (if lives_as_dir (T.content tree.now) dir then Some (cover_of_others
+        (T.content tree.now) h (above (T.content tree.now) dir)) else None) }
+{
+    tree.known();
+    let Some(above) = tree.parent(dir) else {
+        return None;
+    };
+    cover_in(tree, process, above)
+}
+
+/// What the veils leave of the further names of a directory.
+fn cover_in<T: FileTree>(tree: &T, process: &Process, dir: NodeId) -> Option<Cover>
+    ensures { (h : History) → StandsFor process.now h → result
+        ≡ (if lives_as_dir (T.content tree.now) dir then Some (cover_of_others
+        (T.content tree.now) h dir) else None) }
+{
+    if !is_dir(tree, dir) {
+        return None;
+    }
+    Some(cover_of_dir(tree, process, dir))
+}
+
+/// What the veils leave of a living directory.
+fn cover_of_dir<T: FileTree>(tree: &T, process: &Process, dir: NodeId) -> Cover
+    requires { lives_as_dir (T.content tree.now) dir ≡ true }
+    ensures { (h : History) → StandsFor process.now h → result
+        ≡ cover_of_others (T.content tree.now) h dir }
+{
+    tree.known();
+    let found = Found::Whole { dir, way: Way::Top };
+    process.cover(&mut Counted::new(tree), &found)
+}
+
+/// Whether a directory is neither another one nor below it.
+fn is_outside<T: FileTree>(tree: &T, dir: NodeId, other: NodeId) -> bool
+    ensures { result ≡ stands_outside (T.content tree.now) other dir }
+{
+    is_dir(tree, dir) && !is_below(tree, dir, other)
+}
+
+/// Whether a directory is this node, or stands below it.
+fn is_below<T: FileTree>(tree: &T, dir: NodeId, node: NodeId) -> bool
+    requires { IsTrue (lives_as_dir (T.content tree.now) dir) }
+    ensures { result ≡ stands_below (T.content tree.now) node dir }
+{
+    tree.known();
+    let mut at = dir;
+    loop {
+        if at == node {
+            return true;
+        }
+        if at == NodeId::ROOT {
+            return false;
+        }
+        let Some(above) = tree.parent(at) else {
+            return false;
+        };
+        at = above;
+    }
+}
+
+/// Whether a number is that of a living directory.
+fn is_dir<T: FileTree>(tree: &T, id: NodeId) -> bool
+    ensures { result ≡ lives_as_dir (T.content tree.now) id }
+{
+    matches!(tree.kind(id), Some(Kind::Dir))
+}
+
+/// Whether a cover has `c`.
+fn has_c(cover: Cover) -> bool
+    ensures { result ≡ cover_has_c cover }
+{
+    match cover {
+        Cover::All => true,
+        Cover::Nothing => false,
+        Cover::Only(perms) => perms.contains(Perms::CREATE),
+    }
+}
