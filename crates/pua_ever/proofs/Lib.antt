@@ -18,3 +18,4 @@ pub mod Origin
 pub mod Opened
 pub mod Opening
 pub mod Picked
+pub mod Under

@@ -1,0 +1,17 @@
+use Rattle.std.proofs.Common.{List, Bool, sym, ap, ◌∙◌}
+use Rattle.std.specs.Prelude.{◌||◌}
+use Rattle.std.proofs.lemmas.List.Folds.{list_any-append}
+use Rattle.pua_tree.specs.Tree.{empty_tree}
+use Rattle.pua_policy.specs.Verdict.{covered_verdict, is_allowed}
+use Rattle.pua_policy.specs.declared.answer.Cover.{Cover}
+use Rattle.pua_ever.specs.Ever.{is_allowed_under}
+use Rattle.pua_ever.proofs.movable.on_dirs.Goals as goal
+
+pub returns : goal.returns
+returns c = λ h judged stands seen call.
+    let found = c.args.found.now in
+    let passes : Cover → Bool = λ left. is_allowed (covered_verdict empty_tree c.args.table.now h call left judged) in
+    let under : List Cover → Bool = λ covers. is_allowed_under c.args.table.now h covers judged call in
+    let own = c.under-own.ensures h judged stands seen call ∙ ap under c.deref.ensures.value in
+    let others = c.under-others.ensures h judged stands seen call ∙ ap under c.deref-2.ensures.value in
+    c.union.ensures call ∙ (λ i. own i || others i) ∙ sym (list_any-append passes found.dirs.items found.entrances.items)

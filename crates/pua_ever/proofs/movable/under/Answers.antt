@@ -1,0 +1,23 @@
+use Rattle.std.proofs.Common.{Bool, take, sym, ap, ◌∙◌}
+use Rattle.std.specs.Prelude.{◌||◌}
+use Rattle.std.specs.List.{list_any}
+use Rattle.std.proofs.lemmas.List.Folds.{list_any_more}
+use Rattle.pua_tree.specs.Tree.{empty_tree}
+use Rattle.pua_policy.specs.Verdict.{covered_verdict, is_allowed}
+use Rattle.pua_policy.specs.declared.answer.Cover.{Cover}
+use Rattle.pua_ever.proofs.Under.{has_none}
+use Rattle.pua_ever.proofs.movable.under.Goals as goal
+
+pub loop-cover-init : goal.loop-cover-init
+loop-cover-init c = record { so_far = λ h judged stands seen call. has_none call }
+
+pub loop-cover-preserved : goal.loop-cover-preserved
+loop-cover-preserved c = record {
+  so_far = λ h judged stands seen call.
+      let p : Cover → Bool = λ left. is_allowed (covered_verdict empty_tree c.args.table.now h call left judged) in
+      let i = c.loop-cover.cover-index in
+      c.union-calls.ensures call
+      ∙ (λ k. c.loop-cover.invariant.so_far h judged stands seen call k || c.allowed-more.ensures empty_tree h judged stands seen call k)
+      ∙ ap (λ x. list_any p (take i c.args.covers.now) || p x) c.cover-item.is
+      ∙ sym (list_any_more p c.args.covers.now i c.cover-item.result c.loop-cover-test.true);
+}

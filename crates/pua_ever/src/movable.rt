@@ -1,0 +1,135 @@
+//! The calls that can ever be allowed on what can be moved or made.
+
+ghost use Rattle.std.specs.Prelude.{◌≡◌, ◌++◌, [], IfOk, length, nat_lt, if◌then◌else◌};
+ghost use Rattle.pua_tree.specs.Tree.{Tree, empty_tree};
+ghost use Rattle.pua_policy.specs.CallSets.{has};
+ghost use Rattle.pua_policy.specs.declared.call.Call.{Call};
+ghost use Rattle.pua_policy.specs.History.{History, StandsFor};
+ghost use Rattle.pua_policy.specs.Objects.{object_seen};
+ghost use Rattle.pua_policy.specs.Verdict.{Object as Judged, IsMissing};
+ghost use Rattle.pua_ever.specs.Ever.{is_allowed_under, dir_covers, name_covers, some_dir_has_c};
+ghost use Rattle.pua_ever.specs.Movable.{IsMovable};
+ghost use Rattle.pua_ever.specs.Openings.{HaveSame};
+
+use crate::openings::{Openings, find_openings};
+use pua_policy::{CallTable, Calls, Cover, Object, Process, judge};
+use pua_tree::{FileTree, OutOfMemory};
+use std::alloc::Global;
+
+/// The calls that can ever be allowed on what has `c` now and no veil of its own that goes with it,
+/// and on what is made, by what it is: the calls that are allowed under some cover that it can come
+/// to have.
+#[derive(Clone, Copy, Debug, PartialEq, Eq)]
+pub struct Movable {
+    /// On a directory, rmdir aside.
+    pub dir: Calls,
+    /// On a directory that can come to be empty.
+    pub emptied: Calls,
+    /// On the further names of a directory.
+    pub others: Calls,
+    /// On a file that is no program.
+    pub file: Calls,
+    /// On a program.
+    pub program: Calls,
+    /// On a link itself or on what it leads to.
+    pub link: Calls,
+    /// On a name where something can be made.
+    pub made: Calls,
+}
+
+/// Finds the calls that a process, and what it forks, can ever be allowed on what can be moved or
+/// made in a tree, by a table of what calls need: if the process can put no veil any more, and no
+/// exec succeeds. The veils alone are asked, each for at most as many steps as its directory stands
+/// deep; one that can give way to another directory for as many times as there are veils. The only
+/// error is that a growth was refused.
+pub fn find_movable<T: FileTree>(
+    alloc: Global,
+    tree: &T,
+    process: &Process,
+    table: &CallTable,
+) -> Result<Movable, OutOfMemory>
+    ensures { IfOk result (λ found. (h : History) → StandsFor process.now h →
+        IsMovable (T.content tree.now) table.now h found) }
+{
+    let found = find_openings(alloc, tree, process)?;
+    Ok(calls_by_object(process, table, &found))
+}
+
+/// The calls by what they are on.
+fn calls_by_object(process: &Process, table: &CallTable, found: &Openings) -> Movable
+    ensures { (t : Tree) (h : History) → StandsFor process.now h →
+        HaveSame (found.now.dirs.items ++ found.now.entrances.items) (dir_covers t h) →
+        HaveSame found.now.names.items (name_covers t h) →
+        nat_lt 0 (length found.now.dirs.items) ≡ some_dir_has_c t h →
+        IsMovable t table.now h result }
+{
+    let dir = on_dirs(process, table, found, Object::Directory);
+    let emptied = on_dirs(process, table, found, Object::Removable);
+    let others = on_dirs(process, table, found, Object::Missing);
+    let file = on_files(process, table, found, Object::File);
+    let program = on_files(process, table, found, Object::Program);
+    let link = on_files(process, table, found, Object::Link);
+    let made = on_names(process, table, found);
+    Movable {
+        dir,
+        emptied,
+        others,
+        file,
+        program,
+        link,
+        made,
+    }
+}
+
+/// The calls on such an object where a directory can come.
+fn on_dirs(process: &Process, table: &CallTable, found: &Openings, object: Object) -> Calls
+    ensures { (h : History) (judged : Judged) → StandsFor process.now h → object
+        ≡ object_seen empty_tree judged →
+        (call : Call) → has result call ≡ is_allowed_under table.now h (found.now.dirs.items
+        ++ found.now.entrances.items) judged call }
+{
+    let own = under(process, table, &found.dirs, object);
+    let others = under(process, table, &found.entrances, object);
+    own.union(others)
+}
+
+/// The calls on such an object where anything else can come.
+fn on_files(process: &Process, table: &CallTable, found: &Openings, object: Object) -> Calls
+    ensures { (h : History) (judged : Judged) → StandsFor process.now h → object
+        ≡ object_seen empty_tree judged →
+        (call : Call) → has result call ≡ is_allowed_under table.now h (found.now.names.items
+        ++ (if nat_lt 0 (length found.now.dirs.items) then found.now.dirs.items
+        ++ found.now.entrances.items else [])) judged call }
+{
+    let at_names = under(process, table, &found.names, object);
+    if found.dirs.len() == 0 {
+        return at_names;
+    }
+    let in_dirs = on_dirs(process, table, found, object);
+    at_names.union(in_dirs)
+}
+
+/// The calls on a name where nothing stands, wherever something can be made.
+fn on_names(process: &Process, table: &CallTable, found: &Openings) -> Calls
+    ensures { (h : History) → StandsFor process.now h →
+        (call : Call) → has result call ≡ is_allowed_under table.now h (found.now.names.items
+        ++ (found.now.dirs.items ++ found.now.entrances.items)) IsMissing call }
+{
+    let at_names = under(process, table, &found.names, Object::Missing);
+    let in_dirs = on_dirs(process, table, found, Object::Missing);
+    at_names.union(in_dirs)
+}
+
+/// The calls that are allowed on such an object under one of these covers.
+fn under(process: &Process, table: &CallTable, covers: &[Cover], object: Object) -> Calls
+    ensures { (h : History) (judged : Judged) → StandsFor process.now h → object
+        ≡ object_seen empty_tree judged →
+        (call : Call) → has result call ≡ is_allowed_under table.now h covers.now judged call }
+{
+    let mut calls = Calls::NONE;
+    for cover in covers {
+        let more = judge::allowed(process, table, *cover, object);
+        calls = calls.union(more);
+    }
+    calls
+}
