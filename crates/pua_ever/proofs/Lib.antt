@@ -19,3 +19,4 @@ pub mod Opened
 pub mod Opening
 pub mod Picked
 pub mod Under
+pub mod Refused

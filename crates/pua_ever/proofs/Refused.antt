@@ -1,0 +1,81 @@
+-- Where nothing refuses the list.
+use Rattle.std.proofs.Common.{◌≡◌, ◌⊎◌, List, [], ◌∷◌, Bool, true, false, cond, refl, sym, ◌∙◌, inl, inr}
+use Rattle.std.specs.Prelude.{Option, Some, None, not, ◌&&◌, ◌||◌, if◌then◌else◌, find}
+use Rattle.std.proofs.lemmas.Bool.{false≢true, true≢false, and_parts}
+use Rattle.pua_tree.proofs.ForCallers.{Some≢None}
+use Rattle.pua_policy.specs.Promises.{holds, creating, unveil}
+use Rattle.pua_policy.specs.Calls.{CallTable}
+use Rattle.pua_policy.specs.History.{History, held, has_error, is_locked, is_ended}
+use Rattle.pua_policy.specs.declared.answer.May.TheVariants.{Yes, Enosys, Death}
+use Rattle.pua_policy.specs.declared.call.Call.{Call}
+use Rattle.pua_policy.specs.declared.call.Call.TheVariants as call
+use Rattle.pua_script.specs.Laws.{IsConfined}
+use Rattle.pua_ever.specs.Ever.{is_yes}
+use Rattle.pua_ever.specs.Laws.{EditsNeedC}
+use Rattle.pua_ever.specs.Refusals.{can_unveil, lacks_c, changing_calls, both_need_c, table_refusal, refusal}
+use Rattle.pua_ever.specs.declared.refusal.Refusal.TheVariants.{CanUnveil, LacksC, RenameLacksC, LinkLacksC}
+
+none_in : (p : Call → Bool) (c : Call) (cs : List Call) → find p (c ∷ cs) ≡ None → (p c ≡ false) × (find p cs ≡ None)
+none_in p c cs = by (p c)
+  where
+    by : (b : Bool) → cond b (Some c) (find p cs) ≡ None → (b ≡ false) × (find p cs ≡ None)
+    by true e = absurd (Some≢None c e)
+    by false e = (refl, e)
+
+needed : (b : Bool) → not b ≡ false → b ≡ true
+needed true e = refl
+needed false e = absurd (true≢false e)
+
+-- of two tests each passed
+both : (a b : Bool) → (if a then (if b then None else Some LinkLacksC) else Some RenameLacksC) ≡ None → (a ≡ true) × (b ≡ true)
+both true true e = (refl, refl)
+both true false e = absurd (Some≢None LinkLacksC e)
+both false b e = absurd (Some≢None RenameLacksC e)
+
+table_parts : (table : CallTable) (o : Option Call) → table_refusal table o ≡ None → (o ≡ None) × (both_need_c table.rename ≡ true) × (both_need_c table.link ≡ true)
+table_parts table None e = let two = both (both_need_c table.rename) (both_need_c table.link) e in (refl, two.0, two.1)
+table_parts table (Some c) e = absurd (Some≢None (LacksC c) e)
+
+all_need : (table : CallTable) → table_refusal table (find (lacks_c table) changing_calls) ≡ None → EditsNeedC table
+all_need table e =
+    let parts = table_parts table (find (lacks_c table) changing_calls) e in
+    let rmdir = none_in (lacks_c table) call.Rmdir (call.Unlink ∷ call.Create ∷ call.Mkdir ∷ call.Symlink ∷ []) parts.0 in
+    let unlink = none_in (lacks_c table) call.Unlink (call.Create ∷ call.Mkdir ∷ call.Symlink ∷ []) rmdir.1 in
+    let create = none_in (lacks_c table) call.Create (call.Mkdir ∷ call.Symlink ∷ []) unlink.1 in
+    let mkdir = none_in (lacks_c table) call.Mkdir (call.Symlink ∷ []) create.1 in
+    let symlink = none_in (lacks_c table) call.Symlink [] mkdir.1 in
+    let rename = and_parts (holds table.rename.old.needs.perms creating) (holds table.rename.new.needs.perms creating) parts.1 in
+    let link = and_parts (holds table.link.old.needs.perms creating) (holds table.link.new.needs.perms creating) parts.2 in
+    record {
+      create = needed _ create.0;
+      mkdir = needed _ mkdir.0;
+      rmdir = needed _ rmdir.0;
+      unlink = needed _ unlink.0;
+      symlink = needed _ symlink.0;
+      rename_old = rename.0;
+      rename_new = rename.1;
+      link_old = link.0;
+      link_new = link.1;
+    }
+
+neither : (table : CallTable) (b : Bool) (o : Option Call) → cond b (Some CanUnveil) (table_refusal table o) ≡ None → (b ≡ false) × (table_refusal table o ≡ None)
+neither table true o e = absurd (Some≢None CanUnveil e)
+neither table false o e = (refl, e)
+
+confined : (h : History) → can_unveil h ≡ false → IsConfined h ⊎ (is_ended h ≡ true)
+confined h none = by (is_locked h) (is_ended h) (holds (held h) unveil) refl refl refl
+  where
+    by : (l e p : Bool) → is_locked h ≡ l → is_ended h ≡ e → holds (held h) unveil ≡ p → IsConfined h ⊎ (is_ended h ≡ true)
+    by true e p locked ended has = inl (inl locked)
+    by false true p locked ended has = inr ended
+    by false false false locked ended has = inl (inr has)
+    by false false true locked ended has =
+        let can : can_unveil h ≡ true = (λ i. not (locked i) && is_yes (if ended i then Death else (if has i || false then Yes else (if has_error h then Enosys else Death)))) in
+        absurd (false≢true (sym none ∙ can))
+
+module _ (table : CallTable) (h : History) (none : refusal table h ≡ None) where
+  pub unrefused_table : EditsNeedC table
+  unrefused_table = all_need table (neither table (can_unveil h) (find (lacks_c table) changing_calls) none).1
+
+  pub unrefused_history : IsConfined h ⊎ (is_ended h ≡ true)
+  unrefused_history = confined h (neither table (can_unveil h) (find (lacks_c table) changing_calls) none).0

@@ -1,0 +1,35 @@
+-- Why there is no list of what a process can ever touch.
+use Rattle.std.specs.Prelude.{Bool, not, ◌&&◌, if◌then◌else◌, List, [], ◌∷◌, Option, Some, None, find}
+use Rattle.pua_policy.specs.Promises.{holds, creating, unveil}
+use Rattle.pua_policy.specs.Calls.{CallTable, PairRule, rule_of}
+use Rattle.pua_policy.specs.History.{History, is_locked, may_any}
+use Rattle.pua_policy.specs.declared.call.Call.{Call}
+use Rattle.pua_policy.specs.declared.call.Call.TheVariants as call
+use Rattle.pua_ever.specs.Ever.{is_yes}
+use Rattle.pua_ever.specs.declared.refusal.Refusal.{Refusal}
+use Rattle.pua_ever.specs.declared.refusal.Refusal.TheVariants.{CanUnveil, LacksC, RenameLacksC, LinkLacksC}
+
+-- the process isn't locked, and may put veils
+abbrev pub can_unveil : History → Bool
+can_unveil h = not (is_locked h) && is_yes (may_any h (unveil ∷ []))
+
+-- by the table the call doesn't need `c`
+abbrev pub lacks_c : CallTable → Call → Bool
+lacks_c table call = not (holds (rule_of table call).perms creating)
+
+-- the calls that take a name away, and those that make one
+abbrev pub changing_calls : List Call
+changing_calls = call.Rmdir ∷ call.Unlink ∷ call.Create ∷ call.Mkdir ∷ call.Symlink ∷ []
+
+-- both names of a request with two paths need it
+abbrev pub both_need_c : PairRule → Bool
+both_need_c pair = holds pair.old.needs.perms creating && holds pair.new.needs.perms creating
+
+abbrev pub table_refusal : CallTable → Option Call → Option Refusal
+table_refusal table (Some call) = Some (LacksC call)
+table_refusal table None =
+    if both_need_c table.rename then (if both_need_c table.link then None else Some LinkLacksC) else Some RenameLacksC
+
+-- the process's reason comes first
+abbrev pub refusal : CallTable → History → Option Refusal
+refusal table h = if can_unveil h then Some CanUnveil else table_refusal table (find (lacks_c table) changing_calls)

@@ -1,0 +1,82 @@
+//! Why there is no list of what a process can ever touch.
+
+ghost use Rattle.std.specs.Prelude.{◌≡◌, ◌⊎◌, true, None, Option, find};
+ghost use Rattle.pua_policy.specs.History.{History, StandsFor, is_ended};
+ghost use Rattle.pua_script.specs.Laws.{IsConfined};
+ghost use Rattle.pua_ever.specs.Laws.{EditsNeedC};
+ghost use Rattle.pua_ever.specs.Refusals.{lacks_c, changing_calls, both_need_c as pair_needs_c, refusal as refusal_of};
+
+use pua_policy::{Call, CallTable, May, PairNeed, Perms, Process, Promises};
+
+/// Why there is no list of what a process can ever touch.
+#[derive(Clone, Copy, Debug, PartialEq, Eq)]
+pub enum Refusal {
+    /// The process can still put veils, so nothing is for ever: it is not locked, and holds
+    /// `unveil`.
+    CanUnveil,
+    /// By the table this call, which makes a name or takes one away, does not need `c`: then what
+    /// has no `c` does not stay, which the list rests on.
+    LacksC(Call),
+    /// The same of rename(2), by one of its two names.
+    RenameLacksC,
+    /// The same of link(2).
+    LinkLacksC,
+}
+
+/// Why there is no list of what a process and all that it forks can ever touch, by a table of what
+/// calls need; None where there is one. Of two reasons the process's comes first, then that of the
+/// first of rmdir, unlink, create, mkdir, symlink, rename and link. A process that has ended can
+/// put no veil, so it has a list, without a line.
+pub fn why_refused(process: &Process, table: &CallTable) -> Option<Refusal>
+    ensures exact { (h : History) → StandsFor process.now h → result ≡ refusal_of table.now h }
+    ensures none { result ≡ None → EditsNeedC table.now }
+    ensures confined { (h : History) → StandsFor process.now h → result ≡ None →
+        IsConfined h ⊎ (is_ended h ≡ true) }
+{
+    process.known();
+    reason(process, table)
+}
+
+/// The first reason.
+fn reason(process: &Process, table: &CallTable) -> Option<Refusal>
+    ensures { (h : History) → StandsFor process.now h → result ≡ refusal_of table.now h }
+{
+    if !process.locked() && process.may(Promises::UNVEIL) == May::Yes {
+        return Some(Refusal::CanUnveil);
+    }
+    if let Some(call) = first_without_c(table) {
+        return Some(Refusal::LacksC(call));
+    }
+    if !both_need_c(table.rename()) {
+        return Some(Refusal::RenameLacksC);
+    }
+    if !both_need_c(table.link()) {
+        return Some(Refusal::LinkLacksC);
+    }
+    None
+}
+
+/// Whether both names of a request with two paths need `c`.
+fn both_need_c(pair: &PairNeed) -> bool
+    ensures { result ≡ pair_needs_c pair.now }
+{
+    pair.old_name().perms().contains(Perms::CREATE)
+        && pair.new_name().perms().contains(Perms::CREATE)
+}
+
+/// The first of the five calls that does not need `c`.
+fn first_without_c(table: &CallTable) -> Option<Call>
+    ensures { result ≡ find (lacks_c table.now) changing_calls }
+{
+    const CHANGING: [Call; 5] = [
+        Call::Rmdir,
+        Call::Unlink,
+        Call::Create,
+        Call::Mkdir,
+        Call::Symlink,
+    ];
+    CHANGING
+        .iter()
+        .find(|call| !table.perms(**call).contains(Perms::CREATE))
+        .copied()
+}
