@@ -1,5 +1,5 @@
 -- What words that ask for no command leave.
-use Rattle.std.proofs.Common.{ℕ, List, Option, string_bytes, inr, subst}
+use Rattle.std.proofs.Common.{ℕ, ◌≡◌, ◌≢◌, List, Option, Result, Ok, Err, OnErr, OnOk, arith, string_bytes, inr, subst}
 use Rattle.pua_words.specs.Usages.{IsStop, line_text}
 use Rattle.pua_words.specs.declared.usage.UsageLine.{UsageLine}
 use Rattle.pua_words.specs.declared.words.Stop.{Stop}
@@ -8,6 +8,8 @@ use Rattle.pua_tool.specs.Held.{Held}
 use Rattle.pua_tool.specs.Performed.{HasAnswered, HasHalted}
 use Rattle.pua_tool.specs.Texts.{ended}
 use Rattle.pua_tool.specs.Told.{IsTold, Shows, ShowsFront, TellsUsage}
+use Rattle.pua_tool.specs.declared.sink.PutFault.{PutFault}
+use Rattle.pua_tool.specs.declared.status.TheConstants.{DONE, USAGE, DEVICE}
 
 -- a text about the program was written
 pub answered_by_stop : (held : Held) (line : UsageLine) (s : Stop) (a b : Option (List ℕ)) → IsStop line s → Shows s a b → HasAnswered held a b
@@ -26,3 +28,8 @@ pub told_by_stop : (line : UsageLine) (s : Stop) (a b : Option (List ℕ)) (befo
 told_by_stop line (stop.Display text) a b before after some told = absurd told
 told_by_stop line (stop.Usage of) a b before after same told = subst (λ (l : UsageLine). IsTold (ended (line_text l)) a b before after) same told
 told_by_stop line stop.OutOfMemory a b before after some told = absurd told
+
+-- after a flush the status of words that are no command is that of a command that was not done
+pub not_done : (flushed : Result (Unit {0}) PutFault) (status result : ℕ) → OnOk flushed (result ≡ status) → OnErr flushed (status ≡ DONE → result ≡ DEVICE) → result ≡ USAGE → status ≢ DONE
+not_done (Ok _) status result kept failed usage done = let a : result ≡ 2 = usage in let b : status ≡ 0 = done in omega (arith, kept, a, b)
+not_done (Err _) status result kept failed usage done = let a : result ≡ 2 = usage in let b : result ≡ 3 = failed done in omega (arith, a, b)

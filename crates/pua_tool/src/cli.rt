@@ -31,6 +31,9 @@ pub fn program<I: Inputs, W: Write + Drop, E: Sink>(
     err: &mut E,
 ) -> u8
     ensures done { result ≡ DONE → HasAnswered (I.holds inputs.old) (writer_contents W.contents out.old.0) (writer_contents W.contents out.new.0) }
+    ensures refused { result ≡ REFUSED → (c : Command) × AsksSoundly c.text × IsRefused (I.holds inputs.old) c }
+    ensures usage { result ≡ USAGE → IsTold (ended (line_text (line_for (map (λ word. word.now) words.now))))
+        (E.written err.old) (E.written err.new) (E.failed err.old) (E.failed err.new) }
     ensures handed { result ≡ DONE → writer_buffer out.new.0 ≡ [] }
     ensures unfailed { result ≡ DONE → out.new.1 ≡ out.old.1 }
     ensures quiet { result ≡ DONE → err.new ≡ err.old }
