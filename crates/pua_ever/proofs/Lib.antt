@@ -20,3 +20,6 @@ pub mod Opening
 pub mod Picked
 pub mod Under
 pub mod Refused
+pub mod Lined
+pub mod Prospected
+pub mod Named

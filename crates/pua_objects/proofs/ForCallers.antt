@@ -10,3 +10,5 @@ pub use Rattle.pua_objects.proofs.Listing.{found_among, found_dir, IsVisited, ha
 pub use Rattle.pua_objects.proofs.Judged.{named_by_row}
 -- each call is one of all calls, and what is allowed is so by its verdict
 pub use Rattle.pua_objects.proofs.Completeness.{one_of_calls, some_of, failed, allowed_is, named_within_text}
+-- the word of what was found
+pub use Rattle.pua_objects.proofs.Lined.{word_seen}

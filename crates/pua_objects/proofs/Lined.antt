@@ -67,7 +67,7 @@ link_seen t (Whole dir way) = link_dir (is_none (rmdir_fault t dir way))
 link_seen t (Slot dir name None) = refl
 link_seen t (Slot dir name (Some x)) = link_kind t (kind_at t x)
 
-word_seen : (t : Tree) (found : Found) → kind_word (kind_seen (seen_of t found)) ≡ object_word (object_of t found)
+pub word_seen : (t : Tree) (found : Found) → kind_word (kind_seen (seen_of t found)) ≡ object_word (object_of t found)
 word_seen t (Whole dir way) = word_dir (is_none (rmdir_fault t dir way))
 word_seen t (Slot dir name None) = refl
 word_seen t (Slot dir name (Some x)) = word_kind t (kind_at t x)
