@@ -23,3 +23,4 @@ pub mod Refused
 pub mod Lined
 pub mod Prospected
 pub mod Named
+pub mod Giving

@@ -1,5 +1,5 @@
 -- What stands at a name, and the name once that is taken away.
-use Rattle.std.proofs.Common.{◌≡◌, ℕ, List, [], ◌∷◌, Bool, true, false, cond, refl, sym, ap, subst, ◌∙◌}
+use Rattle.std.proofs.Common.{◌≡◌, ℕ, List, [], ◌∷◌, Bool, true, false, refl, sym, ap, subst, ◌∙◌}
 use Rattle.std.specs.Prelude.{Option, Some, None, not, ◌&&◌, ◌||◌, is_some, option_map}
 use Rattle.std.proofs.lemmas.Bool.{and_parts}
 use Rattle.pua_tree.specs.Tree.{Tree, Node, WellFormed, Spot, is_dir, look, node_at, kind_at, empty_tree}

@@ -1,21 +1,19 @@
 -- The calls of a thing, by what was found for them.
 use Rattle.std.proofs.Common.{◌≡◌, ◌⊎◌, ℕ, List, [], ◌∷◌, Bool, true, false, cond, refl, sym, ap, ◌∙◌, inl, inr}
-use Rattle.std.specs.Prelude.{Option, Some, None, not, ◌&&◌, ◌||◌, ◌==◌, is_some, is_none}
+use Rattle.std.specs.Prelude.{Option, Some, None, not, ◌&&◌, ◌||◌, ◌==◌, is_none}
 use Rattle.std.specs.List.{list_any, list_all}
-use Rattle.std.proofs.lemmas.Bool.{false≢true, and_parts, and_from, or_right}
+use Rattle.std.proofs.lemmas.Bool.{false≢true, and_parts, and_from}
 use Rattle.pua_tree.specs.Tree.{Tree, Spot, is_dir, is_empty, has_no_row, empty_tree}
-use Rattle.pua_tree.specs.declared.node.Kind.{Kind}
-use Rattle.pua_path.specs.Fits.{is_link_kind}
 use Rattle.pua_path.specs.declared.errno.Errno.{Errno}
 use Rattle.pua_path.specs.declared.errno.Errno.TheVariants.{ENOTEMPTY}
 use Rattle.pua_path.specs.declared.found.Way.{Way}
 use Rattle.pua_path.specs.declared.found.Way.TheVariants.{Named, Top, Dot, DotDot}
-use Rattle.pua_path.specs.declared.found.Found.TheVariants.{Whole, Slot}
+use Rattle.pua_path.specs.declared.found.Found.TheVariants.{Whole}
 use Rattle.pua_policy.specs.Calls.{CallTable, rule_of}
 use Rattle.pua_policy.specs.CallSets.{has, keeps_link}
 use Rattle.pua_policy.specs.History.{History, kept, may_any}
 use Rattle.pua_policy.specs.Objects.{object_seen}
-use Rattle.pua_policy.specs.Verdict.{Object, IsDir, IsMissing, object_fault, rmdir_fault, cover_fault, or_fault, allowed_unless, if_promised, covered_verdict, is_allowed}
+use Rattle.pua_policy.specs.Verdict.{Object, IsDir, IsMissing, object_fault, cover_fault, or_fault, allowed_unless, if_promised, covered_verdict, is_allowed}
 use Rattle.pua_policy.specs.declared.call.Call.{Call}
 use Rattle.pua_policy.specs.declared.call.Call.TheVariants as call
 use Rattle.pua_policy.specs.declared.place.Place.TheVariants as place

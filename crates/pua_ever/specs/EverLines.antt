@@ -5,7 +5,7 @@ use Rattle.pua_policy.specs.Calls.{CallTable}
 use Rattle.pua_policy.specs.CallSets.{calls_in}
 use Rattle.pua_policy.specs.History.{History, ProcessState, StandsFor}
 use Rattle.pua_audit.specs.Reach.{Word}
-use Rattle.pua_objects.specs.Objects.{Subject, Item, subject_word}
+use Rattle.pua_objects.specs.Objects.{subject_word}
 use Rattle.pua_objects.specs.Lines.{kind_word}
 use Rattle.pua_ever.specs.Ever.{Thing, Stands, Comes, EverLine, new_word, names_to_free, ever_line, new_line, has_calls}
 use Rattle.pua_ever.specs.EverState.{Left, Now, Freed, Coming}

@@ -16,7 +16,7 @@ use Rattle.pua_policy.specs.declared.object.Object.TheVariants as see
 use Rattle.pua_script.specs.Confinement.{has_c}
 use Rattle.pua_audit.specs.Reach.{Word}
 use Rattle.pua_objects.specs.Items.{subject_given, SubjectFits, IsItemOn}
-use Rattle.pua_objects.specs.Objects.{Subject, At, Item, cover_in}
+use Rattle.pua_objects.specs.Objects.{At, Item, cover_in}
 use Rattle.pua_objects.specs.declared.item.Item as given
 use Rattle.pua_objects.specs.declared.item.Subject as about
 use Rattle.pua_objects.specs.declared.item.Subject.TheVariants as subject

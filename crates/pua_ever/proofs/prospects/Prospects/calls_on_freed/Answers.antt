@@ -1,5 +1,5 @@
-use Rattle.std.proofs.Common.{◌≡◌, refl, sym, ap, ◌∙◌}
-use Rattle.std.specs.Prelude.{Some, ◌&&◌, is_some}
+use Rattle.std.proofs.Common.{refl, sym, ap, ◌∙◌}
+use Rattle.std.specs.Prelude.{◌&&◌, is_some}
 use Rattle.std.proofs.lemmas.Bool.{and_from}
 use Rattle.pua_tree.specs.Tree.{Spot, empty_tree}
 use Rattle.pua_policy.specs.Verdict.{IsMissing}

@@ -1,18 +1,15 @@
-use Rattle.std.proofs.Common.{◌≡◌, Bool, true, false, sym, ap, ◌∙◌}
+use Rattle.std.proofs.Common.{◌≡◌, true, false, sym, ap, ◌∙◌}
 use Rattle.std.specs.Prelude.{◌&&◌, ◌==◌, not, is_none, if◌then◌else◌}
 use Rattle.std.specs.List.{list_any}
-use Rattle.pua_tree.specs.Tree.{Tree, empty_tree}
-use Rattle.pua_path.specs.declared.found.Way.{Way}
+use Rattle.pua_tree.specs.Tree.{empty_tree}
 use Rattle.pua_policy.specs.CallSets.{has}
-use Rattle.pua_policy.specs.History.{History, StandsFor, kept}
-use Rattle.pua_policy.specs.Objects.{object_seen}
-use Rattle.pua_policy.specs.Verdict.{IsDir, covered_verdict, is_allowed}
+use Rattle.pua_policy.specs.History.{kept}
+use Rattle.pua_policy.specs.Verdict.{covered_verdict, is_allowed}
 use Rattle.pua_policy.specs.declared.object.Object.TheVariants as see
 use Rattle.pua_policy.specs.declared.place.Place.TheVariants as place
 use Rattle.pua_script.specs.Confinement.{has_c}
 use Rattle.pua_objects.specs.Objects.{cover_in}
 use Rattle.pua_ever.specs.Ever.{may_edit, is_named_way}
-use Rattle.pua_ever.specs.EverReady.{IsProspects}
 use Rattle.pua_ever.proofs.Prospected.{moved_calls, still_calls}
 use Rattle.pua_ever.proofs.prospects.Prospects.on_dir.Goals as goal
 
