@@ -6,6 +6,7 @@ pub mod Futures
 pub mod Alike
 pub mod Passing
 pub mod ObjectTexts
+pub mod EverTexts
 pub mod Stops
 pub mod States
 pub mod Lists

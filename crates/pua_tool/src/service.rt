@@ -7,6 +7,7 @@ ghost use Rattle.pua_tool.specs.Sinks.{Adds, AddsFront, HasFailed};
 ghost use Rattle.pua_tool.specs.Texts.{given};
 
 use crate::audit::audit_to;
+use crate::ever::ever_to;
 use crate::fault::ToolFault;
 use crate::inputs::{InputFault, Inputs};
 use crate::job::job_of;
@@ -18,8 +19,8 @@ use crate::status::{DEVICE, DONE, MEMORY, REFUSED, USAGE};
 use pua_words::{Command, Text};
 use std::alloc::Global;
 
-/// Does what a command asks for: the text of a run, of an audit or of a list of objects goes to
-/// `out`, and of a fault one line goes to `err`, which is dropped where it can't be written. The
+/// Does what a command asks for: the text of a run, of an audit or of a list of objects, of now or for
+/// ever, goes to `out`, and of a fault one line goes to `err`, which is dropped where it can't be written. The
 /// inputs are taken, first the tree's, then the script's, then the table's where one is named, before
 /// any of them is read as a listing, a script or a table.
 ///
@@ -160,5 +161,6 @@ fn write_text<O: Sink>(
         Text::Run => run_to(alloc, tree, script, table, out),
         Text::Audit(words) => audit_to(alloc, tree, script, &job_of(words, table), out),
         Text::Objects(words) => objects_to(alloc, tree, script, table, words.processes, out),
+        Text::Ever(words) => ever_to(alloc, tree, script, table, words.process, out),
     }
 }

@@ -1,7 +1,7 @@
 use Rattle.std.proofs.Common.{ℕ, List, subst}
 use Rattle.pua_tool.specs.Sinks.{Adds}
 use Rattle.pua_tool.proofs.Passing.{passes_put}
-use Rattle.pua_tool.proofs.process_list.add_text.Goals as goal
+use Rattle.pua_tool.proofs.process_head.add_text.Goals as goal
 
 pub returns-clause-text : goal.returns-clause-text
 returns-clause-text g c =
