@@ -8,6 +8,7 @@ pub mod Passing
 pub mod ObjectTexts
 pub mod EverTexts
 pub mod Stops
+pub mod Ends
 pub mod States
 pub mod Lists
 pub mod Climbing

@@ -1,6 +1,7 @@
 -- What the performance of a command promises.
 use Rattle.std.specs.Prelude.{◌≡◌, ◌<◌, ◌⊎◌, ⊤, ℕ, List, length, Option, Some, None, Result, Ok, Err}
 use Rattle.std.specs.Borrow.{Bor}
+use Rattle.std.specs.Io.KnownBytes.{Keeps}
 use Rattle.pua_words.specs.Commands.{AsksSoundly}
 use Rattle.pua_words.specs.declared.command.Command.{Command}
 use Rattle.pua_words.specs.declared.command.Text.{Text}
@@ -125,4 +126,10 @@ HasAnswered held old new = ((command : Command) × AsksSoundly command.text × I
 abbrev pub HasHalted : Held → Option (List ℕ) → Option (List ℕ) → ℕ → ℕ → Type 0
 HasHalted held old new before after =
     ((command : Command) × AsksSoundly command.text × ((LacksInput held command × (new ≡ old)) ⊎ IsCutShort held command old new before after))
+    ⊎ ((text : List ℕ) × AddsFront text old new × HasFailed before after)
+
+-- the same after the output was handed on, or could not be: where nothing was written, known bytes stay, and a front may be the whole text
+abbrev pub HasEnded : Held → Option (List ℕ) → Option (List ℕ) → ℕ → ℕ → Type 0
+HasEnded held old new before after =
+    ((command : Command) × AsksSoundly command.text × ((LacksInput held command × Keeps old new) ⊎ IsCutShort held command old new before after))
     ⊎ ((text : List ℕ) × AddsFront text old new × HasFailed before after)

@@ -13,6 +13,12 @@ use thiserror::Error;
 /// The line of a put that failed, without its end.
 pub(crate) const CANNOT_WRITE: &str = "pua: cannot write";
 
+/// The line of a growth of memory that was refused, without its end.
+pub(crate) const OUT_OF_MEMORY: &str = "pua: out of memory";
+
+/// The line of a process that was never made, without its end.
+pub(crate) const NO_PROCESS: &str = "pua: no such process";
+
 /// Why the text of a run, of an audit or of a list of objects, of now or for ever, was not written, or
 /// not whole. It is displayed as the line that the program prints.
 #[derive(Clone, Copy, Debug, PartialEq, Eq, Error)]
@@ -24,7 +30,7 @@ pub enum ToolFault {
     #[error("pua: script: {0}")]
     Script(ScriptFault),
     /// The process was never made.
-    #[error("pua: no such process")]
+    #[error("{line}", line = NO_PROCESS)]
     NoProcess,
     /// The audit can't begin.
     #[error("pua: audit: {0}")]
@@ -33,7 +39,7 @@ pub enum ToolFault {
     #[error("{line}", line = CANNOT_WRITE)]
     Write,
     /// A growth of memory was refused, and nothing was written.
-    #[error("pua: out of memory")]
+    #[error("{line}", line = OUT_OF_MEMORY)]
     OutOfMemory,
     /// The table's bytes give no table of calls.
     #[error("pua: table: {0}")]
