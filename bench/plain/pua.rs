@@ -1277,6 +1277,7 @@ struct Words<'a> {
     limit: Option<u8>,
     /// None for all processes, for which only `objects` can be asked.
     process: Option<u32>,
+    is_ever: bool,
     from_root: bool,
     after: Option<&'a str>,
     operands: Vec<&'a str>,
@@ -1291,7 +1292,7 @@ fn read_words(words: &[String]) -> Option<(Command, Words<'_>)> {
         _ => return None,
     };
     let is_audit = command == Command::Audit;
-    let mut read = Words { limit: None, process: Some(1), from_root: true, after: None, operands: Vec::new() };
+    let mut read = Words { limit: None, process: Some(1), is_ever: false, from_root: true, after: None, operands: Vec::new() };
     let (mut has_options, mut given) = (command != Command::Run, Vec::new());
     while let [word, more @ ..] = rest {
         rest = more;
@@ -1300,6 +1301,10 @@ fn read_words(words: &[String]) -> Option<(Command, Words<'_>)> {
             continue;
         } else if word == "--" {
             has_options = false;
+            continue;
+        }
+        if word == "--ever" && command == Command::Objects && !read.is_ever {
+            read.is_ever = true;
             continue;
         }
         let (option, value) = match word.split_once('=') {
@@ -1319,6 +1324,9 @@ fn read_words(words: &[String]) -> Option<(Command, Words<'_>)> {
             "--after" => read.after = Some(value),
             _ => return None,
         }
+    }
+    if read.is_ever && read.process.is_none() {
+        return None;
     }
     let has_enough = if is_audit { read.limit.is_some() && read.operands.len() >= 2 } else { read.operands.len() == 2 };
     has_enough.then_some((command, read))
@@ -1489,6 +1497,214 @@ fn objects(world: &World, words: &Words, mut front: Vec<u8>) -> Result<(), (u8, 
     Ok(())
 }
 
+// ---- All that can ever be touched: each part is asked of the tree anew, as the definition has it
+
+fn has_c(cover: Cover) -> bool {
+    cover.is_some_and(|kept| kept & C != 0)
+}
+
+/// What can be asked of a tree and the veils of a process, where the tree may change.
+#[derive(Clone, Copy)]
+struct Ways<'a> {
+    tree: &'a Tree,
+    process: &'a Process,
+}
+
+impl<'a> Ways<'a> {
+    fn is_living(self, dir: u32) -> bool {
+        let node = self.tree.node(dir);
+        node.links > 0 && node.kind == Kind::Dir
+    }
+
+    fn living(self) -> impl Iterator<Item = u32> {
+        (0..self.tree.nodes.len() as u32).filter(move |dir| self.is_living(*dir))
+    }
+
+    /// The names with veils of their own that have c, each with its directory and its letters.
+    fn names_with_c(self) -> impl Iterator<Item = (u32, &'a [u8], u8)> {
+        let names = self.process.on_names.iter().flat_map(|(dir, names)| names.iter().map(|(name, kept)| (*dir, &**name, *kept)));
+        names.filter(move |(dir, _, kept)| self.is_living(*dir) && kept & C != 0)
+    }
+
+    fn row_has_c(self, dir: u32, name: &[u8], node: u32) -> bool {
+        has_c(match self.tree.node(node).kind {
+            Kind::Dir => self.process.dir_cover(self.tree, node),
+            _ => self.process.cover(self.tree, Found::Slot(dir, name, Some(node))),
+        })
+    }
+
+    fn is_free(self, dir: u32, name: &[u8]) -> bool {
+        self.tree.node(dir).rows.get(name).is_none_or(|node| self.row_has_c(dir, name, *node))
+    }
+
+    fn can_empty(self, dir: u32) -> bool {
+        self.tree.node(dir).rows.iter().all(|(name, node)| self.row_has_c(dir, name, *node))
+    }
+
+    fn is_below(self, over: u32, dir: u32) -> bool {
+        let mut at = dir;
+        while at != over && at != ROOT {
+            at = self.tree.node(at).parent;
+        }
+        at == over
+    }
+
+    fn has_c_outside(self, inner: u32) -> bool {
+        self.living().any(|dir| !self.is_below(inner, dir) && has_c(self.process.dir_cover(self.tree, dir)))
+            || self.names_with_c().any(|(dir, ..)| !self.is_below(inner, dir))
+    }
+
+    fn gives_way(self, dir: u32) -> bool {
+        self.is_living(dir)
+            && has_c(self.process.dir_cover(self.tree, dir))
+            && self.can_empty(dir)
+            && self.has_c_outside(dir)
+    }
+
+    fn is_way_in(self, dir: u32) -> bool {
+        has_c(self.process.dir_cover(self.tree, dir))
+            || self.names_with_c().any(|(other, name, _)| other == dir && self.is_free(dir, name))
+            || self.tree.node(dir).rows.values().any(|node| self.gives_way(*node))
+    }
+
+    fn dir_covers(self) -> Vec<Cover> {
+        self.living().filter(|dir| self.is_way_in(*dir)).map(|dir| self.process.dir_cover(self.tree, dir)).collect()
+    }
+
+    fn file_covers(self) -> Vec<Cover> {
+        let free = self.names_with_c().filter(|(dir, name, _)| self.is_free(*dir, name));
+        let mut covers: Vec<Cover> = free.map(|(_, _, kept)| Some(kept)).collect();
+        if self.living().any(|dir| has_c(self.process.dir_cover(self.tree, dir))) {
+            covers.extend(self.dir_covers());
+        }
+        covers
+    }
+}
+
+/// The list of all that a process can ever touch.
+struct Ever<'a> {
+    list: List<'a>,
+    ways: Ways<'a>,
+    may_edit: bool,
+    for_dirs: Vec<Cover>,
+    for_files: Vec<Cover>,
+}
+
+impl<'a> Ever<'a> {
+    fn new(tree: &'a Tree, process: &'a Process, out: Vec<u8>) -> Ever<'a> {
+        let ways = Ways { tree, process };
+        Ever {
+            list: List { tree, process, path: Vec::new(), out },
+            ways,
+            may_edit: process.may(CPATH).is_ok(),
+            for_dirs: ways.dir_covers(),
+            for_files: ways.file_covers(),
+        }
+    }
+
+    fn covers(&self, moves: bool, now: Cover, others: &[Cover]) -> Vec<Cover> {
+        if self.may_edit && moves && has_c(now) { others.to_vec() } else { vec![now] }
+    }
+
+    /// The line of what `path` leads to, under each of some covers, if a call is ever allowed on it.
+    fn line(&mut self, kind: &str, covers: &[Cover], object: Object) {
+        let held = self.list.process.held();
+        let calls = covers.iter().fold(0, |calls, cover| calls | allowed(held, *cover, object));
+        let path = if self.list.path.is_empty() { b"/".to_vec() } else { self.list.path.clone() };
+        self.put(kind, &path, if matches!(object, Object::Node(Kind::Link)) { calls & KEPT } else { calls });
+    }
+
+    fn put(&mut self, kind: &str, path: &[u8], calls: u16) {
+        let names: Vec<&str> = CALLS.iter().filter(|row| calls & 1 << row.0 as u16 != 0).map(|row| row.1).collect();
+        if !names.is_empty() {
+            self.list.out.extend_from_slice(&[kind.as_bytes(), b" ", path, b" ", names.join(",").as_bytes(), b"\n"].concat());
+        }
+    }
+
+    /// The lines of a directory, of its name where something else can come there, of its further names, and of all that is
+    /// below it.
+    fn dir(&mut self, dir: u32, at: Option<(u32, &[u8])>) {
+        let (tree, process) = (self.ways.tree, self.ways.process);
+        let now = process.dir_cover(tree, dir);
+        let covers = self.covers(!process.on_dirs.contains_key(&dir), now, &self.for_dirs);
+        let is_empty = tree.node(dir).rows.is_empty();
+        let is_removable = at.is_some() && self.ways.can_empty(dir) && (self.may_edit || is_empty);
+        self.line("dir", &covers, Object::Dir((!is_removable).then_some("ENOTEMPTY")));
+        if let Some((over, name)) = at {
+            self.freed(over, name);
+        }
+        self.line("other", &covers, Object::Missing);
+        let veiled = process.on_names.get(&dir).into_iter().flat_map(|names| names.keys());
+        let mut names: Vec<&[u8]> = tree.node(dir).rows.keys().chain(veiled).map(|name| &**name).collect();
+        names.sort_unstable();
+        names.dedup();
+        let len = self.list.path.len();
+        for name in names {
+            self.list.path.push(b'/');
+            spell(&mut self.list.path, name);
+            self.name(dir, name);
+            self.list.path.truncate(len);
+        }
+    }
+
+    /// The line of a taken name with a veil of its own where what stands there can be taken away.
+    fn freed(&mut self, dir: u32, name: &[u8]) {
+        if let Some(kept) = self.ways.process.kept_on_name(dir, name).filter(|_| self.may_edit && self.ways.is_free(dir, name)) {
+            self.line("missing", &[Some(kept)], Object::Missing);
+        }
+    }
+
+    fn name(&mut self, dir: u32, name: &[u8]) {
+        let tree = self.ways.tree;
+        let node = tree.node(dir).rows.get(name).copied();
+        let now = self.ways.process.cover(tree, Found::Slot(dir, name, node));
+        let Some(node) = node else { return self.line("missing", &[now], Object::Missing) };
+        let kind = tree.node(node).kind;
+        let word = match kind {
+            Kind::Dir => return self.dir(node, Some((dir, name))),
+            Kind::File => "file",
+            Kind::Prog => "prog",
+            Kind::Link => "link",
+        };
+        let covers = self.covers(true, now, &self.for_files);
+        self.line(word, &covers, Object::Node(kind));
+        self.freed(dir, name);
+    }
+
+    /// The line of what can be made, if the call that makes it can be allowed.
+    fn made(&mut self, kind: &str, maker: Call, is_dir: bool, object: Object) {
+        let held = self.list.process.held();
+        let calls = |covers: &[Cover], object| covers.iter().fold(0, |calls, cover| calls | allowed(held, *cover, object));
+        let names: Vec<Cover> = self.for_dirs.iter().chain(&self.for_files).copied().collect();
+        if self.may_edit && calls(&names, Object::Missing) & 1 << maker as u16 != 0 {
+            let ever = calls(if is_dir { &self.for_dirs } else { &self.for_files }, object);
+            self.put(kind, b"new", if matches!(object, Object::Node(Kind::Link)) { ever & KEPT } else { ever });
+        }
+    }
+
+    fn write(mut self) -> io::Result<()> {
+        if !self.list.process.has_ended {
+            self.dir(ROOT, None);
+            self.made("dir", Call::Mkdir, true, Object::Dir(None));
+            self.made("other", Call::Mkdir, true, Object::Missing);
+            self.made("file", Call::Create, false, Object::Node(Kind::File));
+            self.made("link", Call::Symlink, false, Object::Node(Kind::Link));
+        }
+        flush(&mut self.list.out)
+    }
+}
+
+/// The list for ever of a process, unless it can still put veils.
+fn ever(world: &World, number: u32, mut front: Vec<u8>) -> Result<(), (u8, String)> {
+    let process = world.processes.get(&number).ok_or_else(|| (1, "pua: no such process".to_string()))?;
+    if !process.has_ended && !process.is_locked && process.held() & UNVEIL != 0 {
+        return Err((1, format!("pua: process {number} can still unveil")));
+    }
+    let _ = writeln!(front, "ever {number}");
+    state(&mut front, &world.tree, process);
+    Ever::new(&world.tree, process, front).write().map_err(|_| (3, "pua: cannot write".to_string()))
+}
+
 fn audit(world: &World, words: &Words, front: Vec<u8>) -> Result<(), (u8, String)> {
     let refused = |fault: String| (1, format!("pua: {fault}"));
     let limit = usize::from(words.limit.unwrap_or(0));
@@ -1567,6 +1783,7 @@ fn perform(command: Command, words: &Words) -> Result<(), (u8, String)> {
     }
     match command {
         Command::Run => flush(&mut out).map_err(|_| (3, "pua: cannot write".into())),
+        Command::Objects if words.is_ever => ever(&world, words.process.unwrap_or(1), out),
         Command::Objects => objects(&world, words, out),
         Command::Audit => audit(&world, words, out),
     }
@@ -1575,7 +1792,7 @@ fn perform(command: Command, words: &Words) -> Result<(), (u8, String)> {
 /// Those of the program beside which this one stands. Here no table is read.
 const USAGE: &str = "pua: usage: pua run [--table FILE] TREE SCRIPT; \
                      pua audit --limit N [--process P] [--base root|cwd] [--after CALL:PATH] [--table FILE] TREE SCRIPT [NAME...]";
-const OBJECTS_USAGE: &str = "pua: usage: pua objects [--process P|all] [--table FILE] TREE SCRIPT";
+const OBJECTS_USAGE: &str = "pua: usage: pua objects [--ever] [--process P|all] [--table FILE] TREE SCRIPT";
 
 fn main() -> ExitCode {
     let words: Vec<String> = std::env::args().skip(1).collect();
