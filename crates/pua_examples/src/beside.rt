@@ -186,7 +186,11 @@ pub(crate) fn process_of(world: &World<ListTree>, number: u32) -> Result<&Proces
 }
 
 /// The world that a script leaves over a listing, by a table of calls.
-pub(crate) fn world_of(alloc: Global, files: &Files<'_>, table: CallTable) -> Result<World<ListTree>> {
+pub(crate) fn world_of(
+    alloc: Global,
+    files: &Files<'_>,
+    table: CallTable,
+) -> Result<World<ListTree>> {
     let tree = read_listing(alloc, files.tree)?;
     let script = read_script(alloc, files.script)?;
     let mut world = World::new(alloc, tree, table)?;
