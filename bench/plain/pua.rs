@@ -1461,9 +1461,14 @@ impl<'a> List<'a> {
         Ok(None)
     }
 
-    fn write(mut self) -> io::Result<()> {
+    fn write(self) -> io::Result<()> {
+        flush(&mut self.listed()?)
+    }
+
+    /// The lines that are still to be written.
+    fn listed(mut self) -> io::Result<Vec<u8>> {
         if self.process.has_ended {
-            return flush(&mut self.out);
+            return Ok(self.out);
         }
         let over = if self.process.places.is_empty() { Some(ALL) } else { None };
         let mut open = vec![self.open(ROOT, Some("EBUSY"), over)?];
@@ -1475,7 +1480,7 @@ impl<'a> List<'a> {
                 None => drop(open.pop()),
             }
         }
-        flush(&mut self.out)
+        Ok(self.out)
     }
 }
 
@@ -1594,7 +1599,7 @@ impl<'a> Ever<'a> {
     fn new(tree: &'a Tree, process: &'a Process, out: Vec<u8>) -> Ever<'a> {
         let ways = Ways { tree, process };
         Ever {
-            list: List { tree, process, path: Vec::new(), out },
+            list: List { tree, process, allowed: Allowed::new(process.held()), path: Vec::new(), out },
             ways,
             may_edit: process.may(CPATH).is_ok(),
             for_dirs: ways.dir_covers(),
@@ -1608,8 +1613,7 @@ impl<'a> Ever<'a> {
 
     /// The line of what `path` leads to, under each of some covers, if a call is ever allowed on it.
     fn line(&mut self, kind: &str, covers: &[Cover], object: Object) {
-        let held = self.list.process.held();
-        let calls = covers.iter().fold(0, |calls, cover| calls | allowed(held, *cover, object));
+        let calls = covers.iter().fold(0, |calls, cover| calls | self.list.allowed.on(*cover, object));
         let path = if self.list.path.is_empty() { b"/".to_vec() } else { self.list.path.clone() };
         self.put(kind, &path, if matches!(object, Object::Node(Kind::Link)) { calls & KEPT } else { calls });
     }
@@ -1673,8 +1677,8 @@ impl<'a> Ever<'a> {
 
     /// The line of what can be made, if the call that makes it can be allowed.
     fn made(&mut self, kind: &str, maker: Call, is_dir: bool, object: Object) {
-        let held = self.list.process.held();
-        let calls = |covers: &[Cover], object| covers.iter().fold(0, |calls, cover| calls | allowed(held, *cover, object));
+        let allowed = &self.list.allowed;
+        let calls = |covers: &[Cover], object| covers.iter().fold(0, |calls, cover| calls | allowed.on(*cover, object));
         let names: Vec<Cover> = self.for_dirs.iter().chain(&self.for_files).copied().collect();
         if self.may_edit && calls(&names, Object::Missing) & 1 << maker as u16 != 0 {
             let ever = calls(if is_dir { &self.for_dirs } else { &self.for_files }, object);
@@ -1682,7 +1686,7 @@ impl<'a> Ever<'a> {
         }
     }
 
-    fn write(mut self) -> io::Result<()> {
+    fn listed(mut self) -> Vec<u8> {
         if !self.list.process.has_ended {
             self.dir(ROOT, None);
             self.made("dir", Call::Mkdir, true, Object::Dir(None));
@@ -1690,7 +1694,7 @@ impl<'a> Ever<'a> {
             self.made("file", Call::Create, false, Object::Node(Kind::File));
             self.made("link", Call::Symlink, false, Object::Node(Kind::Link));
         }
-        flush(&mut self.list.out)
+        self.list.out
     }
 }
 
@@ -1702,7 +1706,7 @@ fn ever(world: &World, number: u32, mut front: Vec<u8>) -> Result<(), (u8, Strin
     }
     let _ = writeln!(front, "ever {number}");
     state(&mut front, &world.tree, process);
-    Ever::new(&world.tree, process, front).write().map_err(|_| (3, "pua: cannot write".to_string()))
+    flush(&mut Ever::new(&world.tree, process, front).listed()).map_err(|_| (3, "pua: cannot write".to_string()))
 }
 
 fn audit(world: &World, words: &Words, front: Vec<u8>) -> Result<(), (u8, String)> {

@@ -17,7 +17,7 @@ pub(crate) enum About {
 /// What the line of a kind is about to which these names lead in a tree, beside the tree of the
 /// beginning; None where they lead nowhere. A number that nothing had in the beginning is new, since
 /// none is given twice.
-pub(crate) fn about<T: FileTree>(
+pub(crate) fn thing_at<T: FileTree>(
     first: &T,
     tree: &T,
     kind: ObjectKind,

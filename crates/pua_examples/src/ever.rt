@@ -2,7 +2,7 @@
 //! forks ask for, the objects of each of them lie within the list for ever of the beginning. How many of
 //! the calls of these lists were met on the way is counted.
 
-use crate::about::{About, about};
+use crate::about::{About, thing_at};
 use crate::beside::{process_of, world_of};
 use crate::futures::is_call;
 use crate::generator::{Random, listing, locked_script, member_script, nodes};
@@ -77,7 +77,7 @@ fn first_beyond(
     counts: &mut Counts,
 ) -> Result<Option<String>> {
     let first = world_of(alloc, files, CallTable::standard())?;
-    let mut calls = foreseen(alloc, &first)?;
+    let mut calls = calls_ahead(alloc, &first)?;
     for _ in 0..PLAYS {
         let script = member_script(alloc, random)?;
         let world = world_of(alloc, files, CallTable::standard())?;
@@ -92,31 +92,32 @@ fn first_beyond(
 }
 
 /// Each call in the lines of the list for ever of process 1.
-fn foreseen(alloc: Global, world: &World<ListTree>) -> Result<Vec<Foreseen>> {
+fn calls_ahead(alloc: Global, world: &World<ListTree>) -> Result<Vec<Foreseen>> {
     let tree = world.tree();
     let process = process_of(world, 1)?;
-    let begun = Ever::begin(alloc, tree, process, world.table());
-    let mut list = begun?;
+    let Ok(mut list) = Ever::begin(alloc, tree, process, world.table()) else {
+        return Err(anyhow!("there is no list for ever"));
+    };
     let mut calls = Vec::new(alloc);
     while let Some(line) = list.next_line() {
-        let about = match line.thing {
+        let found = match line.thing {
             EverThing::Comes(kind) => Some(About::New(kind)),
-            EverThing::Stands(kind) => about(tree, tree, kind, list.word()),
+            EverThing::Stands(kind) => thing_at(tree, tree, kind, list.word()),
         };
-        add_calls(&mut calls, about, line.calls)?;
+        let Some(about) = found else {
+            return Err(anyhow!("a line of what isn't there"));
+        };
+        add_calls(&mut calls, &about, line.calls)?;
     }
     Ok(calls)
 }
 
 /// Adds the calls of a line that is about something.
-fn add_calls(foreseen: &mut Vec<Foreseen>, about: Option<About>, calls: Calls) -> Result<()> {
-    let Some(about) = about else {
-        return Err(anyhow!("a line of what isn't there"));
-    };
+fn add_calls(foreseen: &mut Vec<Foreseen>, about: &About, calls: Calls) -> Result<()> {
     for call in Call::ALL {
         if calls.contains(call) {
             foreseen.push(Foreseen {
-                about,
+                about: *about,
                 call,
                 is_met: false,
             })?;
@@ -191,7 +192,7 @@ fn is_foreseen(
     let begun = Objects::begin(alloc, tree, process, world.table());
     let mut list = begun?;
     while let Some(line) = list.next_line() {
-        let Some(about) = about(first, tree, line.kind, list.word()) else {
+        let Some(about) = thing_at(first, tree, line.kind, list.word()) else {
             return Err(anyhow!("a line of what isn't there"));
         };
         if !meet(calls, about, line.calls) {
