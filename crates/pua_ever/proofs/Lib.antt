@@ -10,6 +10,7 @@ pub mod Unedited
 pub mod KindFaults
 pub mod Ending
 pub mod Complete
+pub mod Now
 pub mod NoExec
 pub mod Standing
 pub mod Standard

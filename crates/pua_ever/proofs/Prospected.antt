@@ -92,7 +92,7 @@ module _ (table : CallTable) (needs : EditsNeedC table) (h : History) where
       by true has = ap (λ x. passes cover (dir_as x) c) (same has)
       by false none = lacks none
 
-module _ (t : Tree) (table : CallTable) (h : History) (p : Prospects) (is : IsProspects t table h p) where
+module _ (t : Tree) (h : History) where
   -- a directory in which nothing stands can come to be empty
   abbrev passes_in : ℕ → Spot × ℕ → Bool
   passes_in dir row = not (row.0.0 == dir) || has_c (row_cover t h row.0 row.1)
@@ -106,9 +106,10 @@ module _ (t : Tree) (table : CallTable) (h : History) (p : Prospects) (is : IsPr
       by true here more none = absurd (false≢true none)
       by false other more none = and_from (passes_in dir row) _ (ap (λ b. not b || has_c (row_cover t h row.0 row.1)) other) (more none)
 
-  empty_can : (dir : ℕ) → not (list_any (λ row. row.0.0 == dir) t.rows) ≡ true → can_empty t h dir ≡ true
+  pub empty_can : (dir : ℕ) → not (list_any (λ row. row.0.0 == dir) t.rows) ≡ true → can_empty t h dir ≡ true
   empty_can dir none = empty_rows dir t.rows none
 
+module _ (t : Tree) (table : CallTable) (h : History) (p : Prospects) (is : IsProspects t table h p) where
   module _ (dir : ℕ) (way : Way) (living : is_dir t dir ≡ true) where
     abbrev moves : Bool
     moves = may_edit table h && is_none (kept h (place.Dir dir))
@@ -188,7 +189,7 @@ module _ (t : Tree) (table : CallTable) (h : History) (p : Prospects) (is : IsPr
         agree : has_c (cover_in t h dir) ≡ true → removed ≡ empties
         agree has =
             (λ i. ((is_named_way way && sym (is.held dir living has) i) && may_edit table h) || (is_named_way way && (living i && has_no_row t dir)))
-            ∙ tidy (is_named_way way) (can_empty t h dir) (may_edit table h) (has_no_row t dir) (empty_can dir)
+            ∙ tidy (is_named_way way) (can_empty t h dir) (may_edit table h) (has_no_row t dir) (empty_can t h dir)
           where
             tidy : (n c e r : Bool) → (r ≡ true → c ≡ true) → (((n && c) && e) || (n && (true && r))) ≡ (n && (c && (e || r)))
             tidy false c e r some = refl

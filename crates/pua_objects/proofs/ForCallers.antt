@@ -1,7 +1,7 @@
 -- What crates above cite of the proofs of this one, beside the definitions and the laws.
 
 -- what is among the elements of a list, also once it was mapped, filtered or joined
-pub use Rattle.pua_objects.proofs.Among.{Among, among_left, among_right, among_either, among_map, map_among, among_filter, filter_among, among_flat, contained}
+pub use Rattle.pua_objects.proofs.Among.{Among, among_left, among_right, among_either, among_map, map_among, among_filter, filter_among, among_flat, flat_among, contained}
 -- covers go down from directory to directory
 pub use Rattle.pua_policy.proofs.ForCallers.{covers_descend}
 -- what stands in a row or at a veil is among what is found there, and what was found has an item
