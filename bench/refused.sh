@@ -27,9 +27,11 @@ printf '%s\n' '1 unveil /etc/passwd r' '1 unveil - -' > one
 printf '%s\n' '1 pledge stdio,cpath -' '1 mkdir /d' '1 chdir /d' > makes
 printf '%s\n' '1 fork 2' '2 mkdir /n' '1 unveil /n rwc' '1 unveil /n/x =' '1 unveil /tmp/sh rx' \
     '1 pledge stdio,rpath,exec stdio,rpath' '2 rmdir /n' > gone
+printf '%s\n' '1 fork 2' '2 unveil /d rwc' '2 unveil /g rc' '2 unveil /n c' '2 unveil - -' > moves
 printf '%s\n' '1 pledge stdio,,rpath -' > list
 printf '%s\n' '[chmod]' 'promises = ["fattr", "rpath"]' 'veil = "r"' 'stat = { promises = [""], veil = "" }' > nested
 printf '%s\n' 'stat = { promises = [""], veil = "" }' '[chmod]' 'promises = ["fattr", "rpath"]' 'veil = "r"' > calls
+printf '%s\n' 'unlink = { promises = ["cpath"], veil = "" }' > stays
 : > none
 
 # Counts the run's answer, or prints that it is wrong.
@@ -87,6 +89,9 @@ sweep 'objects' 0 objects tree one
 sweep 'objects of another process' 0 objects --process 2 twice links
 sweep 'objects of all processes' 0 objects --process all tree forks
 sweep 'objects, and places that are gone' 0 objects tree gone
+sweep 'for ever' 0 objects --ever tree one
+sweep 'for ever, and what can be moved' 0 objects --ever --process 2 twice moves
+sweep 'for ever, and places that are gone' 0 objects --ever tree gone
 sweep 'a run by a table' 0 run --table calls tree veils
 sweep 'an audit by a table' 0 audit --limit 3 --table calls tree one
 sweep 'objects by a table' 0 objects --table calls tree one
@@ -101,6 +106,8 @@ sweep 'a table with a bad row' 1 run --table nested tree none
 sweep 'a listing that is cut' 1 run cut none
 sweep 'a further name of no node' 1 run lost none
 sweep 'a list with an empty word' 1 run tree list
+sweep 'a process that can still unveil' 1 objects --ever tree none
+sweep 'a table by which nothing stays' 1 objects --ever --table stays tree one
 sweep 'no such process' 1 audit --limit 1 --process 9 tree none
 sweep 'no such pair' 1 audit --limit 3 --after stat:/nope tree one
 sweep 'a limit too large' 1 audit --limit 17 tree none

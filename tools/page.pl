@@ -3,8 +3,8 @@
 #
 #     page.pl TREE [OBJECTS]
 #
-# TREE is the listing, and OBJECTS the output of `pua objects` over it; standard input if it is left
-# out. What is written is one HTML file, without scripts, that loads nothing. For each list of OBJECTS,
+# TREE is the listing, and OBJECTS the output of `pua objects` over it, of now or with `--ever`; standard
+# input if it is left out. What is written is one HTML file, without scripts, that loads nothing. For each list of OBJECTS,
 # of which `--process all` prints several, it has the state of the process, if there are lines about it,
 # and the tree: beside each name what can be read, written, executed, made and removed there, and the
 # veil whose place stands there now. A directory is folded where nothing below it can be touched and no
@@ -157,6 +157,7 @@ sub add_rows {
     my $row = row($folds ? 'summary' : 'div', $first, $kind, @{ $node->{calls} || [] });
     $page->[ $place - 1 ] = $folds ? '<details' . ($touched ? ' open' : '') . ">$row" : $row;
     push @$page, "</details>\n" if $folds;
+    push @$page, row('div', text($name) . ' <small>once it is free</small>', 'missing', @{ $node->{freed} }) if $node->{freed};
     return (1 + $names, $touched || $node->{calls} || @$veils ? 1 : 0);
 }
 
@@ -178,6 +179,7 @@ sub add_list {
         my $node = $path eq 'new' ? { kind => '' } : node($tree, $path);
         if ($path eq 'new') { push @$page, row('div', "<i>new</i> <small>$kind</small>", $kind, @rest) }
         elsif ($kind eq 'other') { $node->{other} = \@rest }
+        elsif ($kind eq 'missing' && $node->{calls}) { $node->{freed} = \@rest }
         else { %$node = (%$node, $node->{kind} eq $kind ? () : (note => undef), kind => $kind, calls => \@rest) }
     }
     add_rows($page, '', $tree);

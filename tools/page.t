@@ -137,6 +137,13 @@ my @site = ('1 dir 0 www', '2 dir 1 site', '3 file 2 index', '4 file 1 key', '5 
     like($page, qr{<li><code>limits none</code> </li>}, 'a line of the state that is not known stands as it is');
 }
 
+# A name with a veil of its own that can come to be free has two lines.
+{
+    my $page = page_of('free names', \@site, ['ever 1', 'file /www/key unlink', 'missing /www/key create', 'missing /www/pid mkdir']);
+    is_deeply([grep { /key|pid/ } rows($page)], ['2 | key file | removed: unlink', '2 | key once it is free | made: create',
+        '2 | pid missing | made: mkdir'], 'what stands there, and what can be made once it is free');
+}
+
 # Links, further names, what a script changed, and the order of names.
 {
     my $page = page_of('kinds', ['1 link 0 b /etc', '2 file 0 a', '3 hard 0 c 2', '4 prog 0 \134', '5 prog 0 \040',

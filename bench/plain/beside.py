@@ -31,6 +31,8 @@ def asked_by(words):
         word = rest.pop(0)
         if command == "run" or not word.startswith("--"):
             operands.append(word)
+        elif word == "--ever":
+            continue
         elif word == "--":
             operands, rest = operands + rest, []
         else:

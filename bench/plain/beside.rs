@@ -60,7 +60,7 @@ mod pua {
             /// The calls that are allowed on something, and by which it is named.
             fn calls(&self, found: Found) -> u16 {
                 let object = object(self.tree, found);
-                let calls = allowed(self.process.held(), self.process.cover(self.tree, found), object);
+                let calls = Allowed::new(self.process.held()).on(self.process.cover(self.tree, found), object);
                 if let Object::Node(Kind::Link) = object { calls & KEPT } else { calls }
             }
 
@@ -68,7 +68,8 @@ mod pua {
             fn gather(&mut self, dir: u32, way: Way, depth: usize) {
                 let cover = self.process.dir_cover(self.tree, dir);
                 self.put(Subject::Dir(dir), depth, self.calls(Found::Whole(dir, way)));
-                self.put(Subject::Others(dir), depth + 1, allowed(self.process.held(), cover, Object::Missing));
+                let calls = Allowed::new(self.process.held()).on(cover, Object::Missing);
+                self.put(Subject::Others(dir), depth + 1, calls);
                 let rows = &self.tree.node(dir).rows;
                 let veiled = self.process.on_names.get(&dir);
                 let names: BTreeSet<_> = rows.keys().chain(veiled.into_iter().flat_map(|names| names.keys())).collect();
@@ -129,7 +130,7 @@ mod pua {
 
         /// Compares one audit.
         fn compare(tree: &Tree, process: &Process, is_root: bool, names: &[Vec<u8>], limit: usize, counts: &mut Counts) {
-            let letters = alphabet(tree, names);
+            let letters: Vec<Vec<u8>> = Letters::new(tree, names).names.into_iter().map(<[u8]>::to_vec).collect();
             let mut lines = Lines::new(tree, process);
             let base = if is_root { ROOT } else { process.dir };
             let has_base = tree.node(base).links != 0;
@@ -154,8 +155,8 @@ mod pua {
         }
 
         /// The longest limit with at most so many words, at which no path is too long.
-        fn cheap_limit(letters: &[Vec<u8>], most: usize) -> usize {
-            let longest = letters.iter().map(Vec::len).max().unwrap_or(0) + 1;
+        fn cheap_limit(letters: &[&[u8]], most: usize) -> usize {
+            let longest = letters.iter().map(|name| name.len()).max().unwrap_or(0) + 1;
             let words = std::iter::successors(Some(1), |words| Some(words * letters.len() + 1));
             let is_cheap = |(limit, words): &(usize, usize)| *words <= most && limit * longest <= PATH_LIMIT;
             words.take(17).enumerate().take_while(is_cheap).last().map_or(0, |(limit, _)| limit)
@@ -180,7 +181,7 @@ mod pua {
             }
             names.push(b"nowhere".to_vec());
             names.extend(process.on_names.values().flat_map(|names| names.keys().map(|name| name.to_vec())));
-            let limit = cheap_limit(&alphabet(&world.tree, &names), most.parse()?);
+            let limit = cheap_limit(&Letters::new(&world.tree, &names).names, most.parse()?);
             for is_root in [true, false] {
                 compare(&world.tree, process, is_root, &names, limit, &mut counts);
             }

@@ -40,7 +40,7 @@ def words_of(row):
 def output_of(row):
     """What a row's command writes, and how many lines stand before the pairs."""
     lines = [f"{place} {answer}" for place, answer in enumerate(row.get("answers", "").split(), 1)]
-    lines += [f"{heading} {row[heading]}" for heading in ("reach", "objects") if heading in row]
+    lines += [f"{heading} {row[heading]}" for heading in ("reach", "objects", "ever") if heading in row]
     front = len(lines)
     for line in row.get("pairs", "").splitlines():
         path, *calls = line.split()

@@ -86,7 +86,7 @@ fn spell(out: &mut Vec<u8>, bytes: &[u8]) {
 
 fn name(field: &[u8]) -> Option<Cow<'_, [u8]>> {
     let bytes = unspelled(field)?;
-    let fits = (1..=NAME_LIMIT).contains(&bytes.len()) && !bytes.contains(&0) && !bytes.contains(&b'/');
+    let fits = (1..=NAME_LIMIT).contains(&bytes.len()) && !bytes.iter().any(|byte| [0, b'/'].contains(byte));
     (fits && *bytes != *b"." && *bytes != *b"..").then_some(bytes)
 }
 
@@ -115,11 +115,21 @@ fn lines(text: &[u8]) -> impl Iterator<Item = &[u8]> {
     })
 }
 
-/// Splits a line into `fields`; whether it has as many as fit, each of visible bytes.
+/// Splits a line into `fields`, in one pass; whether each has a byte and all are visible.
 fn split<'a>(line: &'a [u8], fields: &mut Vec<&'a [u8]>) -> bool {
     fields.clear();
-    fields.extend(line.split(|byte| *byte == b' '));
-    fields.iter().all(|field| !field.is_empty() && field.iter().all(|byte| (0x21..=0x7e).contains(byte)))
+    let (mut start, mut is_visible) = (0, true);
+    for (at, byte) in line.iter().enumerate() {
+        if *byte == b' ' {
+            is_visible &= start < at;
+            fields.push(&line[start..at]);
+            start = at + 1;
+        } else {
+            is_visible &= (0x21..=0x7e).contains(byte);
+        }
+    }
+    fields.push(&line[start..]);
+    is_visible && start < line.len()
 }
 
 // ---- Trees
@@ -199,6 +209,11 @@ impl Tree {
     fn make(&mut self, kind: Kind, parent: u32, target: &[u8]) -> u32 {
         self.nodes.push(Node { kind, links: 0, parent, rows: Map::default(), target: target.into() });
         self.nodes.len() as u32 - 1
+    }
+
+    fn is_living_dir(&self, id: u32) -> bool {
+        let node = self.node(id);
+        node.kind == Kind::Dir && node.links > 0
     }
 
     fn is_full(&self) -> bool {
@@ -541,6 +556,29 @@ impl Process {
         }
     }
 
+    /// What is left of each living directory: each is climbed from once, up to the next that is known.
+    fn dir_covers(&self, tree: &Tree) -> Vec<Cover> {
+        let mut covers: Vec<Option<Cover>> = vec![None; tree.nodes.len()];
+        let mut climbed = Vec::new();
+        let unveiled = if self.places.is_empty() { Some(ALL) } else { None };
+        for dir in (0..tree.nodes.len() as u32).filter(|dir| tree.is_living_dir(*dir)) {
+            let mut at = dir;
+            let cover = loop {
+                if let Some(cover) = covers[at as usize] {
+                    break cover;
+                }
+                climbed.push(at);
+                match self.on_dirs.get(&at) {
+                    Some(kept) => break Some(*kept),
+                    None if at == ROOT => break unveiled,
+                    None => at = tree.node(at).parent,
+                }
+            };
+            climbed.drain(..).for_each(|below| covers[below as usize] = Some(cover));
+        }
+        covers.into_iter().map(Option::flatten).collect()
+    }
+
     fn kept_on_name(&self, dir: u32, name: &[u8]) -> Cover {
         self.on_names.get(&dir)?.get(name).copied()
     }
@@ -645,7 +683,10 @@ fn read_path(field: &[u8]) -> Result<Path<'_>, &'static str> {
     if field == b"=" {
         return Ok(Cow::Borrowed(&[]));
     }
-    unspelled(field).filter(|path| !path.contains(&0)).ok_or("bad path")
+    match unspelled(field).ok_or("bad path")? {
+        Cow::Owned(path) if path.contains(&0) => Err("bad path"),
+        path => Ok(path),
+    }
 }
 
 fn read_given(field: &[u8]) -> Result<Given, &'static str> {
@@ -659,9 +700,9 @@ fn read_given(field: &[u8]) -> Result<Given, &'static str> {
         if word.is_empty() {
             return Err("bad list");
         }
-        match KEYWORDS.iter().position(|keyword| keyword.as_bytes() == word) {
-            Some(bit) => set |= 1 << bit,
-            None => is_known = false,
+        match KEYWORDS.binary_search_by(|keyword| keyword.as_bytes().cmp(word)) {
+            Ok(bit) => set |= 1 << bit,
+            Err(_) => is_known = false,
         }
     }
     Ok(if is_known { Given::Good(set) } else { Given::Unknown })
@@ -907,66 +948,164 @@ struct Walk<'a> {
     out: Vec<u8>,
 }
 
-fn allowed(held: u64, cover: Cover, object: Object) -> u16 {
-    let allows = |(call, _, promises, perms, _): &&(Call, &str, u64, u8, bool)| {
-        held & promises == *promises && cover_fault(cover, *perms).is_none() && object_fault(*call, object).is_none()
-    };
-    CALLS.iter().filter(allows).fold(0, |calls, row| calls | 1 << row.0 as u16)
+/// The calls that a process is allowed, worked out once: by the letters of a cover, and by the object.
+struct Allowed {
+    by_letters: [u16; 16],
+    by_object: [u16; OBJECTS.len()],
 }
 
-/// All names of a tree, `..` and the candidates, by their bytes.
-fn alphabet(tree: &Tree, candidates: &[Vec<u8>]) -> Vec<Vec<u8>> {
-    let living = tree.nodes.iter().filter(|node| node.links > 0);
-    let rows = living.flat_map(|node| node.rows.keys().map(|name| &**name));
-    let mut letters: Vec<&[u8]> = rows.chain(candidates.iter().map(|name| &**name)).chain([&b".."[..]]).collect();
-    letters.sort_unstable();
-    letters.dedup();
-    letters.into_iter().map(<[u8]>::to_vec).collect()
-}
+/// An object of each kind that some call tells from the others.
+const OBJECTS: [Object; 6] = [
+    Object::Missing,
+    Object::Node(Kind::File),
+    Object::Node(Kind::Prog),
+    Object::Node(Kind::Link),
+    Object::Dir(None),
+    Object::Dir(Some("ENOTEMPTY")),
+];
 
-/// The steps of a directory, by their letters.
-fn steps(tree: &Tree, process: &Process, letters: &Map<&[u8], u32>, dir: u32) -> Vec<Step> {
-    let held = process.held();
-    let calls = |found| allowed(held, process.cover(tree, found), object(tree, found));
-    let node = tree.node(dir);
-    let veiled = process.on_names.get(&dir).into_iter().flat_map(|names| names.keys());
-    let absent = veiled.filter(|name| !node.rows.contains_key(*name)).map(|name| &**name);
-    let names = node.rows.keys().map(|name| &**name).chain(absent).chain([&b".."[..]]);
-    let mut steps = Vec::with_capacity(node.rows.len() + 1);
-    for name in names {
-        let Some(&letter) = letters.get(name) else { continue };
-        let mut step = Step { letter, to: NOWHERE, all: 0, kept: 0, links: 0, enter: 0 };
-        if let Ok((found, _)) = tree.resolve(dir, name, false) {
-            step.kept = calls(found);
+impl Allowed {
+    fn new(held: u64) -> Allowed {
+        let calls = |fits: &dyn Fn(Call, u64, u8) -> bool| {
+            let fitting = CALLS.iter().filter(|(call, _, promises, letters, _)| fits(*call, *promises, *letters));
+            fitting.fold(0, |calls, row| calls | 1 << row.0 as u16)
+        };
+        Allowed {
+            by_letters: std::array::from_fn(|kept| calls(&|_, promises, letters| {
+                held & promises == promises && kept as u8 & letters == letters
+            })),
+            by_object: OBJECTS.map(|object| calls(&|call, _, _| object_fault(call, object).is_none())),
         }
-        if node.rows.get(name).is_some_and(|node| tree.node(*node).kind == Kind::Link) {
-            step.kept &= KEPT;
+    }
+
+    fn on(&self, cover: Cover, object: Object) -> u16 {
+        let place = match object {
+            Object::Missing => 0,
+            Object::Node(Kind::Prog) => 2,
+            Object::Node(Kind::Link) => 3,
+            Object::Node(_) => 1,
+            Object::Dir(None) => 4,
+            Object::Dir(Some(_)) => 5,
+        };
+        cover.map_or(0, |kept| self.by_letters[usize::from(kept)] & self.by_object[place])
+    }
+}
+
+/// All names of a tree, `..` and the candidates, by their bytes; and the rows of each directory, by the places of their
+/// names among these.
+struct Letters<'a> {
+    names: Vec<&'a [u8]>,
+    rows: Vec<Vec<(u32, u32)>>,
+}
+
+impl<'a> Letters<'a> {
+    fn new(tree: &'a Tree, candidates: &'a [Vec<u8>]) -> Letters<'a> {
+        let others = candidates.iter().map(|name| &**name).chain([&b".."[..]]);
+        let mut given: Vec<(u64, &[u8], u32, u32)> = others.map(|name| (front(name), name, NOWHERE, ROOT)).collect();
+        for (node, dir) in tree.nodes.iter().zip(0..).filter(|(node, _)| node.links > 0) {
+            given.extend(node.rows.iter().map(|(name, id)| (front(name), &**name, dir, *id)));
+        }
+        given.sort_unstable_by(|one, other| (one.0, one.1).cmp(&(other.0, other.1)));
+        let mut letters = Letters { names: Vec::with_capacity(given.len()), rows: vec![Vec::new(); tree.nodes.len()] };
+        for (_, name, dir, id) in given {
+            if letters.names.last() != Some(&name) {
+                letters.names.push(name);
+            }
+            if dir != NOWHERE {
+                letters.rows[dir as usize].push((letters.names.len() as u32 - 1, id));
+            }
+        }
+        letters
+    }
+
+    fn place(&self, name: &[u8]) -> Option<u32> {
+        self.names.binary_search(&name).ok().map(|place| place as u32)
+    }
+}
+
+/// The first eight bytes of a name as a number, by which most names are told apart.
+fn front(name: &[u8]) -> u64 {
+    let mut bytes = [0; 8];
+    let len = name.len().min(8);
+    bytes[..len].copy_from_slice(&name[..len]);
+    u64::from_be_bytes(bytes)
+}
+
+/// What steps are made of.
+struct Making<'a> {
+    tree: &'a Tree,
+    process: &'a Process,
+    letters: &'a Letters<'a>,
+    allowed: &'a Allowed,
+    covers: &'a [Cover],
+}
+
+impl Making<'_> {
+    fn calls(&self, found: Found) -> u16 {
+        let cover = match found {
+            Found::Whole(dir, _) => self.covers[dir as usize],
+            Found::Slot(dir, name, _) => self.process.kept_on_name(dir, name).or(self.covers[dir as usize]),
+        };
+        self.allowed.on(cover, object(self.tree, found))
+    }
+
+    /// The steps of a directory, by their letters.
+    fn steps(&self, dir: u32) -> Vec<Step> {
+        let (rows, veiled) = (&self.letters.rows[dir as usize], self.process.on_names.get(&dir));
+        let mut steps = Vec::with_capacity(rows.len() + 1);
+        steps.extend(rows.iter().map(|(letter, id)| self.step(dir, veiled.is_some(), *letter, *id)));
+        let parent = self.tree.node(dir).parent;
+        let up = self.calls(Found::Whole(parent, Way::Dots));
+        let dots = self.letters.place(b"..").into_iter();
+        steps.extend(dots.map(|letter| Step { letter, to: parent, all: up, kept: up, links: 0, enter: 0 }));
+        for name in veiled.into_iter().flat_map(|names| names.keys()) {
+            let Some(letter) = self.letters.place(name) else { continue };
+            if !self.tree.node(dir).rows.contains_key(name) {
+                let calls = self.calls(Found::Slot(dir, name, None));
+                steps.push(Step { letter, to: NOWHERE, all: calls, kept: calls, links: 0, enter: 0 });
+            }
+        }
+        steps.sort_by_key(|step| step.letter);
+        steps
+    }
+
+    /// The step of what stands in a directory, in which some names may have veils of their own.
+    fn step(&self, dir: u32, has_veils: bool, letter: u32, id: u32) -> Step {
+        let (node, name) = (self.tree.node(id), self.letters.names[letter as usize]);
+        let mut step = Step { letter, to: NOWHERE, all: 0, kept: 0, links: 0, enter: 0 };
+        match node.kind {
+            Kind::Dir => {
+                step.kept = self.calls(Found::Whole(id, Way::Named(dir, name)));
+                step.to = id;
+            }
+            kind if !has_veils => step.kept = self.allowed.on(self.covers[dir as usize], Object::Node(kind)),
+            _ => step.kept = self.calls(Found::Slot(dir, name, Some(id))),
         }
         step.all = step.kept;
-        if let Ok((found, links)) = tree.resolve(dir, name, true) {
-            step.links = links;
-            if links > 0 {
-                step.all |= calls(found) & !KEPT;
-            }
-            if let Found::Whole(to, _) = found {
-                step.to = to;
+        if node.kind == Kind::Link {
+            step.kept &= KEPT;
+            step.all = step.kept;
+            if let Ok((found, links)) = self.tree.resolve(dir, name, true) {
+                step.links = links;
+                step.all |= self.calls(found) & !KEPT;
+                if let Found::Whole(to, _) = found {
+                    step.to = to;
+                }
             }
         }
-        steps.push(step);
+        step
     }
-    steps.sort_unstable_by_key(|step| step.letter);
-    steps
 }
 
 impl Tables {
-    fn new(tree: &Tree, process: &Process, letters: &[Vec<u8>], limit: usize) -> Tables {
-        let places = letters.iter().zip(0..).map(|(letter, place)| (&**letter, place)).collect();
-        let is_dir = |dir: u32| tree.node(dir).kind == Kind::Dir && tree.node(dir).links > 0;
+    fn new(tree: &Tree, process: &Process, letters: &Letters, covers: &[Cover], limit: usize) -> Tables {
+        let allowed = Allowed::new(process.held());
+        let making = Making { tree, process, letters, allowed: &allowed, covers };
         let mut missing = vec![0; tree.nodes.len()];
         let mut table = vec![Vec::new(); tree.nodes.len()];
-        for dir in (0..tree.nodes.len() as u32).filter(|dir| is_dir(*dir)) {
-            missing[dir as usize] = allowed(process.held(), process.dir_cover(tree, dir), Object::Missing);
-            table[dir as usize] = steps(tree, process, &places, dir);
+        for dir in (0..tree.nodes.len() as u32).filter(|dir| tree.is_living_dir(*dir)) {
+            missing[dir as usize] = allowed.on(covers[dir as usize], Object::Missing);
+            table[dir as usize] = making.steps(dir);
         }
         let lists = lists(&table, &missing, limit);
         Tables { missing, lists }
@@ -1084,7 +1223,7 @@ const ENDINGS: [&[u8]; 14] = [
 ];
 
 /// The letters and the call of the text `CALL:PATH`.
-fn read_pair(text: &[u8], letters: &[Vec<u8>], limit: usize, from_root: bool) -> Option<(Vec<u32>, u32)> {
+fn read_pair(text: &[u8], letters: &Letters, limit: usize, from_root: bool) -> Option<(Vec<u32>, u32)> {
     let colon = text.iter().position(|byte| *byte == b':')?;
     let (call, path) = (read_call(&text[..colon])?, &text[colon + 1..]);
     let pieces = if from_root { path.strip_prefix(b"/")? } else { path };
@@ -1093,13 +1232,33 @@ fn read_pair(text: &[u8], letters: &[Vec<u8>], limit: usize, from_root: bool) ->
     }
     let letter = |piece: &[u8]| {
         let bytes = if piece == b".." { Cow::Borrowed(piece) } else { name(piece)? };
-        letters.binary_search_by(|letter| (**letter).cmp(&*bytes)).ok().map(|place| place as u32)
+        letters.place(&bytes)
     };
     let word: Vec<u32> = pieces.split(|byte| *byte == b'/').map(letter).collect::<Option<_>>()?;
     (word.len() <= limit).then_some((word, call as u32))
 }
 
 // ---- The command
+
+/// The numbers from 1 on, in digits.
+#[derive(Default)]
+struct Count {
+    digits: [u8; 8],
+    len: usize,
+}
+
+impl Count {
+    fn next(&mut self) -> &[u8] {
+        let nines = self.digits.iter().rev().take(self.len).take_while(|digit| **digit == b'9').count();
+        if nines == self.len {
+            self.len += 1;
+            self.digits[8 - self.len] = b'0';
+        }
+        self.digits[8 - nines..].fill(b'0');
+        self.digits[7 - nines] += 1;
+        &self.digits[8 - self.len..]
+    }
+}
 
 fn flush(out: &mut Vec<u8>) -> io::Result<()> {
     let written = io::stdout().write_all(out);
@@ -1118,6 +1277,7 @@ struct Words<'a> {
     limit: Option<u8>,
     /// None for all processes, for which only `objects` can be asked.
     process: Option<u32>,
+    is_ever: bool,
     from_root: bool,
     after: Option<&'a str>,
     operands: Vec<&'a str>,
@@ -1132,7 +1292,7 @@ fn read_words(words: &[String]) -> Option<(Command, Words<'_>)> {
         _ => return None,
     };
     let is_audit = command == Command::Audit;
-    let mut read = Words { limit: None, process: Some(1), from_root: true, after: None, operands: Vec::new() };
+    let mut read = Words { limit: None, process: Some(1), is_ever: false, from_root: true, after: None, operands: Vec::new() };
     let (mut has_options, mut given) = (command != Command::Run, Vec::new());
     while let [word, more @ ..] = rest {
         rest = more;
@@ -1141,6 +1301,10 @@ fn read_words(words: &[String]) -> Option<(Command, Words<'_>)> {
             continue;
         } else if word == "--" {
             has_options = false;
+            continue;
+        }
+        if word == "--ever" && command == Command::Objects && !read.is_ever {
+            read.is_ever = true;
             continue;
         }
         let (option, value) = match word.split_once('=') {
@@ -1160,6 +1324,9 @@ fn read_words(words: &[String]) -> Option<(Command, Words<'_>)> {
             "--after" => read.after = Some(value),
             _ => return None,
         }
+    }
+    if read.is_ever && read.process.is_none() {
+        return None;
     }
     let has_enough = if is_audit { read.limit.is_some() && read.operands.len() >= 2 } else { read.operands.len() == 2 };
     has_enough.then_some((command, read))
@@ -1231,6 +1398,7 @@ struct OpenDir<'a> {
 struct List<'a> {
     tree: &'a Tree,
     process: &'a Process,
+    allowed: Allowed,
     path: Vec<u8>,
     out: Vec<u8>,
 }
@@ -1238,7 +1406,7 @@ struct List<'a> {
 impl<'a> List<'a> {
     /// The line of what `path` leads to, if a call is allowed on it.
     fn line(&mut self, kind: &str, cover: Cover, object: Object) -> io::Result<()> {
-        let mut calls = allowed(self.process.held(), cover, object);
+        let mut calls = self.allowed.on(cover, object);
         if let Object::Node(Kind::Link) = object {
             calls &= KEPT;
         }
@@ -1293,9 +1461,14 @@ impl<'a> List<'a> {
         Ok(None)
     }
 
-    fn write(mut self) -> io::Result<()> {
+    fn write(self) -> io::Result<()> {
+        flush(&mut self.listed()?)
+    }
+
+    /// The lines that are still to be written.
+    fn listed(mut self) -> io::Result<Vec<u8>> {
         if self.process.has_ended {
-            return flush(&mut self.out);
+            return Ok(self.out);
         }
         let over = if self.process.places.is_empty() { Some(ALL) } else { None };
         let mut open = vec![self.open(ROOT, Some("EBUSY"), over)?];
@@ -1307,7 +1480,7 @@ impl<'a> List<'a> {
                 None => drop(open.pop()),
             }
         }
-        flush(&mut self.out)
+        Ok(self.out)
     }
 }
 
@@ -1322,10 +1495,218 @@ fn objects(world: &World, words: &Words, mut front: Vec<u8>) -> Result<(), (u8, 
         let _ = writeln!(front, "objects {number}");
         state(&mut front, &world.tree, process);
         let out = std::mem::take(&mut front);
-        let list = List { tree: &world.tree, process, path: Vec::new(), out };
+        let allowed = Allowed::new(process.held());
+        let list = List { tree: &world.tree, process, allowed, path: Vec::new(), out };
         list.write().map_err(|_| (3, "pua: cannot write".to_string()))?;
     }
     Ok(())
+}
+
+// ---- All that can ever be touched: each part is asked of the tree anew, as the definition has it
+
+fn has_c(cover: Cover) -> bool {
+    cover.is_some_and(|kept| kept & C != 0)
+}
+
+/// What can be asked of a tree and the veils of a process, where the tree may change.
+#[derive(Clone, Copy)]
+struct Ways<'a> {
+    tree: &'a Tree,
+    process: &'a Process,
+}
+
+impl<'a> Ways<'a> {
+    fn is_living(self, dir: u32) -> bool {
+        let node = self.tree.node(dir);
+        node.links > 0 && node.kind == Kind::Dir
+    }
+
+    fn living(self) -> impl Iterator<Item = u32> {
+        (0..self.tree.nodes.len() as u32).filter(move |dir| self.is_living(*dir))
+    }
+
+    /// The names with veils of their own that have c, each with its directory and its letters.
+    fn names_with_c(self) -> impl Iterator<Item = (u32, &'a [u8], u8)> {
+        let names = self.process.on_names.iter().flat_map(|(dir, names)| names.iter().map(|(name, kept)| (*dir, &**name, *kept)));
+        names.filter(move |(dir, _, kept)| self.is_living(*dir) && kept & C != 0)
+    }
+
+    fn row_has_c(self, dir: u32, name: &[u8], node: u32) -> bool {
+        has_c(match self.tree.node(node).kind {
+            Kind::Dir => self.process.dir_cover(self.tree, node),
+            _ => self.process.cover(self.tree, Found::Slot(dir, name, Some(node))),
+        })
+    }
+
+    fn is_free(self, dir: u32, name: &[u8]) -> bool {
+        self.tree.node(dir).rows.get(name).is_none_or(|node| self.row_has_c(dir, name, *node))
+    }
+
+    fn can_empty(self, dir: u32) -> bool {
+        self.tree.node(dir).rows.iter().all(|(name, node)| self.row_has_c(dir, name, *node))
+    }
+
+    fn is_below(self, over: u32, dir: u32) -> bool {
+        let mut at = dir;
+        while at != over && at != ROOT {
+            at = self.tree.node(at).parent;
+        }
+        at == over
+    }
+
+    fn has_c_outside(self, inner: u32) -> bool {
+        self.living().any(|dir| !self.is_below(inner, dir) && has_c(self.process.dir_cover(self.tree, dir)))
+            || self.names_with_c().any(|(dir, ..)| !self.is_below(inner, dir))
+    }
+
+    fn gives_way(self, dir: u32) -> bool {
+        self.is_living(dir)
+            && has_c(self.process.dir_cover(self.tree, dir))
+            && self.can_empty(dir)
+            && self.has_c_outside(dir)
+    }
+
+    fn is_way_in(self, dir: u32) -> bool {
+        has_c(self.process.dir_cover(self.tree, dir))
+            || self.names_with_c().any(|(other, name, _)| other == dir && self.is_free(dir, name))
+            || self.tree.node(dir).rows.values().any(|node| self.gives_way(*node))
+    }
+
+    fn dir_covers(self) -> Vec<Cover> {
+        self.living().filter(|dir| self.is_way_in(*dir)).map(|dir| self.process.dir_cover(self.tree, dir)).collect()
+    }
+
+    fn file_covers(self) -> Vec<Cover> {
+        let free = self.names_with_c().filter(|(dir, name, _)| self.is_free(*dir, name));
+        let mut covers: Vec<Cover> = free.map(|(_, _, kept)| Some(kept)).collect();
+        if self.living().any(|dir| has_c(self.process.dir_cover(self.tree, dir))) {
+            covers.extend(self.dir_covers());
+        }
+        covers
+    }
+}
+
+/// The list of all that a process can ever touch.
+struct Ever<'a> {
+    list: List<'a>,
+    ways: Ways<'a>,
+    may_edit: bool,
+    for_dirs: Vec<Cover>,
+    for_files: Vec<Cover>,
+}
+
+impl<'a> Ever<'a> {
+    fn new(tree: &'a Tree, process: &'a Process, out: Vec<u8>) -> Ever<'a> {
+        let ways = Ways { tree, process };
+        Ever {
+            list: List { tree, process, allowed: Allowed::new(process.held()), path: Vec::new(), out },
+            ways,
+            may_edit: process.may(CPATH).is_ok(),
+            for_dirs: ways.dir_covers(),
+            for_files: ways.file_covers(),
+        }
+    }
+
+    fn covers(&self, moves: bool, now: Cover, others: &[Cover]) -> Vec<Cover> {
+        if self.may_edit && moves && has_c(now) { others.to_vec() } else { vec![now] }
+    }
+
+    /// The line of what `path` leads to, under each of some covers, if a call is ever allowed on it.
+    fn line(&mut self, kind: &str, covers: &[Cover], object: Object) {
+        let calls = covers.iter().fold(0, |calls, cover| calls | self.list.allowed.on(*cover, object));
+        let path = if self.list.path.is_empty() { b"/".to_vec() } else { self.list.path.clone() };
+        self.put(kind, &path, if matches!(object, Object::Node(Kind::Link)) { calls & KEPT } else { calls });
+    }
+
+    fn put(&mut self, kind: &str, path: &[u8], calls: u16) {
+        let names: Vec<&str> = CALLS.iter().filter(|row| calls & 1 << row.0 as u16 != 0).map(|row| row.1).collect();
+        if !names.is_empty() {
+            self.list.out.extend_from_slice(&[kind.as_bytes(), b" ", path, b" ", names.join(",").as_bytes(), b"\n"].concat());
+        }
+    }
+
+    /// The lines of a directory, of its name where something else can come there, of its further names, and of all that is
+    /// below it.
+    fn dir(&mut self, dir: u32, at: Option<(u32, &[u8])>) {
+        let (tree, process) = (self.ways.tree, self.ways.process);
+        let now = process.dir_cover(tree, dir);
+        let covers = self.covers(!process.on_dirs.contains_key(&dir), now, &self.for_dirs);
+        let is_empty = tree.node(dir).rows.is_empty();
+        let is_removable = at.is_some() && self.ways.can_empty(dir) && (self.may_edit || is_empty);
+        self.line("dir", &covers, Object::Dir((!is_removable).then_some("ENOTEMPTY")));
+        if let Some((over, name)) = at {
+            self.freed(over, name);
+        }
+        self.line("other", &covers, Object::Missing);
+        let veiled = process.on_names.get(&dir).into_iter().flat_map(|names| names.keys());
+        let mut names: Vec<&[u8]> = tree.node(dir).rows.keys().chain(veiled).map(|name| &**name).collect();
+        names.sort_unstable();
+        names.dedup();
+        let len = self.list.path.len();
+        for name in names {
+            self.list.path.push(b'/');
+            spell(&mut self.list.path, name);
+            self.name(dir, name);
+            self.list.path.truncate(len);
+        }
+    }
+
+    /// The line of a taken name with a veil of its own where what stands there can be taken away.
+    fn freed(&mut self, dir: u32, name: &[u8]) {
+        if let Some(kept) = self.ways.process.kept_on_name(dir, name).filter(|_| self.may_edit && self.ways.is_free(dir, name)) {
+            self.line("missing", &[Some(kept)], Object::Missing);
+        }
+    }
+
+    fn name(&mut self, dir: u32, name: &[u8]) {
+        let tree = self.ways.tree;
+        let node = tree.node(dir).rows.get(name).copied();
+        let now = self.ways.process.cover(tree, Found::Slot(dir, name, node));
+        let Some(node) = node else { return self.line("missing", &[now], Object::Missing) };
+        let kind = tree.node(node).kind;
+        let word = match kind {
+            Kind::Dir => return self.dir(node, Some((dir, name))),
+            Kind::File => "file",
+            Kind::Prog => "prog",
+            Kind::Link => "link",
+        };
+        let covers = self.covers(true, now, &self.for_files);
+        self.line(word, &covers, Object::Node(kind));
+        self.freed(dir, name);
+    }
+
+    /// The line of what can be made, if the call that makes it can be allowed.
+    fn made(&mut self, kind: &str, maker: Call, is_dir: bool, object: Object) {
+        let allowed = &self.list.allowed;
+        let calls = |covers: &[Cover], object| covers.iter().fold(0, |calls, cover| calls | allowed.on(*cover, object));
+        let names: Vec<Cover> = self.for_dirs.iter().chain(&self.for_files).copied().collect();
+        if self.may_edit && calls(&names, Object::Missing) & 1 << maker as u16 != 0 {
+            let ever = calls(if is_dir { &self.for_dirs } else { &self.for_files }, object);
+            self.put(kind, b"new", if matches!(object, Object::Node(Kind::Link)) { ever & KEPT } else { ever });
+        }
+    }
+
+    fn listed(mut self) -> Vec<u8> {
+        if !self.list.process.has_ended {
+            self.dir(ROOT, None);
+            self.made("dir", Call::Mkdir, true, Object::Dir(None));
+            self.made("other", Call::Mkdir, true, Object::Missing);
+            self.made("file", Call::Create, false, Object::Node(Kind::File));
+            self.made("link", Call::Symlink, false, Object::Node(Kind::Link));
+        }
+        self.list.out
+    }
+}
+
+/// The list for ever of a process, unless it can still put veils.
+fn ever(world: &World, number: u32, mut front: Vec<u8>) -> Result<(), (u8, String)> {
+    let process = world.processes.get(&number).ok_or_else(|| (1, "pua: no such process".to_string()))?;
+    if !process.has_ended && !process.is_locked && process.held() & UNVEIL != 0 {
+        return Err((1, format!("pua: process {number} can still unveil")));
+    }
+    let _ = writeln!(front, "ever {number}");
+    state(&mut front, &world.tree, process);
+    flush(&mut Ever::new(&world.tree, process, front).listed()).map_err(|_| (3, "pua: cannot write".to_string()))
 }
 
 fn audit(world: &World, words: &Words, front: Vec<u8>) -> Result<(), (u8, String)> {
@@ -1344,8 +1725,8 @@ fn audit(world: &World, words: &Words, front: Vec<u8>) -> Result<(), (u8, String
         let name = name(field.as_bytes()).ok_or_else(|| refused(format!("audit: bad candidate {}", place + 1)))?;
         candidates.push(name.into_owned());
     }
-    let letters = alphabet(&world.tree, &candidates);
-    if limit * (letters.iter().map(Vec::len).max().unwrap_or(0) + 1) > PATH_LIMIT {
+    let letters = Letters::new(&world.tree, &candidates);
+    if limit * (letters.names.iter().map(|name| name.len()).max().unwrap_or(0) + 1) > PATH_LIMIT {
         return Err(refused("audit: paths too long".into()));
     }
     let after = words.after.map(|text| read_pair(text.as_bytes(), &letters, limit, words.from_root));
@@ -1363,16 +1744,17 @@ fn audit(world: &World, words: &Words, front: Vec<u8>) -> Result<(), (u8, String
     if is_empty {
         return Ok(());
     }
-    let tables = Tables::new(&world.tree, process, &letters, limit);
+    let covers = process.dir_covers(&world.tree);
+    let tables = Tables::new(&world.tree, process, &letters, &covers, limit);
     let mut walk = Walk {
         tables: &tables,
-        letters: letters.iter().map(|letter| printed(letter)).collect(),
+        letters: letters.names.iter().map(|letter| printed(letter)).collect(),
         from_root: words.from_root,
         path: if words.from_root { b"/".to_vec() } else { b".".to_vec() },
         out: Vec::with_capacity(2 * BLOCK),
     };
     let after = after.as_ref().map(|(word, call)| (&word[..], *call));
-    let calls = allowed(process.held(), process.dir_cover(&world.tree, base), Object::Dir(Some("EINVAL")));
+    let calls = Allowed::new(process.held()).on(covers[base as usize], Object::Dir(Some("EINVAL")));
     walk.lines(calls & calls_after(after)).map_err(cannot_write)?;
     walk.path.clear();
     walk.walk(limit, base, 0, after).map_err(cannot_write)?;
@@ -1395,13 +1777,17 @@ fn perform(command: Command, words: &Words) -> Result<(), (u8, String)> {
     let tree = read_listing(&listing).map_err(|fault| (1, fault))?;
     let script = read_script(&text).map_err(|fault| (1, fault))?;
     let mut world = World { tree, processes: Map::from_iter([(1, Process::default())]) };
-    let mut out = Vec::new();
-    for (at, (process, action)) in script.iter().enumerate() {
+    let (mut out, mut count) = (Vec::new(), Count::default());
+    for (process, action) in &script {
         let answer = world.serve(*process, action);
-        let _ = writeln!(out, "{} {answer}", at + 1);
+        out.extend_from_slice(count.next());
+        out.push(b' ');
+        out.extend_from_slice(answer.as_bytes());
+        out.push(b'\n');
     }
     match command {
         Command::Run => flush(&mut out).map_err(|_| (3, "pua: cannot write".into())),
+        Command::Objects if words.is_ever => ever(&world, words.process.unwrap_or(1), out),
         Command::Objects => objects(&world, words, out),
         Command::Audit => audit(&world, words, out),
     }
@@ -1410,7 +1796,7 @@ fn perform(command: Command, words: &Words) -> Result<(), (u8, String)> {
 /// Those of the program beside which this one stands. Here no table is read.
 const USAGE: &str = "pua: usage: pua run [--table FILE] TREE SCRIPT; \
                      pua audit --limit N [--process P] [--base root|cwd] [--after CALL:PATH] [--table FILE] TREE SCRIPT [NAME...]";
-const OBJECTS_USAGE: &str = "pua: usage: pua objects [--process P|all] [--table FILE] TREE SCRIPT";
+const OBJECTS_USAGE: &str = "pua: usage: pua objects [--ever] [--process P|all] [--table FILE] TREE SCRIPT";
 
 fn main() -> ExitCode {
     let words: Vec<String> = std::env::args().skip(1).collect();

@@ -18,7 +18,7 @@ class Random:
 
     def __init__(self):
         self.state = 0x9E37_79B9_7F4A_7C15
-        names = "NAMES KINDS TARGETS PATHS PERMS PLEDGES CALLS TURNS".split()
+        names = "NAMES KINDS TARGETS PATHS PERMS PLEDGES CALLS TURNS MEMBERS".split()
         self.texts = {name: texts(GENERATOR, name) for name in names}
 
     def below(self, bound):
@@ -69,6 +69,25 @@ class Random:
 
     def script(self):
         return "1 fork 2\n" + "".join(f"{self.below(2) + 1} {self.request()}\n" for _ in range(7))
+
+    def locked_script(self):
+        text = "".join(f"1 unveil {self.pick('PATHS')} {self.pick('PERMS')}\n" for _ in range(3)) + "1 unveil - -\n"
+        return text + (f"1 pledge {self.pick('PLEDGES')} -\n" if self.below(2) == 0 else "")
+
+    def member_script(self):
+        text = "1 fork 3\n"
+        for _ in range(24):
+            text += self.pick("MEMBERS") + " "
+            match self.below(8):
+                case 0 | 1 | 2:
+                    text += f"rename {self.pick('PATHS')} {self.pick('PATHS')}\n"
+                case 3:
+                    text += f"fork {self.below(2) + 4}\n"
+                case 4:
+                    text += self.request() + "\n"
+                case _:
+                    text += f"{self.pick('CALLS')} {self.pick('PATHS')}\n"
+        return text
 
     def state_script(self):
         text = "1 fork 2\n"

@@ -53,12 +53,12 @@ one_new NewFile = inr (inr (inl refl))
 one_new NewLink = inr (inr (inr (inl refl)))
 
 -- a verdict that allows, in its parts
-record Parts (m : May) (a b : Option Errno) : Type 0 where
-  may : m ≡ may.Yes
-  covered : a ≡ None
-  kind : b ≡ None
+pub record Parts (m : May) (a b : Option Errno) : Type 0 where
+  pub may : m ≡ may.Yes
+  pub covered : a ≡ None
+  pub kind : b ≡ None
 
-parts_of : (m : May) (a b : Option Errno) → if_promised m (allowed_unless (or_fault a b)) ≡ Allowed → Parts m a b
+pub parts_of : (m : May) (a b : Option Errno) → if_promised m (allowed_unless (or_fault a b)) ≡ Allowed → Parts m a b
 parts_of may.Yes None None e = record { may = refl; covered = refl; kind = refl }
 parts_of may.Yes None (Some errno) e = cc
 parts_of may.Yes (Some errno) b e = cc
@@ -66,7 +66,7 @@ parts_of may.Enosys a b e = cc
 parts_of may.Death a b e = cc
 
 -- a cover that stays, or is among those that a thing can come under
-ever_first : (b : Bool) (now : Cover) (others : List Cover) → (has_c now ≡ true → Among others now) → Among (ever_covers b now others) now
+pub ever_first : (b : Bool) (now : Cover) (others : List Cover) → (has_c now ≡ true → Among others now) → Among (ever_covers b now others) now
 ever_first false now others some = inl refl
 ever_first true now others some = by (has_c now) refl
   where
@@ -80,6 +80,20 @@ ever_other b now others c moves has a = rw (moves, has) a
 not_dir : (b : Bool) → not b ≡ true → b ≡ false
 not_dir true e = cc
 not_dir false e = refl
+
+module _ (table : CallTable) (t0 : Tree) (h : History) where
+  -- the calls of a line
+  pub calls_among : (subject : Subject) (c : Call) → is_named_by t0 c subject ≡ true → is_allowed_under table h (covers_of t0 table h subject) (ever_object t0 table h subject) c ≡ true → Among (ever_calls t0 table h subject) c
+  calls_among subject c named allowed =
+      among_filter (λ c. is_named_by t0 c subject && is_allowed_under table h (covers_of t0 table h subject) (ever_object t0 table h subject) c) calls c
+      (and_from (is_named_by t0 c subject) _ named allowed) (one_of_calls c)
+
+  -- a call is allowed under one of the covers
+  pub under_one : (covers : List Cover) (object : Object) (c : Call) (left : Cover) → Among covers left → may_any h (rule_of table c).alternatives ≡ may.Yes
+      → cover_fault left (rule_of table c).perms ≡ None → object_fault empty_tree c object ≡ None → is_allowed_under table h covers object c ≡ true
+  under_one covers object c left a granted covered fine =
+      any_among (λ left. is_allowed (covered_verdict empty_tree table h c left object)) covers left a
+      (λ i. is_allowed (if_promised (granted i) (allowed_unless (or_fault (covered i) (fine i)))))
 
 module _ (table : CallTable) (t0 : Tree) (h : History) (well0 : WellFormed t0) (stand : VeilsStand t0 h) where
   s0 : Sound t0
@@ -127,24 +141,12 @@ module _ (table : CallTable) (t0 : Tree) (h : History) (well0 : WellFormed t0) (
   item_to_free item subject a b =
       among_flat (subjects_of t0 table h) (items t0 (veils h)) item (item.word, subject) a (inr (among_map (λ s. (item.word, s)) (names_to_free t0 table h item.subject) subject b))
 
-  -- the calls of a line
-  calls_among : (subject : Subject) (c : Call) → is_named_by t0 c subject ≡ true → is_allowed_under table h (covers_of t0 table h subject) (ever_object t0 table h subject) c ≡ true → Among (ever_calls t0 table h subject) c
-  calls_among subject c named allowed =
-      among_filter (λ c. is_named_by t0 c subject && is_allowed_under table h (covers_of t0 table h subject) (ever_object t0 table h subject) c) calls c
-      (and_from (is_named_by t0 c subject) _ named allowed) (one_of_calls c)
-
   new_among : (made : New) (c : Call) → may_edit table h ≡ true → can_make t0 table h made ≡ true → is_new_named made c ≡ true → is_allowed_under table h (new_covers t0 h made) (new_object made) c ≡ true
       → Among (new_calls t0 table h made) c
   new_among made c edits can named allowed =
       let P : Bool → Type 0 = λ b. Among (cond b (filter (λ call. is_new_named made call && is_allowed_under table h (new_covers t0 h made) (new_object made) call) calls) []) c in
       subst P (sym (and_from (may_edit table h) _ edits can))
       (among_filter (λ call. is_new_named made call && is_allowed_under table h (new_covers t0 h made) (new_object made) call) calls c (and_from (is_new_named made c) _ named allowed) (one_of_calls c))
-
-  under_one : (covers : List Cover) (object : Object) (c : Call) (left : Cover) → Among covers left → may_any h (rule_of table c).alternatives ≡ may.Yes
-      → cover_fault left (rule_of table c).perms ≡ None → object_fault empty_tree c object ≡ None → is_allowed_under table h covers object c ≡ true
-  under_one covers object c left a granted covered fine =
-      any_among (λ left. is_allowed (covered_verdict empty_tree table h c left object)) covers left a
-      (λ i. is_allowed (if_promised (granted i) (allowed_unless (or_fault (covered i) (fine i)))))
 
   module _ (u : Tree) (k : Stays table t0 h well0 stand u) (edit : (may_edit table h ≡ true) ⊎ (u ≡ t0)) (c : Call) where
     su : Sound u
@@ -224,8 +226,8 @@ module _ (table : CallTable) (t0 : Tree) (h : History) (well0 : WellFormed t0) (
               record {
                 thing = Stands subject;
                 listed = listed_stands item.0 subject c (item_subject _ item.1)
-                    (calls_among subject c (always (keeps_link c))
-                    (under_one (covers_of_dir t0 table h d) (dir_as test) c (cover_in u h d) (dir_cover d is was) parts.may covered
+                    (calls_among table t0 h subject c (always (keeps_link c))
+                    (under_one table t0 h (covers_of_dir t0 table h d) (dir_as test) c (cover_in u h d) (dir_cover d is was) parts.may covered
                     (dir_alike u c d w test (is_rmdir w d test (is_removed d w is named was) parts.kind) parts.kind)));
                 about = of_dir below;
               })
@@ -233,7 +235,7 @@ module _ (table : CallTable) (t0 : Tree) (h : History) (well0 : WellFormed t0) (
               record {
                 thing = Comes NewDir;
                 listed = listed_new NewDir c (new_among NewDir c (edits_if_young d from lives) (made_dir d from is lives) refl
-                    (under_one (dir_covers t0 h) removable_dir c (cover_in u h d) (young_cover d is from) parts.may covered (dir_alike u c d w true (λ _. refl) parts.kind)));
+                    (under_one table t0 h (dir_covers t0 h) removable_dir c (cover_in u h d) (young_cover d is from) parts.may covered (dir_alike u c d w true (λ _. refl) parts.kind)));
                 about = of_new_dir from;
               })
         ]
@@ -272,8 +274,8 @@ module _ (table : CallTable) (t0 : Tree) (h : History) (well0 : WellFormed t0) (
         record {
           thing = Stands subject;
           listed = listed_stands item.0 subject c (item_subject _ item.1)
-              (calls_among subject c (named_link (last_of c) (is_link t0 (Slot r.0 r.1 (Some x))) refl (λ e. ap is_link_kind (sym same_kind) ∙ followed e))
-              (under_one (covers_of t0 table h subject) (ever_object t0 table h subject) c (cover u h (Slot s.0 s.1 (Some x))) a granted covered
+              (calls_among table t0 h subject c (named_link (last_of c) (is_link t0 (Slot r.0 r.1 (Some x))) refl (λ e. ap is_link_kind (sym same_kind) ∙ followed e))
+              (under_one table t0 h (covers_of t0 table h subject) (ever_object t0 table h subject) c (cover u h (Slot s.0 s.1 (Some x))) a granted covered
               (ap (λ o. object_fault empty_tree c (object_of_kind o)) (sym same_kind) ∙ sym (plain_alike u c (kind_at u x)) ∙ fine)));
           about = of_row r at;
         }
@@ -341,13 +343,13 @@ module _ (table : CallTable) (t0 : Tree) (h : History) (well0 : WellFormed t0) (
             by NewFile kinds can = record {
               thing = Comes NewFile;
               listed = listed_new NewFile c (new_among NewFile c edits can refl
-                  (under_one (file_covers t0 h) IsFile c (cover u h (Slot s.0 s.1 (Some x))) a parts.may parts.covered (sym (plain_alike u c (Some kind.File)) ∙ ap (λ o. object_fault u c (object_of_kind o)) (sym kinds) ∙ parts.kind)));
+                  (under_one table t0 h (file_covers t0 h) IsFile c (cover u h (Slot s.0 s.1 (Some x))) a parts.may parts.covered (sym (plain_alike u c (Some kind.File)) ∙ ap (λ o. object_fault u c (object_of_kind o)) (sym kinds) ∙ parts.kind)));
               about = of_new_file from kinds;
             }
             by NewLink kinds can = record {
               thing = Comes NewLink;
               listed = listed_new NewLink c (new_among NewLink c edits can (kept_link (last_of c) refl followed kinds)
-                  (under_one (file_covers t0 h) IsLink c (cover u h (Slot s.0 s.1 (Some x))) a parts.may parts.covered (sym (plain_alike u c (Some kind.Link)) ∙ ap (λ o. object_fault u c (object_of_kind o)) (sym kinds) ∙ parts.kind)));
+                  (under_one table t0 h (file_covers t0 h) IsLink c (cover u h (Slot s.0 s.1 (Some x))) a parts.may parts.covered (sym (plain_alike u c (Some kind.Link)) ∙ ap (λ o. object_fault u c (object_of_kind o)) (sym kinds) ∙ parts.kind)));
               about = of_new_link from kinds;
             }
 
@@ -398,7 +400,7 @@ module _ (table : CallTable) (t0 : Tree) (h : History) (well0 : WellFormed t0) (
             record {
               thing = Stands (At (Slot dir name None));
               listed = listed_stands line.0 (At (Slot dir name None)) c line.1
-                  (calls_among (At (Slot dir name None)) c (always (keeps_link c)) (under_one (covers_of t0 table h (At (Slot dir name None))) IsMissing c (cover u h (Slot dir name None)) (inl covers) parts.may parts.covered fine));
+                  (calls_among table t0 h (At (Slot dir name None)) c (always (keeps_link c)) (under_one table t0 h (covers_of t0 table h (At (Slot dir name None))) IsMissing c (cover u h (Slot dir name None)) (inl covers) parts.may parts.covered fine));
               about = of_name perms own;
             }
         by None own =
@@ -410,7 +412,7 @@ module _ (table : CallTable) (t0 : Tree) (h : History) (well0 : WellFormed t0) (
                   record {
                     thing = Stands (Others dir);
                     listed = listed_stands at.1.0 (Others dir) c (item_subject _ (at.1.1 _ (inr (inl refl))))
-                        (calls_among (Others dir) c refl (under_one (covers_of_dir t0 table h dir) IsMissing c (cover_in u h dir) (dir_cover dir is was) parts.may covered fine));
+                        (calls_among table t0 h (Others dir) c refl (under_one table t0 h (covers_of_dir t0 table h dir) IsMissing c (cover_in u h dir) (dir_cover dir is was) parts.may covered fine));
                     about = of_others below own;
                   })
               | inr from ↦ (let lives = living_dir u h k.well dir is in
@@ -418,7 +420,7 @@ module _ (table : CallTable) (t0 : Tree) (h : History) (well0 : WellFormed t0) (
                   record {
                     thing = Comes NewOthers;
                     listed = listed_new NewOthers c (new_among NewOthers c (edits_if_young dir from lives) (made_other known.made (sym (ap is_dir_kind known.kinds) ∙ is) known.can) refl
-                        (under_one (dir_covers t0 h) IsMissing c (cover_in u h dir) (young_cover dir is from) parts.may covered fine));
+                        (under_one table t0 h (dir_covers t0 h) IsMissing c (cover_in u h dir) (young_cover dir is from) parts.may covered fine));
                     about = of_new_others from;
                   })
             ]

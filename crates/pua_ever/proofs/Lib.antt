@@ -10,6 +10,7 @@ pub mod Unedited
 pub mod KindFaults
 pub mod Ending
 pub mod Complete
+pub mod Now
 pub mod NoExec
 pub mod Standing
 pub mod Standard
@@ -20,3 +21,7 @@ pub mod Opening
 pub mod Picked
 pub mod Under
 pub mod Refused
+pub mod Lined
+pub mod Prospected
+pub mod Named
+pub mod Giving

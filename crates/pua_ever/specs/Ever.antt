@@ -165,10 +165,13 @@ is_allowed_under table h covers object call =
     list_any (λ left. is_allowed (covered_verdict empty_tree table h call left object)) covers
 
 -- the calls that can ever be allowed on what stands or could stand now
+abbrev pub is_ever_allowed : Tree → CallTable → History → Subject → Call → Bool
+is_ever_allowed t table h subject call =
+    is_named_by t call subject
+    && is_allowed_under table h (covers_of t table h subject) (ever_object t table h subject) call
+
 abbrev pub ever_calls : Tree → CallTable → History → Subject → List Call
-ever_calls t table h subject =
-    filter (λ call. is_named_by t call subject
-    && is_allowed_under table h (covers_of t table h subject) (ever_object t table h subject) call) calls
+ever_calls t table h subject = filter (is_ever_allowed t table h subject) calls
 
 -- what can be made: a directory, the further names of such a directory, a file, a link
 pub data New : Type 0 where
@@ -204,12 +207,14 @@ is_new_named _ call = true
 abbrev pub can_make : Tree → CallTable → History → New → Bool
 can_make t table h new = is_allowed_under table h (name_covers t h ++ dir_covers t h) IsMissing (maker new)
 
+-- a call is allowed on it under one of these covers
+abbrev pub is_new_allowed : Tree → CallTable → History → New → Call → Bool
+is_new_allowed t table h new call =
+    is_new_named new call && is_allowed_under table h (new_covers t h new) (new_object new) call
+
 abbrev pub new_calls : Tree → CallTable → History → New → List Call
 new_calls t table h new =
-    if may_edit table h && can_make t table h new
-    then filter (λ call. is_new_named new call
-    && is_allowed_under table h (new_covers t h new) (new_object new) call) calls
-    else []
+    if may_edit table h && can_make t table h new then filter (is_new_allowed t table h new) calls else []
 
 -- what a line is about
 pub data Thing : Type 0 where
@@ -222,21 +227,23 @@ pub record EverLine : Type 0 where
   pub thing : Thing
   pub calls : List Call
 
+-- the name at which a thing stands
+abbrev pub own_spot : Subject → Option Spot
+own_spot (At (Slot dir name (Some node))) = Some (dir, name)
+own_spot (At (Whole dir (Named parent name))) = Some (parent, name)
+own_spot _ = None
+
+-- a name has a veil of its own, and can come to be free
+abbrev pub can_be_freed : Tree → CallTable → History → Spot → Bool
+can_be_freed t table h spot = is_some (kept h (place.Slot spot.0 spot.1)) && (may_edit table h && is_free t h spot)
+
+abbrev pub freed_at : Tree → CallTable → History → Option Spot → List Subject
+freed_at t table h None = []
+freed_at t table h (Some spot) = if can_be_freed t table h spot then At (Slot spot.0 spot.1 None) ∷ [] else []
+
 -- where something stands at a name with a veil of its own and can be taken away, the name is a thing too
 abbrev pub names_to_free : Tree → CallTable → History → Subject → List Subject
-names_to_free t table h subject = by (name_of subject)
-  where
-    name_of : Subject → Option Spot
-    name_of (At (Slot dir name (Some node))) = Some (dir, name)
-    name_of (At (Whole dir (Named parent name))) = Some (parent, name)
-    name_of _ = None
-
-    by : Option Spot → List Subject
-    by None = []
-    by (Some spot) =
-        if is_some (kept h (place.Slot spot.0 spot.1)) && (may_edit table h && is_free t h spot)
-        then At (Slot spot.0 spot.1 None) ∷ []
-        else []
+names_to_free t table h subject = freed_at t table h (own_spot subject)
 
 abbrev pub subjects_of : Tree → CallTable → History → Item → List (Word × Subject)
 subjects_of t table h item =

@@ -1,7 +1,7 @@
 -- What is true of all that can ever be touched.
 use Rattle.std.specs.Prelude.{◌≡◌, ◌<◌, ◌≤◌, ◌++◌, ℕ, List, [], ◌∷◌, Some, None, Result, Ok, IsTrue, IsFalse}
 use Rattle.std.specs.List.{Contains}
-use Rattle.pua_tree.specs.Tree.{Tree, Spot, look, kind_at}
+use Rattle.pua_tree.specs.Tree.{Tree, WellFormed, Spot, look, kind_at}
 use Rattle.pua_tree.specs.declared.node.Kind.TheVariants as kind
 use Rattle.pua_path.specs.Resolution.{resolution_of_text}
 use Rattle.pua_path.specs.declared.errno.Errno.{Errno}
@@ -25,7 +25,7 @@ use Rattle.pua_script.specs.Laws.{IsConfined}
 use Rattle.pua_script.specs.Family.{family, is_member, none_done, members_alone, is_exec, HasHistoryOf}
 use Rattle.pua_script.specs.Tightening.{NoCallNeedsError, Tightens}
 use Rattle.pua_script.specs.Confinement.{TreesAlong}
-use Rattle.pua_objects.specs.Objects.{At, Others, own_way}
+use Rattle.pua_objects.specs.Objects.{At, Others, Line, objects, own_way}
 use Rattle.pua_ever.specs.Ever.{NewDir, NewOthers, NewFile, NewLink, Thing, Stands, Comes, EverLine, ever}
 
 -- the five calls that make a name or take one away need `c`, and so do the names of rename and link
@@ -163,6 +163,20 @@ EverAsRead =
     (member : ℕ) → IsTrue (is_member (family table w asks (process ∷ [])) member) →
     let after = world_after table w asks in
     HasHistoryOf after member (Foresees w.tree table now after.tree)
+
+-- a line of now has one that is for ever: by the same names, about the same thing, with all of its calls
+pub record IsWithinEver (t : Tree) (table : CallTable) (h : History) (line : Line) : Type 0 where
+  pub later : EverLine
+  pub listed : Contains (ever t table h) later
+  pub word : later.word ≡ line.word
+  pub about : later.thing ≡ Stands line.subject
+  pub allows : (call : Call) → Contains line.calls call → Contains later.calls call
+
+-- so the list of the objects of now lies within the list for ever, by any table and any history
+abbrev pub NowWithinEver : Type 0
+NowWithinEver =
+    (t : Tree) (table : CallTable) (h : History) → WellFormed t →
+    (line : Line) → Contains (objects t table h) line → IsWithinEver t table h line
 
 -- the standard table is one of those that the laws speak of
 abbrev pub StandardEditsNeedC : Type 0

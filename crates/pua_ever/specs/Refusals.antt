@@ -6,6 +6,8 @@ use Rattle.pua_policy.specs.History.{History, is_locked, may_any}
 use Rattle.pua_policy.specs.declared.call.Call.{Call}
 use Rattle.pua_policy.specs.declared.call.Call.TheVariants as call
 use Rattle.pua_ever.specs.Ever.{is_yes}
+use Rattle.pua_ever.specs.declared.fault.EverFault.{EverFault}
+use Rattle.pua_ever.specs.declared.fault.EverFault.TheVariants.{Refused, OutOfMemory}
 use Rattle.pua_ever.specs.declared.refusal.Refusal.{Refusal}
 use Rattle.pua_ever.specs.declared.refusal.Refusal.TheVariants.{CanUnveil, LacksC, RenameLacksC, LinkLacksC}
 
@@ -33,3 +35,8 @@ table_refusal table None =
 -- the process's reason comes first
 abbrev pub refusal : CallTable → History → Option Refusal
 refusal table h = if can_unveil h then Some CanUnveil else table_refusal table (find (lacks_c table) changing_calls)
+
+-- what a fault of the list says of it
+abbrev pub refusal_in : EverFault → Option Refusal
+refusal_in (Refused why) = Some why
+refusal_in OutOfMemory = None

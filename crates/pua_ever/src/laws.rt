@@ -1,7 +1,7 @@
 //! Laws and worked examples, each the contract of a function that does nothing.
 
 ghost use Rattle.pua_ever.specs.Examples.{EverRows};
-ghost use Rattle.pua_ever.specs.Laws.{EverAsRead, EverComplete, EverOfMany, ReplaysKeepPlaces, StandardEditsNeedC, WithoutExec};
+ghost use Rattle.pua_ever.specs.Laws.{EverAsRead, EverComplete, EverOfMany, NowWithinEver, ReplaysKeepPlaces, StandardEditsNeedC, WithoutExec};
 
 /// Whatever a process that can put no veil any more and what it forks ask for, as long as they alone ask
 /// and no exec of theirs succeeds: if a call of one of them is then allowed on what a path names, the line
@@ -13,6 +13,13 @@ pub fn ever_law()
     ensures many { EverOfMany }
     ensures exec { WithoutExec }
     ensures read { EverAsRead }
+{}
+
+/// The list of the objects of now lies within the list for ever: each line of now has one there by the
+/// same names, about the same thing, with all of its calls.
+#[tactic(auto, using(crate::proofs::Now::now_within_ever))]
+pub fn now_law()
+    ensures { NowWithinEver }
 {}
 
 /// Each veil stands on a number that was given, in each world that a replay leaves; and the standard

@@ -1,13 +1,15 @@
 //! The calls that can ever be allowed on what can be moved or made.
 
-ghost use Rattle.std.specs.Prelude.{◌≡◌, ◌++◌, [], IfOk, length, nat_lt, if◌then◌else◌};
+ghost use Rattle.std.specs.Prelude.{◌≡◌, Some, ◌++◌, [], IfOk, length, nat_lt, if◌then◌else◌};
 ghost use Rattle.pua_tree.specs.Tree.{Tree, empty_tree};
+ghost use Rattle.pua_tree.specs.declared.node.Kind.{Kind};
+ghost use Rattle.pua_policy.specs.Calls.{CallTable as Table};
 ghost use Rattle.pua_policy.specs.CallSets.{has};
 ghost use Rattle.pua_policy.specs.declared.call.Call.{Call};
 ghost use Rattle.pua_policy.specs.History.{History, StandsFor};
 ghost use Rattle.pua_policy.specs.Objects.{object_seen};
-ghost use Rattle.pua_policy.specs.Verdict.{Object as Judged, IsMissing};
-ghost use Rattle.pua_ever.specs.Ever.{is_allowed_under, dir_covers, name_covers, some_dir_has_c};
+ghost use Rattle.pua_policy.specs.Verdict.{Object as Judged, IsMissing, object_of_kind};
+ghost use Rattle.pua_ever.specs.Ever.{is_allowed_under, dir_covers, name_covers, file_covers, some_dir_has_c};
 ghost use Rattle.pua_ever.specs.Movable.{IsMovable};
 ghost use Rattle.pua_ever.specs.Openings.{HaveSame};
 
@@ -37,6 +39,29 @@ pub struct Movable {
     pub made: Calls,
 }
 
+impl Movable {
+    /// The calls on a directory, by whether it can come to be empty.
+    pub(crate) fn on_dir(&self, emptied: bool) -> Calls
+        ensures { result ≡ (if emptied then self.now.emptied else self.now.dir) }
+    {
+        if emptied { self.emptied } else { self.dir }
+    }
+
+    /// The calls on what is no directory and stands at a name.
+    pub(crate) fn on(&self, object: Object) -> Calls
+        ensures { (t : Tree) (table : Table) (h : History) (kind : Kind) → IsMovable t table h self.now → object
+            ≡ object_seen empty_tree (object_of_kind (Some kind)) →
+            (call : Call) → has result call ≡ is_allowed_under table h (file_covers t h) (object_of_kind
+            (Some kind)) call }
+    {
+        match object {
+            Object::Program => self.program,
+            Object::Link => self.link,
+            _ => self.file,
+        }
+    }
+}
+
 /// Finds the calls that a process, and what it forks, can ever be allowed on what can be moved or
 /// made in a tree, by a table of what calls need: if the process can put no veil any more, and no
 /// exec succeeds. The veils alone are asked, each for at most as many steps as its directory stands
@@ -56,7 +81,7 @@ pub fn find_movable<T: FileTree>(
 }
 
 /// The calls by what they are on.
-fn calls_by_object(process: &Process, table: &CallTable, found: &Openings) -> Movable
+pub(crate) fn calls_by_object(process: &Process, table: &CallTable, found: &Openings) -> Movable
     ensures { (t : Tree) (h : History) → StandsFor process.now h →
         HaveSame (found.now.dirs.items ++ found.now.entrances.items) (dir_covers t h) →
         HaveSame found.now.names.items (name_covers t h) →

@@ -418,7 +418,7 @@ fn is_dir<T: FileTree>(tree: &T, id: NodeId) -> bool
 }
 
 /// Whether a cover has `c`.
-fn has_c(cover: Cover) -> bool
+pub(crate) fn has_c(cover: Cover) -> bool
     ensures { result ≡ cover_has_c cover }
 {
     match cover {

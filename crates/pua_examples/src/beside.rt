@@ -141,6 +141,7 @@ fn is_as_listed(
             };
             is_deep_listed(alloc, &world, process, &[], counts)
         }
+        Text::Ever(words) => is_deep_listed(alloc, &world, words.process, &[], counts),
         Text::Audit(words) => {
             let names = words.names.as_slice();
             let is_listed = is_audit_listed(alloc, &world, words, counts)?;
@@ -177,7 +178,7 @@ fn is_deep_listed(
     are_deep_listed(alloc, world, process, names, counts)
 }
 
-fn process_of(world: &World<ListTree>, number: u32) -> Result<&Process> {
+pub(crate) fn process_of(world: &World<ListTree>, number: u32) -> Result<&Process> {
     match world.process(number) {
         Some(process) => Ok(process),
         None => Err(anyhow!("there is no process {number}")),
@@ -185,7 +186,11 @@ fn process_of(world: &World<ListTree>, number: u32) -> Result<&Process> {
 }
 
 /// The world that a script leaves over a listing, by a table of calls.
-fn world_of(alloc: Global, files: &Files<'_>, table: CallTable) -> Result<World<ListTree>> {
+pub(crate) fn world_of(
+    alloc: Global,
+    files: &Files<'_>,
+    table: CallTable,
+) -> Result<World<ListTree>> {
     let tree = read_listing(alloc, files.tree)?;
     let script = read_script(alloc, files.script)?;
     let mut world = World::new(alloc, tree, table)?;

@@ -127,7 +127,7 @@ fn is_confined(process: &Process) -> bool {
 }
 
 /// Whether a request makes this call.
-fn is_call(request: &Request, call: Call) -> bool {
+pub(crate) fn is_call(request: &Request, call: Call) -> bool {
     match request.action() {
         Action::OnPath(other, _) => *other == call,
         _ => false,

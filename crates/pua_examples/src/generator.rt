@@ -62,6 +62,9 @@ const TURNS: [&str; 8] = [
     "exit",
 ];
 
+/// Process 1 and what it may have forked.
+const MEMBERS: [&str; 4] = ["1", "1", "3", "4"];
+
 /// A generator of numbers (xorshift).
 #[derive(Drop)]
 pub(crate) struct Random {
@@ -215,6 +218,40 @@ pub(crate) fn family_script(alloc: Global, random: &mut Random) -> Result<String
             writeln!(text, "fork {}", random.below(2).saturating_add(4))?;
         } else {
             request(&mut text, random)?;
+        }
+    }
+    Ok(text)
+}
+
+/// The lines of a script of process 1 after which it can put no veil any more.
+pub(crate) fn locked_script(alloc: Global, random: &mut Random) -> Result<String> {
+    let mut text = String::new(alloc);
+    for _ in 0..VEILS {
+        let (path, perms) = (random.pick(&PATHS), random.pick(&PERMS));
+        writeln!(text, "1 unveil {path} {perms}")?;
+    }
+    text.push_str("1 unveil - -\n")?;
+    if random.below(2) == 0 {
+        writeln!(text, "1 pledge {} -", random.pick(&PLEDGES))?;
+    }
+    Ok(text)
+}
+
+/// The lines of a script of process 1 and of what it forks, most of which change the tree.
+pub(crate) fn member_script(alloc: Global, random: &mut Random) -> Result<String> {
+    let mut text = String::from_str(alloc, "1 fork 3\n")?;
+    for _ in 0..FAMILY_LINES {
+        write!(text, "{} ", random.pick(&MEMBERS))?;
+        match random.below(8) {
+            0 | 1 | 2 => writeln!(
+                text,
+                "rename {} {}",
+                random.pick(&PATHS),
+                random.pick(&PATHS)
+            )?,
+            3 => writeln!(text, "fork {}", random.below(2).saturating_add(4))?,
+            4 => request(&mut text, random)?,
+            _ => writeln!(text, "{} {}", random.pick(&CALLS), random.pick(&PATHS))?,
         }
     }
     Ok(text)

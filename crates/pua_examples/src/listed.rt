@@ -1,8 +1,9 @@
-//! The lines of a list of objects, by calls of the libraries over a tree that is kept in any way.
+//! The lines of a list of objects, of now or for ever, by calls of the libraries over a tree that is kept in any way.
 
 use crate::state::State;
 use crate::trees::spell;
 use anyhow::{Result, anyhow};
+use pua_ever::{Ever, EverThing};
 use pua_objects::{ObjectKind, ObjectLine, Objects};
 use pua_policy::{Call, Calls};
 use pua_script::World;
@@ -27,6 +28,35 @@ pub(crate) fn add_list<T: FileTree>(
     let mut list = begun?;
     let lines = object_lines(&mut list, Vec::new(alloc))?;
     Ok(text.extend_from_slice(lines.as_slice())?)
+}
+
+/// Adds the list for ever of a process in this state: its heading, the state, and a line for each thing.
+pub(crate) fn add_ever<T: FileTree>(
+    alloc: Global,
+    tree: &T,
+    number: u32,
+    state: &State,
+    list: Ever<'_, T>,
+    text: &mut Vec<u8>,
+) -> Result<()> {
+    let heading = format!(in alloc; "ever {number}\n")?;
+    text.extend_from_slice(heading.as_bytes())?;
+    state.add_lines(alloc, tree, text)?;
+    let mut list = list;
+    while let Some(line) = list.next_line() {
+        match line.thing {
+            EverThing::Stands(kind) => {
+                text.extend_from_slice(kind_bytes(kind))?;
+                add_path(text, list.word())?;
+            }
+            EverThing::Comes(kind) => {
+                text.extend_from_slice(kind_bytes(kind))?;
+                text.extend_from_slice(b"new")?;
+            }
+        }
+        add_calls(text, line.calls)?;
+    }
+    Ok(())
 }
 
 /// A text, and after it a line for each object that a list has still to give.

@@ -1,15 +1,18 @@
 //! Runs the examples: the story of each folder, the table of rows, what the program prints of itself,
 //! the limits, edits of two kinds of trees, chosen walks, random cases by a fixed seed, what requests
-//! leave of random worlds, the states of their processes, and audits beside lists of objects. A line is
+//! leave of random worlds, what their processes come to touch, their states, and audits beside lists of
+//! objects. A line is
 //! printed for each folder and each limit, which says whether what is written is what was expected; then
 //! one for each row, edit and case of which that isn't so, with their counts.
 #![tactic(auto)]
 
+mod about;
 mod beside;
 mod case;
 mod compared;
 mod deep;
 mod edits;
+mod ever;
 mod futures;
 mod generator;
 mod limits;
@@ -39,6 +42,7 @@ fn main(rt: HostRuntime) -> Result<()> {
     walks::run(&rt)?;
     random::run(&rt)?;
     futures::run(&rt)?;
+    ever::run(&rt)?;
     stated::run(&rt)?;
     beside::run(&rt)
 }

@@ -1,6 +1,6 @@
 //! The stories: each folder has a listing, a script, the words of a command over them, and what it
-//! writes; and the same of a list of objects. Some have further commands: all lists, or over a narrower
-//! script or a table of calls.
+//! writes; and the same of a list of objects, and of the list for ever of a process that can put no veil
+//! any more. Some have further commands: all lists, or over another script or a table of calls.
 
 use crate::written::{SMALL, as_expected, run_command};
 use anyhow::Result;
@@ -9,7 +9,7 @@ use std::fs;
 use std::rt::Files;
 
 /// The folders of the stories.
-pub(crate) const STORIES: [&str; 15] = [
+pub(crate) const STORIES: [&str; 16] = [
     "first-run",
     "links",
     "wide-veil",
@@ -25,12 +25,17 @@ pub(crate) const STORIES: [&str; 15] = [
     "key-directory",
     "log-daemon",
     "socket-server",
+    "drop-box",
 ];
 
+/// The first story, whose process can still put veils, so it has no list for ever.
+const UNLOCKED: &str = "first-run";
+
 /// The further commands of stories, and what they write: the objects of all processes, where there are
-/// two; of those with a narrower script the objects by it; and of the one with a table a run, the objects
-/// of its child, and its objects by the standard table.
-const FURTHER: [(&str, &str, &str); 8] = [
+/// two; of those with a narrower script the objects by it; of the one with a table a run, the objects
+/// of its child, and its objects by the standard table; and a run in which what the list for ever says
+/// is done.
+const FURTHER: [(&str, &str, &str); 10] = [
     ("separated-pair", "all-command", "all-output"),
     ("web-logger", "all-command", "all-output"),
     ("free-stat", "run-command", "run-output"),
@@ -39,15 +44,18 @@ const FURTHER: [(&str, &str, &str); 8] = [
     ("key-directory", "narrow-command", "narrow-output"),
     ("log-daemon", "narrow-command", "narrow-output"),
     ("socket-server", "narrow-command", "narrow-output"),
+    ("drop-box", "moved-command", "moved-output"),
+    ("drop-box", "narrow-command", "narrow-output"),
 ];
 
-/// Prints a line for each folder, which says whether its two commands write what the folder has; one
+/// Prints a line for each folder, which says whether its commands write what the folder has; one
 /// for each further command; and one for a command whose listing isn't there.
 pub(crate) fn run(rt: &HostRuntime) -> Result<()> {
     for story in &STORIES {
         let is_told = is_so(rt, story, "command", "output")?;
         let is_listed = is_so(rt, story, "objects-command", "objects-output")?;
-        let seen = as_expected(is_told && is_listed);
+        let is_lasting = *story == UNLOCKED || is_so(rt, story, "ever-command", "ever-output")?;
+        let seen = as_expected(is_told && is_listed && is_lasting);
         println!(rt; "{story}: {seen}")?;
     }
     for (story, command, output) in &FURTHER {

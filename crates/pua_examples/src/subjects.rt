@@ -32,7 +32,7 @@ pub(crate) fn subject_at<T: FileTree>(
 }
 
 /// The directory to which names lead from the root.
-fn dir_at<T: FileTree>(tree: &T, word: &[&Name]) -> Option<NodeId> {
+pub(crate) fn dir_at<T: FileTree>(tree: &T, word: &[&Name]) -> Option<NodeId> {
     let mut dir = NodeId::ROOT;
     for name in word {
         dir = tree.look(dir, name)?;

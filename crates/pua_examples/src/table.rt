@@ -69,6 +69,8 @@ pub(crate) struct Row {
     #[serde(default)]
     pub(crate) pairs: String,
     pub(crate) objects: Option<u32>,
+    /// The process of a list for ever.
+    pub(crate) ever: Option<u32>,
     /// The lines of the process's state.
     #[serde(default)]
     pub(crate) state: String,
@@ -91,8 +93,8 @@ impl Row {
     }
 
     /// The text that the row's command writes: each answer after the number of its line; of an audit
-    /// the line `reach P`, and a line for each pair; of a list of objects the line `objects P`, the
-    /// state of the process, and the list's lines.
+    /// the line `reach P`, and a line for each pair; of a list of objects the line `objects P`, or
+    /// `ever P`, the state of the process, and the list's lines.
     pub(crate) fn output(&self, alloc: Global) -> Result<String> {
         let mut text = String::new(alloc);
         for (place, answer) in self.answers.as_str().split_whitespace().enumerate() {
@@ -111,6 +113,9 @@ impl Row {
         }
         if let Some(process) = self.objects {
             writeln!(text, "objects {process}")?;
+        }
+        if let Some(process) = self.ever {
+            writeln!(text, "ever {process}")?;
         }
         text.push_str(self.state.as_str())?;
         text.push_str(self.lines.as_str())?;

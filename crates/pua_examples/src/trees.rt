@@ -3,11 +3,12 @@
 
 ghost use Rattle.std.specs.Prelude.{◌≡◌};
 
-use crate::listed::add_list;
+use crate::listed::{add_ever, add_list};
 use crate::state::State;
 use crate::written::Files;
 use anyhow::{Result, anyhow};
 use pua_audit::Audit;
+use pua_ever::{Ever, EverFault, Refusal};
 use pua_path::{Counted, Probe};
 use pua_policy::CallTable;
 use pua_script::{Answer, World, read_script};
@@ -74,6 +75,7 @@ fn text_over<T: FileTree + Drop>(
     match &command.text {
         Text::Run => or_memory(answer_lines(alloc, told.as_slice())),
         Text::Objects(words) => object_text(alloc, &world, told.as_slice(), words.processes),
+        Text::Ever(words) => ever_text(alloc, &world, told.as_slice(), words.process),
         Text::Audit(words) => audit_lines(alloc, &world, told.as_slice(), words),
     }
 }
@@ -133,6 +135,42 @@ fn object_text<T: FileTree>(
         }
     }
     Ok(text)
+}
+
+/// The answers, and the list for ever of a process.
+fn ever_text<T: FileTree>(
+    alloc: Global,
+    world: &World<T>,
+    told: &[Answer],
+    number: u32,
+) -> Result<Vec<u8>, ToolFault> {
+    let Some(process) = world.process(number) else {
+        return Err(ToolFault::NoProcess);
+    };
+    let begun = Ever::begin(alloc, world.tree(), process, world.table());
+    let list = match begun {
+        Ok(list) => list,
+        Err(fault) => return Err(no_list(number, fault)),
+    };
+    let Ok(state) = State::of(alloc, process) else {
+        return Err(ToolFault::OutOfMemory);
+    };
+    let mut text = or_memory(answer_lines(alloc, told))?;
+    if add_ever(alloc, world.tree(), number, &state, list, &mut text).is_err() {
+        return Err(ToolFault::OutOfMemory);
+    }
+    Ok(text)
+}
+
+/// Why there is no list for ever of a process.
+fn no_list(number: u32, fault: EverFault) -> ToolFault {
+    match fault {
+        EverFault::Refused(Refusal::CanUnveil) => ToolFault::CanUnveil(number),
+        EverFault::Refused(Refusal::LacksC(call)) => ToolFault::LacksC(call),
+        EverFault::Refused(Refusal::RenameLacksC) => ToolFault::RenameLacksC,
+        EverFault::Refused(Refusal::LinkLacksC) => ToolFault::LinkLacksC,
+        EverFault::OutOfMemory => ToolFault::OutOfMemory,
+    }
 }
 
 /// The numbers of the processes that are asked for.

@@ -1,6 +1,7 @@
 //! Calls that take memory, each made once more where a growth was refused to it. Whatever was refused,
 //! what was handed in is as it was, and the second call answers as if there had been no first one.
 
+mod ever;
 mod lines;
 mod objects;
 mod processes;
@@ -24,6 +25,7 @@ pub(crate) fn run(rt: &HostRuntime) -> Result<()> {
         ("worlds", worlds::hold(alloc, &mut again)?),
         ("audits", lines::hold(alloc, &mut again)?),
         ("objects", objects::hold(alloc, &mut again)?),
+        ("lists for ever", ever::hold(alloc, &mut again)?),
         ("texts", texts::hold(alloc, &mut again)?),
     ] {
         if !holds {
@@ -34,7 +36,7 @@ pub(crate) fn run(rt: &HostRuntime) -> Result<()> {
     Ok(())
 }
 
-/// Lists a reach by paths and by objects, over trees of both kinds, and prints of each list whether it
+/// Lists a reach by paths and by objects, and what can ever be touched, over trees of both kinds, and prints of each list whether it
 /// was refused as it began, or is whole: nothing takes memory between the lines.
 pub(crate) fn list(rt: &HostRuntime) -> Result<()> {
     let alloc = rt.alloc();
@@ -45,5 +47,7 @@ pub(crate) fn list(rt: &HostRuntime) -> Result<()> {
         "objects over slots: {}",
         objects::listed::<SlabTree>(alloc)
     )?;
+    println!(rt; "for ever: {}", ever::listed::<ListTree>(alloc))?;
+    println!(rt; "for ever, over slots: {}", ever::listed::<SlabTree>(alloc))?;
     Ok(())
 }

@@ -1,23 +1,26 @@
 -- What is to come after a name is taken.
 use Rattle.std.proofs.Common.{◌≡◌, ◌≢◌, ◌<◌, ℕ, suc, ◌+◌, ◌-◌, List, [], ◌∷◌, ◌++◌, true, false, length, take, drop, refl, sym, ap, subst, ◌∙◌, arith, vec_capacity}
-use Rattle.std.specs.Prelude.{reverse, Option, Some, None}
+use Rattle.std.specs.Prelude.{reverse, Option, Some, None, is_none, not, ◌==◌}
+use Rattle.std.specs.Option.{option_eq}
+use Rattle.std.proofs.lemmas.Bool.{and_from, eq-eqb}
 use Rattle.std.proofs.lemmas.List.{length-map, length-reverse, length_push, take_all}
 use Rattle.pua_tree.specs.Tree.{Tree, Spot, is_dir, look}
 use Rattle.pua_tree.proofs.ForCallers.{Sound, sound_from, row_says, above_is, climb_ends}
+use Rattle.pua_path.specs.Fits.{FoundFits}
 use Rattle.pua_path.specs.declared.found.Way.TheVariants.{Named}
 use Rattle.pua_path.specs.declared.found.Found.TheVariants.{Whole, Slot}
-use Rattle.pua_policy.specs.Calls.{CallTable}
 use Rattle.pua_policy.specs.History.{History, ProcessState, StandsFor, kept}
 use Rattle.pua_policy.specs.declared.place.Place.{Place}
 use Rattle.pua_policy.specs.declared.place.Place.TheVariants as place
 use Rattle.pua_audit.specs.Reach.{Word}
-use Rattle.pua_objects.specs.Objects.{Item, At, cover_in, entries}
+use Rattle.pua_objects.specs.Objects as objects
+use Rattle.pua_objects.specs.Objects.{At, cover_in, entries}
 use Rattle.pua_objects.specs.Laws.{own_or}
-use Rattle.pua_objects.specs.Lines.{IsLineOn}
+use Rattle.pua_objects.specs.Items.{IsItemOn}
 use Rattle.pua_objects.specs.Spots.{names_at, AreSpots}
 use Rattle.pua_objects.specs.Walk.{Frame, to_come, frame_of, others_item, IsBelow, IsDeepEnough, StepsOfWalk}
 use Rattle.pua_objects.specs.Ready.{spots_in, word_in, dirs_in, frame_at, frames_at, names_left, left_in, own_items, IsOpen, AreOpen, IsReady, IsTaken, IsEntered, IsGiven, entered}
-use Rattle.pua_objects.specs.declared.line.ObjectLine.{ObjectLine}
+use Rattle.pua_objects.specs.declared.item.Item.{Item}
 use Rattle.pua_objects.specs.declared.open_dir.OpenDir.{OpenDir}
 use Rattle.pua_objects.specs.declared.open_dir.Coming.TheVariants.{Names, Others}
 use Rattle.pua_objects.specs.declared.walk.Walk.{Walk}
@@ -45,7 +48,7 @@ module _ (t : Tree) (p : ProcessState) (a b : Walk) (dir : ℕ) (name : List ℕ
   abbrev longer : Word
   longer = word ++ name ∷ []
 
-  abbrev still : List Item
+  abbrev still : List objects.Item
   still = to_come t p.veils (frames_at t spots word (inner ∷ taken.around))
 
   abbrev before : Frame
@@ -86,6 +89,12 @@ module _ (t : Tree) (p : ProcessState) (a b : Walk) (dir : ℕ) (name : List ℕ
   stands_at None row other = here ∙ steps.missing before (frames_at t spots word taken.around) name _ taken.names row ∙ ap (λ w. record { word = w ++ name ∷ []; subject = At (Slot dir name None) } ∷ still) word_here
   stands_at (Some x) row other = here ∙ steps.plain before (frames_at t spots word taken.around) name _ x taken.names row (other x refl) ∙ ap (λ w. record { word = w ++ name ∷ []; subject = At (Slot dir name (Some x)) } ∷ still) word_here
 
+  -- what stands there is of the tree
+  slot_fits : (node : Option ℕ) → look t dir name ≡ node → ((x : ℕ) → node ≡ Some x → is_dir t x ≡ false) → FoundFits t (Slot dir name node)
+  slot_fits None row other = and_from (is_dir t dir) _ opened.0.living (ap is_none row)
+  slot_fits (Some x) row other =
+      and_from (is_dir t dir) _ opened.0.living (and_from (option_eq ◌==◌ (look t dir name) (Some x)) _ (ap (λ o. option_eq ◌==◌ o (Some x)) row ∙ eq-eqb x x refl) (ap not (other x refl)))
+
   module _ (c : Walk) (spots_same : spots_in c ≡ spots) (word_more : word_in c ≡ longer) (word_cap : vec_capacity c.word ≡ vec_capacity b.word) where
     long_now : length c.word.items ≡ suc n
     long_now = sym (length-map c.word.items (λ name. name.now)) ∙ ap length word_more ∙ omega (arith, length_push word name, word_long)
@@ -106,15 +115,16 @@ module _ (t : Tree) (p : ProcessState) (a b : Walk) (dir : ℕ) (name : List ℕ
         start = λ root. absurd (names_no_root c.coming (coming ∙ names) root);
       }
 
-      pub stood : (table : CallTable) (node : Option ℕ) (line : ObjectLine) → look t dir name ≡ node → ((x : ℕ) → node ≡ Some x → is_dir t x ≡ false) → ((h : History) → StandsFor p h → IsLineOn t table h (At (Slot dir name node)) line) → IsGiven t table p a c line
-      stood table node line row other on = record {
+      pub stood : (node : Option ℕ) (item : Item) → look t dir name ≡ node → ((x : ℕ) → node ≡ Some x → is_dir t x ≡ false) → ((h : History) → StandsFor p h → IsItemOn t h (At (Slot dir name node)) item) → IsGiven t p a c item
+      stood node item row other on = record {
         subject = At (Slot dir name node);
         left =
             stands_at node row other
             ∙ (λ i. record { word = sym word_more i; subject = At (Slot dir name node) } ∷ still_from i)
             ∙ ap (λ items. record { word = word_in c; subject = At (Slot dir name node) } ∷ items)
             ((λ i. to_come t p.veils (frames_at t (sym spots_same i) (sym word_more i) ((sym taken.dirs ∙ ap (λ v. reverse v.items) (sym dirs_same)) i))) ∙ sym (only_names t p.veils c (coming ∙ names)));
-        line = on;
+        fits = (slot_fits node row other, (opened.0.living, row));
+        tells = on;
       }
 
   -- a directory stands at the name
@@ -184,11 +194,12 @@ module _ (t : Tree) (p : ProcessState) (a b : Walk) (dir : ℕ) (name : List ℕ
       left_now : left_in t p.veils c ≡ others_item longer x ∷ to_come t p.veils (frames_at t spots longer (new ∷ inner ∷ taken.around))
       left_now = (λ i. own_items (coming i) (word_more i) (dirs_now i) ++ to_come t p.veils (frames_at t (spots_same i) (word_more i) (dirs_now i)))
 
-      pub gave : (table : CallTable) (line : ObjectLine) → ((h : History) → StandsFor p h → IsLineOn t table h (At (Whole x (Named dir name))) line) → IsGiven t table p a c line
-      gave table line on = record {
+      pub gave : (item : Item) → ((h : History) → StandsFor p h → IsItemOn t h (At (Whole x (Named dir name))) item) → IsGiven t p a c item
+      gave item on = record {
         subject = At (Whole x (Named dir name));
         left = came ∙ (λ i. record { word = sym word_more i; subject = At (Whole x (Named dir name)) } ∷ sym left_now i);
-        line = on;
+        fits = (living, (opened.0.living, row));
+        tells = on;
       }
 
 -- no name is left

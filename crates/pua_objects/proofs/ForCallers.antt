@@ -1,7 +1,7 @@
 -- What crates above cite of the proofs of this one, beside the definitions and the laws.
 
 -- what is among the elements of a list, also once it was mapped, filtered or joined
-pub use Rattle.pua_objects.proofs.Among.{Among, among_left, among_right, among_either, among_map, map_among, among_filter, filter_among, among_flat, contained}
+pub use Rattle.pua_objects.proofs.Among.{Among, among_left, among_right, among_either, among_map, map_among, among_filter, filter_among, among_flat, flat_among, contained}
 -- covers go down from directory to directory
 pub use Rattle.pua_policy.proofs.ForCallers.{covers_descend}
 -- what stands in a row or at a veil is among what is found there, and what was found has an item
@@ -10,3 +10,5 @@ pub use Rattle.pua_objects.proofs.Listing.{found_among, found_dir, IsVisited, ha
 pub use Rattle.pua_objects.proofs.Judged.{named_by_row}
 -- each call is one of all calls, and what is allowed is so by its verdict
 pub use Rattle.pua_objects.proofs.Completeness.{one_of_calls, some_of, failed, allowed_is, named_within_text}
+-- the word of what was found
+pub use Rattle.pua_objects.proofs.Lined.{word_seen}

@@ -1,5 +1,5 @@
 -- The calls of a line, by whether it is about a link.
-use Rattle.std.proofs.Common.{◌≡◌, ◌≢◌, Bool, true, false, refl, ap, ◌∙◌}
+use Rattle.std.proofs.Common.{◌≡◌, ◌≢◌, ℕ, Bool, true, false, refl, sym, ap, subst, ◌∙◌}
 use Rattle.std.specs.Prelude.{Option, Some, None, is_none, not, ◌&&◌, ◌||◌, if◌then◌else◌, codes}
 use Rattle.pua_tree.specs.Tree.{Tree, kind_at}
 use Rattle.pua_tree.specs.declared.node.Kind.{Kind}
@@ -10,12 +10,16 @@ use Rattle.pua_policy.specs.Calls.{CallTable}
 use Rattle.pua_policy.specs.CallSets.{has, keeps_link}
 use Rattle.pua_policy.specs.History.{History}
 use Rattle.pua_policy.specs.Objects.{object_seen}
-use Rattle.pua_policy.specs.Verdict.{object_of, object_of_kind, rmdir_fault, is_link, is_link_kind, verdict, is_allowed}
+use Rattle.pua_policy.specs.Verdict.{cover, object_of, object_of_kind, rmdir_fault, is_link, is_link_kind, verdict, is_allowed}
 use Rattle.pua_policy.specs.declared.call.Call.{Call}
 use Rattle.pua_policy.specs.declared.object.Object as seen
 use Rattle.pua_policy.specs.declared.object.Object.TheVariants as see
-use Rattle.pua_objects.specs.Objects.{At, object_word}
+use Rattle.pua_objects.specs.Objects.{Subject, At, Others, cover_in, object_word}
+use Rattle.pua_objects.specs.Items.{subject_given, cover_on, IsItemOn}
 use Rattle.pua_objects.specs.Lines.{IsLineOn, kind_seen, kind_word}
+use Rattle.pua_objects.specs.declared.item.Item as given
+use Rattle.pua_objects.specs.declared.item.Subject as told
+use Rattle.pua_objects.specs.declared.item.Subject.TheVariants as about
 use Rattle.pua_objects.specs.declared.line.ObjectLine.{ObjectLine}
 
 abbrev pub is_link_seen : seen.Object → Bool
@@ -63,7 +67,7 @@ link_seen t (Whole dir way) = link_dir (is_none (rmdir_fault t dir way))
 link_seen t (Slot dir name None) = refl
 link_seen t (Slot dir name (Some x)) = link_kind t (kind_at t x)
 
-word_seen : (t : Tree) (found : Found) → kind_word (kind_seen (seen_of t found)) ≡ object_word (object_of t found)
+pub word_seen : (t : Tree) (found : Found) → kind_word (kind_seen (seen_of t found)) ≡ object_word (object_of t found)
 word_seen t (Whole dir way) = word_dir (is_none (rmdir_fault t dir way))
 word_seen t (Slot dir name None) = refl
 word_seen t (Slot dir name (Some x)) = word_kind t (kind_at t x)
@@ -85,3 +89,23 @@ lined t table h found object line is kind calls = record {
   kind = ap kind_word (kind ∙ ap kind_seen is) ∙ word_seen t found;
   calls = λ call. calls call ∙ ap (λ b. (keeps_link call || not b) && is_allowed (verdict t table h call found)) (ap is_link_seen is ∙ link_seen t found);
 }
+
+-- the line of an item, by whether it is about further names
+module _ (t : Tree) (table : CallTable) (h : History) (subject : Subject) (item : given.Item) (on : IsItemOn t h subject item) (line : ObjectLine) where
+  pub others_lined : (dir : ℕ) → item.subject ≡ about.Others dir → (item.cover ≡ cover_in t h dir → IsLineOn t table h (Others dir) line) → IsLineOn t table h subject line
+  others_lined dir is lines =
+      let same : Others dir ≡ subject = ap (subject_given t) (sym is) ∙ on.subject in
+      subst (λ (s : Subject). IsLineOn t table h s line) same (lines (on.cover ∙ ap (cover_on t h) (sym same)))
+
+  no_others : (s : told.Subject) (dir : ℕ) → ((d : ℕ) → s ≢ about.Others d) → subject_given t s ≡ Others dir → ⊥
+  no_others about.Root dir other is = cc
+  no_others (about.Dir id over name) dir other is = cc
+  no_others (about.Others d) dir other is = other d refl
+  no_others (about.Name over name) dir other is = cc
+
+  pub found_lined : ((dir : ℕ) → item.subject ≢ about.Others dir) → ((found : Found) → item.cover ≡ cover t h found → item.object ≡ seen_of t found → IsLineOn t table h (At found) line) → IsLineOn t table h subject line
+  found_lined other lines = by subject on
+    where
+      by : (s : Subject) → IsItemOn t h s item → IsLineOn t table h s line
+      by (At found) on = lines found on.cover on.object
+      by (Others dir) on = absurd (no_others item.subject dir other on.subject)

@@ -1,16 +1,18 @@
 -- Lines of what is to come, one after another.
-use Rattle.std.proofs.Common.{◌≡◌, ◌≢◌, List, [], ◌∷◌, Bool, true, false, cond, length, refl, sym, ap, ◌∙◌, arith}
+use Rattle.std.proofs.Common.{◌≡◌, ◌≢◌, List, [], ◌∷◌, Bool, true, false, cond, length, refl, sym, ap, subst, ◌∙◌, arith}
 use Rattle.std.specs.Prelude.{filter, nat_lt, IsTrue, ◌↔◌}
 use Rattle.std.proofs.lemmas.Bool.{lt-ltb}
 use Rattle.pua_tree.specs.Tree.{Tree}
 use Rattle.pua_policy.specs.Calls.{CallTable, calls}
 use Rattle.pua_policy.specs.CallSets.{calls_in}
-use Rattle.pua_policy.specs.History.{History}
+use Rattle.pua_policy.specs.History.{History, ProcessState, StandsFor}
 use Rattle.pua_policy.specs.declared.call.Call.{Call}
 use Rattle.pua_audit.specs.Reach.{Word}
 use Rattle.pua_objects.specs.Objects.{Subject, Item, Line, line_of, has_calls, calls_on}
+use Rattle.pua_objects.specs.Items.{IsItemOn}
 use Rattle.pua_objects.specs.Lines.{IsLineOn}
 use Rattle.pua_objects.specs.Ready.{lines_of}
+use Rattle.pua_objects.specs.declared.item.Item as given
 use Rattle.pua_objects.specs.declared.line.ObjectLine.{ObjectLine}
 
 module _ (t : Tree) (table : CallTable) (h : History) (subject : Subject) (given : ObjectLine) (on : IsLineOn t table h subject given) where
@@ -40,6 +42,13 @@ module _ (t : Tree) (table : CallTable) (h : History) (subject : Subject) (given
         some_calls : (cs : List Call) → cs ≢ [] → nat_lt 0 (length cs) ≡ true
         some_calls [] some = absurd (some refl)
         some_calls (c ∷ cs) some = lt-ltb 0 (length (c ∷ cs)) (omega arith)
+
+-- the line of an item that tells what it is about, over a tree, a process and a table that are the same
+module _ (t u : Tree) (p q : ProcessState) (table other : CallTable) (same_tree : u ≡ t) (same_process : q ≡ p) (same_table : other ≡ table) (subject : Subject) (item : given.Item) (line : ObjectLine) where
+  pub told_lined : ((h : History) → StandsFor q h → IsItemOn u h subject item) → ((h : History) → StandsFor q h → IsItemOn u h subject item → IsLineOn u other h subject line) → (h : History) → StandsFor p h → IsLineOn t table h subject line
+  told_lined tells lines h stands =
+      let here = subst (λ (x : ProcessState). StandsFor x h) (sym same_process) stands in
+      subst (λ (x : Tree). IsLineOn x table h subject line) same_tree (subst (λ (x : CallTable). IsLineOn u x h subject line) same_table (lines h here (tells h here)))
 
 -- a test that answers by a list
 pub is_not_so : (b : Bool) (A : Type 0) → IsTrue b ↔ A → b ≡ false → A → ⊥

@@ -3,20 +3,14 @@ use Rattle.std.proofs.Common.{◌≡◌, ◌≢◌, ◌<◌, ℕ, List, [], ◌�
 use Rattle.std.proofs.lemmas.List.{length-reverse}
 use Rattle.pua_tree.specs.Tree.{Tree}
 use Rattle.pua_path.specs.declared.found.Way.TheVariants.{Top}
-use Rattle.pua_path.specs.declared.found.Found.{Found}
 use Rattle.pua_path.specs.declared.found.Found.TheVariants.{Whole}
-use Rattle.pua_policy.specs.Calls.{CallTable}
-use Rattle.pua_policy.specs.History.{History, ProcessState, StandsFor}
-use Rattle.pua_policy.specs.Objects.{object_seen}
-use Rattle.pua_policy.specs.Verdict.{object_of, cover}
-use Rattle.pua_policy.specs.declared.answer.Cover.{Cover}
+use Rattle.pua_policy.specs.History.{ProcessState}
 use Rattle.pua_policy.specs.declared.object.Object.TheVariants as see
 use Rattle.pua_objects.specs.Objects.{At, cover_in}
 use Rattle.pua_objects.specs.Objects as subject
-use Rattle.pua_objects.specs.Lines.{IsLineOn}
 use Rattle.pua_objects.specs.Walk.{IsBelow}
 use Rattle.pua_objects.specs.Ready.{spots_in, word_in, dirs_in, names_left, own_items, others_in, IsOpen, AreOpen, IsReady, IsGiven}
-use Rattle.pua_objects.specs.declared.line.ObjectLine.{ObjectLine}
+use Rattle.pua_objects.specs.declared.item.Subject.TheVariants as about
 use Rattle.pua_objects.specs.declared.open_dir.OpenDir.{OpenDir}
 use Rattle.pua_objects.specs.declared.open_dir.Coming.TheVariants.{Root, Others, Names}
 use Rattle.pua_objects.specs.declared.walk.Walk.{Walk}
@@ -43,23 +37,33 @@ module _ (t : Tree) (p : ProcessState) (a : Walk) (ready : IsReady t p a) (more 
   opened = subst (AreOpen t p (spots_in a)) dirs ready.entered
 
   -- the further names of the innermost directory
-  pub others_given : (table : CallTable) (line : ObjectLine) (left : Cover) → a.coming ≡ Others → ((d : OpenDir) (ds : List OpenDir) → dirs_in a ≡ d ∷ ds → left ≡ d.cover)
-      → ((h : History) (dir : ℕ) → StandsFor p h → left ≡ cover_in t h dir → IsLineOn t table h (subject.Others dir) line) → IsGiven t table p a (record a { coming = Names }) line
-  others_given table line left others own on = record {
+  pub others_given : (here : OpenDir) → a.coming ≡ Others → ((d : OpenDir) (ds : List OpenDir) → dirs_in a ≡ d ∷ ds → here ≡ d)
+      → IsGiven t p a (record a { coming = Names }) (record { subject = about.Others here.dir; object = see.Missing; cover = here.cover })
+  others_given here others own = record {
     subject = subject.Others inner.dir;
     left = (λ i. own_items (others i) (word_in a) (dirs_in a) ++ names_left t p.veils a) ∙ ap (λ ds. others_in (word_in a) ds ++ names_left t p.veils a) dirs;
-    line = λ h stands. on h inner.dir stands (own inner around dirs ∙ opened.0.cover h stands);
+    fits = opened.0.living;
+    tells = λ h stands. record {
+      subject = ap (λ (d : OpenDir). subject.Others d.dir) (own inner around dirs);
+      object = refl;
+      cover = ap (λ (d : OpenDir). d.cover) (own inner around dirs) ∙ opened.0.cover h stands;
+    };
   }
 
   -- the root itself
-  pub root_given : (table : CallTable) (line : ObjectLine) (left : Cover) → a.coming ≡ Root → ((d : OpenDir) (ds : List OpenDir) → dirs_in a ≡ d ∷ ds → left ≡ d.cover)
-      → ((h : History) (found : Found) → StandsFor p h → left ≡ cover t h found → see.Directory ≡ object_seen t (object_of t found) → IsLineOn t table h (At found) line) → IsGiven t table p a (record a { coming = Others }) line
-  root_given table line left root own on =
+  pub root_given : (here : OpenDir) → a.coming ≡ Root → ((d : OpenDir) (ds : List OpenDir) → dirs_in a ≡ d ∷ ds → here ≡ d)
+      → IsGiven t p a (record a { coming = Others }) (record { subject = about.Root; object = see.Directory; cover = here.cover })
+  root_given here root own =
       let alone : length around ≡ 0 = omega (arith, ap length dirs, length-reverse a.dirs.items, ready.exact more, ap length (ready.start root)) in
       let at_root : inner.dir ≡ 0 = subst (λ (n : ℕ). IsBelow t n inner.dir) alone opened.0.reaches in
       record {
         subject = At (Whole 0 Top);
         left = (λ i. own_items (root i) (word_in a) (dirs_in a) ++ names_left t p.veils a)
             ∙ ap (λ w. record { word = w; subject = At (Whole 0 Top) } ∷ (others_in (word_in a) (dirs_in a) ++ names_left t p.veils a)) (sym (ap (map (λ name. name.now)) (ready.start root)));
-        line = λ h stands. on h (Whole 0 Top) stands (own inner around dirs ∙ opened.0.cover h stands ∙ ap (cover_in t h) at_root ∙ sym ((covers_descend t h ready.tree).directory 0 Top ready.tree.root)) refl;
+        fits = (ready.tree.root, tt);
+        tells = λ h stands. record {
+          subject = refl;
+          object = refl;
+          cover = ap (λ (d : OpenDir). d.cover) (own inner around dirs) ∙ opened.0.cover h stands ∙ ap (cover_in t h) at_root ∙ sym ((covers_descend t h ready.tree).directory 0 Top ready.tree.root);
+        };
       }

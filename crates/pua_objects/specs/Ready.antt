@@ -16,7 +16,9 @@ use Rattle.pua_objects.specs.Laws.{own_or}
 use Rattle.pua_objects.specs.Objects.{Subject, At, Item, Line, cover_in, line_of, has_calls, subject_word}
 use Rattle.pua_objects.specs.Spots.{spot_now, names_at, AreSpots}
 use Rattle.pua_objects.specs.Walk.{Frame, to_come, others_item, IsBelow}
-use Rattle.pua_objects.specs.Lines.{IsLineOn, kind_word}
+use Rattle.pua_objects.specs.Lines.{kind_word}
+use Rattle.pua_objects.specs.Items.{IsFirst, IsNext}
+use Rattle.pua_objects.specs.declared.item.Item as given
 use Rattle.pua_objects.specs.declared.line.ObjectLine.{ObjectLine}
 use Rattle.pua_objects.specs.declared.open_dir.OpenDir.{OpenDir}
 use Rattle.pua_objects.specs.declared.open_dir.Coming.{Coming}
@@ -112,11 +114,12 @@ pub record IsEntered (process : ProcessState) (old new : Walk) (id : ℕ) : Type
   pub names : Rises spot_cmp (spots_in old) → names_at id (drop next (spots_in old)) ≡ names_at id (spots_in old)
   pub covered : (h : History) (inner : OpenDir) (around : List OpenDir) → StandsFor process h → dirs_in old ≡ inner ∷ around → cover ≡ own_or (kept h (place.Dir id)) inner.cover
 
--- a line is about the first thing that is to come, and the others stay to come
-pub record IsGiven (t : Tree) (table : CallTable) (process : ProcessState) (old new : Walk) (given : ObjectLine) : Type 0 where
-  pub subject : Subject
-  pub left : left_in t process.veils old ≡ record { word = word_in new; subject = subject } ∷ left_in t process.veils new
-  pub line : (h : History) → StandsFor process h → IsLineOn t table h subject given
+-- an item is the first that is to come, and the others stay to come
+abbrev pub IsGiven : Tree → ProcessState → Walk → Walk → given.Item → Type 0
+IsGiven t process old new = IsFirst t process (left_in t process.veils old) (word_in new) (left_in t process.veils new)
+
+abbrev pub IsNextItem : Tree → ProcessState → Walk → Option given.Item → Walk → Type 0
+IsNextItem t process old result new = IsNext t process (left_in t process.veils old) result (word_in new) (left_in t process.veils new)
 
 -- the lines of what is to come, but for those without calls
 abbrev pub lines_of : Tree → CallTable → History → List Item → List Line
@@ -133,7 +136,3 @@ HasNoLine t table process items = (h : History) → StandsFor process h → line
 
 abbrev pub IsNextListed : Tree → CallTable → ProcessState → List Item → Option ObjectLine → Word → List Item → Type 0
 IsNextListed t table process old result word new = MatchOption result (HasNoLine t table process old × HasNoLine t table process new) (IsListed t table process old new word)
-
-abbrev pub IsNextLine : Tree → CallTable → ProcessState → Walk → Option ObjectLine → Walk → Type 0
-IsNextLine t table process old result new =
-    MatchOption result ((left_in t process.veils old ≡ []) × (left_in t process.veils new ≡ [])) (IsGiven t table process old new)

@@ -6,9 +6,11 @@ ghost use Rattle.pua_path.specs.declared.found.Found.{Found as FoundThing};
 ghost use Rattle.pua_policy.specs.History.{History, StandsFor};
 ghost use Rattle.pua_policy.specs.Objects.{object_seen};
 ghost use Rattle.pua_policy.specs.Verdict.{cover as cover_of, object_of};
-ghost use Rattle.pua_objects.specs.Objects.{At, Others, cover_in};
+ghost use Rattle.pua_objects.specs.Objects.{Subject as About, At, Others, cover_in};
+ghost use Rattle.pua_objects.specs.Items.{IsItemOn};
 ghost use Rattle.pua_objects.specs.Lines.{IsLineOn, kind_seen};
 
+use crate::item::{Item, Subject};
 use crate::kind::ObjectKind;
 use pua_policy::{CallTable, Calls, Cover, Object, Process, judge};
 
@@ -21,14 +23,20 @@ pub struct ObjectLine {
     pub calls: Calls,
 }
 
+/// The line of an item.
+pub(crate) fn line_of(process: &Process, table: &CallTable, item: &Item<'_>) -> ObjectLine
+    ensures { (t : Tree) (h : History) (about : About) → StandsFor process.now h →
+        IsItemOn t h about item.now → IsLineOn t table.now h about result }
+{
+    match item.subject {
+        Subject::Others(_) => line_of_others(process, table, &item.cover),
+        _ => line_at(process, table, &item.cover, item.object),
+    }
+}
+
 /// The line of what stands somewhere, or of a name where nothing stands, by what the veils leave of
 /// it. On a link only those calls are listed that keep it.
-pub(crate) fn line_at(
-    process: &Process,
-    table: &CallTable,
-    cover: &Cover,
-    object: Object,
-) -> ObjectLine
+fn line_at(process: &Process, table: &CallTable, cover: &Cover, object: Object) -> ObjectLine
     ensures { (t : Tree) (h : History) (found : FoundThing) → StandsFor process.now h → cover.now ≡ cover_of t h found → object ≡ object_seen t (object_of t found) →
         IsLineOn t table.now h (At found) result }
 {
@@ -45,7 +53,7 @@ pub(crate) fn line_at(
 }
 
 /// The line of a directory's further names, by what the veils leave of them.
-pub(crate) fn line_of_others(process: &Process, table: &CallTable, cover: &Cover) -> ObjectLine
+fn line_of_others(process: &Process, table: &CallTable, cover: &Cover) -> ObjectLine
     ensures { (t : Tree) (h : History) (dir : ℕ) → StandsFor process.now h → cover.now ≡ cover_in t h dir → IsLineOn t table.now h (Others dir) result }
 {
     ObjectLine {

@@ -3,11 +3,11 @@
 ghost use Rattle.std.specs.Prelude.{◌≡◌, ◌<◌, IfOk, OnOk, OnSome, length, map};
 ghost use Rattle.pua_policy.specs.History.{History, StandsFor};
 ghost use Rattle.pua_objects.specs.Laws.{HasPlaces};
-ghost use Rattle.pua_objects.specs.Objects.{items, objects};
+ghost use Rattle.pua_objects.specs.Objects.{items as all_items, objects};
 ghost use Rattle.pua_objects.specs.Ready.{lines_of, IsNextListed};
 
-use crate::line::ObjectLine;
-use crate::walk::Walk;
+use crate::items::Items;
+use crate::line::{ObjectLine, line_of};
 use pua_policy::{CallTable, Process};
 use pua_tree::{FileTree, Name, OutOfMemory};
 use std::alloc::Global;
@@ -18,10 +18,8 @@ use std::marker::Model;
 /// given last is about, and what a line may still be about.
 #[derive(Drop)]
 pub struct Objects<'t, T: FileTree> {
-    tree: &'t T,
-    process: &'t Process,
+    items: Items<'t, T>,
     table: CallTable,
-    walk: Walk<'t>,
 }
 
 impl<'t, T: FileTree> Model for Objects<'t, T> {
@@ -29,17 +27,7 @@ impl<'t, T: FileTree> Model for Objects<'t, T> {
 
     ghost Value = { ObjectsState };
 
-    ghost use Rattle.pua_objects.specs.Ready.{word_in, left_in, IsReady};
-
-    ghost view = { λ a. record {
-      tree = T.content a.tree.now;
-      process = a.process.now;
-      table = a.table;
-      word = word_in a.walk;
-      left = left_in (T.content a.tree.now) a.process.now.veils a.walk;
-    } };
-
-    ghost invariant = { λ a. IsReady (T.content a.tree.now) a.process.now a.walk };
+    ghost view = { λ a. record { tree = a.items.tree; process = a.items.process; table = a.table; word = a.items.word; left = a.items.left } };
 }
 
 impl<'t, T: FileTree> Objects<'t, T> {
@@ -53,17 +41,15 @@ impl<'t, T: FileTree> Objects<'t, T> {
         table: &CallTable,
     ) -> Result<Objects<'t, T>, OutOfMemory>
         ensures of { IfOk result (λ list. (list.tree ≡ T.content tree.now) × (list.process ≡ process.now) × (list.table ≡ table.now)) }
-        ensures left { IfOk result (λ list. list.left ≡ items (T.content tree.now) process.now.veils) }
+        ensures left { IfOk result (λ list. list.left ≡ all_items (T.content tree.now) process.now.veils) }
         ensures lines { IfOk result (λ list. (h : History) → StandsFor process.now h →
             lines_of (T.content tree.now) table.now h list.left ≡ objects (T.content tree.now) table.now h) }
         ensures places { OnOk result ((h : History) → StandsFor process.now h → HasPlaces h) }
     {
-        let walk = Walk::new(alloc, tree, process)?;
+        let items = Items::begin(alloc, tree, process)?;
         Ok(Objects {
-            tree,
-            process,
+            items,
             table: *table,
-            walk,
         })
     }
 
@@ -75,7 +61,14 @@ impl<'t, T: FileTree> Objects<'t, T> {
         ensures line { IsNextListed self.old.tree self.old.table self.old.process self.old.left result self.new.word self.new.left }
         ensures fewer { OnSome result (length self.new.left < length self.old.left) }
     {
-        self.walk.next_line(self.tree, self.process, &self.table)
+        self.items.process().known();
+        while let Some(item) = self.items.next_item() {
+            let line = line_of(self.items.process(), &self.table, &item);
+            if !line.calls.is_empty() {
+                return Some(line);
+            }
+        }
+        None
     }
 
     /// The names that lead from the root to what the line given last is about; none for the root. Where
@@ -83,6 +76,6 @@ impl<'t, T: FileTree> Objects<'t, T> {
     pub fn word(&self) -> &[&'t Name]
         ensures { map (λ name. name.now) result.now ≡ self.now.word }
     {
-        self.walk.word.as_slice()
+        self.items.word()
     }
 }

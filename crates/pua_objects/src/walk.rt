@@ -10,15 +10,15 @@ ghost use Rattle.pua_policy.specs.Objects.{object_seen};
 ghost use Rattle.pua_policy.specs.Verdict.{IsDir, is_unveil, object_of, object_of_kind};
 ghost use Rattle.pua_audit.specs.Laws.{Rises};
 ghost use Rattle.pua_objects.specs.Laws.{HasPlaces};
-ghost use Rattle.pua_objects.specs.Lines.{IsLineOn};
+ghost use Rattle.pua_objects.specs.Items.{IsItemOn};
 ghost use Rattle.pua_objects.specs.Objects.{At, cover_in, items};
 ghost use Rattle.pua_objects.specs.Spots.{names_at};
-ghost use Rattle.pua_objects.specs.Ready.{IsReady, spots_in, dirs_in, IsTaken, IsFinished, IsEntered, IsNextLine, IsNextListed, left_in, word_in};
+ghost use Rattle.pua_objects.specs.Ready.{IsReady, spots_in, dirs_in, IsTaken, IsFinished, IsEntered, IsNextItem, left_in};
 
-use crate::line::{ObjectLine, line_at, line_of_others};
+use crate::item::{Item, Subject};
 use crate::open_dir::{Coming, OpenDir};
 use crate::spots::spots;
-use pua_policy::{CallTable, Cover, Object, Place, Process};
+use pua_policy::{Cover, Object, Place, Process};
 use pua_tree::{FileTree, Kind, Name, NodeId, OutOfMemory};
 use std::alloc::Global;
 
@@ -115,46 +115,50 @@ impl<'t> Walk<'t> {
         None
     }
 
-    /// What the veils leave of the further names of the innermost directory.
-    fn cover(&self) -> Cover
+    /// The innermost directory.
+    fn inner(&self) -> OpenDir
         requires { 0 < length self.now.dirs.items }
-        ensures { (inner : OpenDir) (around : List OpenDir) → dirs_in self.now ≡ inner ∷ around → result ≡ inner.cover }
+        ensures { (inner : OpenDir) (around : List OpenDir) → dirs_in self.now ≡ inner ∷ around → result ≡ inner }
     {
-        self.dirs[self.dirs.len() - 1].cover
+        self.dirs[self.dirs.len() - 1]
     }
 
-    /// Goes to a name in the innermost directory where no directory stands, and gives its line.
+    /// Goes to a name in the innermost directory where no directory stands, and gives its item.
     fn stand_at(
         &mut self,
         process: &Process,
-        table: &CallTable,
         dir: NodeId,
         name: &'t Name,
         object: Object,
-    ) -> ObjectLine
+    ) -> Item<'t>
         requires room { length self.old.word.items < vec_capacity self.old.word }
         requires inside { 0 < length self.old.dirs.items }
         ensures word { self.new.word.items ≡ self.old.word.items ++ name.entry ∷ [] }
         ensures room { vec_capacity self.new.word ≡ vec_capacity self.old.word }
         ensures kept { (self.new.spots ≡ self.old.spots) × (self.new.dirs ≡ self.old.dirs) × (self.new.coming ≡ self.old.coming) }
-        ensures line { (t : Tree) (h : History) (inner : OpenDir) (around : List OpenDir) (node : Option ℕ) → WellFormed t → StandsFor process.now h →
+        ensures item { (t : Tree) (h : History) (inner : OpenDir) (around : List OpenDir) (node : Option ℕ) → WellFormed t → StandsFor process.now h →
             dirs_in self.old ≡ inner ∷ around → inner.cover ≡ cover_in t h dir → object ≡ object_seen t (object_of t (found.Slot dir name.entry.now node)) →
-            IsLineOn t table.now h (At (found.Slot dir name.entry.now node)) result }
+            look t dir name.entry.now ≡ node → IsItemOn t h (At (found.Slot dir name.entry.now node)) result }
     {
-        let cover = process.own_cover(&Place::Slot(dir, *name), self.cover());
+        let cover = process.own_cover(&Place::Slot(dir, *name), self.inner().cover);
         self.word.push_reserved(name);
-        line_at(process, table, &cover, object)
+        Item {
+            subject: Subject::Name(dir, name),
+            object,
+            cover,
+        }
     }
 
-    /// Enters a directory that has this name in the innermost one, and gives its line.
+    /// Enters a directory that has this name in that directory, the innermost one, and gives its
+    /// item.
     fn enter<T: FileTree>(
         &mut self,
         tree: &T,
         process: &Process,
-        table: &CallTable,
+        dir: NodeId,
         id: NodeId,
         name: &'t Name,
-    ) -> ObjectLine
+    ) -> Item<'t>
         requires word_room { length self.old.word.items < vec_capacity self.old.word }
         requires dirs_room { length self.old.dirs.items < vec_capacity self.old.dirs }
         requires inside { 0 < length self.old.dirs.items }
@@ -163,97 +167,74 @@ impl<'t> Walk<'t> {
         ensures kept { self.new.spots ≡ self.old.spots }
         ensures coming { self.new.coming ≡ Coming.Others }
         ensures entered { IsEntered process.now self.old self.new id }
-        ensures line { (h : History) (inner : OpenDir) (around : List OpenDir) (dir : ℕ) → WellFormed (T.content tree.now) → StandsFor process.now h →
+        ensures item { (h : History) (inner : OpenDir) (around : List OpenDir) → WellFormed (T.content tree.now) → StandsFor process.now h →
             dirs_in self.old ≡ inner ∷ around → inner.cover ≡ cover_in (T.content tree.now) h dir → look (T.content tree.now) dir name.entry.now ≡ Some id → is_dir (T.content tree.now) id ≡ true →
-            IsLineOn (T.content tree.now) table.now h (At (found.Whole id (way.Named dir name.entry.now))) result }
+            IsItemOn (T.content tree.now) h (At (found.Whole id (way.Named dir name.entry.now))) result }
     {
-        let cover = process.own_cover(&Place::Dir(id), self.cover());
-        let line = line_at(process, table, &cover, directory(tree, id));
+        let cover = process.own_cover(&Place::Dir(id), self.inner().cover);
+        let item = Item {
+            subject: Subject::Dir(id, dir, name),
+            object: directory(tree, id),
+            cover,
+        };
         let next = self.start_of(id);
         self.word.push_reserved(name);
         self.dirs.push_reserved(OpenDir {
             dir: id,
             next,
-            cover,
+            cover: item.cover,
         });
         self.coming = Coming::Others;
-        line
+        item
     }
 
-    /// Goes to the next name, and gives its line; None where no name is left.
-    fn next_entry<T: FileTree>(
-        &mut self,
-        tree: &T,
-        process: &Process,
-        table: &CallTable,
-    ) -> Option<ObjectLine>
+    /// Goes to the next name, and gives its item; None where no name is left.
+    fn next_entry<T: FileTree>(&mut self, tree: &T, process: &Process) -> Option<Item<'t>>
         requires ready { IsReady (T.content tree.now) process.now self.old }
         requires names { self.old.coming ≡ Coming.Names }
         ensures ready { IsReady (T.content tree.now) process.now self.new }
-        ensures line { IsNextLine (T.content tree.now) table.now process.now self.old result self.new }
+        ensures item { IsNextItem (T.content tree.now) process.now self.old result self.new }
     {
         let Some(next) = self.next_name() else {
             return None;
         };
         let (dir, name) = next;
         let Some(id) = tree.look(dir, name) else {
-            return Some(self.stand_at(process, table, dir, name, Object::Missing));
+            return Some(self.stand_at(process, dir, name, Object::Missing));
         };
         let kind = tree.kind(id);
         if is_directory(kind) {
-            return Some(self.enter(tree, process, table, id, name));
+            return Some(self.enter(tree, process, dir, id, name));
         }
-        Some(self.stand_at(process, table, dir, name, object_at(kind)))
+        Some(self.stand_at(process, dir, name, object_at(kind)))
     }
 
-    /// Goes to the next thing that a line may be about, and gives its line; None where nothing is left.
-    fn next_item<T: FileTree>(
-        &mut self,
-        tree: &T,
-        process: &Process,
-        table: &CallTable,
-    ) -> Option<ObjectLine>
+    /// Goes to the next thing that a line may be about, and gives its item; None where nothing is
+    /// left.
+    pub(crate) fn next_item<T: FileTree>(&mut self, tree: &T, process: &Process) -> Option<Item<'t>>
         requires ready { IsReady (T.content tree.now) process.now self.old }
         ensures ready { IsReady (T.content tree.now) process.now self.new }
-        ensures line { IsNextLine (T.content tree.now) table.now process.now self.old result self.new }
+        ensures item { IsNextItem (T.content tree.now) process.now self.old result self.new }
     {
         match self.coming {
             Coming::Root => {
                 self.coming = Coming::Others;
-                let cover = self.cover();
-                Some(line_at(process, table, &cover, Object::Directory))
+                Some(Item {
+                    subject: Subject::Root,
+                    object: Object::Directory,
+                    cover: self.inner().cover,
+                })
             }
             Coming::Others => {
                 self.coming = Coming::Names;
-                let cover = self.cover();
-                Some(line_of_others(process, table, &cover))
+                let inner = self.inner();
+                Some(Item {
+                    subject: Subject::Others(inner.dir),
+                    object: Object::Missing,
+                    cover: inner.cover,
+                })
             }
-            Coming::Names => self.next_entry(tree, process, table),
-        }
-    }
-
-    /// Goes to the next thing on which a call is allowed, and gives its line; None where nothing is
-    /// left.
-    pub(crate) fn next_line<T: FileTree>(
-        &mut self,
-        tree: &T,
-        process: &Process,
-        table: &CallTable,
-    ) -> Option<ObjectLine>
-        requires ready { IsReady (T.content tree.now) process.now self.old }
-        ensures ready { IsReady (T.content tree.now) process.now self.new }
-        ensures line { let left = left_in (T.content tree.now) process.now.veils in
-            IsNextListed (T.content tree.now) table.now process.now (left self.old) result (word_in self.new) (left self.new) }
-        ensures fewer { OnSome result (length (left_in (T.content tree.now) process.now.veils self.new) < length (left_in (T.content tree.now) process.now.veils self.old)) }
-    {
-        process.known();
-        loop {
-            let Some(line) = self.next_item(tree, process, table) else {
-                return None;
-            };
-            if !line.calls.is_empty() {
-                return Some(line);
-            }
+            Coming::Names => self.next_entry(tree, process),
         }
     }
 }

@@ -3,7 +3,9 @@
 
 mod errno;
 mod found;
+mod front;
 mod laws;
+mod lead;
 mod limits;
 mod piece;
 mod probe;

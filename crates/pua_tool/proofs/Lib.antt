@@ -6,7 +6,9 @@ pub mod Futures
 pub mod Alike
 pub mod Passing
 pub mod ObjectTexts
+pub mod EverTexts
 pub mod Stops
+pub mod Ends
 pub mod States
 pub mod Lists
 pub mod Climbing

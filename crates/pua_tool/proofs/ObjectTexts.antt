@@ -29,7 +29,7 @@ use Rattle.pua_tool.specs.Texts.{Replayed, replayed, ended}
 use Rattle.pua_tool.specs.Sinks.{Adds, AddsFront, HasFailed}
 use Rattle.pua_tool.specs.ObjectTexts.{object_lines, lists_of, numbers_asked, objects_after, objects_text, Tells}
 use Rattle.pua_tool.specs.declared.fault.ToolFault.{ToolFault}
-use Rattle.pua_tool.specs.declared.fault.ToolFault.TheVariants.{Listing, Script, NoProcess, Audit, Write, OutOfMemory, Table}
+use Rattle.pua_tool.specs.declared.fault.ToolFault.TheVariants.{Listing, Script, NoProcess, Audit, Write, OutOfMemory, Table, CanUnveil, LacksC, RenameLacksC, LinkLacksC}
 
 module _ (table_bytes : Option (List ℕ)) (tree_bytes script_bytes : List ℕ) (which : Processes) where
   abbrev listed_by : Replayed → Result (List ℕ) ToolFault → Result (List ℕ) ToolFault
@@ -198,6 +198,10 @@ module _ (answer : Result (List ℕ) ToolFault) (text : List ℕ) (a b : Option 
   tells_refused (Err NoProcess) told = absurd told
   tells_refused (Err (Audit fault)) told = absurd told
   tells_refused (Err (Table fault)) told = absurd told
+  tells_refused (Err (CanUnveil process)) told = absurd told
+  tells_refused (Err (LacksC call)) told = absurd told
+  tells_refused (Err RenameLacksC) told = absurd told
+  tells_refused (Err LinkLacksC) told = absurd told
 
   pub tells_unwritten : (r : Result (Unit {0}) ToolFault) → Tells text r a b n m → IfErr r (λ fault. fault ≢ Write → b ≡ a)
   tells_unwritten (Ok done) told = tt
@@ -208,3 +212,7 @@ module _ (answer : Result (List ℕ) ToolFault) (text : List ℕ) (a b : Option 
   tells_unwritten (Err NoProcess) told = absurd told
   tells_unwritten (Err (Audit fault)) told = absurd told
   tells_unwritten (Err (Table fault)) told = absurd told
+  tells_unwritten (Err (CanUnveil process)) told = absurd told
+  tells_unwritten (Err (LacksC call)) told = absurd told
+  tells_unwritten (Err RenameLacksC) told = absurd told
+  tells_unwritten (Err LinkLacksC) told = absurd told

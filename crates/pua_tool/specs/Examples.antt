@@ -26,6 +26,12 @@ forking = text_of_lines (codes "1 fork 2" ∷ codes "2 chdir /" ∷ [])
 abbrev pub veiling : List ℕ
 veiling = text_of_lines (codes "1 mkdir /d" ∷ codes "1 unveil /d rwc" ∷ codes "1 unveil /d/a\\040b =" ∷ codes "1 unveil /d rc" ∷ codes "1 pledge - =" ∷ codes "1 unveil - -" ∷ [])
 
+abbrev pub removing : List ℕ
+removing = text_of_lines (codes "1 mkdir /d" ∷ codes "1 unveil /d rc" ∷ codes "1 rmdir /d" ∷ [])
+
+abbrev pub root_and_directory : List ℕ
+root_and_directory = text_of_lines (codes "tree 1" ∷ codes "0 dir" ∷ codes "1 dir 0 a\\040b" ∷ [])
+
 abbrev pub pairing : List ℕ
 pairing = text_of_lines (codes "1 fork 7" ∷ codes "7 pledge = -" ∷ codes "1 exit" ∷ [])
 
@@ -41,6 +47,9 @@ pub record TextRows : Type 0 where
       ≡ Ok (text_of_lines (codes "/a mkdir" ∷ codes "/a symlink" ∷ []))
   pub spelled : audit_text None root_alone creating_alone (record plain_job { limit = 1; candidates = codes "a\\040b" ∷ [] })
       ≡ Ok (text_of_lines (codes "1 ok" ∷ codes "reach 1" ∷ codes "/a\\040b mkdir" ∷ codes "/a\\040b symlink" ∷ []))
+  pub beneath_a_spelled_name : audit_text None root_and_directory creating_alone (record plain_job { candidates = codes "x" ∷ [] })
+      ≡ Ok (text_of_lines (codes "1 ok" ∷ codes "reach 1" ∷ codes "/../a\\040b rmdir" ∷ codes "/../x mkdir" ∷ codes "/../x symlink" ∷ codes "/a\\040b rmdir"
+      ∷ codes "/a\\040b/a\\040b mkdir" ∷ codes "/a\\040b/a\\040b symlink" ∷ codes "/a\\040b/x mkdir" ∷ codes "/a\\040b/x symlink" ∷ codes "/x mkdir" ∷ codes "/x symlink" ∷ []))
   pub ended_process : audit_text None root_alone ending plain_job
       ≡ Ok (text_of_lines (codes "1 ok" ∷ codes "2 killed" ∷ codes "3 gone" ∷ codes "reach 1" ∷ []))
   pub another_process : audit_text None root_alone forking (record plain_job { limit = 0; process = 2; base = Cwd })
@@ -51,6 +60,8 @@ pub record TextRows : Type 0 where
   pub veiled_objects : objects_text None root_alone veiling (One 1)
       ≡ Ok (text_of_lines (codes "1 ok" ∷ codes "2 ok" ∷ codes "3 ok" ∷ codes "4 ok" ∷ codes "5 ok" ∷ codes "6 ok" ∷ codes "objects 1" ∷ codes "process alive" ∷ codes "promises -" ∷ codes "execpromises =" ∷ codes "unveil locked"
       ∷ codes "veil /d rc" ∷ codes "veil /d/a\\040b =" ∷ codes "dir /d stat,lstat,open-r,rmdir,chdir" ∷ codes "other /d mkdir,symlink" ∷ []))
+  pub removed_place : objects_text None root_alone removing (One 1)
+      ≡ Ok (text_of_lines (codes "1 ok" ∷ codes "2 ok" ∷ codes "3 ok" ∷ codes "objects 1" ∷ codes "process alive" ∷ codes "promises -" ∷ codes "execpromises -" ∷ codes "unveil open" ∷ codes "veil - rc" ∷ []))
   pub all_objects : objects_text None root_alone pairing All
       ≡ Ok (text_of_lines (codes "1 ok" ∷ codes "2 ok" ∷ codes "3 ok" ∷ codes "objects 1" ∷ codes "process ended" ∷ codes "objects 7" ∷ codes "process alive" ∷ codes "promises =" ∷ codes "execpromises -" ∷ codes "unveil given-up" ∷ []))
   pub never_listed : objects_text None root_alone [] (One 2) ≡ Err NoProcess
@@ -67,11 +78,13 @@ text_rows = record {
   audit = refl;
   resumed = refl;
   spelled = refl;
+  beneath_a_spelled_name = refl;
   ended_process = refl;
   another_process = refl;
   objects = refl;
   ended_objects = refl;
   veiled_objects = refl;
+  removed_place = refl;
   all_objects = refl;
   never_listed = refl;
   bad_listing = refl;

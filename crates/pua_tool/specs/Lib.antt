@@ -7,7 +7,9 @@ pub mod Statuses
 pub mod Texts
 pub mod States
 pub mod ObjectTexts
+pub mod EverTexts
 pub mod Lists
+pub mod EverLists
 pub mod Begun
 pub mod Performed
 pub mod Futures

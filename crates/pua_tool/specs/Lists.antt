@@ -1,5 +1,5 @@
 -- Lists that the code has begun, as the definitions see them.
-use Rattle.std.specs.Prelude.{◌≡◌, ℕ, List, [], ◌∷◌, ◌++◌, Option, Some, None}
+use Rattle.std.specs.Prelude.{◌≡◌, ℕ, List, [], ◌∷◌, ◌++◌, Option, Some, None, codes}
 use Rattle.pua_tree.specs.Tree.{Tree}
 use Rattle.pua_policy.specs.Calls.{CallTable}
 use Rattle.pua_policy.specs.History.{History, StandsFor}
@@ -9,24 +9,31 @@ use Rattle.pua_audit.specs.Reach.{Word}
 use Rattle.pua_objects.specs.Objects.{objects}
 use Rattle.pua_objects.specs.ObjectsState.{ObjectsState}
 use Rattle.pua_objects.specs.Ready.{lines_of}
-use Rattle.pua_tool.specs.States.{own_lines, living_veils}
-use Rattle.pua_tool.specs.ObjectTexts.{objects_line}
+use Rattle.pua_tool.specs.States.{heading_line, own_lines, living_veils}
 
 -- the tree in which places are looked for, and the names that lead to the one that was found last
 pub record PlacesState : Type 0 where
   pub tree : Tree
   pub names : Word
 
--- the heading of a list with the first lines of the state, the veils, and the objects that are still to come
-pub record ListState : Type 0 where
-  pub head : List ℕ
+-- the heading of a list with the first lines of the state, and the veils
+pub record HeadState : Type 0 where
+  pub text : List ℕ
   pub veils : List (Place × ℕ)
+
+-- what stands before a list's lines, and the objects that are still to come
+pub record ListState : Type 0 where
+  pub head : HeadState
   pub objects : ObjectsState
+
+-- the heading and the state of a process with this number and history
+pub record IsHeadOf (title : List ℕ) (process : ℕ) (h : History) (head : HeadState) : Type 0 where
+  pub text : head.text ≡ heading_line title process ++ own_lines h
+  pub veils : head.veils ≡ living_veils h
 
 -- a list that was begun is that of a process with this number and history
 pub record IsListOf (table : CallTable) (t : Tree) (process : ℕ) (h : History) (list : ListState) : Type 0 where
-  pub head : list.head ≡ objects_line process ++ own_lines h
-  pub veils : list.veils ≡ living_veils h
+  pub head : IsHeadOf (codes "objects") process h list.head
   pub tree : list.objects.tree ≡ t
   pub rules : list.objects.table ≡ table
   pub stands : StandsFor list.objects.process h

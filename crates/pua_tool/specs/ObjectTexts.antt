@@ -1,5 +1,5 @@
 -- The text of the lists of processes, and what refuses it.
-use Rattle.std.specs.Prelude.{◌≡◌, ℕ, List, [], ◌∷◌, ◌++◌, map, flat_map, Option, option_map, Result, Ok, Err, codes, ok_or, decimal}
+use Rattle.std.specs.Prelude.{◌≡◌, ℕ, List, [], ◌∷◌, ◌++◌, map, flat_map, Option, option_map, Result, Ok, Err, codes, ok_or}
 use Rattle.std.specs.Option.{option_map_or}
 use Rattle.pua_tree.specs.Tree.{Tree}
 use Rattle.pua_tree.specs.Steps.{◌>>=◌}
@@ -10,7 +10,7 @@ use Rattle.pua_script.specs.declared.answer.Answer.{Answer}
 use Rattle.pua_objects.specs.Objects.{Line, line_text, objects}
 use Rattle.pua_words.specs.declared.command.Processes.{Processes}
 use Rattle.pua_words.specs.declared.command.Processes.TheVariants.{One, All}
-use Rattle.pua_tool.specs.States.{own_lines, living_veils, veil_lines}
+use Rattle.pua_tool.specs.States.{head_lines}
 use Rattle.pua_tool.specs.Texts.{ended, answer_lines, replayed}
 use Rattle.pua_tool.specs.declared.fault.ToolFault.{ToolFault}
 use Rattle.pua_tool.specs.declared.fault.ToolFault.TheVariants.{NoProcess, Write, OutOfMemory}
@@ -19,12 +19,9 @@ use Rattle.pua_tool.specs.Sinks.{Adds, AddsFront, HasFailed}
 abbrev pub object_lines : Tree → List Line → List ℕ
 object_lines t lines = flat_map (λ line. ended (line_text t line)) lines
 
-abbrev pub objects_line : ℕ → List ℕ
-objects_line process = ended (codes "objects " ++ decimal process)
-
 -- the list of a process: its heading, its state, and a line for each object on which its history allows a call
 abbrev pub process_list : CallTable → Tree → ℕ → History → List ℕ
-process_list table t process h = (objects_line process ++ own_lines h) ++ (veil_lines t (living_veils h) ++ object_lines t (objects t table h))
+process_list table t process h = head_lines t (codes "objects") process h ++ object_lines t (objects t table h)
 
 -- a number that was never made has no list
 abbrev pub list_of : CallTable → World → ℕ → List ℕ

@@ -1,10 +1,11 @@
 -- What the performance of a command promises.
 use Rattle.std.specs.Prelude.{◌≡◌, ◌<◌, ◌⊎◌, ⊤, ℕ, List, length, Option, Some, None, Result, Ok, Err}
 use Rattle.std.specs.Borrow.{Bor}
+use Rattle.std.specs.Io.KnownBytes.{Keeps}
 use Rattle.pua_words.specs.Commands.{AsksSoundly}
 use Rattle.pua_words.specs.declared.command.Command.{Command}
 use Rattle.pua_words.specs.declared.command.Text.{Text}
-use Rattle.pua_words.specs.declared.command.Text.TheVariants.{Run, Audit, Objects}
+use Rattle.pua_words.specs.declared.command.Text.TheVariants.{Run, Audit, Objects, Ever}
 use Rattle.pua_tool.specs.declared.fault.ToolFault.{ToolFault}
 use Rattle.pua_tool.specs.declared.fault.ToolFault.TheVariants.{Write, OutOfMemory}
 use Rattle.pua_tool.specs.declared.outcome.CommandFault.{CommandFault}
@@ -15,12 +16,14 @@ use Rattle.pua_tool.specs.Sinks.{Adds, AddsFront, HasFailed}
 use Rattle.pua_tool.specs.Statuses.{status_of}
 use Rattle.pua_tool.specs.Texts.{given, run_text, audit_text, wanted_by}
 use Rattle.pua_tool.specs.ObjectTexts.{objects_text}
+use Rattle.pua_tool.specs.EverTexts.{ever_text}
 
 -- the text that is asked for, of a table, a listing and a script, or what refuses it
 abbrev pub text_asked : Text → Option (List ℕ) → List ℕ → List ℕ → Result (List ℕ) ToolFault
 text_asked Run table tree script = run_text table tree script
 text_asked (Audit words) table tree script = audit_text table tree script (wanted_by words)
 text_asked (Objects words) table tree script = objects_text table tree script words.processes
+text_asked (Ever words) table tree script = ever_text table tree script words.process
 
 -- the table's bytes are held under its name, or no table is named and there are none
 abbrev pub HoldsTable : Held → Option (Bor (List ℕ)) → Option (List ℕ) → Type 0
@@ -123,4 +126,10 @@ HasAnswered held old new = ((command : Command) × AsksSoundly command.text × I
 abbrev pub HasHalted : Held → Option (List ℕ) → Option (List ℕ) → ℕ → ℕ → Type 0
 HasHalted held old new before after =
     ((command : Command) × AsksSoundly command.text × ((LacksInput held command × (new ≡ old)) ⊎ IsCutShort held command old new before after))
+    ⊎ ((text : List ℕ) × AddsFront text old new × HasFailed before after)
+
+-- the same after the output was handed on, or could not be: where nothing was written, known bytes stay, and a front may be the whole text
+abbrev pub HasEnded : Held → Option (List ℕ) → Option (List ℕ) → ℕ → ℕ → Type 0
+HasEnded held old new before after =
+    ((command : Command) × AsksSoundly command.text × ((LacksInput held command × Keeps old new) ⊎ IsCutShort held command old new before after))
     ⊎ ((text : List ℕ) × AddsFront text old new × HasFailed before after)

@@ -1,5 +1,5 @@
 -- What a list says of the state of a process: its promises, whether it may put veils, and its veils with where their places stand.
-use Rattle.std.specs.Prelude.{◌↔◌, ◌⊎◌, ◌≡◌, ℕ, zero, suc, Bool, if◌then◌else◌, List, [], ◌∷◌, ◌++◌, flat_map, length, reverse, Option, Some, None, codes}
+use Rattle.std.specs.Prelude.{◌↔◌, ◌⊎◌, ◌≡◌, ℕ, zero, suc, Bool, if◌then◌else◌, List, [], ◌∷◌, ◌++◌, flat_map, length, reverse, Option, Some, None, codes, decimal}
 use Rattle.std.specs.Option.{option_map_or}
 use Rattle.pua_tree.specs.Tree.{Tree, is_dir, spot_of}
 use Rattle.pua_policy.specs.Promises.{holds, unveil, keywords_of, letters_of}
@@ -39,6 +39,10 @@ own_lines h = if is_ended h then ended (codes "process ended") else living_lines
 abbrev pub living_veils : History → List (Place × ℕ)
 living_veils h = if is_ended h then [] else veils h
 
+-- the heading of a list, by what it is a list of and the number of its process
+abbrev pub heading_line : List ℕ → ℕ → List ℕ
+heading_line title process = ended (title ++ 32 ∷ decimal process)
+
 -- the names of a directory and of those above it, up to the root, which stands in no row; at most so many
 abbrev pub names_up : ℕ → Tree → ℕ → Word
 names_up zero t dir = []
@@ -74,6 +78,10 @@ veil_line t veil = ended (codes "veil " ++ place_text t veil.0 ++ 32 ∷ or_equa
 
 abbrev pub veil_lines : Tree → List (Place × ℕ) → List ℕ
 veil_lines t vs = flat_map (veil_line t) vs
+
+-- what stands before the lines of a list: its heading, and the state of its process
+abbrev pub head_lines : Tree → List ℕ → ℕ → History → List ℕ
+head_lines t title process h = (heading_line title process ++ own_lines h) ++ veil_lines t (living_veils h)
 
 -- the law: a process that can put no veil any more prints `locked` or `given-up`, and only such a one does
 abbrev pub ConfinedIsPrinted : Type 0

@@ -1,13 +1,14 @@
 -- What a fault's line leaves in the sink for faults.
-use Rattle.std.specs.Prelude.{⊤, ℕ, List, ◌++◌, Option, Result, codes, string_bytes}
+use Rattle.std.specs.Prelude.{◌≡◌, ⊤, ℕ, List, ◌++◌, Option, Result, codes, string_bytes}
 use Rattle.pua_words.specs.Usages.{line_text}
 use Rattle.pua_words.specs.declared.words.Stop.{Stop}
 use Rattle.pua_words.specs.declared.words.Stop.TheVariants as stop
 use Rattle.pua_tool.specs.Sinks.{Adds, AddsFront, HasFailed, Writes}
+use Rattle.pua_tool.specs.Statuses.{fault_status}
 use Rattle.pua_tool.specs.Texts.{ended}
 use Rattle.pua_tool.specs.declared.sink.PutFault.{PutFault}
 use Rattle.pua_tool.specs.declared.fault.ToolFault.{ToolFault}
-use Rattle.pua_tool.specs.declared.fault.ToolFault.TheVariants.{Write}
+use Rattle.pua_tool.specs.declared.fault.ToolFault.TheVariants.{Write, OutOfMemory, NoProcess}
 use Rattle.pua_tool.specs.declared.outcome.CommandFault.{CommandFault}
 use Rattle.pua_tool.specs.declared.outcome.CommandFault.TheVariants.{Usage, Unreadable, Tool}
 
@@ -15,9 +16,19 @@ use Rattle.pua_tool.specs.declared.outcome.CommandFault.TheVariants.{Usage, Unre
 abbrev pub cannot_write : List ℕ
 cannot_write = ended (codes "pua: cannot write")
 
+-- the line of a growth of memory that was refused
+abbrev pub out_of_memory : List ℕ
+out_of_memory = ended (codes "pua: out of memory")
+
+-- the line of a process that was never made
+abbrev pub no_process : List ℕ
+no_process = ended (codes "pua: no such process")
+
 -- the writing of the line of a fault of the tool; of the others' lines nothing is said
 abbrev pub TellsToolFault : ToolFault → Result (Unit {0}) PutFault → Option (List ℕ) → Option (List ℕ) → ℕ → ℕ → Type 0
 TellsToolFault Write done old new before after = Writes cannot_write done old new before after
+TellsToolFault OutOfMemory done old new before after = Writes out_of_memory done old new before after
+TellsToolFault NoProcess done old new before after = Writes no_process done old new before after
 TellsToolFault _ done old new before after = ⊤
 
 -- the writing of the line of a command's fault
@@ -29,6 +40,10 @@ TellsFault (Tool fault) done old new before after = TellsToolFault fault done ol
 -- a command's fault was told: by all of its line, or by a front of it before a put that failed
 abbrev pub IsFaultTold : CommandFault → Option (List ℕ) → Option (List ℕ) → ℕ → ℕ → Type 0
 IsFaultTold fault old new before after = (done : Result (Unit {0}) PutFault) × TellsFault fault done old new before after
+
+-- a fault with which the program ends by this status was told
+abbrev pub TellsStatus : ℕ → Option (List ℕ) → Option (List ℕ) → ℕ → ℕ → Type 0
+TellsStatus status old new before after = (fault : CommandFault) × (fault_status fault ≡ status) × IsFaultTold fault old new before after
 
 -- so was a line
 abbrev pub IsTold : List ℕ → Option (List ℕ) → Option (List ℕ) → ℕ → ℕ → Type 0

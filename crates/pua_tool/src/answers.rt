@@ -1,8 +1,10 @@
 //! The lines with what a script was answered.
 
-ghost use Rattle.std.specs.Prelude.{◌≡◌, ◌++◌, IfOk, OnOk, string_bytes, option_map};
-ghost use Rattle.pua_tool.specs.Texts.{answer_line, answer_lines, front_of};
+ghost use Rattle.std.specs.Prelude.{◌≡◌, ◌++◌, ◌∷◌, IfOk, OnOk, string_bytes, option_map};
+ghost use Rattle.pua_script.specs.AnswerTexts.{answer_text as answer_word};
+ghost use Rattle.pua_tool.specs.Texts.{answer_lines, ended, front_of};
 
+use itoa::Buffer;
 use pua_script::Answer;
 use std::alloc::{AllocError, Global};
 use std::fmt::Write;
@@ -12,16 +14,31 @@ pub(crate) fn answer_text(alloc: Global, told: &[Answer]) -> Result<String, Allo
     ensures { IfOk result (λ text. string_bytes text ≡ answer_lines 1 told.now) }
 {
     let mut text = String::new(alloc);
+    let mut digits = Buffer::new();
     for (place, answer) in told.iter().enumerate() {
-        push_answer(&mut text, place + 1, *answer)?;
+        push_answer(&mut text, digits.format(place + 1), *answer)?;
     }
     Ok(text)
 }
 
-fn push_answer(text: &mut String, number: usize, answer: Answer) -> Result<(), AllocError>
-    ensures { OnOk result (string_bytes text.new ≡ string_bytes text.old ++ answer_line number answer) }
+/// Adds the line of an answer to a request whose number has these digits.
+fn push_answer(text: &mut String, digits: &str, answer: Answer) -> Result<(), AllocError>
+    ensures { OnOk result (string_bytes text.new ≡ string_bytes text.old ++ ended (digits.now ++ 32 ∷ answer_word answer)) }
 {
-    writeln!(text, "{number} {answer}")
+    text.push_str(digits)?;
+    text.push_str(" ")?;
+    push_word(text, answer)?;
+    text.push_str("\n")
+}
+
+/// Adds what a request was answered. Most were done, so that is copied and not displayed.
+fn push_word(text: &mut String, answer: Answer) -> Result<(), AllocError>
+    ensures { OnOk result (string_bytes text.new ≡ string_bytes text.old ++ answer_word answer) }
+{
+    match answer {
+        Answer::Okay => text.push_str("ok"),
+        _ => write!(text, "{answer}"),
+    }
 }
 
 /// What stands before the lines of the pairs: the answers and the heading, except in an audit that is

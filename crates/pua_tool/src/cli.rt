@@ -5,10 +5,10 @@ ghost use Rattle.std.specs.Io.Buffered.{writer_buffer, writer_contents};
 ghost use Rattle.pua_words.specs.Usages.{line_for, line_text};
 ghost use Rattle.pua_words.specs.Commands.{AsksSoundly};
 ghost use Rattle.pua_words.specs.declared.command.Command.{Command};
-ghost use Rattle.pua_tool.specs.Performed.{HasAnswered, HasHalted, IsRefused};
+ghost use Rattle.pua_tool.specs.Performed.{HasAnswered, HasEnded, HasHalted, IsRefused};
 ghost use Rattle.pua_tool.specs.Sinks.{Adds, AddsFront, HasFailed};
 ghost use Rattle.pua_tool.specs.Texts.{ended};
-ghost use Rattle.pua_tool.specs.Told.{IsTold, Shows, ShowsFront, TellsUsage, cannot_write};
+ghost use Rattle.pua_tool.specs.Told.{IsTold, Shows, ShowsFront, TellsStatus, TellsUsage, cannot_write};
 
 use crate::fault::ToolFault;
 use crate::inputs::Inputs;
@@ -34,6 +34,10 @@ pub fn program<I: Inputs, W: Write + Drop, E: Sink>(
     ensures refused { result ≡ REFUSED → (c : Command) × AsksSoundly c.text × IsRefused (I.holds inputs.old) c }
     ensures usage { result ≡ USAGE → IsTold (ended (line_text (line_for (map (λ word. word.now) words.now))))
         (E.written err.old) (E.written err.new) (E.failed err.old) (E.failed err.new) }
+    ensures device { result ≡ DEVICE → HasEnded (I.holds inputs.old)
+        (writer_contents W.contents out.old.0) (writer_contents W.contents out.new.0) out.old.1 out.new.1 }
+    ensures told { result ≢ DONE → TellsStatus result
+        (E.written err.old) (E.written err.new) (E.failed err.old) (E.failed err.new) }
     ensures handed { result ≡ DONE → writer_buffer out.new.0 ≡ [] }
     ensures unfailed { result ≡ DONE → out.new.1 ≡ out.old.1 }
     ensures quiet { result ≡ DONE → err.new ≡ err.old }
@@ -52,6 +56,8 @@ fn at_end<E: Sink>(status: u8, flushed: Result<(), PutFault>, err: &mut E) -> u8
     ensures device { OnErr flushed (status ≡ DONE → result ≡ DEVICE) }
     ensures told { OnErr flushed (status ≡ DONE →
         IsTold cannot_write (E.written err.old) (E.written err.new) (E.failed err.old) (E.failed err.new)) }
+    ensures reported { result ≢ status → TellsStatus result
+        (E.written err.old) (E.written err.new) (E.failed err.old) (E.failed err.new) }
     ensures quiet { OnOk flushed (err.new ≡ err.old) }
     ensures untold { status ≢ DONE → err.new ≡ err.old }
 {
@@ -82,6 +88,8 @@ pub fn command<I: Inputs, O: Sink, E: Sink>(
         (E.written err.old) (E.written err.new) (E.failed err.old) (E.failed err.new) }
     ensures device { result ≡ DEVICE → HasHalted (I.holds inputs.old)
         (O.written out.old) (O.written out.new) (O.failed out.old) (O.failed out.new) }
+    ensures told { result ≢ DONE → TellsStatus result
+        (E.written err.old) (E.written err.new) (E.failed err.old) (E.failed err.new) }
     ensures status { result ≤ MEMORY }
     ensures unwritten { result ≢ DONE → result ≢ DEVICE → O.written out.new ≡ O.written out.old }
     ensures unfailed { result ≡ DONE → O.failed out.new ≡ O.failed out.old }
@@ -99,6 +107,7 @@ fn stopped<O: Sink, E: Sink>(stop: &Stop, out: &mut O, err: &mut E) -> u8
     ensures cut { result ≡ DEVICE → ShowsFront stop.now (O.written out.old) (O.written out.new) (O.failed out.old) (O.failed out.new) }
     ensures usage { result ≡ USAGE → TellsUsage stop.now (E.written err.old) (E.written err.new) (E.failed err.old) (E.failed err.new) }
     ensures memory { stop.now ≡ Stop.OutOfMemory → result ≡ MEMORY }
+    ensures told { result ≢ DONE → TellsStatus result (E.written err.old) (E.written err.new) (E.failed err.old) (E.failed err.new) }
     ensures unrefused { result ≢ REFUSED }
     ensures statuses { result ≤ MEMORY }
     ensures unwritten { result ≢ DONE → result ≢ DEVICE → O.written out.new ≡ O.written out.old }
@@ -117,6 +126,7 @@ fn show<O: Sink, E: Sink>(text: &str, out: &mut O, err: &mut E) -> u8
     ensures whole { result ≡ DONE → Adds text.now (O.written out.old) (O.written out.new) }
     ensures front { result ≢ DONE → AddsFront text.now (O.written out.old) (O.written out.new) }
     ensures failed { result ≢ DONE → HasFailed (O.failed out.old) (O.failed out.new) }
+    ensures told { result ≢ DONE → TellsStatus result (E.written err.old) (E.written err.new) (E.failed err.old) (E.failed err.new) }
     ensures status { result ≢ DONE → result ≡ DEVICE }
     ensures unfailed { result ≡ DONE → O.failed out.new ≡ O.failed out.old }
     ensures quiet { result ≡ DONE → err.new ≡ err.old }

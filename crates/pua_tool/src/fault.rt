@@ -5,7 +5,7 @@ ghost use Rattle.pua_tool.specs.Statuses.{status_of};
 
 use crate::status::{DEVICE, MEMORY, REFUSED};
 use pua_audit::AuditFault;
-use pua_policy::TableFault;
+use pua_policy::{Call, TableFault};
 use pua_script::ScriptFault;
 use pua_tree::ListingFault;
 use thiserror::Error;
@@ -13,8 +13,14 @@ use thiserror::Error;
 /// The line of a put that failed, without its end.
 pub(crate) const CANNOT_WRITE: &str = "pua: cannot write";
 
-/// Why the text of a run, of an audit or of a list of objects was not written, or not whole. It is
-/// displayed as the line that the program prints.
+/// The line of a growth of memory that was refused, without its end.
+pub(crate) const OUT_OF_MEMORY: &str = "pua: out of memory";
+
+/// The line of a process that was never made, without its end.
+pub(crate) const NO_PROCESS: &str = "pua: no such process";
+
+/// Why the text of a run, of an audit or of a list of objects, of now or for ever, was not written, or
+/// not whole. It is displayed as the line that the program prints.
 #[derive(Clone, Copy, Debug, PartialEq, Eq, Error)]
 pub enum ToolFault {
     /// The tree's bytes are no listing.
@@ -24,7 +30,7 @@ pub enum ToolFault {
     #[error("pua: script: {0}")]
     Script(ScriptFault),
     /// The process was never made.
-    #[error("pua: no such process")]
+    #[error("{line}", line = NO_PROCESS)]
     NoProcess,
     /// The audit can't begin.
     #[error("pua: audit: {0}")]
@@ -33,11 +39,25 @@ pub enum ToolFault {
     #[error("{line}", line = CANNOT_WRITE)]
     Write,
     /// A growth of memory was refused, and nothing was written.
-    #[error("pua: out of memory")]
+    #[error("{line}", line = OUT_OF_MEMORY)]
     OutOfMemory,
     /// The table's bytes give no table of calls.
     #[error("pua: table: {0}")]
     Table(TableFault),
+    /// There is no list for ever of the process with this number, which can still put veils: it is not
+    /// locked, and has the promise `unveil`.
+    #[error("pua: process {0} can still unveil")]
+    CanUnveil(u32),
+    /// There is no list for ever by a table by which this call, one that makes a name or takes one away,
+    /// does not need `c`.
+    #[error("pua: table: {}: no c", .0.name())]
+    LacksC(Call),
+    /// The same of rename(2), by one of its two names.
+    #[error("pua: table: rename: no c")]
+    RenameLacksC,
+    /// The same of link(2).
+    #[error("pua: table: link: no c")]
+    LinkLacksC,
 }
 
 impl ToolFault {

@@ -1,10 +1,13 @@
-//! Texts of runs, of audits and of lists of objects, where they are written, and the whole program as a function over its
-//! inputs.
+//! Texts of runs, of audits and of lists of objects, of now and for ever, where they are written, and the whole program as a
+//! function over its inputs.
 #![tactic(auto)]
 
 mod answers;
 mod audit;
 mod cli;
+mod ever;
+mod ever_line;
+mod ever_list;
 mod fault;
 mod inputs;
 mod job;
@@ -14,6 +17,7 @@ mod object_line;
 mod objects;
 mod outcome;
 mod places;
+mod process_head;
 mod process_list;
 mod run;
 mod script;
@@ -26,12 +30,13 @@ mod veil_line;
 
 pub use audit::audit_to;
 pub use cli::{command, program};
+pub use ever::ever_to;
 pub use fault::ToolFault;
 pub use inputs::{DiskInputs, InputFault, Inputs, MemoryInputs, read_file};
 pub use job::Job;
 pub use laws::{confined, narrowing, state_law, text_examples, trees_alike};
 pub use objects::objects_to;
-pub use pua_words::{AuditWords, Command, ObjectWords, Processes, Text, UsageLine};
+pub use pua_words::{AuditWords, Command, EverWords, ObjectWords, Processes, Text, UsageLine};
 pub use run::run_to;
 pub use service::perform;
 pub use sink::{MemorySink, PutFault, Sink, StreamSink, put_all};

@@ -39,7 +39,7 @@ pub(crate) fn add_objects<T: FileTree, S: Sink>(
 }
 
 /// Adds the line of what stands at the end of these names.
-fn add_line<S: Sink>(
+pub(crate) fn add_line<S: Sink>(
     block: &mut Vec<u8>,
     line: ObjectLine,
     word: &[&Name],
@@ -56,7 +56,7 @@ fn add_line<S: Sink>(
 }
 
 /// The word of a kind, and a blank.
-fn kind_bytes(kind: ObjectKind) -> &'static [u8]
+pub(crate) fn kind_bytes(kind: ObjectKind) -> &'static [u8]
     ensures bytes { result.now ≡ kind_word kind ++ 32 ∷ [] }
     ensures short { length result.now ≤ MOST_LINE }
 {
@@ -104,7 +104,11 @@ fn add_name<S: Sink>(block: &mut Vec<u8>, name: &Name, sink: &mut S) -> Result<(
 }
 
 /// Adds the names of calls with commas between them, and LF.
-fn add_calls<S: Sink>(block: &mut Vec<u8>, calls: Calls, sink: &mut S) -> Result<(), PutFault>
+pub(crate) fn add_calls<S: Sink>(
+    block: &mut Vec<u8>,
+    calls: Calls,
+    sink: &mut S,
+) -> Result<(), PutFault>
     requires { BLOCK ≤ vec_capacity block.old }
     ensures calls { Passes (with_commas (map call_name (calls_in calls)) ++ 10 ∷ []) result
         block.old.items block.new.items (S.written sink.old) (S.written sink.new) (S.failed sink.old) (S.failed sink.new) }

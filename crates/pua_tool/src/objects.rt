@@ -153,7 +153,7 @@ fn begin_lists<'t, T: FileTree>(
 }
 
 /// What a writing left, as the tool reports it.
-fn told(written: Result<(), PutFault>) -> Result<(), ToolFault>
+pub(crate) fn told(written: Result<(), PutFault>) -> Result<(), ToolFault>
     ensures { (text : List ℕ) (a b : Option (List ℕ)) (n m : ℕ) → Writes text written a b n m → Tells text result a b n m }
 {
     match written {

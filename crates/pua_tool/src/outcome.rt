@@ -6,7 +6,7 @@ ghost use Rattle.pua_tool.specs.Statuses.{fault_status, status_after};
 ghost use Rattle.pua_tool.specs.Texts.{ended};
 ghost use Rattle.pua_tool.specs.Told.{IsFaultTold, TellsFault};
 
-use crate::fault::{CANNOT_WRITE, ToolFault};
+use crate::fault::{CANNOT_WRITE, NO_PROCESS, OUT_OF_MEMORY, ToolFault};
 use crate::sink::{PutFault, Sink, put_all};
 use crate::status::{DEVICE, DONE, USAGE};
 use pua_words::UsageLine;
@@ -46,6 +46,8 @@ impl CommandFault<'_> {
                 put_line(err, name)
             }
             CommandFault::Tool(ToolFault::Write) => put_line(err, CANNOT_WRITE),
+            CommandFault::Tool(ToolFault::OutOfMemory) => put_line(err, OUT_OF_MEMORY),
+            CommandFault::Tool(ToolFault::NoProcess) => put_line(err, NO_PROCESS),
             CommandFault::Tool(fault) => {
                 writeln!(Report { sink: err }, "{fault}").map_err(|_| PutFault)
             }

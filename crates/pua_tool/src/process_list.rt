@@ -1,21 +1,19 @@
 //! The list of a process: its heading, its state, and its objects.
 
-ghost use Rattle.std.specs.Prelude.{◌≡◌, ◌≤◌, ◌++◌, [], ℕ, List, IfOk, map, vec_capacity};
+ghost use Rattle.std.specs.Prelude.{◌≡◌, ◌≤◌, ℕ, IfOk, vec_capacity};
 ghost use Rattle.pua_policy.specs.Calls.{CallTable as Rules};
 ghost use Rattle.pua_policy.specs.History.{History, StandsFor};
 ghost use Rattle.pua_tool.specs.Blocks.{Passes};
 ghost use Rattle.pua_tool.specs.Lists.{IsListOf};
 ghost use Rattle.pua_tool.specs.ObjectTexts.{process_list};
-ghost use Rattle.pua_tool.specs.States.{living_veils};
 
 use crate::line::BLOCK;
 use crate::object_line::add_objects;
 use crate::places::Places;
-use crate::sink::{PutFault, Sink, put_all};
-use crate::state::head_text;
-use crate::veil_line::add_veils;
+use crate::process_head::ProcessHead;
+use crate::sink::{PutFault, Sink};
 use pua_objects::Objects;
-use pua_policy::{CallTable, Perms, Place, Process};
+use pua_policy::{CallTable, Process};
 use pua_tree::{FileTree, OutOfMemory};
 use std::alloc::Global;
 use std::marker::Model;
@@ -23,18 +21,16 @@ use std::marker::Model;
 /// The list of a process, with all memory that writing it takes.
 #[derive(Drop)]
 pub(crate) struct ProcessList<'t, T: FileTree> {
-    head: String,
-    veils: Vec<(&'t Place, &'t Perms)>,
+    head: ProcessHead<'t>,
     objects: Objects<'t, T>,
 }
 
 impl<'t, T: FileTree> Model for ProcessList<'t, T> {
-    ghost use Rattle.std.specs.Prelude.{map, string_bytes};
     ghost use Rattle.pua_tool.specs.Lists.{ListState};
 
     ghost Value = { ListState };
 
-    ghost view = { λ a. record { head = string_bytes a.head; veils = map (λ veil. (veil.0.now, veil.1.now)) a.veils.items; objects = a.objects } };
+    ghost view = { λ a. record { head = a.head; objects = a.objects } };
 }
 
 impl<'t, T: FileTree> ProcessList<'t, T> {
@@ -48,16 +44,9 @@ impl<'t, T: FileTree> ProcessList<'t, T> {
     ) -> Result<ProcessList<'t, T>, OutOfMemory>
         ensures { IfOk result (λ list. (h : History) → StandsFor process.now h → IsListOf table.now (T.content tree.now) number h list) }
     {
-        let Ok(head) = head_text(alloc, number, process) else {
-            return Err(OutOfMemory);
-        };
-        let veils = veils_of_living(alloc, process)?;
+        let head = ProcessHead::begin(alloc, "objects", number, process)?;
         let objects = Objects::begin(alloc, tree, process, table)?;
-        Ok(ProcessList {
-            head,
-            veils,
-            objects,
-        })
+        Ok(ProcessList { head, objects })
     }
 
     /// Adds the list to a block, and takes its lines.
@@ -73,29 +62,7 @@ impl<'t, T: FileTree> ProcessList<'t, T> {
         ensures tree { places.new.tree ≡ places.old.tree }
         ensures room { BLOCK ≤ vec_capacity block.new }
     {
-        add_text(block, self.head.as_bytes(), sink)?;
-        add_veils(block, self.veils.as_slice(), places, sink)?;
+        self.head.add_to(block, places, sink)?;
         add_objects(block, &mut self.objects, sink)
     }
-}
-
-/// The veils of a process that has not ended.
-fn veils_of_living(alloc: Global, process: &Process) -> Result<Vec<(&Place, &Perms)>, OutOfMemory>
-    ensures { IfOk result (λ veils. (h : History) → StandsFor process.now h → map (λ veil. (veil.0.now, veil.1.now)) veils.items ≡ living_veils h) }
-{
-    if process.ended() {
-        return Ok(Vec::new(alloc));
-    }
-    process.veils(alloc)
-}
-
-/// Adds a text of any length, by putting the block and the text.
-fn add_text<S: Sink>(block: &mut Vec<u8>, text: &[u8], sink: &mut S) -> Result<(), PutFault>
-    ensures text { Passes text.now result
-        block.old.items block.new.items (S.written sink.old) (S.written sink.new) (S.failed sink.old) (S.failed sink.new) }
-    ensures room { vec_capacity block.new ≡ vec_capacity block.old }
-{
-    put_all(sink, block.as_slice())?;
-    block.clear();
-    put_all(sink, text)
 }

@@ -4,9 +4,13 @@ ghost use Rattle.std.specs.Prelude.{◌≡◌, ◌≢◌, ◌≤◌, ◌⊎◌, 
 ghost use Rattle.pua_tool.specs.Held.{Holds};
 ghost use Rattle.pua_tool.specs.Performed.{HoldsTable, IsCutShort, IsDone, IsRefused, IsStopped, IsTableUnheld, IsUnheld, IsUntaken, LacksInput, text_asked};
 ghost use Rattle.pua_tool.specs.Sinks.{Adds, AddsFront, HasFailed};
+ghost use Rattle.pua_tool.specs.Statuses.{fault_status};
 ghost use Rattle.pua_tool.specs.Texts.{given};
+ghost use Rattle.pua_tool.specs.Told.{IsFaultTold};
+ghost use Rattle.pua_tool.specs.declared.outcome.CommandFault.{CommandFault};
 
 use crate::audit::audit_to;
+use crate::ever::ever_to;
 use crate::fault::ToolFault;
 use crate::inputs::{InputFault, Inputs};
 use crate::job::job_of;
@@ -18,8 +22,8 @@ use crate::status::{DEVICE, DONE, MEMORY, REFUSED, USAGE};
 use pua_words::{Command, Text};
 use std::alloc::Global;
 
-/// Does what a command asks for: the text of a run, of an audit or of a list of objects goes to
-/// `out`, and of a fault one line goes to `err`, which is dropped where it can't be written. The
+/// Does what a command asks for: the text of a run, of an audit or of a list of objects, of now or for
+/// ever, goes to `out`, and of a fault one line goes to `err`, which is dropped where it can't be written. The
 /// inputs are taken, first the tree's, then the script's, then the table's where one is named, before
 /// any of them is read as a listing, a script or a table.
 ///
@@ -27,7 +31,9 @@ use std::alloc::Global;
 /// under the command's names, was written, and nothing to `err`. [`REFUSED`]: these bytes, or
 /// what the audit is asked for, are refused. [`DEVICE`]: an input is missing, and nothing was
 /// written; or a put failed, and a front of the text was written. [`MEMORY`]: a growth of memory was
-/// refused. After [`REFUSED`] and [`MEMORY`] nothing was written.
+/// refused. After [`REFUSED`] and [`MEMORY`] nothing was written. After each but [`DONE`] the line of
+/// what stopped it went to `err`: all of it, or a front of it before a put that failed. Which bytes
+/// the line of a table, a listing, a script or an audit has is in no contract.
 pub fn perform<I: Inputs, O: Sink, E: Sink>(
     alloc: Global,
     command: &Command<'_>,
@@ -45,6 +51,10 @@ pub fn perform<I: Inputs, O: Sink, E: Sink>(
         ⊎ IsCutShort (I.holds inputs.old) command.now (O.written out.old) (O.written out.new)
         (O.failed out.old) (O.failed out.new) }
     ensures unwritten { result ≢ DONE → result ≢ DEVICE → O.written out.new ≡ O.written out.old }
+    ensures told { result ≢ DONE → (fault : CommandFault) × (fault_status fault ≡ result)
+        × IsStopped (I.holds inputs.old) command.now fault
+        (O.written out.old) (O.written out.new) (O.failed out.old) (O.failed out.new)
+        × IsFaultTold fault (E.written err.old) (E.written err.new) (E.failed err.old) (E.failed err.new) }
     ensures statuses { result ≤ MEMORY }
     ensures words { result ≢ USAGE }
 {
@@ -160,5 +170,6 @@ fn write_text<O: Sink>(
         Text::Run => run_to(alloc, tree, script, table, out),
         Text::Audit(words) => audit_to(alloc, tree, script, &job_of(words, table), out),
         Text::Objects(words) => objects_to(alloc, tree, script, table, words.processes, out),
+        Text::Ever(words) => ever_to(alloc, tree, script, table, words.process, out),
     }
 }

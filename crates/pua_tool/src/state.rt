@@ -3,29 +3,33 @@
 ghost use Rattle.std.specs.Prelude.{◌≡◌, ◌++◌, ◌∷◌, [], if◌then◌else◌, IfOk, OnOk, map, string_bytes};
 ghost use Rattle.pua_policy.specs.History.{History, StandsFor};
 ghost use Rattle.pua_objects.specs.Objects.{with_commas};
-ghost use Rattle.pua_tool.specs.ObjectTexts.{objects_line};
-ghost use Rattle.pua_tool.specs.States.{living_lines, or_equals, own_lines, promises_text, unveil_word};
+ghost use Rattle.pua_tool.specs.States.{heading_line, living_lines, or_equals, own_lines, promises_text, unveil_word};
 ghost use Rattle.pua_tool.specs.Texts.{ended};
 
 use pua_policy::{Process, Promises};
 use std::alloc::{AllocError, Global};
 use std::fmt::Write;
 
-/// The heading of the list of a process with this number, and the lines of its state before those of
-/// its veils. The only error is that a growth was refused.
-pub(crate) fn head_text(alloc: Global, number: u32, process: &Process) -> Result<String, AllocError>
-    ensures { IfOk result (λ text. (h : History) → StandsFor process.now h → string_bytes text ≡ objects_line number ++ own_lines h) }
+/// The heading of a list with this title, of the process with this number, and the lines of its state
+/// before those of its veils. The only error is that a growth was refused.
+pub(crate) fn head_text(
+    alloc: Global,
+    title: &str,
+    number: u32,
+    process: &Process,
+) -> Result<String, AllocError>
+    ensures { IfOk result (λ text. (h : History) → StandsFor process.now h → string_bytes text ≡ heading_line title.now number ++ own_lines h) }
 {
-    let mut text = heading(alloc, number)?;
+    let mut text = heading(alloc, title, number)?;
     push_own(alloc, &mut text, process)?;
     Ok(text)
 }
 
-fn heading(alloc: Global, number: u32) -> Result<String, AllocError>
-    ensures { IfOk result (λ text. string_bytes text ≡ objects_line number) }
+fn heading(alloc: Global, title: &str, number: u32) -> Result<String, AllocError>
+    ensures { IfOk result (λ text. string_bytes text ≡ heading_line title.now number) }
 {
     let mut text = String::new(alloc);
-    writeln!(text, "objects {number}")?;
+    writeln!(text, "{title} {number}")?;
     Ok(text)
 }
 

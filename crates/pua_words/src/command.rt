@@ -24,6 +24,8 @@ pub enum Text<'a> {
     Audit(AuditWords<'a>),
     /// The same as a run's, and then what a process may still do, object by object.
     Objects(ObjectWords),
+    /// The same as a run's, and then all that a process and what it forks can ever touch.
+    Ever(EverWords),
 }
 
 /// What an audit is asked for, besides its inputs.
@@ -55,4 +57,11 @@ pub enum Processes {
 pub struct ObjectWords {
     /// The processes.
     pub processes: Processes,
+}
+
+/// What a list for ever is asked for, besides its inputs.
+#[derive(Clone, Copy, Debug)]
+pub struct EverWords {
+    /// The number of the process, 1 to 999,999 where the words of the command line named it.
+    pub process: u32,
 }

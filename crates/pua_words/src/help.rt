@@ -4,9 +4,9 @@
 pub(crate) const PROGRAM_USAGE: &str =
     "pua: usage: pua run [--table FILE] TREE SCRIPT; pua audit --limit N [--process P] [--base root|cwd] [--after CALL:PATH] [--table FILE] TREE SCRIPT [NAME...]";
 
-/// How a list of objects is asked for, in one line.
+/// How a list of objects is asked for, of now or for ever, in one line.
 pub(crate) const OBJECTS_USAGE: &str =
-    "pua: usage: pua objects [--process P|all] [--table FILE] TREE SCRIPT";
+    "pua: usage: pua objects [--ever] [--process P|all] [--table FILE] TREE SCRIPT";
 
 pub(crate) const PUA: &str =
     "Lists what a pledged and unveiled process may still do to a file tree";
@@ -29,6 +29,8 @@ pub(crate) const NAMES: &str = "Further components to try, spelled as in TREE: a
 pub(crate) const LIMIT: &str = "Most components of a path, from 0 to 16";
 
 pub(crate) const PROCESS: &str = "Number of the process, from 1 to 999999";
+
+pub(crate) const EVER: &str = "List all that it and what it forks can ever touch";
 
 pub(crate) const PROCESSES: &str = "Process number, 1 to 999999, or `all`";
 
@@ -135,9 +137,21 @@ or other, all further names of the directory PATH. The calls stand in one order,
 with commas between them. With `--process all` the lists of all processes that
 were ever made come one after another.
 
+With `--ever` the heading is `ever P`, and a line has all calls that can ever be
+allowed on a thing, whatever process P and what it forks do, as long as no exec
+of theirs succeeds: on what stands at PATH now, wherever it is moved, and in the
+end on what they can make: `dir new`, `other new` (the names in such a
+directory), `file new` and `link new`. Where no line has exec, none can succeed.
+It is a list of one process, which can put no veil any more.
+
 Example: pua objects --process all TREE SCRIPT",
     "
-  no such process      no fork of SCRIPT made it: its answer says why"
+  no such process      no fork of SCRIPT made it: its answer says why
+  process P can still unveil
+                       `--ever` is for a process that is locked, or without the
+                       promise `unveil`
+  table: CALL: no c    `--ever` is for a table by which rmdir, unlink, create,
+                       mkdir, symlink, rename and link all need the letter c"
 );
 
 pub(crate) const AUDIT_OUTPUT: &str = with_calls_and_faults!(

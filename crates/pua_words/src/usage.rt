@@ -10,7 +10,7 @@ use crate::help;
 pub enum UsageLine {
     /// How runs and audits are asked for.
     Program,
-    /// How a list of objects is asked for.
+    /// How a list of objects is asked for, of now or for ever.
     Objects,
 }
 

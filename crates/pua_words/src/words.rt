@@ -1,10 +1,10 @@
 //! The words of the command line, read by `clap`.
 
 ghost use Rattle.std.specs.Prelude.{◌≡◌, ◌↔◌, IfErr, IfOk, IfSome, Some, codes, map, option_map};
-ghost use Rattle.pua_words.specs.Commands.{AreSound, AsksSoundly, IsProcessNumber};
+ghost use Rattle.pua_words.specs.Commands.{AreSound, AsksSoundly, IsProcessNumber, list_asked};
 ghost use Rattle.pua_words.specs.Usages.{IsStop, line_for};
 
-use crate::command::{AuditWords, Command, ObjectWords, Processes, Text};
+use crate::command::{AuditWords, Command, EverWords, ObjectWords, Processes, Text};
 use crate::help;
 use crate::usage::UsageLine;
 use crate::version::VERSION;
@@ -66,10 +66,10 @@ fn read_command<'a>(
     let text = match name {
         "run" => Text::Run,
         "objects" => {
-            let Some(words) = read_objects(inner) else {
+            let Some(text) = read_objects(inner) else {
                 return Ok(None);
             };
-            Text::Objects(words)
+            text
         }
         _ => {
             let Some(words) = read_audit(alloc, inner)? else {
@@ -110,6 +110,7 @@ fn objects_command<'a>(alloc: Global) -> Result<clap::Command<'a>, AllocError> {
     clap::Command::new(alloc, "objects")
         .about(help::OBJECTS)
         .after_help(help::OBJECTS_OUTPUT)
+        .arg(ever(alloc))?
         .arg(processes(alloc))?
         .arg(table(alloc))?
         .arg(tree(alloc))?
@@ -153,6 +154,13 @@ fn process<'a>(alloc: Global) -> Arg<'a> {
         .help(help::PROCESS)
         .default_value("1")
         .value_parser(value_parser!(u32).range(1..=i64::from(MOST_PROCESS)))
+}
+
+fn ever<'a>(alloc: Global) -> Arg<'a> {
+    Arg::new(alloc, "ever")
+        .long("ever")
+        .action(ArgAction::SetTrue)
+        .help(help::EVER)
 }
 
 fn processes<'a>(alloc: Global) -> Arg<'a> {
@@ -235,12 +243,28 @@ fn read_inputs<'a>(found: &ArgMatches<'a>, text: Text<'a>) -> Option<Command<'a>
     })
 }
 
-fn read_objects(found: &ArgMatches<'_>) -> Option<ObjectWords>
-    ensures { IfSome result (λ words. AreSound words.processes) }
+/// The list of objects that the words ask for, of now or for ever. None where they name no process,
+/// and where a list for ever is asked of all.
+fn read_objects<'a>(found: &ArgMatches<'a>) -> Option<Text<'a>>
+    ensures { IfSome result AsksSoundly }
 {
-    Some(ObjectWords {
-        processes: read_processes(found.get_str("process"))?,
-    })
+    list_of(
+        found.get_flag("ever"),
+        read_processes(found.get_str("process"))?,
+    )
+}
+
+/// The list of these processes, of now or for ever. None for a list for ever of all: there is one of
+/// each alone.
+fn list_of<'a>(ever: bool, processes: Processes) -> Option<Text<'a>>
+    ensures asked { result ≡ list_asked ever processes }
+    ensures sound { AreSound processes → IfSome result AsksSoundly }
+{
+    match processes {
+        Processes::One(process) if ever => Some(Text::Ever(EverWords { process })),
+        Processes::All if ever => None,
+        processes => Some(Text::Objects(ObjectWords { processes })),
+    }
 }
 
 /// The process of a number, or all; None for any other text.

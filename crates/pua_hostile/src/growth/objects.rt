@@ -79,7 +79,7 @@ pub(crate) fn listed<T: ListedTree>(alloc: Global) -> &'static str {
 }
 
 /// A locked process that may write into a directory under one name alone.
-fn spooler(alloc: Global) -> Result<Process> {
+pub(crate) fn spooler(alloc: Global) -> Result<Process> {
     let etc = NodeId::new(1);
     let mut process = Process::new(alloc)?;
     for (place, perms) in [
@@ -118,7 +118,7 @@ fn is_line(line: Option<ObjectLine>, kind: ObjectKind, calls: &[Call]) -> bool {
 }
 
 /// The set of some calls.
-fn set_of(calls: &[Call]) -> Calls {
+pub(crate) fn set_of(calls: &[Call]) -> Calls {
     let mut set = Calls::NONE;
     for call in calls {
         set = set.with(*call);

@@ -6,7 +6,7 @@ use anyhow::Result;
 use pua_audit::Base;
 use pua_tool::{
     DONE, Job, MEMORY, MemoryInputs, MemorySink, Processes, Sink, ToolFault, audit_to, command,
-    objects_to, run_to,
+    ever_to, objects_to, run_to,
 };
 use std::alloc::Global;
 
@@ -26,6 +26,10 @@ const AUDIT: &[u8] =
 /// Its state, and what it may touch.
 const OBJECTS: &[u8] =
     b"1 ok\n2 ok\nobjects 1\nprocess alive\npromises -\nexecpromises -\nunveil locked\nveil /etc/passwd r\nfile /etc/passwd stat,lstat,open-r,chmod\n";
+
+/// Its state, and what it can ever touch.
+const EVER: &[u8] =
+    b"1 ok\n2 ok\never 1\nprocess alive\npromises -\nexecpromises -\nunveil locked\nveil /etc/passwd r\nfile /etc/passwd stat,lstat,open-r,chmod\n";
 
 /// Of which processes the list is.
 const PROCESSES: Processes = Processes::All;
@@ -49,6 +53,7 @@ pub(crate) fn hold(alloc: Global, again: &mut u32) -> Result<bool> {
         is_filled(alloc, again)?
             && is_run(alloc, again)?
             && is_listed(alloc, again)?
+            && is_lasting(alloc, again)?
             && is_audited(alloc, again)?
             && is_done(alloc, again)?,
     )
@@ -96,6 +101,20 @@ fn is_listed(alloc: Global, again: &mut u32) -> Result<bool> {
             Ok(is_empty && answer == Ok(()) && sink.bytes() == OBJECTS)
         }
         answer => Ok(answer == Ok(()) && sink.bytes() == OBJECTS),
+    }
+}
+
+/// Whether a list for ever is written whole.
+fn is_lasting(alloc: Global, again: &mut u32) -> Result<bool> {
+    let mut sink = sink_made(alloc, again)?;
+    match ever_to(alloc, LISTING, SCRIPT, Some(TABLE), 1, &mut sink) {
+        Err(ToolFault::OutOfMemory) => {
+            *again = again.saturating_add(1);
+            let is_empty = sink.bytes().is_empty();
+            let answer = ever_to(alloc, LISTING, SCRIPT, Some(TABLE), 1, &mut sink);
+            Ok(is_empty && answer == Ok(()) && sink.bytes() == EVER)
+        }
+        answer => Ok(answer == Ok(()) && sink.bytes() == EVER),
     }
 }
 

@@ -1,6 +1,6 @@
 //! Of edits of trees in slots.
 
-use pua_tree::{FileTree, Name, NodeId, SlabTree, read_listing_slab};
+use pua_tree::{FileTree, Kind, Name, NodeId, SlabTree, read_listing_slab};
 use std::alloc::Global;
 
 /// A name that is taken away is found no more, in whatever directory it stood.
@@ -62,5 +62,39 @@ fn slab_rows_not_lowered(alloc: Global) {
     };
     if !tree.is_empty(NodeId::new(1)) {
         unreachable!()
+    }
+}
+
+/// What a move displaces leaves the tree.
+fn slab_displaced_node_left(alloc: Global) {
+    let Ok(mut tree) = read_listing_slab(alloc, b"tree 1\n0 dir\n1 file 0 a\n2 file 0 b\n") else {
+        return;
+    };
+    let (Some(old), Some(new)) = (Name::from_bytes(b"a"), Name::from_bytes(b"b")) else {
+        unreachable!()
+    };
+    let Ok(_) = tree.shift(NodeId::ROOT, &old, NodeId::ROOT, new) else {
+        return;
+    };
+    if tree.kind(NodeId::new(2)).is_some() {
+        unreachable!()
+    }
+}
+
+/// A number that was taken away is not given again.
+fn slab_freed_number_given_again(alloc: Global) {
+    let Ok(mut tree) = read_listing_slab(alloc, b"tree 1\n0 dir\n1 file 0 a\n") else {
+        return;
+    };
+    let Some(name) = Name::from_bytes(b"a") else {
+        unreachable!()
+    };
+    let Ok(_) = tree.cut(NodeId::ROOT, &name) else {
+        unreachable!()
+    };
+    if let Ok(node) = tree.add(NodeId::ROOT, name, Kind::File, None) {
+        if node != NodeId::new(2) {
+            unreachable!()
+        }
     }
 }

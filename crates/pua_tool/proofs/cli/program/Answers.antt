@@ -1,7 +1,8 @@
 use Rattle.std.proofs.Common.{◌∙◌, map, subst, sym}
 use Rattle.pua_words.specs.Usages.{line_for, line_text}
 use Rattle.pua_tool.specs.Texts.{ended}
-use Rattle.pua_tool.specs.Told.{IsTold}
+use Rattle.pua_tool.specs.Told.{IsTold, TellsStatus}
+use Rattle.pua_tool.proofs.Ends.{ended_by_status, told_by_status}
 use Rattle.pua_tool.proofs.Stops.{not_done}
 use Rattle.pua_tool.proofs.cli.program.Goals as goal
 
@@ -12,3 +13,16 @@ returns-clause-usage g c same =
     subst (λ e. IsTold line (g.E.Sink.written c.args.err.now) (g.E.Sink.written e) (g.E.Sink.failed c.args.err.now) (g.E.Sink.failed e))
     (sym (c.at_end.ensures.untold other))
     (c.command-status.ensures.usage (sym (c.at_end.ensures.stopped other) ∙ same))
+
+pub returns-clause-device : goal.returns-clause-device
+returns-clause-device g c same =
+    ended_by_status (g.I.Inputs.holds c.args.inputs.now) c.flush-flushed.result c.command-status.result c.at_end.result _ _ _ _ _ _
+    c.at_end.ensures.kept c.at_end.ensures.stopped c.flush-flushed.ensures.unfailed c.flush-flushed.ensures.rises c.flush-flushed.ensures.bytes
+    c.command-status.ensures.done c.command-status.ensures.unfailed c.command-status.ensures.device same
+
+pub returns-clause-told : goal.returns-clause-told
+returns-clause-told g c other =
+    told_by_status (λ status a b. TellsStatus status (g.E.Sink.written a) (g.E.Sink.written b) (g.E.Sink.failed a) (g.E.Sink.failed b))
+    c.command-status.result c.at_end.result _ _ _
+    c.at_end.ensures.stopped c.at_end.ensures.untold c.command-status.ensures.quiet
+    c.command-status.ensures.told c.at_end.ensures.reported other

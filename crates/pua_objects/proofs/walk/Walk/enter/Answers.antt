@@ -1,19 +1,22 @@
-use Rattle.std.proofs.Common.{sym, ap, ◌∙◌}
-use Rattle.pua_path.specs.declared.found.Found.TheVariants as found
+use Rattle.std.proofs.Common.{refl, sym, ap, ◌∙◌}
 use Rattle.pua_path.specs.declared.found.Way.TheVariants as way
 use Rattle.pua_policy.specs.History.{kept}
 use Rattle.pua_policy.specs.declared.place.Place.TheVariants as place
 use Rattle.pua_objects.specs.Laws.{own_or}
+use Rattle.pua_objects.specs.declared.open_dir.OpenDir.{OpenDir}
 use Rattle.pua_policy.proofs.ForCallers.{covers_descend}
 use Rattle.pua_objects.proofs.walk.Walk.enter.Goals as goal
 
-pub returns-clause-line : goal.returns-clause-line
-returns-clause-line g c = λ h inner around dir fits stands dirs covered row living.
+pub returns-clause-item : goal.returns-clause-item
+returns-clause-item g c = λ h inner around fits stands dirs covered row living.
+    let dir = c.args.dir in
     let t = g.T.FileTree.content c.args.tree.now in
     let name = c.args.name.now in
     let own = kept h (place.Dir c.args.id) in
     let down = covers_descend t h fits in
-    c.line_at-line.ensures t h (found.Whole c.args.id (way.Named dir name)) stands
-    (c.own_cover-cover.ensures h stands ∙ ap (own_or own) (c.cover.ensures inner around dirs ∙ covered)
-    ∙ sym (down.below dir name c.args.id row living) ∙ sym (down.directory c.args.id (way.Named dir name) living))
-    (c.directory.ensures dir name)
+    record {
+      subject = refl;
+      object = c.directory.ensures dir name;
+      cover = c.own_cover-cover.ensures h stands ∙ ap (own_or own) (ap (λ (d : OpenDir). d.cover) (c.inner.ensures inner around dirs) ∙ covered)
+          ∙ sym (down.below dir name c.args.id row living) ∙ sym (down.directory c.args.id (way.Named dir name) living);
+    }

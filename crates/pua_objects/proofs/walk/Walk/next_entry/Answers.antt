@@ -16,8 +16,8 @@ stand_at-requires-clause-room g c =
     let p = c.args.process.now in
     word_room t p c.args.self.now c.next_name.new.self _ _ c.requires.names (c.next_name.ensures.ready t p c.requires.ready c.requires.names) (c.next_name.ensures.kept.0 ∙ c.requires.names) (c.in-Some.ensures.next t p c.requires.ready c.requires.names)
 
-pub returns-in_default-look-clause-line : goal.returns-in_default-look-clause-line
-returns-in_default-look-clause-line g c =
+pub returns-in_default-look-clause-item : goal.returns-in_default-look-clause-item
+returns-in_default-look-clause-item g c =
     let t = g.T.FileTree.content c.args.tree.now in
     let p = c.args.process.now in
     let b = c.next_name.new.self in
@@ -27,8 +27,8 @@ returns-in_default-look-clause-line g c =
     let done = c.stand_at.ensures in
     stood t p c.args.self.now b _ _ c.requires.names ready names taken c.stand_at.new.self
     (ap (λ v. map spot_now v.items) done.kept.0) (ap (map (λ name. name.now)) done.word ∙ map-append (λ name. name.now) b.word.items (c.in-Some.next.1 ∷ [])) done.room done.kept.1 done.kept.2
-    c.args.table.now None _ (sym c.in_default-look.ensures) (λ x e. absurd (None≢Some x e))
-    (λ h stands. done.line t h (entered _ (taken.next + 1) taken.cover) taken.around None ready.tree stands taken.dirs (covered t p c.args.self.now b _ _ c.requires.names ready names taken h stands) refl)
+    None _ (sym c.in_default-look.ensures) (λ x e. absurd (None≢Some x e))
+    (λ h stands. done.item t h (entered _ (taken.next + 1) taken.cover) taken.around None ready.tree stands taken.dirs (covered t p c.args.self.now b _ _ c.requires.names ready names taken h stands) refl (sym c.in_default-look.ensures))
 
 pub enter-requires-clause-word_room : goal.enter-requires-clause-word_room
 enter-requires-clause-word_room g c =
@@ -61,8 +61,8 @@ returns-then-is_directory-clause-ready g c =
     c.in-Some-look.id (sym c.in-Some-look.ensures) living c.enter.new.self
     (ap (λ v. map spot_now v.items) done.kept) (ap (map (λ name. name.now)) done.word ∙ map-append (λ name. name.now) b.word.items (c.in-Some.next.1 ∷ [])) done.room.0 done.room.1 done.coming done.entered
 
-pub returns-then-is_directory-clause-line : goal.returns-then-is_directory-clause-line
-returns-then-is_directory-clause-line g c =
+pub returns-then-is_directory-clause-item : goal.returns-then-is_directory-clause-item
+returns-then-is_directory-clause-item g c =
     let t = g.T.FileTree.content c.args.tree.now in
     let p = c.args.process.now in
     let b = c.next_name.new.self in
@@ -73,11 +73,11 @@ returns-then-is_directory-clause-line g c =
     let living : is_dir t c.in-Some-look.id ≡ true = ap is_dir_kind (sym c.kind-kind.ensures) ∙ sym c.is_directory.ensures ∙ c.if-is_directory.true in
     let done = c.enter.ensures in
     gave t p c.args.self.now b _ _ c.requires.names ready names taken c.in-Some-look.id row living c.enter.new.self
-    (ap (λ v. map spot_now v.items) done.kept) (ap (map (λ name. name.now)) done.word ∙ map-append (λ name. name.now) b.word.items (c.in-Some.next.1 ∷ [])) done.room.0 done.room.1 done.coming done.entered c.args.table.now _
-    (λ h stands. done.line h (entered _ (taken.next + 1) taken.cover) taken.around _ ready.tree stands taken.dirs (covered t p c.args.self.now b _ _ c.requires.names ready names taken h stands) row living)
+    (ap (λ v. map spot_now v.items) done.kept) (ap (map (λ name. name.now)) done.word ∙ map-append (λ name. name.now) b.word.items (c.in-Some.next.1 ∷ [])) done.room.0 done.room.1 done.coming done.entered _
+    (λ h stands. done.item h (entered _ (taken.next + 1) taken.cover) taken.around ready.tree stands taken.dirs (covered t p c.args.self.now b _ _ c.requires.names ready names taken h stands) row living)
 
-pub returns-clause-line : goal.returns-clause-line
-returns-clause-line g c =
+pub returns-clause-item : goal.returns-clause-item
+returns-clause-item g c =
     let t = g.T.FileTree.content c.args.tree.now in
     let p = c.args.process.now in
     let b = c.next_name.new.self in
@@ -90,5 +90,5 @@ returns-clause-line g c =
     let plain : is_dir t id ≡ false = ap is_dir_kind (sym c.kind-kind.ensures) ∙ sym c.is_directory.ensures ∙ c.if-is_directory.false in
     stood t p c.args.self.now b _ _ c.requires.names ready names taken c.stand_at-2.new.self
     (ap (λ v. map spot_now v.items) done.kept.0) (ap (map (λ name. name.now)) done.word ∙ map-append (λ name. name.now) b.word.items (c.in-Some.next.1 ∷ [])) done.room done.kept.1 done.kept.2
-    c.args.table.now (Some id) _ (sym c.in-Some-look.ensures) (λ x e. ap (is_dir t) (sym (same_Some id x e)) ∙ plain)
-    (λ h stands. done.line t h (entered _ (taken.next + 1) taken.cover) taken.around (Some id) ready.tree stands taken.dirs (covered t p c.args.self.now b _ _ c.requires.names ready names taken h stands) seen)
+    (Some id) _ (sym c.in-Some-look.ensures) (λ x e. ap (is_dir t) (sym (same_Some id x e)) ∙ plain)
+    (λ h stands. done.item t h (entered _ (taken.next + 1) taken.cover) taken.around (Some id) ready.tree stands taken.dirs (covered t p c.args.self.now b _ _ c.requires.names ready names taken h stands) seen (sym c.in-Some-look.ensures))

@@ -3,12 +3,17 @@ use Rattle.pua_path.specs.declared.found.Found.TheVariants as found
 use Rattle.pua_policy.specs.History.{kept}
 use Rattle.pua_policy.specs.declared.place.Place.TheVariants as place
 use Rattle.pua_objects.specs.Laws.{own_or}
+use Rattle.pua_objects.specs.Objects.{At}
+use Rattle.pua_objects.specs.declared.open_dir.OpenDir.{OpenDir}
 use Rattle.pua_policy.proofs.ForCallers.{covers_descend}
 use Rattle.pua_objects.proofs.walk.Walk.stand_at.Goals as goal
 
-pub returns-clause-line : goal.returns-clause-line
-returns-clause-line c = λ t h inner around node fits stands dirs covered seen.
+pub returns-clause-item : goal.returns-clause-item
+returns-clause-item c = λ t h inner around node fits stands dirs covered seen row.
     let name = c.args.name.now in
     let own = kept h (place.Slot c.args.dir name) in
-    c.line_at.ensures t h (found.Slot c.args.dir name node) stands
-    (c.own_cover-cover.ensures h stands ∙ ap (own_or own) (c.cover.ensures inner around dirs ∙ covered) ∙ sym ((covers_descend t h fits).at_name c.args.dir name node)) seen
+    record {
+      subject = ap (λ node. At (found.Slot c.args.dir name node)) row;
+      object = seen;
+      cover = c.own_cover-cover.ensures h stands ∙ ap (own_or own) (ap (λ (d : OpenDir). d.cover) (c.inner.ensures inner around dirs) ∙ covered) ∙ sym ((covers_descend t h fits).at_name c.args.dir name node);
+    }

@@ -4,8 +4,7 @@ use Rattle.pua_tool.proofs.process_list.ProcessList.begin.Goals as goal
 
 pub returns : goal.returns
 returns g c = λ h stands. record {
-  head = c.in-Ok.ensures h stands;
-  veils = c.in_ok-veils.ensures h stands;
+  head = c.in_ok-head.ensures h stands;
   tree = c.in_ok-objects.ensures.of.0;
   rules = c.in_ok-objects.ensures.of.2;
   stands = subst (λ (p : ProcessState). StandsFor p h) (sym c.in_ok-objects.ensures.of.1) stands;

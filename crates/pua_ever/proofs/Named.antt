@@ -1,0 +1,154 @@
+-- What stands at a name, and the name once that is taken away.
+use Rattle.std.proofs.Common.{◌≡◌, ℕ, List, [], ◌∷◌, Bool, true, false, refl, sym, ap, subst, ◌∙◌}
+use Rattle.std.specs.Prelude.{Option, Some, None, not, ◌&&◌, ◌||◌, is_some, option_map}
+use Rattle.std.proofs.lemmas.Bool.{and_parts}
+use Rattle.pua_tree.specs.Tree.{Tree, Node, WellFormed, Spot, is_dir, look, node_at, kind_at, empty_tree}
+use Rattle.pua_tree.specs.declared.node.Kind.{Kind}
+use Rattle.pua_tree.specs.declared.node.Kind.TheVariants as kinds
+use Rattle.pua_tree.proofs.ForCallers.{sound_from, row_says, same_Some, Some≢None, None≢Some}
+use Rattle.pua_path.specs.Fits.{is_link_kind}
+use Rattle.pua_path.specs.declared.found.Way.TheVariants.{Named, Top, Dot, DotDot}
+use Rattle.pua_path.specs.declared.found.Found.TheVariants.{Whole, Slot}
+use Rattle.pua_policy.specs.Calls.{CallTable}
+use Rattle.pua_policy.specs.CallSets.{has, keeps_link}
+use Rattle.pua_policy.specs.History.{History, kept}
+use Rattle.pua_policy.specs.Objects.{object_seen}
+use Rattle.pua_policy.specs.Verdict.{IsMissing, object_of, object_of_kind, cover, covered_verdict, is_allowed}
+use Rattle.pua_policy.specs.declared.call.Call.{Call}
+use Rattle.pua_policy.specs.declared.place.Place.TheVariants as place
+use Rattle.pua_policy.specs.declared.answer.Cover.{Cover}
+use Rattle.pua_policy.specs.declared.answer.Cover.TheVariants.{Only}
+use Rattle.pua_policy.specs.declared.object.Object as seen
+use Rattle.pua_script.specs.Confinement.{has_c}
+use Rattle.pua_objects.specs.Items.{SubjectFits, IsItemOn, subject_given, object_on, cover_on}
+use Rattle.pua_objects.specs.declared.item.Item as given
+use Rattle.pua_objects.specs.declared.item.Subject as about
+use Rattle.pua_objects.specs.declared.item.Subject.TheVariants as subject
+use Rattle.pua_objects.specs.Laws.{own_or}
+use Rattle.pua_objects.specs.Objects.{Subject, At, Others, cover_in}
+use Rattle.pua_objects.proofs.ForCallers.{covers_descend}
+use Rattle.pua_ever.specs.Ever.{file_covers, may_edit, ever_covers, is_allowed_under, is_ever_allowed, is_free, own_spot, can_be_freed}
+use Rattle.pua_ever.specs.EverReady.{AreOnFreed, kind_allowed, own_given}
+use Rattle.pua_ever.proofs.Prospected.{always, last}
+use Rattle.pua_ever.proofs.Under.{has_none}
+
+not_so : (b : Bool) → not b ≡ true → b ≡ false
+not_so true e = cc
+not_so false e = refl
+
+-- what stands at a name is seen alike in each tree
+seen_alike : (t : Tree) (k : Option Kind) → object_seen t (object_of_kind k) ≡ object_seen empty_tree (object_of_kind k)
+seen_alike t None = refl
+seen_alike t (Some kinds.Dir) = refl
+seen_alike t (Some kinds.File) = refl
+seen_alike t (Some kinds.Prog) = refl
+seen_alike t (Some kinds.Link) = refl
+
+module _ (t : Tree) (well : WellFormed t) (table : CallTable) (h : History) where
+  -- what stands at a name has a kind
+  has_kind : (dir : ℕ) (name : List ℕ) (x : ℕ) → look t dir name ≡ Some x → is_some (kind_at t x) ≡ true
+  has_kind dir name x row = by (node_at t x) (row_says t (sound_from t well) (dir, name) x row).2
+    where
+      by : (o : Option Node) → is_some o ≡ true → is_some (option_map (λ n. n.kind) o) ≡ true
+      by None e = e
+      by (Some n) e = refl
+
+  pub name_calls : (dir : ℕ) (name : List ℕ) (o : Option ℕ) → SubjectFits t (At (Slot dir name o)) → (object : seen.Object) (left : Cover) (set : ℕ)
+      → object ≡ object_seen t (object_of t (Slot dir name o)) → left ≡ cover t h (Slot dir name o)
+      → ((kind : Option Kind) → object ≡ object_seen empty_tree (object_of_kind kind) → (call : Call) → has set call ≡ kind_allowed t table h left kind call)
+      → (call : Call) → has set call ≡ is_ever_allowed t table h (At (Slot dir name o)) call
+  name_calls dir name None fits object left set is covered all call =
+      all None (is ∙ refl) call
+      ∙ ap (λ c. (keeps_link call || true) && is_allowed_under table h (c ∷ []) IsMissing call) covered
+  name_calls dir name (Some x) fits object left set is covered all call =
+      all (kind_at t x) (is ∙ seen_alike t (kind_at t x)) call
+      ∙ (λ i. (keeps_link call || not (is_link_kind (kind_at t x)))
+      && is_allowed_under table h (ever_covers (has_kind dir name x fits.1.1 i && may_edit table h) (covered i) (file_covers t h)) (object_of_kind (kind_at t x)) call)
+
+  -- whether the name of a thing can come to be free, by the thing's own cover
+  free_by : (about : Subject) (spot : Spot) → SubjectFits t about → own_spot about ≡ Some spot → is_free t h spot ≡ has_c (cover_on t h about)
+  free_by (At (Slot dir name (Some x))) spot fits own =
+      let plain : is_dir t x ≡ false = not_so (is_dir t x) (and_parts _ _ (and_parts (is_dir t dir) _ fits.0).1).1 in
+      let here : is_free t h (dir, name) ≡ has_c (cover t h (Slot dir name (Some x))) = rw (fits.1.1, plain) refl in
+      subst (λ s. is_free t h s ≡ has_c (cover t h (Slot dir name (Some x)))) (same_Some _ _ own) here
+  free_by (At (Whole dir (Named parent name))) spot fits own =
+      let here : is_free t h (parent, name) ≡ has_c (cover t h (Whole dir (Named parent name))) = rw (fits.1.1, fits.0) refl in
+      subst (λ s. is_free t h s ≡ has_c (cover t h (Whole dir (Named parent name)))) (same_Some _ _ own) here
+  free_by (At (Slot dir name None)) spot fits own = absurd (None≢Some spot own)
+  free_by (At (Whole dir Top)) spot fits own = absurd (None≢Some spot own)
+  free_by (At (Whole dir Dot)) spot fits own = absurd (None≢Some spot own)
+  free_by (At (Whole dir DotDot)) spot fits own = absurd (None≢Some spot own)
+  free_by (Others dir) spot fits own = absurd (None≢Some spot own)
+
+  -- no name
+  pub no_name : (o : Option Spot) → None ≡ o → AreOnFreed t table h o 0
+  no_name o none = record {
+    none = λ _ call. has_none call;
+    some = λ spot own. absurd (None≢Some spot (none ∙ own));
+  }
+
+  module _ (about : Subject) (spot : Spot) (fits : SubjectFits t about) (own : Some spot ≡ own_spot about) where
+    -- a name that can't come to be free, or has no veil of its own
+    pub not_freed : can_be_freed t table h spot ≡ false → AreOnFreed t table h (own_spot about) 0
+    not_freed none = record {
+      none = λ e. absurd (Some≢None spot (own ∙ e));
+      some = λ other is call.
+          has_none call
+          ∙ (λ i. sym none i && is_ever_allowed t table h (At (Slot spot.0 spot.1 None)) call)
+          ∙ ap (λ s. can_be_freed t table h s && is_ever_allowed t table h (At (Slot s.0 s.1 None)) call) (same_Some _ _ (own ∙ is));
+    }
+
+    pub not_free : (left : Cover) → left ≡ cover_on t h about → (may_edit table h && has_c left) ≡ false → can_be_freed t table h spot ≡ false
+    not_free left covered none =
+        ap (λ b. is_some (kept h (place.Slot spot.0 spot.1)) && (may_edit table h && b)) (free_by about spot fits (sym own) ∙ sym (ap has_c covered))
+        ∙ ap (λ b. is_some (kept h (place.Slot spot.0 spot.1)) && b) none
+        ∙ never (is_some (kept h (place.Slot spot.0 spot.1)))
+      where
+        never : (b : Bool) → (b && false) ≡ false
+        never true = refl
+        never false = refl
+
+    -- and one that can
+    pub freed : (left : Cover) (perms : ℕ) (set : ℕ) → left ≡ cover_on t h about → kept h (place.Slot spot.0 spot.1) ≡ Some perms → (may_edit table h && has_c left) ≡ true
+        → ((call : Call) → has set call ≡ is_allowed (covered_verdict empty_tree table h call (Only perms) IsMissing)) → AreOnFreed t table h (own_spot about) set
+    freed left perms set covered kept_here can all = record {
+      none = λ e. absurd (Some≢None spot (own ∙ e));
+      some = λ other is call.
+          all call
+          ∙ ap (λ c. is_allowed (covered_verdict empty_tree table h call c IsMissing)) (sym under)
+          ∙ last _
+          ∙ (λ i. sym (always (keeps_link call)) i && is_allowed_under table h (cover t h (Slot spot.0 spot.1 None) ∷ []) IsMissing call)
+          ∙ (λ i. sym test i && is_ever_allowed t table h (At (Slot spot.0 spot.1 None)) call)
+          ∙ ap (λ s. can_be_freed t table h s && is_ever_allowed t table h (At (Slot s.0 s.1 None)) call) (same_Some _ _ (own ∙ is));
+    }
+      where
+        under : cover t h (Slot spot.0 spot.1 None) ≡ Only perms
+        under = (covers_descend t h well).at_name spot.0 spot.1 None ∙ ap (λ o. own_or o (cover_in t h spot.0)) kept_here
+
+        test : can_be_freed t table h spot ≡ true
+        test =
+            (λ i. is_some (kept_here i) && (may_edit table h && free_by about spot fits (sym own) i))
+            ∙ ap (λ c. may_edit table h && has_c c) (sym covered) ∙ can
+
+  -- the name at which an item stands is that of its thing
+  own_by : (s : about.Subject) (object : seen.Object) → SubjectFits t (subject_given t s) → object ≡ object_on t (subject_given t s) → own_given s object ≡ own_spot (subject_given t s)
+  own_by subject.Root object fits is = refl
+  own_by (subject.Dir id dir name) object fits is = refl
+  own_by (subject.Others dir) object fits is = refl
+  own_by (subject.Name dir name) object fits is = by (look t dir name.now) refl fits is
+    where
+      plain : (x : ℕ) (k : Option Kind) → is_some k ≡ true → object ≡ object_seen t (object_of_kind k) → own_given (subject.Name dir name) object ≡ Some (dir, name.now)
+      plain x None some is = cc
+      plain x (Some kinds.Dir) some is = ap (own_given (subject.Name dir name)) is
+      plain x (Some kinds.File) some is = ap (own_given (subject.Name dir name)) is
+      plain x (Some kinds.Prog) some is = ap (own_given (subject.Name dir name)) is
+      plain x (Some kinds.Link) some is = ap (own_given (subject.Name dir name)) is
+
+      by : (o : Option ℕ) → look t dir name.now ≡ o → SubjectFits t (At (Slot dir name.now o)) → object ≡ object_on t (At (Slot dir name.now o)) → own_given (subject.Name dir name) object ≡ own_spot (At (Slot dir name.now o))
+      by None row fits is = ap (own_given (subject.Name dir name)) is
+      by (Some x) row fits is = plain x (kind_at t x) (has_kind dir name.now x row) is
+
+  pub own_name_is : (about : Subject) (item : given.Item) → SubjectFits t about → IsItemOn t h about item → own_given item.subject item.object ≡ own_spot about
+  own_name_is about item fits on =
+      let same = on.subject in
+      own_by item.subject item.object (subst (SubjectFits t) (sym same) fits) (on.object ∙ ap (object_on t) (sym same)) ∙ ap own_spot same

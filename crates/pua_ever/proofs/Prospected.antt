@@ -1,0 +1,209 @@
+-- The calls of a thing, by what was found for them.
+use Rattle.std.proofs.Common.{◌≡◌, ◌⊎◌, ℕ, List, [], ◌∷◌, Bool, true, false, cond, refl, sym, ap, ◌∙◌, inl, inr}
+use Rattle.std.specs.Prelude.{Option, Some, None, not, ◌&&◌, ◌||◌, ◌==◌, is_none}
+use Rattle.std.specs.List.{list_any, list_all}
+use Rattle.std.proofs.lemmas.Bool.{false≢true, and_parts, and_from}
+use Rattle.pua_tree.specs.Tree.{Tree, Spot, is_dir, is_empty, has_no_row, empty_tree}
+use Rattle.pua_path.specs.declared.errno.Errno.{Errno}
+use Rattle.pua_path.specs.declared.errno.Errno.TheVariants.{ENOTEMPTY}
+use Rattle.pua_path.specs.declared.found.Way.{Way}
+use Rattle.pua_path.specs.declared.found.Way.TheVariants.{Named, Top, Dot, DotDot}
+use Rattle.pua_path.specs.declared.found.Found.TheVariants.{Whole}
+use Rattle.pua_policy.specs.Calls.{CallTable, rule_of}
+use Rattle.pua_policy.specs.CallSets.{has, keeps_link}
+use Rattle.pua_policy.specs.History.{History, kept, may_any}
+use Rattle.pua_policy.specs.Objects.{object_seen}
+use Rattle.pua_policy.specs.Verdict.{Object, IsDir, IsMissing, object_fault, cover_fault, or_fault, allowed_unless, if_promised, covered_verdict, is_allowed}
+use Rattle.pua_policy.specs.declared.call.Call.{Call}
+use Rattle.pua_policy.specs.declared.call.Call.TheVariants as call
+use Rattle.pua_policy.specs.declared.place.Place.TheVariants as place
+use Rattle.pua_policy.specs.declared.answer.Cover.{Cover}
+use Rattle.pua_policy.specs.declared.answer.May.{May}
+use Rattle.pua_policy.specs.declared.answer.May.TheVariants as may
+use Rattle.pua_policy.specs.declared.object.Object as seen
+use Rattle.pua_policy.specs.declared.object.Object.TheVariants as see
+use Rattle.pua_script.specs.Confinement.{has_c}
+use Rattle.pua_script.proofs.ForCallers.{c_from_cover}
+use Rattle.pua_objects.specs.Objects.{At, Others, cover_in}
+use Rattle.pua_ever.specs.Ever.{row_cover, can_empty, dir_covers, may_edit, ever_covers, removable_dir, lasting_dir, is_named_way, is_allowed_under, is_ever_allowed}
+use Rattle.pua_ever.specs.EverReady.{IsProspects}
+use Rattle.pua_ever.specs.Laws.{EditsNeedC}
+use Rattle.pua_ever.specs.declared.prospects.Prospects.{Prospects}
+use Rattle.pua_ever.proofs.KindFaults.{dir_as}
+
+pub always : (b : Bool) → (b || true) ≡ true
+always true = refl
+always false = refl
+
+pub last : (b : Bool) → b ≡ (b || false)
+last true = refl
+last false = refl
+
+-- but for rmdir it is the same whether a directory can be removed
+rmdir_alone : (c : Call) → (c ≡ call.Rmdir) ⊎ (object_fault empty_tree c removable_dir ≡ object_fault empty_tree c lasting_dir)
+rmdir_alone call.Stat = inr refl
+rmdir_alone call.Lstat = inr refl
+rmdir_alone call.Readlink = inr refl
+rmdir_alone call.OpenRead = inr refl
+rmdir_alone call.OpenWrite = inr refl
+rmdir_alone call.OpenBoth = inr refl
+rmdir_alone call.Create = inr refl
+rmdir_alone call.Mkdir = inr refl
+rmdir_alone call.Rmdir = inl refl
+rmdir_alone call.Unlink = inr refl
+rmdir_alone call.Symlink = inr refl
+rmdir_alone call.Chmod = inr refl
+rmdir_alone call.Chdir = inr refl
+rmdir_alone call.Exec = inr refl
+
+module _ (table : CallTable) (needs : EditsNeedC table) (h : History) where
+  abbrev passes : Cover → Object → Call → Bool
+  passes cover object c = is_allowed (covered_verdict empty_tree table h c cover object)
+
+  no_errno : (m : May) (e : Errno) → is_allowed (if_promised m (allowed_unless (Some e))) ≡ false
+  no_errno may.Yes e = refl
+  no_errno may.Enosys e = refl
+  no_errno may.Death e = refl
+
+  -- without `c` nothing is removed
+  lacks_rmdir : (cover : Cover) (object : Object) → has_c cover ≡ false → passes cover object call.Rmdir ≡ false
+  lacks_rmdir cover object lacks = by (cover_fault cover (rule_of table call.Rmdir).perms) refl
+    where
+      by : (o : Option Errno) → cover_fault cover (rule_of table call.Rmdir).perms ≡ o
+          → is_allowed (if_promised (may_any h (rule_of table call.Rmdir).alternatives) (allowed_unless (or_fault o (object_fault empty_tree call.Rmdir object)))) ≡ false
+      by None fine = absurd (false≢true (sym lacks ∙ c_from_cover cover (rule_of table call.Rmdir).perms needs.rmdir fine))
+      by (Some e) fault = no_errno (may_any h (rule_of table call.Rmdir).alternatives) e
+
+  -- so without `c` it makes no difference
+  dir_passes : (cover : Cover) (a b : Bool) (c : Call) → (has_c cover ≡ true → a ≡ b) → passes cover (dir_as a) c ≡ passes cover (dir_as b) c
+  dir_passes cover a b c same = by (has_c cover) refl
+    where
+      alike : object_fault empty_tree c removable_dir ≡ object_fault empty_tree c lasting_dir → (x : Bool) → passes cover (dir_as x) c ≡ passes cover lasting_dir c
+      alike e true = ap (λ o. is_allowed (if_promised (may_any h (rule_of table c).alternatives) (allowed_unless (or_fault (cover_fault cover (rule_of table c).perms) o)))) e
+      alike e false = refl
+
+      lacks : has_c cover ≡ false → passes cover (dir_as a) c ≡ passes cover (dir_as b) c
+      lacks none = elim (rmdir_alone c) [
+        | inl is ↦ ap (passes cover (dir_as a)) is ∙ lacks_rmdir cover (dir_as a) none ∙ sym (ap (passes cover (dir_as b)) is ∙ lacks_rmdir cover (dir_as b) none)
+        | inr e ↦ alike e a ∙ sym (alike e b)
+      ]
+
+      by : (x : Bool) → has_c cover ≡ x → passes cover (dir_as a) c ≡ passes cover (dir_as b) c
+      by true has = ap (λ x. passes cover (dir_as x) c) (same has)
+      by false none = lacks none
+
+module _ (t : Tree) (h : History) where
+  -- a directory in which nothing stands can come to be empty
+  abbrev passes_in : ℕ → Spot × ℕ → Bool
+  passes_in dir row = not (row.0.0 == dir) || has_c (row_cover t h row.0 row.1)
+
+  empty_rows : (dir : ℕ) (rows : List (Spot × ℕ)) → not (list_any (λ row. row.0.0 == dir) rows) ≡ true → list_all (passes_in dir) rows ≡ true
+  empty_rows dir [] none = refl
+  empty_rows dir (row ∷ rows) none = by (row.0.0 == dir) refl (empty_rows dir rows) none
+    where
+      by : (b : Bool) → (row.0.0 == dir) ≡ b → (not (list_any (λ row. row.0.0 == dir) rows) ≡ true → list_all (passes_in dir) rows ≡ true)
+          → not (b || list_any (λ row. row.0.0 == dir) rows) ≡ true → (passes_in dir row && list_all (passes_in dir) rows) ≡ true
+      by true here more none = absurd (false≢true none)
+      by false other more none = and_from (passes_in dir row) _ (ap (λ b. not b || has_c (row_cover t h row.0 row.1)) other) (more none)
+
+  pub empty_can : (dir : ℕ) → not (list_any (λ row. row.0.0 == dir) t.rows) ≡ true → can_empty t h dir ≡ true
+  empty_can dir none = empty_rows dir t.rows none
+
+module _ (t : Tree) (table : CallTable) (h : History) (p : Prospects) (is : IsProspects t table h p) where
+  module _ (dir : ℕ) (way : Way) (living : is_dir t dir ≡ true) where
+    abbrev moves : Bool
+    moves = may_edit table h && is_none (kept h (place.Dir dir))
+
+    abbrev stays : Bool
+    stays = list_any (λ other. other == dir) p.held.items
+
+    -- whether rmdir is asked of it
+    abbrev empties : Bool
+    empties = is_named_way way && (can_empty t h dir && (may_edit table h || not (list_any (λ row. row.0.0 == dir) t.rows)))
+
+    under : (call : Call) (covers : List Cover) → ever_covers moves (cover_in t h dir) (dir_covers t h) ≡ covers → is_allowed_under table h covers (dir_as empties) call ≡ is_ever_allowed t table h (At (Whole dir way)) call
+    under call covers same =
+        ap (λ cs. is_allowed_under table h cs (dir_as empties) call) (sym same)
+        ∙ ap (λ b. b && is_allowed_under table h (ever_covers moves (cover_in t h dir) (dir_covers t h)) (dir_as empties) call) (sym (always (keeps_link call)))
+
+    -- one that can be moved
+    pub moved_calls : (moves && has_c (cover_in t h dir)) ≡ true → (emptied : Bool) → emptied ≡ (is_named_way way && not stays)
+        → (call : Call) → has (cond emptied p.movable.emptied p.movable.dir) call ≡ is_ever_allowed t table h (At (Whole dir way)) call
+    moved_calls can emptied same call =
+        found emptied
+        ∙ ap (λ b. is_allowed_under table h (dir_covers t h) (dir_as b) call) (same ∙ test)
+        ∙ under call (dir_covers t h) (ap (λ b. cond b (dir_covers t h) (cover_in t h dir ∷ [])) can)
+      where
+        found : (b : Bool) → has (cond b p.movable.emptied p.movable.dir) call ≡ is_allowed_under table h (dir_covers t h) (dir_as b) call
+        found true = is.movable.emptied call
+        found false = is.movable.dir call
+
+        edits : may_edit table h ≡ true
+        edits = (and_parts (may_edit table h) _ (and_parts moves _ can).0).0
+
+        right : (b : Bool) → (b && true) ≡ b
+        right true = refl
+        right false = refl
+
+        test : (is_named_way way && not stays) ≡ empties
+        test = ap (λ b. is_named_way way && b)
+            (sym (is.held dir living (and_parts moves _ can).1) ∙ sym (right (can_empty t h dir)) ∙ ap (λ b. can_empty t h dir && (b || not (list_any (λ row. row.0.0 == dir) t.rows))) (sym edits))
+
+    -- one that can't
+    pub still_calls : EditsNeedC table → (moves && has_c (cover_in t h dir)) ≡ false → (object : seen.Object) → object ≡ cond ((is_named_way way && not stays) && may_edit table h) see.Removable (object_seen t (IsDir dir way))
+        → (set : ℕ) → ((o : Object) → object ≡ object_seen empty_tree o → (call : Call) → has set call ≡ is_allowed (covered_verdict empty_tree table h call (cover_in t h dir) o))
+        → (call : Call) → has set call ≡ is_ever_allowed t table h (At (Whole dir way)) call
+    still_calls needs can object same set allowed call =
+        allowed (dir_as removed) (same ∙ sees) call
+        ∙ dir_passes table needs h (cover_in t h dir) removed empties call (λ has. agree has)
+        ∙ last (is_allowed (covered_verdict empty_tree table h call (cover_in t h dir) (dir_as empties)))
+        ∙ under call (cover_in t h dir ∷ []) (ap (λ b. cond b (dir_covers t h) (cover_in t h dir ∷ [])) can)
+      where
+        empty_now : Way → Bool
+        empty_now way = is_named_way way && is_empty t dir
+
+        removed : Bool
+        removed = ((is_named_way way && not stays) && may_edit table h) || empty_now way
+
+        seen_as : (b : Bool) → cond b see.Removable see.Directory ≡ object_seen empty_tree (dir_as b)
+        seen_as true = refl
+        seen_as false = refl
+
+        own : (w : Way) → object_seen t (IsDir dir w) ≡ cond (empty_now w) see.Removable see.Directory
+        own (Named parent name) = by (is_empty t dir)
+          where
+            by : (b : Bool) → cond (is_none (cond b None (Some ENOTEMPTY))) see.Removable see.Directory ≡ cond b see.Removable see.Directory
+            by true = refl
+            by false = refl
+        own Top = refl
+        own Dot = refl
+        own DotDot = refl
+
+        sees : cond ((is_named_way way && not stays) && may_edit table h) see.Removable (object_seen t (IsDir dir way)) ≡ object_seen empty_tree (dir_as removed)
+        sees = ap (cond ((is_named_way way && not stays) && may_edit table h) see.Removable) (own way) ∙ by ((is_named_way way && not stays) && may_edit table h) ∙ seen_as removed
+          where
+            by : (b : Bool) → cond b see.Removable (cond (empty_now way) see.Removable see.Directory) ≡ cond (b || empty_now way) see.Removable see.Directory
+            by true = refl
+            by false = refl
+
+        agree : has_c (cover_in t h dir) ≡ true → removed ≡ empties
+        agree has =
+            (λ i. ((is_named_way way && sym (is.held dir living has) i) && may_edit table h) || (is_named_way way && (living i && has_no_row t dir)))
+            ∙ tidy (is_named_way way) (can_empty t h dir) (may_edit table h) (has_no_row t dir) (empty_can t h dir)
+          where
+            tidy : (n c e r : Bool) → (r ≡ true → c ≡ true) → (((n && c) && e) || (n && (true && r))) ≡ (n && (c && (e || r)))
+            tidy false c e r some = refl
+            tidy true true true r some = refl
+            tidy true true false r some = refl
+            tidy true false e false some = refl
+            tidy true false e true some = absurd (false≢true (some refl))
+
+  module _ (dir : ℕ) where
+    abbrev moves_in : Bool
+    moves_in = may_edit table h && is_none (kept h (place.Dir dir))
+
+    pub others_moved : (moves_in && has_c (cover_in t h dir)) ≡ true → (call : Call) → has p.movable.others call ≡ is_ever_allowed t table h (Others dir) call
+    others_moved can call = is.movable.others call ∙ ap (λ b. is_allowed_under table h (cond b (dir_covers t h) (cover_in t h dir ∷ [])) IsMissing call) (sym can)
+
+    pub others_still : (moves_in && has_c (cover_in t h dir)) ≡ false → (call : Call) → is_allowed (covered_verdict empty_tree table h call (cover_in t h dir) IsMissing) ≡ is_ever_allowed t table h (Others dir) call
+    others_still can call = last _ ∙ ap (λ b. is_allowed_under table h (cond b (dir_covers t h) (cover_in t h dir ∷ [])) IsMissing call) (sym can)

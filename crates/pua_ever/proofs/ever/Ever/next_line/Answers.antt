@@ -1,0 +1,67 @@
+use Rattle.std.proofs.Common.{◌≡◌, ◌≢◌, [], ◌++◌, refl, ap, subst, ◌∙◌, arith, length}
+use Rattle.pua_tree.specs.Tree.{Tree}
+use Rattle.pua_policy.specs.CallSets.{calls_in}
+use Rattle.pua_ever.specs.EverLines.{lines_of, IsThing}
+use Rattle.pua_ever.proofs.Lined.{left_out, kept_in, is_not_so, lines_moved}
+use Rattle.pua_ever.proofs.ever.Ever.next_line.Goals as goal
+
+pub loop-line-init : goal.loop-line-init
+loop-line-init g c = record { tree = refl; process = refl; table = refl; fewer = omega arith; so_far = λ h stands. refl }
+
+pub returns-then-not-is_empty-clause-of : goal.returns-then-not-is_empty-clause-of
+returns-then-not-is_empty-clause-of g c =
+    let now = c.loop-line.invariant in
+    (c.in-Some.ensures.of.0 ∙ now.tree, c.in-Some.ensures.of.1 ∙ now.process, c.in-Some.ensures.of.2 ∙ now.table)
+
+pub returns-then-not-is_empty-clause-line : goal.returns-then-not-is_empty-clause-line
+returns-then-not-is_empty-clause-line g c =
+    let old = c.args.self.now in
+    let at = c.loop-line.self in
+    let now = c.loop-line.invariant in
+    let first = c.in-Some.ensures.line in
+    let after = c.next_given.new.self in
+    let some : calls_in c.in-Some.line.calls ≢ [] = is_not_so c.is_empty.result (calls_in c.in-Some.line.calls ≡ []) c.is_empty.ensures c.if-not-is_empty.true in
+    record {
+      about = first.about;
+      thing = subst (λ (t : Tree). IsThing t first.about c.in-Some.line.thing) now.tree first.thing;
+      lines = λ h stands.
+          now.so_far h stands
+          ∙ lines_moved old.tree at.tree old.table at.table old.process at.process now.tree now.table now.process at.left after.left _ first.lines h stands
+          ∙ ap (λ ls. ls ++ lines_of old.tree old.table h after.left) (kept_in after.word first.about c.in-Some.line some);
+    }
+
+pub returns-then-not-is_empty-clause-fewer : goal.returns-then-not-is_empty-clause-fewer
+returns-then-not-is_empty-clause-fewer g c = omega (arith, ap length c.in-Some.ensures.line.left, c.loop-line.invariant.fewer)
+
+pub loop-line-smaller : goal.loop-line-smaller
+loop-line-smaller g c = omega (arith, ap length c.in-Some.ensures.line.left)
+
+pub loop-line-preserved : goal.loop-line-preserved
+loop-line-preserved g c =
+    let old = c.args.self.now in
+    let at = c.loop-line.self in
+    let now = c.loop-line.invariant in
+    let first = c.in-Some.ensures.line in
+    let after = c.next_given.new.self in
+    let none : calls_in c.in-Some.line.calls ≡ [] = c.is_empty.ensures.0 c.if-not-is_empty.false in
+    record {
+      tree = c.in-Some.ensures.of.0 ∙ now.tree;
+      process = c.in-Some.ensures.of.1 ∙ now.process;
+      table = c.in-Some.ensures.of.2 ∙ now.table;
+      fewer = omega (arith, ap length first.left, now.fewer);
+      so_far = λ h stands.
+          now.so_far h stands
+          ∙ lines_moved old.tree at.tree old.table at.table old.process at.process now.tree now.table now.process at.left after.left _ first.lines h stands
+          ∙ ap (λ ls. ls ++ lines_of old.tree old.table h after.left) (left_out after.word first.about c.in-Some.line none);
+    }
+
+pub returns-clause-of : goal.returns-clause-of
+returns-clause-of g c =
+    let now = c.loop-line.invariant in
+    (c.in_default.ensures.of.0 ∙ now.tree, c.in_default.ensures.of.1 ∙ now.process, c.in_default.ensures.of.2 ∙ now.table)
+
+pub returns-clause-line : goal.returns-clause-line
+returns-clause-line g c =
+    let old = c.args.self.now in
+    let none = c.in_default.ensures.line in
+    (λ h stands. c.loop-line.invariant.so_far h stands ∙ ap (lines_of old.tree old.table h) none.0, λ h stands. ap (lines_of old.tree old.table h) none.1)

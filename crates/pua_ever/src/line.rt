@@ -1,0 +1,22 @@
+//! A line of the list for ever.
+
+use pua_objects::ObjectKind;
+use pua_policy::Calls;
+
+/// What a line is about.
+#[derive(Clone, Copy, Debug, PartialEq, Eq)]
+pub enum EverThing {
+    /// Something that stands or could stand in the tree now.
+    Stands(ObjectKind),
+    /// Whatever can be made: a directory, the further names of such a directory, a file, or a link.
+    Comes(ObjectKind),
+}
+
+/// A line of the list, but for the names that lead there.
+#[derive(Clone, Copy, Debug, PartialEq, Eq)]
+pub struct EverLine {
+    /// What it is about.
+    pub thing: EverThing,
+    /// The calls that can ever be allowed on it.
+    pub calls: Calls,
+}

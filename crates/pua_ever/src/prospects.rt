@@ -1,0 +1,254 @@
+//! What decides the calls of the lines.
+
+ghost use Rattle.std.specs.Prelude.{◌≡◌, ◌&&◌, Option, option_map, true, not, is_none, if◌then◌else◌, ◌==◌, IfOk};
+ghost use Rattle.std.specs.List.{list_any};
+ghost use Rattle.pua_tree.specs.Tree.{Tree, WellFormed, empty_tree, is_dir as lives_as_dir};
+ghost use Rattle.pua_tree.specs.declared.node.Kind.{Kind};
+ghost use Rattle.pua_path.specs.declared.found.Way.{Way};
+ghost use Rattle.pua_path.specs.declared.found.Found.TheVariants.{Whole};
+ghost use Rattle.pua_policy.specs.Calls.{CallTable as Table, rule_of};
+ghost use Rattle.pua_policy.specs.CallSets.{has};
+ghost use Rattle.pua_policy.specs.declared.call.Call.{Call as AnyCall};
+ghost use Rattle.pua_policy.specs.History.{History, StandsFor, kept, may_any as may_any_of};
+ghost use Rattle.pua_policy.specs.Objects.{object_seen};
+ghost use Rattle.pua_policy.specs.Verdict.{IsDir, object_of_kind};
+ghost use Rattle.pua_script.specs.Confinement.{has_c as cover_has_c};
+ghost use Rattle.pua_objects.specs.Items.{SubjectFits, IsItemOn};
+ghost use Rattle.pua_objects.specs.Objects.{Subject as About, At, Others, cover_in as cover_of_others};
+ghost use Rattle.pua_ever.specs.Ever.{may_edit as edits_tree, is_yes as says_yes, edit_calls, can_make, is_allowed_under, is_ever_allowed, is_new_allowed, is_named_way, own_spot};
+ghost use Rattle.pua_ever.specs.EverReady.{IsProspects, AreOnFreed, new_of, own_given, kind_allowed, kind_covers};
+ghost use Rattle.pua_ever.specs.Laws.{EditsNeedC};
+
+use crate::made::Made;
+use crate::movable::{Movable, calls_by_object};
+use crate::openings::{find_openings, has_c};
+use pua_objects::{Item, Subject};
+use pua_policy::{Call, CallTable, Calls, Cover, May, Object, Place, Process, Promises, judge};
+use pua_tree::{FileTree, Name, NodeId, OutOfMemory};
+use std::alloc::Global;
+
+/// What decides the calls of the lines, beside an item's own object and cover.
+#[derive(Drop)]
+pub(crate) struct Prospects {
+    /// Whether the tree can change at all.
+    may_edit: bool,
+    /// The directories in which something stays that has no `c`: no other one with `c` but can be
+    /// emptied.
+    held: Vec<NodeId>,
+    /// The calls on what is moved or made.
+    movable: Movable,
+}
+
+/// Finds what decides the calls of the lines. The only error is that a growth was refused.
+pub(crate) fn find_prospects<T: FileTree>(
+    alloc: Global,
+    tree: &T,
+    process: &Process,
+    table: &CallTable,
+) -> Result<Prospects, OutOfMemory>
+    ensures { IfOk result (λ found. (h : History) → StandsFor process.now h →
+        IsProspects (T.content tree.now) table.now h found) }
+{
+    let found = find_openings(alloc, tree, process)?;
+    let movable = calls_by_object(process, table, &found);
+    Ok(Prospects {
+        may_edit: may_edit(process, table),
+        held: found.held,
+        movable,
+    })
+}
+
+/// Whether a process may ask for a change of the tree: promises alone are asked.
+fn may_edit(process: &Process, table: &CallTable) -> bool
+    ensures { (h : History) → StandsFor process.now h → result ≡ edits_tree table.now h }
+{
+    if may_any(process, table.rename().new_name().alternatives()) {
+        return true;
+    }
+    may_any(process, table.link().new_name().alternatives()) || may_call(process, table)
+}
+
+/// Whether a process holds the promises of one of the five calls that make a name or take one away.
+fn may_call(process: &Process, table: &CallTable) -> bool
+    ensures { (h : History) → StandsFor process.now h →
+        result ≡ list_any (λ edit. says_yes (may_any_of h (rule_of table.now edit).alternatives)) edit_calls }
+{
+    const EDITS: [Call; 5] = [
+        Call::Create,
+        Call::Mkdir,
+        Call::Rmdir,
+        Call::Unlink,
+        Call::Symlink,
+    ];
+    EDITS
+        .iter()
+        .any(|call| may_any(process, table.alternatives(*call)))
+}
+
+/// Whether a process holds one of these sets of promises.
+fn may_any(process: &Process, alternatives: &[Promises]) -> bool
+    ensures { (h : History) → StandsFor process.now h → result ≡ says_yes (may_any_of h alternatives.now) }
+{
+    process.may_any(alternatives) == May::Yes
+}
+
+impl Prospects {
+    /// The calls that can ever be allowed on what an item is about.
+    pub(crate) fn calls_on(&self, process: &Process, table: &CallTable, item: &Item<'_>) -> Calls
+        ensures { (t : Tree) (h : History) (about : About) → WellFormed t → EditsNeedC table.now →
+            StandsFor process.now h → IsProspects t table.now h self.now →
+            SubjectFits t about → IsItemOn t h about item.now →
+            (call : AnyCall) → has result call ≡ is_ever_allowed t table.now h about call }
+    {
+        match item.subject {
+            Subject::Root => self.on_dir(process, table, NodeId::ROOT, false, item),
+            Subject::Dir(dir, _, _) => self.on_dir(process, table, dir, true, item),
+            Subject::Others(dir) => self.on_others(process, table, dir, &item.cover),
+            Subject::Name(_, _) => self.on_name(process, table, &item.cover, item.object),
+        }
+    }
+
+    /// The calls on a directory.
+    fn on_dir(
+        &self,
+        process: &Process,
+        table: &CallTable,
+        dir: NodeId,
+        is_named: bool,
+        item: &Item<'_>,
+    ) -> Calls
+        ensures { (t : Tree) (h : History) (way : Way) → EditsNeedC table.now →
+            StandsFor process.now h → IsProspects t table.now h self.now →
+            lives_as_dir t dir ≡ true → is_named ≡ is_named_way way →
+            item.now.cover ≡ cover_of_others t h dir → item.now.object ≡ object_seen t (IsDir dir way) →
+            (call : AnyCall) → has result call ≡ is_ever_allowed t table.now h (At (Whole dir way)) call }
+    {
+        let emptied = self.can_empty(dir, is_named);
+        if self.moves_dir(process, dir, &item.cover) {
+            return self.movable.on_dir(emptied);
+        }
+        let object = self.seen_as(emptied, item.object);
+        judge::allowed(process, table, item.cover, object)
+    }
+
+    /// The calls on the further names of a directory.
+    fn on_others(&self, process: &Process, table: &CallTable, dir: NodeId, cover: &Cover) -> Calls
+        ensures { (t : Tree) (h : History) → StandsFor process.now h →
+            IsProspects t table.now h self.now → cover.now ≡ cover_of_others t h dir →
+            (call : AnyCall) → has result call ≡ is_ever_allowed t table.now h (Others dir) call }
+    {
+        if self.moves_dir(process, dir, cover) {
+            return self.movable.others;
+        }
+        judge::allowed(process, table, *cover, Object::Missing)
+    }
+
+    /// The calls on a name at which no directory stands, by what does.
+    fn on_name(&self, process: &Process, table: &CallTable, cover: &Cover, object: Object) -> Calls
+        ensures { (t : Tree) (h : History) (kind : Option Kind) → StandsFor process.now h →
+            IsProspects t table.now h self.now → object ≡ object_seen empty_tree (object_of_kind kind) →
+            (call : AnyCall) → has result call ≡ kind_allowed t table.now h cover.now kind call }
+    {
+        let calls = self.on_plain(process, table, cover, object);
+        if object == Object::Link {
+            calls.keeping()
+        } else {
+            calls
+        }
+    }
+
+    /// The same, of a link with the calls on what it leads to.
+    fn on_plain(&self, process: &Process, table: &CallTable, cover: &Cover, object: Object) -> Calls
+        ensures { (t : Tree) (h : History) (kind : Option Kind) → StandsFor process.now h →
+            IsProspects t table.now h self.now → object ≡ object_seen empty_tree (object_of_kind kind) →
+            (call : AnyCall) → has result call
+            ≡ is_allowed_under table.now h (kind_covers t table.now h cover.now kind) (object_of_kind kind) call }
+    {
+        if object != Object::Missing && self.may_edit && has_c(*cover) {
+            return self.movable.on(object);
+        }
+        judge::allowed(process, table, *cover, object)
+    }
+
+    /// The calls on the name at which an item stands, if it has a veil of its own and the item can
+    /// be taken away; else none.
+    pub(crate) fn calls_on_freed(
+        &self,
+        process: &Process,
+        table: &CallTable,
+        item: &Item<'_>,
+    ) -> Calls
+        ensures { (t : Tree) (h : History) (about : About) → WellFormed t → StandsFor process.now h →
+            IsProspects t table.now h self.now → SubjectFits t about → IsItemOn t h about item.now →
+            AreOnFreed t table.now h (own_spot about) result }
+    {
+        let Some(own) = own_name(item) else {
+            return Calls::NONE;
+        };
+        let Some(perms) = process.kept(&Place::Slot(own.0, *own.1)) else {
+            return Calls::NONE;
+        };
+        if !self.may_edit || !has_c(item.cover) {
+            return Calls::NONE;
+        }
+        judge::allowed(process, table, Cover::Only(perms), Object::Missing)
+    }
+
+    /// The calls on what can be made; none where it can't.
+    pub(crate) fn calls_on_made(&self, made: Made) -> Calls
+        ensures { (t : Tree) (table : Table) (h : History) → IsProspects t table h self.now →
+            (call : AnyCall) → has result call ≡ ((edits_tree table h && can_make t table h (new_of made))
+            && is_new_allowed t table h (new_of made) call) }
+    {
+        if !self.may_edit || !self.movable.made.contains(made.maker()) {
+            return Calls::NONE;
+        }
+        match made {
+            Made::Dir => self.movable.emptied,
+            Made::Others => self.movable.others,
+            Made::File => self.movable.file,
+            Made::Link => self.movable.link.keeping(),
+        }
+    }
+
+    /// Whether a directory, by a name if it has one, can be removed once it is empty, and can come
+    /// to be so if it has `c`.
+    fn can_empty(&self, dir: NodeId, is_named: bool) -> bool
+        ensures { result ≡ (is_named && not (list_any (λ other. other == dir) self.now.held.items)) }
+    {
+        is_named && !self.held.contains(&dir)
+    }
+
+    /// What rmdir is on, of a directory that is seen so now.
+    fn seen_as(&self, emptied: bool, object: Object) -> Object
+        ensures { result ≡ (if emptied && self.now.may_edit then Object.Removable else object) }
+    {
+        if emptied && self.may_edit {
+            Object::Removable
+        } else {
+            object
+        }
+    }
+
+    /// Whether a directory can be moved to where it is covered otherwise: it has no veil of its own,
+    /// which would go with it.
+    fn moves_dir(&self, process: &Process, dir: NodeId, cover: &Cover) -> bool
+        ensures { (h : History) → StandsFor process.now h → result
+            ≡ ((self.now.may_edit && is_none (kept h (Place.Dir dir))) && cover_has_c cover.now) }
+    {
+        self.may_edit && process.kept(&Place::Dir(dir)).is_none() && has_c(*cover)
+    }
+}
+
+/// The name at which what an item is about stands; None for the root, for further names, and where
+/// nothing stands.
+fn own_name<'t>(item: &Item<'t>) -> Option<(NodeId, &'t Name)>
+    ensures { option_map (λ own. (own.0, own.1.now)) result ≡ own_given item.now.subject item.now.object }
+{
+    match item.subject {
+        Subject::Root | Subject::Others(_) => None,
+        Subject::Dir(_, dir, name) => Some((dir, name)),
+        Subject::Name(_, _) if item.object == Object::Missing => None,
+        Subject::Name(dir, name) => Some((dir, name)),
+    }
+}

@@ -1,0 +1,17 @@
+use Rattle.std.proofs.Common.{◌≡◌, ◌≤◌, length}
+use Rattle.pua_policy.specs.History.{History, StandsFor}
+use Rattle.pua_objects.specs.Ready.{lines_of}
+use Rattle.pua_objects.proofs.objects.Objects.next_line.Given as goal
+
+abbrev pub invariant-loop-item : goal.invariant-loop-item
+invariant-loop-item g l = record {
+  tree : l.self-inside.items.tree ≡ l.fn.self.tree;
+  process : l.self-inside.items.process ≡ l.fn.self.process;
+  table : l.self-inside.table ≡ l.fn.self.table;
+  fewer : length l.self-inside.items.left ≤ length l.fn.self.left;
+  so_far : (h : History) → StandsFor l.fn.self.process h →
+      lines_of l.fn.self.tree l.fn.self.table h l.fn.self.left ≡ lines_of l.fn.self.tree l.fn.self.table h l.self-inside.items.left;
+}
+
+abbrev pub decreases-loop-item : goal.decreases-loop-item
+decreases-loop-item g l = length l.self-inside.items.left

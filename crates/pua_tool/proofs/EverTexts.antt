@@ -1,0 +1,124 @@
+-- The text of the list for ever, step by step.
+use Rattle.std.proofs.Common.{◌≡◌, ℕ, List, [], ◌∷◌, ◌++◌, ◌∙◌, ap, map, refl, sym, subst}
+use Rattle.std.specs.Prelude.{◌≢◌, Option, Some, None, Result, Ok, Err, IfErr, OnOk, ok_or, codes}
+use Rattle.std.specs.Borrow.{Bor}
+use Rattle.pua_tree.specs.Tree.{Tree}
+use Rattle.pua_tree.specs.Steps.{◌>>=◌}
+use Rattle.pua_policy.specs.Calls.{CallTable, call_name}
+use Rattle.pua_policy.specs.CallSets.{calls_in}
+use Rattle.pua_policy.specs.History.{History, ProcessState, StandsFor}
+use Rattle.pua_script.specs.Replay.{history_of}
+use Rattle.pua_audit.specs.Reach.{Word, printed_path}
+use Rattle.pua_audit.specs.declared.base.Base.TheVariants.{Root}
+use Rattle.pua_objects.specs.Lines.{kind_word}
+use Rattle.pua_objects.specs.Objects.{with_commas}
+use Rattle.pua_ever.specs.Ever.{Thing, Stands, Comes, thing_text}
+use Rattle.pua_ever.specs.EverLines.{IsThing, IsListed, HasNoLine, lines_of}
+use Rattle.pua_ever.specs.EverState.{Left}
+use Rattle.pua_ever.specs.Refusals.{refusal}
+use Rattle.pua_ever.specs.declared.line.EverLine as given
+use Rattle.pua_ever.specs.declared.line.EverThing.{EverThing}
+use Rattle.pua_ever.specs.declared.line.EverThing.TheVariants as told
+use Rattle.pua_tool.specs.EverLists.{EverListState, IsEverListOf}
+use Rattle.pua_tool.specs.EverTexts.{Answers, ever_after, ever_lines, ever_list, ever_text, kind_of, path_or_new, unless_refused}
+use Rattle.pua_tool.specs.ObjectTexts.{Tells}
+use Rattle.pua_tool.specs.Sinks.{Adds, AddsFront, HasFailed}
+use Rattle.pua_tool.specs.Texts.{Replayed, answer_lines, ended, replayed}
+use Rattle.pua_tool.specs.declared.fault.ToolFault.{ToolFault}
+use Rattle.pua_tool.specs.declared.fault.ToolFault.TheVariants.{NoProcess, Write, OutOfMemory}
+use Rattle.pua_tool.proofs.ObjectTexts.{tells_write, tells_refused, tells_unwritten}
+
+module _ (table_bytes : Option (List ℕ)) (tree_bytes script_bytes : List ℕ) (process : ℕ) where
+  pub ever_is : (done : Replayed) → replayed table_bytes tree_bytes script_bytes ≡ Ok done → ever_text table_bytes tree_bytes script_bytes process ≡ ever_after done process
+  unfolding ever_text
+  ever_is done r = λ i. r i >>= λ done. ever_after done process
+
+  -- what refuses the replay comes first
+  pub replay_refuses : (fault : ToolFault) → replayed table_bytes tree_bytes script_bytes ≡ Err fault → ever_text table_bytes tree_bytes script_bytes process ≡ Err fault
+  unfolding ever_text
+  replay_refuses fault r = λ i. r i >>= λ done. ever_after done process
+
+  pub replay_answers : (done : Replayed) (r : Result (Unit {0}) ToolFault) (a b : Option (List ℕ)) (n m : ℕ) → replayed table_bytes tree_bytes script_bytes ≡ Ok done
+      → Answers (ever_after done process) r a b n m → Answers (ever_text table_bytes tree_bytes script_bytes process) r a b n m
+  replay_answers done r a b n m is = subst (λ (answer : Result (List ℕ) ToolFault). Answers answer r a b n m) (sym (ever_is done is))
+
+-- the line of a thing, by what the code gives of it
+abbrev pub text_given : given.EverLine → List (Bor (List ℕ)) → List ℕ
+text_given given names =
+    ended (kind_word (kind_of given.thing) ++ 32 ∷ path_or_new given.thing (map (λ name. name.now) names) ++ 32 ∷ with_commas (map call_name (calls_in given.calls)))
+
+given_text : (t : Tree) (about : Thing) (thing : EverThing) (word : Word) → IsThing t about thing → thing_text t word about ≡ kind_word (kind_of thing) ++ 32 ∷ path_or_new thing word
+given_text t (Stands subject) (told.Stands kind) word is = ap (λ k. k ++ 32 ∷ printed_path Root word) (sym is)
+given_text t (Comes new) (told.Comes kind) word is = ap (λ k. k ++ 32 ∷ codes "new") (sym is)
+given_text t (Stands subject) (told.Comes kind) word is = absurd is
+given_text t (Comes new) (told.Stands kind) word is = absurd is
+
+-- the line that a list gives stands before those that it has still to give
+pub line_next : (t u : Tree) (a b : CallTable) (p q : ProcessState) (h : History) (old new : List Left) (word : Word) (given : given.EverLine) (names : List (Bor (List ℕ)))
+    → t ≡ u → a ≡ b → p ≡ q → StandsFor q h → IsListed t a p old new word given → map (λ name. name.now) names ≡ word
+    → ever_lines u (lines_of u b h old) ≡ text_given given names ++ ever_lines u (lines_of u b h new)
+line_next t u a b p q h old new word given names same equal alike stands listed is =
+    subst (λ (v : Tree). ever_lines v (lines_of v b h old) ≡ text_given given names ++ ever_lines v (lines_of v b h new)) same
+    (subst (λ (c : CallTable). ever_lines t (lines_of t c h old) ≡ text_given given names ++ ever_lines t (lines_of t c h new)) equal
+    (ap (ever_lines t) (listed.lines h (subst (λ (r : ProcessState). StandsFor r h) (sym alike) stands))
+    ∙ ap (λ text. ended (text ++ 32 ∷ with_commas (map call_name (calls_in given.calls))) ++ ever_lines t (lines_of t a h new)) (given_text t listed.about given.thing word listed.thing)
+    ∙ ap (λ (w : Word). ended (kind_word (kind_of given.thing) ++ 32 ∷ path_or_new given.thing w ++ 32 ∷ with_commas (map call_name (calls_in given.calls))) ++ ever_lines t (lines_of t a h new)) (sym is)))
+
+pub no_line : (t u : Tree) (a b : CallTable) (p q : ProcessState) (h : History) (left : List Left) → t ≡ u → a ≡ b → p ≡ q → StandsFor q h → HasNoLine t a p left → ever_lines u (lines_of u b h left) ≡ []
+no_line t u a b p q h left same equal alike stands none =
+    subst (λ (v : Tree). ever_lines v (lines_of v b h left) ≡ []) same
+    (subst (λ (c : CallTable). ever_lines t (lines_of t c h left) ≡ []) equal
+    (ap (ever_lines t) (none h (subst (λ (r : ProcessState). StandsFor r h) (sym alike) stands))))
+
+-- what comes after the replay, by the history of the process
+abbrev after_by : Replayed → ℕ → History → Result (List ℕ) ToolFault
+after_by done process h = unless_refused process (refusal done.table h) (answer_lines 1 done.told ++ ever_list done.table done.world.tree process h)
+
+pub after_made : (done : Replayed) (process : ℕ) (h : History) → history_of done.world process ≡ Some h → ever_after done process ≡ after_by done process h
+after_made done process h is = ap (λ made. ok_or made NoProcess >>= after_by done process) is
+
+pub after_none : (done : Replayed) (process : ℕ) → history_of done.world process ≡ None → ever_after done process ≡ Err NoProcess
+after_none done process is = ap (λ made. ok_or made NoProcess >>= after_by done process) is
+
+-- a list, where there is no reason for none
+pub unrefused : (process : ℕ) (h : History) (done : Replayed) → refusal done.table h ≡ None → after_by done process h ≡ Ok (answer_lines 1 done.told ++ ever_list done.table done.world.tree process h)
+unrefused process h done is = ap (λ reason. unless_refused process reason (answer_lines 1 done.told ++ ever_list done.table done.world.tree process h)) is
+
+-- the same list by other names
+pub same_list : (rules table : CallTable) (t u : Tree) (process : ℕ) (h : History) (list : EverListState) → rules ≡ table → t ≡ u → IsEverListOf rules t process h list → IsEverListOf table u process h list
+same_list rules table t u process h list ruled same is =
+    subst (λ (c : CallTable). IsEverListOf c u process h list) ruled (subst (λ (v : Tree). IsEverListOf rules v process h list) same is)
+
+-- a fault before anything is written
+pub answers_refused : (answer : Result (List ℕ) ToolFault) (fault : ToolFault) (a : Option (List ℕ)) (n : ℕ) → fault ≢ Write → (fault ≢ OutOfMemory → answer ≡ Err fault) → Answers answer (Err fault) a a n n
+answers_refused answer fault a n unwritten refuses = record { write = λ is. absurd (unwritten is); refused = λ written. refuses; unwritten = λ written. refl }
+
+-- a text that is told is the answer
+pub answers_told : (answer : Result (List ℕ) ToolFault) (text : List ℕ) (r : Result (Unit {0}) ToolFault) (a b : Option (List ℕ)) (n m : ℕ) → answer ≡ Ok text → Tells text r a b n m → Answers answer r a b n m
+answers_told answer text (Ok done) a b n m is told = (text, is, told.0, told.1)
+answers_told answer text (Err fault) a b n m is told = record {
+  write = λ same. tells_write answer text a b n m is (Err fault) told (ap Err same);
+  refused = tells_refused answer text a b n m is (Err fault) told;
+  unwritten = tells_unwritten answer text a b n m is (Err fault) told;
+}
+
+-- what the telling of an answer says, clause by clause
+module _ (answer : Result (List ℕ) ToolFault) (a b : Option (List ℕ)) (n m : ℕ) where
+  pub answers_whole : (r : Result (Unit {0}) ToolFault) → Answers answer r a b n m → OnOk r ((text : List ℕ) × (answer ≡ Ok text) × Adds text a b)
+  answers_whole (Ok done) told = (told.0, told.1, told.2)
+  answers_whole (Err fault) told = tt
+
+  pub answers_unfailed : (r : Result (Unit {0}) ToolFault) → Answers answer r a b n m → OnOk r (m ≡ n)
+  answers_unfailed (Ok done) told = told.3
+  answers_unfailed (Err fault) told = tt
+
+  pub answers_write : (r : Result (Unit {0}) ToolFault) → Answers answer r a b n m → r ≡ Err Write → (text : List ℕ) × (answer ≡ Ok text) × AddsFront text a b × HasFailed n m
+  answers_write r told cut = (subst (λ (s : Result (Unit {0}) ToolFault). Answers answer s a b n m) cut told).write refl
+
+  pub answers_fault : (r : Result (Unit {0}) ToolFault) → Answers answer r a b n m → IfErr r (λ fault. fault ≢ Write → fault ≢ OutOfMemory → answer ≡ Err fault)
+  answers_fault (Ok done) told = tt
+  answers_fault (Err fault) told = told.refused
+
+  pub answers_unwritten : (r : Result (Unit {0}) ToolFault) → Answers answer r a b n m → IfErr r (λ fault. fault ≢ Write → b ≡ a)
+  answers_unwritten (Ok done) told = tt
+  answers_unwritten (Err fault) told = told.unwritten

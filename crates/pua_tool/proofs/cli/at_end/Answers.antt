@@ -1,0 +1,7 @@
+use Rattle.std.proofs.Common.{sym}
+use Rattle.pua_tool.specs.declared.fault.ToolFault.TheVariants.{Write}
+use Rattle.pua_tool.specs.declared.outcome.CommandFault.TheVariants.{Tool}
+use Rattle.pua_tool.proofs.cli.at_end.Goals as goal
+
+pub returns-then-status-eq-DONE-clause-reported : goal.returns-then-status-eq-DONE-clause-reported
+returns-then-status-eq-DONE-clause-reported g c other = (Tool Write, sym c.finish.ensures.status, c.finish.ensures.told)

@@ -1,0 +1,66 @@
+use Rattle.std.proofs.Common.{[], Ok, refl, rules, ◌∙◌}
+use Rattle.std.proofs.lemmas.Result.{err_from_is_err_and}
+use Rattle.pua_policy.specs.History.{History, StandsFor}
+use Rattle.pua_ever.specs.EverLines.{lines_of}
+use Rattle.pua_tool.specs.EverTexts.{ever_lines}
+use Rattle.pua_tool.proofs.Passing.{passes_none, passing_none, passing_more, passing_fails, passing_last}
+use Rattle.pua_tool.proofs.EverTexts.{text_given, line_next, no_line}
+use Rattle.pua_tool.proofs.ever_line.add_ever.Goals as goal
+
+pub loop-line-init : goal.loop-line-init
+loop-line-init g c =
+    let t = c.args.list.now.tree in
+    record {
+      tree = refl;
+      process = refl;
+      table = refl;
+      room = search rules;
+      lines = λ h stands. passing_none (ever_lines t (lines_of t c.args.list.now.table h c.args.list.now.left)) c.args.block.now.items (g.S.Sink.written c.args.sink.now) (g.S.Sink.failed c.args.sink.now);
+    }
+
+pub loop-line-preserved : goal.loop-line-preserved
+loop-line-preserved g c =
+    let t = c.args.list.now.tree in
+    let all = λ (h : History). ever_lines t (lines_of t c.args.list.now.table h c.args.list.now.left) in
+    let left = λ (h : History). ever_lines t (lines_of t c.args.list.now.table h c.loop-line.list.left) in
+    let more = λ (h : History). ever_lines t (lines_of t c.args.list.now.table h c.next_line.new.self.left) in
+    let given = text_given c.in-Some.line c.word.result.now in
+    let next = λ (h : History) (stands : StandsFor c.args.list.now.process h).
+    line_next c.loop-line.list.tree t c.loop-line.list.table c.args.list.now.table c.loop-line.list.process c.args.list.now.process h c.loop-line.list.left c.next_line.new.self.left c.next_line.new.self.word c.in-Some.line c.word.result.now
+    c.loop-line.invariant.tree c.loop-line.invariant.table c.loop-line.invariant.process stands c.in-Some.ensures.line c.word.ensures in
+    record {
+      tree = c.next_line.ensures.of.0 ∙ c.loop-line.invariant.tree;
+      process = c.next_line.ensures.of.1 ∙ c.loop-line.invariant.process;
+      table = c.next_line.ensures.of.2 ∙ c.loop-line.invariant.table;
+      room = c.add_thing.ensures.room;
+      lines = λ h stands. passing_more (all h) (left h) given (more h) c.args.block.now.items c.loop-line.block.items c.add_thing.new.block.items
+          (g.S.Sink.written c.args.sink.now) (g.S.Sink.written c.loop-line.sink) (g.S.Sink.written c.add_thing.new.sink) (g.S.Sink.failed c.args.sink.now) (g.S.Sink.failed c.loop-line.sink) (g.S.Sink.failed c.add_thing.new.sink)
+          (c.loop-line.invariant.lines h stands) (next h stands) c.in_ok-add_thing.ensures.line;
+    }
+
+pub returns-in_err-add_thing-clause-lines : goal.returns-in_err-add_thing-clause-lines
+returns-in_err-add_thing-clause-lines g c =
+    let t = c.args.list.now.tree in
+    let all = λ (h : History). ever_lines t (lines_of t c.args.list.now.table h c.args.list.now.left) in
+    let left = λ (h : History). ever_lines t (lines_of t c.args.list.now.table h c.loop-line.list.left) in
+    let more = λ (h : History). ever_lines t (lines_of t c.args.list.now.table h c.next_line.new.self.left) in
+    let given = text_given c.in-Some.line c.word.result.now in
+    let next = λ (h : History) (stands : StandsFor c.args.list.now.process h).
+    line_next c.loop-line.list.tree t c.loop-line.list.table c.args.list.now.table c.loop-line.list.process c.args.list.now.process h c.loop-line.list.left c.next_line.new.self.left c.next_line.new.self.word c.in-Some.line c.word.result.now
+    c.loop-line.invariant.tree c.loop-line.invariant.table c.loop-line.invariant.process stands c.in-Some.ensures.line c.word.ensures in
+    let p = err_from_is_err_and c.from_residual.result c.from_residual.ensures.1 in
+    rw p.1 (λ h stands. passing_fails (all h) (left h) given (more h) c.args.block.now.items c.loop-line.block.items [] [] p.0
+    (g.S.Sink.written c.args.sink.now) (g.S.Sink.written c.loop-line.sink) (g.S.Sink.written c.add_thing.new.sink) (g.S.Sink.failed c.args.sink.now) (g.S.Sink.failed c.loop-line.sink) (g.S.Sink.failed c.add_thing.new.sink)
+    (c.loop-line.invariant.lines h stands) (next h stands) c.in_err-add_thing.ensures.line)
+
+pub returns-clause-lines : goal.returns-clause-lines
+returns-clause-lines g c =
+    let t = c.args.list.now.tree in
+    let all = λ (h : History). ever_lines t (lines_of t c.args.list.now.table h c.args.list.now.left) in
+    let left = λ (h : History). ever_lines t (lines_of t c.args.list.now.table h c.loop-line.list.left) in
+    λ h stands.
+    passing_last (all h) (left h) [] c.args.block.now.items c.loop-line.block.items c.loop-line.block.items (Ok tt)
+    (g.S.Sink.written c.args.sink.now) (g.S.Sink.written c.loop-line.sink) (g.S.Sink.written c.loop-line.sink) (g.S.Sink.failed c.args.sink.now) (g.S.Sink.failed c.loop-line.sink) (g.S.Sink.failed c.loop-line.sink)
+    (c.loop-line.invariant.lines h stands)
+    (no_line c.loop-line.list.tree t c.loop-line.list.table c.args.list.now.table c.loop-line.list.process c.args.list.now.process h c.loop-line.list.left c.loop-line.invariant.tree c.loop-line.invariant.table c.loop-line.invariant.process stands c.in_default.ensures.line.0)
+    (passes_none c.loop-line.block.items (g.S.Sink.written c.loop-line.sink) (g.S.Sink.failed c.loop-line.sink))

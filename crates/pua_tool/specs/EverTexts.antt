@@ -1,0 +1,71 @@
+-- The text of the list for ever of a process, and what refuses it.
+use Rattle.std.specs.Prelude.{◌≡◌, ◌≢◌, ℕ, List, ◌++◌, flat_map, Option, Some, None, Result, Ok, Err, codes, ok_or}
+use Rattle.pua_tree.specs.Tree.{Tree}
+use Rattle.pua_tree.specs.Steps.{◌>>=◌}
+use Rattle.pua_policy.specs.Calls.{CallTable}
+use Rattle.pua_policy.specs.History.{History}
+use Rattle.pua_script.specs.Replay.{history_of}
+use Rattle.pua_audit.specs.Reach.{Word, printed_path}
+use Rattle.pua_audit.specs.declared.base.Base.TheVariants.{Root}
+use Rattle.pua_ever.specs.Ever.{EverLine, ever, ever_text as line_text}
+use Rattle.pua_ever.specs.Refusals.{refusal}
+use Rattle.pua_ever.specs.declared.line.EverThing.{EverThing}
+use Rattle.pua_ever.specs.declared.line.EverThing.TheVariants.{Stands, Comes}
+use Rattle.pua_ever.specs.declared.refusal.Refusal.{Refusal}
+use Rattle.pua_ever.specs.declared.refusal.Refusal.TheVariants as refused
+use Rattle.pua_objects.specs.declared.kind.ObjectKind.{ObjectKind}
+use Rattle.pua_tool.specs.Sinks.{Adds, AddsFront, HasFailed}
+use Rattle.pua_tool.specs.States.{head_lines}
+use Rattle.pua_tool.specs.Texts.{Replayed, ended, answer_lines, replayed}
+use Rattle.pua_tool.specs.declared.fault.ToolFault.{ToolFault}
+use Rattle.pua_tool.specs.declared.fault.ToolFault.TheVariants.{NoProcess, Write, OutOfMemory, CanUnveil, LacksC, RenameLacksC, LinkLacksC}
+
+abbrev pub ever_lines : Tree → List EverLine → List ℕ
+ever_lines t lines = flat_map (λ line. ended (line_text t line)) lines
+
+-- what kind of thing the code gives
+abbrev pub kind_of : EverThing → ObjectKind
+kind_of (Stands kind) = kind
+kind_of (Comes kind) = kind
+
+-- where it stands now, as it is printed; `new` if it is still to be made
+abbrev pub path_or_new : EverThing → Word → List ℕ
+path_or_new (Stands kind) word = printed_path Root word
+path_or_new (Comes kind) word = codes "new"
+
+-- the list for ever of a process: its heading, its state, and a line for each thing that it and what it forks can ever touch
+abbrev pub ever_list : CallTable → Tree → ℕ → History → List ℕ
+ever_list table t process h = head_lines t (codes "ever") process h ++ ever_lines t (ever t table h)
+
+-- why there is no list for ever of the process with this number
+abbrev pub ever_fault : ℕ → Refusal → ToolFault
+ever_fault process refused.CanUnveil = CanUnveil process
+ever_fault process (refused.LacksC call) = LacksC call
+ever_fault process refused.RenameLacksC = RenameLacksC
+ever_fault process refused.LinkLacksC = LinkLacksC
+
+-- a text, unless there is a reason for none
+abbrev pub unless_refused : ℕ → Option Refusal → List ℕ → Result (List ℕ) ToolFault
+unless_refused process None text = Ok text
+unless_refused process (Some reason) text = Err (ever_fault process reason)
+
+-- the answers, and then the list for ever of a process, or what refuses it: it was never made, or there is a reason for none
+abbrev pub ever_after : Replayed → ℕ → Result (List ℕ) ToolFault
+ever_after done process =
+    ok_or (history_of done.world process) NoProcess
+    >>= λ h. unless_refused process (refusal done.table h) (answer_lines 1 done.told ++ ever_list done.table done.world.tree process h)
+
+-- the list for ever of a process at the end of a script over a listing, or the first fault: the table's, the listing's, the script's, a process never made, or a reason for no list
+unfoldable pub ever_text : Option (List ℕ) → List ℕ → List ℕ → ℕ → Result (List ℕ) ToolFault
+ever_text table_bytes tree_bytes script_bytes process = replayed table_bytes tree_bytes script_bytes >>= λ done. ever_after done process
+
+-- what a fault leaves: of a put that failed a front of the text; every other fault comes before anything is written, and is the answer unless memory was refused
+pub record IsUnanswered (answer : Result (List ℕ) ToolFault) (fault : ToolFault) (old new : Option (List ℕ)) (before after : ℕ) : Type 0 where
+  pub write : fault ≡ Write → (text : List ℕ) × (answer ≡ Ok text) × AddsFront text old new × HasFailed before after
+  pub refused : fault ≢ Write → fault ≢ OutOfMemory → answer ≡ Err fault
+  pub unwritten : fault ≢ Write → new ≡ old
+
+-- what the telling of an answer leaves
+abbrev pub Answers : Result (List ℕ) ToolFault → Result (Unit {0}) ToolFault → Option (List ℕ) → Option (List ℕ) → ℕ → ℕ → Type 0
+Answers answer (Ok done) old new before after = (text : List ℕ) × (answer ≡ Ok text) × Adds text old new × (after ≡ before)
+Answers answer (Err fault) old new before after = IsUnanswered answer fault old new before after

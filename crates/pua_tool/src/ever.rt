@@ -1,0 +1,103 @@
+//! The text of the list for ever of a process.
+
+ghost use Rattle.std.specs.Prelude.{◌≡◌, ◌≢◌, ◌≤◌, ◌++◌, ℕ, List, [], Ok, Err, IfErr, OnOk, vec_capacity};
+ghost use Rattle.pua_policy.specs.Calls.{CallTable as Rules};
+ghost use Rattle.pua_policy.specs.History.{History};
+ghost use Rattle.pua_tool.specs.Begun.{IsReplay};
+ghost use Rattle.pua_tool.specs.EverLists.{IsEverListOf};
+ghost use Rattle.pua_tool.specs.EverTexts.{Answers, ever_after, ever_list, ever_text};
+ghost use Rattle.pua_tool.specs.Texts.{Replayed, given};
+ghost use Rattle.pua_tool.specs.Sinks.{Adds, AddsFront, HasFailed, Writes};
+
+use crate::answers::answer_text;
+use crate::ever_list::EverList;
+use crate::fault::ToolFault;
+use crate::line::BLOCK;
+use crate::objects::told;
+use crate::places::Places;
+use crate::script::{Replay, replay_script};
+use crate::sink::{PutFault, Sink, put_all};
+use pua_tree::FileTree;
+use std::alloc::Global;
+
+/// Writes the list for ever of a process: for each line of the script its number and what it was
+/// answered, then `ever P`, the lines of the state of the process where the script ends, as
+/// [`objects_to`](crate::objects_to) has them, and a line `KIND PATH CALLS` for each thing that stands
+/// or could stand now on which a call can ever be allowed by what the process and all that it forks do
+/// themselves, as long as no exec of theirs succeeds; in the end a line `KIND new CALLS` for what they
+/// can make: `dir`, `other` for the further names of such a directory, `file` and `link`. The calls of
+/// a line are all that can ever be allowed on the thing, wherever it is moved. After a line of what
+/// stands at a name with a veil of its own, and can be taken away, stands a line of the missing name.
+/// What a call needs is said by the text with the table of calls, or by the standard table where there
+/// is none.
+///
+/// The first that holds of `Table`, `Listing`, `Script`, `NoProcess`, `CanUnveil`, `LacksC`,
+/// `RenameLacksC` and `LinkLacksC` is answered before anything is written. So is `OutOfMemory`,
+/// wherever a growth was refused. `Write` is answered only where a put failed in this call, and a
+/// front of the text is then written. Of a process that has ended there is a list, without a line.
+pub fn ever_to<S: Sink>(
+    alloc: Global,
+    tree_bytes: &[u8],
+    script_bytes: &[u8],
+    table: Option<&[u8]>,
+    process: u32,
+    sink: &mut S,
+) -> Result<(), ToolFault>
+    ensures whole { OnOk result ((text : List ℕ) × (ever_text (given table.entry) tree_bytes.now script_bytes.now process ≡ Ok text) × Adds text (S.written sink.old) (S.written sink.new)) }
+    ensures unfailed { OnOk result (S.failed sink.new ≡ S.failed sink.old) }
+    ensures write { result ≡ Err ToolFault.Write → (text : List ℕ) × (ever_text (given table.entry) tree_bytes.now script_bytes.now process ≡ Ok text)
+        × AddsFront text (S.written sink.old) (S.written sink.new) × HasFailed (S.failed sink.old) (S.failed sink.new) }
+    ensures refused { IfErr result (λ fault. fault ≢ ToolFault.Write → fault ≢ ToolFault.OutOfMemory →
+        (ever_text (given table.entry) tree_bytes.now script_bytes.now process ≡ Err fault)) }
+    ensures unwritten { IfErr result (λ fault. fault ≢ ToolFault.Write → S.written sink.new ≡ S.written sink.old) }
+{
+    let replay = replay_script(alloc, tree_bytes, script_bytes, table)?;
+    list_to(alloc, &replay, process, sink)
+}
+
+/// Writes the answers of a script, and then the list for ever of the process with this number where
+/// the script ends. Every fault but `Write` is answered before anything is written.
+fn list_to<S: Sink>(
+    alloc: Global,
+    replay: &Replay,
+    number: u32,
+    sink: &mut S,
+) -> Result<(), ToolFault>
+    ensures { (done : Replayed) → IsReplay replay.now done → Answers (ever_after done number) result
+        (S.written sink.old) (S.written sink.new) (S.failed sink.old) (S.failed sink.new) }
+{
+    let world = &replay.world;
+    let Some(process) = world.process(number) else {
+        return Err(ToolFault::NoProcess);
+    };
+    let mut list = EverList::begin(alloc, world.tree(), world.table(), number, process)?;
+    let Ok(front) = answer_text(alloc, replay.told.as_slice()) else {
+        return Err(ToolFault::OutOfMemory);
+    };
+    let Ok(mut places) = Places::new(alloc, world.tree()) else {
+        return Err(ToolFault::OutOfMemory);
+    };
+    let Ok(mut block) = Vec::with_capacity(alloc, BLOCK) else {
+        return Err(ToolFault::OutOfMemory);
+    };
+    told(write_list(front.as_str(), &mut list, &mut places, &mut block, sink))
+}
+
+/// Writes the front of a text, and then a list: the front before any line of it, and many lines in a
+/// block.
+fn write_list<'t, T: FileTree, S: Sink>(
+    front: &str,
+    list: &mut EverList<'t, T>,
+    places: &mut Places<'t, T>,
+    block: &mut Vec<u8>,
+    sink: &mut S,
+) -> Result<(), PutFault>
+    requires empty { block.old.items ≡ [] }
+    requires room { BLOCK ≤ vec_capacity block.old }
+    ensures { (table : Rules) (process : ℕ) (h : History) → IsEverListOf table places.old.tree process h list.old → Writes (front.now ++ ever_list table places.old.tree process h) result
+        (S.written sink.old) (S.written sink.new) (S.failed sink.old) (S.failed sink.new) }
+{
+    put_all(sink, front.as_bytes())?;
+    list.add_to(block, places, sink)?;
+    put_all(sink, block.as_slice())
+}

@@ -1,0 +1,5 @@
+use Rattle.std.proofs.Common.{rules}
+use Rattle.pua_tree.proofs.spelling.SpelledByte.as_bytes.Goals as goal
+
+pub returns : goal.returns
+returns c = search rules

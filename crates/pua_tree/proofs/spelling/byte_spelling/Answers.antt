@@ -1,0 +1,5 @@
+use Rattle.std.proofs.Common.{rules}
+use Rattle.pua_tree.proofs.spelling.byte_spelling.Goals as goal
+
+pub returns-else-is_plain : goal.returns-else-is_plain
+returns-else-is_plain c = search rules
