@@ -5,7 +5,7 @@ use Rattle.pua_tree.specs.Tree.{Tree, is_dir}
 use Rattle.pua_tree.specs.Steps.{◌>>=◌}
 use Rattle.pua_path.specs.Paths.{parts_of, is_absolute}
 use Rattle.pua_path.specs.Resolution.{Resolved, Standing, Directory, Linked, Plain, Nothing, standing_at, walk, start_of, resolve_parts, resolution, reached, step, link_limit}
-use Rattle.pua_path.specs.Walks.{ended, found_in}
+use Rattle.pua_path.specs.Walks.{ended}
 use Rattle.pua_path.specs.declared.errno.Errno.{Errno}
 use Rattle.pua_path.specs.declared.errno.Errno.TheVariants.{ENOENT, ENOTDIR, ELOOP}
 use Rattle.pua_path.specs.declared.text.Ending.{Ending}
@@ -84,20 +84,3 @@ pub resolution_ends : (t : Tree) (from : ℕ) (end : Ending) (text : List ℕ) (
     Some start ≡ (if not (is_absolute text) && not (is_dir t from) then None else Some (start_of text from)) →
     ended r left ≡ resolve_parts link_limit t mode start ways.Top (parts_of end text) → r ≡ resolution t from end text mode
 resolution_ends t from end text mode start r left s e = sym (ended_found r left) ∙ resolution_starts t from end text mode start (ended r left) s e
-
-pub found_in_is : (r : Resolved) → found_in r ≡ (r >>= λ f. Ok f.0)
-found_in_is (Ok found) = refl
-found_in_is (Err errno) = refl
-
--- what the front of a path names, from its start
-pub resolution_found : (t : Tree) (from : ℕ) (end : Ending) (text : List ℕ) (mode : Last) (start : ℕ) (r : Result Found Errno) →
-    Some start ≡ (if not (is_absolute text) && not (is_dir t from) then None else Some (start_of text from)) →
-    r ≡ found_in (resolve_parts link_limit t mode start ways.Top (parts_of end text)) → r ≡ resolution t from end text mode
-resolution_found t from end text mode start r s e =
-    let found = resolve_parts link_limit t mode start ways.Top (parts_of end text) in
-    e ∙ found_in_is found ∙ resolution_starts t from end text mode start found s refl
-
--- an answer without the links left
-pub ended_found_in : (r : Result Found Errno) (left : ℕ) → r ≡ found_in (ended r left)
-ended_found_in (Ok found) left = refl
-ended_found_in (Err errno) left = refl

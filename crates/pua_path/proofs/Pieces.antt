@@ -323,11 +323,6 @@ rest_parts-some x xs = by (after_slashes (x ∷ xs)) refl
         ap (λ p. is_done (map part_of p ++ slash_part (ends_in_slash (x ∷ xs)))) pieces
         ∙ some_component y ys (slash_part (ends_in_slash (x ∷ xs))) (head-after_slashes (x ∷ xs) y ys e)
 
--- no part is left exactly where a text is empty
-pub done_where_none : (text : List ℕ) → is_done (rest_parts text) ≡ (length text == 0)
-done_where_none [] = refl
-done_where_none (x ∷ xs) = rest_parts-some x xs ∙ sym (ne_eqb (length (x ∷ xs)) 0 (λ e. omega (arith, e)))
-
 -- a target of slashes alone has no parts
 pub no_parts : (target text : List ℕ) → text ≡ after_slashes target → (length text == 0) ≡ true → parts_of ending.Dot target ≡ []
 no_parts target [] e n = parts_of-begin target ∙ ap rest_parts (sym e)

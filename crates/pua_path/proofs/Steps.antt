@@ -5,7 +5,7 @@ use Rattle.pua_tree.specs.Tree.{Tree, above}
 use Rattle.pua_path.specs.Paths.{parts_of}
 use Rattle.pua_path.specs.Remaining.{is_done}
 use Rattle.pua_path.specs.Resolution.{Resolved, Standing, Directory, Linked, Plain, Nothing, standing_at, is_followed, slot_or, walk, start_of, resolve_parts}
-use Rattle.pua_path.specs.Walks.{goes_on, followed}
+use Rattle.pua_path.specs.Walks.{goes_on}
 use Rattle.pua_path.specs.declared.errno.Errno.{Errno}
 use Rattle.pua_path.specs.declared.errno.Errno.TheVariants.{ENOENT, ENOTDIR, ELOOP}
 use Rattle.pua_path.specs.declared.text.Ending.TheVariants as ending
@@ -16,6 +16,11 @@ use Rattle.pua_path.specs.declared.found.Way.{Way}
 use Rattle.pua_path.specs.declared.found.Way.TheVariants as ways
 use Rattle.pua_path.specs.declared.found.Found.{Found}
 use Rattle.pua_path.specs.declared.found.Found.TheVariants.{Whole, Slot}
+
+-- what comes of following a link, with so many links left before it
+abbrev pub followed : ℕ → Tree → Last → ℕ → List ℕ → List Part → Resolved
+followed zero t mode from target rest = Err ELOOP
+followed (suc links) t mode from target rest = resolve_parts links t mode (start_of target from) ways.Top (parts_of ending.Dot target ++ rest)
 
 -- what comes of what stands at a name
 abbrev pub met : Tree → Last → ℕ → (ℕ → List ℕ → List Part → Resolved) → ℕ → List ℕ → List Part → Standing → Resolved

@@ -3,9 +3,7 @@
 
 mod errno;
 mod found;
-mod front;
 mod laws;
-mod lead;
 mod limits;
 mod piece;
 mod probe;

@@ -3,29 +3,27 @@
 ghost use Rattle.std.specs.Prelude.{◌≡◌, ◌≤◌, ◌<◌, ◌+◌, ◌-◌, ◌*◌, ◌∷◌, ◌++◌, IsTrue, IfOk, IfErr, IfSome, OnOk, is_some, not, false, ◌&&◌, ◌==◌, Ok, Err, Some, None, [], if◌then◌else◌};
 ghost use Rattle.pua_tree.specs.Names.{is_name};
 ghost use Rattle.pua_tree.specs.Tree.{above, is_dir};
-ghost use Rattle.pua_path.specs.Resolution.{resolution, resolve_parts, start_of, step, last, follow};
+ghost use Rattle.pua_path.specs.Resolution.{resolution, resolve_parts, standing_at, is_followed, start_of, step, last, follow};
 ghost use Rattle.pua_path.specs.Limits.{link_limit};
 ghost use Rattle.pua_path.specs.Paths.{is_absolute, part_of, parts_of};
-ghost use Rattle.pua_path.specs.Walks.{way_of, all_found, found_in, AreNamed, followed, CanGoOn, goes_on, ended, potential};
+ghost use Rattle.pua_path.specs.Walks.{way_of, lent_name, found_of, all_found, IsNamed, AreNamed, standing_seen, StandsIn, CanGoOn, goes_on, ended, potential};
 ghost use Rattle.pua_path.specs.Bounds.{part_cost};
 ghost use Rattle.pua_path.specs.Fits.{FoundFits, FoundsFit, StandsAsNamed};
-ghost use Rattle.pua_path.specs.Remaining.{Remaining, is_piece, is_readable, rest_parts};
+ghost use Rattle.pua_path.specs.Remaining.{Remaining, is_done, is_piece, is_readable};
 ghost use Rattle.pua_path.specs.declared.errno.Errno.TheVariants.{ELOOP, ENOENT, ENOTDIR};
 ghost use Rattle.pua_path.specs.declared.found.Way.TheVariants as ways;
-ghost use Rattle.pua_path.specs.declared.lead.Nameless.TheVariants as nameless;
+ghost use Rattle.pua_path.specs.declared.resolver.Nameless.TheVariants as nameless;
 ghost use Rattle.pua_path.specs.declared.found.Part.TheVariants as parts;
 ghost use Rattle.pua_path.specs.declared.found.Found.TheVariants.{Slot};
 ghost use Rattle.pua_path.specs.declared.text.Ending.TheVariants as ending;
 
 use crate::errno::Errno;
-use crate::found::{Found, Last, Part};
-use crate::front::{own_text, resolve_front};
-use crate::lead::{Lead, LentFound, Nameless, leads_to};
+use crate::found::{Found, Last, Part, Way};
 use crate::limits::LINK_LIMIT;
 use crate::probe::Probe;
 use crate::rest::Rest;
 use crate::text::PathText;
-use pua_tree::{Kind, NodeId};
+use pua_tree::{Kind, Name, NodeId};
 
 /// What a path names from a directory, by the rules of path resolution (intro(2), symlink(7)): 32
 /// links are followed at most (this profile). A relative path needs `from` to be a living
@@ -49,7 +47,8 @@ pub fn resolve<'t, P: Probe<'t>>(
     let Some(start) = start_of(probe, from, text.bytes()) else {
         return Err(Errno::ENOENT);
     };
-    resolve_front(probe, start, own_text(text), mode)
+    let mut walk = Walk::new(start, LINK_LIMIT, Rest::of_text(text));
+    walk.finish(probe, mode)
 }
 
 /// What one part that another follows leads to, by the rules of `resolve`, `used` links having been
@@ -160,27 +159,6 @@ fn resolve_part<'t, P: Probe<'t>>(
     }
 }
 
-/// What the target of the first link that is followed names, with the parts of a text behind it: the
-/// link stands in a living directory.
-pub(crate) fn resolve_behind<'a, 't: 'a, P: Probe<'t>>(
-    probe: &mut P,
-    dir: NodeId,
-    target: &'a [u8],
-    text: &'a [u8],
-    mode: Last,
-) -> Result<Found, Errno>
-    requires dir { IsTrue (is_dir (P.tree probe.old) dir) }
-    requires target { IsTrue (is_readable target.now) }
-    requires text { IsTrue (is_readable text.now) }
-    ensures exact { result ≡ found_in (followed link_limit (P.tree probe.old) mode dir target.now (rest_parts text.now)) }
-    ensures tree { P.tree probe.new ≡ P.tree probe.old }
-{
-    probe.known();
-    let mut walk = Walk::new(dir, LINK_LIMIT, Rest::of_top(text));
-    walk.follow(target)?;
-    walk.finish(probe, mode)
-}
-
 /// Where a path starts; None where that is no living directory.
 fn start_of<'t, P: Probe<'t>>(probe: &mut P, from: NodeId, text: &[u8]) -> Option<NodeId>
     ensures start { result ≡ (if not (is_absolute text.now) && not (is_dir (P.tree probe.old) from) then None else Some (start_of text.now from)) }
@@ -201,6 +179,102 @@ fn is_absolute(text: &[u8]) -> bool
     ensures { result ≡ is_absolute text.now }
 {
     text.first() == Some(&b'/')
+}
+
+/// The name that some bytes are.
+#[inline(always)]
+fn name_of(bytes: &[u8]) -> Name
+    requires { IsTrue (is_name bytes.now) }
+    ensures { result ≡ bytes.now }
+{
+    Name::from_bytes(bytes).unwrap()
+}
+
+/// What stands at a name in a directory.
+enum Standing<'t> {
+    Directory(NodeId),
+    Linked(NodeId, &'t [u8]),
+    Plain(NodeId),
+    Nothing,
+}
+
+fn standing_at<'t, P: Probe<'t>>(probe: &mut P, dir: NodeId, name: &[u8]) -> Standing<'t>
+    ensures standing { standing_seen result ≡ standing_at (P.tree probe.old) dir name.now }
+    ensures stands { StandsIn (P.tree probe.old) result }
+    ensures tree { P.tree probe.new ≡ P.tree probe.old }
+    ensures count { P.count probe.new ≤ P.count probe.old + 3 }
+{
+    probe.known();
+    let Some((node, kind)) = probe.find(dir, name) else {
+        return Standing::Nothing;
+    };
+    match kind {
+        Kind::Dir => Standing::Directory(node),
+        Kind::Link => Standing::Linked(node, probe.target(node).unwrap_or(&[])),
+        Kind::File | Kind::Prog => Standing::Plain(node),
+    }
+}
+
+/// What a path names by a name: a directory and its parent, or what stands in a directory and is
+/// none, or nothing. The name is lent, and copied once.
+#[derive(Clone, Copy)]
+enum LentFound<'a> {
+    Whole {
+        dir: NodeId,
+        parent: NodeId,
+        name: &'a [u8],
+    },
+    Slot {
+        dir: NodeId,
+        name: &'a [u8],
+        node: Option<NodeId>,
+    },
+}
+
+impl LentFound<'_> {
+    #[inline(always)]
+    fn found(&self) -> Found
+        requires { IsNamed self.now }
+        ensures { result ≡ found_of self.now }
+    {
+        let name = name_of(self.name());
+        match *self {
+            LentFound::Whole { dir, parent, .. } => Found::Whole {
+                dir,
+                way: Way::Named { parent, name },
+            },
+            LentFound::Slot { dir, node, .. } => Found::Slot { dir, name, node },
+        }
+    }
+
+    #[inline(always)]
+    fn name(&self) -> &[u8]
+        ensures { result.now ≡ lent_name self.now }
+    {
+        match self {
+            LentFound::Whole { name, .. } | LentFound::Slot { name, .. } => name,
+        }
+    }
+}
+
+/// How a directory was named where that was by no name: a way that ends by a name is found at once.
+#[derive(Clone, Copy)]
+enum Nameless {
+    Dot,
+    DotDot,
+    Top,
+}
+
+impl Nameless {
+    fn way(self) -> Way
+        ensures { result ≡ way_of self }
+    {
+        match self {
+            Nameless::Dot => Way::Dot,
+            Nameless::DotDot => Way::DotDot,
+            Nameless::Top => Way::Top,
+        }
+    }
 }
 
 /// A resolution on its way: the directory where it is, how that was named, how many links it may
@@ -361,18 +435,63 @@ impl<'a> Walk<'a> {
         ensures count { P.count probe.new ≤ P.count probe.old + 3 }
         ensures named { IfOk result AreNamed }
     {
-        match leads_to(probe, self.here, name, self.rest.is_done(), mode) {
-            Lead::Into(node) => {
+        let dir = self.here;
+        match standing_at(probe, dir, name) {
+            Standing::Directory(node) => {
+                if self.rest.is_done() {
+                    return Ok(Some(LentFound::Whole {
+                        dir: node,
+                        parent: dir,
+                        name,
+                    }));
+                }
                 self.here = node;
                 Ok(None)
             }
-            Lead::End(found) => Ok(Some(found)),
-            Lead::Link(target) => {
+            Standing::Linked(node, target) => {
+                if !self.is_followed(mode) {
+                    return Ok(Some(LentFound::Slot {
+                        dir,
+                        name,
+                        node: Some(node),
+                    }));
+                }
                 self.follow(target)?;
                 Ok(None)
             }
-            Lead::Fault(errno) => Err(errno),
+            Standing::Plain(node) => self.end_at(name, Some(node), Errno::ENOTDIR),
+            Standing::Nothing => self.end_at(name, None, Errno::ENOENT),
         }
+    }
+
+    fn is_followed(&self, mode: Last) -> bool
+        ensures { result ≡ is_followed mode self.now.rest.parts }
+    {
+        match mode {
+            Last::Followed => true,
+            Last::Kept => !self.rest.is_done(),
+        }
+    }
+
+    /// What is no directory is found where no part is left.
+    fn end_at<'n>(
+        &self,
+        name: &'n [u8],
+        node: Option<NodeId>,
+        errno: Errno,
+    ) -> Result<Option<LentFound<'n>>, Errno>
+        requires { IsTrue (is_name name.now) }
+        ensures exact { all_found result ≡ (if is_done self.now.rest.parts then Ok (Some (Slot self.now.here name.now node)) else Err errno) }
+        ensures named { IfOk result AreNamed }
+    {
+        if !self.rest.is_done() {
+            return Err(errno);
+        }
+        Ok(Some(LentFound::Slot {
+            dir: self.here,
+            name,
+            node,
+        }))
     }
 
     /// Follows a link: its target comes before the parts that are left.

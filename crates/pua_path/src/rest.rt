@@ -1,7 +1,8 @@
 //! What is left of a path while it is resolved.
 
 use crate::limits::LINK_LIMIT;
-use crate::piece::{after_slashes, next_piece};
+use crate::piece::{after_slashes, before_slashes, next_piece};
+use crate::text::{Ending, PathText};
 use std::marker::Model;
 
 /// How many texts may lie below the one that is read: one for each link that may be followed.
@@ -45,9 +46,21 @@ impl<'a> Rest<'a> {
         Rest::of_top(&[])
     }
 
-    /// The parts of a text behind its first slashes.
+    /// The parts of a path.
     #[inline(always)]
-    pub(crate) fn of_top(top: &'a [u8]) -> Rest<'a>
+    pub(crate) fn of_text(text: &PathText<'a>) -> Rest<'a>
+        ensures parts { result.parts ≡ parts_of text.now.ending text.now.bytes }
+        ensures depth { result.depth ≡ 0 }
+    {
+        let bytes = text.bytes();
+        match text.ending() {
+            Ending::Dot => Rest::of_top(after_slashes(bytes)),
+            Ending::Dropped => Rest::of_top(after_slashes(before_slashes(bytes))),
+        }
+    }
+
+    #[inline(always)]
+    fn of_top(top: &'a [u8]) -> Rest<'a>
         requires { IsTrue (is_readable top.now) }
         ensures parts { result.parts ≡ rest_parts top.now }
         ensures depth { result.depth ≡ 0 }

@@ -1,6 +1,6 @@
 use Rattle.std.proofs.Common.{refl}
 use Rattle.pua_path.proofs.Living.{seen_target}
-use Rattle.pua_path.proofs.lead.standing_at.Goals as goal
+use Rattle.pua_path.proofs.resolver.standing_at.Goals as goal
 
 pub returns-in-Link-clause-stands : goal.returns-in-Link-clause-stands
 returns-in-Link-clause-stands g c =
