@@ -64,9 +64,8 @@ impl Movable {
 
 /// Finds the calls that a process, and what it forks, can ever be allowed on what can be moved or
 /// made in a tree, by a table of what calls need: if the process can put no veil any more, and no
-/// exec succeeds. The veils alone are asked, each for at most as many steps as its directory stands
-/// deep; one that can give way to another directory for as many times as there are veils. The only
-/// error is that a growth was refused.
+/// exec succeeds. The veils alone are asked: for each it is climbed from a directory to the root a
+/// few times, however many other veils there are. The only error is that a growth was refused.
 pub fn find_movable<T: FileTree>(
     alloc: Global,
     tree: &T,
