@@ -1,13 +1,23 @@
 //! Where things can come that are moved or made, by the veils of a process.
 
-ghost use Rattle.std.specs.Prelude.{◌≡◌, ◌<◌, ◌≤◌, ◌++◌, ◌∷◌, [], ℕ, Some, None, true, not, ◌==◌, IfOk, IsTrue, filter_map, map, get_or, length, nat_lt, if◌then◌else◌};
+ghost use Rattle.std.specs.Prelude.{◌≡◌, ◌<◌, ◌≤◌, ◌++◌, ◌∷◌, [], ℕ, Some, None, true, not, ◌==◌};
+ghost use Rattle.std.specs.Prelude.{IfOk, IsTrue, filter_map, map, get_or, length, nat_lt};
+ghost use Rattle.std.specs.Prelude.{if◌then◌else◌};
 ghost use Rattle.std.specs.List.{list_any};
 ghost use Rattle.pua_tree.specs.Tree.{above, is_dir as lives_as_dir, look as node_at_name};
 ghost use Rattle.pua_policy.specs.History.{History, StandsFor, has_veil};
 ghost use Rattle.pua_script.specs.Confinement.{has_c as cover_has_c, object_in};
 ghost use Rattle.pua_objects.specs.Objects.{cover_in as cover_of_others};
-ghost use Rattle.pua_ever.specs.Ever.{row_cover as cover_of_row, is_free as can_be_free, can_empty, is_below as stands_below, dir_covers, name_covers, some_dir_has_c};
-ghost use Rattle.pua_ever.specs.Openings.{opening as opening_of, is_barred as barred_by, dir_opening as dir_opening_of, name_opening as name_opening_of, opened_dir as opened_dir_of, held_dir as held_dir_of, entrance as entrance_of, can_give_way as gives_way_to, is_outside as stands_outside, depth as depth_of, HaveSame};
+ghost use Rattle.pua_ever.specs.Ever.{row_cover as cover_of_row, is_free as can_be_free, can_empty};
+ghost use Rattle.pua_ever.specs.Ever.{is_below as stands_below, dir_covers, name_covers};
+ghost use Rattle.pua_ever.specs.Ever.{some_dir_has_c};
+ghost use Rattle.pua_ever.specs.Openings.{opening as opening_of, is_barred as barred_by};
+ghost use Rattle.pua_ever.specs.Openings.{dir_opening as dir_opening_of};
+ghost use Rattle.pua_ever.specs.Openings.{name_opening as name_opening_of};
+ghost use Rattle.pua_ever.specs.Openings.{opened_dir as opened_dir_of, held_dir as held_dir_of};
+ghost use Rattle.pua_ever.specs.Openings.{entrance as entrance_of, can_give_way as gives_way_to};
+ghost use Rattle.pua_ever.specs.Openings.{is_outside as stands_outside, depth as depth_of};
+ghost use Rattle.pua_ever.specs.Openings.{HaveSame};
 
 use pua_path::{Counted, Found, Way};
 use pua_policy::{Cover, Perms, Place, Process};
