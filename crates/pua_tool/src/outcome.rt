@@ -1,7 +1,7 @@
 //! How a command ends: with which line, and with which status.
 
 ghost use Rattle.std.specs.Prelude.{◌≡◌, IfErr, OnOk};
-ghost use Rattle.pua_tool.specs.Sinks.{Writes};
+ghost use Rattle.pua_tool.specs.Sinks.{Adds, Writes};
 ghost use Rattle.pua_tool.specs.Statuses.{fault_status, status_after};
 ghost use Rattle.pua_tool.specs.Texts.{ended};
 ghost use Rattle.pua_tool.specs.Told.{IsFaultTold, TellsFault};
@@ -89,6 +89,8 @@ struct Report<'e, E: Sink> {
 }
 
 impl<E: Sink> Write for Report<'_, E> {
+    ghost write_str_gives = { λ old text new. Adds text (E.written old.sink.now) (E.written new.sink.now) };
+
     fn write_str(&mut self, text: &str) -> fmt::Result {
         put_all(self.sink, text.as_bytes()).map_err(|_| fmt::Error)
     }
