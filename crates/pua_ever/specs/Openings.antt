@@ -1,8 +1,8 @@
 -- What each veil of a process lets come to be in a tree, one veil after another. All covers under which
 -- something can come that is moved or made are found by the veils alone: what has `c` has it by a veil.
-use Rattle.std.specs.Prelude.{ℕ, Bool, false, not, ◌&&◌, if◌then◌else◌, List, ◌==◌, Option, Some, None, is_some}
+use Rattle.std.specs.Prelude.{ℕ, Bool, false, not, ◌&&◌, if◌then◌else◌, List, ◌==◌, Option, Some, None, is_some, min, length}
 use Rattle.std.specs.List.{list_any, Contains}
-use Rattle.pua_tree.specs.Tree.{Tree, is_dir, look, above}
+use Rattle.pua_tree.specs.Tree.{Tree, is_dir, look, above, climb}
 use Rattle.pua_policy.specs.History.{History, kept}
 use Rattle.pua_policy.specs.declared.answer.Cover.{Cover}
 use Rattle.pua_policy.specs.declared.answer.Cover.TheVariants.{Only}
@@ -71,6 +71,11 @@ entrance t h held opened (place.Slot dir name) =
 entrance t h held opened (place.Dir dir) =
     if is_dir t dir && (not (dir == 0) && (is_some (opening h (place.Dir dir)) && can_give_way t held opened dir))
     then Some (cover_in t h (above t dir)) else None
+
+-- how many directories a climb from a living one to the root meets, as far as a machine counts; what is no
+-- living directory counts most
+abbrev pub depth : Tree → ℕ → ℕ
+depth t dir = if is_dir t dir then min (length (climb t dir)) 18446744073709551615 else 18446744073709551615
 
 -- two lists with the same elements
 pub record HaveSame {X : Type 0} (xs ys : List X) : Type 0 where

@@ -1,6 +1,7 @@
 //! All that a process and what it forks can ever touch, line by line.
 
-ghost use Rattle.std.specs.Prelude.{◌≡◌, ◌⊎◌, ◌<◌, ◌∷◌, [], true, Some, None, IfOk, OnOk, OnSome, MatchResult, length, map};
+ghost use Rattle.std.specs.Prelude.{◌≡◌, ◌⊎◌, ◌<◌, ◌∷◌, [], true, Some, None, IfOk, OnOk, OnSome};
+ghost use Rattle.std.specs.Prelude.{MatchResult, length, map};
 ghost use Rattle.pua_tree.specs.Tree.{Tree};
 ghost use Rattle.pua_policy.specs.History.{History, StandsFor, is_ended};
 ghost use Rattle.pua_script.specs.Laws.{IsConfined};
@@ -74,9 +75,11 @@ impl<'t, T: FileTree> Ever<'t, T> {
         ensures of { IfOk result (λ list. (list.tree ≡ T.content tree.now)
             × (list.process ≡ process.now) × (list.table ≡ table.now)) }
         ensures lines { IfOk result (λ list. (h : History) → StandsFor process.now h →
-            lines_of (T.content tree.now) table.now h list.left ≡ ever (T.content tree.now) table.now h) }
+            lines_of (T.content tree.now) table.now h list.left
+            ≡ ever (T.content tree.now) table.now h) }
         ensures refused { (h : History) → StandsFor process.now h → MatchResult result
-            (λ _. refusal_of table.now h ≡ None) (λ fault. refusal_of table.now h ≡ refusal_in fault) }
+            (λ _. refusal_of table.now h ≡ None) (λ fault. refusal_of table.now h
+            ≡ refusal_in fault) }
         ensures table { OnOk result (EditsNeedC table.now) }
         ensures confined { OnOk result ((h : History) → StandsFor process.now h →
             IsConfined h ⊎ (is_ended h ≡ true)) }

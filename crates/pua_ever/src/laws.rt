@@ -1,7 +1,8 @@
 //! Laws and worked examples, each the contract of a function that does nothing.
 
 ghost use Rattle.pua_ever.specs.Examples.{EverRows};
-ghost use Rattle.pua_ever.specs.Laws.{EverAsRead, EverComplete, EverOfMany, NowWithinEver, ReplaysKeepPlaces, StandardEditsNeedC, WithoutExec};
+ghost use Rattle.pua_ever.specs.Laws.{EverAsRead, EverComplete, EverOfMany, NowWithinEver};
+ghost use Rattle.pua_ever.specs.Laws.{ReplaysKeepPlaces, StandardEditsNeedC, WithoutExec};
 
 /// Whatever a process that can put no veil any more and what it forks ask for, as long as they alone ask
 /// and no exec of theirs succeeds: if a call of one of them is then allowed on what a path names, the line

@@ -9,7 +9,8 @@ ghost use Rattle.pua_policy.specs.declared.call.Call.{Call};
 ghost use Rattle.pua_policy.specs.History.{History, StandsFor};
 ghost use Rattle.pua_policy.specs.Objects.{object_seen};
 ghost use Rattle.pua_policy.specs.Verdict.{Object as Judged, IsMissing, object_of_kind};
-ghost use Rattle.pua_ever.specs.Ever.{is_allowed_under, dir_covers, name_covers, file_covers, some_dir_has_c};
+ghost use Rattle.pua_ever.specs.Ever.{is_allowed_under, dir_covers, name_covers, file_covers};
+ghost use Rattle.pua_ever.specs.Ever.{some_dir_has_c};
 ghost use Rattle.pua_ever.specs.Movable.{IsMovable};
 ghost use Rattle.pua_ever.specs.Openings.{HaveSame};
 
@@ -49,9 +50,11 @@ impl Movable {
 
     /// The calls on what is no directory and stands at a name.
     pub(crate) fn on(&self, object: Object) -> Calls
-        ensures { (t : Tree) (table : Table) (h : History) (kind : Kind) → IsMovable t table h self.now → object
+        ensures { (t : Tree) (table : Table) (h : History) (kind : Kind) →
+            IsMovable t table h self.now → object
             ≡ object_seen empty_tree (object_of_kind (Some kind)) →
-            (call : Call) → has result call ≡ is_allowed_under table h (file_covers t h) (object_of_kind
+            (call : Call) →
+            has result call ≡ is_allowed_under table h (file_covers t h) (object_of_kind
             (Some kind)) call }
     {
         match object {
@@ -64,9 +67,8 @@ impl Movable {
 
 /// Finds the calls that a process, and what it forks, can ever be allowed on what can be moved or
 /// made in a tree, by a table of what calls need: if the process can put no veil any more, and no
-/// exec succeeds. The veils alone are asked, each for at most as many steps as its directory stands
-/// deep; one that can give way to another directory for as many times as there are veils. The only
-/// error is that a growth was refused.
+/// exec succeeds. The veils alone are asked: for each it is climbed from a directory to the root a
+/// few times, however many other veils there are. The only error is that a growth was refused.
 pub fn find_movable<T: FileTree>(
     alloc: Global,
     tree: &T,

@@ -1,13 +1,23 @@
 //! Where things can come that are moved or made, by the veils of a process.
 
-ghost use Rattle.std.specs.Prelude.{◌≡◌, ◌++◌, ◌∷◌, [], ℕ, Some, None, true, not, ◌==◌, IfOk, IsTrue, filter_map, map, length, nat_lt, if◌then◌else◌};
+ghost use Rattle.std.specs.Prelude.{◌≡◌, ◌<◌, ◌≤◌, ◌++◌, ◌∷◌, [], ℕ, Some, None, true, not, ◌==◌};
+ghost use Rattle.std.specs.Prelude.{IfOk, IsTrue, filter_map, map, get_or, length, nat_lt};
+ghost use Rattle.std.specs.Prelude.{if◌then◌else◌};
 ghost use Rattle.std.specs.List.{list_any};
 ghost use Rattle.pua_tree.specs.Tree.{above, is_dir as lives_as_dir, look as node_at_name};
 ghost use Rattle.pua_policy.specs.History.{History, StandsFor, has_veil};
 ghost use Rattle.pua_script.specs.Confinement.{has_c as cover_has_c, object_in};
 ghost use Rattle.pua_objects.specs.Objects.{cover_in as cover_of_others};
-ghost use Rattle.pua_ever.specs.Ever.{row_cover as cover_of_row, is_free as can_be_free, can_empty, is_below as stands_below, dir_covers, name_covers, some_dir_has_c};
-ghost use Rattle.pua_ever.specs.Openings.{opening as opening_of, is_barred as barred_by, dir_opening as dir_opening_of, name_opening as name_opening_of, opened_dir as opened_dir_of, held_dir as held_dir_of, entrance as entrance_of, can_give_way as gives_way_to, is_outside as stands_outside, HaveSame};
+ghost use Rattle.pua_ever.specs.Ever.{row_cover as cover_of_row, is_free as can_be_free, can_empty};
+ghost use Rattle.pua_ever.specs.Ever.{is_below as stands_below, dir_covers, name_covers};
+ghost use Rattle.pua_ever.specs.Ever.{some_dir_has_c};
+ghost use Rattle.pua_ever.specs.Openings.{opening as opening_of, is_barred as barred_by};
+ghost use Rattle.pua_ever.specs.Openings.{dir_opening as dir_opening_of};
+ghost use Rattle.pua_ever.specs.Openings.{name_opening as name_opening_of};
+ghost use Rattle.pua_ever.specs.Openings.{opened_dir as opened_dir_of, held_dir as held_dir_of};
+ghost use Rattle.pua_ever.specs.Openings.{entrance as entrance_of, can_give_way as gives_way_to};
+ghost use Rattle.pua_ever.specs.Openings.{is_outside as stands_outside, depth as depth_of};
+ghost use Rattle.pua_ever.specs.Openings.{HaveSame};
 
 use pua_path::{Counted, Found, Way};
 use pua_policy::{Cover, Perms, Place, Process};
@@ -31,8 +41,8 @@ pub(crate) struct Openings {
 /// Finds by the veils of a process where things can come that are moved or made: a directory under
 /// the covers of `dirs` and `entrances`, anything else at a name under those of `names`; some
 /// directory has `c` where `dirs` is not empty. A directory that has `c` can be emptied where it is
-/// not one of `held`. The only error is that a growth was refused. Each veil costs as many steps as
-/// its directory stands deep, and a veil on a directory as many times as there are veils.
+/// not one of `held`. The only error is that a growth was refused. For each veil it is climbed from
+/// a directory to the root a few times, however many other veils there are.
 pub(crate) fn find_openings<T: FileTree>(
     alloc: Global,
     tree: &T,
@@ -57,6 +67,14 @@ pub(crate) fn find_openings<T: FileTree>(
         Ok(found) => Ok(found),
         Err(_) => Err(OutOfMemory),
     }
+}
+
+/// The directories that have `c` by a veil, or in which a name has. The place of the one that is
+/// asked first is kept with them: whatever place that is, answers are the same.
+#[derive(Drop)]
+struct Opened {
+    dirs: Vec<NodeId>,
+    first: usize,
 }
 
 /// What the veils at these places give.
@@ -90,7 +108,7 @@ fn gathered<T: FileTree>(
         dirs.push(Cover::All)?;
     }
     let held = held_dirs(alloc, tree, process, places)?;
-    let opened = opened_dirs(alloc, process, places)?;
+    let opened = all_opened(alloc, tree, process, places)?;
     let entrances = entrances(alloc, tree, process, &held, &opened, places)?;
     let names = name_openings(alloc, tree, process, places)?;
     Ok(Openings {
@@ -135,6 +153,22 @@ fn name_openings<T: FileTree>(
         .collect(alloc)
 }
 
+/// The directories that have `c` by a veil, or in which a name has. One that stands least deep is
+/// asked first.
+fn all_opened<T: FileTree>(
+    alloc: Global,
+    tree: &T,
+    process: &Process,
+    places: &[&Place],
+) -> Result<Opened, AllocError>
+    ensures { IfOk result (λ found. (h : History) → StandsFor process.now h → found.dirs.items
+        ≡ filter_map (opened_dir_of h) (map (λ place. place.now) places.now)) }
+{
+    let dirs = opened_dirs(alloc, process, places)?;
+    let first = shallowest(tree, &dirs);
+    Ok(Opened { dirs, first })
+}
+
 /// The directories that have `c` by a veil, or in which a name has.
 fn opened_dirs(
     alloc: Global,
@@ -173,11 +207,11 @@ fn entrances<T: FileTree>(
     tree: &T,
     process: &Process,
     held: &[NodeId],
-    opened: &[NodeId],
+    opened: &Opened,
     places: &[&Place],
 ) -> Result<Vec<Cover>, AllocError>
     ensures { IfOk result (λ found. (h : History) → StandsFor process.now h → found.items
-        ≡ filter_map (entrance_of (T.content tree.now) h held.now opened.now) (map
+        ≡ filter_map (entrance_of (T.content tree.now) h held.now opened.now.dirs.items) (map
         (λ place. place.now) places.now)) }
 {
     places
@@ -265,11 +299,11 @@ fn entrance<T: FileTree>(
     tree: &T,
     process: &Process,
     held: &[NodeId],
-    opened: &[NodeId],
+    opened: &Opened,
     place: &Place,
 ) -> Option<Cover>
     ensures { (h : History) → StandsFor process.now h → result
-        ≡ entrance_of (T.content tree.now) h held.now opened.now place.now }
+        ≡ entrance_of (T.content tree.now) h held.now opened.now.dirs.items place.now }
 {
     if opening(process, place).is_none() {
         return None;
@@ -287,17 +321,57 @@ fn entrance<T: FileTree>(
 
 /// Whether another directory can come in the place of one that has `c`: nothing in it stays for
 /// ever, and something has `c` that isn't in it.
-fn can_give_way<T: FileTree>(tree: &T, held: &[NodeId], opened: &[NodeId], dir: NodeId) -> bool
-    ensures { result ≡ gives_way_to (T.content tree.now) held.now opened.now dir }
+fn can_give_way<T: FileTree>(tree: &T, held: &[NodeId], opened: &Opened, dir: NodeId) -> bool
+    ensures { result ≡ gives_way_to (T.content tree.now) held.now opened.now.dirs.items dir }
 {
     !held.contains(&dir) && is_any_outside(tree, opened, dir)
 }
 
-/// Whether one of these directories is neither another one nor below it.
-fn is_any_outside<T: FileTree>(tree: &T, dirs: &[NodeId], other: NodeId) -> bool
-    ensures { result ≡ list_any (stands_outside (T.content tree.now) other) dirs.now }
+/// Whether one of these directories is neither another one nor below it. The one that stands least
+/// deep is below no other that stands there, so only where it is the other one are all asked.
+fn is_any_outside<T: FileTree>(tree: &T, opened: &Opened, other: NodeId) -> bool
+    ensures { result ≡ list_any (stands_outside (T.content tree.now) other) opened.now.dirs.items }
 {
-    dirs.iter().any(|dir| is_outside(tree, *dir, other))
+    match opened.dirs.get(opened.first) {
+        Some(first) if is_outside(tree, *first, other) => true,
+        _ => opened.dirs.iter().any(|dir| is_outside(tree, *dir, other)),
+    }
+}
+
+/// The place of a living directory that stands least deep among these, if there is any.
+fn shallowest<T: FileTree>(tree: &T, dirs: &[NodeId]) -> usize
+    ensures { (place : ℕ) → place < length dirs.now →
+        depth_of (T.content tree.now) (get_or dirs.now result 0)
+        ≤ depth_of (T.content tree.now) (get_or dirs.now place 0) }
+{
+    let mut first = 0;
+    let mut least = usize::MAX;
+    for (place, dir) in dirs.iter().enumerate() {
+        let count = depth(tree, *dir);
+        if count < least {
+            first = place;
+            least = count;
+        }
+    }
+    first
+}
+
+/// How many directories a climb from a living one to the root meets, as far as they can be counted;
+/// the greatest number for what is no living directory.
+fn depth<T: FileTree>(tree: &T, dir: NodeId) -> usize
+    ensures { result ≡ depth_of (T.content tree.now) dir }
+{
+    tree.known();
+    let mut at = dir;
+    let mut count: usize = 1;
+    while at != NodeId::ROOT {
+        let Some(above) = tree.parent(at) else {
+            return usize::MAX;
+        };
+        at = above;
+        count = count.saturating_add(1);
+    }
+    count
 }
 
 /// Whether a name in a directory can come to be free: nothing stands there, or what does has `c`.

@@ -1,6 +1,7 @@
 //! What decides the calls of the lines.
 
-ghost use Rattle.std.specs.Prelude.{◌≡◌, ◌&&◌, Option, option_map, true, not, is_none, if◌then◌else◌, ◌==◌, IfOk};
+ghost use Rattle.std.specs.Prelude.{◌≡◌, ◌&&◌, Option, option_map, true, not, is_none};
+ghost use Rattle.std.specs.Prelude.{if◌then◌else◌, ◌==◌, IfOk};
 ghost use Rattle.std.specs.List.{list_any};
 ghost use Rattle.pua_tree.specs.Tree.{Tree, WellFormed, empty_tree, is_dir as lives_as_dir};
 ghost use Rattle.pua_tree.specs.declared.node.Kind.{Kind};
@@ -14,9 +15,13 @@ ghost use Rattle.pua_policy.specs.Objects.{object_seen};
 ghost use Rattle.pua_policy.specs.Verdict.{IsDir, object_of_kind};
 ghost use Rattle.pua_script.specs.Confinement.{has_c as cover_has_c};
 ghost use Rattle.pua_objects.specs.Items.{SubjectFits, IsItemOn};
-ghost use Rattle.pua_objects.specs.Objects.{Subject as About, At, Others, cover_in as cover_of_others};
-ghost use Rattle.pua_ever.specs.Ever.{may_edit as edits_tree, is_yes as says_yes, edit_calls, can_make, is_allowed_under, is_ever_allowed, is_new_allowed, is_named_way, own_spot};
-ghost use Rattle.pua_ever.specs.EverReady.{IsProspects, AreOnFreed, new_of, own_given, kind_allowed, kind_covers};
+ghost use Rattle.pua_objects.specs.Objects.{Subject as About, At, Others};
+ghost use Rattle.pua_objects.specs.Objects.{cover_in as cover_of_others};
+ghost use Rattle.pua_ever.specs.Ever.{may_edit as edits_tree, is_yes as says_yes, edit_calls};
+ghost use Rattle.pua_ever.specs.Ever.{can_make, is_allowed_under, is_ever_allowed, is_new_allowed};
+ghost use Rattle.pua_ever.specs.Ever.{is_named_way, own_spot};
+ghost use Rattle.pua_ever.specs.EverReady.{IsProspects, AreOnFreed, new_of, own_given};
+ghost use Rattle.pua_ever.specs.EverReady.{kind_allowed, kind_covers};
 ghost use Rattle.pua_ever.specs.Laws.{EditsNeedC};
 
 use crate::made::Made;
@@ -71,7 +76,8 @@ fn may_edit(process: &Process, table: &CallTable) -> bool
 /// Whether a process holds the promises of one of the five calls that make a name or take one away.
 fn may_call(process: &Process, table: &CallTable) -> bool
     ensures { (h : History) → StandsFor process.now h →
-        result ≡ list_any (λ edit. says_yes (may_any_of h (rule_of table.now edit).alternatives)) edit_calls }
+        result ≡ list_any (λ edit. says_yes (may_any_of h
+        (rule_of table.now edit).alternatives)) edit_calls }
 {
     const EDITS: [Call; 5] = [
         Call::Create,
@@ -87,7 +93,8 @@ fn may_call(process: &Process, table: &CallTable) -> bool
 
 /// Whether a process holds one of these sets of promises.
 fn may_any(process: &Process, alternatives: &[Promises]) -> bool
-    ensures { (h : History) → StandsFor process.now h → result ≡ says_yes (may_any_of h alternatives.now) }
+    ensures { (h : History) → StandsFor process.now h →
+        result ≡ says_yes (may_any_of h alternatives.now) }
 {
     process.may_any(alternatives) == May::Yes
 }
@@ -120,8 +127,10 @@ impl Prospects {
         ensures { (t : Tree) (h : History) (way : Way) → EditsNeedC table.now →
             StandsFor process.now h → IsProspects t table.now h self.now →
             lives_as_dir t dir ≡ true → is_named ≡ is_named_way way →
-            item.now.cover ≡ cover_of_others t h dir → item.now.object ≡ object_seen t (IsDir dir way) →
-            (call : AnyCall) → has result call ≡ is_ever_allowed t table.now h (At (Whole dir way)) call }
+            item.now.cover ≡ cover_of_others t h dir →
+            item.now.object ≡ object_seen t (IsDir dir way) →
+            (call : AnyCall) →
+            has result call ≡ is_ever_allowed t table.now h (At (Whole dir way)) call }
     {
         let emptied = self.can_empty(dir, is_named);
         if self.moves_dir(process, dir, &item.cover) {
@@ -146,7 +155,8 @@ impl Prospects {
     /// The calls on a name at which no directory stands, by what does.
     fn on_name(&self, process: &Process, table: &CallTable, cover: &Cover, object: Object) -> Calls
         ensures { (t : Tree) (h : History) (kind : Option Kind) → StandsFor process.now h →
-            IsProspects t table.now h self.now → object ≡ object_seen empty_tree (object_of_kind kind) →
+            IsProspects t table.now h self.now →
+            object ≡ object_seen empty_tree (object_of_kind kind) →
             (call : AnyCall) → has result call ≡ kind_allowed t table.now h cover.now kind call }
     {
         let calls = self.on_plain(process, table, cover, object);
@@ -160,9 +170,11 @@ impl Prospects {
     /// The same, of a link with the calls on what it leads to.
     fn on_plain(&self, process: &Process, table: &CallTable, cover: &Cover, object: Object) -> Calls
         ensures { (t : Tree) (h : History) (kind : Option Kind) → StandsFor process.now h →
-            IsProspects t table.now h self.now → object ≡ object_seen empty_tree (object_of_kind kind) →
+            IsProspects t table.now h self.now →
+            object ≡ object_seen empty_tree (object_of_kind kind) →
             (call : AnyCall) → has result call
-            ≡ is_allowed_under table.now h (kind_covers t table.now h cover.now kind) (object_of_kind kind) call }
+            ≡ is_allowed_under table.now h (kind_covers t table.now h cover.now kind)
+            (object_of_kind kind) call }
     {
         if object != Object::Missing && self.may_edit && has_c(*cover) {
             return self.movable.on(object);
@@ -178,7 +190,8 @@ impl Prospects {
         table: &CallTable,
         item: &Item<'_>,
     ) -> Calls
-        ensures { (t : Tree) (h : History) (about : About) → WellFormed t → StandsFor process.now h →
+        ensures { (t : Tree) (h : History) (about : About) → WellFormed t →
+            StandsFor process.now h →
             IsProspects t table.now h self.now → SubjectFits t about → IsItemOn t h about item.now →
             AreOnFreed t table.now h (own_spot about) result }
     {
@@ -197,7 +210,8 @@ impl Prospects {
     /// The calls on what can be made; none where it can't.
     pub(crate) fn calls_on_made(&self, made: Made) -> Calls
         ensures { (t : Tree) (table : Table) (h : History) → IsProspects t table h self.now →
-            (call : AnyCall) → has result call ≡ ((edits_tree table h && can_make t table h (new_of made))
+            (call : AnyCall) →
+            has result call ≡ ((edits_tree table h && can_make t table h (new_of made))
             && is_new_allowed t table h (new_of made) call) }
     {
         if !self.may_edit || !self.movable.made.contains(made.maker()) {
@@ -214,7 +228,8 @@ impl Prospects {
     /// Whether a directory, by a name if it has one, can be removed once it is empty, and can come
     /// to be so if it has `c`.
     fn can_empty(&self, dir: NodeId, is_named: bool) -> bool
-        ensures { result ≡ (is_named && not (list_any (λ other. other == dir) self.now.held.items)) }
+        ensures { result
+            ≡ (is_named && not (list_any (λ other. other == dir) self.now.held.items)) }
     {
         is_named && !self.held.contains(&dir)
     }
@@ -243,7 +258,8 @@ impl Prospects {
 /// The name at which what an item is about stands; None for the root, for further names, and where
 /// nothing stands.
 fn own_name<'t>(item: &Item<'t>) -> Option<(NodeId, &'t Name)>
-    ensures { option_map (λ own. (own.0, own.1.now)) result ≡ own_given item.now.subject item.now.object }
+    ensures { option_map (λ own. (own.0, own.1.now)) result
+        ≡ own_given item.now.subject item.now.object }
 {
     match item.subject {
         Subject::Root | Subject::Others(_) => None,

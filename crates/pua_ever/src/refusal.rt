@@ -4,7 +4,8 @@ ghost use Rattle.std.specs.Prelude.{◌≡◌, ◌⊎◌, true, None, Option, fi
 ghost use Rattle.pua_policy.specs.History.{History, StandsFor, is_ended};
 ghost use Rattle.pua_script.specs.Laws.{IsConfined};
 ghost use Rattle.pua_ever.specs.Laws.{EditsNeedC};
-ghost use Rattle.pua_ever.specs.Refusals.{lacks_c, changing_calls, both_need_c as pair_needs_c, refusal as refusal_of};
+ghost use Rattle.pua_ever.specs.Refusals.{lacks_c, changing_calls, both_need_c as pair_needs_c};
+ghost use Rattle.pua_ever.specs.Refusals.{refusal as refusal_of};
 
 use pua_policy::{Call, CallTable, May, PairNeed, Perms, Process, Promises};
 

@@ -5,7 +5,7 @@ use Rattle.std.proofs.KnownBytes.{Appends-nil, Appends-trans}
 use Rattle.pua_tool.specs.Sinks.{Adds, AddsFront, HasFailed, Writes}
 use Rattle.pua_tool.specs.Blocks.{HandsOn, Passes}
 use Rattle.pua_tool.specs.declared.sink.PutFault.{PutFault}
-use Rattle.pua_tool.proofs.Putting.{writes_then, writes_front, writes_by_put}
+use Rattle.pua_tool.proofs.Putting.{writes_then, writes_front}
 
 -- no text
 pub passes_none : (block : List ℕ) (a : Option (List ℕ)) (n : ℕ) → Passes [] (Ok tt) block block a a n n
@@ -82,18 +82,6 @@ pub passing_last : (text rest first old mid new : List ℕ) (r : Result (Unit {0
 passing_last text rest first old mid new r a b c n m k begun is last =
     subst (λ t. Passes t r old new a c n k) (sym (begun.parts ∙ ap (λ t. begun.done ++ t) is)) (passes_then begun.done first old mid new r a b c n m k begun.passes last)
 
--- the block with the last of a text is put
-pub passing_put : (text rest block : List ℕ) (r : Result (Unit {0}) PutFault) (a b c : Option (List ℕ)) (n m k : ℕ)
-    → Passing text rest [] block a b n m → rest ≡ [] → OnOk r (Adds block b c) → OnOk r (k ≡ m) → OnErr r (AddsFront block b c) → OnErr r (HasFailed m k) → Writes text r a c n k
-passing_put text rest block r a b c n m k begun none adds unfailed front failed =
-    subst (λ t. Writes t r a c n k) (sym (begun.parts ∙ ap (λ t. begun.done ++ t) none ∙ append-nil begun.done ∙ begun.passes.0.parts))
-    (writes_then begun.passes.0.text block r a b c n m k begun.passes.0.adds begun.passes.1 (writes_by_put block r b c m k adds unfailed front failed))
-
--- a part could not be added, before the last block was put
-pub passing_unput : (text rest first more mid new : List ℕ) (fault : PutFault) (a b c : Option (List ℕ)) (n m k : ℕ)
-    → Passing text rest [] mid a b n m → rest ≡ first ++ more → Passes first (Err fault) mid new b c m k → Writes text (Err fault) a c n k
-passing_unput text rest first more mid new fault a b c n m k begun is next = passing_fails text rest first more [] mid new [] fault a b c n m k begun is next
-
 -- a block that is put, and then a text of its own
 pub passes_put : (text old new : List ℕ) (r : Result (Unit {0}) PutFault) (a b c : Option (List ℕ)) (n m k : ℕ)
     → Adds old a b → m ≡ n → new ≡ [] → OnOk r (Adds text b c) → OnOk r (k ≡ m) → OnErr r (AddsFront text b c) → OnErr r (HasFailed m k) → Passes text r old new a c n k
@@ -107,7 +95,7 @@ passes_put text old new (Ok done) a b c n m k adds same empty whole unfailed fro
 )
 passes_put text old new (Err fault) a b c n m k adds same empty whole unfailed front failed = writes_then old text (Err fault) a b c n m k adds same (front, failed)
 
--- a text of its own in an empty block, which is put
-pub passes_written : (text block : List ℕ) (r : Result (Unit {0}) PutFault) (a b c : Option (List ℕ)) (n m k : ℕ)
-    → Passes text (Ok tt) [] block a b n m → OnOk r (Adds block b c) → OnOk r (k ≡ m) → OnErr r (AddsFront block b c) → OnErr r (HasFailed m k) → Writes text r a c n k
-passes_written text block r a b c n m k added = passing_put text [] block r a b c n m k (record { done = text; parts = sym (append-nil text); passes = added }) refl
+-- a text is added, and all that the block then holds is put
+pub passes_written : (text old block : List ℕ) (r : Result (Unit {0}) PutFault) (a b c : Option (List ℕ)) (n m k : ℕ) → Passes text (Ok tt) old block a b n m → Writes block r b c m k → Writes (old ++ text) r a c n k
+passes_written text old block r a b c n m k added put =
+    subst (λ t. Writes t r a c n k) (sym added.0.parts) (writes_then added.0.text block r a b c n m k added.0.adds added.1 put)

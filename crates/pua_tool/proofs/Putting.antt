@@ -75,15 +75,3 @@ pub writes_by_put : (text : List ℕ) (r : Result (Unit {0}) PutFault) (a b : Op
     → OnOk r (Adds text a b) → OnOk r (after ≡ before) → OnErr r (AddsFront text a b) → OnErr r (HasFailed before after) → Writes text r a b before after
 writes_by_put text (Ok done) a b before after adds same front failed = (adds, same)
 writes_by_put text (Err fault) a b before after adds same front failed = (front, failed)
-
--- a further part was put
-pub has_put_next : (text first rest : List ℕ) (a b c : Option (List ℕ)) → HasPut text (first ++ rest) a b → Adds first b c → HasPut text rest a c
-has_put_next text first rest a b c put adds =
-    record { done = put.done ++ first; parts = put.parts ∙ sym (append_assoc put.done first rest); adds = Appends-trans a b c put.done first put.adds adds }
-
--- the writing of a further part failed
-pub has_put_fails : (text first rest : List ℕ) (fault : PutFault) (a b c : Option (List ℕ)) (before between after : ℕ)
-    → HasPut text (first ++ rest) a b → between ≡ before → Writes first (Err fault) b c between after → Writes text (Err fault) a c before after
-has_put_fails text first rest fault a b c before between after put same failed =
-    subst (λ t. Writes t (Err fault) a c before after) (sym put.parts)
-    (writes_then put.done (first ++ rest) (Err fault) a b c before between after put.adds same (writes_front first rest fault b c between after failed))

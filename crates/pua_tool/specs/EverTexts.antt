@@ -69,3 +69,7 @@ pub record IsUnanswered (answer : Result (List ℕ) ToolFault) (fault : ToolFaul
 abbrev pub Answers : Result (List ℕ) ToolFault → Result (Unit {0}) ToolFault → Option (List ℕ) → Option (List ℕ) → ℕ → ℕ → Type 0
 Answers answer (Ok done) old new before after = (text : List ℕ) × (answer ≡ Ok text) × Adds text old new × (after ≡ before)
 Answers answer (Err fault) old new before after = IsUnanswered answer fault old new before after
+
+-- the same, of a sink of which this is known
+abbrev pub AnswersTo : {A : Type 0} → (A → Option (List ℕ)) → (A → ℕ) → Result (List ℕ) ToolFault → Result (Unit {0}) ToolFault → A → A → Type 0
+AnswersTo written failed answer r a b = Answers answer r (written a) (written b) (failed a) (failed b)

@@ -56,3 +56,7 @@ IsUntold text fault old new before after = ⊥
 abbrev pub Tells : List ℕ → Result (Unit {0}) ToolFault → Option (List ℕ) → Option (List ℕ) → ℕ → ℕ → Type 0
 Tells text (Ok done) old new before after = Adds text old new × (after ≡ before)
 Tells text (Err fault) old new before after = IsUntold text fault old new before after
+
+-- the same, of a sink of which this is known
+abbrev pub TellsTo : {A : Type 0} → (A → Option (List ℕ)) → (A → ℕ) → List ℕ → Result (Unit {0}) ToolFault → A → A → Type 0
+TellsTo written failed text r a b = Tells text r (written a) (written b) (failed a) (failed b)

@@ -35,3 +35,7 @@ pub record Memory : Type 0 where
 abbrev pub Writes : List ℕ → Result (Unit {0}) PutFault → Option (List ℕ) → Option (List ℕ) → ℕ → ℕ → Type 0
 Writes text (Ok done) old new before after = Adds text old new × (after ≡ before)
 Writes text (Err fault) old new before after = AddsFront text old new × HasFailed before after
+
+-- the same, of a sink of which this is known
+abbrev pub WritesTo : {A : Type 0} → (A → Option (List ℕ)) → (A → ℕ) → List ℕ → Result (Unit {0}) PutFault → A → A → Type 0
+WritesTo written failed text r a b = Writes text r (written a) (written b) (failed a) (failed b)

@@ -23,7 +23,8 @@ pub(crate) fn answer_text(alloc: Global, told: &[Answer]) -> Result<String, Allo
 
 /// Adds the line of an answer to a request whose number has these digits.
 fn push_answer(text: &mut String, digits: &str, answer: Answer) -> Result<(), AllocError>
-    ensures { OnOk result (string_bytes text.new ≡ string_bytes text.old ++ ended (digits.now ++ 32 ∷ answer_word answer)) }
+    ensures { OnOk result (string_bytes text.new ≡ string_bytes text.old ++ ended (digits.now
+        ++ 32 ∷ answer_word answer)) }
 {
     text.push_str(digits)?;
     text.push_str(" ")?;
@@ -49,7 +50,8 @@ pub(crate) fn front_text(
     process: u32,
     after: Option<&[u8]>,
 ) -> Result<String, AllocError>
-    ensures { IfOk result (λ text. string_bytes text ≡ front_of (option_map (λ s. s.now) after.entry) process told.now) }
+    ensures { IfOk result (λ text. string_bytes text
+        ≡ front_of (option_map (λ s. s.now) after.entry) process told.now) }
 {
     if after.is_some() {
         return Ok(String::new(alloc));

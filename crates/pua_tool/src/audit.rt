@@ -1,16 +1,17 @@
 //! The text of an audit.
 
-ghost use Rattle.std.specs.Prelude.{◌≡◌, ◌≢◌, ◌≤◌, ◌++◌, ℕ, List, [], Ok, Err, IfOk, IfErr, OnOk, vec_capacity};
+ghost use Rattle.std.specs.Prelude.{◌≡◌, ◌≢◌, ◌++◌, ℕ, List, [], Ok, Err, IfOk, IfErr, OnOk};
 ghost use Rattle.pua_tool.specs.Texts.{Begun, given, wanted, begun, audit_text, pair_lines};
 ghost use Rattle.pua_tool.specs.Begun.{IsBegun, text_left};
-ghost use Rattle.pua_tool.specs.Sinks.{Adds, AddsFront, HasFailed, Writes};
+ghost use Rattle.pua_tool.specs.Sinks.{Adds, AddsFront, HasFailed, WritesTo};
 
 use crate::answers::front_text;
+use crate::block::Block;
 use crate::fault::ToolFault;
 use crate::job::Job;
-use crate::line::{BLOCK, write_lines};
+use crate::line::add_pairs;
 use crate::script::{ProgramTree, Replay, replay_script};
-use crate::sink::{PutFault, Sink, put_all};
+use crate::sink::{PutFault, Sink};
 use pua_audit::{Audit, AuditFault};
 use pua_path::{Counted, Probe};
 use pua_script::{Answer, World};
@@ -33,34 +34,43 @@ pub fn audit_to<S: Sink>(
     job: &Job<'_>,
     sink: &mut S,
 ) -> Result<(), ToolFault>
-    ensures whole { OnOk result ((text : List ℕ) × (audit_text (given job.now.table) tree_bytes.now script_bytes.now (wanted job.now) ≡ Ok text) × Adds text (S.written sink.old) (S.written sink.new)) }
+    ensures whole { OnOk result ((text : List ℕ)
+        × (audit_text (given job.now.table) tree_bytes.now script_bytes.now (wanted job.now)
+        ≡ Ok text) × Adds text (S.written sink.old) (S.written sink.new)) }
     ensures unfailed { OnOk result (S.failed sink.new ≡ S.failed sink.old) }
-    ensures write { result ≡ Err ToolFault.Write → (text : List ℕ) × (audit_text (given job.now.table) tree_bytes.now script_bytes.now (wanted job.now) ≡ Ok text)
-        × AddsFront text (S.written sink.old) (S.written sink.new) × HasFailed (S.failed sink.old) (S.failed sink.new) }
-    ensures refused { IfErr result (λ fault. fault ≢ ToolFault.Write → fault ≢ ToolFault.OutOfMemory →
-        (audit_text (given job.now.table) tree_bytes.now script_bytes.now (wanted job.now) ≡ Err fault)) }
-    ensures unwritten { IfErr result (λ fault. fault ≢ ToolFault.Write → S.written sink.new ≡ S.written sink.old) }
+    ensures write { result ≡ Err ToolFault.Write → (text : List ℕ)
+        × (audit_text (given job.now.table) tree_bytes.now script_bytes.now (wanted job.now)
+        ≡ Ok text)
+        × AddsFront text (S.written sink.old) (S.written sink.new)
+        × HasFailed (S.failed sink.old) (S.failed sink.new) }
+    ensures refused { IfErr result (λ fault. fault ≢ ToolFault.Write →
+        fault ≢ ToolFault.OutOfMemory →
+        (audit_text (given job.now.table) tree_bytes.now script_bytes.now (wanted job.now)
+        ≡ Err fault)) }
+    ensures unwritten { IfErr result (λ fault. fault ≢ ToolFault.Write →
+        S.written sink.new ≡ S.written sink.old) }
 {
     let mut audited = begin(alloc, tree_bytes, script_bytes, job)?;
     audited.write(alloc, job, sink)
 }
 
-/// Writes the front of a text, and then a line for each pair that the audit has still to give. The
-/// front is put before the audit is asked for its first pair.
+/// Writes what a block holds, then the front of a text, and then a line for each pair that the audit
+/// has still to give. The front is put before the audit is asked for its first pair.
 fn write_text<'t, P: Probe<'t>, S: Sink>(
     audit: &mut Audit,
     probe: &mut P,
     front: &str,
-    block: &mut Vec<u8>,
+    block: &mut Block,
     sink: &mut S,
 ) -> Result<(), PutFault>
     requires tree { P.tree probe.old ≡ audit.old.tree }
-    requires empty { block.old.items ≡ [] }
-    requires room { BLOCK ≤ vec_capacity block.old }
-    ensures { Writes (front.now ++ pair_lines audit.old.base audit.old.left) result (S.written sink.old) (S.written sink.new) (S.failed sink.old) (S.failed sink.new) }
+    ensures { WritesTo S.written S.failed
+        (block.old ++ (front.now ++ pair_lines audit.old.base audit.old.left))
+        result sink.old sink.new }
 {
-    put_all(sink, front.as_bytes())?;
-    write_lines(audit, probe, block, sink)
+    block.add_text(front.as_bytes(), sink)?;
+    add_pairs(audit, probe, block, sink)?;
+    block.put(sink)
 }
 
 /// A script's answers, the world that it left, and the audit of a process in it.
@@ -81,18 +91,23 @@ impl Audited {
         sink: &mut S,
     ) -> Result<(), ToolFault>
         requires { self.old.world.tree ≡ self.old.audit.tree }
-        ensures whole { OnOk result (Adds (text_left (wanted job.now) self.old) (S.written sink.old) (S.written sink.new)) }
+        ensures whole { OnOk result (Adds (text_left (wanted job.now) self.old)
+            (S.written sink.old) (S.written sink.new)) }
         ensures unfailed { OnOk result (S.failed sink.new ≡ S.failed sink.old) }
-        ensures write { result ≡ Err ToolFault.Write → AddsFront (text_left (wanted job.now) self.old) (S.written sink.old) (S.written sink.new)
+        ensures write { result ≡ Err ToolFault.Write →
+            AddsFront (text_left (wanted job.now) self.old) (S.written sink.old)
+            (S.written sink.new)
             × HasFailed (S.failed sink.old) (S.failed sink.new) }
-        ensures memory { IfErr result (λ fault. fault ≢ ToolFault.Write → fault ≡ ToolFault.OutOfMemory) }
-        ensures unwritten { IfErr result (λ fault. fault ≢ ToolFault.Write → S.written sink.new ≡ S.written sink.old) }
+        ensures memory { IfErr result (λ fault. fault ≢ ToolFault.Write →
+            fault ≡ ToolFault.OutOfMemory) }
+        ensures unwritten { IfErr result (λ fault. fault ≢ ToolFault.Write →
+            S.written sink.new ≡ S.written sink.old) }
     {
         let told = self.told.as_slice();
         let Ok(front) = front_text(alloc, told, job.process, job.after) else {
             return Err(ToolFault::OutOfMemory);
         };
-        let Ok(mut block) = Vec::with_capacity(alloc, BLOCK) else {
+        let Ok(mut block) = Block::new(alloc) else {
             return Err(ToolFault::OutOfMemory);
         };
         let mut probe = Counted::new(self.world.tree());
@@ -116,8 +131,12 @@ fn begin(
     script_bytes: &[u8],
     job: &Job<'_>,
 ) -> Result<Audited, ToolFault>
-    ensures begun { IfOk result (λ audited. (b : Begun) × (begun (given job.now.table) tree_bytes.now script_bytes.now (wanted job.now) ≡ Ok b) × IsBegun audited b) }
-    ensures refused { IfErr result (λ fault. fault ≢ ToolFault.OutOfMemory → (begun (given job.now.table) tree_bytes.now script_bytes.now (wanted job.now) ≡ Err fault)) }
+    ensures begun { IfOk result (λ audited. (b : Begun)
+        × (begun (given job.now.table) tree_bytes.now script_bytes.now (wanted job.now) ≡ Ok b)
+        × IsBegun audited b) }
+    ensures refused { IfErr result (λ fault. fault ≢ ToolFault.OutOfMemory →
+        (begun (given job.now.table) tree_bytes.now script_bytes.now (wanted job.now)
+        ≡ Err fault)) }
     ensures unwritten { IfErr result (λ fault. fault ≢ ToolFault.Write) }
 {
     let Replay { world, told } = replay_script(alloc, tree_bytes, script_bytes, job.table)?;

@@ -8,7 +8,8 @@ ghost use Rattle.pua_words.specs.declared.command.Command.{Command};
 ghost use Rattle.pua_tool.specs.Performed.{HasAnswered, HasEnded, HasHalted, IsRefused};
 ghost use Rattle.pua_tool.specs.Sinks.{Adds, AddsFront, HasFailed};
 ghost use Rattle.pua_tool.specs.Texts.{ended};
-ghost use Rattle.pua_tool.specs.Told.{IsTold, Shows, ShowsFront, TellsStatus, TellsUsage, cannot_write};
+ghost use Rattle.pua_tool.specs.Told.{IsTold, Shows, ShowsFront, TellsStatus, TellsUsage};
+ghost use Rattle.pua_tool.specs.Told.{cannot_write};
 
 use crate::fault::ToolFault;
 use crate::inputs::Inputs;
@@ -30,12 +31,17 @@ pub fn program<I: Inputs, W: Write + Drop, E: Sink>(
     out: &mut StreamSink<BufWriter<W>>,
     err: &mut E,
 ) -> u8
-    ensures done { result ≡ DONE → HasAnswered (I.holds inputs.old) (writer_contents W.contents out.old.0) (writer_contents W.contents out.new.0) }
-    ensures refused { result ≡ REFUSED → (c : Command) × AsksSoundly c.text × IsRefused (I.holds inputs.old) c }
-    ensures usage { result ≡ USAGE → IsTold (ended (line_text (line_for (map (λ word. word.now) words.now))))
+    ensures done { result ≡ DONE →
+        HasAnswered (I.holds inputs.old) (writer_contents W.contents out.old.0)
+        (writer_contents W.contents out.new.0) }
+    ensures refused { result ≡ REFUSED → (c : Command) × AsksSoundly c.text
+        × IsRefused (I.holds inputs.old) c }
+    ensures usage { result ≡ USAGE →
+        IsTold (ended (line_text (line_for (map (λ word. word.now) words.now))))
         (E.written err.old) (E.written err.new) (E.failed err.old) (E.failed err.new) }
     ensures device { result ≡ DEVICE → HasEnded (I.holds inputs.old)
-        (writer_contents W.contents out.old.0) (writer_contents W.contents out.new.0) out.old.1 out.new.1 }
+        (writer_contents W.contents out.old.0)
+        (writer_contents W.contents out.new.0) out.old.1 out.new.1 }
     ensures told { result ≢ DONE → TellsStatus result
         (E.written err.old) (E.written err.new) (E.failed err.old) (E.failed err.new) }
     ensures handed { result ≡ DONE → writer_buffer out.new.0 ≡ [] }
@@ -55,7 +61,8 @@ fn at_end<E: Sink>(status: u8, flushed: Result<(), PutFault>, err: &mut E) -> u8
     ensures stopped { status ≢ DONE → result ≡ status }
     ensures device { OnErr flushed (status ≡ DONE → result ≡ DEVICE) }
     ensures told { OnErr flushed (status ≡ DONE →
-        IsTold cannot_write (E.written err.old) (E.written err.new) (E.failed err.old) (E.failed err.new)) }
+        IsTold cannot_write (E.written err.old) (E.written err.new) (E.failed err.old)
+        (E.failed err.new)) }
     ensures reported { result ≢ status → TellsStatus result
         (E.written err.old) (E.written err.new) (E.failed err.old) (E.failed err.new) }
     ensures quiet { OnOk flushed (err.new ≡ err.old) }
@@ -82,9 +89,12 @@ pub fn command<I: Inputs, O: Sink, E: Sink>(
     out: &mut O,
     err: &mut E,
 ) -> u8
-    ensures done { result ≡ DONE → HasAnswered (I.holds inputs.old) (O.written out.old) (O.written out.new) }
-    ensures refused { result ≡ REFUSED → (c : Command) × AsksSoundly c.text × IsRefused (I.holds inputs.old) c }
-    ensures usage { result ≡ USAGE → IsTold (ended (line_text (line_for (map (λ word. word.now) words.now))))
+    ensures done { result ≡ DONE →
+        HasAnswered (I.holds inputs.old) (O.written out.old) (O.written out.new) }
+    ensures refused { result ≡ REFUSED → (c : Command) × AsksSoundly c.text
+        × IsRefused (I.holds inputs.old) c }
+    ensures usage { result ≡ USAGE →
+        IsTold (ended (line_text (line_for (map (λ word. word.now) words.now))))
         (E.written err.old) (E.written err.new) (E.failed err.old) (E.failed err.new) }
     ensures device { result ≡ DEVICE → HasHalted (I.holds inputs.old)
         (O.written out.old) (O.written out.new) (O.failed out.old) (O.failed out.new) }
@@ -104,10 +114,16 @@ pub fn command<I: Inputs, O: Sink, E: Sink>(
 /// Writes the text about the program that the words ask for, or tells why there is nothing to do.
 fn stopped<O: Sink, E: Sink>(stop: &Stop, out: &mut O, err: &mut E) -> u8
     ensures shown { result ≡ DONE → Shows stop.now (O.written out.old) (O.written out.new) }
-    ensures cut { result ≡ DEVICE → ShowsFront stop.now (O.written out.old) (O.written out.new) (O.failed out.old) (O.failed out.new) }
-    ensures usage { result ≡ USAGE → TellsUsage stop.now (E.written err.old) (E.written err.new) (E.failed err.old) (E.failed err.new) }
+    ensures cut { result ≡ DEVICE →
+        ShowsFront stop.now (O.written out.old) (O.written out.new) (O.failed out.old)
+        (O.failed out.new) }
+    ensures usage { result ≡ USAGE →
+        TellsUsage stop.now (E.written err.old) (E.written err.new) (E.failed err.old)
+        (E.failed err.new) }
     ensures memory { stop.now ≡ Stop.OutOfMemory → result ≡ MEMORY }
-    ensures told { result ≢ DONE → TellsStatus result (E.written err.old) (E.written err.new) (E.failed err.old) (E.failed err.new) }
+    ensures told { result ≢ DONE →
+        TellsStatus result (E.written err.old) (E.written err.new) (E.failed err.old)
+        (E.failed err.new) }
     ensures unrefused { result ≢ REFUSED }
     ensures statuses { result ≤ MEMORY }
     ensures unwritten { result ≢ DONE → result ≢ DEVICE → O.written out.new ≡ O.written out.old }
@@ -126,7 +142,9 @@ fn show<O: Sink, E: Sink>(text: &str, out: &mut O, err: &mut E) -> u8
     ensures whole { result ≡ DONE → Adds text.now (O.written out.old) (O.written out.new) }
     ensures front { result ≢ DONE → AddsFront text.now (O.written out.old) (O.written out.new) }
     ensures failed { result ≢ DONE → HasFailed (O.failed out.old) (O.failed out.new) }
-    ensures told { result ≢ DONE → TellsStatus result (E.written err.old) (E.written err.new) (E.failed err.old) (E.failed err.new) }
+    ensures told { result ≢ DONE →
+        TellsStatus result (E.written err.old) (E.written err.new) (E.failed err.old)
+        (E.failed err.new) }
     ensures status { result ≢ DONE → result ≡ DEVICE }
     ensures unfailed { result ≡ DONE → O.failed out.new ≡ O.failed out.old }
     ensures quiet { result ≡ DONE → err.new ≡ err.old }

@@ -1,22 +1,22 @@
 //! The text of the list for ever of a process.
 
-ghost use Rattle.std.specs.Prelude.{◌≡◌, ◌≢◌, ◌≤◌, ◌++◌, ℕ, List, [], Ok, Err, IfErr, OnOk, vec_capacity};
+ghost use Rattle.std.specs.Prelude.{◌≡◌, ◌≢◌, ◌++◌, ℕ, List, Ok, Err, IfErr, OnOk};
 ghost use Rattle.pua_policy.specs.Calls.{CallTable as Rules};
 ghost use Rattle.pua_policy.specs.History.{History};
 ghost use Rattle.pua_tool.specs.Begun.{IsReplay};
 ghost use Rattle.pua_tool.specs.EverLists.{IsEverListOf};
-ghost use Rattle.pua_tool.specs.EverTexts.{Answers, ever_after, ever_list, ever_text};
+ghost use Rattle.pua_tool.specs.EverTexts.{AnswersTo, ever_after, ever_list, ever_text};
 ghost use Rattle.pua_tool.specs.Texts.{Replayed, given};
-ghost use Rattle.pua_tool.specs.Sinks.{Adds, AddsFront, HasFailed, Writes};
+ghost use Rattle.pua_tool.specs.Sinks.{Adds, AddsFront, HasFailed, WritesTo};
 
 use crate::answers::answer_text;
+use crate::block::Block;
 use crate::ever_list::EverList;
 use crate::fault::ToolFault;
-use crate::line::BLOCK;
 use crate::objects::told;
 use crate::places::Places;
 use crate::script::{Replay, replay_script};
-use crate::sink::{PutFault, Sink, put_all};
+use crate::sink::{PutFault, Sink};
 use pua_tree::FileTree;
 use std::alloc::Global;
 
@@ -43,13 +43,19 @@ pub fn ever_to<S: Sink>(
     process: u32,
     sink: &mut S,
 ) -> Result<(), ToolFault>
-    ensures whole { OnOk result ((text : List ℕ) × (ever_text (given table.entry) tree_bytes.now script_bytes.now process ≡ Ok text) × Adds text (S.written sink.old) (S.written sink.new)) }
+    ensures whole { OnOk result ((text : List ℕ)
+        × (ever_text (given table.entry) tree_bytes.now script_bytes.now process ≡ Ok text)
+        × Adds text (S.written sink.old) (S.written sink.new)) }
     ensures unfailed { OnOk result (S.failed sink.new ≡ S.failed sink.old) }
-    ensures write { result ≡ Err ToolFault.Write → (text : List ℕ) × (ever_text (given table.entry) tree_bytes.now script_bytes.now process ≡ Ok text)
-        × AddsFront text (S.written sink.old) (S.written sink.new) × HasFailed (S.failed sink.old) (S.failed sink.new) }
-    ensures refused { IfErr result (λ fault. fault ≢ ToolFault.Write → fault ≢ ToolFault.OutOfMemory →
+    ensures write { result ≡ Err ToolFault.Write → (text : List ℕ)
+        × (ever_text (given table.entry) tree_bytes.now script_bytes.now process ≡ Ok text)
+        × AddsFront text (S.written sink.old) (S.written sink.new)
+        × HasFailed (S.failed sink.old) (S.failed sink.new) }
+    ensures refused { IfErr result (λ fault. fault ≢ ToolFault.Write →
+        fault ≢ ToolFault.OutOfMemory →
         (ever_text (given table.entry) tree_bytes.now script_bytes.now process ≡ Err fault)) }
-    ensures unwritten { IfErr result (λ fault. fault ≢ ToolFault.Write → S.written sink.new ≡ S.written sink.old) }
+    ensures unwritten { IfErr result (λ fault. fault ≢ ToolFault.Write →
+        S.written sink.new ≡ S.written sink.old) }
 {
     let replay = replay_script(alloc, tree_bytes, script_bytes, table)?;
     list_to(alloc, &replay, process, sink)
@@ -63,8 +69,8 @@ fn list_to<S: Sink>(
     number: u32,
     sink: &mut S,
 ) -> Result<(), ToolFault>
-    ensures { (done : Replayed) → IsReplay replay.now done → Answers (ever_after done number) result
-        (S.written sink.old) (S.written sink.new) (S.failed sink.old) (S.failed sink.new) }
+    ensures { (done : Replayed) → IsReplay replay.now done →
+        AnswersTo S.written S.failed (ever_after done number) result sink.old sink.new }
 {
     let world = &replay.world;
     let Some(process) = world.process(number) else {
@@ -77,27 +83,28 @@ fn list_to<S: Sink>(
     let Ok(mut places) = Places::new(alloc, world.tree()) else {
         return Err(ToolFault::OutOfMemory);
     };
-    let Ok(mut block) = Vec::with_capacity(alloc, BLOCK) else {
+    let Ok(mut block) = Block::new(alloc) else {
         return Err(ToolFault::OutOfMemory);
     };
     told(write_list(front.as_str(), &mut list, &mut places, &mut block, sink))
 }
 
-/// Writes the front of a text, and then a list: the front before any line of it, and many lines in a
-/// block.
+/// Writes what a block holds, then the front of a text, and then a list: the front before any line of
+/// it, and many lines in the block.
 fn write_list<'t, T: FileTree, S: Sink>(
     front: &str,
     list: &mut EverList<'t, T>,
     places: &mut Places<'t, T>,
-    block: &mut Vec<u8>,
+    block: &mut Block,
     sink: &mut S,
 ) -> Result<(), PutFault>
-    requires empty { block.old.items ≡ [] }
-    requires room { BLOCK ≤ vec_capacity block.old }
-    ensures { (table : Rules) (process : ℕ) (h : History) → IsEverListOf table places.old.tree process h list.old → Writes (front.now ++ ever_list table places.old.tree process h) result
-        (S.written sink.old) (S.written sink.new) (S.failed sink.old) (S.failed sink.new) }
+    ensures { (table : Rules) (process : ℕ) (h : History) →
+        IsEverListOf table places.old.tree process h list.old →
+        WritesTo S.written S.failed
+        (block.old ++ (front.now ++ ever_list table places.old.tree process h))
+        result sink.old sink.new }
 {
-    put_all(sink, front.as_bytes())?;
+    block.add_text(front.as_bytes(), sink)?;
     list.add_to(block, places, sink)?;
-    put_all(sink, block.as_slice())
+    block.put(sink)
 }

@@ -1,18 +1,18 @@
 //! The lines of a list for ever, added to a block.
 
-ghost use Rattle.std.specs.Prelude.{◌≡◌, ◌≤◌, ◌++◌, ◌∷◌, codes, map, vec_capacity};
+ghost use Rattle.std.specs.Prelude.{◌++◌, ◌∷◌, codes, map};
 ghost use Rattle.pua_policy.specs.Calls.{call_name};
 ghost use Rattle.pua_policy.specs.CallSets.{calls_in};
 ghost use Rattle.pua_policy.specs.History.{History, StandsFor};
 ghost use Rattle.pua_ever.specs.EverLines.{lines_of};
 ghost use Rattle.pua_objects.specs.Lines.{kind_word};
 ghost use Rattle.pua_objects.specs.Objects.{with_commas};
-ghost use Rattle.pua_tool.specs.Blocks.{Passes};
+ghost use Rattle.pua_tool.specs.Blocks.{PassesOn};
 ghost use Rattle.pua_tool.specs.EverTexts.{ever_lines, kind_of, path_or_new};
 ghost use Rattle.pua_tool.specs.Texts.{ended};
 
-use crate::line::BLOCK;
-use crate::object_line::{add_bytes, add_calls, add_line, kind_bytes};
+use crate::block::Block;
+use crate::object_line::{add_calls, add_line, kind_bytes};
 use crate::sink::{PutFault, Sink};
 use pua_ever::{Ever, EverLine, EverThing};
 use pua_objects::{ObjectKind, ObjectLine};
@@ -22,14 +22,14 @@ use pua_tree::{FileTree, Name};
 /// Adds a line for each thing that a list for ever has still to give. A block is put where the next
 /// part of a line might not fit, and its memory is used again.
 pub(crate) fn add_ever<T: FileTree, S: Sink>(
-    block: &mut Vec<u8>,
+    block: &mut Block,
     list: &mut Ever<'_, T>,
     sink: &mut S,
 ) -> Result<(), PutFault>
-    requires { BLOCK ≤ vec_capacity block.old }
-    ensures lines { (h : History) → StandsFor list.old.process h → Passes (ever_lines list.old.tree (lines_of list.old.tree list.old.table h list.old.left)) result
-        block.old.items block.new.items (S.written sink.old) (S.written sink.new) (S.failed sink.old) (S.failed sink.new) }
-    ensures room { BLOCK ≤ vec_capacity block.new }
+    ensures { (h : History) → StandsFor list.old.process h →
+        PassesOn S.written S.failed
+        (ever_lines list.old.tree (lines_of list.old.tree list.old.table h list.old.left))
+        result block.old block.new sink.old sink.new }
 {
     while let Some(line) = list.next_line() {
         add_thing(block, line, list.word(), sink)?;
@@ -39,15 +39,15 @@ pub(crate) fn add_ever<T: FileTree, S: Sink>(
 
 /// Adds the line of a thing, which stands at the end of these names, or is still to be made.
 fn add_thing<S: Sink>(
-    block: &mut Vec<u8>,
+    block: &mut Block,
     line: EverLine,
     word: &[&Name],
     sink: &mut S,
 ) -> Result<(), PutFault>
-    requires { BLOCK ≤ vec_capacity block.old }
-    ensures line { Passes (ended (kind_word (kind_of line.thing) ++ 32 ∷ path_or_new line.thing (map (λ name. name.now) word.now) ++ 32 ∷ with_commas (map call_name (calls_in line.calls)))) result
-        block.old.items block.new.items (S.written sink.old) (S.written sink.new) (S.failed sink.old) (S.failed sink.new) }
-    ensures room { BLOCK ≤ vec_capacity block.new }
+    ensures { PassesOn S.written S.failed
+        (ended (kind_word (kind_of line.thing) ++ 32 ∷ path_or_new line.thing (map
+        (λ name. name.now) word.now) ++ 32 ∷ with_commas (map call_name (calls_in line.calls))))
+        result block.old block.new sink.old sink.new }
 {
     match line.thing {
         EverThing::Stands(kind) => {
@@ -60,17 +60,17 @@ fn add_thing<S: Sink>(
 
 /// Adds the line of a thing of this kind that is still to be made.
 fn add_coming<S: Sink>(
-    block: &mut Vec<u8>,
+    block: &mut Block,
     kind: ObjectKind,
     calls: Calls,
     sink: &mut S,
 ) -> Result<(), PutFault>
-    requires { BLOCK ≤ vec_capacity block.old }
-    ensures line { Passes (ended (kind_word kind ++ 32 ∷ codes "new" ++ 32 ∷ with_commas (map call_name (calls_in calls)))) result
-        block.old.items block.new.items (S.written sink.old) (S.written sink.new) (S.failed sink.old) (S.failed sink.new) }
-    ensures room { BLOCK ≤ vec_capacity block.new }
+    ensures { PassesOn S.written S.failed
+        (ended (kind_word kind ++ 32 ∷ codes "new" ++ 32 ∷ with_commas (map call_name
+        (calls_in calls))))
+        result block.old block.new sink.old sink.new }
 {
-    add_bytes(block, kind_bytes(kind), sink)?;
-    add_bytes(block, b"new ", sink)?;
+    block.add(kind_bytes(kind), sink)?;
+    block.add(b"new ", sink)?;
     add_calls(block, calls, sink)
 }

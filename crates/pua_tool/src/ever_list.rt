@@ -1,16 +1,16 @@
 //! The list for ever of a process: its heading, its state, and what it can ever touch.
 
-ghost use Rattle.std.specs.Prelude.{◌≡◌, ◌≢◌, ◌≤◌, ℕ, List, Err, IfErr, IfOk, vec_capacity};
+ghost use Rattle.std.specs.Prelude.{◌≡◌, ◌≢◌, ℕ, List, Err, IfErr, IfOk};
 ghost use Rattle.pua_policy.specs.Calls.{CallTable as Rules};
 ghost use Rattle.pua_policy.specs.History.{History, StandsFor};
 ghost use Rattle.pua_ever.specs.Refusals.{refusal_in};
-ghost use Rattle.pua_tool.specs.Blocks.{Passes};
+ghost use Rattle.pua_tool.specs.Blocks.{PassesOn};
 ghost use Rattle.pua_tool.specs.EverLists.{IsEverListOf, IsUnlisted};
 ghost use Rattle.pua_tool.specs.EverTexts.{ever_fault, ever_list, unless_refused};
 
+use crate::block::Block;
 use crate::ever_line::add_ever;
 use crate::fault::ToolFault;
-use crate::line::BLOCK;
 use crate::places::Places;
 use crate::process_head::ProcessHead;
 use crate::sink::{PutFault, Sink};
@@ -46,8 +46,10 @@ impl<'t, T: FileTree> EverList<'t, T> {
         number: u32,
         process: &'t Process,
     ) -> Result<EverList<'t, T>, ToolFault>
-        ensures begun { IfOk result (λ list. (h : History) → StandsFor process.now h → IsEverListOf table.now (T.content tree.now) number h list) }
-        ensures refused { IfErr result (λ fault. fault ≢ ToolFault.OutOfMemory → IsUnlisted table.now process.now number fault) }
+        ensures begun { IfOk result (λ list. (h : History) → StandsFor process.now h →
+            IsEverListOf table.now (T.content tree.now) number h list) }
+        ensures refused { IfErr result (λ fault. fault ≢ ToolFault.OutOfMemory →
+            IsUnlisted table.now process.now number fault) }
         ensures unwritten { IfErr result (λ fault. fault ≢ ToolFault.Write) }
     {
         let Ok(head) = ProcessHead::begin(alloc, "ever", number, process) else {
@@ -62,13 +64,15 @@ impl<'t, T: FileTree> EverList<'t, T> {
     /// Adds the list to a block, and takes its lines.
     pub(crate) fn add_to<S: Sink>(
         &mut self,
-        block: &mut Vec<u8>,
+        block: &mut Block,
         places: &mut Places<'t, T>,
         sink: &mut S,
     ) -> Result<(), PutFault>
-        requires { BLOCK ≤ vec_capacity block.old }
-        ensures { (table : Rules) (process : ℕ) (h : History) → IsEverListOf table places.old.tree process h self.old → Passes (ever_list table places.old.tree process h) result
-            block.old.items block.new.items (S.written sink.old) (S.written sink.new) (S.failed sink.old) (S.failed sink.new) }
+        ensures { (table : Rules) (process : ℕ) (h : History) →
+            IsEverListOf table places.old.tree process h self.old →
+            PassesOn S.written S.failed
+            (ever_list table places.old.tree process h)
+            result block.old block.new sink.old sink.new }
     {
         self.head.add_to(block, places, sink)?;
         add_ever(block, &mut self.ever, sink)
@@ -77,7 +81,8 @@ impl<'t, T: FileTree> EverList<'t, T> {
 
 /// Why the list for ever of the process with this number was not begun, as the tool reports it.
 fn fault_of(number: u32, fault: EverFault) -> ToolFault
-    ensures told { (text : List ℕ) → result ≢ ToolFault.OutOfMemory → unless_refused number (refusal_in fault) text ≡ Err result }
+    ensures told { (text : List ℕ) → result ≢ ToolFault.OutOfMemory →
+        unless_refused number (refusal_in fault) text ≡ Err result }
     ensures unwritten { result ≢ ToolFault.Write }
 {
     match fault {

@@ -1,6 +1,7 @@
 //! Inputs by name.
 
-ghost use Rattle.std.specs.Prelude.{◌≡◌, ◌↔◌, ◌≤◌, ℕ, List, Option, None, Some, IfOk, Err, map, option_map, length};
+ghost use Rattle.std.specs.Prelude.{◌≡◌, ◌↔◌, ◌≤◌, ℕ, List, Option, None, Some, IfOk, Err, map};
+ghost use Rattle.std.specs.Prelude.{option_map, length};
 ghost use Rattle.pua_tool.specs.Held.{Holds, HoldsNothing};
 ghost use Rattle.pua_tool.specs.Named.{kept_under};
 
@@ -31,7 +32,8 @@ pub trait Inputs {
     /// it was read is not said after a fault.
     fn take(&mut self, alloc: Global, name: &str) -> Result<Vec<u8>, InputFault>
         ensures held { IfOk result (λ bytes. Holds (holds self.old) name.now bytes.items) }
-        ensures nothing { result ≡ Err InputFault.Unreadable → HoldsNothing (holds self.old) name.now }
+        ensures nothing { result ≡ Err InputFault.Unreadable →
+            HoldsNothing (holds self.old) name.now }
         ensures unchanged { holds self.new ≡ holds self.old };
 }
 
@@ -66,7 +68,8 @@ impl Inputs for MemoryInputs<'_> {
     /// such name.
     fn take(&mut self, alloc: Global, name: &str) -> Result<Vec<u8>, InputFault>
         ensures held { IfOk result (λ bytes. kept_under name.now self.old ≡ Some bytes.items) }
-        ensures nothing { (result ≡ Err InputFault.Unreadable) ↔ (kept_under name.now self.old ≡ None) }
+        ensures nothing { (result ≡ Err InputFault.Unreadable)
+            ↔ (kept_under name.now self.old ≡ None) }
         ensures unchanged { self.new ≡ self.old }
     {
         match first_named(self.entries, name) {
@@ -77,7 +80,8 @@ impl Inputs for MemoryInputs<'_> {
 }
 
 fn first_named<'a>(entries: &'a [(&'a str, &'a [u8])], name: &str) -> Option<&'a [u8]>
-    ensures { option_map (λ bytes. bytes.now) result ≡ kept_under name.now (map (λ entry. (entry.0.now, entry.1.now)) entries.entry.now) }
+    ensures { option_map (λ bytes. bytes.now) result
+        ≡ kept_under name.now (map (λ entry. (entry.0.now, entry.1.now)) entries.entry.now) }
 {
     for (known, bytes) in entries {
         if *known == name {

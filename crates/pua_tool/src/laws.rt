@@ -4,7 +4,8 @@
 ghost use Rattle.std.specs.Prelude.{◌≡◌};
 ghost use Rattle.pua_tool.specs.Alike.{AnswersAlike, LinesAlike};
 ghost use Rattle.pua_tool.specs.Examples.{TextRows};
-ghost use Rattle.pua_tool.specs.Futures.{Confinement, ConfinementAsRead, Narrowing, NarrowingAsRead, NarrowingNow};
+ghost use Rattle.pua_tool.specs.Futures.{Confinement, ConfinementAsRead, Narrowing};
+ghost use Rattle.pua_tool.specs.Futures.{NarrowingAsRead, NarrowingNow};
 ghost use Rattle.pua_tool.specs.States.{ConfinedIsPrinted};
 ghost use Rattle.pua_script.specs.Futures.{StandardTableNarrows};
 ghost use Rattle.pua_script.specs.Tightening.{OthersLeave, OthersLeaveAlways};

@@ -4,6 +4,7 @@
 
 mod answers;
 mod audit;
+mod block;
 mod cli;
 mod ever;
 mod ever_line;

@@ -1,23 +1,24 @@
 //! The text of the lists of processes.
 
-ghost use Rattle.std.specs.Prelude.{◌≡◌, ◌≢◌, ◌≤◌, ◌++◌, ℕ, List, [], Option, Ok, Err, IfOk, IfErr, OnOk, vec_capacity};
+ghost use Rattle.std.specs.Prelude.{◌≡◌, ◌≢◌, ◌++◌, ℕ, List, [], Option, Ok, Err, IfOk, IfErr};
+ghost use Rattle.std.specs.Prelude.{OnOk};
 ghost use Rattle.pua_policy.specs.Calls.{CallTable as Rules};
 ghost use Rattle.pua_script.specs.Replay.{World as Replayed};
 ghost use Rattle.pua_script.specs.Worlds.{StandsForWorld};
 ghost use Rattle.pua_words.specs.declared.command.Processes.TheVariants as which;
-ghost use Rattle.pua_tool.specs.Blocks.{Passes};
+ghost use Rattle.pua_tool.specs.Blocks.{PassesOn};
 ghost use Rattle.pua_tool.specs.Lists.{AreListsOf};
-ghost use Rattle.pua_tool.specs.ObjectTexts.{Tells, lists_of, numbers_asked, objects_text};
+ghost use Rattle.pua_tool.specs.ObjectTexts.{Tells, TellsTo, lists_of, numbers_asked, objects_text};
 ghost use Rattle.pua_tool.specs.Texts.{given};
-ghost use Rattle.pua_tool.specs.Sinks.{Adds, AddsFront, HasFailed, Writes};
+ghost use Rattle.pua_tool.specs.Sinks.{Adds, AddsFront, HasFailed, Writes, WritesTo};
 
 use crate::answers::answer_text;
+use crate::block::Block;
 use crate::fault::ToolFault;
-use crate::line::BLOCK;
 use crate::places::Places;
 use crate::process_list::ProcessList;
 use crate::script::{Replay, replay_script};
-use crate::sink::{PutFault, Sink, put_all};
+use crate::sink::{PutFault, Sink};
 use pua_script::World;
 use pua_tree::{FileTree, OutOfMemory};
 use pua_words::Processes;
@@ -50,13 +51,19 @@ pub fn objects_to<S: Sink>(
     processes: Processes,
     sink: &mut S,
 ) -> Result<(), ToolFault>
-    ensures whole { OnOk result ((text : List ℕ) × (objects_text (given table.entry) tree_bytes.now script_bytes.now processes ≡ Ok text) × Adds text (S.written sink.old) (S.written sink.new)) }
+    ensures whole { OnOk result ((text : List ℕ)
+        × (objects_text (given table.entry) tree_bytes.now script_bytes.now processes
+        ≡ Ok text) × Adds text (S.written sink.old) (S.written sink.new)) }
     ensures unfailed { OnOk result (S.failed sink.new ≡ S.failed sink.old) }
-    ensures write { result ≡ Err ToolFault.Write → (text : List ℕ) × (objects_text (given table.entry) tree_bytes.now script_bytes.now processes ≡ Ok text)
-        × AddsFront text (S.written sink.old) (S.written sink.new) × HasFailed (S.failed sink.old) (S.failed sink.new) }
-    ensures refused { IfErr result (λ fault. fault ≢ ToolFault.Write → fault ≢ ToolFault.OutOfMemory →
+    ensures write { result ≡ Err ToolFault.Write → (text : List ℕ)
+        × (objects_text (given table.entry) tree_bytes.now script_bytes.now processes ≡ Ok text)
+        × AddsFront text (S.written sink.old) (S.written sink.new)
+        × HasFailed (S.failed sink.old) (S.failed sink.new) }
+    ensures refused { IfErr result (λ fault. fault ≢ ToolFault.Write →
+        fault ≢ ToolFault.OutOfMemory →
         (objects_text (given table.entry) tree_bytes.now script_bytes.now processes ≡ Err fault)) }
-    ensures unwritten { IfErr result (λ fault. fault ≢ ToolFault.Write → S.written sink.new ≡ S.written sink.old) }
+    ensures unwritten { IfErr result (λ fault. fault ≢ ToolFault.Write →
+        S.written sink.new ≡ S.written sink.old) }
 {
     let Replay { world, told } = replay_script(alloc, tree_bytes, script_bytes, table)?;
     let numbers = numbers_of(alloc, &world, processes)?;
@@ -73,8 +80,10 @@ fn numbers_of<T: FileTree>(
     world: &World<T>,
     processes: Processes,
 ) -> Result<Vec<u32>, ToolFault>
-    ensures asked { IfOk result (λ numbers. (w : Replayed) → StandsForWorld world.now w → numbers_asked w processes ≡ Ok numbers.items) }
-    ensures refused { IfErr result (λ fault. fault ≢ ToolFault.OutOfMemory → (w : Replayed) → StandsForWorld world.now w → numbers_asked w processes ≡ Err fault) }
+    ensures asked { IfOk result (λ numbers. (w : Replayed) → StandsForWorld world.now w →
+        numbers_asked w processes ≡ Ok numbers.items) }
+    ensures refused { IfErr result (λ fault. fault ≢ ToolFault.OutOfMemory → (w : Replayed) →
+        StandsForWorld world.now w → numbers_asked w processes ≡ Err fault) }
     ensures unwritten { IfErr result (λ fault. fault ≢ ToolFault.Write) }
 {
     match processes {
@@ -92,8 +101,10 @@ fn one_number<T: FileTree>(
     world: &World<T>,
     number: u32,
 ) -> Result<Vec<u32>, ToolFault>
-    ensures asked { IfOk result (λ numbers. (w : Replayed) → StandsForWorld world.now w → numbers_asked w (which.One number) ≡ Ok numbers.items) }
-    ensures refused { IfErr result (λ fault. fault ≢ ToolFault.OutOfMemory → (w : Replayed) → StandsForWorld world.now w → numbers_asked w (which.One number) ≡ Err fault) }
+    ensures asked { IfOk result (λ numbers. (w : Replayed) → StandsForWorld world.now w →
+        numbers_asked w (which.One number) ≡ Ok numbers.items) }
+    ensures refused { IfErr result (λ fault. fault ≢ ToolFault.OutOfMemory → (w : Replayed) →
+        StandsForWorld world.now w → numbers_asked w (which.One number) ≡ Err fault) }
     ensures unwritten { IfErr result (λ fault. fault ≢ ToolFault.Write) }
 {
     if world.process(number).is_none() {
@@ -115,8 +126,10 @@ fn lists_to<T: FileTree, S: Sink>(
     front: &str,
     sink: &mut S,
 ) -> Result<(), ToolFault>
-    ensures { (w : Replayed) → StandsForWorld world.now w → Tells (front.now ++ lists_of world.now.table w numbers.now) result
-        (S.written sink.old) (S.written sink.new) (S.failed sink.old) (S.failed sink.new) }
+    ensures { (w : Replayed) → StandsForWorld world.now w →
+        TellsTo S.written S.failed
+        (front.now ++ lists_of world.now.table w numbers.now)
+        result sink.old sink.new }
 {
     let Ok(mut lists) = begin_lists(alloc, world, numbers) else {
         return Err(ToolFault::OutOfMemory);
@@ -124,7 +137,7 @@ fn lists_to<T: FileTree, S: Sink>(
     let Ok(mut places) = Places::new(alloc, world.tree()) else {
         return Err(ToolFault::OutOfMemory);
     };
-    let Ok(mut block) = Vec::with_capacity(alloc, BLOCK) else {
+    let Ok(mut block) = Block::new(alloc) else {
         return Err(ToolFault::OutOfMemory);
     };
     told(write_text(front, &mut lists, &mut places, &mut block, sink))
@@ -137,7 +150,8 @@ fn begin_lists<'t, T: FileTree>(
     world: &'t World<T>,
     numbers: &[u32],
 ) -> Result<VecDeque<ProcessList<'t, T>>, OutOfMemory>
-    ensures { IfOk result (λ lists. (w : Replayed) → StandsForWorld world.now w → AreListsOf world.now.table w numbers.now lists.items) }
+    ensures { IfOk result (λ lists. (w : Replayed) → StandsForWorld world.now w →
+        AreListsOf world.now.table w numbers.now lists.items) }
 {
     let mut lists = VecDeque::new(alloc);
     for number in numbers {
@@ -154,7 +168,8 @@ fn begin_lists<'t, T: FileTree>(
 
 /// What a writing left, as the tool reports it.
 pub(crate) fn told(written: Result<(), PutFault>) -> Result<(), ToolFault>
-    ensures { (text : List ℕ) (a b : Option (List ℕ)) (n m : ℕ) → Writes text written a b n m → Tells text result a b n m }
+    ensures { (text : List ℕ) (a b : Option (List ℕ)) (n m : ℕ) → Writes text written a b n m →
+        Tells text result a b n m }
 {
     match written {
         Ok(()) => Ok(()),
@@ -162,35 +177,38 @@ pub(crate) fn told(written: Result<(), PutFault>) -> Result<(), ToolFault>
     }
 }
 
-/// Writes the front of a text, and then lists, one after another: the front before any line of
-/// them, and many lines in a block.
+/// Writes what a block holds, then the front of a text, and then lists, one after another: the front
+/// before any line of them, and many lines in the block.
 fn write_text<'t, T: FileTree, S: Sink>(
     front: &str,
     lists: &mut VecDeque<ProcessList<'t, T>>,
     places: &mut Places<'t, T>,
-    block: &mut Vec<u8>,
+    block: &mut Block,
     sink: &mut S,
 ) -> Result<(), PutFault>
-    requires empty { block.old.items ≡ [] }
-    requires room { BLOCK ≤ vec_capacity block.old }
-    ensures { (table : Rules) (w : Replayed) (numbers : List ℕ) → places.old.tree ≡ w.tree → AreListsOf table w numbers lists.old.items → Writes (front.now ++ lists_of table w numbers) result
-        (S.written sink.old) (S.written sink.new) (S.failed sink.old) (S.failed sink.new) }
+    ensures { (table : Rules) (w : Replayed) (numbers : List ℕ) → places.old.tree ≡ w.tree →
+        AreListsOf table w numbers lists.old.items →
+        WritesTo S.written S.failed
+        (block.old ++ (front.now ++ lists_of table w numbers))
+        result sink.old sink.new }
 {
-    put_all(sink, front.as_bytes())?;
+    block.add_text(front.as_bytes(), sink)?;
     add_lists(block, lists, places, sink)?;
-    put_all(sink, block.as_slice())
+    block.put(sink)
 }
 
 /// Adds lists to a block, one after another.
 fn add_lists<'t, T: FileTree, S: Sink>(
-    block: &mut Vec<u8>,
+    block: &mut Block,
     lists: &mut VecDeque<ProcessList<'t, T>>,
     places: &mut Places<'t, T>,
     sink: &mut S,
 ) -> Result<(), PutFault>
-    requires { BLOCK ≤ vec_capacity block.old }
-    ensures { (table : Rules) (w : Replayed) (numbers : List ℕ) → places.old.tree ≡ w.tree → AreListsOf table w numbers lists.old.items → Passes (lists_of table w numbers) result
-        block.old.items block.new.items (S.written sink.old) (S.written sink.new) (S.failed sink.old) (S.failed sink.new) }
+    ensures { (table : Rules) (w : Replayed) (numbers : List ℕ) → places.old.tree ≡ w.tree →
+        AreListsOf table w numbers lists.old.items →
+        PassesOn S.written S.failed
+        (lists_of table w numbers)
+        result block.old block.new sink.old sink.new }
 {
     while let Some(mut list) = lists.pop_front() {
         list.add_to(block, places, sink)?;

@@ -1,7 +1,7 @@
 //! How a command ends: with which line, and with which status.
 
 ghost use Rattle.std.specs.Prelude.{◌≡◌, IfErr, OnOk};
-ghost use Rattle.pua_tool.specs.Sinks.{Writes};
+ghost use Rattle.pua_tool.specs.Sinks.{Adds, Writes};
 ghost use Rattle.pua_tool.specs.Statuses.{fault_status, status_after};
 ghost use Rattle.pua_tool.specs.Texts.{ended};
 ghost use Rattle.pua_tool.specs.Told.{IsFaultTold, TellsFault};
@@ -37,7 +37,8 @@ impl CommandFault<'_> {
 
     /// Writes the line that tells of the fault.
     fn tell<E: Sink>(&self, err: &mut E) -> Result<(), PutFault>
-        ensures { TellsFault self.now result (E.written err.old) (E.written err.new) (E.failed err.old) (E.failed err.new) }
+        ensures { TellsFault self.now result (E.written err.old) (E.written err.new)
+            (E.failed err.old) (E.failed err.new) }
     {
         match self {
             CommandFault::Usage(line) => put_line(err, line.text()),
@@ -57,7 +58,8 @@ impl CommandFault<'_> {
 
 /// Writes a line and its end.
 fn put_line<E: Sink>(err: &mut E, line: &str) -> Result<(), PutFault>
-    ensures { Writes (ended line.now) result (E.written err.old) (E.written err.new) (E.failed err.old) (E.failed err.new) }
+    ensures { Writes (ended line.now) result (E.written err.old) (E.written err.new)
+        (E.failed err.old) (E.failed err.new) }
 {
     put_all(err, line.as_bytes())?;
     put_all(err, "\n".as_bytes())
@@ -68,7 +70,8 @@ fn put_line<E: Sink>(err: &mut E, line: &str) -> Result<(), PutFault>
 pub(crate) fn finish<E: Sink>(done: Result<(), CommandFault<'_>>, err: &mut E) -> u8
     ensures status { result ≡ status_after done.entry }
     ensures quiet { OnOk done.entry (err.new ≡ err.old) }
-    ensures told { IfErr done.entry (λ fault. IsFaultTold fault (E.written err.old) (E.written err.new) (E.failed err.old) (E.failed err.new)) }
+    ensures told { IfErr done.entry (λ fault. IsFaultTold fault (E.written err.old)
+        (E.written err.new) (E.failed err.old) (E.failed err.new)) }
 {
     match done {
         Ok(()) => DONE,
@@ -86,6 +89,8 @@ struct Report<'e, E: Sink> {
 }
 
 impl<E: Sink> Write for Report<'_, E> {
+    ghost write_str_gives = { λ old text new. Adds text (E.written old.sink.now) (E.written new.sink.now) };
+
     fn write_str(&mut self, text: &str) -> fmt::Result {
         put_all(self.sink, text.as_bytes()).map_err(|_| fmt::Error)
     }

@@ -1,6 +1,7 @@
 //! Where the places of veils stand now.
 
-ghost use Rattle.std.specs.Prelude.{◌≡◌, ◌<◌, ◌≤◌, ◌+◌, ◌++◌, IfOk, length, map, option_map, reverse, vec_capacity, vec_len};
+ghost use Rattle.std.specs.Prelude.{◌≡◌, ◌<◌, ◌≤◌, ◌+◌, ◌++◌, IfOk, length, map, option_map};
+ghost use Rattle.std.specs.Prelude.{reverse, vec_capacity, vec_len};
 ghost use Rattle.pua_tree.specs.LentRows.{lent_entry};
 ghost use Rattle.pua_tree.specs.Tree.{Tree, is_dir, spot_of};
 ghost use Rattle.pua_tool.specs.States.{names_up, own_name, place_dir, place_names};
@@ -70,7 +71,8 @@ impl<'t, T: FileTree> Places<'t, T> {
 fn add_own_name<'t>(place: &'t Place, names: &mut Vec<&'t Name>) -> NodeId
     requires room { vec_len names.old < vec_capacity names.old }
     ensures dir { result ≡ place_dir place.now }
-    ensures names { map (λ name. name.now) names.new.items ≡ map (λ name. name.now) names.old.items ++ own_name place.now }
+    ensures names { map (λ name. name.now) names.new.items
+        ≡ map (λ name. name.now) names.old.items ++ own_name place.now }
     ensures short { vec_len names.new ≤ vec_len names.old + 1 }
     ensures room { vec_capacity names.new ≡ vec_capacity names.old }
 {
@@ -86,7 +88,9 @@ fn add_own_name<'t>(place: &'t Place, names: &mut Vec<&'t Name>) -> NodeId
 /// Adds the names of a directory and of those above it, up to the root.
 fn add_names_over<'t>(rows: &[LentRow<'t>], dir: NodeId, names: &mut Vec<&'t Name>)
     requires room { vec_len names.old + length rows.now ≤ vec_capacity names.old }
-    ensures names { (t : Tree) → map lent_entry rows.now ≡ t.rows → map (λ name. name.now) names.new.items ≡ map (λ name. name.now) names.old.items ++ names_up (length rows.now) t dir }
+    ensures names { (t : Tree) → map lent_entry rows.now ≡ t.rows →
+        map (λ name. name.now) names.new.items ≡ map (λ name. name.now) names.old.items
+        ++ names_up (length rows.now) t dir }
     ensures room { vec_capacity names.new ≡ vec_capacity names.old }
 {
     let mut at = dir;
@@ -101,7 +105,8 @@ fn add_names_over<'t>(rows: &[LentRow<'t>], dir: NodeId, names: &mut Vec<&'t Nam
 
 /// The row in which a directory stands.
 fn row_of<'r, 't>(rows: &'r [LentRow<'t>], dir: NodeId) -> Option<&'r LentRow<'t>>
-    ensures { (t : Tree) → map lent_entry rows.now ≡ t.rows → option_map (λ row. (lent_entry row.now).0) result ≡ spot_of t dir }
+    ensures { (t : Tree) → map lent_entry rows.now ≡ t.rows →
+        option_map (λ row. (lent_entry row.now).0) result ≡ spot_of t dir }
 {
     rows.iter().find(|row| row.node == dir)
 }

@@ -1,14 +1,14 @@
 //! What stands before the lines of a list: its heading, and the state of its process.
 
-ghost use Rattle.std.specs.Prelude.{◌≡◌, ◌≤◌, ◌++◌, [], ℕ, List, IfOk, map, vec_capacity};
+ghost use Rattle.std.specs.Prelude.{◌≡◌, ◌++◌, [], ℕ, List, IfOk, map};
 ghost use Rattle.pua_policy.specs.History.{History, StandsFor};
-ghost use Rattle.pua_tool.specs.Blocks.{Passes};
+ghost use Rattle.pua_tool.specs.Blocks.{PassesOn};
 ghost use Rattle.pua_tool.specs.Lists.{IsHeadOf};
 ghost use Rattle.pua_tool.specs.States.{head_lines, living_veils};
 
-use crate::line::BLOCK;
+use crate::block::Block;
 use crate::places::Places;
-use crate::sink::{PutFault, Sink, put_all};
+use crate::sink::{PutFault, Sink};
 use crate::state::head_text;
 use crate::veil_line::add_veils;
 use pua_policy::{Perms, Place, Process};
@@ -41,7 +41,8 @@ impl<'t> ProcessHead<'t> {
         number: u32,
         process: &'t Process,
     ) -> Result<ProcessHead<'t>, OutOfMemory>
-        ensures { IfOk result (λ head. (h : History) → StandsFor process.now h → IsHeadOf title.now number h head) }
+        ensures { IfOk result (λ head. (h : History) → StandsFor process.now h →
+            IsHeadOf title.now number h head) }
     {
         let Ok(text) = head_text(alloc, title, number, process) else {
             return Err(OutOfMemory);
@@ -53,38 +54,29 @@ impl<'t> ProcessHead<'t> {
     /// Adds the heading and the state to a block.
     pub(crate) fn add_to<T: FileTree, S: Sink>(
         &self,
-        block: &mut Vec<u8>,
+        block: &mut Block,
         places: &mut Places<'t, T>,
         sink: &mut S,
     ) -> Result<(), PutFault>
-        requires { BLOCK ≤ vec_capacity block.old }
-        ensures head { (title : List ℕ) (process : ℕ) (h : History) → IsHeadOf title process h self.now → Passes (head_lines places.old.tree title process h) result
-            block.old.items block.new.items (S.written sink.old) (S.written sink.new) (S.failed sink.old) (S.failed sink.new) }
+        ensures head { (title : List ℕ) (process : ℕ) (h : History) →
+            IsHeadOf title process h self.now →
+            PassesOn S.written S.failed
+            (head_lines places.old.tree title process h)
+            result block.old block.new sink.old sink.new }
         ensures tree { places.new.tree ≡ places.old.tree }
-        ensures room { BLOCK ≤ vec_capacity block.new }
     {
-        add_text(block, self.text.as_bytes(), sink)?;
+        block.add_text(self.text.as_bytes(), sink)?;
         add_veils(block, self.veils.as_slice(), places, sink)
     }
 }
 
 /// The veils of a process that has not ended.
 fn veils_of_living(alloc: Global, process: &Process) -> Result<Vec<(&Place, &Perms)>, OutOfMemory>
-    ensures { IfOk result (λ veils. (h : History) → StandsFor process.now h → map (λ veil. (veil.0.now, veil.1.now)) veils.items ≡ living_veils h) }
+    ensures { IfOk result (λ veils. (h : History) → StandsFor process.now h →
+        map (λ veil. (veil.0.now, veil.1.now)) veils.items ≡ living_veils h) }
 {
     if process.ended() {
         return Ok(Vec::new(alloc));
     }
     process.veils(alloc)
-}
-
-/// Adds a text of any length, by putting the block and the text.
-fn add_text<S: Sink>(block: &mut Vec<u8>, text: &[u8], sink: &mut S) -> Result<(), PutFault>
-    ensures text { Passes text.now result
-        block.old.items block.new.items (S.written sink.old) (S.written sink.new) (S.failed sink.old) (S.failed sink.new) }
-    ensures room { vec_capacity block.new ≡ vec_capacity block.old }
-{
-    put_all(sink, block.as_slice())?;
-    block.clear();
-    put_all(sink, text)
 }

@@ -1,13 +1,13 @@
 //! The list of a process: its heading, its state, and its objects.
 
-ghost use Rattle.std.specs.Prelude.{◌≡◌, ◌≤◌, ℕ, IfOk, vec_capacity};
+ghost use Rattle.std.specs.Prelude.{◌≡◌, ℕ, IfOk};
 ghost use Rattle.pua_policy.specs.Calls.{CallTable as Rules};
 ghost use Rattle.pua_policy.specs.History.{History, StandsFor};
-ghost use Rattle.pua_tool.specs.Blocks.{Passes};
+ghost use Rattle.pua_tool.specs.Blocks.{PassesOn};
 ghost use Rattle.pua_tool.specs.Lists.{IsListOf};
 ghost use Rattle.pua_tool.specs.ObjectTexts.{process_list};
 
-use crate::line::BLOCK;
+use crate::block::Block;
 use crate::object_line::add_objects;
 use crate::places::Places;
 use crate::process_head::ProcessHead;
@@ -42,7 +42,8 @@ impl<'t, T: FileTree> ProcessList<'t, T> {
         number: u32,
         process: &'t Process,
     ) -> Result<ProcessList<'t, T>, OutOfMemory>
-        ensures { IfOk result (λ list. (h : History) → StandsFor process.now h → IsListOf table.now (T.content tree.now) number h list) }
+        ensures { IfOk result (λ list. (h : History) → StandsFor process.now h →
+            IsListOf table.now (T.content tree.now) number h list) }
     {
         let head = ProcessHead::begin(alloc, "objects", number, process)?;
         let objects = Objects::begin(alloc, tree, process, table)?;
@@ -52,15 +53,16 @@ impl<'t, T: FileTree> ProcessList<'t, T> {
     /// Adds the list to a block, and takes its lines.
     pub(crate) fn add_to<S: Sink>(
         &mut self,
-        block: &mut Vec<u8>,
+        block: &mut Block,
         places: &mut Places<'t, T>,
         sink: &mut S,
     ) -> Result<(), PutFault>
-        requires { BLOCK ≤ vec_capacity block.old }
-        ensures list { (table : Rules) (process : ℕ) (h : History) → IsListOf table places.old.tree process h self.old → Passes (process_list table places.old.tree process h) result
-            block.old.items block.new.items (S.written sink.old) (S.written sink.new) (S.failed sink.old) (S.failed sink.new) }
+        ensures list { (table : Rules) (process : ℕ) (h : History) →
+            IsListOf table places.old.tree process h self.old →
+            PassesOn S.written S.failed
+            (process_list table places.old.tree process h)
+            result block.old block.new sink.old sink.new }
         ensures tree { places.new.tree ≡ places.old.tree }
-        ensures room { BLOCK ≤ vec_capacity block.new }
     {
         self.head.add_to(block, places, sink)?;
         add_objects(block, &mut self.objects, sink)

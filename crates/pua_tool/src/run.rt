@@ -24,13 +24,19 @@ pub fn run_to<S: Sink>(
     table: Option<&[u8]>,
     sink: &mut S,
 ) -> Result<(), ToolFault>
-    ensures whole { OnOk result ((text : List ℕ) × (run_text (given table.entry) tree_bytes.now script_bytes.now ≡ Ok text) × Adds text (S.written sink.old) (S.written sink.new)) }
+    ensures whole { OnOk result ((text : List ℕ)
+        × (run_text (given table.entry) tree_bytes.now script_bytes.now ≡ Ok text)
+        × Adds text (S.written sink.old) (S.written sink.new)) }
     ensures unfailed { OnOk result (S.failed sink.new ≡ S.failed sink.old) }
-    ensures write { result ≡ Err ToolFault.Write → (text : List ℕ) × (run_text (given table.entry) tree_bytes.now script_bytes.now ≡ Ok text)
-        × AddsFront text (S.written sink.old) (S.written sink.new) × HasFailed (S.failed sink.old) (S.failed sink.new) }
-    ensures refused { IfErr result (λ fault. fault ≢ ToolFault.Write → fault ≢ ToolFault.OutOfMemory →
+    ensures write { result ≡ Err ToolFault.Write → (text : List ℕ)
+        × (run_text (given table.entry) tree_bytes.now script_bytes.now ≡ Ok text)
+        × AddsFront text (S.written sink.old) (S.written sink.new)
+        × HasFailed (S.failed sink.old) (S.failed sink.new) }
+    ensures refused { IfErr result (λ fault. fault ≢ ToolFault.Write →
+        fault ≢ ToolFault.OutOfMemory →
         (run_text (given table.entry) tree_bytes.now script_bytes.now ≡ Err fault)) }
-    ensures unwritten { IfErr result (λ fault. fault ≢ ToolFault.Write → S.written sink.new ≡ S.written sink.old) }
+    ensures unwritten { IfErr result (λ fault. fault ≢ ToolFault.Write →
+        S.written sink.new ≡ S.written sink.old) }
 {
     let replay = replay_script(alloc, tree_bytes, script_bytes, table)?;
     let Ok(text) = answer_text(alloc, replay.told.as_slice()) else {

@@ -31,8 +31,11 @@ pub(crate) fn replay_script(
     script_bytes: &[u8],
     table_bytes: Option<&[u8]>,
 ) -> Result<Replay, ToolFault>
-    ensures done { IfOk result (λ replay. (done : Replayed) × (replayed (given table_bytes.entry) tree_bytes.now script_bytes.now ≡ Ok done) × IsReplay replay done) }
-    ensures refused { IfErr result (λ fault. fault ≢ ToolFault.OutOfMemory → (replayed (given table_bytes.entry) tree_bytes.now script_bytes.now ≡ Err fault)) }
+    ensures done { IfOk result (λ replay. (done : Replayed)
+        × (replayed (given table_bytes.entry) tree_bytes.now script_bytes.now ≡ Ok done)
+        × IsReplay replay done) }
+    ensures refused { IfErr result (λ fault. fault ≢ ToolFault.OutOfMemory →
+        (replayed (given table_bytes.entry) tree_bytes.now script_bytes.now ≡ Err fault)) }
     ensures unwritten { IfErr result (λ fault. fault ≢ ToolFault.Write) }
 {
     let table = read_table(alloc, table_bytes)?;
@@ -50,7 +53,8 @@ pub(crate) fn replay_script(
 /// The table that a text gives; the standard one where no text is given.
 fn read_table(alloc: Global, bytes: Option<&[u8]>) -> Result<CallTable, ToolFault>
     ensures read { IfOk result (λ table. table_by (given bytes.entry) ≡ Ok table) }
-    ensures refused { IfErr result (λ fault. fault ≢ ToolFault.OutOfMemory → (table_by (given bytes.entry) ≡ Err fault)) }
+    ensures refused { IfErr result (λ fault. fault ≢ ToolFault.OutOfMemory →
+        (table_by (given bytes.entry) ≡ Err fault)) }
     ensures unwritten { IfErr result (λ fault. fault ≢ ToolFault.Write) }
 {
     let Some(bytes) = bytes else {
@@ -65,7 +69,8 @@ fn read_table(alloc: Global, bytes: Option<&[u8]>) -> Result<CallTable, ToolFaul
 
 fn read_tree(alloc: Global, bytes: &[u8]) -> Result<ProgramTree, ToolFault>
     ensures read { IfOk result (λ tree. as_listing (listing bytes.now) ≡ Ok tree) }
-    ensures refused { IfErr result (λ fault. fault ≢ ToolFault.OutOfMemory → (as_listing (listing bytes.now) ≡ Err fault)) }
+    ensures refused { IfErr result (λ fault. fault ≢ ToolFault.OutOfMemory →
+        (as_listing (listing bytes.now) ≡ Err fault)) }
     ensures unwritten { IfErr result (λ fault. fault ≢ ToolFault.Write) }
 {
     match read_listing_slab(alloc, bytes) {
@@ -77,7 +82,8 @@ fn read_tree(alloc: Global, bytes: &[u8]) -> Result<ProgramTree, ToolFault>
 
 fn read_requests(alloc: Global, bytes: &[u8]) -> Result<Script, ToolFault>
     ensures read { IfOk result (λ asks. as_script (script bytes.now) ≡ Ok asks) }
-    ensures refused { IfErr result (λ fault. fault ≢ ToolFault.OutOfMemory → (as_script (script bytes.now) ≡ Err fault)) }
+    ensures refused { IfErr result (λ fault. fault ≢ ToolFault.OutOfMemory →
+        (as_script (script bytes.now) ≡ Err fault)) }
     ensures unwritten { IfErr result (λ fault. fault ≢ ToolFault.Write) }
 {
     match read_script(alloc, bytes) {

@@ -1,8 +1,11 @@
 //! What a command asks for, done: its inputs are taken, and its text is written.
 
-ghost use Rattle.std.specs.Prelude.{◌≡◌, ◌≢◌, ◌≤◌, ◌⊎◌, ℕ, List, Ok, Err, OnOk, IfOk, IfErr, option_map};
+ghost use Rattle.std.specs.Prelude.{◌≡◌, ◌≢◌, ◌≤◌, ◌⊎◌, ℕ, List, Ok, Err, OnOk, IfOk, IfErr};
+ghost use Rattle.std.specs.Prelude.{option_map};
 ghost use Rattle.pua_tool.specs.Held.{Holds};
-ghost use Rattle.pua_tool.specs.Performed.{HoldsTable, IsCutShort, IsDone, IsRefused, IsStopped, IsTableUnheld, IsUnheld, IsUntaken, LacksInput, text_asked};
+ghost use Rattle.pua_tool.specs.Performed.{HoldsTable, IsCutShort, IsDone, IsRefused, IsStopped};
+ghost use Rattle.pua_tool.specs.Performed.{IsTableUnheld, IsUnheld, IsUntaken, LacksInput};
+ghost use Rattle.pua_tool.specs.Performed.{text_asked};
 ghost use Rattle.pua_tool.specs.Sinks.{Adds, AddsFront, HasFailed};
 ghost use Rattle.pua_tool.specs.Statuses.{fault_status};
 ghost use Rattle.pua_tool.specs.Texts.{given};
@@ -54,7 +57,8 @@ pub fn perform<I: Inputs, O: Sink, E: Sink>(
     ensures told { result ≢ DONE → (fault : CommandFault) × (fault_status fault ≡ result)
         × IsStopped (I.holds inputs.old) command.now fault
         (O.written out.old) (O.written out.new) (O.failed out.old) (O.failed out.new)
-        × IsFaultTold fault (E.written err.old) (E.written err.new) (E.failed err.old) (E.failed err.new) }
+        × IsFaultTold fault (E.written err.old) (E.written err.new) (E.failed err.old)
+        (E.failed err.new) }
     ensures statuses { result ≤ MEMORY }
     ensures words { result ≢ USAGE }
 {
@@ -99,7 +103,8 @@ fn take_all<'c, I: Inputs>(
         Holds (I.holds inputs.old) command.now.tree.now taken.tree.items) }
     ensures script { IfOk result (λ taken.
         Holds (I.holds inputs.old) command.now.script.now taken.script.items) }
-    ensures table { IfOk result (λ taken. HoldsTable (I.holds inputs.old) command.now.table (option_map (λ bytes. bytes.items) taken.table)) }
+    ensures table { IfOk result (λ taken. HoldsTable (I.holds inputs.old) command.now.table
+        (option_map (λ bytes. bytes.items) taken.table)) }
     ensures untaken { IfErr result (λ fault. IsUntaken (I.holds inputs.old) command.now fault) }
 {
     let tree = take_named(alloc, command.tree, inputs)?;
@@ -118,8 +123,10 @@ fn take_table<'c, I: Inputs>(
     name: Option<&'c str>,
     inputs: &mut I,
 ) -> Result<Option<Vec<u8>>, CommandFault<'c>>
-    ensures held { IfOk result (λ bytes. HoldsTable (I.holds inputs.old) name.entry (option_map (λ bytes. bytes.items) bytes)) }
-    ensures unheld { IfErr result (λ fault. IsTableUnheld (I.holds inputs.old) (given name.entry) fault) }
+    ensures held { IfOk result (λ bytes. HoldsTable (I.holds inputs.old) name.entry (option_map
+        (λ bytes. bytes.items) bytes)) }
+    ensures unheld { IfErr result (λ fault. IsTableUnheld (I.holds inputs.old)
+        (given name.entry) fault) }
 {
     match name {
         Some(name) => Ok(Some(take_named(alloc, name, inputs)?)),
@@ -151,16 +158,22 @@ fn write_text<O: Sink>(
     text: &Text<'_>,
     out: &mut O,
 ) -> Result<(), ToolFault>
-    ensures whole { OnOk result ((t : List ℕ) × (text_asked text.now (option_map (λ bytes. bytes.items) taken.now.table) taken.now.tree.items taken.now.script.items ≡ Ok t)
+    ensures whole { OnOk result ((t : List ℕ)
+        × (text_asked text.now (option_map
+        (λ bytes. bytes.items) taken.now.table) taken.now.tree.items taken.now.script.items ≡ Ok t)
         × Adds t (O.written out.old) (O.written out.new)) }
     ensures unfailed { OnOk result (O.failed out.new ≡ O.failed out.old) }
     ensures write { result ≡ Err ToolFault.Write →
-        (t : List ℕ) × (text_asked text.now (option_map (λ bytes. bytes.items) taken.now.table) taken.now.tree.items taken.now.script.items ≡ Ok t)
+        (t : List ℕ)
+        × (text_asked text.now (option_map
+        (λ bytes. bytes.items) taken.now.table) taken.now.tree.items taken.now.script.items ≡ Ok t)
         × AddsFront t (O.written out.old) (O.written out.new)
         × HasFailed (O.failed out.old) (O.failed out.new) }
     ensures refused { IfErr result (λ fault.
         fault ≢ ToolFault.Write → fault ≢ ToolFault.OutOfMemory →
-        text_asked text.now (option_map (λ bytes. bytes.items) taken.now.table) taken.now.tree.items taken.now.script.items ≡ Err fault) }
+        text_asked text.now (option_map
+        (λ bytes. bytes.items) taken.now.table) taken.now.tree.items taken.now.script.items
+        ≡ Err fault) }
     ensures unwritten { IfErr result (λ fault.
         fault ≢ ToolFault.Write → O.written out.new ≡ O.written out.old) }
 {

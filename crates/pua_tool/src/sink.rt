@@ -1,6 +1,7 @@
 //! Where texts are written.
 
-ghost use Rattle.std.specs.Prelude.{◌≡◌, ◌↔◌, ◌<◌, ◌≤◌, ◌-◌, ℕ, List, [], Option, Some, IfOk, IsErr, OnOk, OnErr, length, min};
+ghost use Rattle.std.specs.Prelude.{◌≡◌, ◌↔◌, ◌<◌, ◌≤◌, ◌-◌, ℕ, List, [], Option, Some, IfOk};
+ghost use Rattle.std.specs.Prelude.{IsErr, OnOk, OnErr, length, min};
 ghost use Rattle.std.specs.Io.Buffered.{writer_buffer, writer_contents};
 ghost use Rattle.std.specs.Io.KnownBytes.{Keeps};
 ghost use Rattle.pua_tool.specs.Sinks.{Adds, AddsFront, HasFailed, Puts, Memory, counted};
@@ -99,11 +100,13 @@ impl Sink for MemorySink {
     /// Adds as many bytes as there is room for. It fails exactly where no room is left and there are
     /// bytes to put.
     fn put(&mut self, bytes: &[u8]) -> Result<usize, PutFault>
-        ensures adds { IfOk result (λ n. Puts bytes.now n (Some self.old.bytes) (Some self.new.bytes)) }
+        ensures adds { IfOk result (λ n. Puts bytes.now n (Some self.old.bytes)
+            (Some self.new.bytes)) }
         ensures unfailed { OnOk result (self.new.failed ≡ self.old.failed) }
         ensures nothing { OnErr result (Keeps (Some self.old.bytes) (Some self.new.bytes)) }
         ensures rises { OnErr result (self.new.failed ≡ counted self.old.failed) }
-        ensures fits { IfOk result (λ n. n ≡ min (self.old.room - length self.old.bytes) (length bytes.now)) }
+        ensures fits { IfOk result (λ n. n
+            ≡ min (self.old.room - length self.old.bytes) (length bytes.now)) }
         ensures full { IsErr result
             ↔ ((length self.old.bytes ≡ self.old.room) × (0 < length bytes.now)) }
         ensures room { self.new.room ≡ self.old.room }
@@ -157,7 +160,8 @@ impl<W: Write + Drop> StreamSink<BufWriter<W>> {
     /// handed on is still held back.
     pub fn flush(&mut self) -> Result<(), PutFault>
         ensures handed { OnOk result (writer_buffer self.new.0 ≡ []) }
-        ensures bytes { Keeps (writer_contents W.contents self.old.0) (writer_contents W.contents self.new.0) }
+        ensures bytes { Keeps (writer_contents W.contents self.old.0)
+            (writer_contents W.contents self.new.0) }
         ensures unfailed { OnOk result (self.new.1 ≡ self.old.1) }
         ensures rises { OnErr result (self.new.1 ≡ counted self.old.1) }
     {

@@ -1,6 +1,7 @@
 //! Reading to the end.
 
-ghost use Rattle.std.specs.Prelude.{◌≡◌, ◌≢◌, ◌≤◌, ◌+◌, ℕ, List, Option, Err, IfOk, OnOk, OnErr, IfSome, length};
+ghost use Rattle.std.specs.Prelude.{◌≡◌, ◌≢◌, ◌≤◌, ◌+◌, ℕ, List, Option, Err, IfOk, OnOk, OnErr};
+ghost use Rattle.std.specs.Prelude.{IfSome, length};
 ghost use Rattle.std.specs.Io.KnownBytes.{ReadConsumes};
 ghost use Rattle.pua_tool.specs.Sinks.{counted};
 ghost use Rattle.pua_tool.specs.Sources.{CantBeRead};
@@ -92,10 +93,13 @@ pub const MOST_INPUT_BYTES: usize = 67_108_864;
 /// read failed, which ends the reading, and where more than 67,108,864 bytes were left; how far it
 /// has read is then not said.
 pub fn read_bytes<R: Source>(alloc: Global, source: &mut R) -> Result<Vec<u8>, InputFault>
-    ensures whole { IfOk result (λ all. IfSome (R.remaining source.old) (λ left. all.items ≡ left)) }
+    ensures whole { IfOk result (λ all. IfSome (R.remaining source.old) (λ left. all.items
+        ≡ left)) }
     ensures short { IfOk result (λ all. length all.items ≤ MOST_INPUT_BYTES) }
-    ensures unreadable { result ≡ Err InputFault.Unreadable → CantBeRead (R.remaining source.old) (R.failures source.old) (R.failures source.new) }
-    ensures readable { result ≢ Err InputFault.Unreadable → R.failures source.new ≡ R.failures source.old }
+    ensures unreadable { result ≡ Err InputFault.Unreadable →
+        CantBeRead (R.remaining source.old) (R.failures source.old) (R.failures source.new) }
+    ensures readable { result ≢ Err InputFault.Unreadable →
+        R.failures source.new ≡ R.failures source.old }
     ensures reads { R.reads source.new ≤ R.reads source.old + (MOST_INPUT_BYTES + 1) }
 {
     let mut all = Vec::new(alloc);

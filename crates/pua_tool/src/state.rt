@@ -1,9 +1,11 @@
 //! The heading of a list, and what it says of the state of its process before the veils.
 
-ghost use Rattle.std.specs.Prelude.{◌≡◌, ◌++◌, ◌∷◌, [], if◌then◌else◌, IfOk, OnOk, map, string_bytes};
+ghost use Rattle.std.specs.Prelude.{◌≡◌, ◌++◌, ◌∷◌, [], if◌then◌else◌, IfOk, OnOk, map};
+ghost use Rattle.std.specs.Prelude.{string_bytes};
 ghost use Rattle.pua_policy.specs.History.{History, StandsFor};
 ghost use Rattle.pua_objects.specs.Objects.{with_commas};
-ghost use Rattle.pua_tool.specs.States.{heading_line, living_lines, or_equals, own_lines, promises_text, unveil_word};
+ghost use Rattle.pua_tool.specs.States.{heading_line, living_lines, or_equals, own_lines};
+ghost use Rattle.pua_tool.specs.States.{promises_text, unveil_word};
 ghost use Rattle.pua_tool.specs.Texts.{ended};
 
 use pua_policy::{Process, Promises};
@@ -18,7 +20,8 @@ pub(crate) fn head_text(
     number: u32,
     process: &Process,
 ) -> Result<String, AllocError>
-    ensures { IfOk result (λ text. (h : History) → StandsFor process.now h → string_bytes text ≡ heading_line title.now number ++ own_lines h) }
+    ensures { IfOk result (λ text. (h : History) → StandsFor process.now h →
+        string_bytes text ≡ heading_line title.now number ++ own_lines h) }
 {
     let mut text = heading(alloc, title, number)?;
     push_own(alloc, &mut text, process)?;
@@ -35,7 +38,8 @@ fn heading(alloc: Global, title: &str, number: u32) -> Result<String, AllocError
 
 /// Adds the lines of a state before those of the veils: an ended process has one.
 fn push_own(alloc: Global, text: &mut String, process: &Process) -> Result<(), AllocError>
-    ensures { OnOk result ((h : History) → StandsFor process.now h → string_bytes text.new ≡ string_bytes text.old ++ own_lines h) }
+    ensures { OnOk result ((h : History) → StandsFor process.now h →
+        string_bytes text.new ≡ string_bytes text.old ++ own_lines h) }
 {
     if process.ended() {
         return push_line(text, "process ", "ended");
@@ -45,7 +49,8 @@ fn push_own(alloc: Global, text: &mut String, process: &Process) -> Result<(), A
 
 /// Adds the lines of a living process.
 fn push_living(alloc: Global, text: &mut String, process: &Process) -> Result<(), AllocError>
-    ensures { OnOk result ((h : History) → StandsFor process.now h → string_bytes text.new ≡ string_bytes text.old ++ living_lines h) }
+    ensures { OnOk result ((h : History) → StandsFor process.now h →
+        string_bytes text.new ≡ string_bytes text.old ++ living_lines h) }
 {
     let promises = spelled_promises(alloc, process.promises())?;
     let execpromises = spelled_promises(alloc, process.execpromises())?;
@@ -57,7 +62,8 @@ fn push_living(alloc: Global, text: &mut String, process: &Process) -> Result<()
 
 /// Adds a line of a label and a value.
 fn push_line(text: &mut String, label: &str, value: &str) -> Result<(), AllocError>
-    ensures { OnOk result (string_bytes text.new ≡ string_bytes text.old ++ ended (label.now ++ value.now)) }
+    ensures { OnOk result (string_bytes text.new ≡ string_bytes text.old ++ ended (label.now
+        ++ value.now)) }
 {
     writeln!(text, "{label}{value}")
 }
@@ -101,7 +107,8 @@ fn shown(text: &str) -> &str
 /// Names with commas between them.
 #[tactic(auto, using(crate::proofs::ObjectTexts::joined_is))]
 fn joined(alloc: Global, names: &[&str]) -> Result<String, AllocError>
-    ensures { IfOk result (λ text. string_bytes text ≡ with_commas (map (λ name. name.now) names.now)) }
+    ensures { IfOk result (λ text. string_bytes text
+        ≡ with_commas (map (λ name. name.now) names.now)) }
 {
     let mut text = String::new(alloc);
     let mut is_first = true;
@@ -114,7 +121,8 @@ fn joined(alloc: Global, names: &[&str]) -> Result<String, AllocError>
 
 /// Adds a name, with a comma before it unless it is the first.
 fn push_next(text: &mut String, is_first: bool, name: &str) -> Result<(), AllocError>
-    ensures { OnOk result (string_bytes text.new ≡ string_bytes text.old ++ ((if is_first then [] else 44 ∷ []) ++ name.now)) }
+    ensures { OnOk result (string_bytes text.new ≡ string_bytes text.old
+        ++ ((if is_first then [] else 44 ∷ []) ++ name.now)) }
 {
     if !is_first {
         text.push_str(",")?;

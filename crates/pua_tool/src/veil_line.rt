@@ -1,12 +1,12 @@
 //! The lines of veils, written in blocks.
 
-ghost use Rattle.std.specs.Prelude.{◌≡◌, ◌≤◌, ◌++◌, ◌∷◌, [], codes, length, map, vec_capacity};
+ghost use Rattle.std.specs.Prelude.{◌≡◌, ◌≤◌, ◌++◌, ◌∷◌, [], codes, length, map};
 ghost use Rattle.pua_policy.specs.Promises.{letters_of};
-ghost use Rattle.pua_tool.specs.Blocks.{Passes};
+ghost use Rattle.pua_tool.specs.Blocks.{PassesOn};
 ghost use Rattle.pua_tool.specs.States.{or_equals, path_or_hyphen, veil_lines};
 
-use crate::line::{BLOCK, make_room};
-use crate::object_line::{add_bytes, add_path};
+use crate::block::Block;
+use crate::object_line::add_path;
 use crate::places::Places;
 use crate::sink::{PutFault, Sink};
 use pua_policy::{Perms, Place};
@@ -14,16 +14,15 @@ use pua_tree::{FileTree, Name};
 
 /// Adds a line for each veil.
 pub(crate) fn add_veils<'t, T: FileTree, S: Sink>(
-    block: &mut Vec<u8>,
+    block: &mut Block,
     veils: &[(&'t Place, &'t Perms)],
     places: &mut Places<'t, T>,
     sink: &mut S,
 ) -> Result<(), PutFault>
-    requires { BLOCK ≤ vec_capacity block.old }
-    ensures lines { Passes (veil_lines places.old.tree (map (λ veil. (veil.0.now, veil.1.now)) veils.now)) result
-        block.old.items block.new.items (S.written sink.old) (S.written sink.new) (S.failed sink.old) (S.failed sink.new) }
+    ensures lines { PassesOn S.written S.failed
+        (veil_lines places.old.tree (map (λ veil. (veil.0.now, veil.1.now)) veils.now))
+        result block.old block.new sink.old sink.new }
     ensures tree { places.new.tree ≡ places.old.tree }
-    ensures room { BLOCK ≤ vec_capacity block.new }
 {
     for veil in veils {
         let (place, perms) = *veil;
@@ -35,52 +34,49 @@ pub(crate) fn add_veils<'t, T: FileTree, S: Sink>(
 
 /// Adds the line of a veil, whose place may stand at the end of these names.
 fn add_veil<S: Sink>(
-    block: &mut Vec<u8>,
+    block: &mut Block,
     stands: bool,
     names: &[&Name],
     perms: Perms,
     sink: &mut S,
 ) -> Result<(), PutFault>
-    requires { BLOCK ≤ vec_capacity block.old }
-    ensures line { Passes (codes "veil " ++ ((path_or_hyphen stands (map (λ name. name.now) names.now) ++ 32 ∷ []) ++ (or_equals (letters_of perms) ++ 10 ∷ []))) result
-        block.old.items block.new.items (S.written sink.old) (S.written sink.new) (S.failed sink.old) (S.failed sink.new) }
-    ensures room { BLOCK ≤ vec_capacity block.new }
+    ensures { PassesOn S.written S.failed
+        (codes "veil " ++ ((path_or_hyphen stands (map (λ name. name.now) names.now)
+        ++ 32 ∷ []) ++ (or_equals (letters_of perms) ++ 10 ∷ [])))
+        result block.old block.new sink.old sink.new }
 {
-    add_bytes(block, b"veil ", sink)?;
+    block.add(b"veil ", sink)?;
     add_place(block, stands, names, sink)?;
     add_letters(block, perms, sink)
 }
 
 /// Adds the path of a place that stands, or `-`, and a blank.
 fn add_place<S: Sink>(
-    block: &mut Vec<u8>,
+    block: &mut Block,
     stands: bool,
     names: &[&Name],
     sink: &mut S,
 ) -> Result<(), PutFault>
-    requires { BLOCK ≤ vec_capacity block.old }
-    ensures path { Passes (path_or_hyphen stands (map (λ name. name.now) names.now) ++ 32 ∷ []) result
-        block.old.items block.new.items (S.written sink.old) (S.written sink.new) (S.failed sink.old) (S.failed sink.new) }
-    ensures room { BLOCK ≤ vec_capacity block.new }
+    ensures { PassesOn S.written S.failed
+        (path_or_hyphen stands (map (λ name. name.now) names.now) ++ 32 ∷ [])
+        result block.old block.new sink.old sink.new }
 {
     if stands {
         add_path(block, names, sink)
     } else {
-        add_bytes(block, b"- ", sink)
+        block.add(b"- ", sink)
     }
 }
 
 /// Adds the letters of a veil, or `=`, and LF.
-fn add_letters<S: Sink>(block: &mut Vec<u8>, perms: Perms, sink: &mut S) -> Result<(), PutFault>
-    requires { BLOCK ≤ vec_capacity block.old }
-    ensures letters { Passes (or_equals (letters_of perms) ++ 10 ∷ []) result
-        block.old.items block.new.items (S.written sink.old) (S.written sink.new) (S.failed sink.old) (S.failed sink.new) }
-    ensures room { BLOCK ≤ vec_capacity block.new }
+fn add_letters<S: Sink>(block: &mut Block, perms: Perms, sink: &mut S) -> Result<(), PutFault>
+    ensures { PassesOn S.written S.failed
+        (or_equals (letters_of perms) ++ 10 ∷ [])
+        result block.old block.new sink.old sink.new }
 {
-    make_room(block, sink)?;
-    let letters = shown_letters(perms);
-    block.extend_from_slice(letters.as_bytes()).unwrap();
-    block.push_reserved(b'\n');
+    block.make_room(sink)?;
+    block.push(shown_letters(perms).as_bytes());
+    block.push(b"\n");
     Ok(())
 }
 

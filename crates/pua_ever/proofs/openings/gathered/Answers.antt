@@ -25,5 +25,5 @@ pub returns-clause-entrances : goal.returns-clause-entrances
 returns-clause-entrances g c = λ h stands.
     let t = g.T.FileTree.content c.args.tree.now in
     let places = map (λ place. place.now) c.args.places.now in
-    let opened : c.deref-2.result.now ≡ filter_map (opened_dir h) places = c.deref-2.ensures.value ∙ c.in_ok-opened.ensures h stands in
+    let opened : c.in_ok-opened.opened.dirs.items ≡ filter_map (opened_dir h) places = c.in_ok-opened.ensures h stands in
     c.in_ok-entrances.ensures h stands ∙ (λ i. filter_map (entrance t h (c.deref.ensures.value i) (opened i)) places)

@@ -41,7 +41,8 @@ returns g c = λ done replay.
     let is : ever_after done n ≡ Ok text = after_made done n h made.is ∙ unrefused n h done listed.listed in
     let written : Writes text c.write_list.result (g.S.Sink.written c.args.sink.now) (g.S.Sink.written c.write_list.new.sink) (g.S.Sink.failed c.args.sink.now) (g.S.Sink.failed c.write_list.new.sink) =
     subst (λ (f : List ℕ). Writes (f ++ ever_list done.table t n h) c.write_list.result (g.S.Sink.written c.args.sink.now) (g.S.Sink.written c.write_list.new.sink) (g.S.Sink.failed c.args.sink.now) (g.S.Sink.failed c.write_list.new.sink)) front
-    (subst (λ (u : Tree). IsEverListOf done.table u n h list → Writes (c.as_str.result.now ++ ever_list done.table u n h) c.write_list.result (g.S.Sink.written c.args.sink.now) (g.S.Sink.written c.write_list.new.sink) (g.S.Sink.failed c.args.sink.now) (g.S.Sink.failed c.write_list.new.sink)) placed
-    (c.write_list.ensures done.table n h) listed) in
+    (subst (λ (b : List ℕ). Writes (b ++ (c.as_str.result.now ++ ever_list done.table t n h)) c.write_list.result (g.S.Sink.written c.args.sink.now) (g.S.Sink.written c.write_list.new.sink) (g.S.Sink.failed c.args.sink.now) (g.S.Sink.failed c.write_list.new.sink)) c.in-Ok-new-2.ensures
+    (subst (λ (u : Tree). IsEverListOf done.table u n h list → Writes (c.in-Ok-new-2.block ++ (c.as_str.result.now ++ ever_list done.table u n h)) c.write_list.result (g.S.Sink.written c.args.sink.now) (g.S.Sink.written c.write_list.new.sink) (g.S.Sink.failed c.args.sink.now) (g.S.Sink.failed c.write_list.new.sink)) placed
+    (c.write_list.ensures done.table n h) listed)) in
     answers_told (ever_after done n) text c.told.result (g.S.Sink.written c.args.sink.now) (g.S.Sink.written c.write_list.new.sink) (g.S.Sink.failed c.args.sink.now) (g.S.Sink.failed c.write_list.new.sink) is
     (c.told.ensures text (g.S.Sink.written c.args.sink.now) (g.S.Sink.written c.write_list.new.sink) (g.S.Sink.failed c.args.sink.now) (g.S.Sink.failed c.write_list.new.sink) written)

@@ -1,4 +1,4 @@
-use Rattle.std.proofs.Common.{◌≡◌, ◌≤◌, length, vec_capacity}
+use Rattle.std.proofs.Common.{◌≡◌, length}
 use Rattle.pua_policy.specs.History.{History, StandsFor}
 use Rattle.pua_ever.specs.EverLines.{lines_of}
 use Rattle.pua_tool.specs.EverTexts.{ever_lines}
@@ -11,9 +11,8 @@ invariant-loop-line g l = record {
   tree : l.list.tree ≡ l.fn.list.tree;
   process : l.list.process ≡ l.fn.list.process;
   table : l.list.table ≡ l.fn.list.table;
-  room : 65536 ≤ vec_capacity l.block;
   lines : (h : History) → StandsFor l.fn.list.process h → Passing (ever_lines l.fn.list.tree (lines_of l.fn.list.tree l.fn.list.table h l.fn.list.left)) (ever_lines l.fn.list.tree (lines_of l.fn.list.tree l.fn.list.table h l.list.left))
-      l.fn.block.items l.block.items (g.S.Sink.written l.fn.sink) (g.S.Sink.written l.sink) (g.S.Sink.failed l.fn.sink) (g.S.Sink.failed l.sink);
+      l.fn.block l.block (g.S.Sink.written l.fn.sink) (g.S.Sink.written l.sink) (g.S.Sink.failed l.fn.sink) (g.S.Sink.failed l.sink);
 }
 
 abbrev pub decreases-loop-line : goal.decreases-loop-line

@@ -5,8 +5,7 @@ use Rattle.pua_tool.proofs.line.add_call.Goals as goal
 
 pub returns-clause-name : goal.returns-clause-name
 returns-clause-name c =
-    let block : List ℕ = c.args.block.now.items in
     let name : List ℕ = call_name c.args.call in
-    c.truncate.ensures.items
-    ∙ ap (take _) (rw c.unwrap.ensures at c.extend_from_slice.ensures.items)
-    ∙ name_kept _ block c.padded_name-padded.result.now name (omega (arith, c.len.ensures, ap length c.name.ensures)) c.padded_name-padded.ensures.name
+    c.truncate.ensures
+    ∙ ap (take _) c.push.ensures
+    ∙ name_kept _ c.args.block.now c.padded_name-padded.result.now name (omega (arith, c.len.ensures, ap length c.name.ensures)) c.padded_name-padded.ensures.name

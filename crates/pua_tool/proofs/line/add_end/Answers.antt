@@ -4,12 +4,11 @@ use Rattle.pua_tool.specs.Texts.{ended}
 use Rattle.pua_tool.proofs.Pairs.{name_kept}
 use Rattle.pua_tool.proofs.line.add_end.Goals as goal
 
-pub returns-clause-end : goal.returns-clause-end
-returns-clause-end c =
-    let block : List ℕ = c.args.block.now.items in
+pub returns : goal.returns
+returns c =
     let padded : List ℕ = c.padded_end-padded.result.now in
     let name : List ℕ = call_name c.args.call in
     let many : length (ended (32 ∷ name)) ≡ length name + 2 = omega (arith, length-append name (10 ∷ [])) in
-    c.truncate.ensures.items
-    ∙ ap (take _) (rw c.unwrap.ensures at c.extend_from_slice.ensures.items)
-    ∙ name_kept _ block padded (ended (32 ∷ name)) (omega (arith, c.len.ensures, ap length c.name.ensures)) (ap (λ k. take k padded) many ∙ c.padded_end-padded.ensures.end)
+    c.truncate.ensures
+    ∙ ap (take _) c.push.ensures
+    ∙ name_kept _ c.args.block.now padded (ended (32 ∷ name)) (omega (arith, c.len.ensures, ap length c.name.ensures)) (ap (λ k. take k padded) many ∙ c.padded_end-padded.ensures.end)

@@ -10,11 +10,10 @@ pub loop-call-preserved : goal.loop-call-preserved
 loop-call-preserved c =
     let set : ℕ = c.args.calls in
     let i : ℕ = c.loop-call.call-index in
-    let block : List ℕ = c.loop-call.block.items in
+    let block : List ℕ = c.loop-call.block in
     let before : List ℕ = if c.loop-call.is_first then [] else 44 ∷ [] in
     elim c.if-contains.branch [
       | then-contains w ↦ rw (w.block-is, w.is_first-is) (record {
-        room = omega (arith, w.add_next.ensures.room, c.loop-call.invariant.room);
         short = omega (arith, w.add_next.ensures.short, c.loop-call.invariant.short);
         names =
             ap (λ t. t ++ calls_left set (44 ∷ []) (i + 1)) w.add_next.ensures.name
@@ -23,19 +22,18 @@ loop-call-preserved c =
             ∙ c.loop-call.invariant.names;
       })
       | else-contains w ↦ rw (w.block-is, w.is_first-is) (record {
-        room = c.loop-call.invariant.room;
         short = omega (arith, c.loop-call.invariant.short);
         names = ap (λ t. block ++ t) (sym (call_left set before i c.loop-call-test.true (sym c.contains.ensures ∙ w.if-contains.false))) ∙ c.loop-call.invariant.names;
       })
     ]
 
-pub returns-clause-names : goal.returns-clause-names
-returns-clause-names c =
+pub returns : goal.returns
+returns c =
     let set : ℕ = c.args.calls in
     let i : ℕ = c.loop-call.call-index in
     let before : List ℕ = if c.loop-call.is_first then [] else 44 ∷ [] in
     let past : 14 ≤ i = omega (arith, c.loop-call-test.false) in
-    c.push_reserved.ensures.items
-    ∙ ap (λ t. c.loop-call.block.items ++ t) (sym (calls_done set before i past))
+    c.push.ensures
+    ∙ ap (λ t. c.loop-call.block ++ t) (sym (calls_done set before i past))
     ∙ c.loop-call.invariant.names
-    ∙ ap (λ t. c.args.block.now.items ++ t) (calls_all set)
+    ∙ ap (λ t. c.args.block.now ++ t) (calls_all set)

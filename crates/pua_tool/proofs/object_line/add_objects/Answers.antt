@@ -1,4 +1,4 @@
-use Rattle.std.proofs.Common.{[], Ok, refl, rules, ◌∙◌}
+use Rattle.std.proofs.Common.{[], Ok, refl, ◌∙◌}
 use Rattle.std.proofs.lemmas.Result.{err_from_is_err_and}
 use Rattle.pua_policy.specs.History.{History, StandsFor}
 use Rattle.pua_objects.specs.Ready.{lines_of}
@@ -14,8 +14,7 @@ loop-line-init g c =
       tree = refl;
       process = refl;
       table = refl;
-      room = search rules;
-      lines = λ h stands. passing_none (object_lines t (lines_of t c.args.list.now.table h c.args.list.now.left)) c.args.block.now.items (g.S.Sink.written c.args.sink.now) (g.S.Sink.failed c.args.sink.now);
+      lines = λ h stands. passing_none (object_lines t (lines_of t c.args.list.now.table h c.args.list.now.left)) c.args.block.now (g.S.Sink.written c.args.sink.now) (g.S.Sink.failed c.args.sink.now);
     }
 
 pub loop-line-preserved : goal.loop-line-preserved
@@ -32,14 +31,13 @@ loop-line-preserved g c =
       tree = c.next_line.ensures.of.0 ∙ c.loop-line.invariant.tree;
       process = c.next_line.ensures.of.1 ∙ c.loop-line.invariant.process;
       table = c.next_line.ensures.of.2 ∙ c.loop-line.invariant.table;
-      room = c.add_line.ensures.room;
-      lines = λ h stands. passing_more (all h) (left h) given (more h) c.args.block.now.items c.loop-line.block.items c.add_line.new.block.items
+      lines = λ h stands. passing_more (all h) (left h) given (more h) c.args.block.now c.loop-line.block c.add_line.new.block
           (g.S.Sink.written c.args.sink.now) (g.S.Sink.written c.loop-line.sink) (g.S.Sink.written c.add_line.new.sink) (g.S.Sink.failed c.args.sink.now) (g.S.Sink.failed c.loop-line.sink) (g.S.Sink.failed c.add_line.new.sink)
-          (c.loop-line.invariant.lines h stands) (next h stands) c.in_ok-add_line.ensures.line;
+          (c.loop-line.invariant.lines h stands) (next h stands) c.in_ok-add_line.ensures;
     }
 
-pub returns-in_err-add_line-clause-lines : goal.returns-in_err-add_line-clause-lines
-returns-in_err-add_line-clause-lines g c =
+pub returns-in_err-add_line : goal.returns-in_err-add_line
+returns-in_err-add_line g c =
     let t = c.args.list.now.tree in
     let all = λ (h : History). object_lines t (lines_of t c.args.list.now.table h c.args.list.now.left) in
     let left = λ (h : History). object_lines t (lines_of t c.args.list.now.table h c.loop-line.list.left) in
@@ -49,18 +47,18 @@ returns-in_err-add_line-clause-lines g c =
     line_next c.loop-line.list.tree t c.loop-line.list.table c.args.list.now.table c.loop-line.list.process c.args.list.now.process h c.loop-line.list.left c.next_line.new.self.left c.next_line.new.self.word c.in-Some.line c.word.result.now
     c.loop-line.invariant.tree c.loop-line.invariant.table c.loop-line.invariant.process stands c.in-Some.ensures.line c.word.ensures in
     let p = err_from_is_err_and c.from_residual.result c.from_residual.ensures.1 in
-    rw p.1 (λ h stands. passing_fails (all h) (left h) given (more h) c.args.block.now.items c.loop-line.block.items [] [] p.0
+    rw p.1 (λ h stands. passing_fails (all h) (left h) given (more h) c.args.block.now c.loop-line.block [] [] p.0
     (g.S.Sink.written c.args.sink.now) (g.S.Sink.written c.loop-line.sink) (g.S.Sink.written c.add_line.new.sink) (g.S.Sink.failed c.args.sink.now) (g.S.Sink.failed c.loop-line.sink) (g.S.Sink.failed c.add_line.new.sink)
-    (c.loop-line.invariant.lines h stands) (next h stands) c.in_err-add_line.ensures.line)
+    (c.loop-line.invariant.lines h stands) (next h stands) c.in_err-add_line.ensures)
 
-pub returns-clause-lines : goal.returns-clause-lines
-returns-clause-lines g c =
+pub returns : goal.returns
+returns g c =
     let t = c.args.list.now.tree in
     let all = λ (h : History). object_lines t (lines_of t c.args.list.now.table h c.args.list.now.left) in
     let left = λ (h : History). object_lines t (lines_of t c.args.list.now.table h c.loop-line.list.left) in
     λ h stands.
-    passing_last (all h) (left h) [] c.args.block.now.items c.loop-line.block.items c.loop-line.block.items (Ok tt)
+    passing_last (all h) (left h) [] c.args.block.now c.loop-line.block c.loop-line.block (Ok tt)
     (g.S.Sink.written c.args.sink.now) (g.S.Sink.written c.loop-line.sink) (g.S.Sink.written c.loop-line.sink) (g.S.Sink.failed c.args.sink.now) (g.S.Sink.failed c.loop-line.sink) (g.S.Sink.failed c.loop-line.sink)
     (c.loop-line.invariant.lines h stands)
     (no_line c.loop-line.list.tree t c.loop-line.list.table c.args.list.now.table c.loop-line.list.process c.args.list.now.process h c.loop-line.list.left c.loop-line.invariant.tree c.loop-line.invariant.table c.loop-line.invariant.process stands c.in_default.ensures.line.0)
-    (passes_none c.loop-line.block.items (g.S.Sink.written c.loop-line.sink) (g.S.Sink.failed c.loop-line.sink))
+    (passes_none c.loop-line.block (g.S.Sink.written c.loop-line.sink) (g.S.Sink.failed c.loop-line.sink))

@@ -1,4 +1,4 @@
-use Rattle.std.proofs.Common.{List, [], Ok, Err, refl, rules, sym, subst, ◌∙◌}
+use Rattle.std.proofs.Common.{List, [], Ok, Err, refl, sym, subst, ◌∙◌}
 use Rattle.std.proofs.lemmas.List.{nil_from_length}
 use Rattle.std.proofs.lemmas.Result.{err_from_is_err_and}
 use Rattle.pua_tree.specs.Tree.{Tree}
@@ -11,21 +11,19 @@ use Rattle.pua_tool.proofs.objects.add_lists.Goals as goal
 pub loop-list-init : goal.loop-list-init
 loop-list-init g c = record {
   tree = refl;
-  room = search rules;
-  lists = λ table w numbers same are. all_left table w numbers c.args.lists.now.items c.args.block.now.items (g.S.Sink.written c.args.sink.now) (g.S.Sink.failed c.args.sink.now) are;
+  lists = λ table w numbers same are. all_left table w numbers c.args.lists.now.items c.args.block.now (g.S.Sink.written c.args.sink.now) (g.S.Sink.failed c.args.sink.now) are;
 }
 
 pub loop-list-preserved : goal.loop-list-preserved
 loop-list-preserved g c = record {
   tree = c.add_to.ensures.tree ∙ c.loop-list.invariant.tree;
-  room = c.add_to.ensures.room;
   lists = λ table w numbers same are.
       let rest = c.pop_front.new.self.items in
       let at = c.loop-list.invariant.tree ∙ same in
-      let left = subst (λ (ls : List ListState). Left table w (lists_of table w numbers) ls c.args.block.now.items c.loop-list.block.items (g.S.Sink.written c.args.sink.now) (g.S.Sink.written c.loop-list.sink) (g.S.Sink.failed c.args.sink.now) (g.S.Sink.failed c.loop-list.sink)) c.in-Some.ensures.items (c.loop-list.invariant.lists table w numbers same are) in
-      left_more table w (lists_of table w numbers) c.in-Some.list rest c.args.block.now.items c.loop-list.block.items
-      (g.S.Sink.written c.args.sink.now) (g.S.Sink.written c.loop-list.sink) (g.S.Sink.written c.add_to.new.sink) (g.S.Sink.failed c.args.sink.now) (g.S.Sink.failed c.loop-list.sink) (g.S.Sink.failed c.add_to.new.sink) left c.add_to.new.block.items
-      (λ process h is. subst (λ (t : Tree). Passes (process_list table t process h) (Ok tt) c.loop-list.block.items c.add_to.new.block.items (g.S.Sink.written c.loop-list.sink) (g.S.Sink.written c.add_to.new.sink) (g.S.Sink.failed c.loop-list.sink) (g.S.Sink.failed c.add_to.new.sink)) at
+      let left = subst (λ (ls : List ListState). Left table w (lists_of table w numbers) ls c.args.block.now c.loop-list.block (g.S.Sink.written c.args.sink.now) (g.S.Sink.written c.loop-list.sink) (g.S.Sink.failed c.args.sink.now) (g.S.Sink.failed c.loop-list.sink)) c.in-Some.ensures.items (c.loop-list.invariant.lists table w numbers same are) in
+      left_more table w (lists_of table w numbers) c.in-Some.list rest c.args.block.now c.loop-list.block
+      (g.S.Sink.written c.args.sink.now) (g.S.Sink.written c.loop-list.sink) (g.S.Sink.written c.add_to.new.sink) (g.S.Sink.failed c.args.sink.now) (g.S.Sink.failed c.loop-list.sink) (g.S.Sink.failed c.add_to.new.sink) left c.add_to.new.block
+      (λ process h is. subst (λ (t : Tree). Passes (process_list table t process h) (Ok tt) c.loop-list.block c.add_to.new.block (g.S.Sink.written c.loop-list.sink) (g.S.Sink.written c.add_to.new.sink) (g.S.Sink.failed c.loop-list.sink) (g.S.Sink.failed c.add_to.new.sink)) at
       (c.in_ok-add_to.ensures.list table process h (subst (λ (t : Tree). IsListOf table t process h c.in-Some.list) (sym at) is)));
 }
 
@@ -35,13 +33,13 @@ returns-in_err-add_to g c =
     rw p.1 (λ table w numbers same are.
     let rest = c.pop_front.new.self.items in
     let at = c.loop-list.invariant.tree ∙ same in
-    let left = subst (λ (ls : List ListState). Left table w (lists_of table w numbers) ls c.args.block.now.items c.loop-list.block.items (g.S.Sink.written c.args.sink.now) (g.S.Sink.written c.loop-list.sink) (g.S.Sink.failed c.args.sink.now) (g.S.Sink.failed c.loop-list.sink)) c.in-Some.ensures.items (c.loop-list.invariant.lists table w numbers same are) in
-    left_fails table w (lists_of table w numbers) c.in-Some.list rest c.args.block.now.items c.loop-list.block.items
+    let left = subst (λ (ls : List ListState). Left table w (lists_of table w numbers) ls c.args.block.now c.loop-list.block (g.S.Sink.written c.args.sink.now) (g.S.Sink.written c.loop-list.sink) (g.S.Sink.failed c.args.sink.now) (g.S.Sink.failed c.loop-list.sink)) c.in-Some.ensures.items (c.loop-list.invariant.lists table w numbers same are) in
+    left_fails table w (lists_of table w numbers) c.in-Some.list rest c.args.block.now c.loop-list.block
     (g.S.Sink.written c.args.sink.now) (g.S.Sink.written c.loop-list.sink) (g.S.Sink.written c.add_to.new.sink) (g.S.Sink.failed c.args.sink.now) (g.S.Sink.failed c.loop-list.sink) (g.S.Sink.failed c.add_to.new.sink) left [] [] p.0
-    (λ process h is. subst (λ (t : Tree). Passes (process_list table t process h) (Err p.0) c.loop-list.block.items [] (g.S.Sink.written c.loop-list.sink) (g.S.Sink.written c.add_to.new.sink) (g.S.Sink.failed c.loop-list.sink) (g.S.Sink.failed c.add_to.new.sink)) at
+    (λ process h is. subst (λ (t : Tree). Passes (process_list table t process h) (Err p.0) c.loop-list.block [] (g.S.Sink.written c.loop-list.sink) (g.S.Sink.written c.add_to.new.sink) (g.S.Sink.failed c.loop-list.sink) (g.S.Sink.failed c.add_to.new.sink)) at
     (c.in_err-add_to.ensures.list table process h (subst (λ (t : Tree). IsListOf table t process h c.in-Some.list) (sym at) is))))
 
 pub returns : goal.returns
 returns g c = λ table w numbers same are.
-    left_none table w (lists_of table w numbers) c.args.block.now.items c.loop-list.block.items (g.S.Sink.written c.args.sink.now) (g.S.Sink.written c.loop-list.sink) (g.S.Sink.failed c.args.sink.now) (g.S.Sink.failed c.loop-list.sink)
-    (subst (λ (ls : List ListState). Left table w (lists_of table w numbers) ls c.args.block.now.items c.loop-list.block.items (g.S.Sink.written c.args.sink.now) (g.S.Sink.written c.loop-list.sink) (g.S.Sink.failed c.args.sink.now) (g.S.Sink.failed c.loop-list.sink)) (nil_from_length c.loop-list.lists.items (sym c.loop-list.lists.ok.0 ∙ c.in_default.ensures.cases.0)) (c.loop-list.invariant.lists table w numbers same are))
+    left_none table w (lists_of table w numbers) c.args.block.now c.loop-list.block (g.S.Sink.written c.args.sink.now) (g.S.Sink.written c.loop-list.sink) (g.S.Sink.failed c.args.sink.now) (g.S.Sink.failed c.loop-list.sink)
+    (subst (λ (ls : List ListState). Left table w (lists_of table w numbers) ls c.args.block.now c.loop-list.block (g.S.Sink.written c.args.sink.now) (g.S.Sink.written c.loop-list.sink) (g.S.Sink.failed c.args.sink.now) (g.S.Sink.failed c.loop-list.sink)) (nil_from_length c.loop-list.lists.items (sym c.loop-list.lists.ok.0 ∙ c.in_default.ensures.cases.0)) (c.loop-list.invariant.lists table w numbers same are))

@@ -1,4 +1,4 @@
-use Rattle.std.proofs.Common.{◌≡◌, ◌≤◌, List, ℕ, length, vec_capacity}
+use Rattle.std.proofs.Common.{◌≡◌, List, ℕ, length}
 use Rattle.pua_policy.specs.Calls.{CallTable}
 use Rattle.pua_script.specs.Replay.{World}
 use Rattle.pua_tool.specs.Lists.{AreListsOf}
@@ -10,9 +10,8 @@ use Rattle.pua_tool.proofs.objects.add_lists.Given as goal
 abbrev pub invariant-loop-list : goal.invariant-loop-list
 invariant-loop-list g l = record {
   tree : l.places.tree ≡ l.fn.places.tree;
-  room : 65536 ≤ vec_capacity l.block;
   lists : (table : CallTable) (w : World) (numbers : List ℕ) → l.fn.places.tree ≡ w.tree → AreListsOf table w numbers l.fn.lists.items → Left table w (lists_of table w numbers) l.lists.items
-      l.fn.block.items l.block.items (g.S.Sink.written l.fn.sink) (g.S.Sink.written l.sink) (g.S.Sink.failed l.fn.sink) (g.S.Sink.failed l.sink);
+      l.fn.block l.block (g.S.Sink.written l.fn.sink) (g.S.Sink.written l.sink) (g.S.Sink.failed l.fn.sink) (g.S.Sink.failed l.sink);
 }
 
 abbrev pub decreases-loop-list : goal.decreases-loop-list

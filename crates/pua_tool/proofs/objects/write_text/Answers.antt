@@ -1,32 +1,32 @@
-use Rattle.std.proofs.Common.{List, ℕ, [], Ok, Err, sym, subst}
+use Rattle.std.proofs.Common.{List, ℕ, ◌++◌, [], Ok, Err, subst}
 use Rattle.std.proofs.lemmas.Result.{err_from_is_err_and}
 use Rattle.pua_tool.specs.Blocks.{Passes}
 use Rattle.pua_tool.specs.ObjectTexts.{lists_of}
-use Rattle.pua_tool.specs.Sinks.{Adds, AddsFront}
-use Rattle.pua_tool.proofs.Passing.{passes_written}
-use Rattle.pua_tool.proofs.Putting.{writes_then, writes_front}
+use Rattle.pua_tool.proofs.Passing.{passes_then, passes_front, passes_written}
 use Rattle.pua_tool.proofs.objects.write_text.Goals as goal
 
-pub returns-in_err-put_all : goal.returns-in_err-put_all
-returns-in_err-put_all g c =
+pub returns-in_err-add_text : goal.returns-in_err-add_text
+returns-in_err-add_text g c =
     let p = err_from_is_err_and c.from_residual.result c.from_residual.ensures.1 in
     rw p.1 (λ table w numbers same are.
-    writes_front c.args.front.now (lists_of table w numbers) p.0 (g.S.Sink.written c.args.sink.now) (g.S.Sink.written c.put_all.new.sink) (g.S.Sink.failed c.args.sink.now) (g.S.Sink.failed c.put_all.new.sink)
-    (subst (λ (b : List ℕ). AddsFront b (g.S.Sink.written c.args.sink.now) (g.S.Sink.written c.put_all.new.sink)) c.as_bytes.ensures.value c.in_err-put_all.ensures.front, c.in_err-put_all.ensures.failed))
+    passes_front c.args.front.now (lists_of table w numbers) c.args.block.now [] [] p.0 (g.S.Sink.written c.args.sink.now) (g.S.Sink.written c.add_text.new.sink) (g.S.Sink.failed c.args.sink.now) (g.S.Sink.failed c.add_text.new.sink)
+    (subst (λ (t : List ℕ). Passes t (Err p.0) c.args.block.now [] (g.S.Sink.written c.args.sink.now) (g.S.Sink.written c.add_text.new.sink) (g.S.Sink.failed c.args.sink.now) (g.S.Sink.failed c.add_text.new.sink)) c.as_bytes.ensures.value c.in_err-add_text.ensures))
 
 pub returns-in_err-add_lists : goal.returns-in_err-add_lists
 returns-in_err-add_lists g c =
     let p = err_from_is_err_and c.from_residual-in_err-add_lists.result c.from_residual-in_err-add_lists.ensures.1 in
     rw p.1 (λ table w numbers same are.
-    writes_then c.args.front.now (lists_of table w numbers) (Err p.0) (g.S.Sink.written c.args.sink.now) (g.S.Sink.written c.put_all.new.sink) (g.S.Sink.written c.add_lists.new.sink) (g.S.Sink.failed c.args.sink.now) (g.S.Sink.failed c.put_all.new.sink) (g.S.Sink.failed c.add_lists.new.sink)
-    (subst (λ (b : List ℕ). Adds b (g.S.Sink.written c.args.sink.now) (g.S.Sink.written c.put_all.new.sink)) c.as_bytes.ensures.value c.in_ok-put_all.ensures.whole) c.in_ok-put_all.ensures.unfailed
-    (subst (λ (b : List ℕ). Passes (lists_of table w numbers) (Err p.0) b [] (g.S.Sink.written c.put_all.new.sink) (g.S.Sink.written c.add_lists.new.sink) (g.S.Sink.failed c.put_all.new.sink) (g.S.Sink.failed c.add_lists.new.sink)) c.requires.empty (c.in_err-add_lists.ensures table w numbers same are)))
+    passes_then c.args.front.now (lists_of table w numbers) c.args.block.now c.add_text.new.self [] (Err p.0)
+    (g.S.Sink.written c.args.sink.now) (g.S.Sink.written c.add_text.new.sink) (g.S.Sink.written c.add_lists.new.sink) (g.S.Sink.failed c.args.sink.now) (g.S.Sink.failed c.add_text.new.sink) (g.S.Sink.failed c.add_lists.new.sink)
+    (subst (λ (t : List ℕ). Passes t (Ok tt) c.args.block.now c.add_text.new.self (g.S.Sink.written c.args.sink.now) (g.S.Sink.written c.add_text.new.sink) (g.S.Sink.failed c.args.sink.now) (g.S.Sink.failed c.add_text.new.sink)) c.as_bytes.ensures.value c.in_ok-add_text.ensures)
+    (c.in_err-add_lists.ensures table w numbers same are))
 
 pub returns : goal.returns
 returns g c = λ table w numbers same are.
-    writes_then c.args.front.now (lists_of table w numbers) c.put_all-2.result (g.S.Sink.written c.args.sink.now) (g.S.Sink.written c.put_all.new.sink) (g.S.Sink.written c.put_all-2.new.sink) (g.S.Sink.failed c.args.sink.now) (g.S.Sink.failed c.put_all.new.sink) (g.S.Sink.failed c.put_all-2.new.sink)
-    (subst (λ (b : List ℕ). Adds b (g.S.Sink.written c.args.sink.now) (g.S.Sink.written c.put_all.new.sink)) c.as_bytes.ensures.value c.in_ok-put_all.ensures.whole) c.in_ok-put_all.ensures.unfailed
-    (passes_written (lists_of table w numbers) c.as_slice.result.now c.put_all-2.result (g.S.Sink.written c.put_all.new.sink) (g.S.Sink.written c.add_lists.new.sink) (g.S.Sink.written c.put_all-2.new.sink) (g.S.Sink.failed c.put_all.new.sink) (g.S.Sink.failed c.add_lists.new.sink) (g.S.Sink.failed c.put_all-2.new.sink)
-    (subst (λ (b : List ℕ). Passes (lists_of table w numbers) (Ok tt) [] b (g.S.Sink.written c.put_all.new.sink) (g.S.Sink.written c.add_lists.new.sink) (g.S.Sink.failed c.put_all.new.sink) (g.S.Sink.failed c.add_lists.new.sink)) (sym c.as_slice.ensures.value)
-    (subst (λ (b : List ℕ). Passes (lists_of table w numbers) (Ok tt) b c.add_lists.new.block.items (g.S.Sink.written c.put_all.new.sink) (g.S.Sink.written c.add_lists.new.sink) (g.S.Sink.failed c.put_all.new.sink) (g.S.Sink.failed c.add_lists.new.sink)) c.requires.empty (c.in_ok-add_lists.ensures table w numbers same are)))
-    c.put_all-2.ensures.whole c.put_all-2.ensures.unfailed c.put_all-2.ensures.front c.put_all-2.ensures.failed)
+    passes_written (c.args.front.now ++ (lists_of table w numbers)) c.args.block.now c.add_lists.new.block c.put.result
+    (g.S.Sink.written c.args.sink.now) (g.S.Sink.written c.add_lists.new.sink) (g.S.Sink.written c.put.new.sink) (g.S.Sink.failed c.args.sink.now) (g.S.Sink.failed c.add_lists.new.sink) (g.S.Sink.failed c.put.new.sink)
+    (passes_then c.args.front.now (lists_of table w numbers) c.args.block.now c.add_text.new.self c.add_lists.new.block (Ok tt)
+    (g.S.Sink.written c.args.sink.now) (g.S.Sink.written c.add_text.new.sink) (g.S.Sink.written c.add_lists.new.sink) (g.S.Sink.failed c.args.sink.now) (g.S.Sink.failed c.add_text.new.sink) (g.S.Sink.failed c.add_lists.new.sink)
+    (subst (λ (t : List ℕ). Passes t (Ok tt) c.args.block.now c.add_text.new.self (g.S.Sink.written c.args.sink.now) (g.S.Sink.written c.add_text.new.sink) (g.S.Sink.failed c.args.sink.now) (g.S.Sink.failed c.add_text.new.sink)) c.as_bytes.ensures.value c.in_ok-add_text.ensures)
+    (c.in_ok-add_lists.ensures table w numbers same are))
+    c.put.ensures

@@ -1,4 +1,4 @@
-use Rattle.std.proofs.Common.{◌≡◌, ◌≤◌, drop, map, vec_capacity}
+use Rattle.std.proofs.Common.{◌≡◌, drop, map}
 use Rattle.pua_tool.specs.States.{veil_lines}
 use Rattle.pua_tool.proofs.Passing.{Passing}
 use Rattle.pua_tool.proofs.veil_line.add_veils.Given as goal
@@ -7,7 +7,6 @@ use Rattle.pua_tool.proofs.veil_line.add_veils.Given as goal
 abbrev pub invariant-loop-veil : goal.invariant-loop-veil
 invariant-loop-veil g l = record {
   tree : l.places.tree ≡ l.fn.places.tree;
-  room : 65536 ≤ vec_capacity l.block;
   lines : Passing (veil_lines l.fn.places.tree (map (λ veil. (veil.0.now, veil.1.now)) l.veils)) (veil_lines l.fn.places.tree (map (λ veil. (veil.0.now, veil.1.now)) (drop l.veil-index l.veils)))
-      l.fn.block.items l.block.items (g.S.Sink.written l.fn.sink) (g.S.Sink.written l.sink) (g.S.Sink.failed l.fn.sink) (g.S.Sink.failed l.sink);
+      l.fn.block l.block (g.S.Sink.written l.fn.sink) (g.S.Sink.written l.sink) (g.S.Sink.failed l.fn.sink) (g.S.Sink.failed l.sink);
 }

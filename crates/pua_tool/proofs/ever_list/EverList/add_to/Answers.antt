@@ -13,7 +13,7 @@ use Rattle.pua_tool.proofs.ever_list.EverList.add_to.Goals as goal
 pub returns-in_err-add_to : goal.returns-in_err-add_to
 returns-in_err-add_to g c =
     let t = c.args.places.now.tree in
-    let old : List ℕ = c.args.block.now.items in
+    let old : List ℕ = c.args.block.now in
     let p = err_from_is_err_and c.from_residual.result c.from_residual.ensures.1 in
     rw p.1 (λ table process h is.
     let own = subst (IsEverListOf table t process h) (sym c.self.view_is) is in
@@ -23,11 +23,11 @@ returns-in_err-add_to g c =
 pub returns : goal.returns
 returns g c =
     let t = c.args.places.now.tree in
-    let old : List ℕ = c.args.block.now.items in
+    let old : List ℕ = c.args.block.now in
     λ table process h is.
     let own = subst (IsEverListOf table t process h) (sym c.self.view_is) is in
     let listed = (λ j. ever_lines (own.tree j) (lines_of (own.tree j) (own.rules j) h c.self.inside.ever.left)) ∙ ap (ever_lines t) own.left in
-    passes_then (head_lines t (codes "ever") process h) (ever_lines t (ever t table h)) old c.add_to.new.block.items c.add_ever.new.block.items c.add_ever.result
+    passes_then (head_lines t (codes "ever") process h) (ever_lines t (ever t table h)) old c.add_to.new.block c.add_ever.new.block c.add_ever.result
     (g.S.Sink.written c.args.sink.now) (g.S.Sink.written c.add_to.new.sink) (g.S.Sink.written c.add_ever.new.sink) (g.S.Sink.failed c.args.sink.now) (g.S.Sink.failed c.add_to.new.sink) (g.S.Sink.failed c.add_ever.new.sink)
     (c.in_ok-add_to.ensures.head (codes "ever") process h own.head)
-    (subst (λ (text : List ℕ). Passes text c.add_ever.result c.add_to.new.block.items c.add_ever.new.block.items (g.S.Sink.written c.add_to.new.sink) (g.S.Sink.written c.add_ever.new.sink) (g.S.Sink.failed c.add_to.new.sink) (g.S.Sink.failed c.add_ever.new.sink)) listed (c.add_ever.ensures.lines h own.stands))
+    (subst (λ (text : List ℕ). Passes text c.add_ever.result c.add_to.new.block c.add_ever.new.block (g.S.Sink.written c.add_to.new.sink) (g.S.Sink.written c.add_ever.new.sink) (g.S.Sink.failed c.add_to.new.sink) (g.S.Sink.failed c.add_ever.new.sink)) listed (c.add_ever.ensures h own.stands))
