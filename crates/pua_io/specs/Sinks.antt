@@ -1,7 +1,7 @@
 -- What was written to a sink, and what a whole writing leaves.
 use Rattle.std.specs.Prelude.{◌≡◌, ℕ, ◌+◌, ◌-◌, ◌^◌, ◌<◌, ◌≤◌, ◌⊎◌, List, length, take, min, Option, Result, Ok, Err}
 use Rattle.std.specs.Io.KnownBytes.{Appends}
-use Rattle.pua_tool.specs.declared.sink.PutFault.{PutFault}
+use Rattle.pua_io.specs.declared.sink.PutFault.{PutFault}
 
 -- a count of failures after one more; it stays at its greatest value
 abbrev pub counted : ℕ → ℕ

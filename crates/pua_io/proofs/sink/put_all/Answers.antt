@@ -1,6 +1,6 @@
 use Rattle.std.proofs.lemmas.Result.{err_from_is_err_and}
-use Rattle.pua_tool.proofs.Putting.{has_put_more, has_put_front}
-use Rattle.pua_tool.proofs.sink.put_all.Goals as goal
+use Rattle.pua_io.proofs.Putting.{has_put_more, has_put_front}
+use Rattle.pua_io.proofs.sink.put_all.Goals as goal
 
 pub returns-in_err-count-clause-front : goal.returns-in_err-count-clause-front
 returns-in_err-count-clause-front g c =

@@ -1,7 +1,7 @@
 use Rattle.std.proofs.Common.{◌≡◌, ◌+◌, ◌-◌, ◌≤◌, vec_len}
 use Rattle.std.specs.Io.KnownBytes.{Consumes}
-use Rattle.pua_tool.specs.declared.source.TheConstants.{MOST_INPUT_BYTES}
-use Rattle.pua_tool.proofs.source.read_bytes.Given as goal
+use Rattle.pua_io.specs.declared.source.TheConstants.{MOST_INPUT_BYTES}
+use Rattle.pua_io.proofs.source.read_bytes.Given as goal
 
 -- what was read so far is what the source lost, by one read for each byte at most
 abbrev pub invariant-loop-count : goal.invariant-loop-count

@@ -5,9 +5,9 @@ use Rattle.std.proofs.KnownBytes.{Appends-nil, Appends-trans, Appends-kept}
 use Rattle.std.proofs.lemmas.Bool.{cases_order}
 use Rattle.std.proofs.lemmas.List.{take-append-le}
 use lib.Seq.{take-append_seam}
-use Rattle.pua_tool.specs.Sinks.{Adds, AddsFront, HasFailed, Puts, Writes, counted}
+use Rattle.pua_io.specs.Sinks.{Adds, AddsFront, HasFailed, Puts, Writes, counted}
 use Rattle.std.specs.Prelude.{Result, Ok, Err, OnOk, OnErr}
-use Rattle.pua_tool.specs.declared.sink.PutFault.{PutFault}
+use Rattle.pua_io.specs.declared.sink.PutFault.{PutFault}
 
 -- a front of a text was put, and the rest is left
 pub record HasPut (text rest : List ℕ) (old new : Option (List ℕ)) : Type 0 where

@@ -1,6 +1,6 @@
 use Rattle.std.proofs.Common.{◌≡◌, drop, map}
-use Rattle.pua_tool.specs.Named.{kept_under}
-use Rattle.pua_tool.proofs.inputs.first_named.Given as goal
+use Rattle.pua_io.specs.Named.{kept_under}
+use Rattle.pua_io.proofs.inputs.first_named.Given as goal
 
 -- no name before this one was the one that is wanted
 abbrev pub invariant-loop-known : goal.invariant-loop-known

@@ -3,8 +3,8 @@
 ghost use Rattle.std.specs.Prelude.{◌≡◌, ◌≢◌, ◌≤◌, ◌+◌, ℕ, List, Option, Err, IfOk, OnOk, OnErr};
 ghost use Rattle.std.specs.Prelude.{IfSome, length};
 ghost use Rattle.std.specs.Io.KnownBytes.{ReadConsumes};
-ghost use Rattle.pua_tool.specs.Sinks.{counted};
-ghost use Rattle.pua_tool.specs.Sources.{CantBeRead};
+ghost use Rattle.pua_io.specs.Sinks.{counted};
+ghost use Rattle.pua_io.specs.Sources.{CantBeRead};
 
 use crate::inputs::InputFault;
 use std::alloc::Global;

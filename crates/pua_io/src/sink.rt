@@ -4,7 +4,7 @@ ghost use Rattle.std.specs.Prelude.{◌≡◌, ◌↔◌, ◌<◌, ◌≤◌, �
 ghost use Rattle.std.specs.Prelude.{IsErr, OnOk, OnErr, length, min};
 ghost use Rattle.std.specs.Io.Buffered.{writer_buffer, writer_contents};
 ghost use Rattle.std.specs.Io.KnownBytes.{Keeps};
-ghost use Rattle.pua_tool.specs.Sinks.{Adds, AddsFront, HasFailed, Puts, Memory, counted};
+ghost use Rattle.pua_io.specs.Sinks.{Adds, AddsFront, HasFailed, Puts, Memory, counted};
 
 use pua_tree::OutOfMemory;
 use std::alloc::Global;
@@ -59,7 +59,7 @@ pub struct MemorySink {
 
 impl Model for MemorySink {
     ghost use Rattle.std.specs.Prelude.{◌≤◌, vec_len, vec_capacity};
-    ghost use Rattle.pua_tool.specs.Sinks.{Memory};
+    ghost use Rattle.pua_io.specs.Sinks.{Memory};
 
     ghost Value = { Memory };
 

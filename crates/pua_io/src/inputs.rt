@@ -2,8 +2,8 @@
 
 ghost use Rattle.std.specs.Prelude.{◌≡◌, ◌↔◌, ◌≤◌, ℕ, List, Option, None, Some, IfOk, Err, map};
 ghost use Rattle.std.specs.Prelude.{option_map, length};
-ghost use Rattle.pua_tool.specs.Held.{Holds, HoldsNothing};
-ghost use Rattle.pua_tool.specs.Named.{kept_under};
+ghost use Rattle.pua_io.specs.Held.{Holds, HoldsNothing};
+ghost use Rattle.pua_io.specs.Named.{kept_under};
 
 use crate::source::{MOST_INPUT_BYTES, ReadSource, read_bytes};
 use std::alloc::Global;
@@ -45,7 +45,7 @@ pub struct MemoryInputs<'a> {
 
 impl<'a> Model for MemoryInputs<'a> {
     ghost use Rattle.std.specs.Prelude.{map};
-    ghost use Rattle.pua_tool.specs.Named.{Named};
+    ghost use Rattle.pua_io.specs.Named.{Named};
 
     ghost Value = { Named };
 

@@ -1,6 +1,6 @@
 use Rattle.std.proofs.Common.{◌≡◌, length}
-use Rattle.pua_tool.proofs.Putting.{HasPut}
-use Rattle.pua_tool.proofs.sink.put_all.Given as goal
+use Rattle.pua_io.proofs.Putting.{HasPut}
+use Rattle.pua_io.proofs.sink.put_all.Given as goal
 
 abbrev pub invariant-loop-rest : goal.invariant-loop-rest
 invariant-loop-rest g l = record {
