@@ -8,7 +8,7 @@ use Rattle.pua_tool.specs.Performed.{HasAnswered, HasEnded, HasHalted}
 use Rattle.pua_io.specs.Sinks.{Adds, AddsFront, HasFailed, counted}
 use Rattle.pua_io.specs.declared.sink.PutFault.{PutFault}
 use Rattle.pua_tool.specs.declared.status.TheConstants.{DONE, DEVICE}
-use Rattle.pua_io.proofs.Putting.{counted_has_failed}
+use Rattle.pua_io.proofs.ForCallers.{counted_has_failed}
 
 -- a count of failures that rose stays so after a flush
 failed_still : (flushed : Result (Unit {0}) PutFault) (before between after : ℕ) → OnOk flushed (after ≡ between) → OnErr flushed (after ≡ counted between) → HasFailed before between → HasFailed before after
