@@ -3,12 +3,12 @@ use Rattle.std.proofs.Common.{ℕ, ◌<◌, ◌≡◌, ◌≢◌, ◌⊎◌, Lis
 use Rattle.std.proofs.lemmas.Bool.{cases_order}
 use Rattle.std.specs.Io.KnownBytes.{Keeps}
 use Rattle.std.proofs.KnownBytes.{Appends-kept}
-use Rattle.pua_tool.specs.Held.{Held}
+use Rattle.pua_io.specs.Held.{Held}
 use Rattle.pua_tool.specs.Performed.{HasAnswered, HasEnded, HasHalted}
-use Rattle.pua_tool.specs.Sinks.{Adds, AddsFront, HasFailed, counted}
-use Rattle.pua_tool.specs.declared.sink.PutFault.{PutFault}
+use Rattle.pua_io.specs.Sinks.{Adds, AddsFront, HasFailed, counted}
+use Rattle.pua_io.specs.declared.sink.PutFault.{PutFault}
 use Rattle.pua_tool.specs.declared.status.TheConstants.{DONE, DEVICE}
-use Rattle.pua_tool.proofs.Putting.{counted_has_failed}
+use Rattle.pua_io.proofs.ForCallers.{counted_has_failed}
 
 -- a count of failures that rose stays so after a flush
 failed_still : (flushed : Result (Unit {0}) PutFault) (before between after : ℕ) → OnOk flushed (after ≡ between) → OnErr flushed (after ≡ counted between) → HasFailed before between → HasFailed before after

@@ -22,7 +22,7 @@ use Rattle.pua_ever.specs.declared.line.EverThing.TheVariants as told
 use Rattle.pua_tool.specs.EverLists.{EverListState, IsEverListOf}
 use Rattle.pua_tool.specs.EverTexts.{Answers, ever_after, ever_lines, ever_list, ever_text, kind_of, path_or_new, unless_refused}
 use Rattle.pua_tool.specs.ObjectTexts.{Tells}
-use Rattle.pua_tool.specs.Sinks.{Adds, AddsFront, HasFailed}
+use Rattle.pua_io.specs.Sinks.{Adds, AddsFront, HasFailed}
 use Rattle.pua_tool.specs.Texts.{Replayed, answer_lines, ended, replayed}
 use Rattle.pua_tool.specs.declared.fault.ToolFault.{ToolFault}
 use Rattle.pua_tool.specs.declared.fault.ToolFault.TheVariants.{NoProcess, Write, OutOfMemory}

@@ -1,4 +1,3 @@
-pub mod Putting
 pub mod Replays
 pub mod Pairs
 pub mod Tables

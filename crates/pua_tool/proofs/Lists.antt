@@ -9,7 +9,7 @@ use Rattle.pua_script.specs.Replay.{World, history_of}
 use Rattle.pua_tool.specs.ObjectTexts.{process_list, lists_of}
 use Rattle.pua_tool.specs.Lists.{ListState, IsListOf, BeginsWith, AreListsOf}
 use Rattle.pua_tool.specs.Blocks.{Passes}
-use Rattle.pua_tool.specs.declared.sink.PutFault.{PutFault}
+use Rattle.pua_io.specs.declared.sink.PutFault.{PutFault}
 use Rattle.pua_tool.proofs.Passing.{Passing, passes_none, passing_none, passing_more, passing_fails, passing_last}
 
 -- the same list by other names

@@ -26,7 +26,7 @@ use Rattle.pua_objects.specs.Ready.{IsListed, HasNoLine, lines_of}
 use Rattle.pua_objects.specs.declared.line.ObjectLine.{ObjectLine}
 use Rattle.std.specs.Borrow.{Bor}
 use Rattle.pua_tool.specs.Texts.{Replayed, replayed, ended}
-use Rattle.pua_tool.specs.Sinks.{Adds, AddsFront, HasFailed}
+use Rattle.pua_io.specs.Sinks.{Adds, AddsFront, HasFailed}
 use Rattle.pua_tool.specs.ObjectTexts.{object_lines, lists_of, numbers_asked, objects_after, objects_text, Tells}
 use Rattle.pua_tool.specs.declared.fault.ToolFault.{ToolFault}
 use Rattle.pua_tool.specs.declared.fault.ToolFault.TheVariants.{Listing, Script, NoProcess, Audit, Write, OutOfMemory, Table, CanUnveil, LacksC, RenameLacksC, LinkLacksC}

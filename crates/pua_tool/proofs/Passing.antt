@@ -2,10 +2,10 @@
 use Rattle.std.proofs.Common.{◌≡◌, ℕ, List, [], ◌++◌, Option, Result, Ok, Err, refl, sym, ap, ◌∙◌, subst, append_assoc, append-nil}
 use Rattle.std.specs.Prelude.{OnOk, OnErr}
 use Rattle.std.proofs.KnownBytes.{Appends-nil, Appends-trans}
-use Rattle.pua_tool.specs.Sinks.{Adds, AddsFront, HasFailed, Writes}
+use Rattle.pua_io.specs.Sinks.{Adds, AddsFront, HasFailed, Writes}
 use Rattle.pua_tool.specs.Blocks.{HandsOn, Passes}
-use Rattle.pua_tool.specs.declared.sink.PutFault.{PutFault}
-use Rattle.pua_tool.proofs.Putting.{writes_then, writes_front}
+use Rattle.pua_io.specs.declared.sink.PutFault.{PutFault}
+use Rattle.pua_io.proofs.ForCallers.{writes_then, writes_front}
 
 -- no text
 pub passes_none : (block : List ℕ) (a : Option (List ℕ)) (n : ℕ) → Passes [] (Ok tt) block block a a n n

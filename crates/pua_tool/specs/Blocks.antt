@@ -1,7 +1,7 @@
 -- Blocks of bytes on the way to a sink.
 use Rattle.std.specs.Prelude.{◌≡◌, ℕ, List, ◌++◌, Option, Result, Ok, Err}
-use Rattle.pua_tool.specs.Sinks.{Adds, AddsFront, HasFailed}
-use Rattle.pua_tool.specs.declared.sink.PutFault.{PutFault}
+use Rattle.pua_io.specs.Sinks.{Adds, AddsFront, HasFailed}
+use Rattle.pua_io.specs.declared.sink.PutFault.{PutFault}
 
 -- the bytes that a block has no more were added to a sink
 pub record HandsOn (old new : List ℕ) (before after : Option (List ℕ)) : Type 0 where

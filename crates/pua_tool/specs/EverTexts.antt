@@ -14,7 +14,7 @@ use Rattle.pua_ever.specs.declared.line.EverThing.TheVariants.{Stands, Comes}
 use Rattle.pua_ever.specs.declared.refusal.Refusal.{Refusal}
 use Rattle.pua_ever.specs.declared.refusal.Refusal.TheVariants as refused
 use Rattle.pua_objects.specs.declared.kind.ObjectKind.{ObjectKind}
-use Rattle.pua_tool.specs.Sinks.{Adds, AddsFront, HasFailed}
+use Rattle.pua_io.specs.Sinks.{Adds, AddsFront, HasFailed}
 use Rattle.pua_tool.specs.States.{head_lines}
 use Rattle.pua_tool.specs.Texts.{Replayed, ended, answer_lines, replayed}
 use Rattle.pua_tool.specs.declared.fault.ToolFault.{ToolFault}

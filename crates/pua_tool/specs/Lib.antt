@@ -1,8 +1,4 @@
-pub mod Sinks
 pub mod Blocks
-pub mod Sources
-pub mod Named
-pub mod Held
 pub mod Statuses
 pub mod Texts
 pub mod States

@@ -14,7 +14,7 @@ use Rattle.pua_tool.specs.States.{head_lines}
 use Rattle.pua_tool.specs.Texts.{ended, answer_lines, replayed}
 use Rattle.pua_tool.specs.declared.fault.ToolFault.{ToolFault}
 use Rattle.pua_tool.specs.declared.fault.ToolFault.TheVariants.{NoProcess, Write, OutOfMemory}
-use Rattle.pua_tool.specs.Sinks.{Adds, AddsFront, HasFailed}
+use Rattle.pua_io.specs.Sinks.{Adds, AddsFront, HasFailed}
 
 abbrev pub object_lines : Tree → List Line → List ℕ
 object_lines t lines = flat_map (λ line. ended (line_text t line)) lines

@@ -11,8 +11,8 @@ use Rattle.pua_tool.specs.declared.fault.ToolFault.TheVariants.{Write, OutOfMemo
 use Rattle.pua_tool.specs.declared.outcome.CommandFault.{CommandFault}
 use Rattle.pua_tool.specs.declared.outcome.CommandFault.TheVariants.{Usage, Unreadable, Tool}
 use Rattle.pua_tool.specs.declared.status.TheConstants.{REFUSED}
-use Rattle.pua_tool.specs.Held.{Held, Holds, HoldsNothing}
-use Rattle.pua_tool.specs.Sinks.{Adds, AddsFront, HasFailed}
+use Rattle.pua_io.specs.Held.{Held, Holds, HoldsNothing}
+use Rattle.pua_io.specs.Sinks.{Adds, AddsFront, HasFailed}
 use Rattle.pua_tool.specs.Statuses.{status_of}
 use Rattle.pua_tool.specs.Texts.{given, run_text, audit_text, wanted_by}
 use Rattle.pua_tool.specs.ObjectTexts.{objects_text}

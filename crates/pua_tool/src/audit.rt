@@ -3,7 +3,7 @@
 ghost use Rattle.std.specs.Prelude.{◌≡◌, ◌≢◌, ◌++◌, ℕ, List, [], Ok, Err, IfOk, IfErr, OnOk};
 ghost use Rattle.pua_tool.specs.Texts.{Begun, given, wanted, begun, audit_text, pair_lines};
 ghost use Rattle.pua_tool.specs.Begun.{IsBegun, text_left};
-ghost use Rattle.pua_tool.specs.Sinks.{Adds, AddsFront, HasFailed, WritesTo};
+ghost use Rattle.pua_io.specs.Sinks.{Adds, AddsFront, HasFailed, WritesTo};
 
 use crate::answers::front_text;
 use crate::block::Block;
@@ -11,8 +11,8 @@ use crate::fault::ToolFault;
 use crate::job::Job;
 use crate::line::add_pairs;
 use crate::script::{ProgramTree, Replay, replay_script};
-use crate::sink::{PutFault, Sink};
 use pua_audit::{Audit, AuditFault};
+use pua_io::{PutFault, Sink};
 use pua_path::{Counted, Probe};
 use pua_script::{Answer, World};
 use std::alloc::Global;

@@ -2,9 +2,9 @@
 
 ghost use Rattle.std.specs.Prelude.{◌≡◌, ◌≤◌, ◌+◌, ◌*◌, ◌++◌, [], IfOk, OnOk, OnErr, length, take};
 ghost use Rattle.pua_tool.specs.Blocks.{HandsOn, PassesOn};
-ghost use Rattle.pua_tool.specs.Sinks.{AddsFront, HasFailed, WritesTo};
+ghost use Rattle.pua_io.specs.Sinks.{AddsFront, HasFailed, WritesTo};
 
-use crate::sink::{PutFault, Sink, put_all};
+use pua_io::{PutFault, Sink, put_all};
 use pua_path::PATH_LIMIT;
 use pua_tree::OutOfMemory;
 use std::alloc::Global;

@@ -7,7 +7,7 @@ ghost use Rattle.pua_tool.specs.Begun.{IsReplay};
 ghost use Rattle.pua_tool.specs.EverLists.{IsEverListOf};
 ghost use Rattle.pua_tool.specs.EverTexts.{AnswersTo, ever_after, ever_list, ever_text};
 ghost use Rattle.pua_tool.specs.Texts.{Replayed, given};
-ghost use Rattle.pua_tool.specs.Sinks.{Adds, AddsFront, HasFailed, WritesTo};
+ghost use Rattle.pua_io.specs.Sinks.{Adds, AddsFront, HasFailed, WritesTo};
 
 use crate::answers::answer_text;
 use crate::block::Block;
@@ -16,7 +16,7 @@ use crate::fault::ToolFault;
 use crate::objects::told;
 use crate::places::Places;
 use crate::script::{Replay, replay_script};
-use crate::sink::{PutFault, Sink};
+use pua_io::{PutFault, Sink};
 use pua_tree::FileTree;
 use std::alloc::Global;
 

@@ -13,8 +13,8 @@ ghost use Rattle.pua_tool.specs.Texts.{ended};
 
 use crate::block::Block;
 use crate::object_line::{add_calls, add_line, kind_bytes};
-use crate::sink::{PutFault, Sink};
 use pua_ever::{Ever, EverLine, EverThing};
+use pua_io::{PutFault, Sink};
 use pua_objects::{ObjectKind, ObjectLine};
 use pua_policy::Calls;
 use pua_tree::{FileTree, Name};

@@ -10,7 +10,6 @@ mod ever;
 mod ever_line;
 mod ever_list;
 mod fault;
-mod inputs;
 mod job;
 mod laws;
 mod line;
@@ -23,8 +22,6 @@ mod process_list;
 mod run;
 mod script;
 mod service;
-mod sink;
-mod source;
 mod state;
 mod status;
 mod veil_line;
@@ -33,13 +30,14 @@ pub use audit::audit_to;
 pub use cli::{command, program};
 pub use ever::ever_to;
 pub use fault::ToolFault;
-pub use inputs::{DiskInputs, InputFault, Inputs, MemoryInputs, read_file};
 pub use job::Job;
 pub use laws::{confined, narrowing, state_law, text_examples, trees_alike};
 pub use objects::objects_to;
+pub use pua_io::{
+    DiskInputs, InputFault, Inputs, MOST_INPUT_BYTES, MemoryInputs, MemorySink, PutFault,
+    ReadFault, ReadSource, Sink, Source, StreamSink, put_all, read_bytes, read_file,
+};
 pub use pua_words::{AuditWords, Command, EverWords, ObjectWords, Processes, Text, UsageLine};
 pub use run::run_to;
 pub use service::perform;
-pub use sink::{MemorySink, PutFault, Sink, StreamSink, put_all};
-pub use source::{MOST_INPUT_BYTES, ReadFault, ReadSource, Source, read_bytes};
 pub use status::{DEVICE, DONE, MEMORY, REFUSED, USAGE};

@@ -8,8 +8,8 @@ ghost use Rattle.pua_tool.specs.Texts.{ended, pair_lines};
 ghost use Rattle.pua_tool.specs.Blocks.{PassesOn};
 
 use crate::block::{BLOCK, Block, MOST_END, MOST_LINE};
-use crate::sink::{PutFault, Sink};
 use pua_audit::Audit;
+use pua_io::{PutFault, Sink};
 use pua_path::Probe;
 use pua_policy::Call;
 use pua_tree::{are_plain, byte_spelling};

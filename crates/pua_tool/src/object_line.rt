@@ -16,7 +16,7 @@ ghost use Rattle.pua_tool.specs.Texts.{ended};
 
 use crate::block::{BLOCK, Block, MOST_LINE};
 use crate::line::{MOST_NAME, add_call, add_printed};
-use crate::sink::{PutFault, Sink};
+use pua_io::{PutFault, Sink};
 use pua_objects::{ObjectKind, ObjectLine, Objects};
 use pua_policy::{Call, Calls};
 use pua_tree::{FileTree, Name};

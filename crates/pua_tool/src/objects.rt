@@ -10,7 +10,7 @@ ghost use Rattle.pua_tool.specs.Blocks.{PassesOn};
 ghost use Rattle.pua_tool.specs.Lists.{AreListsOf};
 ghost use Rattle.pua_tool.specs.ObjectTexts.{Tells, TellsTo, lists_of, numbers_asked, objects_text};
 ghost use Rattle.pua_tool.specs.Texts.{given};
-ghost use Rattle.pua_tool.specs.Sinks.{Adds, AddsFront, HasFailed, Writes, WritesTo};
+ghost use Rattle.pua_io.specs.Sinks.{Adds, AddsFront, HasFailed, Writes, WritesTo};
 
 use crate::answers::answer_text;
 use crate::block::Block;
@@ -18,7 +18,7 @@ use crate::fault::ToolFault;
 use crate::places::Places;
 use crate::process_list::ProcessList;
 use crate::script::{Replay, replay_script};
-use crate::sink::{PutFault, Sink};
+use pua_io::{PutFault, Sink};
 use pua_script::World;
 use pua_tree::{FileTree, OutOfMemory};
 use pua_words::Processes;

@@ -1,14 +1,14 @@
 //! How a command ends: with which line, and with which status.
 
 ghost use Rattle.std.specs.Prelude.{◌≡◌, IfErr, OnOk};
-ghost use Rattle.pua_tool.specs.Sinks.{Adds, Writes};
+ghost use Rattle.pua_io.specs.Sinks.{Adds, Writes};
 ghost use Rattle.pua_tool.specs.Statuses.{fault_status, status_after};
 ghost use Rattle.pua_tool.specs.Texts.{ended};
 ghost use Rattle.pua_tool.specs.Told.{IsFaultTold, TellsFault};
 
 use crate::fault::{CANNOT_WRITE, NO_PROCESS, OUT_OF_MEMORY, ToolFault};
-use crate::sink::{PutFault, Sink, put_all};
 use crate::status::{DEVICE, DONE, USAGE};
+use pua_io::{PutFault, Sink, put_all};
 use pua_words::UsageLine;
 use std::fmt;
 use std::fmt::Write;

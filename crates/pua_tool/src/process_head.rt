@@ -8,9 +8,9 @@ ghost use Rattle.pua_tool.specs.States.{head_lines, living_veils};
 
 use crate::block::Block;
 use crate::places::Places;
-use crate::sink::{PutFault, Sink};
 use crate::state::head_text;
 use crate::veil_line::add_veils;
+use pua_io::{PutFault, Sink};
 use pua_policy::{Perms, Place, Process};
 use pua_tree::{FileTree, OutOfMemory};
 use std::alloc::Global;

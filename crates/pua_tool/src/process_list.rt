@@ -11,7 +11,7 @@ use crate::block::Block;
 use crate::object_line::add_objects;
 use crate::places::Places;
 use crate::process_head::ProcessHead;
-use crate::sink::{PutFault, Sink};
+use pua_io::{PutFault, Sink};
 use pua_objects::Objects;
 use pua_policy::{CallTable, Process};
 use pua_tree::{FileTree, OutOfMemory};

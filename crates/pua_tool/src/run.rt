@@ -2,12 +2,12 @@
 
 ghost use Rattle.std.specs.Prelude.{◌≡◌, ◌≢◌, ℕ, List, Ok, Err, IfErr, OnOk};
 ghost use Rattle.pua_tool.specs.Texts.{given, run_text};
-ghost use Rattle.pua_tool.specs.Sinks.{Adds, AddsFront, HasFailed};
+ghost use Rattle.pua_io.specs.Sinks.{Adds, AddsFront, HasFailed};
 
 use crate::answers::answer_text;
 use crate::fault::ToolFault;
 use crate::script::replay_script;
-use crate::sink::{Sink, put_all};
+use pua_io::{Sink, put_all};
 use std::alloc::Global;
 
 /// Writes the text of a run: for each line of the script its number and what it was answered, where

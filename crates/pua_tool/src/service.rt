@@ -2,11 +2,11 @@
 
 ghost use Rattle.std.specs.Prelude.{◌≡◌, ◌≢◌, ◌≤◌, ◌⊎◌, ℕ, List, Ok, Err, OnOk, IfOk, IfErr};
 ghost use Rattle.std.specs.Prelude.{option_map};
-ghost use Rattle.pua_tool.specs.Held.{Holds};
+ghost use Rattle.pua_io.specs.Held.{Holds};
 ghost use Rattle.pua_tool.specs.Performed.{HoldsTable, IsCutShort, IsDone, IsRefused, IsStopped};
 ghost use Rattle.pua_tool.specs.Performed.{IsTableUnheld, IsUnheld, IsUntaken, LacksInput};
 ghost use Rattle.pua_tool.specs.Performed.{text_asked};
-ghost use Rattle.pua_tool.specs.Sinks.{Adds, AddsFront, HasFailed};
+ghost use Rattle.pua_io.specs.Sinks.{Adds, AddsFront, HasFailed};
 ghost use Rattle.pua_tool.specs.Statuses.{fault_status};
 ghost use Rattle.pua_tool.specs.Texts.{given};
 ghost use Rattle.pua_tool.specs.Told.{IsFaultTold};
@@ -15,13 +15,12 @@ ghost use Rattle.pua_tool.specs.declared.outcome.CommandFault.{CommandFault};
 use crate::audit::audit_to;
 use crate::ever::ever_to;
 use crate::fault::ToolFault;
-use crate::inputs::{InputFault, Inputs};
 use crate::job::job_of;
 use crate::objects::objects_to;
 use crate::outcome::{CommandFault, finish};
 use crate::run::run_to;
-use crate::sink::Sink;
 use crate::status::{DEVICE, DONE, MEMORY, REFUSED, USAGE};
+use pua_io::{InputFault, Inputs, Sink};
 use pua_words::{Command, Text};
 use std::alloc::Global;
 

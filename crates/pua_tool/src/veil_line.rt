@@ -8,7 +8,7 @@ ghost use Rattle.pua_tool.specs.States.{or_equals, path_or_hyphen, veil_lines};
 use crate::block::Block;
 use crate::object_line::add_path;
 use crate::places::Places;
-use crate::sink::{PutFault, Sink};
+use pua_io::{PutFault, Sink};
 use pua_policy::{Perms, Place};
 use pua_tree::{FileTree, Name};
 

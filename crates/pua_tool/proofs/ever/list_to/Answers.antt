@@ -6,7 +6,7 @@ use Rattle.pua_script.specs.Replay.{history_of}
 use Rattle.pua_ever.specs.Refusals.{refusal}
 use Rattle.pua_tool.specs.EverLists.{IsEverListOf}
 use Rattle.pua_tool.specs.EverTexts.{ever_after, ever_list, unless_refused}
-use Rattle.pua_tool.specs.Sinks.{Writes}
+use Rattle.pua_io.specs.Sinks.{Writes}
 use Rattle.pua_tool.specs.Texts.{Replayed, answer_lines}
 use Rattle.pua_tool.specs.Begun.{IsReplay}
 use Rattle.pua_tool.specs.declared.fault.ToolFault.TheVariants.{OutOfMemory}

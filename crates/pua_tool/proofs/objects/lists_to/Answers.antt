@@ -1,6 +1,6 @@
 use Rattle.std.proofs.Common.{List, ℕ, ◌++◌, subst, ◌∙◌}
 use Rattle.pua_tool.specs.ObjectTexts.{lists_of}
-use Rattle.pua_tool.specs.Sinks.{Writes}
+use Rattle.pua_io.specs.Sinks.{Writes}
 use Rattle.pua_tool.proofs.objects.lists_to.Goals as goal
 
 pub returns : goal.returns

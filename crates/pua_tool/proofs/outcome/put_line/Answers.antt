@@ -1,6 +1,6 @@
 use Rattle.std.proofs.Common.{List, ℕ, [], ◌∷◌, subst}
-use Rattle.pua_tool.specs.Sinks.{Adds, Writes}
-use Rattle.pua_tool.proofs.Putting.{writes_then, writes_by_put}
+use Rattle.pua_io.specs.Sinks.{Adds, Writes}
+use Rattle.pua_io.proofs.ForCallers.{writes_then, writes_by_put}
 use Rattle.pua_tool.proofs.outcome.put_line.Goals as goal
 
 pub returns : goal.returns

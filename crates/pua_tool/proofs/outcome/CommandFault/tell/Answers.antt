@@ -1,7 +1,7 @@
 use Rattle.std.proofs.Common.{List, ℕ, [], ◌∷◌, ◌++◌, codes, subst}
 use Rattle.std.proofs.lemmas.Result.{err_from_is_err_and}
-use Rattle.pua_tool.specs.Sinks.{Adds, AddsFront}
-use Rattle.pua_tool.proofs.Putting.{writes_then, writes_front}
+use Rattle.pua_io.specs.Sinks.{Adds, AddsFront}
+use Rattle.pua_io.proofs.ForCallers.{writes_then, writes_front}
 use Rattle.pua_tool.proofs.outcome.CommandFault.tell.Goals as goal
 
 pub returns-in_err-put_all-in-Unreadable : goal.returns-in_err-put_all-in-Unreadable

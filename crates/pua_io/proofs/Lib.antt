@@ -1,0 +1,2 @@
+pub mod ForCallers
+pub mod Putting

@@ -1,0 +1,5 @@
+use Rattle.std.proofs.Common.{rules}
+use Rattle.pua_io.proofs.sink.MemorySink.new.Goals as goal
+
+pub returns : goal.returns
+returns c = search rules

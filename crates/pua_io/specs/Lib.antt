@@ -1,0 +1,4 @@
+pub mod Sinks
+pub mod Sources
+pub mod Named
+pub mod Held

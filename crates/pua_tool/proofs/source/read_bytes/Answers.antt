@@ -1,6 +1,0 @@
-use Rattle.std.proofs.Common.{arith}
-use Rattle.std.proofs.lemmas.Grind.{common_steps}
-use Rattle.pua_tool.proofs.source.read_bytes.Goals as goal
-
-pub returns-then-count-len-clause-unreadable : goal.returns-then-count-len-clause-unreadable
-returns-then-count-len-clause-unreadable g c = grind (arith, common_steps)
