@@ -12,7 +12,7 @@ ghost use Rattle.pua_script.specs.Worlds.{Attempts, AttemptsEdit, Does, Edits};
 use crate::answer::Answer;
 use crate::fault::WorldFault;
 use pua_path::Errno;
-use pua_policy::{Perms, Place, Process, Promises, UnveilFault};
+use pua_policy::{ExecPromises, Perms, Place, Process, Promises, UnveilFault};
 use pua_tree::{FileTree, Kind, Name, NodeId, TreeFault};
 
 /// A directory, and a name in it.
@@ -31,8 +31,8 @@ pub(crate) enum Granted<'a> {
     ShiftRow(Spot, Spot),
     /// A node gets a further name at a spot where nothing stands.
     TieRow(Spot, NodeId),
-    /// The process becomes that of a new program.
-    BeginProgram,
+    /// The process becomes that of a new program, to which so much of execpromises is left.
+    BeginProgram(ExecPromises),
     /// Promises and execpromises are given up, if the process may pledge so.
     Pledge(Option<Promises>, Option<Promises>),
     /// A veil is put on a place, if the veils kept so far allow it.
@@ -66,8 +66,8 @@ pub(crate) fn make<T: FileTree>(
         Granted::CutRow(spot) => Ok(cut(tree, spot)),
         Granted::ShiftRow(from, to) => shift(tree, from, to),
         Granted::TieRow(spot, node) => tie(tree, spot, node),
-        Granted::BeginProgram => {
-            process.exec_into();
+        Granted::BeginProgram(left) => {
+            process.exec_by(left);
             Ok(Answer::Okay)
         }
         Granted::Pledge(promises, execpromises) => Ok(pledge(process, promises, execpromises)),

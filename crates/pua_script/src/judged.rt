@@ -70,21 +70,21 @@ pub(crate) fn decide_call<'a, T: FileTree>(
 {
     promised_for(process, table, call)?;
     match judge_object(tree, table, process, call, path) {
-        Ok(found) => Ok(change_by(call, &found)),
+        Ok(found) => Ok(change_by(table, call, &found)),
         Err(errno) => Err(Refusal::Failed(errno)),
     }
 }
 
 /// What an allowed call changes, by what its path named.
-fn change_by<'a>(call: Call, found: &Found) -> Granted<'a>
-    ensures { (h : History) → decision_by h result ≡ Ok (change_by call found.now) }
+fn change_by<'a>(table: &CallTable, call: Call, found: &Found) -> Granted<'a>
+    ensures { (h : History) → decision_by h result ≡ Ok (change_by table.now call found.now) }
 {
     match call {
         Call::Create => adding(Kind::File, None, found),
         Call::Mkdir => adding(Kind::Dir, None, found),
         Call::Rmdir | Call::Unlink => removing(found),
         Call::Chdir => entering(found),
-        Call::Exec => Granted::BeginProgram,
+        Call::Exec => Granted::BeginProgram(table.execpromises()),
         _ => Granted::NoChange,
     }
 }
