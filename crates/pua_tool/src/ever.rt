@@ -6,7 +6,7 @@ ghost use Rattle.pua_policy.specs.History.{History};
 ghost use Rattle.pua_tool.specs.Begun.{IsReplay};
 ghost use Rattle.pua_tool.specs.EverLists.{IsEverListOf};
 ghost use Rattle.pua_tool.specs.EverTexts.{AnswersTo, ever_after, ever_list, ever_text};
-ghost use Rattle.pua_tool.specs.Texts.{Replayed, given};
+ghost use Rattle.pua_tool.specs.Texts.{Replayed, chosen};
 ghost use Rattle.pua_io.specs.Sinks.{Adds, AddsFront, HasFailed, WritesTo};
 
 use crate::answers::answer_text;
@@ -16,6 +16,7 @@ use crate::fault::ToolFault;
 use crate::objects::told;
 use crate::places::Places;
 use crate::script::{Replay, replay_script};
+use crate::table::TableChoice;
 use pua_io::{PutFault, Sink};
 use pua_tree::FileTree;
 use std::alloc::Global;
@@ -28,8 +29,7 @@ use std::alloc::Global;
 /// can make: `dir`, `other` for the further names of such a directory, `file` and `link`. The calls of
 /// a line are all that can ever be allowed on the thing, wherever it is moved. After a line of what
 /// stands at a name with a veil of its own, and can be taken away, stands a line of the missing name.
-/// What a call needs is said by the text with the table of calls, or by the standard table where there
-/// is none.
+/// What a call needs is said by the table of calls that is chosen.
 ///
 /// The first that holds of `Table`, `Listing`, `Script`, `NoProcess`, `CanUnveil`, `LacksC`,
 /// `RenameLacksC` and `LinkLacksC` is answered before anything is written. So is `OutOfMemory`,
@@ -39,21 +39,21 @@ pub fn ever_to<S: Sink>(
     alloc: Global,
     tree_bytes: &[u8],
     script_bytes: &[u8],
-    table: Option<&[u8]>,
+    table: TableChoice<'_>,
     process: u32,
     sink: &mut S,
 ) -> Result<(), ToolFault>
     ensures whole { OnOk result ((text : List ℕ)
-        × (ever_text (given table.entry) tree_bytes.now script_bytes.now process ≡ Ok text)
+        × (ever_text (chosen table.entry) tree_bytes.now script_bytes.now process ≡ Ok text)
         × Adds text (S.written sink.old) (S.written sink.new)) }
     ensures unfailed { OnOk result (S.failed sink.new ≡ S.failed sink.old) }
     ensures write { result ≡ Err ToolFault.Write → (text : List ℕ)
-        × (ever_text (given table.entry) tree_bytes.now script_bytes.now process ≡ Ok text)
+        × (ever_text (chosen table.entry) tree_bytes.now script_bytes.now process ≡ Ok text)
         × AddsFront text (S.written sink.old) (S.written sink.new)
         × HasFailed (S.failed sink.old) (S.failed sink.new) }
     ensures refused { IfErr result (λ fault. fault ≢ ToolFault.Write →
         fault ≢ ToolFault.OutOfMemory →
-        (ever_text (given table.entry) tree_bytes.now script_bytes.now process ≡ Err fault)) }
+        (ever_text (chosen table.entry) tree_bytes.now script_bytes.now process ≡ Err fault)) }
     ensures unwritten { IfErr result (λ fault. fault ≢ ToolFault.Write →
         S.written sink.new ≡ S.written sink.old) }
 {

@@ -9,7 +9,7 @@ ghost use Rattle.pua_words.specs.declared.command.Processes.TheVariants as which
 ghost use Rattle.pua_tool.specs.Blocks.{PassesOn};
 ghost use Rattle.pua_tool.specs.Lists.{AreListsOf};
 ghost use Rattle.pua_tool.specs.ObjectTexts.{Tells, TellsTo, lists_of, numbers_asked, objects_text};
-ghost use Rattle.pua_tool.specs.Texts.{given};
+ghost use Rattle.pua_tool.specs.Texts.{chosen};
 ghost use Rattle.pua_io.specs.Sinks.{Adds, AddsFront, HasFailed, Writes, WritesTo};
 
 use crate::answers::answer_text;
@@ -18,6 +18,7 @@ use crate::fault::ToolFault;
 use crate::places::Places;
 use crate::process_list::ProcessList;
 use crate::script::{Replay, replay_script};
+use crate::table::TableChoice;
 use pua_io::{PutFault, Sink};
 use pua_script::World;
 use pua_tree::{FileTree, OutOfMemory};
@@ -37,8 +38,8 @@ use std::collections::VecDeque;
 /// pledge gave any; `unveil` with `locked`, with `given-up` where it isn't locked and lacks the promise
 /// `unveil`, or with `open`; and for each veil that is kept, in the order in which their places were
 /// first kept, `veil PATH LETTERS`: where its place stands now, `-` where its directory was removed,
-/// and its letters, `=` for none. What a call needs is said by the text with the table of calls, or by
-/// the standard table where there is none.
+/// and its letters, `=` for none. What a call needs is said by the table of calls that is
+/// chosen.
 ///
 /// The first that holds of `Table`, `Listing`, `Script` and `NoProcess` is answered before anything is
 /// written. So is `OutOfMemory`, wherever a growth was refused. `Write` is answered only where a put
@@ -47,21 +48,21 @@ pub fn objects_to<S: Sink>(
     alloc: Global,
     tree_bytes: &[u8],
     script_bytes: &[u8],
-    table: Option<&[u8]>,
+    table: TableChoice<'_>,
     processes: Processes,
     sink: &mut S,
 ) -> Result<(), ToolFault>
     ensures whole { OnOk result ((text : List ℕ)
-        × (objects_text (given table.entry) tree_bytes.now script_bytes.now processes
+        × (objects_text (chosen table.entry) tree_bytes.now script_bytes.now processes
         ≡ Ok text) × Adds text (S.written sink.old) (S.written sink.new)) }
     ensures unfailed { OnOk result (S.failed sink.new ≡ S.failed sink.old) }
     ensures write { result ≡ Err ToolFault.Write → (text : List ℕ)
-        × (objects_text (given table.entry) tree_bytes.now script_bytes.now processes ≡ Ok text)
+        × (objects_text (chosen table.entry) tree_bytes.now script_bytes.now processes ≡ Ok text)
         × AddsFront text (S.written sink.old) (S.written sink.new)
         × HasFailed (S.failed sink.old) (S.failed sink.new) }
     ensures refused { IfErr result (λ fault. fault ≢ ToolFault.Write →
         fault ≢ ToolFault.OutOfMemory →
-        (objects_text (given table.entry) tree_bytes.now script_bytes.now processes ≡ Err fault)) }
+        (objects_text (chosen table.entry) tree_bytes.now script_bytes.now processes ≡ Err fault)) }
     ensures unwritten { IfErr result (λ fault. fault ≢ ToolFault.Write →
         S.written sink.new ≡ S.written sink.old) }
 {
