@@ -9,7 +9,7 @@ use crate::table::{Row, Table, words_of};
 use crate::trees::table_of;
 use crate::written::Files;
 use anyhow::{Result, anyhow};
-use pua_policy::{CallTable, Process};
+use pua_policy::{CallTable, Process, Rules};
 use pua_script::{World, read_script};
 use pua_tool::{AuditWords, Processes, Text};
 use pua_tree::{ListTree, read_listing};
@@ -115,8 +115,9 @@ fn run_worlds(rt: &HostRuntime, counts: &mut Counts) -> Result<()> {
 
 /// Whether audits of the process that a command asks about are as its list of objects says: the one
 /// that the command asks for, if it does, and those at the longest limit that is cheap. A run asks
-/// about none, and a list may ask about all: process 1 stands for them. Nothing is compared where the command names a table and is not to,
-/// or names none and is to.
+/// about none, and a list may ask about all: process 1 stands for them. Nothing is compared where the
+/// command goes by another table than the standard one and is not to, or goes by that one and is to go by
+/// another.
 fn is_as_listed(
     alloc: Global,
     words: &[&str],
@@ -127,7 +128,8 @@ fn is_as_listed(
     let Ok(command) = read_words(alloc, words) else {
         return Err(anyhow!("these words are no command"));
     };
-    if command.table.is_some() != by_table {
+    let is_standard = command.table.is_none() && command.rules == Rules::Profile;
+    if is_standard == by_table {
         return Ok(true);
     }
     let table = table_of(alloc, files, &command)?;

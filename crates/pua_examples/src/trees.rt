@@ -80,18 +80,20 @@ fn text_over<T: FileTree + Drop>(
     }
 }
 
-/// The table of calls that a command names, or the standard one where it names none.
+/// The table of calls that a command goes by: its rules, and the rows of the text that it names, if it
+/// names one.
 pub(crate) fn table_of(
     alloc: Global,
     files: &Files<'_>,
     command: &Command<'_>,
 ) -> Result<CallTable, ToolFault> {
+    let base = CallTable::of(command.rules);
     match (command.table, files.table) {
-        (Some(_), Some(text)) => match CallTable::read(alloc, text) {
+        (Some(_), Some(text)) => match base.read_over(alloc, text) {
             Ok(table) => Ok(table),
             Err(fault) => Err(ToolFault::Table(fault)),
         },
-        _ => Ok(CallTable::standard()),
+        _ => Ok(base),
     }
 }
 

@@ -1,5 +1,6 @@
 //! Wrong bodies of `pua_tool`.
 
+use pua_policy::Rules;
 use pua_tool::{
     Command, DONE, MemoryInputs, MemorySink, ReadSource, Text, command, perform, put_all,
     read_bytes,
@@ -69,6 +70,7 @@ fn table_not_taken(alloc: Global) {
     let run = Command {
         tree: "T",
         script: "S",
+        rules: Rules::Profile,
         table: Some("C"),
         text: Text::Run,
     };

@@ -16,6 +16,7 @@ ghost use Rattle.pua_audit.specs.Begin.{Beginning, beginning, still_to_come};
 ghost use Rattle.pua_audit.specs.declared.base.Base.TheVariants.{Root};
 ghost use Rattle.pua_objects.specs.Objects.{objects};
 ghost use Rattle.pua_tool.specs.ObjectTexts.{objects_text};
+ghost use Rattle.pua_tool.specs.Texts.{by_standard};
 ghost use Rattle.pua_tests.specs.Calling.{first_fault};
 
 use pua_audit::{Audit, AuditFault, Base};
@@ -25,7 +26,7 @@ use pua_policy::judge::verdict_of;
 use pua_policy::needs::{ending, need};
 use pua_policy::{Call, CallTable, Process, Verdict};
 use pua_script::{Answer, Script, ScriptFault, World, read_script};
-use pua_tool::{MemorySink, Processes, ToolFault, objects_to};
+use pua_tool::{MemorySink, Processes, TableChoice, ToolFault, objects_to};
 use pua_tree::{FileTree, ListingFault, NodeId, OutOfMemory, SlabTree, read_listing_slab};
 use std::alloc::Global;
 
@@ -190,14 +191,21 @@ pub fn list(
     room: usize,
 ) -> Result<MemorySink, ToolFault>
     ensures whole { IfOk result (λ sink.
-        objects_text None tree.now lines.now processes ≡ Ok sink.bytes) }
+        objects_text by_standard tree.now lines.now processes ≡ Ok sink.bytes) }
     ensures refused { IfErr result (λ fault.
         fault ≢ ToolFault.Write → fault ≢ ToolFault.OutOfMemory →
-        objects_text None tree.now lines.now processes ≡ Err fault) }
+        objects_text by_standard tree.now lines.now processes ≡ Err fault) }
 {
     let Ok(mut sink) = MemorySink::new(alloc, room) else {
         return Err(ToolFault::OutOfMemory);
     };
-    objects_to(alloc, tree, lines, None, processes, &mut sink)?;
+    objects_to(
+        alloc,
+        tree,
+        lines,
+        TableChoice::STANDARD,
+        processes,
+        &mut sink,
+    )?;
     Ok(sink)
 }

@@ -4,9 +4,10 @@
 use crate::LISTING;
 use anyhow::Result;
 use pua_audit::Base;
+use pua_policy::Rules;
 use pua_tool::{
-    DONE, Job, MEMORY, MemoryInputs, MemorySink, Processes, Sink, ToolFault, audit_to, command,
-    ever_to, objects_to, run_to,
+    DONE, Job, MEMORY, MemoryInputs, MemorySink, Processes, Sink, TableChoice, ToolFault, audit_to,
+    command, ever_to, objects_to, run_to,
 };
 use std::alloc::Global;
 
@@ -33,6 +34,12 @@ const EVER: &[u8] =
 
 /// Of which processes the list is.
 const PROCESSES: Processes = Processes::All;
+
+/// By which table the texts are.
+const TABLES: TableChoice<'static> = TableChoice {
+    rules: Rules::Profile,
+    rows: Some(TABLE),
+};
 
 /// What the audit is asked for.
 const JOB: Job<'static> = Job {
@@ -93,11 +100,11 @@ fn is_run(alloc: Global, again: &mut u32) -> Result<bool> {
 /// Whether a list of objects is written whole.
 fn is_listed(alloc: Global, again: &mut u32) -> Result<bool> {
     let mut sink = sink_made(alloc, again)?;
-    match objects_to(alloc, LISTING, SCRIPT, Some(TABLE), PROCESSES, &mut sink) {
+    match objects_to(alloc, LISTING, SCRIPT, TABLES, PROCESSES, &mut sink) {
         Err(ToolFault::OutOfMemory) => {
             *again = again.saturating_add(1);
             let is_empty = sink.bytes().is_empty();
-            let answer = objects_to(alloc, LISTING, SCRIPT, Some(TABLE), PROCESSES, &mut sink);
+            let answer = objects_to(alloc, LISTING, SCRIPT, TABLES, PROCESSES, &mut sink);
             Ok(is_empty && answer == Ok(()) && sink.bytes() == OBJECTS)
         }
         answer => Ok(answer == Ok(()) && sink.bytes() == OBJECTS),
@@ -107,11 +114,11 @@ fn is_listed(alloc: Global, again: &mut u32) -> Result<bool> {
 /// Whether a list for ever is written whole.
 fn is_lasting(alloc: Global, again: &mut u32) -> Result<bool> {
     let mut sink = sink_made(alloc, again)?;
-    match ever_to(alloc, LISTING, SCRIPT, Some(TABLE), 1, &mut sink) {
+    match ever_to(alloc, LISTING, SCRIPT, TABLES, 1, &mut sink) {
         Err(ToolFault::OutOfMemory) => {
             *again = again.saturating_add(1);
             let is_empty = sink.bytes().is_empty();
-            let answer = ever_to(alloc, LISTING, SCRIPT, Some(TABLE), 1, &mut sink);
+            let answer = ever_to(alloc, LISTING, SCRIPT, TABLES, 1, &mut sink);
             Ok(is_empty && answer == Ok(()) && sink.bytes() == EVER)
         }
         answer => Ok(answer == Ok(()) && sink.bytes() == EVER),
