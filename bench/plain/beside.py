@@ -5,7 +5,7 @@ It takes the cases of `crates/pua_examples/src/beside.rt`: the stories, the rows
 random worlds of `generator.rt`, made once more by `worlds.py`. For each it runs `beside.rs`, with limits that are as long as at
 most WORDS words allow (10,000, as in `deep.rt`), and prints what is not as the list says; then the last line but one of the
 program `pua_examples`. Nothing of the crates is run for it, so that line is no output of theirs. The plain program knows the
-standard table of calls alone, so commands with the option --table are left out; the last line of `pua_examples` is of
+standard table of calls alone, so commands with the option --table, or by OpenBSD's rules, are left out; the last line of `pua_examples` is of
 these."""
 import concurrent.futures
 import pathlib
@@ -19,7 +19,7 @@ WORDS = sys.argv[1] if len(sys.argv) > 1 else "10000"
 
 
 def has_table(words):
-    return any(word.split("=")[0] == "--table" for word in words)
+    return any(word.split("=")[0] == "--table" or word == "openbsd" for word in words)
 
 
 def asked_by(words):
