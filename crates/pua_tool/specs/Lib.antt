@@ -1,4 +1,5 @@
 pub mod Blocks
+pub mod KeptPaths
 pub mod Statuses
 pub mod Texts
 pub mod States

@@ -13,6 +13,7 @@ use crate::answers::answer_text;
 use crate::block::Block;
 use crate::ever_list::EverList;
 use crate::fault::ToolFault;
+use crate::kept_path::KeptPath;
 use crate::objects::told;
 use crate::places::Places;
 use crate::script::{Replay, replay_script};
@@ -86,7 +87,17 @@ fn list_to<S: Sink>(
     let Ok(mut block) = Block::new(alloc) else {
         return Err(ToolFault::OutOfMemory);
     };
-    told(write_list(front.as_str(), &mut list, &mut places, &mut block, sink))
+    let Ok(mut path) = KeptPath::new(alloc) else {
+        return Err(ToolFault::OutOfMemory);
+    };
+    told(write_list(
+        front.as_str(),
+        &mut list,
+        &mut places,
+        &mut path,
+        &mut block,
+        sink,
+    ))
 }
 
 /// Writes what a block holds, then the front of a text, and then a list: the front before any line of
@@ -95,6 +106,7 @@ fn write_list<'t, T: FileTree, S: Sink>(
     front: &str,
     list: &mut EverList<'t, T>,
     places: &mut Places<'t, T>,
+    path: &mut KeptPath,
     block: &mut Block,
     sink: &mut S,
 ) -> Result<(), PutFault>
@@ -105,6 +117,6 @@ fn write_list<'t, T: FileTree, S: Sink>(
         result sink.old sink.new }
 {
     block.add_text(front.as_bytes(), sink)?;
-    list.add_to(block, places, sink)?;
+    list.add_to(block, places, path, sink)?;
     block.put(sink)
 }

@@ -11,6 +11,7 @@ mod ever_line;
 mod ever_list;
 mod fault;
 mod job;
+mod kept_path;
 mod laws;
 mod line;
 mod object_line;

@@ -15,6 +15,7 @@ ghost use Rattle.pua_io.specs.Sinks.{Adds, AddsFront, HasFailed, Writes, WritesT
 use crate::answers::answer_text;
 use crate::block::Block;
 use crate::fault::ToolFault;
+use crate::kept_path::KeptPath;
 use crate::places::Places;
 use crate::process_list::ProcessList;
 use crate::script::{Replay, replay_script};
@@ -141,7 +142,10 @@ fn lists_to<T: FileTree, S: Sink>(
     let Ok(mut block) = Block::new(alloc) else {
         return Err(ToolFault::OutOfMemory);
     };
-    told(write_text(front, &mut lists, &mut places, &mut block, sink))
+    let Ok(mut path) = KeptPath::new(alloc) else {
+        return Err(ToolFault::OutOfMemory);
+    };
+    told(write_text(front, &mut lists, &mut places, &mut path, &mut block, sink))
 }
 
 /// Begins the list of each of these processes that was ever made. The only error is that a growth was
@@ -184,6 +188,7 @@ fn write_text<'t, T: FileTree, S: Sink>(
     front: &str,
     lists: &mut VecDeque<ProcessList<'t, T>>,
     places: &mut Places<'t, T>,
+    path: &mut KeptPath,
     block: &mut Block,
     sink: &mut S,
 ) -> Result<(), PutFault>
@@ -194,7 +199,7 @@ fn write_text<'t, T: FileTree, S: Sink>(
         result sink.old sink.new }
 {
     block.add_text(front.as_bytes(), sink)?;
-    add_lists(block, lists, places, sink)?;
+    add_lists(block, lists, places, path, sink)?;
     block.put(sink)
 }
 
@@ -203,6 +208,7 @@ fn add_lists<'t, T: FileTree, S: Sink>(
     block: &mut Block,
     lists: &mut VecDeque<ProcessList<'t, T>>,
     places: &mut Places<'t, T>,
+    path: &mut KeptPath,
     sink: &mut S,
 ) -> Result<(), PutFault>
     ensures { (table : Rules) (w : Replayed) (numbers : List ℕ) → places.old.tree ≡ w.tree →
@@ -212,7 +218,7 @@ fn add_lists<'t, T: FileTree, S: Sink>(
         result block.old block.new sink.old sink.new }
 {
     while let Some(mut list) = lists.pop_front() {
-        list.add_to(block, places, sink)?;
+        list.add_to(block, places, path, sink)?;
     }
     Ok(())
 }
