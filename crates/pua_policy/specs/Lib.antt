@@ -10,8 +10,8 @@ pub mod TableExamples
 pub mod Limits
 pub mod History
 pub mod Verdict
--- What is proved of these.
 pub mod Descent
+-- What is proved of these.
 pub mod Laws
 -- Worked rows, which hold by computation.
 pub mod Examples
