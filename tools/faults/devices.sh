@@ -46,9 +46,11 @@ run run longer script
 expect 'one byte too long' 3 'pua: cannot read longer'
 run run longest script
 expect 'as long as may be' 1 'pua: listing: bad header'
+run
+usage=$(cat told)
+expect 'no words' 2 "pua: usage: ${usage#pua: usage: }"
 run run "$(printf '\377')" script
-expect 'a word that is no text' 2 \
-    'pua: usage: pua run [--table FILE] TREE SCRIPT; pua audit --limit N [--process P] [--base root|cwd] [--after CALL:PATH] [--table FILE] TREE SCRIPT [NAME...]'
+expect 'a word that is no text' 2 "$usage"
 run audit --limit 1 --after '' tree script
 expect 'an empty word' 1 'pua: audit: bad resume'
 run run '' script
