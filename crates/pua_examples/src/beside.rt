@@ -1,12 +1,16 @@
 //! Audits and lists of objects side by side: of the stories, of the rows, and of random worlds by a fixed
 //! seed.
 
-use crate::compared::{Asked, Counts, is_listed};
-use crate::deep::are_deep_listed;
-use crate::generator::{Random, listing, nodes, script};
+mod compared;
+mod deep;
+pub(crate) mod subjects;
+
+use crate::beside::compared::{Asked, Counts, is_listed};
+use crate::beside::deep::are_deep_listed;
+use crate::random::generator::{Random, listing, nodes, script};
+use crate::rows::table::{Row, Table, words_of};
+use crate::rows::trees::table_of;
 use crate::stories::STORIES;
-use crate::table::{Row, Table, words_of};
-use crate::trees::table_of;
 use crate::written::Files;
 use anyhow::{Result, anyhow};
 use pua_policy::{CallTable, Process, Rules};

@@ -6,28 +6,12 @@
 //! one for each row, edit and case of which that isn't so, with their counts.
 #![tactic(auto)]
 
-mod about;
 mod beside;
-mod case;
-mod compared;
-mod deep;
-mod edits;
-mod ever;
-mod futures;
-mod generator;
 mod limits;
-mod listed;
 mod random;
-mod reached;
 mod rows;
 mod shown;
-mod spared;
-mod state;
-mod stated;
 mod stories;
-mod subjects;
-mod table;
-mod trees;
 mod walks;
 mod written;
 
@@ -38,11 +22,11 @@ fn main(rt: HostRuntime) -> Result<()> {
     rows::run(&rt)?;
     shown::run(&rt)?;
     limits::run(&rt)?;
-    edits::run(&rt)?;
+    random::edits::run(&rt)?;
     walks::run(&rt)?;
-    random::run(&rt)?;
-    futures::run(&rt)?;
-    ever::run(&rt)?;
-    stated::run(&rt)?;
+    random::cases::run(&rt)?;
+    random::futures::run(&rt)?;
+    random::ever::run(&rt)?;
+    random::stated::run(&rt)?;
     beside::run(&rt)
 }

@@ -2,8 +2,13 @@
 //! are there is also done by calls of the libraries, over each kind of tree. Each audit that a row has
 //! whole is also cut after each of its lines and resumed there.
 
-use crate::table::{Misused, Refused, Row, Table, ended, words_of};
-use crate::trees::are_alike;
+pub(crate) mod listed;
+pub(crate) mod state;
+pub(crate) mod table;
+pub(crate) mod trees;
+
+use crate::rows::table::{Misused, Refused, Row, Table, ended, words_of};
+use crate::rows::trees::are_alike;
 use crate::written::{Files, SMALL};
 use anyhow::{Result, anyhow};
 use pua_tool::DEVICE;

@@ -225,6 +225,7 @@ impl Process {
     pub fn known(&self)
         ensures { HasHistory self.now }
     {
+        // The prover knows the invariant of a value that is read.
         let _ = &self.ended;
     }
 

@@ -210,6 +210,7 @@ impl CallTable {
         ensures fourteen { length self.now.rules ≡ 14 }
         ensures no_error { NoCallNeedsError self.now }
     {
+        // The prover knows the invariant of a value that is read.
         let _rows = &self.rows;
     }
 }
