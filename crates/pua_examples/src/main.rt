@@ -1,5 +1,5 @@
 //! Runs the examples: the story of each folder, the table of rows, what the program prints of itself,
-//! the limits, edits of two kinds of trees, chosen walks, random cases by a fixed seed, what requests
+//! the limits, edits of two kinds of trees, chosen walks, a caller of each library, random cases by a fixed seed, what requests
 //! leave of random worlds, what their processes come to touch, their states, and audits beside lists of
 //! objects. A line is
 //! printed for each folder and each limit, which says whether what is written is what was expected; then
@@ -8,6 +8,8 @@
 
 mod about;
 mod beside;
+mod called;
+mod calling;
 mod case;
 mod compared;
 mod deep;
@@ -40,6 +42,7 @@ fn main(rt: HostRuntime) -> Result<()> {
     limits::run(&rt)?;
     edits::run(&rt)?;
     walks::run(&rt)?;
+    called::run(&rt)?;
     random::run(&rt)?;
     futures::run(&rt)?;
     ever::run(&rt)?;

@@ -1,22 +1,23 @@
 //! Trees with as many nodes as may be, of each kind: 4,096 in a listing, 65,535 in all.
 
-use crate::example::ROOT;
-use crate::expect::{expect, expect_eq, expect_row};
+use super::example::ROOT;
+use super::expect::{expect, expect_eq, expect_row};
+use crate::trees::ListedTree;
+use anyhow::Result;
 use pua_path::Errno;
 use pua_policy::CallTable;
 use pua_script::{Answer, World, read_script};
 use pua_tree::{
-    FileTree, Kind, ListingFault, Name, NodeId, TreeFault, read_listing, read_listing_slab,
+    FileTree, Kind, ListTree, ListingFault, Name, NodeId, SlabTree, TreeFault, read_listing,
+    read_listing_slab,
 };
 use std::alloc::Global;
-use std::process::Abort;
-use std::test::Fail;
 
 /// How many files a full tree has beside its root.
 const FILES: u32 = 65_534;
 
-#[test]
-fn a_listing_takes_4096_nodes_and_no_more(rt: HostRuntime) -> Result<(), Fail> {
+/// A listing of 4,096 nodes, and of one more.
+fn expect_listings(rt: &HostRuntime) -> Result<()> {
     let alloc = rt.alloc();
     let mut text = String::from_str(alloc, "tree 1\n0 dir\n")?;
     for number in 1..4096u32 {
@@ -27,68 +28,61 @@ fn a_listing_takes_4096_nodes_and_no_more(rt: HostRuntime) -> Result<(), Fail> {
     let list = read_listing(alloc, text.as_bytes())?.look(NodeId::ROOT, &last);
     let slab = read_listing_slab(alloc, text.as_bytes())?.look(NodeId::ROOT, &last);
     let node = Some(NodeId::new(4095));
-    expect_eq(&rt, "the last node", &(list, slab), &(node, node));
+    expect_eq(rt, "the last node", &(list, slab), &(node, node))?;
     text.push_str("4096 file 0 more\n")?;
     let list = read_listing(alloc, text.as_bytes()).err();
     let slab = read_listing_slab(alloc, text.as_bytes()).err();
     let fault = Some(ListingFault::TooMany(4098));
-    expect_eq(&rt, "a node more", &(list, slab), &(fault, fault));
-    Ok(())
+    expect_eq(rt, "a node more", &(list, slab), &(fault, fault))
 }
 
 /// The name of a file, of five digits.
-fn numbered(alloc: Global, number: u32) -> Result<Name, Fail> {
+fn numbered(alloc: Global, number: u32) -> Result<Name> {
     Ok(Name::read(format!(in alloc; "{number:05}")?.as_bytes())?)
 }
 
 /// Adds files to the root until a tree is full.
-fn fill<T: FileTree>(rt: &impl Abort, alloc: Global, tree: &mut T) -> Result<(), Fail> {
+fn fill<T: FileTree>(rt: &HostRuntime, alloc: Global, tree: &mut T) -> Result<()> {
     for number in 1..=FILES {
         let name = numbered(alloc, number)?;
         let added = tree.add(NodeId::ROOT, name, Kind::File, None);
-        expect_eq(rt, "each is added", &added, &Ok(NodeId::new(number)));
+        expect_eq(rt, "each is added", &added, &Ok(NodeId::new(number)))?;
     }
     Ok(())
 }
 
 /// What a full tree answers: it takes neither a node nor a further name, until a name is taken away.
-fn expect_full<T: FileTree>(rt: &impl Abort, alloc: Global, tree: &mut T) -> Result<(), Fail> {
+fn expect_full<T: FileTree>(rt: &HostRuntime, alloc: Global, tree: &mut T) -> Result<()> {
     let root = NodeId::ROOT;
     let file = NodeId::new(1);
     let (more, first) = (Name::read(b"more")?, numbered(alloc, 1)?);
     let full = tree.add(root, more, Kind::File, None);
-    expect_eq(rt, "a node", &full, &Err(TreeFault::Full));
+    expect_eq(rt, "a node", &full, &Err(TreeFault::Full))?;
     let full = tree.tie(root, more, file);
-    expect_eq(rt, "a name", &full, &Err(TreeFault::Full));
+    expect_eq(rt, "a name", &full, &Err(TreeFault::Full))?;
     let taken = tree.tie(root, first, file);
-    expect_eq(rt, "a taken name", &taken, &Err(TreeFault::Taken));
+    expect_eq(rt, "a taken name", &taken, &Err(TreeFault::Taken))?;
     let cut = tree.cut(root, &numbered(alloc, FILES)?);
-    expect_eq(rt, "the last one", &cut, &Ok(NodeId::new(FILES)));
+    expect_eq(rt, "the last one", &cut, &Ok(NodeId::new(FILES)))?;
     let added = tree.add(root, more, Kind::File, None);
     let node = NodeId::new(FILES.saturating_add(1));
-    expect_eq(rt, "another one", &added, &Ok(node));
-    Ok(())
+    expect_eq(rt, "another one", &added, &Ok(node))
 }
 
 /// The names of the full tree, in the order of their bytes: the digits before the letters.
-fn expect_names<T: FileTree>(rt: &impl Abort, alloc: Global, tree: &T) -> Result<(), Fail> {
+fn expect_names<T: FileTree>(rt: &HostRuntime, alloc: Global, tree: &T) -> Result<()> {
     let names = tree.names(alloc)?;
-    expect_eq(rt, "how many names", &names.len(), &(FILES as usize));
+    expect_eq(rt, "how many names", &names.len(), &(FILES as usize))?;
     for (number, name) in (1..FILES).zip(names.iter()) {
         let wanted = numbered(alloc, number)?;
-        expect(rt, "a name in its place", *name == wanted);
+        expect(rt, "a name in its place", *name == wanted)?;
     }
     let more = Name::read(b"more")?;
-    expect(rt, "the last name", names.last() == Some(&more));
-    Ok(())
+    expect(rt, "the last name", names.last() == Some(&more))
 }
 
 /// What a world answers over the full tree.
-fn expect_no_space<T: FileTree + Drop>(
-    rt: &impl Abort,
-    alloc: Global,
-    tree: T,
-) -> Result<(), Fail> {
+fn expect_no_space<T: FileTree + Drop>(rt: &HostRuntime, alloc: Global, tree: T) -> Result<()> {
     let script = read_script(
         alloc,
         b"1 mkdir /x\n1 symlink a /x\n1 create /x\n1 link /00001 /x\n1 create /00001\n1 unlink /00001\n1 create /x\n",
@@ -99,27 +93,26 @@ fn expect_no_space<T: FileTree + Drop>(
     let okay = Answer::Okay;
     let wanted = [full, full, full, full, okay, okay, okay];
     for (row, (answer, wanted)) in answers.iter().zip(wanted.iter()).enumerate() {
-        expect_row(rt, row, answer, wanted);
+        expect_row(rt, row, answer, wanted)?;
     }
-    expect_eq(rt, "seven answers", &answers.len(), &wanted.len());
-    Ok(())
+    expect_eq(rt, "seven answers", &answers.len(), &wanted.len())
 }
 
 /// Fills a tree, and asks it and a world over it for more.
-fn expect_room<T: FileTree + Drop>(
-    rt: &impl Abort,
-    alloc: Global,
-    mut tree: T,
-) -> Result<(), Fail> {
+fn expect_room<T: ListedTree>(rt: &HostRuntime) -> Result<()> {
+    let alloc = rt.alloc();
+    let mut tree = T::read(alloc, ROOT)?;
     fill(rt, alloc, &mut tree)?;
     expect_full(rt, alloc, &mut tree)?;
     expect_names(rt, alloc, &tree)?;
     expect_no_space(rt, alloc, tree)
 }
 
-#[test]
-fn a_tree_takes_65535_nodes_and_no_more(rt: HostRuntime) -> Result<(), Fail> {
-    let alloc = rt.alloc();
-    expect_room(&rt, alloc, read_listing(alloc, ROOT)?)?;
-    expect_room(&rt, alloc, read_listing_slab(alloc, ROOT)?)
+/// Listings and trees that are full.
+pub(crate) fn run(rt: &HostRuntime) -> Result<()> {
+    expect_listings(rt)?;
+    expect_room::<ListTree>(rt)?;
+    expect_room::<SlabTree>(rt)?;
+    println!(rt; "nodes: 4096 in a listing, 65535 in a tree, and no more")?;
+    Ok(())
 }

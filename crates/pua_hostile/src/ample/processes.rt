@@ -1,10 +1,10 @@
 //! Processes with as many veils as may be.
 
-use crate::expect::{expect, expect_eq};
+use super::expect::{expect, expect_eq};
+use anyhow::Result;
 use pua_policy::{Perms, Place, Process, UnveilFault};
 use pua_tree::NodeId;
 use std::alloc::Global;
-use std::test::Fail;
 
 /// The place of the directory of this number.
 fn place(number: u32) -> Place {
@@ -12,7 +12,7 @@ fn place(number: u32) -> Place {
 }
 
 /// Whether a process has its 128 veils, in the order in which they came.
-fn has_veils(alloc: Global, process: &Process) -> Result<bool, Fail> {
+fn has_veils(alloc: Global, process: &Process) -> Result<bool> {
     let places = process.places(alloc)?;
     let mut wanted = 1u32..129;
     Ok(
@@ -23,18 +23,19 @@ fn has_veils(alloc: Global, process: &Process) -> Result<bool, Fail> {
     )
 }
 
-#[test]
-fn veils_are_at_most_128_and_are_copied(rt: HostRuntime) -> Result<(), Fail> {
+/// Puts 128 veils, one more, and copies them.
+pub(crate) fn run(rt: &HostRuntime) -> Result<()> {
     let mut process = Process::new(rt.alloc())?;
     for number in 1..=128 {
         let unveiled = process.unveil_at(place(number), Perms::READ);
-        expect_eq(&rt, "128 veils", &unveiled, &Ok(()));
+        expect_eq(rt, "128 veils", &unveiled, &Ok(()))?;
     }
     let more = process.unveil_at(place(129), Perms::READ);
     let refused = Err(UnveilFault::TooManyPlaces);
-    expect_eq(&rt, "a veil more", &more, &refused);
+    expect_eq(rt, "a veil more", &more, &refused)?;
     let copy = process.fork(rt.alloc())?;
-    expect(&rt, "its veils", has_veils(rt.alloc(), &process)?);
-    expect(&rt, "the copy's", has_veils(rt.alloc(), &copy)?);
+    expect(rt, "its veils", has_veils(rt.alloc(), &process)?)?;
+    expect(rt, "the copy's", has_veils(rt.alloc(), &copy)?)?;
+    println!(rt; "veils: 128, and no more")?;
     Ok(())
 }

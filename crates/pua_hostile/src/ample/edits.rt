@@ -1,10 +1,9 @@
 //! Edits of a tree, of each kind.
 
-use crate::example::EXAMPLE;
-use crate::expect::{expect, expect_row};
+use super::example::EXAMPLE;
+use super::expect::{expect, expect_row};
+use anyhow::Result;
 use pua_tree::{FileTree, Kind, Name, NodeId, TreeFault, read_listing, read_listing_slab};
-use std::process::Abort;
-use std::test::Fail;
 
 /// A change of a tree, or a question about it, by the numbers of nodes and by names.
 #[derive(Clone, Copy)]
@@ -26,7 +25,7 @@ enum Step {
 }
 
 /// The number of the node that a step leads to, or why it is refused.
-type Answer = Result<Option<u32>, TreeFault>;
+type Answer = std::result::Result<Option<u32>, TreeFault>;
 
 /// What a step answers; None where one of its names is none.
 fn answer<T: FileTree>(tree: &mut T, step: Step) -> Option<Answer> {
@@ -96,7 +95,7 @@ fn numbered(node: Option<NodeId>) -> Option<u32> {
     }
 }
 
-fn found(node: Result<NodeId, TreeFault>) -> Answer {
+fn found(node: std::result::Result<NodeId, TreeFault>) -> Answer {
     match node {
         Ok(node) => Ok(Some(node.number())),
         Err(fault) => Err(fault),
@@ -104,10 +103,11 @@ fn found(node: Result<NodeId, TreeFault>) -> Answer {
 }
 
 /// Takes steps one after the other, and compares their answers.
-fn take_steps<T: FileTree>(rt: &impl Abort, tree: &mut T, steps: &[(Step, Answer)]) {
+fn take_steps<T: FileTree>(rt: &HostRuntime, tree: &mut T, steps: &[(Step, Answer)]) -> Result<()> {
     for (number, (step, want)) in steps.iter().enumerate() {
-        expect_row(rt, number, &answer(tree, *step), &Some(*want));
+        expect_row(rt, number, &answer(tree, *step), &Some(*want))?;
     }
+    Ok(())
 }
 
 /// Numbers are given once.
@@ -161,21 +161,22 @@ const TIED: [(Step, Answer); 16] = [
 ];
 
 /// Adds a link, and expects the next number and its target.
-fn expect_target<T: FileTree>(rt: &impl Abort, tree: &mut T) -> Result<(), Fail> {
+fn expect_target<T: FileTree>(rt: &HostRuntime, tree: &mut T) -> Result<()> {
     let name = Name::read(b"new")?;
     let node = tree.add(NodeId::new(3), name, Kind::Link, Some(b"sh"))?;
     let is_kept = tree.target(node) == Some(b"sh".as_slice());
-    expect(rt, "node 8 is a link to sh", is_kept && node.number() == 8);
-    Ok(())
+    expect(rt, "node 8 is a link to sh", is_kept && node.number() == 8)
 }
 
-#[test]
-fn trees_are_edited(rt: HostRuntime) -> Result<(), Fail> {
+/// Takes the steps of each row over each kind of tree.
+pub(crate) fn run(rt: &HostRuntime) -> Result<()> {
     let alloc = rt.alloc();
     for steps in [GIVEN_ONCE.as_slice(), &MOVED, &TIED] {
-        take_steps(&rt, &mut read_listing(alloc, EXAMPLE)?, steps);
-        take_steps(&rt, &mut read_listing_slab(alloc, EXAMPLE)?, steps);
+        take_steps(rt, &mut read_listing(alloc, EXAMPLE)?, steps)?;
+        take_steps(rt, &mut read_listing_slab(alloc, EXAMPLE)?, steps)?;
     }
-    expect_target(&rt, &mut read_listing(alloc, EXAMPLE)?)?;
-    expect_target(&rt, &mut read_listing_slab(alloc, EXAMPLE)?)
+    expect_target(rt, &mut read_listing(alloc, EXAMPLE)?)?;
+    expect_target(rt, &mut read_listing_slab(alloc, EXAMPLE)?)?;
+    println!(rt; "edits: gone through over two trees")?;
+    Ok(())
 }
