@@ -1,7 +1,7 @@
 //! Runs the examples: the story of each folder, the table of rows, what the program prints of itself,
-//! the limits, edits of two kinds of trees, chosen walks, a caller of each library, random cases by a fixed seed, what requests
-//! leave of random worlds, what their processes come to touch, their states, and audits beside lists of
-//! objects. A line is
+//! the limits, edits of two kinds of trees, chosen walks, a caller of each library, random cases by a
+//! fixed seed, what requests leave of random worlds, what their processes come to touch, their states, and
+//! audits beside lists of objects. A line is
 //! printed for each folder and each limit, which says whether what is written is what was expected; then
 //! one for each row, edit and case of which that isn't so, with their counts.
 #![tactic(auto)]
@@ -21,6 +21,7 @@ mod limits;
 mod listed;
 mod random;
 mod reached;
+mod rooms;
 mod rows;
 mod shown;
 mod spared;

@@ -1,5 +1,5 @@
-//! Runs the libraries at their limits, where memory is ample, and in hostile surroundings: sinks that
-//! take a byte at a time and break, readers that give a byte at a time and fail, the machine's own outputs and files where they fail, files as
+//! Runs the libraries in hostile surroundings: sinks that take a byte at a time and break, readers
+//! that give a byte at a time and fail, the machine's own outputs and files where they fail, files as
 //! long as may be, inputs that are cut anywhere or hold a wrong byte, links that lead to one another,
 //! and trees in which nearly nothing is reached. A line is printed for each case that is not as it has
 //! to be, and for each table how many cases it has. With the word `growth` it makes only the calls to
@@ -7,7 +7,6 @@
 //! how long something takes.
 #![tactic(auto)]
 
-mod ample;
 mod broken;
 mod cuts;
 mod dead;
@@ -46,7 +45,6 @@ fn main(rt: HostRuntime) -> Result<()> {
 }
 
 fn run_all(rt: &HostRuntime) -> Result<()> {
-    ample::run(rt)?;
     broken::run(rt)?;
     reports::run(rt)?;
     cuts::run(rt)?;
