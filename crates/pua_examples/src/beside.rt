@@ -8,7 +8,7 @@ pub(crate) mod subjects;
 use crate::beside::compared::{Asked, Counts, is_listed};
 use crate::beside::deep::are_deep_listed;
 use crate::random::generator::{Random, listing, nodes, script};
-use crate::rows::table::{Row, Table, words_of};
+use crate::rows::table::{Entry, entry_of};
 use crate::rows::trees::table_of;
 use crate::stories::STORIES;
 use crate::written::Files;
@@ -73,28 +73,20 @@ fn run_stories(rt: &HostRuntime, by_table: bool, counts: &mut Counts) -> Result<
 fn run_rows(rt: &HostRuntime, by_table: bool, counts: &mut Counts) -> Result<()> {
     let alloc = rt.alloc();
     let text = fs::read_to_string(rt, "rows.toml")?;
-    let table: Table = toml::from_str(alloc, text.as_str())?;
-    for row in &table.row {
-        if row.fault.is_empty() && !is_row_listed(alloc, &table, row, by_table, counts)? {
-            println!(rt; "not as the objects: {}", row.name)?;
+    let table = toml::table_from_str(alloc, text.as_str())?;
+    let table = Entry::new(&table);
+    let trees = table.entry("tree")?;
+    for row in table.entries("row") {
+        let row = entry_of(Some(row))?;
+        let files = row.files(trees.entry(row.text("tree"))?);
+        let words = row.words(alloc)?;
+        if row.given("fault").is_none()
+            && !is_as_listed(alloc, words.as_slice(), &files, by_table, counts)?
+        {
+            println!(rt; "not as the objects: {}", row.text("name"))?;
         }
     }
     Ok(())
-}
-
-/// Whether what a row asks for is as the list of objects says.
-fn is_row_listed(
-    alloc: Global,
-    table: &Table,
-    row: &Row,
-    by_table: bool,
-    counts: &mut Counts,
-) -> Result<bool> {
-    let Some(tree) = table.tree.get(row.tree.as_str()) else {
-        return Err(anyhow!("{}: there is no tree {}", row.name, row.tree));
-    };
-    let words = words_of(alloc, row.command.as_str(), row.words.as_slice())?;
-    is_as_listed(alloc, words.as_slice(), &row.files(tree), by_table, counts)
 }
 
 /// Compares audits of both processes of random worlds.

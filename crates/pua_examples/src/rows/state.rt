@@ -269,5 +269,10 @@ fn climb(rows: &[LentRow<'_>], dir: NodeId, names: &mut Vec<Name>) -> Result<boo
 
 /// The row of a directory; the root has none.
 fn row_of<'r, 't>(rows: &'r [LentRow<'t>], dir: NodeId) -> Option<&'r LentRow<'t>> {
-    rows.iter().find(|row| row.node == dir)
+    for row in rows {
+        if row.node == dir {
+            return Some(row);
+        }
+    }
+    None
 }

@@ -17,7 +17,7 @@ ghost use Rattle.pua_audit.specs.declared.base.Base.TheVariants.{Root};
 ghost use Rattle.pua_objects.specs.Objects.{objects};
 ghost use Rattle.pua_tool.specs.ObjectTexts.{objects_text};
 ghost use Rattle.pua_tool.specs.Texts.{by_standard};
-ghost use Rattle.pua_tests.specs.Calling.{first_fault};
+ghost use Rattle.pua_examples.specs.Calling.{first_fault};
 
 use pua_audit::{Audit, AuditFault, Base};
 use pua_objects::{Objects, completeness_law};
@@ -32,7 +32,11 @@ use std::alloc::Global;
 
 /// The tree of a listing and the requests of a script. The error is the first fault of the listing, or
 /// else that of the script; `OutOfMemory` where a growth was refused.
-pub fn read(alloc: Global, tree: &[u8], lines: &[u8]) -> Result<(SlabTree, Script), ToolFault>
+pub(crate) fn read(
+    alloc: Global,
+    tree: &[u8],
+    lines: &[u8],
+) -> Result<(SlabTree, Script), ToolFault>
     ensures tree { IfOk result (λ both. listing tree.now ≡ Ok both.0) }
     ensures script { IfOk result (λ both. script lines.now ≡ Ok both.1) }
     ensures refused { IfErr result (λ fault. fault ≢ ToolFault.OutOfMemory →
@@ -52,16 +56,16 @@ pub fn read(alloc: Global, tree: &[u8], lines: &[u8]) -> Result<(SlabTree, Scrip
 
 /// What the lines of a script were answered, and the world that they left.
 #[derive(Drop)]
-pub struct Served {
+pub(crate) struct Served {
     /// An answer for each line.
-    pub told: Vec<Answer>,
+    pub(crate) told: Vec<Answer>,
     /// The tree and the processes where the script ends.
-    pub world: World<SlabTree>,
+    pub(crate) world: World<SlabTree>,
 }
 
 /// Runs a script over a tree, by the standard table of calls. The only error is that a growth was
 /// refused.
-pub fn replay(alloc: Global, tree: SlabTree, script: &Script) -> Result<Served, OutOfMemory>
+pub(crate) fn replay(alloc: Global, tree: SlabTree, script: &Script) -> Result<Served, OutOfMemory>
     ensures told { IfOk result (λ served.
         served.told.items ≡ answers standard_table (new_world tree) script.now) }
     ensures world { IfOk result (λ served.
@@ -77,7 +81,7 @@ pub fn replay(alloc: Global, tree: SlabTree, script: &Script) -> Result<Served, 
 
 /// What becomes of a call that a process makes on a path: the definition's verdict, which changes
 /// nothing.
-pub fn ask<T: FileTree>(
+pub(crate) fn ask<T: FileTree>(
     tree: &T,
     process: &Process,
     table: &CallTable,
@@ -116,7 +120,7 @@ fn name<T: FileTree>(
 
 /// Whether a process is allowed a call on some path from the root, of at most so many components that
 /// the tree has, or `..`. The error is that of the audit's beginning.
-pub fn is_reached<T: FileTree>(
+pub(crate) fn is_reached<T: FileTree>(
     alloc: Global,
     tree: &T,
     process: &Process,
@@ -162,7 +166,7 @@ fn is_lent<T: FileTree>(probe: &mut Counted<'_, T>, audit: &mut Audit, call: Cal
 /// Whether a process can touch anything at all. Where it can't, no call is allowed to it on any path,
 /// however long. The only error is that a growth was refused.
 #[tactic(auto, using(crate::proofs::Nowhere::nowhere))]
-pub fn can_touch<T: FileTree>(
+pub(crate) fn can_touch<T: FileTree>(
     alloc: Global,
     tree: &T,
     process: &Process,
@@ -183,7 +187,7 @@ pub fn can_touch<T: FileTree>(
 /// The text of `pua objects` for a process or for all, in memory with room for so many bytes. The error
 /// is the first fault of the listing or the script, `NoProcess` where the process was never made,
 /// `Write` where there is too little room, and `OutOfMemory`.
-pub fn list(
+pub(crate) fn list(
     alloc: Global,
     tree: &[u8],
     lines: &[u8],

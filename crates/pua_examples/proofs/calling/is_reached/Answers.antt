@@ -3,7 +3,7 @@ use Rattle.std.specs.List.{list_any}
 use Rattle.pua_policy.specs.Calls.{call_number}
 use Rattle.pua_audit.specs.Begin.{beginning}
 use Rattle.pua_audit.specs.declared.base.Base.TheVariants.{Root}
-use Rattle.pua_tests.proofs.calling.is_reached.Goals as goal
+use Rattle.pua_examples.proofs.calling.is_reached.Goals as goal
 
 -- what is still to come when the audit begins is lent, over the probe's tree
 pub returns-clause-reached : goal.returns-clause-reached
