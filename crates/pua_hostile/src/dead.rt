@@ -71,7 +71,7 @@ pub(crate) fn run(rt: &HostRuntime) -> Result<()> {
 }
 
 /// A listing of a root with a hundred directories.
-fn wide(alloc: Global) -> Result<String> {
+pub(crate) fn wide(alloc: Global) -> Result<String> {
     let mut text = String::from_str(alloc, "tree 1\n0 dir\n")?;
     for number in 1..=DIRS {
         writeln!(text, "{number} dir 0 d{number}")?;
@@ -80,7 +80,7 @@ fn wide(alloc: Global) -> Result<String> {
 }
 
 /// The same, and in the root the chain, with a file in its last directory.
-fn deep(alloc: Global) -> Result<String> {
+pub(crate) fn deep(alloc: Global) -> Result<String> {
     let mut text = wide(alloc)?;
     let mut parent = 0;
     for place in 1..=DEPTH {
