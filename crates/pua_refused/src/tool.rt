@@ -2,7 +2,7 @@
 
 use pua_policy::Rules;
 use pua_tool::{
-    Command, DONE, MemoryInputs, MemorySink, ReadSource, Text, command, perform, put_all,
+    Command, DONE, MemoryInputs, MemorySink, ReadSource, Sink, Text, command, perform, put_all,
     read_bytes,
 };
 use std::alloc::Global;
@@ -32,6 +32,19 @@ fn put_count_ignored(alloc: Global) {
         return;
     };
     if sink.bytes() != b"ab".as_slice() {
+        unreachable!()
+    }
+}
+
+/// A put takes no more bytes than there is room for.
+fn put_grows(alloc: Global) {
+    let Ok(mut sink) = MemorySink::new(alloc, 1) else {
+        return;
+    };
+    let Ok(count) = sink.put(b"ab") else {
+        return;
+    };
+    if count > 1 {
         unreachable!()
     }
 }
