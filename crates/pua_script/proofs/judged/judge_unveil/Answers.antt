@@ -2,7 +2,7 @@ use Rattle.std.proofs.Common.{Some, sym, ap, ◌∙◌, rules}
 use Rattle.std.proofs.lemmas.Result.{err_from_is_err_and}
 use Rattle.pua_policy.specs.declared.answer.Refusal.{Refusal}
 use Rattle.pua_script.proofs.Doing.{promises_refuse}
-use Rattle.pua_script.proofs.judged.decide_unveil.Goals as goal
+use Rattle.pua_script.proofs.judged.judge_unveil.Goals as goal
 
 pub returns-in_err-promised : goal.returns-in_err-promised
 returns-in_err-promised g c = λ h stands.
