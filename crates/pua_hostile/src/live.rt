@@ -57,17 +57,17 @@ pub(crate) fn run(rt: &HostRuntime) -> Result<()> {
     let (chains, wide, deep) = (chains.as_bytes(), wide.as_bytes(), deep.as_bytes());
     let example = crate::LISTING;
     let cases = [
-        case(ROOT, b"", 0, (116_480, 4), (0, 5)),
-        case(ROOT, b"", 1, (232_960, 8), (1, 10)),
-        case(ROOT, ENDED, 3, (465_920, 16), (0, 0)),
-        case(example, ONE_FILE, 2, (23_786_784, 54), (2, 3)),
-        case(example, ONE_FILE, 3, (31_715_712, 72), (8, 12)),
-        case(chains, LINKED_FILE, 2, (293_768_160, 222), (22, 607)),
-        case(wide, NOTHING, 16, (18_875_352_960, 3_468), (0, 0)),
-        case(deep, DEEP_FILE, 10, (14_356_010_240, 2_288), (10, 3)),
+        plain_case(ROOT, b"", 0, (116_480, 4), (0, 5)),
+        plain_case(ROOT, b"", 1, (232_960, 8), (1, 10)),
+        plain_case(ROOT, ENDED, 3, (465_920, 16), (0, 0)),
+        plain_case(example, ONE_FILE, 2, (23_786_784, 54), (2, 3)),
+        plain_case(example, ONE_FILE, 3, (31_715_712, 72), (8, 12)),
+        plain_case(chains, LINKED_FILE, 2, (293_768_160, 222), (22, 607)),
+        plain_case(wide, NOTHING, 16, (18_875_352_960, 3_468), (0, 0)),
+        plain_case(deep, DEEP_FILE, 10, (14_356_010_240, 2_288), (10, 3)),
         Case {
             candidates: &[b"a"],
-            ..case(ROOT, CREATING, 2, (524_160, 18), (2, 4))
+            ..plain_case(ROOT, CREATING, 2, (524_160, 18), (2, 4))
         },
     ];
     for (number, case) in cases.iter().enumerate() {
@@ -75,7 +75,7 @@ pub(crate) fn run(rt: &HostRuntime) -> Result<()> {
             println!(rt; "live states, case {number}: wrong")?;
         }
     }
-    let first = case(wide, ONE_DIRECTORY, 16, (18_875_352_960, 3_468), (0, 0));
+    let first = plain_case(wide, ONE_DIRECTORY, 16, (18_875_352_960, 3_468), (0, 0));
     if !is_first::<ListTree>(alloc, &first)? || !is_first::<SlabTree>(alloc, &first)? {
         println!(rt; "a first line: wrong")?;
     }
@@ -84,7 +84,7 @@ pub(crate) fn run(rt: &HostRuntime) -> Result<()> {
 }
 
 /// A case without candidates, with the most looks and reads, and how many states are live and lines come.
-fn case<'a>(
+fn plain_case<'a>(
     listing: &'a [u8],
     script: &'a [u8],
     limit: u8,
