@@ -89,7 +89,11 @@ const MANY: u32 = 150_000;
 pub(crate) fn run(rt: &HostRuntime) -> Result<()> {
     let mut cases = 0u32;
     for words in &COMMANDS {
-        for (output, is_told) in outputs_told(rt, words)? {
+        for (output, is_told) in [
+            ("a full device", is_full_told(rt, words)?),
+            ("an output that is not open", is_closed_told(rt, words)?),
+            ("a pipe that nobody reads", is_unread_told(rt, words)?),
+        ] {
             cases = cases.saturating_add(1);
             if !is_told {
                 println!(rt; "{output}, {}: wrong", words[0])?;
@@ -121,20 +125,25 @@ fn is_told<D: Write + Drop, B: Write + Drop>(
     Ok(is_direct && status == DONE && held.flush().is_err())
 }
 
-/// The outputs that fail, and whether a command tells of each: a device that has no room, a file that is
-/// open for reading alone, and a pipe whose reader is gone.
-fn outputs_told(rt: &HostRuntime, words: &[&str]) -> Result<[(&'static str, bool); 3]> {
-    let full = OpenOptions::new().write(true).open(rt, "/dev/full")?;
+/// The same, with a device that has no room.
+fn is_full_told(rt: &HostRuntime, words: &[&str]) -> Result<bool> {
+    let direct = OpenOptions::new().write(true).open(rt, "/dev/full")?;
     let below = OpenOptions::new().write(true).open(rt, "/dev/full")?;
-    let is_full = is_told(rt, words, full, below)?;
-    let closed = fs::open(rt, "listing-fronts")?;
-    let is_closed = is_told(rt, words, closed, fs::open(rt, "listing-fronts")?)?;
-    let is_unread = is_told(rt, words, unread_pipe(rt)?, unread_pipe(rt)?)?;
-    Ok([
-        ("a full device", is_full),
-        ("an output that is not open", is_closed),
-        ("a pipe that nobody reads", is_unread),
-    ])
+    is_told(rt, words, direct, below)
+}
+
+/// The same, with a file that is open for reading alone.
+fn is_closed_told(rt: &HostRuntime, words: &[&str]) -> Result<bool> {
+    let direct = fs::open(rt, "listing-fronts")?;
+    let below = fs::open(rt, "listing-fronts")?;
+    is_told(rt, words, direct, below)
+}
+
+/// The same, with pipes whose readers are gone.
+fn is_unread_told(rt: &HostRuntime, words: &[&str]) -> Result<bool> {
+    let direct = unread_pipe(rt)?;
+    let below = unread_pipe(rt)?;
+    is_told(rt, words, direct, below)
 }
 
 fn unread_pipe(rt: &HostRuntime) -> Result<PipeWriter> {
