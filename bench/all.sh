@@ -15,8 +15,8 @@ python3 "$top/bench/listings.py" .
 python3 "$top/bench/scripts.py" .
 : > empty
 plain=
-if command -v rustc > rustc.path 2>&1 && rustc -O -o resolver "$top/bench/resolver.rs" 2> rustc.err; then
-    plain=$room/resolver
+if command -v rustc > rustc.path 2>&1 && rustc -O --edition 2024 -o plain "$top/bench/plain/pua.rs" 2> rustc.err; then
+    plain=$room/plain
 fi
 
 # The least number with which the line of a command begins, in so many runs; a dash where its program isn't there.
@@ -35,10 +35,10 @@ most() {
 ten=/part0/part1/part2/part3/part4/part5/part6/part7/part8/part9
 echo '| What | `pua` | plain Rust |'
 echo '|---|---|---|'
-echo "| one resolution of a path of ten parts without links | $(least "$hostile" measure resolve deep $ten 100000) ns | $(least "${plain:-/none}" deep $ten 100000) ns |"
-echo "| one resolution that follows 32 links of four parts each | $(least "$hostile" measure resolve deep /d/l31 10000) ns | $(least "${plain:-/none}" deep /d/l31 10000) ns |"
-echo "| reading a listing of 4,096 nodes, rows in order | $(least "$hostile" measure read wide 20) us | $(least "${plain:-/none}" read wide 20) us |"
-echo "| reading a listing of 4,096 nodes, names in no order | $(least "$hostile" measure read mixed 20) us | $(least "${plain:-/none}" read mixed 20) us |"
+echo "| one resolution of a path of ten parts without links | $(least "$hostile" measure resolve deep $ten 100000) ns | $(least "${plain:-/none}" measure resolve deep $ten 100000) ns |"
+echo "| one resolution that follows 32 links of four parts each | $(least "$hostile" measure resolve deep /d/l31 10000) ns | $(least "${plain:-/none}" measure resolve deep /d/l31 10000) ns |"
+echo "| reading a listing of 4,096 nodes, rows in order | $(least "$hostile" measure read wide 20) us | $(least "${plain:-/none}" measure read wide 20) us |"
+echo "| reading a listing of 4,096 nodes, names in no order | $(least "$hostile" measure read mixed 20) us | $(least "${plain:-/none}" measure read mixed 20) us |"
 echo
 echo '| Covers | |'
 echo '|---|---|'

@@ -3,10 +3,9 @@
 
 It takes the cases of `crates/pua_examples/src/beside.rt`: the stories, the rows whose commands report no fault, and the
 random worlds of `generator.rt`, made once more by `worlds.py`. For each it runs `beside.rs`, with limits that are as long as at
-most WORDS words allow (10,000, as in `deep.rt`), and prints what is not as the list says; then the last line but one of the
-program `pua_examples`. Nothing of the crates is run for it, so that line is no output of theirs. The plain program knows the
-standard table of calls alone, so commands with the option --table are left out; the last line of `pua_examples` is of
-these."""
+most WORDS words allow (10,000, as in `deep.rt`), and prints what is not as the list says; then the last two lines of the
+program `pua_examples`: of what goes by the standard table, and of what goes by OpenBSD's rules or by a table from a file. Nothing
+of the crates is run for it, so these lines are no output of theirs."""
 import concurrent.futures
 import pathlib
 import subprocess
@@ -18,8 +17,16 @@ from worlds import EXAMPLES, TOP, Random, texts
 WORDS = sys.argv[1] if len(sys.argv) > 1 else "10000"
 
 
-def has_table(words):
-    return any(word.split("=")[0] == "--table" for word in words)
+STANDARD = "profile"
+
+
+def rules_of(words, table):
+    """The rules of a command, as `beside.rs` takes them: with the rows of a table where it names one."""
+    options = [word for word in words if word.startswith("--")]
+    rules = "openbsd" if "openbsd" in words or "--rules=openbsd" in words else STANDARD
+    rows = tomllib.loads(table) if any(option.split("=")[0] == "--table" for option in options) else {}
+    said = [f"{call} {''.join('/' + one for one in row['promises'])} {row['veil'] or '='}" for call, row in rows.items()]
+    return ";".join([rules, *said]), rules != STANDARD or any(option.split("=")[0] == "--table" for option in options)
 
 
 def asked_by(words):
@@ -29,7 +36,7 @@ def asked_by(words):
     options, operands = {"--process": "1", "--base": "root", "--limit": "0"}, []
     while rest:
         word = rest.pop(0)
-        if command == "run" or not word.startswith("--"):
+        if not word.startswith("--"):
             operands.append(word)
         elif word == "--ever":
             continue
@@ -40,38 +47,38 @@ def asked_by(words):
             options[option] = value or rest.pop(0)
     base = options["--base"] if command == "audit" else "-"
     process = "1" if options["--process"] == "all" else options["--process"]
-    return [process, WORDS, base, options["--limit"], *operands[2:]]
+    return [process, WORDS, base, options["--limit"], *(operands[2:] if command == "audit" else [])]
 
 
 def cases():
-    """The name, listing, script and words of each case."""
+    """The name, listing, script, table and words of each case."""
     for story in texts((EXAMPLES / "src/stories.rt").read_text(), "STORIES"):
         listing, script, command = [(EXAMPLES / "data" / story / file).read_text() for file in ("listing", "script", "command")]
-        words = command.split()[1:]
-        if not has_table(words):
-            yield story, listing, script, words
+        table = EXAMPLES / "data" / story / "table"
+        yield story, listing, script, table.read_text() if table.exists() else "", command.split()[1:]
     table = tomllib.loads((EXAMPLES / "data/rows.toml").read_text())
     for row in table["row"]:
         words = row.get("words") or row["command"].split()
-        if not row.get("fault") and not has_table(words):
-            yield row["name"], table["tree"][row["tree"]]["listing"], row.get("script", ""), words
+        if not row.get("fault"):
+            yield row["name"], table["tree"][row["tree"]]["listing"], row.get("script", ""), row.get("table", ""), words
     random = Random()
     for number in range(1, 51):
         listing, script = random.listing(), random.script()
         for process in "12":
-            yield f"process {process} of world {number}", listing, script, ["objects", "--process", process, "TREE", "SCRIPT"]
+            yield f"process {process} of world {number}", listing, script, "", ["objects", "--process", process, "TREE", "SCRIPT"]
 
 
 def counted(room, number, case):
-    """What `beside.rs` counts of a case."""
-    name, listing, script, words = case
+    """Whether a case goes by another table, and what `beside.rs` counts of it."""
+    name, listing, script, table, words = case
+    rules, is_other = rules_of(words, table)
     tree, lines = room / f"{number}.tree", room / f"{number}.script"
     tree.write_text(listing)
     lines.write_text(script)
-    ran = subprocess.run([room / "beside", tree, lines, *asked_by(words)], capture_output=True, text=True)
+    ran = subprocess.run([room / "beside", tree, lines, rules, *asked_by(words)], capture_output=True, text=True)
     if ran.returncode:
         print(f"not as the objects: {name}: {ran.stderr}")
-    return [int(count) for count in ran.stdout.split()] or [0] * 5
+    return is_other, [int(count) for count in ran.stdout.split()] or [0] * 5
 
 
 def main():
@@ -79,9 +86,11 @@ def main():
         room = pathlib.Path(folder)
         source = TOP / "bench/plain/beside.rs"
         subprocess.run(["rustc", "-O", "--edition", "2024", "-o", room / "beside", source], check=True)
-        counts = pool.map(lambda numbered: counted(room, *numbered), enumerate(cases()))
-        audits, pairs, lines, whole, equal = [sum(column) for column in zip(*counts)]
-    print(f"{audits} audits beside lists of objects: {pairs} pairs, {whole} lines of {lines} found whole; in {equal} audits all of them")
+        counts = list(pool.map(lambda numbered: counted(room, *numbered), enumerate(cases())))
+    for is_other, what in (False, "audits beside lists of objects"), (True, "audits by other tables"):
+        chosen = [count for other, count in counts if other == is_other]
+        audits, pairs, lines, whole, equal = [sum(column) for column in zip(*chosen)]
+        print(f"{audits} {what}: {pairs} pairs, {whole} lines of {lines} found whole; in {equal} audits all of them")
 
 
 main()

@@ -1,6 +1,9 @@
 // Audits beside the list of objects of one process, by the plain program's own rules and a filter of all words:
 //
-//     beside TREE SCRIPT PROCESS WORDS BASE LIMIT [NAME...]
+//     beside TREE SCRIPT RULES PROCESS WORDS BASE LIMIT [NAME...]
+//
+// RULES is `profile` or `openbsd`, and then, each after a semicolon, what a call needs otherwise: its name, its lists of
+// promises after slashes, and letters, with a blank between them (`openbsd;mkdir /cpath/dpath c`).
 //
 // It compares the audit with this base, limit and these names (none where BASE is `-`), and then those from the root and
 // from the working directory at the longest limit with at most WORDS words, with the names, `nowhere`, and each name
@@ -162,11 +165,31 @@ mod pua {
             words.take(17).enumerate().take_while(is_cheap).last().map_or(0, |(limit, _)| limit)
         }
 
+        /// The rules that a word says.
+        fn rules_of(word: &str) -> Option<Rules> {
+            let mut parts = word.split(';');
+            let mut rules = Rules::standard();
+            if parts.next()? == "openbsd" {
+                rules.calls[Call::Chmod as usize] = (vec![RPATH | FATTR], W);
+                rules.rename = OldName { promises: RPATH | CPATH, letters: R | C, is_followed: false };
+                rules.link = OldName { promises: RPATH, letters: R, is_followed: true };
+                rules.is_exec_kept = true;
+            }
+            for part in parts {
+                let [call, lists, letters] = part.split(' ').collect::<Vec<_>>()[..] else { return None };
+                let list = |list: &str| set(&read_given(if list.is_empty() { b"=" } else { list.as_bytes() }).ok()?);
+                let lists = lists.split('/').skip(1).map(list).collect::<Option<_>>()?;
+                rules.calls[read_call(call.as_bytes())? as usize] = (lists, read_perms(letters.as_bytes())?);
+            }
+            Some(rules)
+        }
+
         pub fn run() -> Result<(), Box<dyn std::error::Error>> {
             let words: Vec<String> = std::env::args().skip(1).collect();
-            let [listing, text, process, most, base, limit, names @ ..] = &words[..] else {
-                return Err("beside TREE SCRIPT PROCESS WORDS BASE LIMIT [NAME...]".into());
+            let [listing, text, rules, process, most, base, limit, names @ ..] = &words[..] else {
+                return Err("beside TREE SCRIPT RULES PROCESS WORDS BASE LIMIT [NAME...]".into());
             };
+            RULES.get_or_init(|| rules_of(rules).expect("rules"));
             let (listing, text) = (fs::read(listing)?, fs::read(text)?);
             let mut world = World { tree: read_listing(&listing)?, processes: Map::from_iter([(1, Process::default())]) };
             for (number, action) in &read_script(&text)? {

@@ -4,7 +4,7 @@
 It runs each story of `examples/` and each row of `examples/rows.toml`, and prints a line for each whose standard
 output, fault line or status is another than expected; an audit that a row has whole is also resumed after each of its
 lines. Then it prints how many there were. PROGRAM can be `pua` itself, or with --no-tables the plain one, which knows the
-standard table of calls alone: commands with the option --table are left out then. Where PLAIN, the plain one, is given, the
+standard table of calls alone: commands with the option --table or --rules are left out then. Where PLAIN, the plain one, is given, the
 lists of all processes of random worlds are compared too: what it writes of them is expected."""
 import pathlib
 import subprocess
@@ -23,7 +23,7 @@ counts = {"runs": 0, "differ": 0}
 
 def run(name, words, folder, output, fault="", status=0):
     """Runs the program in a folder, and judges what it writes."""
-    if status != 2 and not HAS_TABLES and any(word.startswith("--table") for word in words):
+    if status != 2 and not HAS_TABLES and any(word.startswith(("--table", "--rules")) for word in words):
         return
     ran = subprocess.run([PROGRAM, *words], cwd=folder, capture_output=True)
     counts["runs"] += 1

@@ -1,7 +1,7 @@
 #!/usr/bin/env python3
 """Compares lists for ever with what comes of them by the plain program alone: python3 ever.py [WORLDS]
 
-It makes the random worlds of `crates/pua_examples/src/ever.rt` once more, and the scripts that are played in each; runs
+It makes the random worlds of `crates/pua_examples/src/random/ever.rt` once more, and the scripts that are played in each; runs
 `ever.rs` over them, and prints what isn't foreseen; then the line that the program `pua_examples` prints of them. With
 WORLDS it takes so many worlds, in place of 50."""
 import pathlib

@@ -5,7 +5,7 @@
 // FRONT leaves the world of the beginning. After each line of each SCRIPT, played from there up to an exec that succeeds,
 // each line of each process has to lie within the list for ever. It prints how many lists were compared, how many calls
 // of the list for ever were met, and how many it has. It stops where something isn't foreseen. Built by `rustc -O --edition
-// 2024 ever.rs`; `ever.py` runs it over the worlds of `crates/pua_examples/src/ever.rt`.
+// 2024 ever.rs`; `ever.py` runs it over the worlds of `crates/pua_examples/src/random/ever.rt`.
 
 #[allow(dead_code)]
 mod pua {

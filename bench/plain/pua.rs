@@ -1,13 +1,15 @@
 // What `pua run`, `pua audit` and `pua objects` do, in plain Rust of one file, to compare with: the same text to the
 // byte, by the rules of docs/DEFINITIONS.md. Nothing here is proved. Built by `rustc -O --edition 2024 pua.rs`; its
-// words are those of `pua`.
+// words are those of `pua`. After the word `measure` it measures one reading or one resolution, as `pua_hostile` does.
 
 use std::borrow::Cow;
 use std::collections::HashMap;
 use std::fs;
 use std::hash::{BuildHasherDefault, Hasher};
+use std::hint::black_box;
 use std::io::{self, Write};
 use std::process::ExitCode;
+use std::sync::OnceLock;
 
 // ---- Maps: those of std, with a hash for short keys
 
@@ -460,6 +462,39 @@ const CALLS: [(Call, &str, u64, u8, bool); 14] = [
     (Call::Exec, "exec", EXEC, X, true),
 ];
 
+/// What calls need: sets of promises, of which one has to be held, and letters; what rename and link need of their old
+/// names, whose new ones need `cpath` and `c`; and whether execpromises stay after an exec.
+struct Rules {
+    calls: [(Vec<u64>, u8); 14],
+    rename: OldName,
+    link: OldName,
+    is_exec_kept: bool,
+}
+
+struct OldName {
+    promises: u64,
+    letters: u8,
+    is_followed: bool,
+}
+
+/// By what this run goes: the standard table, unless something else was put here first.
+static RULES: OnceLock<Rules> = OnceLock::new();
+
+fn rules() -> &'static Rules {
+    RULES.get_or_init(Rules::standard)
+}
+
+impl Rules {
+    fn standard() -> Rules {
+        Rules {
+            calls: CALLS.map(|(_, _, promises, letters, _)| (vec![promises], letters)),
+            rename: OldName { promises: CPATH, letters: C, is_followed: false },
+            link: OldName { promises: CPATH, letters: C, is_followed: false },
+            is_exec_kept: false,
+        }
+    }
+}
+
 /// What a call is on; a directory with what is wrong with removing it.
 #[derive(Clone, Copy)]
 enum Object {
@@ -533,8 +568,13 @@ impl Process {
     }
 
     fn may(&self, promises: u64) -> Result<(), Errno> {
+        self.may_by(&[promises])
+    }
+
+    /// Whether one of these sets is held.
+    fn may_by(&self, sets: &[u64]) -> Result<(), Errno> {
         match self.held() {
-            held if held & promises == promises => Ok(()),
+            held if sets.iter().any(|promises| held & promises == *promises) => Ok(()),
             held if held & ERROR != 0 => Err("ENOSYS"),
             _ => Err("killed"),
         }
@@ -624,7 +664,10 @@ impl Process {
     }
 
     fn exec(&mut self) {
-        self.promises = self.execpromises.take();
+        self.promises = self.execpromises;
+        if !rules().is_exec_kept {
+            self.execpromises = None;
+        }
         if self.promises.is_none() {
             (self.on_dirs, self.on_names, self.is_locked) = (Map::default(), Map::default(), false);
             self.places.clear();
@@ -633,25 +676,28 @@ impl Process {
 
     /// What a call's path names, if the call is allowed on it.
     fn judged<'a>(&self, tree: &'a Tree, call: Call, path: &'a [u8]) -> Result<Found<'a>, Errno> {
-        let (_, _, promises, perms, follow) = CALLS[call as usize];
-        self.may(promises)?;
+        let follow = CALLS[call as usize].4;
+        let (promises, perms) = &rules().calls[call as usize];
+        self.may_by(promises)?;
         let found = tree.named(self.dir, path, matches!(call, Call::Mkdir | Call::Rmdir), follow)?;
-        let fault = cover_fault(self.cover(tree, found), perms).or_else(|| object_fault(call, object(tree, found)));
+        let fault = cover_fault(self.cover(tree, found), *perms).or_else(|| object_fault(call, object(tree, found)));
         fault.map_or(Ok(found), Err)
     }
 
-    /// What two paths name, if both are covered with the letter c.
+    /// What two paths name, if each is covered with the letters that it needs.
     fn pair<'a>(
         &self,
         tree: &'a Tree,
         old: &'a [u8],
         new: &'a [u8],
         is_dropped: bool,
+        need: &OldName,
     ) -> Result<(Found<'a>, Found<'a>), Errno> {
+        self.may(need.promises)?;
         self.may(CPATH)?;
-        let from = tree.named(self.dir, old, is_dropped, false)?;
+        let from = tree.named(self.dir, old, is_dropped, need.is_followed)?;
         let to = tree.named(self.dir, new, is_dropped, false)?;
-        let fault = cover_fault(self.cover(tree, from), C).or_else(|| cover_fault(self.cover(tree, to), C));
+        let fault = cover_fault(self.cover(tree, from), need.letters).or_else(|| cover_fault(self.cover(tree, to), C));
         fault.map_or(Ok((from, to)), Err)
     }
 }
@@ -790,20 +836,20 @@ fn act(tree: &mut Tree, process: &mut Process, action: &Action) -> Result<(), Er
             change(tree, process, *call, found.node(), found.spot().map(owned))
         }
         Action::Symlink(target, path) => {
-            process.may(CPATH)?;
+            process.may_by(&rules().calls[Call::Symlink as usize].0)?;
             path_fault(target)?;
             let spot = process.judged(tree, Call::Symlink, path)?.spot().map(owned);
             add(tree, spot, Kind::Link, target)
         }
         Action::Rename(old, new) => {
-            let (from, to) = process.pair(tree, old, new, true)?;
+            let (from, to) = process.pair(tree, old, new, true, &rules().rename)?;
             if let Some((from, to)) = move_of(tree, from, to)? {
                 tree.shift((from.0, &from.1), (to.0, &to.1));
             }
             Ok(())
         }
         Action::Link(old, new) => {
-            let (from, to) = process.pair(tree, old, new, false)?;
+            let (from, to) = process.pair(tree, old, new, false, &rules().link)?;
             let node = from.node().ok_or("ENOENT")?;
             match (from, to) {
                 (Found::Whole(..), _) => Err("EPERM"),
@@ -966,15 +1012,15 @@ const OBJECTS: [Object; 6] = [
 
 impl Allowed {
     fn new(held: u64) -> Allowed {
-        let calls = |fits: &dyn Fn(Call, u64, u8) -> bool| {
-            let fitting = CALLS.iter().filter(|(call, _, promises, letters, _)| fits(*call, *promises, *letters));
-            fitting.fold(0, |calls, row| calls | 1 << row.0 as u16)
+        let calls = |fits: &dyn Fn(Call, &(Vec<u64>, u8)) -> bool| {
+            let fitting = CALLS.iter().zip(&rules().calls).filter(|(row, need)| fits(row.0, need));
+            fitting.fold(0, |calls, (row, _)| calls | 1 << row.0 as u16)
         };
         Allowed {
-            by_letters: std::array::from_fn(|kept| calls(&|_, promises, letters| {
-                held & promises == promises && kept as u8 & letters == letters
+            by_letters: std::array::from_fn(|kept| calls(&|_, (sets, letters)| {
+                sets.iter().any(|promises| held & promises == *promises) && kept as u8 & letters == *letters
             })),
-            by_object: OBJECTS.map(|object| calls(&|call, _, _| object_fault(call, object).is_none())),
+            by_object: OBJECTS.map(|object| calls(&|call, _| object_fault(call, object).is_none())),
         }
     }
 
@@ -1793,18 +1839,50 @@ fn perform(command: Command, words: &Words) -> Result<(), (u8, String)> {
     }
 }
 
+/// Prints how long one reading of a listing takes, or one resolution of a path, of so many.
+fn measure(words: &[String]) -> Result<(), (u8, String)> {
+    let usage = || (2, "measure read LISTING TURNS; measure resolve LISTING PATH TURNS".to_string());
+    let (listing, path, turns) = match words {
+        [what, listing, turns] if what == "read" => (listing, None, turns),
+        [what, listing, path, turns] if what == "resolve" => (listing, Some(path.as_bytes()), turns),
+        _ => return Err(usage()),
+    };
+    let turns: u32 = turns.parse().ok().filter(|turns| *turns > 0).ok_or_else(usage)?;
+    let text = fs::read(listing).map_err(|_| (3, format!("pua: cannot read {listing}")))?;
+    let tree = read_listing(&text).map_err(|fault| (1, fault))?;
+    let start = std::time::Instant::now();
+    for _ in 0..turns {
+        match path {
+            Some(path) => drop(black_box(tree.named(ROOT, black_box(path), false, true))),
+            None => drop(black_box(read_listing(black_box(&text)))),
+        }
+    }
+    let whole = start.elapsed();
+    match path {
+        Some(path) => {
+            let node = tree.named(ROOT, path, false, true).map(Found::node);
+            println!("{} ns a resolution of {node:?}", whole.as_nanos() / u128::from(turns));
+        }
+        None => println!("{} us a reading of {} names", whole.as_micros() / u128::from(turns), tree.names),
+    }
+    Ok(())
+}
+
 /// Those of the program beside which this one stands. Here no table is read.
 const USAGE: &str = "pua: usage: pua run [--table FILE] TREE SCRIPT; \
                      pua audit --limit N [--process P] [--base root|cwd] [--after CALL:PATH] [--table FILE] TREE SCRIPT [NAME...]";
-const OBJECTS_USAGE: &str = "pua: usage: pua objects [--ever] [--process P|all] [--table FILE] TREE SCRIPT";
+const OBJECTS_USAGE: &str = "pua: usage: pua objects [--ever] [--process P|all] [--rules profile|openbsd] [--table FILE] TREE SCRIPT";
 
 fn main() -> ExitCode {
     let words: Vec<String> = std::env::args().skip(1).collect();
     let is_objects = words.first().is_some_and(|word| word == "objects");
     let usage = if is_objects { OBJECTS_USAGE } else { USAGE };
-    let done = match read_words(&words) {
-        Some((command, words)) => perform(command, &words),
-        None => Err((2, usage.into())),
+    let done = match words.split_first() {
+        Some((first, words)) if first == "measure" => measure(words),
+        _ => match read_words(&words) {
+            Some((command, words)) => perform(command, &words),
+            None => Err((2, usage.into())),
+        },
     };
     match done {
         Ok(()) => ExitCode::SUCCESS,

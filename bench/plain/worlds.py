@@ -1,11 +1,11 @@
-"""The random worlds of `crates/pua_examples/src/generator.rt`, made once more, with the texts that stand there."""
+"""The random worlds of `crates/pua_examples/src/random/generator.rt`, made once more, with the texts that stand there."""
 import ast
 import pathlib
 import re
 
 TOP = pathlib.Path(__file__).resolve().parents[2]
 EXAMPLES = TOP / "crates/pua_examples"
-GENERATOR = (EXAMPLES / "src/generator.rt").read_text()
+GENERATOR = (EXAMPLES / "src/random/generator.rt").read_text()
 
 
 def texts(source, name):
@@ -14,7 +14,7 @@ def texts(source, name):
 
 
 class Random:
-    """The generator of `generator.rt`, and what it draws."""
+    """The generator of `random/generator.rt`, and what it draws."""
 
     def __init__(self):
         self.state = 0x9E37_79B9_7F4A_7C15

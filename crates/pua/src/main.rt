@@ -24,8 +24,10 @@ fn answered(rt: &HostRuntime) -> Result<u8, AllocError> {
         let _ = eprintln!(rt; "{}", UsageLine::Program.text());
         return Ok(USAGE);
     };
-    let words: Vec<&str> = args.iter().map(|arg| arg.as_str()).collect(rt.alloc())?;
-    let writer = BufWriter::new(rt.alloc(), io::writer(rt)).map_err(|_| AllocError)?;
+    let words: Vec<&str> = args.iter().map(String::as_str).collect(rt.alloc())?;
+    let Ok(writer) = BufWriter::new(rt.alloc(), io::writer(rt)) else {
+        return Err(AllocError);
+    };
     Ok(program(
         rt.alloc(),
         words.as_slice(),

@@ -22,6 +22,7 @@ impl Content {
         ghost tree: { Tree }
         ensures { result.tree ≡ tree }
     {
+        // It is there for the proof of a caller, which picks `tree` from the arguments of the call.
         let _ = x;
         Content {
             marker: PhantomData,

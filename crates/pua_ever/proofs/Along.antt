@@ -1,14 +1,16 @@
 -- What is known of each row stays known over a list of requests of a family.
 use Rattle.std.proofs.Common.{◌≡◌, ℕ, List, [], ◌∷◌, true, false, sym, ap, ◌∙◌, inl, inr}
-use Rattle.std.specs.Prelude.{None, Ok, not}
-use Rattle.std.proofs.lemmas.Bool.{and_parts}
-use Rattle.pua_tree.specs.Tree.{Tree, WellFormed, Spot, is_dir, has_no_row, empty_tree}
+use Rattle.std.specs.Prelude.{None, Ok, not, ◌&&◌, ◌||◌, is_none}
+use Rattle.std.proofs.lemmas.Bool.{and_parts, and_from}
+use Rattle.pua_tree.specs.Tree.{Tree, WellFormed, Spot, is_dir, kind_at, has_no_row, empty_tree}
+use Rattle.pua_path.specs.Fits.{is_link_kind}
 use Rattle.pua_path.specs.declared.found.Found.{Found}
 use Rattle.pua_path.specs.declared.found.Found.TheVariants.{Whole, Slot}
 use Rattle.pua_path.specs.declared.found.Way.TheVariants.{Top}
 use Rattle.pua_policy.specs.Calls.{CallTable}
-use Rattle.pua_policy.specs.History.{History}
-use Rattle.pua_policy.specs.Verdict.{IsMissing, cover, covered_verdict, is_allowed}
+use Rattle.pua_policy.specs.CallSets.{is_kept}
+use Rattle.pua_policy.specs.History.{History, may_any}
+use Rattle.pua_policy.specs.Verdict.{IsMissing, cover, cover_fault, covered_verdict, is_allowed}
 use Rattle.pua_policy.specs.declared.call.Call.TheVariants as call
 use Rattle.pua_script.specs.Requests.{Asked}
 use Rattle.pua_script.specs.Replay.{World, apply, world_after}
@@ -20,11 +22,12 @@ use Rattle.pua_script.proofs.ForCallers.{Members, members_then, not_true}
 use Rattle.pua_script.proofs.ForCallers.{each_spares, by_other, first_tree}
 use Rattle.pua_objects.specs.Objects.{cover_in}
 use Rattle.pua_objects.proofs.ForCallers.{covers_descend}
-use Rattle.pua_ever.specs.Ever.{New, NewDir, NewOthers, NewFile, NewLink, maker}
+use Rattle.pua_ever.specs.Ever.{is_yes, may_link, New, NewDir, NewOthers, NewFile, NewLink, maker}
 use Rattle.pua_ever.specs.Laws.{EditsNeedC, VeilsStand}
-use Rattle.pua_ever.proofs.Grown.{Grown, Written, by_name, by_turn, From, is_new, is_moved, Put, Born, name_cover}
+use Rattle.pua_ever.proofs.Grown.{Grown, Written, by_name, by_turn, From, is_new, is_moved, is_linked, Put, Born, name_cover}
 use Rattle.pua_ever.proofs.Growing.{takes, requests_grow}
 use Rattle.pua_ever.proofs.Origins.{Stays}
+use Rattle.pua_ever.proofs.Unedited.{yes_before}
 use Rattle.pua_ever.proofs.Stepping.{stays_then}
 
 -- what has grown by a tightened history has grown by the one that it tightens
@@ -46,9 +49,22 @@ module _ (table : CallTable) (sound : NoCallNeedsError table) (now a : History) 
   written_within s x (by_name has) = by_name (ap has_c (sym (same (Slot s.0 s.1 None))) ∙ has)
   written_within s x (by_turn y at empty has is) = by_turn y at empty (ap has_c (sym (same_in y (and_parts (is_dir t y) (has_no_row t y) empty).0)) ∙ has) is
 
+  -- who may link by what is left may by all that was held
+  link_within : may_link table a ≡ true → may_link table now ≡ true
+  link_within e =
+      let two = and_parts (is_yes (may_any a table.link.old.needs.alternatives)) _ e in
+      and_from (is_yes (may_any now table.link.old.needs.alternatives)) _
+      (yes_before table sound now a within table.link.old.needs.alternatives sound.link.0 two.0)
+      (yes_before table sound now a within table.link.new.needs.alternatives sound.link.1 two.1)
+
   from_within : (x : ℕ) → From table t a x → From table t now x
   from_within x (is_new e) = is_new e
   from_within x (is_moved r e has) = is_moved r e (ap has_c (sym (same (object_in t r x))) ∙ has)
+  from_within x (is_linked r e plain can) =
+      let parts = and_parts (may_link table a) _ can in
+      is_linked r e plain
+      (and_from (may_link table now) _ (link_within parts.0)
+      (ap (λ left. is_none (cover_fault left table.link.old.needs.perms) && (not (is_link_kind (kind_at t x)) || is_kept table.link.old.last)) (sym (same (object_in t r x))) ∙ parts.1))
 
   put_within : (s : Spot) (x : ℕ) → Put table t a s x → Put table t now s x
   put_within s x put = record { lives = put.lives; written = written_within s x put.written; from = from_within x put.from }

@@ -1,10 +1,11 @@
 -- What is allowed later has a line now.
 use Rattle.std.proofs.Common.{◌≡◌, ◌⊎◌, ◌≤◌, ◌<◌, ℕ, List, [], ◌++◌, Bool, true, false, cond, map, refl, sym, ap, subst, ◌∙◌, inl, inr, arith}
-use Rattle.std.specs.Prelude.{Option, Some, None, Result, Ok, Err, not, ◌&&◌, ◌||◌, ◌==◌, is_some, is_none, option_map, filter, flat_map}
+use Rattle.std.specs.Prelude.{Option, Some, None, Result, Ok, Err, not, ◌&&◌, ◌||◌, ◌∷◌, ◌==◌, is_some, is_none, option_map, filter, flat_map}
 use Rattle.std.specs.Option.{option_eq}
 use Rattle.std.specs.List.{list_any}
 use Rattle.std.proofs.lemmas.Bool.{false≢true, and_parts, and_from, eq-eqb, or_left, or_right}
 use Rattle.pua_tree.specs.Tree.{Tree, WellFormed, Spot, is_dir, is_dir_kind, is_living, look, node_at, kind_at, is_empty, has_no_row, empty_tree}
+use Rattle.pua_tree.specs.declared.node.Kind.{Kind}
 use Rattle.pua_tree.specs.declared.node.Kind.TheVariants as kind
 use Rattle.pua_tree.proofs.ForCallers.{Sound, sound_from, row_says, row_of, Some≢None}
 use Rattle.pua_path.specs.Resolution.{resolution_of_text}
@@ -38,13 +39,13 @@ use Rattle.pua_objects.proofs.ForCallers.{covers_descend}
 use Rattle.pua_objects.proofs.ForCallers.{named_by_row}
 use Rattle.pua_objects.proofs.ForCallers.{has_item, found_dir}
 use Rattle.pua_objects.proofs.ForCallers.{one_of_calls, some_of, failed, named_within_text}
-use Rattle.pua_ever.specs.Ever.{row_cover, is_free, can_empty, dir_covers, file_covers, may_edit, ever_covers, covers_of, covers_of_dir, removable_dir, is_named_way, ever_object, is_allowed_under, ever_calls, ever_line, New, NewDir, NewOthers, NewFile, NewLink, new_covers, new_object, is_new_named, can_make, new_calls, Thing, Stands, Comes, EverLine, names_to_free, subjects_of, all_new, new_line, has_calls, ever}
+use Rattle.pua_ever.specs.Ever.{row_cover, is_free, can_empty, dir_covers, file_covers, may_edit, can_link, ever_covers, named_covers, covers_of, covers_of_dir, removable_dir, is_named_way, ever_object, is_allowed_under, ever_calls, ever_line, New, NewDir, NewOthers, NewFile, NewLink, new_covers, new_object, is_new_named, can_make, new_calls, Thing, Stands, Comes, EverLine, names_to_free, subjects_of, all_new, new_line, has_calls, ever}
 use Rattle.pua_ever.specs.Laws.{VeilsStand, IsLineOf, of_dir, of_new_dir, of_row, of_new_file, of_new_link, of_name, of_others, of_new_others, IsForeseen}
 use Rattle.pua_ever.proofs.Grown.{new_kind}
 use Rattle.pua_ever.proofs.Ways.{any_among, way_by_c}
 use Rattle.pua_ever.proofs.Covers.{given_or_new, living_dir, below_next, same_dir}
 use Rattle.pua_ever.proofs.KindFaults.{plain_alike, dir_as, dir_alike}
-use Rattle.pua_ever.proofs.Origins.{Origin, stood, since, Known, Stays, DirUnder, at_rest, come, old_dir, dir_under, file_under, could_empty, free_then}
+use Rattle.pua_ever.proofs.Origins.{Origin, stood, linked, since, Known, Stays, DirUnder, at_rest, come, old_dir, dir_under, file_under, could_empty, free_then}
 
 one_new : (made : New) → Among all_new made
 one_new NewDir = inl refl
@@ -76,6 +77,29 @@ ever_first true now others some = by (has_c now) refl
 
 ever_other : (b : Bool) (now : Cover) (others : List Cover) (c : Cover) → b ≡ true → has_c now ≡ true → Among others c → Among (ever_covers b now others) c
 ever_other b now others c moves has a = rw (moves, has) a
+
+-- the same of a file, program or link, which link can give a further name
+module _ (t : Tree) (table : CallTable) (h : History) (what : Option Kind) (now : Cover) where
+  abbrev further : List Cover
+  further = cond (can_link table h what now) (file_covers t h) []
+
+  pub named_first : (has_c now ≡ true → Among (file_covers t h) now) → Among (named_covers t table h what now) now
+  named_first some = by (may_edit table h) (has_c now) refl
+    where
+      by : (a b : Bool) → has_c now ≡ b → Among (cond (a && b) (file_covers t h) (now ∷ further)) now
+      by true true has = some has
+      by true false lacks = inl refl
+      by false b has = inl refl
+
+  pub named_moved : (c : Cover) → may_edit table h ≡ true → has_c now ≡ true → Among (file_covers t h) c → Among (named_covers t table h what now) c
+  named_moved c edits has a = rw (edits, has) a
+
+  pub named_linked : (c : Cover) → can_link table h what now ≡ true → Among (file_covers t h) c → Among (named_covers t table h what now) c
+  named_linked c can a = by (may_edit table h && has_c now)
+    where
+      by : (b : Bool) → Among (cond b (file_covers t h) (now ∷ further)) c
+      by true = a
+      by false = inr (subst (λ (b : Bool). Among (cond b (file_covers t h) []) c) (sym can) a)
 
 not_dir : (b : Bool) → not b ≡ true → b ≡ false
 not_dir true e = cc
@@ -263,7 +287,7 @@ module _ (table : CallTable) (t0 : Tree) (h : History) (well0 : WellFormed t0) (
     -- a line of a row of the beginning, under a cover that its thing can come under
     hit_row : (r : Spot) (s : Spot) (x : ℕ) → look t0 r.0 r.1 ≡ Some x → node_at u x ≡ node_at t0 x → is_dir u x ≡ false → (last_of c ≡ Followed → is_link u (Slot s.0 s.1 (Some x)) ≡ false)
         → may_any h (rule_of table c).alternatives ≡ may.Yes → cover_fault (cover u h (Slot s.0 s.1 (Some x))) (rule_of table c).perms ≡ None → object_fault u c (object_of_kind (kind_at u x)) ≡ None
-        → Among (ever_covers (may_edit table h) (cover t0 h (Slot r.0 r.1 (Some x))) (file_covers t0 h)) (cover u h (Slot s.0 s.1 (Some x))) → Hit (Slot s.0 s.1 (Some x))
+        → Among (named_covers t0 table h (kind_at t0 x) (cover t0 h (Slot r.0 r.1 (Some x)))) (cover u h (Slot s.0 s.1 (Some x))) → Hit (Slot s.0 s.1 (Some x))
     hit_row r s x at same other followed granted covered fine a =
         let same_kind : kind_at u x ≡ kind_at t0 x = ap (option_map (λ n. n.kind)) same in
         let other_then : is_dir t0 x ≡ false = sym (same_dir t0 u x same) ∙ other in
@@ -298,27 +322,30 @@ module _ (table : CallTable) (t0 : Tree) (h : History) (well0 : WellFormed t0) (
           | inl fixed ↦ (let stays = k.uncovered s x fixed.0 fixed.1 in
               let then : is_dir t0 x ≡ false = sym (same_dir t0 u x same) ∙ other in
               let covers : cover u h (Slot s.0 s.1 (Some x)) ≡ cover t0 h (Slot s.0 s.1 (Some x)) = sym (slot_of s x other) ∙ stays.covered ∙ slot_then s x then in
-              here s fixed.0 (subst (Among (ever_covers (may_edit table h) (cover t0 h (Slot s.0 s.1 (Some x))) (file_covers t0 h))) (sym covers)
-              (ever_first (may_edit table h) (cover t0 h (Slot s.0 s.1 (Some x))) (file_covers t0 h) (λ has. absurd (false≢true (sym fixed.1 ∙ ap has_c (slot_then s x then) ∙ has))))))
+              here s fixed.0 (subst (Among (named_covers t0 table h (kind_at t0 x) (cover t0 h (Slot s.0 s.1 (Some x))))) (sym covers)
+              (named_first t0 table h (kind_at t0 x) (cover t0 h (Slot s.0 s.1 (Some x))) (λ has. absurd (false≢true (sym fixed.1 ∙ ap has_c (slot_then s x then) ∙ has))))))
           | inr came ↦ elim edit [
             | inl edits ↦ moved edits came.1 came.0.origin
             | inr tree ↦ (let at : look t0 s.0 s.1 ≡ Some x = ap (λ v. look v s.0 s.1) (sym tree) ∙ e in
                 let covers : cover u h (Slot s.0 s.1 (Some x)) ≡ cover t0 h (Slot s.0 s.1 (Some x)) = ap (λ v. cover v h (Slot s.0 s.1 (Some x))) tree in
-                here s at (subst (Among (ever_covers (may_edit table h) (cover t0 h (Slot s.0 s.1 (Some x))) (file_covers t0 h))) (sym covers)
-                (ever_first (may_edit table h) (cover t0 h (Slot s.0 s.1 (Some x))) (file_covers t0 h) (λ has. subst (Among (file_covers t0 h)) (slot_of s x other ∙ covers) came.1))))
+                here s at (subst (Among (named_covers t0 table h (kind_at t0 x) (cover t0 h (Slot s.0 s.1 (Some x))))) (sym covers)
+                (named_first t0 table h (kind_at t0 x) (cover t0 h (Slot s.0 s.1 (Some x))) (λ has. subst (Among (file_covers t0 h)) (slot_of s x other ∙ covers) came.1))))
           ]
         ]
           where
             same : node_at u x ≡ node_at t0 x
             same = k.old x below lives
 
-            here : (r : Spot) → look t0 r.0 r.1 ≡ Some x → Among (ever_covers (may_edit table h) (cover t0 h (Slot r.0 r.1 (Some x))) (file_covers t0 h)) (cover u h (Slot s.0 s.1 (Some x))) → Hit (Slot s.0 s.1 (Some x))
+            here : (r : Spot) → look t0 r.0 r.1 ≡ Some x → Among (named_covers t0 table h (kind_at t0 x) (cover t0 h (Slot r.0 r.1 (Some x)))) (cover u h (Slot s.0 s.1 (Some x))) → Hit (Slot s.0 s.1 (Some x))
             here r at a = hit_row r s x at same other followed parts.may parts.covered parts.kind a
 
             moved : may_edit table h ≡ true → Among (file_covers t0 h) (row_cover u h s x) → Origin table t0 h well0 stand x → Hit (Slot s.0 s.1 (Some x))
             moved edits a (stood r at has) =
                 let then : is_dir t0 x ≡ false = sym (same_dir t0 u x same) ∙ other in
-                here r at (ever_other (may_edit table h) (cover t0 h (Slot r.0 r.1 (Some x))) (file_covers t0 h) (cover u h (Slot s.0 s.1 (Some x))) edits (ap has_c (sym (slot_then r x then)) ∙ has) (subst (Among (file_covers t0 h)) (slot_of s x other) a))
+                here r at (named_moved t0 table h (kind_at t0 x) (cover t0 h (Slot r.0 r.1 (Some x))) (cover u h (Slot s.0 s.1 (Some x))) edits (ap has_c (sym (slot_then r x then)) ∙ has) (subst (Among (file_covers t0 h)) (slot_of s x other) a))
+            moved edits a (linked r at plain can) =
+                here r at (named_linked t0 table h (kind_at t0 x) (cover t0 h (Slot r.0 r.1 (Some x))) (cover u h (Slot s.0 s.1 (Some x))) (ap (can_link table h (kind_at t0 x)) (sym (slot_then r x plain)) ∙ can)
+                (subst (Among (file_covers t0 h)) (slot_of s x other) a))
             moved edits a (since from) = absurd (omega (arith, below, from))
 
         hit_young : t0.next ≤ x → Known table t0 h well0 stand u x → Hit (Slot s.0 s.1 (Some x))

@@ -1,5 +1,5 @@
 -- What comes next, by the fields of a list.
-use Rattle.std.proofs.Common.{◌≡◌, List, [], ◌∷◌, ◌++◌, refl, sym, ap, subst, ◌∙◌, inl, inr}
+use Rattle.std.proofs.Common.{◌≡◌, ◌≤◌, ◌-◌, ℕ, List, [], ◌∷◌, ◌++◌, length, take, refl, sym, ap, subst, ◌∙◌, inl, inr}
 use Rattle.std.specs.Prelude.{Option, Some, None, MatchOption, ◌&&◌, filter, flat_map}
 use Rattle.pua_tree.specs.Tree.{Tree, WellFormed, Spot}
 use Rattle.pua_tree.proofs.ForCallers.{None≢Some}
@@ -9,7 +9,8 @@ use Rattle.pua_policy.specs.History.{History, ProcessState, StandsFor}
 use Rattle.pua_policy.specs.declared.call.Call.{Call}
 use Rattle.pua_policy.specs.declared.calls.Calls.{Calls}
 use Rattle.pua_audit.specs.Reach.{Word}
-use Rattle.pua_objects.specs.Items.{subject_given, SubjectFits, IsItemOn, IsFirst}
+use Rattle.pua_objects.specs.Items.{subject_given, SubjectFits, IsItemOn, IsFirst, IsNear}
+use Rattle.pua_objects.proofs.ForCallers.{less_same}
 use Rattle.pua_objects.specs.Lines.{kind_word}
 use Rattle.pua_objects.specs.Objects.{Subject, Item, subject_word}
 use Rattle.pua_objects.specs.declared.item.Item as given
@@ -140,3 +141,11 @@ module _ (t : Tree) (table : CallTable) (p : ProcessState) (found : Prospects) (
             (made_lines t table h (new_of made) line (calls h (ready.finds h stands))
             ∙ ap (λ w. filter has_calls (line_with w about line ∷ [])) (sym no_word));
       }
+
+-- a front of the word stays where the names of an item are near to those of the item before
+pub shares_in : (coming : Option Made) (n : ℕ) (old new : Word) → n ≤ length new - 1 → IsNear old new → take n (word_in coming new) ≡ take n (word_in coming old)
+shares_in (Some made.Dir) n old new short near = less_same n (length new - 1) new old short near
+shares_in (Some made.Others) n old new short near = refl
+shares_in (Some made.File) n old new short near = refl
+shares_in (Some made.Link) n old new short near = refl
+shares_in None n old new short near = refl

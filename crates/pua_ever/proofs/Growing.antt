@@ -1,11 +1,15 @@
 -- What a request makes of the rows and nodes of a tree.
 use Rattle.std.proofs.Common.{◌≡◌, ◌≤◌, ◌⊎◌, ℕ, Bool, true, false, not, cond, refl, sym, ap, subst, ◌∙◌, inl, inr, arith}
-use Rattle.std.specs.Prelude.{Option, Some, None, is_some, ◌||◌, nat_le, length}
-use Rattle.std.proofs.lemmas.Bool.{false≢true}
-use Rattle.pua_tree.specs.Tree.{Tree, Node, WellFormed, Spot, is_dir, look, is_empty, empty_tree}
+use Rattle.std.specs.Prelude.{Option, Some, None, is_some, is_none, ◌&&◌, ◌||◌, ◌==◌, nat_le, length}
+use Rattle.std.specs.Option.{option_eq}
+use Rattle.std.proofs.lemmas.Bool.{false≢true, and_parts, and_from, or_left, or_right}
+use Rattle.pua_tree.specs.Tree.{Tree, Node, WellFormed, Spot, is_dir, look, kind_at, is_empty, empty_tree}
 use Rattle.pua_tree.specs.declared.node.Kind.TheVariants as kind
-use Rattle.pua_tree.proofs.ForCallers.{same_Some}
-use Rattle.pua_path.specs.Fits.{spot_named, node_named}
+use Rattle.pua_tree.proofs.ForCallers.{same_Some, None≢Some}
+use Rattle.pua_path.specs.Fits.{IsOf, is_link, is_link_kind, spot_named, node_named}
+use Rattle.pua_path.specs.declared.found.Last.{Last}
+use Rattle.pua_path.specs.declared.found.Last.TheVariants.{Followed, Kept}
+use Rattle.pua_path.proofs.ForCallers.{resolutions_fit}
 use Rattle.pua_path.specs.declared.errno.Errno.TheVariants.{EISDIR, ENOTEMPTY, EAGAIN}
 use Rattle.pua_path.specs.declared.text.Ending.TheVariants.{Dot, Dropped}
 use Rattle.pua_path.specs.declared.found.Found.{Found}
@@ -13,6 +17,7 @@ use Rattle.pua_path.specs.declared.found.Found.TheVariants.{Whole, Slot}
 use Rattle.pua_path.specs.declared.found.Way.TheVariants as way
 use Rattle.pua_policy.specs.Promises.{holds, creating}
 use Rattle.pua_policy.specs.Calls.{CallTable, rule_of}
+use Rattle.pua_policy.specs.CallSets.{is_kept}
 use Rattle.pua_policy.specs.History.{History, may_any, working_dir}
 use Rattle.pua_policy.specs.Verdict.{IsMissing, cover, cover_fault, covered_verdict, or_fault, object_fault, allowed_unless, if_promised, is_allowed}
 use Rattle.pua_policy.specs.declared.call.Call.{Call}
@@ -29,10 +34,10 @@ use Rattle.pua_script.specs.Confinement.{has_c, TakingNeedsC}
 use Rattle.pua_script.specs.Decide.{Change, NoChange, AddNode, CutRow, ShiftRow, TieRow, CopyAs, adding, shifting, change_by, fault_if, is_whole, plain_node, link_node, kinds_fault}
 use Rattle.pua_script.specs.Guards.{IsDecided, IsShift}
 use Rattle.pua_script.proofs.ForCallers.{name_fits, c_from_cover, covered_by_c, has_spot, by_tree, by_own_tree, by_cutting, by_going, by_tying, first_none, second_none, not_faulty, not_false}
-use Rattle.pua_objects.proofs.ForCallers.{covers_descend}
-use Rattle.pua_ever.specs.Ever.{New, NewDir, NewFile, NewLink, maker}
+use Rattle.pua_objects.proofs.ForCallers.{covers_descend, named_within_text}
+use Rattle.pua_ever.specs.Ever.{row_cover, is_yes, may_link, can_link, New, NewDir, NewFile, NewLink, maker}
 use Rattle.pua_ever.specs.Laws.{EditsNeedC}
-use Rattle.pua_ever.proofs.Grown.{Grown, Written, by_name, by_turn, From, is_moved, new_kind, name_cover, grown_all, grown_add, grown_tie, grown_cut, grown_shift}
+use Rattle.pua_ever.proofs.Grown.{Grown, Written, by_name, by_turn, From, is_moved, is_linked, new_kind, name_cover, grown_all, grown_add, grown_tie, grown_cut, grown_shift}
 
 pub takes : (table : CallTable) → EditsNeedC table → TakingNeedsC table
 takes table needs = record { rmdir = needs.rmdir; unlink = needs.unlink; rename_old = needs.rename_old; rename_new = needs.rename_new }
@@ -64,7 +69,7 @@ module _ (table : CallTable) (needs : EditsNeedC table) (t : Tree) (h : History)
   by_added new node is fine has (Whole dir way.DotDot) granted covered = tt
   by_added new node is fine has (Whole dir way.Top) granted covered = tt
 
-  by_call : (c : Call) (x : Found) → may_any h (rule_of table c).alternatives ≡ may.Yes → cover_fault (cover t h x) (rule_of table c).perms ≡ None → Grows (change_by c x)
+  by_call : (c : Call) (x : Found) → may_any h (rule_of table c).alternatives ≡ may.Yes → cover_fault (cover t h x) (rule_of table c).perms ≡ None → Grows (change_by table c x)
   by_call call.Create x granted covered = by_added NewFile (plain_node kind.File) refl refl needs.create x granted covered
   by_call call.Mkdir x granted covered = by_added NewDir (plain_node kind.Dir) refl refl needs.mkdir x granted covered
   by_call call.Rmdir x granted covered = by_cutting Grows tt (spot_named x) (node_named x) (λ s is. tt)
@@ -126,9 +131,32 @@ module _ (table : CallTable) (needs : EditsNeedC table) (t : Tree) (h : History)
   free_name (Slot dir name o) free s e has = ap (λ (r : Spot). has_c (name_cover table t h r)) (sym (same_Some (dir, name) s e)) ∙ has
   free_name (Whole y w) free s e has = cc
 
-  came : (a : Found) (x : ℕ) → NameFits t a → cover_fault (cover t h a) creating ≡ None → node_named a ≡ Some x → is_whole a ≡ false → From table t h x
-  came (Slot dir name o) x fits covered is other = comes (Slot dir name o) x fits covered is (dir, name) refl
-  came (Whole dir w) x fits covered is other = cc
+  is_other : (b : Bool) → not b ≡ true → b ≡ false
+  is_other true e = cc
+  is_other false e = refl
+
+  -- what gets a further name by link
+  came : (a : Found) (x : ℕ) → IsOf t table.link.old.last a → may_link table h ≡ true → cover_fault (cover t h a) table.link.old.needs.perms ≡ None → node_named a ≡ Some x → is_whole a ≡ false → From table t h x
+  came (Slot dir name (Some y)) x of held covered is other = subst (From table t h) (same_Some y x is) (is_linked (dir, name) of.named.1 plain gives)
+    where
+      plain : is_dir t y ≡ false
+      plain = is_other (is_dir t y) (and_parts (option_eq ◌==◌ (look t dir name) (Some y)) (not (is_dir t y)) (and_parts (is_dir t dir) (option_eq ◌==◌ (look t dir name) (Some y) && not (is_dir t y)) of.fits).1).1
+
+      under : row_cover t h (dir, name) y ≡ cover t h (Slot dir name (Some y))
+      under = ap (λ b. cover t h (cond b (Whole y (way.Named dir name)) (Slot dir name (Some y)))) plain
+
+      kept : (mode : Last) → (mode ≡ Followed → is_link t (Slot dir name (Some y)) ≡ false) → (not (is_link_kind (kind_at t y)) || is_kept mode) ≡ true
+      kept Kept followed = or_right (not (is_link_kind (kind_at t y))) true refl
+      kept Followed followed = or_left (not (is_link_kind (kind_at t y))) false (ap not (followed refl))
+
+      gives : can_link table h (kind_at t y) (row_cover t h (dir, name) y) ≡ true
+      gives =
+          and_from (may_link table h) _ held
+          (and_from (is_none (cover_fault (row_cover t h (dir, name) y) table.link.old.needs.perms)) _
+          (ap (λ left. is_none (cover_fault left table.link.old.needs.perms)) under ∙ ap is_none covered)
+          (kept table.link.old.last of.followed))
+  came (Slot dir name None) x of held covered is other = absurd (None≢Some x is)
+  came (Whole dir w) x of held covered is other = cc
 
   grows_by : (action : Action) (c : Change) → IsDecided table t h action c → Grows c
   grows_by (OnPath asked path) c d = subst Grows (sym d.2) (by_call asked d.0 d.1.promised d.1.covered)
@@ -138,14 +166,15 @@ module _ (table : CallTable) (needs : EditsNeedC table) (t : Tree) (h : History)
       (name_fits t well (working_dir h) Dropped new table.rename.new.last d.new d.two.found_new)
       (covered_by_c (cover t h d.old) _ needs.rename_old d.two.covered_old) (covered_by_c (cover t h d.new) _ needs.rename_new d.two.covered_new) d.two.named d.moves
   grows_by (Link old new) c d =
-      let fits_old = name_fits t well (working_dir h) Dot old table.link.old.last d.old d.two.found_old in
+      let of_old = (resolutions_fit t well).whole (working_dir h) Dot old table.link.old.last d.old (named_within_text t (working_dir h) Dot old table.link.old.last d.old d.two.found_old) in
+      let held : may_link table h ≡ true = and_from (is_yes (may_any h table.link.old.needs.alternatives)) _ (ap is_yes d.two.promised_old) (ap is_yes d.two.promised_new) in
       let fits_new = name_fits t well (working_dir h) Dot new table.link.new.last d.new d.two.found_new in
       subst Grows (sym d.is)
       (by_tying Grows tt d.node (spot_named d.new)
       (λ s is. (
         (standing d.new fits_new s is).0,
         by_name (free_name d.new d.free s is (named_c d.new (covered_by_c (cover t h d.new) _ needs.link_new d.two.covered_new))),
-        came d.old d.node fits_old (covered_by_c (cover t h d.old) _ needs.link_old d.two.covered_old) d.two.named d.no_dir,
+        came d.old d.node of_old held d.two.covered_old d.two.named d.no_dir,
       )))
   grows_by (Pledge p x) c d = subst Grows (sym d.is) tt
   grows_by (Unveil path perms) c d = subst Grows (sym d.is) tt

@@ -20,7 +20,7 @@ use Rattle.pua_script.specs.Replay.{edited, edited_tree}
 use Rattle.pua_script.specs.Worlds.{tree_left}
 use Rattle.pua_script.specs.Confinement.{has_c}
 use Rattle.pua_objects.specs.Objects.{cover_in}
-use Rattle.pua_ever.specs.Ever.{row_cover, New, NewDir, NewOthers, NewFile, NewLink, maker}
+use Rattle.pua_ever.specs.Ever.{row_cover, can_link, New, NewDir, NewOthers, NewFile, NewLink, maker}
 
 -- what is made, as a node
 abbrev pub new_kind : New → Kind
@@ -47,10 +47,11 @@ module _ (table : CallTable) (t : Tree) (h : History) where
     by_name : has_c (name_cover s) ≡ true → Written s x
     by_turn : (y : ℕ) → look t s.0 s.1 ≡ Some y → is_empty t y ≡ true → has_c (cover_in t h y) ≡ true → is_dir t x ≡ true → Written s x
 
-  -- its node is new, or has a row that is covered with `c`
+  -- its node is new, or has a row that is covered with `c`, or is no directory and has a row by which link gives it a further name
   pub data From (x : ℕ) : Type 0 where
     is_new : x ≡ t.next → From x
     is_moved : (r : Spot) → look t r.0 r.1 ≡ Some x → has_c (row_cover t h r x) ≡ true → From x
+    is_linked : (r : Spot) → look t r.0 r.1 ≡ Some x → is_dir t x ≡ false → can_link table h (kind_at t x) (row_cover t h r x) ≡ true → From x
 
   pub record Put (s : Spot) (x : ℕ) : Type 0 where
     pub lives : is_dir t s.0 ≡ true

@@ -13,7 +13,7 @@ pub mod Complete
 pub mod Now
 pub mod NoExec
 pub mod Standing
-pub mod Standard
+pub mod Rules
 pub mod KeptVeils
 pub mod Origin
 pub mod Opened

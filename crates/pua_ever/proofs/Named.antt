@@ -1,6 +1,6 @@
 -- What stands at a name, and the name once that is taken away.
 use Rattle.std.proofs.Common.{◌≡◌, ℕ, List, [], ◌∷◌, Bool, true, false, refl, sym, ap, subst, ◌∙◌}
-use Rattle.std.specs.Prelude.{Option, Some, None, not, ◌&&◌, ◌||◌, is_some, option_map}
+use Rattle.std.specs.Prelude.{Option, Some, None, not, ◌&&◌, ◌||◌, if◌then◌else◌, is_some, option_map}
 use Rattle.std.proofs.lemmas.Bool.{and_parts}
 use Rattle.pua_tree.specs.Tree.{Tree, Node, WellFormed, Spot, is_dir, look, node_at, kind_at, empty_tree}
 use Rattle.pua_tree.specs.declared.node.Kind.{Kind}
@@ -27,7 +27,7 @@ use Rattle.pua_objects.specs.declared.item.Subject.TheVariants as subject
 use Rattle.pua_objects.specs.Laws.{own_or}
 use Rattle.pua_objects.specs.Objects.{Subject, At, Others, cover_in}
 use Rattle.pua_objects.proofs.ForCallers.{covers_descend}
-use Rattle.pua_ever.specs.Ever.{file_covers, may_edit, ever_covers, is_allowed_under, is_ever_allowed, is_free, own_spot, can_be_freed}
+use Rattle.pua_ever.specs.Ever.{may_edit, named_covers, is_allowed_under, is_ever_allowed, is_free, own_spot, can_be_freed}
 use Rattle.pua_ever.specs.EverReady.{AreOnFreed, kind_allowed, own_given}
 use Rattle.pua_ever.proofs.Prospected.{always, last}
 use Rattle.pua_ever.proofs.Under.{has_none}
@@ -63,7 +63,7 @@ module _ (t : Tree) (well : WellFormed t) (table : CallTable) (h : History) wher
   name_calls dir name (Some x) fits object left set is covered all call =
       all (kind_at t x) (is ∙ seen_alike t (kind_at t x)) call
       ∙ (λ i. (keeps_link call || not (is_link_kind (kind_at t x)))
-      && is_allowed_under table h (ever_covers (has_kind dir name x fits.1.1 i && may_edit table h) (covered i) (file_covers t h)) (object_of_kind (kind_at t x)) call)
+      && is_allowed_under table h (if has_kind dir name x fits.1.1 i then named_covers t table h (kind_at t x) (covered i) else covered i ∷ []) (object_of_kind (kind_at t x)) call)
 
   -- whether the name of a thing can come to be free, by the thing's own cover
   free_by : (about : Subject) (spot : Spot) → SubjectFits t about → own_spot about ≡ Some spot → is_free t h spot ≡ has_c (cover_on t h about)

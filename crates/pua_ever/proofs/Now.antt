@@ -30,7 +30,7 @@ use Rattle.pua_ever.specs.Laws.{IsWithinEver, NowWithinEver}
 use Rattle.pua_ever.proofs.Covers.{slot_row}
 use Rattle.pua_ever.proofs.Ways.{way_by_c, name_by_veil, some_dir_by, file_by_name, file_by_dir}
 use Rattle.pua_ever.proofs.KindFaults.{plain_alike, dir_as, dir_alike}
-use Rattle.pua_ever.proofs.Ending.{parts_of, ever_first, calls_among, under_one}
+use Rattle.pua_ever.proofs.Ending.{parts_of, ever_first, named_first, calls_among, under_one}
 use Rattle.pua_ever.proofs.Opening.{among_contained}
 use Rattle.pua_ever.proofs.Prospected.{empty_can}
 
@@ -73,7 +73,7 @@ module _ (t : Tree) (h : History) where
     dir_cover dir is = ever_first (may_edit table h && is_none (kept h (place.Dir dir))) (cover_in t h dir) (dir_covers t h) (λ has. way_by_c t h dir is has)
 
     file_cover : (dir : ℕ) (name : List ℕ) (x : ℕ) → look t dir name ≡ Some x → is_dir t x ≡ false → Among (covers_of t table h (At (Slot dir name (Some x)))) (cover t h (Slot dir name (Some x)))
-    file_cover dir name x row other = ever_first (may_edit table h) left (file_covers t h) (by (kept h (place.Slot dir name)) refl)
+    file_cover dir name x row other = named_first t table h (kind_at t x) left (by (kept h (place.Slot dir name)) refl)
       where
         left : Cover
         left = cover t h (Slot dir name (Some x))

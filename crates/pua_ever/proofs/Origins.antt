@@ -15,7 +15,7 @@ use Rattle.pua_objects.specs.Objects.{cover_in}
 use Rattle.pua_objects.specs.Laws.{own_or}
 use Rattle.pua_objects.proofs.ForCallers.{Among, among_left, among_right}
 use Rattle.pua_objects.proofs.ForCallers.{covers_descend}
-use Rattle.pua_ever.specs.Ever.{row_cover, is_free, can_empty, has_c_outside, dir_covers, name_covers, some_dir_has_c, file_covers, New, can_make}
+use Rattle.pua_ever.specs.Ever.{row_cover, is_free, can_link, can_empty, has_c_outside, dir_covers, name_covers, some_dir_has_c, file_covers, New, can_make}
 use Rattle.pua_ever.specs.Laws.{VeilsStand}
 use Rattle.pua_ever.proofs.Grown.{new_kind}
 use Rattle.pua_ever.proofs.Covers.{given_or_new, dir_row, slot_row, own_dir, under_dir, living_dir, below_next, same_dir}
@@ -27,9 +27,10 @@ module _ (table : CallTable) (t0 : Tree) (h : History) (well0 : WellFormed t0) (
   abbrev pub Fixed : Spot → ℕ → Type 0
   Fixed s x = (look t0 s.0 s.1 ≡ Some x) × (has_c (row_cover t0 h s x) ≡ false)
 
-  -- a thing that stood in a row with `c`, or was made since
+  -- a thing that stood in a row with `c`, or in one by which link gives it a further name, or was made since
   pub data Origin (x : ℕ) : Type 0 where
     stood : (r : Spot) → look t0 r.0 r.1 ≡ Some x → has_c (row_cover t0 h r x) ≡ true → Origin x
+    linked : (r : Spot) → look t0 r.0 r.1 ≡ Some x → is_dir t0 x ≡ false → can_link table h (kind_at t0 x) (row_cover t0 h r x) ≡ true → Origin x
     since : t0.next ≤ x → Origin x
 
   -- how a directory can stand in a directory without `c`
@@ -117,6 +118,7 @@ module _ (table : CallTable) (t0 : Tree) (h : History) (well0 : WellFormed t0) (
       where
         had : Origin d → is_dir t0 d ≡ true → has_c (cover_in t0 h d) ≡ true
         had (stood r at has) dir = ap has_c (sym (dir_row t0 h well0 r d dir)) ∙ has
+        had (linked r at plain can) dir = absurd (false≢true (sym plain ∙ dir))
         had (since from) dir = let below = below_next t0 h well0 d (living_dir t0 h well0 d dir) in absurd (omega arith)
 
         entered : is_dir t0 s.0 ≡ true → has_c (cover_in t0 h s.0) ≡ false → Entrance s d → Among (dir_covers t0 h) (cover_in t0 h s.0)
@@ -132,6 +134,9 @@ module _ (table : CallTable) (t0 : Tree) (h : History) (well0 : WellFormed t0) (
                 never fixed (stood r at has) =
                     let dir : is_dir t0 d ≡ true = sym (same_dir t0 u d (k.uncovered s d fixed.0 fixed.1).node) ∙ is in
                     false≢true (sym fixed.1 ∙ ap has_c (dir_row t0 h well0 s d dir ∙ sym (dir_row t0 h well0 r d dir)) ∙ has)
+                never fixed (linked r at plain can) =
+                    let dir : is_dir t0 d ≡ true = sym (same_dir t0 u d (k.uncovered s d fixed.0 fixed.1).node) ∙ is in
+                    false≢true (sym plain ∙ dir)
                 never fixed (since from) =
                     let below = below_next t0 h well0 d (row_says t0 (sound_from t0 well0) s d fixed.0).2 in absurd (omega arith)
         entered lives lacks (turned y at dir has empty more) = way_by_turn t0 h s.0 s.1 y lives at dir has empty more

@@ -16,7 +16,7 @@ use Rattle.pua_objects.specs.Objects.{cover_in}
 use Rattle.pua_objects.specs.Laws.{own_or}
 use Rattle.pua_objects.proofs.ForCallers.{covers_descend}
 use Rattle.pua_ever.specs.Ever.{is_below}
-use Rattle.pua_ever.proofs.Grown.{Grown, Written, by_name, by_turn, From, is_new, is_moved, Put, name_cover}
+use Rattle.pua_ever.proofs.Grown.{Grown, Written, by_name, by_turn, From, is_new, is_moved, is_linked, Put, name_cover}
 use Rattle.pua_ever.proofs.Covers.{dir_row, living_dir, below_next, same_dir}
 
 -- nothing with `c` is outside
@@ -87,6 +87,7 @@ module _ (table : CallTable) (h : History) (t u : Tree) (well : WellFormed t) (w
   -- nothing else is moved onto the directory
   pub never_turned : (x : ℕ) → is_dir t x ≡ true → From table t h x → (x == y) ≡ false → is_empty t y ≡ true → ⊥
   never_turned x is (is_new new) other empty = let below = below_next t h well x (living_dir t h well x is) in absurd (omega (arith, new))
+  never_turned x is (is_linked r e plain can) other empty = absurd (false≢true (sym plain ∙ is))
   never_turned x is (is_moved r e has) other empty =
       let way = way_up t well y x is in
       not_empty t well y n way.0 x way.1 is other (inside_dir x is (ap has_c (sym (dir_row t h well r x is)) ∙ has)) (and_parts (is_dir t y) (has_no_row t y) empty).1

@@ -12,7 +12,7 @@ use Rattle.pua_policy.specs.declared.call.Call.TheVariants as call
 use Rattle.pua_script.specs.Laws.{IsConfined}
 use Rattle.pua_ever.specs.Ever.{is_yes}
 use Rattle.pua_ever.specs.Laws.{EditsNeedC}
-use Rattle.pua_ever.specs.Refusals.{can_unveil, lacks_c, changing_calls, both_need_c, table_refusal, refusal}
+use Rattle.pua_ever.specs.Refusals.{can_unveil, lacks_c, changing_calls, new_needs_c, both_need_c, table_refusal, refusal}
 use Rattle.pua_ever.specs.declared.refusal.Refusal.TheVariants.{CanUnveil, LacksC, RenameLacksC, LinkLacksC}
 
 none_in : (p : Call → Bool) (c : Call) (cs : List Call) → find p (c ∷ cs) ≡ None → (p c ≡ false) × (find p cs ≡ None)
@@ -32,8 +32,8 @@ both true true e = (refl, refl)
 both true false e = absurd (Some≢None LinkLacksC e)
 both false b e = absurd (Some≢None RenameLacksC e)
 
-table_parts : (table : CallTable) (o : Option Call) → table_refusal table o ≡ None → (o ≡ None) × (both_need_c table.rename ≡ true) × (both_need_c table.link ≡ true)
-table_parts table None e = let two = both (both_need_c table.rename) (both_need_c table.link) e in (refl, two.0, two.1)
+table_parts : (table : CallTable) (o : Option Call) → table_refusal table o ≡ None → (o ≡ None) × (both_need_c table.rename ≡ true) × (new_needs_c table.link ≡ true)
+table_parts table None e = let two = both (both_need_c table.rename) (new_needs_c table.link) e in (refl, two.0, two.1)
 table_parts table (Some c) e = absurd (Some≢None (LacksC c) e)
 
 all_need : (table : CallTable) → table_refusal table (find (lacks_c table) changing_calls) ≡ None → EditsNeedC table
@@ -45,7 +45,6 @@ all_need table e =
     let mkdir = none_in (lacks_c table) call.Mkdir (call.Symlink ∷ []) create.1 in
     let symlink = none_in (lacks_c table) call.Symlink [] mkdir.1 in
     let rename = and_parts (holds table.rename.old.needs.perms creating) (holds table.rename.new.needs.perms creating) parts.1 in
-    let link = and_parts (holds table.link.old.needs.perms creating) (holds table.link.new.needs.perms creating) parts.2 in
     record {
       create = needed _ create.0;
       mkdir = needed _ mkdir.0;
@@ -54,8 +53,7 @@ all_need table e =
       symlink = needed _ symlink.0;
       rename_old = rename.0;
       rename_new = rename.1;
-      link_old = link.0;
-      link_new = link.1;
+      link_new = parts.2;
     }
 
 neither : (table : CallTable) (b : Bool) (o : Option Call) → cond b (Some CanUnveil) (table_refusal table o) ≡ None → (b ≡ false) × (table_refusal table o ≡ None)

@@ -17,6 +17,7 @@ use Rattle.pua_path.specs.declared.found.Found.{Found}
 use Rattle.pua_path.specs.declared.found.Found.TheVariants.{Whole, Slot}
 use Rattle.pua_path.proofs.ForCallers.{resolutions_fit}
 use Rattle.pua_policy.specs.Calls.{CallTable}
+use Rattle.pua_policy.specs.declared.rules.ExecPromises.{ExecPromises}
 use Rattle.pua_policy.specs.History.{History, Pledged, Unveiled, Locked, Moved, Ended, kept, same_place, held_for_exec, is_pledge, after_exec, working_dir, new_history}
 use Rattle.pua_policy.specs.Verdict.{place_of}
 use Rattle.pua_policy.proofs.ForCallers.{same_place_is}
@@ -52,10 +53,10 @@ kept_after (Moved d ∷ h) at = kept_after h at
 kept_after (Ended ∷ h) at = kept_after h at
 
 module _ (t : Tree) (h : History) (well : WellFormed t) (stand : VeilsStand t h) where
-  after_program : VeilsStand t (after_exec h)
-  after_program = by (held_for_exec h) refl
+  after_program : (left : ExecPromises) → VeilsStand t (after_exec left h)
+  after_program left = by (held_for_exec h) refl
     where
-      by : (o : Option ℕ) → held_for_exec h ≡ o → VeilsStand t (after_exec h)
+      by : (o : Option ℕ) → held_for_exec h ≡ o → VeilsStand t (after_exec left h)
       by None e at perms is = let never : None ≡ Some perms = rw e at is in cc
       by (Some promises) e at perms is = stand at perms (sym (kept_after h at) ∙ (rw e at is))
 
@@ -78,7 +79,7 @@ module _ (table : CallTable) (w : World) (h : History) (well : WellFormed w.tree
   Stood (AddEvent event) = VeilsStand w.tree (event ∷ h)
   Stood _ = Unit {0}
 
-  stood_call : (c : Call) (x : Found) → Stood (change_by c x)
+  stood_call : (c : Call) (x : Found) → Stood (change_by table c x)
   stood_call call.Create x = by_placing Stood tt _ (spot_named x) (node_named x) (λ s is. tt)
   stood_call call.Mkdir x = by_placing Stood tt _ (spot_named x) (node_named x) (λ s is. tt)
   stood_call call.Rmdir x = by_cutting Stood tt (spot_named x) (node_named x) (λ s is. tt)
@@ -114,7 +115,7 @@ module _ (table : CallTable) (w : World) (h : History) (well : WellFormed w.tree
   stand_made (CutRow s) stood = by_edited (cut w.tree s.0 s.1)
   stand_made (ShiftRow s r) stood = by_edited_tree (shift w.tree s.0 s.1 r.0 r.1)
   stand_made (TieRow s x) stood = by_edited_tree (tie w.tree s.0 s.1 x)
-  stand_made BeginProgram stood = after_program w.tree h well stand
+  stand_made (BeginProgram left) stood = after_program w.tree h well stand left
   stand_made (AddEvent event) stood = stood
   stand_made (CopyAs new) stood = by (is_some (history_of w new) || nat_le process_limit (length w.histories))
     where

@@ -13,13 +13,13 @@ use Rattle.pua_script.proofs.ForCallers.{spared_twice}
 use Rattle.pua_objects.specs.Objects.{cover_in}
 use Rattle.pua_objects.specs.Laws.{own_or}
 use Rattle.pua_objects.proofs.ForCallers.{covers_descend}
-use Rattle.pua_ever.specs.Ever.{row_cover, has_c_outside, some_dir_has_c, New, maker, can_make}
+use Rattle.pua_ever.specs.Ever.{row_cover, can_link, has_c_outside, some_dir_has_c, New, maker, can_make}
 use Rattle.pua_ever.specs.Laws.{VeilsStand}
-use Rattle.pua_ever.proofs.Grown.{Grown, Written, by_name, by_turn, From, is_new, is_moved, Makes, name_cover}
+use Rattle.pua_ever.proofs.Grown.{Grown, Written, by_name, by_turn, From, is_new, is_moved, is_linked, Makes, name_cover}
 use Rattle.pua_ever.proofs.Ways.{any_among, some_dir_by, some_dir_among}
 use Rattle.pua_ever.proofs.Covers.{dir_row, living_dir, below_next, same_dir}
 use Rattle.pua_ever.proofs.Quiet.{quiet_then, never_turned}
-use Rattle.pua_ever.proofs.Origins.{Fixed, Origin, since, Entrance, by_veil, turned, still, Came, Known, Stays, DirUnder, at_rest, come, dir_under, name_under, could_empty, free_then}
+use Rattle.pua_ever.proofs.Origins.{Fixed, Origin, linked, since, Entrance, by_veil, turned, still, Came, Known, Stays, DirUnder, at_rest, come, dir_under, name_under, could_empty, free_then}
 
 module _ (table : CallTable) (t0 : Tree) (h : History) (well0 : WellFormed t0) (stand : VeilsStand t0 h) where
   abbrev Came0 : Tree → Spot → ℕ → Type 0
@@ -58,6 +58,12 @@ module _ (table : CallTable) (t0 : Tree) (h : History) (well0 : WellFormed t0) (
     origin_of : (x : ℕ) → From table t h x → Origin0 x
     origin_of x (is_new new) = since (let from = k.next in omega arith)
     origin_of x (is_moved r e has) = came_from r x e has
+    origin_of x (is_linked r e plain can) = elim (k.rows r x e) [
+      | inl fixed ↦ (let stays = k.uncovered r x fixed.0 fixed.1 in
+          linked r fixed.0 (sym (same_dir t0 t x stays.node) ∙ plain)
+          ((λ i. can_link table h (ap (option_map (λ n. n.kind)) (sym stays.node) i) (sym stays.covered i)) ∙ can))
+      | inr came ↦ came.origin
+    ]
 
     -- a directory that has `c` now had it at the beginning, or is not of the beginning
     had_c : (d : ℕ) → is_dir t0 d ≡ true → Under0 t d → has_c (cover_in t h d) ≡ true → has_c (cover_in t0 h d) ≡ true

@@ -45,7 +45,7 @@ module _ (table : CallTable) (w : World) (h : History) (lacks : may_edit table h
   no_link : may_any h table.link.new.needs.alternatives ≡ Yes → ⊥
   no_link e = false≢true (sym lacks ∙ or_right (is_yes (may_any h table.rename.new.needs.alternatives)) _ (or_left (is_yes (may_any h table.link.new.needs.alternatives)) _ (ap is_yes e)))
 
-  keeps_call : (c : Call) (x : Found) → may_any h (rule_of table c).alternatives ≡ Yes → Keeps (change_by c x)
+  keeps_call : (c : Call) (x : Found) → may_any h (rule_of table c).alternatives ≡ Yes → Keeps (change_by table c x)
   keeps_call call.Create x is = absurd (unpromised call.Create (inl refl) is)
   keeps_call call.Mkdir x is = absurd (unpromised call.Mkdir (inr (inl refl)) is)
   keeps_call call.Rmdir x is = absurd (unpromised call.Rmdir (inr (inr (inl refl))) is)
@@ -77,7 +77,7 @@ unedited table w ask h here lacks = by_own_tree table w ask h here (λ u. u ≡ 
 
 -- who edits nothing by what it holds edits nothing by what is left of it
 module _ (table : CallTable) (sound : NoCallNeedsError table) (now : History) where
-  yes_before : (h : History) → IsWithin now h → (sets : List ℕ) → AllByRecursion NamesNoError sets → is_yes (may_any h sets) ≡ true → is_yes (may_any now sets) ≡ true
+  pub yes_before : (h : History) → IsWithin now h → (sets : List ℕ) → AllByRecursion NamesNoError sets → is_yes (may_any h sets) ≡ true → is_yes (may_any now sets) ≡ true
   yes_before h within sets fine e = by (may_any h sets) refl e
     where
       by : (m : May) → may_any h sets ≡ m → is_yes m ≡ true → is_yes (may_any now sets) ≡ true

@@ -1,19 +1,22 @@
 -- What a process and all that it forks can ever touch by their own doing, once they can put no veil any
 -- more: each thing that stands or could stand in the tree now, or can be made, with the calls that can
 -- ever be allowed on it. A thing **has c** where what covers it has the letter `c`; where there is no veil
--- at all, everything has. What has no `c` is never moved, replaced or removed.
+-- at all, everything has. What has no `c` is never moved, replaced or removed; but where link needs less of
+-- its old name, it can be given a further one.
 use Rattle.std.specs.Prelude.{ℕ, Bool, true, false, not, ◌&&◌, ◌||◌, if◌then◌else◌, List, [], ◌∷◌, ◌++◌, map, filter, filter_map, flat_map, ◌==◌, Option, Some, None, is_some, is_none, nat_lt, length, codes}
 use Rattle.std.specs.List.{list_any, list_all}
-use Rattle.pua_tree.specs.Tree.{Tree, Node, Spot, is_dir_kind, is_dir, look, climb, empty_tree}
+use Rattle.pua_tree.specs.Tree.{Tree, Node, Spot, is_dir_kind, is_dir, look, kind_at, climb, empty_tree}
+use Rattle.pua_tree.specs.declared.node.Kind.{Kind}
+use Rattle.pua_path.specs.Fits.{is_link_kind}
 use Rattle.pua_path.specs.declared.found.Found.TheVariants.{Whole, Slot}
 use Rattle.pua_path.specs.declared.found.Way.{Way}
 use Rattle.pua_path.specs.declared.found.Way.TheVariants.{Named, Top}
 use Rattle.pua_policy.specs.Calls.{CallTable, rule_of, calls, call_name}
-use Rattle.pua_policy.specs.CallSets.{keeps_link}
+use Rattle.pua_policy.specs.CallSets.{keeps_link, is_kept}
 use Rattle.pua_policy.specs.History.{History, kept, veils, may_any}
 use Rattle.pua_policy.specs.declared.answer.May.{May}
 use Rattle.pua_policy.specs.declared.answer.May.TheVariants.{Yes}
-use Rattle.pua_policy.specs.Verdict.{Object, IsDir, IsFile, IsLink, IsMissing, object_of, cover, covered_verdict, is_allowed}
+use Rattle.pua_policy.specs.Verdict.{Object, IsDir, IsFile, IsLink, IsMissing, object_of, cover, cover_fault, covered_verdict, is_allowed}
 use Rattle.pua_policy.specs.declared.answer.Cover.{Cover}
 use Rattle.pua_policy.specs.declared.answer.Cover.TheVariants.{Only}
 use Rattle.pua_policy.specs.declared.call.Call.{Call}
@@ -120,9 +123,29 @@ may_edit table h =
     || (is_yes (may_any h table.link.new.needs.alternatives)
     || list_any (λ edit. is_yes (may_any h (rule_of table edit).alternatives)) edit_calls)
 
+-- the promises of both of link's names are held
+abbrev pub may_link : CallTable → History → Bool
+may_link table h =
+    is_yes (may_any h table.link.old.needs.alternatives) && is_yes (may_any h table.link.new.needs.alternatives)
+
+-- a file, program or link can be given a further name by link: what covers it now has what link's old name
+-- needs, which may be less than `c`, and of links link takes those alone that it doesn't follow
+abbrev pub can_link : CallTable → History → Option Kind → Cover → Bool
+can_link table h kind now =
+    may_link table h
+    && (is_none (cover_fault now table.link.old.needs.perms)
+    && (not (is_link_kind kind) || is_kept table.link.old.last))
+
 -- all covers under which a thing can come, by what covers it now and those to which it can be moved
 abbrev pub ever_covers : Bool → Cover → List Cover → List Cover
 ever_covers moves now others = if moves && has_c now then others else now ∷ []
+
+-- those of a file, program or link, which can also come under another cover by a further name, and keep what
+-- covers it now by this one
+abbrev pub named_covers : Tree → CallTable → History → Option Kind → Cover → List Cover
+named_covers t table h kind now =
+    if may_edit table h && has_c now then file_covers t h
+    else now ∷ (if can_link table h kind now then file_covers t h else [])
 
 -- a directory with a veil of its own keeps its cover wherever it is
 abbrev pub covers_of_dir : Tree → CallTable → History → ℕ → List Cover
@@ -134,7 +157,7 @@ abbrev pub covers_of : Tree → CallTable → History → Subject → List Cover
 covers_of t table h (At (Whole dir way)) = covers_of_dir t table h dir
 covers_of t table h (Others dir) = covers_of_dir t table h dir
 covers_of t table h (At (Slot dir name (Some node))) =
-    ever_covers (may_edit table h) (cover t h (Slot dir name (Some node))) (file_covers t h)
+    named_covers t table h (kind_at t node) (cover t h (Slot dir name (Some node)))
 covers_of t table h (At (Slot dir name None)) = cover t h (Slot dir name None) ∷ []
 
 -- a thing as the last check of a call sees it, which asks for its kind; rmdir asks more of a directory: one

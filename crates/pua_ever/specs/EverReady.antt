@@ -1,5 +1,5 @@
 -- A list's fields between two calls, and what they say is still to come.
-use Rattle.std.specs.Prelude.{◌≡◌, ◌⊎◌, ℕ, Bool, true, false, not, ◌&&◌, ◌||◌, is_some, List, [], ◌∷◌, ◌++◌, filter, flat_map, ◌==◌, Option, Some, None, MatchOption}
+use Rattle.std.specs.Prelude.{◌≡◌, ◌⊎◌, ℕ, Bool, true, false, not, ◌&&◌, ◌||◌, if◌then◌else◌, is_some, List, [], ◌∷◌, ◌++◌, filter, flat_map, ◌==◌, Option, Some, None, MatchOption}
 use Rattle.std.specs.List.{list_any}
 use Rattle.pua_tree.specs.Tree.{Tree, WellFormed, Spot, is_dir}
 use Rattle.pua_tree.specs.declared.node.Kind.{Kind}
@@ -20,7 +20,7 @@ use Rattle.pua_objects.specs.Objects.{At, Item, cover_in}
 use Rattle.pua_objects.specs.declared.item.Item as given
 use Rattle.pua_objects.specs.declared.item.Subject as about
 use Rattle.pua_objects.specs.declared.item.Subject.TheVariants as subject
-use Rattle.pua_ever.specs.Ever.{New, NewDir, NewOthers, NewFile, NewLink, Thing, can_empty, may_edit, file_covers, ever_covers, is_allowed_under, is_ever_allowed, can_be_freed, has_calls}
+use Rattle.pua_ever.specs.Ever.{New, NewDir, NewOthers, NewFile, NewLink, Thing, can_empty, may_edit, may_link, named_covers, is_allowed_under, is_ever_allowed, can_be_freed, has_calls}
 use Rattle.pua_ever.specs.EverLines.{lines_of, IsThing, line_with}
 use Rattle.pua_ever.specs.EverState.{Left, Now, Freed, Coming}
 use Rattle.pua_ever.specs.Laws.{EditsNeedC}
@@ -33,6 +33,7 @@ use Rattle.pua_ever.specs.declared.prospects.Prospects.{Prospects}
 -- what was found for the lines is so by this history
 pub record IsProspects (t : Tree) (table : CallTable) (h : History) (found : Prospects) : Type 0 where
   pub edits : found.may_edit ≡ may_edit table h
+  pub links : found.may_link ≡ may_link table h
   pub movable : IsMovable t table h found.movable
   pub held : (dir : ℕ) → is_dir t dir ≡ true → has_c (cover_in t h dir) ≡ true →
       can_empty t h dir ≡ not (list_any (λ other. other == dir) found.held.items)
@@ -104,7 +105,7 @@ own_given _ object = None
 
 -- the calls on an object of a kind at a name, by what covers it now
 abbrev pub kind_covers : Tree → CallTable → History → Cover → Option Kind → List Cover
-kind_covers t table h now kind = ever_covers (is_some kind && may_edit table h) now (file_covers t h)
+kind_covers t table h now kind = if is_some kind then named_covers t table h kind now else now ∷ []
 
 abbrev pub kind_allowed : Tree → CallTable → History → Cover → Option Kind → Call → Bool
 kind_allowed t table h now kind call =

@@ -1,5 +1,5 @@
 -- What contracts see of a list for ever that is being given.
-use Rattle.std.specs.Prelude.{List}
+use Rattle.std.specs.Prelude.{ℕ, List, length}
 use Rattle.pua_tree.specs.Tree.{Tree}
 use Rattle.pua_policy.specs.Calls.{CallTable}
 use Rattle.pua_policy.specs.History.{ProcessState}
@@ -15,10 +15,15 @@ pub data Left : Type 0 where
   Coming : New → Left
 
 -- the tree, the process and the table of calls, the names that lead to what the line given last is about,
--- and what a line may still be about
+-- how many of them were shared with the line before, and what a line may still be about
 pub record EverState : Type 0 where
   pub tree : Tree
   pub process : ProcessState
   pub table : CallTable
   pub word : Word
+  pub shared : ℕ
   pub left : List Left
+
+-- each name of the word is one of the line before
+abbrev pub begun : EverState → EverState
+begun s = record s { shared = length s.word }

@@ -1,15 +1,20 @@
--- Worked rows on what can ever be touched, by the standard table.
+-- Worked rows on what can ever be touched, by the standard table and by OpenBSD's rules, and on where there is no list.
 use Rattle.std.specs.Prelude.{◌≡◌, ◌+◌, ℕ, List, [], ◌∷◌, map, Some, None, codes, refl}
 use Rattle.pua_tree.specs.Tree.{Tree, Node}
-use Rattle.pua_tree.specs.declared.node.Kind.TheVariants.{Dir, File, Prog}
+use Rattle.pua_tree.specs.declared.node.Kind.TheVariants.{Dir, File, Link, Prog}
 use Rattle.pua_policy.specs.Promises.{rpath, wpath, cpath, fattr, exec, reading, writing, executing, creating}
-use Rattle.pua_policy.specs.Calls.{standard_table}
+use Rattle.pua_policy.specs.Calls.{CallTable, NameRule, standard_name, standard_pair, standard_table, openbsd_table}
 use Rattle.pua_policy.specs.History.{History, Pledged, Unveiled, Locked, new_history}
 use Rattle.pua_policy.specs.declared.place.Place.TheVariants as place
 use Rattle.pua_ever.specs.Ever.{ever, ever_text}
+use Rattle.pua_ever.specs.Refusals.{refusal}
+use Rattle.pua_ever.specs.declared.refusal.Refusal.TheVariants.{CanUnveil, LinkLacksC}
 
 abbrev pub lines : Tree → History → List (List ℕ)
 lines t h = map (ever_text t) (ever t standard_table h)
+
+abbrev pub lines_by_openbsd : Tree → History → List (List ℕ)
+lines_by_openbsd t h = map (ever_text t) (ever t openbsd_table h)
 
 abbrev directory : Node
 directory = record { kind = Dir; target = None }
@@ -169,6 +174,46 @@ no_cpath_tree = record {
 abbrev pub no_cpath_history : History
 no_cpath_history = Pledged (Some (rpath + wpath)) None ∷ Locked ∷ new_history
 
+-- `/mail` has r and `/spool` has rwc: by OpenBSD's rules what stands in `/mail` can be given a further name in `/spool`, and be written by that. So it isn't with the link in it, which link follows
+abbrev pub aliases_tree : Tree
+aliases_tree = record {
+  rows = ((0, codes "mail"), 1) ∷ ((0, codes "spool"), 2) ∷ ((1, codes "aliases"), 3) ∷ ((1, codes "l"), 4) ∷ [];
+  nodes = (0, directory) ∷ (1, directory) ∷ (2, directory) ∷ (3, file) ∷ (4, record { kind = Link; target = Some (codes "x") }) ∷ [];
+  next = 5;
+}
+
+abbrev aliases_veils : History
+aliases_veils = Unveiled (place.Dir 2) (reading + writing + creating) ∷ Unveiled (place.Dir 1) reading ∷ new_history
+
+abbrev pub aliases_history : History
+aliases_history = locked_after aliases_veils
+
+-- and so it isn't where nothing may be read: link needs that of its old name
+abbrev pub unread_aliases_history : History
+unread_aliases_history = Pledged (Some (wpath + cpath + fattr)) None ∷ Locked ∷ aliases_veils
+
+-- `/bin` has rx and `/spool` has rwc: by a further name in `/spool` the program in `/bin` can be written, and by its own it is run
+abbrev pub two_ways_tree : Tree
+two_ways_tree = record {
+  rows = ((0, codes "bin"), 1) ∷ ((0, codes "spool"), 2) ∷ ((1, codes "p"), 3) ∷ [];
+  nodes = (0, directory) ∷ (1, directory) ∷ (2, directory) ∷ (3, program) ∷ [];
+  next = 4;
+}
+
+abbrev pub two_ways_history : History
+two_ways_history =
+    locked_after (
+    Unveiled (place.Dir 2) (reading + writing + creating)
+    ∷ Unveiled (place.Dir 1) (reading + executing)
+    ∷ new_history)
+
+-- the standard table, by which link's new name needs `r` alone
+abbrev pub read_name : NameRule
+read_name = record standard_name { needs = record { alternatives = cpath ∷ []; perms = reading } }
+
+abbrev pub link_by_r : CallTable
+link_by_r = record standard_table { link = record standard_pair { new = read_name } }
+
 pub record EverRows : Type 0 where
   pub moved_on : lines moved_on_tree moved_on_history ≡
       codes "dir /a stat,lstat,open-r,rmdir,chmod,chdir"
@@ -277,6 +322,50 @@ pub record EverRows : Type 0 where
       ∷ codes "dir /a stat,lstat,open-r,chdir"
       ∷ codes "file /a/k stat,lstat,open-r,open-w,open-rw"
       ∷ []
+  pub aliases : lines_by_openbsd aliases_tree aliases_history ≡
+      codes "dir /mail stat,lstat,open-r,chdir"
+      ∷ codes "file /mail/aliases stat,lstat,open-r,open-w,open-rw,create,unlink,chmod"
+      ∷ codes "link /mail/l lstat,readlink"
+      ∷ codes "dir /spool stat,lstat,open-r,rmdir,chmod,chdir"
+      ∷ codes "other /spool create,mkdir,symlink"
+      ∷ codes "dir new stat,lstat,open-r,rmdir,chmod,chdir"
+      ∷ codes "other new create,mkdir,symlink"
+      ∷ codes "file new stat,lstat,open-r,open-w,open-rw,create,unlink,chmod"
+      ∷ codes "link new lstat,readlink,unlink"
+      ∷ []
+  pub standard_aliases : lines aliases_tree aliases_history ≡
+      codes "dir /mail stat,lstat,open-r,chdir"
+      ∷ codes "file /mail/aliases stat,lstat,open-r"
+      ∷ codes "link /mail/l lstat,readlink"
+      ∷ codes "dir /spool stat,lstat,open-r,rmdir,chmod,chdir"
+      ∷ codes "other /spool create,mkdir,symlink"
+      ∷ codes "dir new stat,lstat,open-r,rmdir,chmod,chdir"
+      ∷ codes "other new create,mkdir,symlink"
+      ∷ codes "file new stat,lstat,open-r,open-w,open-rw,create,unlink,chmod"
+      ∷ codes "link new lstat,readlink,unlink"
+      ∷ []
+  pub unread_aliases : lines_by_openbsd aliases_tree unread_aliases_history ≡
+      codes "dir /spool rmdir"
+      ∷ codes "other /spool create,mkdir,symlink"
+      ∷ codes "dir new rmdir"
+      ∷ codes "other new create,mkdir,symlink"
+      ∷ codes "file new open-w,create,unlink"
+      ∷ codes "link new unlink"
+      ∷ []
+  pub two_ways : lines_by_openbsd two_ways_tree two_ways_history ≡
+      codes "dir /bin stat,lstat,open-r,chdir"
+      ∷ codes "prog /bin/p stat,lstat,open-r,open-w,open-rw,create,unlink,chmod,exec"
+      ∷ codes "dir /spool stat,lstat,open-r,rmdir,chmod,chdir"
+      ∷ codes "other /spool create,mkdir,symlink"
+      ∷ codes "dir new stat,lstat,open-r,rmdir,chmod,chdir"
+      ∷ codes "other new create,mkdir,symlink"
+      ∷ codes "file new stat,lstat,open-r,open-w,open-rw,create,unlink,chmod"
+      ∷ codes "link new lstat,readlink,unlink"
+      ∷ []
+  pub standard_rules : refusal standard_table no_veil_history ≡ None
+  pub openbsd_rules : refusal openbsd_table no_veil_history ≡ None
+  pub link_without_c : refusal link_by_r no_veil_history ≡ Some LinkLacksC
+  pub process_first : refusal link_by_r new_history ≡ Some CanUnveil
 
 pub ever_rows : EverRows
 ever_rows = record {
@@ -290,4 +379,12 @@ ever_rows = record {
   one_that_stays = refl;
   no_veil = refl;
   no_cpath = refl;
+  aliases = refl;
+  standard_aliases = refl;
+  unread_aliases = refl;
+  two_ways = refl;
+  standard_rules = refl;
+  openbsd_rules = refl;
+  link_without_c = refl;
+  process_first = refl;
 }

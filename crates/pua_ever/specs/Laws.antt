@@ -9,7 +9,8 @@ use Rattle.pua_path.specs.declared.found.Way.{Way}
 use Rattle.pua_path.specs.declared.found.Found.{Found}
 use Rattle.pua_path.specs.declared.found.Found.TheVariants.{Whole, Slot}
 use Rattle.pua_policy.specs.Promises.{holds, creating}
-use Rattle.pua_policy.specs.Calls.{CallTable, standard_table, rule_of, ending_of, last_of}
+use Rattle.pua_policy.specs.Calls.{CallTable, table_by_rules, rule_of, ending_of, last_of}
+use Rattle.pua_policy.specs.declared.rules.Rules.{Rules}
 use Rattle.pua_policy.specs.History.{History, kept, is_ended}
 use Rattle.pua_policy.specs.Verdict.{verdict_of}
 use Rattle.pua_policy.specs.declared.answer.Verdict.TheVariants.{Allowed}
@@ -28,7 +29,8 @@ use Rattle.pua_script.specs.Confinement.{TreesAlong}
 use Rattle.pua_objects.specs.Objects.{At, Others, Line, objects, own_way}
 use Rattle.pua_ever.specs.Ever.{NewDir, NewOthers, NewFile, NewLink, Thing, Stands, Comes, EverLine, ever}
 
--- the five calls that make a name or take one away need `c`, and so do the names of rename and link
+-- the five calls that make a name or take one away need `c`, and so do both names of rename and the new one of
+-- link: its old name stays, whatever it needs
 pub record EditsNeedC (table : CallTable) : Type 0 where
   pub create : IsTrue (holds (rule_of table call.Create).perms creating)
   pub mkdir : IsTrue (holds (rule_of table call.Mkdir).perms creating)
@@ -37,7 +39,6 @@ pub record EditsNeedC (table : CallTable) : Type 0 where
   pub symlink : IsTrue (holds (rule_of table call.Symlink).perms creating)
   pub rename_old : IsTrue (holds table.rename.old.needs.perms creating)
   pub rename_new : IsTrue (holds table.rename.new.needs.perms creating)
-  pub link_old : IsTrue (holds table.link.old.needs.perms creating)
   pub link_new : IsTrue (holds table.link.new.needs.perms creating)
 
 -- each veil stands on a directory, or in one, whose number was given
@@ -178,6 +179,6 @@ NowWithinEver =
     (t : Tree) (table : CallTable) (h : History) → WellFormed t →
     (line : Line) → Contains (objects t table h) line → IsWithinEver t table h line
 
--- the standard table is one of those that the laws speak of
-abbrev pub StandardEditsNeedC : Type 0
-StandardEditsNeedC = EditsNeedC standard_table
+-- the rules that a command names, whichever they are, are tables that the laws speak of
+abbrev pub RulesEditByC : Type 0
+RulesEditByC = (rules : Rules) → NoCallNeedsError (table_by_rules rules) × EditsNeedC (table_by_rules rules)

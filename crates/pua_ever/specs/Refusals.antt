@@ -23,14 +23,17 @@ lacks_c table call = not (holds (rule_of table call).perms creating)
 abbrev pub changing_calls : List Call
 changing_calls = call.Rmdir ∷ call.Unlink ∷ call.Create ∷ call.Mkdir ∷ call.Symlink ∷ []
 
--- both names of a request with two paths need it
+-- the new name of a request with two paths needs it, or both names
+abbrev pub new_needs_c : PairRule → Bool
+new_needs_c pair = holds pair.new.needs.perms creating
+
 abbrev pub both_need_c : PairRule → Bool
-both_need_c pair = holds pair.old.needs.perms creating && holds pair.new.needs.perms creating
+both_need_c pair = holds pair.old.needs.perms creating && new_needs_c pair
 
 abbrev pub table_refusal : CallTable → Option Call → Option Refusal
 table_refusal table (Some call) = Some (LacksC call)
 table_refusal table None =
-    if both_need_c table.rename then (if both_need_c table.link then None else Some LinkLacksC) else Some RenameLacksC
+    if both_need_c table.rename then (if new_needs_c table.link then None else Some LinkLacksC) else Some RenameLacksC
 
 -- the process's reason comes first
 abbrev pub refusal : CallTable → History → Option Refusal

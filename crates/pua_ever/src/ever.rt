@@ -1,7 +1,7 @@
 //! All that a process and what it forks can ever touch, line by line.
 
-ghost use Rattle.std.specs.Prelude.{◌≡◌, ◌⊎◌, ◌<◌, ◌∷◌, [], true, Some, None, IfOk, OnOk, OnSome};
-ghost use Rattle.std.specs.Prelude.{MatchResult, length, map};
+ghost use Rattle.std.specs.Prelude.{◌≡◌, ◌⊎◌, ◌<◌, ◌≤◌, ◌∷◌, [], true, Some, None, IfOk, OnOk, OnSome};
+ghost use Rattle.std.specs.Prelude.{MatchResult, length, map, take};
 ghost use Rattle.pua_tree.specs.Tree.{Tree};
 ghost use Rattle.pua_policy.specs.History.{History, StandsFor, is_ended};
 ghost use Rattle.pua_script.specs.Laws.{IsConfined};
@@ -12,6 +12,7 @@ ghost use Rattle.pua_objects.specs.Objects.{Subject as About, subject_word};
 ghost use Rattle.pua_ever.specs.Ever.{ever};
 ghost use Rattle.pua_ever.specs.EverLines.{lines_of, IsNextListed};
 ghost use Rattle.pua_ever.specs.EverReady.{IsNextGiven};
+ghost use Rattle.pua_ever.specs.EverState.{begun};
 ghost use Rattle.pua_ever.specs.Laws.{EditsNeedC};
 ghost use Rattle.pua_ever.specs.Refusals.{refusal as refusal_of, refusal_in};
 
@@ -29,8 +30,8 @@ use std::marker::Model;
 /// What a process, and what it forks, can ever touch in a tree by their own doing, as long as no
 /// exec of theirs succeeds: a line for each thing on which some call can ever be allowed, be it that
 /// it stands or could stand now, or that it can be made. Contracts see the tree, the process and the
-/// table, the names that lead to what the line given last is about, and what a line may still be
-/// about.
+/// table, the names that lead to what the line given last is about, how many of them are those of the
+/// line before, and what a line may still be about.
 #[derive(Drop)]
 pub struct Ever<'t, T: FileTree> {
     items: Items<'t, T>,
@@ -40,6 +41,8 @@ pub struct Ever<'t, T: FileTree> {
     last: Option<Item<'t>>,
     /// What can be made and is still to come, from this one on.
     coming: Option<Made>,
+    /// How many names at the front of the word are those of the line before.
+    shared: usize,
 }
 
 impl<'t, T: FileTree> Model for Ever<'t, T> {
@@ -54,6 +57,7 @@ impl<'t, T: FileTree> Model for Ever<'t, T> {
       process = a.items.process;
       table = a.table;
       word = word_in a.coming a.items.word;
+      shared = a.shared;
       left = left_in a.items.tree a.items.word a.last a.items.left a.coming;
     } };
 
@@ -101,6 +105,7 @@ impl<'t, T: FileTree> Ever<'t, T> {
             prospects,
             last: None,
             coming: Some(Made::Dir),
+            shared: 0,
         })
     }
 
@@ -114,7 +119,9 @@ impl<'t, T: FileTree> Ever<'t, T> {
         ensures line { IsNextListed self.old.tree self.old.table self.old.process self.old.left result
             self.new.word self.new.left }
         ensures fewer { OnSome result (length self.new.left < length self.old.left) }
+        ensures shared { take self.new.shared self.new.word ≡ take self.new.shared self.old.word }
     {
+        self.share_all();
         while let Some(line) = self.next_given() {
             if !line.calls.is_empty() {
                 return Some(line);
@@ -123,12 +130,21 @@ impl<'t, T: FileTree> Ever<'t, T> {
         None
     }
 
+    /// Each name of the word is one of the line before, until another item comes.
+    fn share_all(&mut self)
+        ensures { self.new ≡ begun self.old }
+    {
+        self.shared = self.word().len();
+    }
+
     /// Gives the line of what is to come next, with or without a call; None where nothing is left.
     fn next_given(&mut self) -> Option<EverLine>
         ensures of { (self.new.tree ≡ self.old.tree) × (self.new.process ≡ self.old.process)
             × (self.new.table ≡ self.old.table) }
         ensures line { IsNextGiven self.old.tree self.old.table self.old.process self.old.left result
             self.new.word self.new.left }
+        ensures shared { take self.new.shared self.new.word ≡ take self.new.shared self.old.word }
+        ensures less { self.new.shared ≤ self.old.shared }
     {
         if let Some(item) = self.last.take() {
             let calls = self
@@ -140,6 +156,7 @@ impl<'t, T: FileTree> Ever<'t, T> {
             });
         }
         if let Some(item) = self.items.next_item() {
+            self.shared = self.shared.min(self.items.word().len().saturating_sub(1));
             self.items.process().known();
             let kind = kind_of(&item);
             let calls = self
@@ -151,6 +168,7 @@ impl<'t, T: FileTree> Ever<'t, T> {
                 calls,
             });
         }
+        self.shared = 0;
         let Some(made) = self.coming else {
             return None;
         };
@@ -172,6 +190,13 @@ impl<'t, T: FileTree> Ever<'t, T> {
             Some(Made::Dir) => self.items.word(),
             _ => &[],
         }
+    }
+
+    /// How many names at the front of the word are those at the front of the word of the line before.
+    pub fn shared(&self) -> usize
+        ensures { result ≡ self.now.shared }
+    {
+        self.shared
     }
 }
 

@@ -2,7 +2,7 @@
 
 ghost use Rattle.pua_ever.specs.Examples.{EverRows};
 ghost use Rattle.pua_ever.specs.Laws.{EverAsRead, EverComplete, EverOfMany, NowWithinEver};
-ghost use Rattle.pua_ever.specs.Laws.{ReplaysKeepPlaces, StandardEditsNeedC, WithoutExec};
+ghost use Rattle.pua_ever.specs.Laws.{ReplaysKeepPlaces, RulesEditByC, WithoutExec};
 
 /// Whatever a process that can put no veil any more and what it forks ask for, as long as they alone ask
 /// and no exec of theirs succeeds: if a call of one of them is then allowed on what a path names, the line
@@ -23,12 +23,12 @@ pub fn now_law()
     ensures { NowWithinEver }
 {}
 
-/// Each veil stands on a number that was given, in each world that a replay leaves; and the standard
-/// table is one of those that the laws speak of.
-#[tactic(auto, using(crate::proofs::Standing::replays_keep_places, crate::proofs::Standard::standard_edits_need_c))]
+/// Each veil stands on a number that was given, in each world that a replay leaves; and the rules of the
+/// profile and those of OpenBSD are tables that the laws speak of.
+#[tactic(auto, using(crate::proofs::Standing::replays_keep_places, crate::proofs::Rules::rules_edit_by_c))]
 pub fn premises_law()
     ensures places { ReplaysKeepPlaces }
-    ensures table { StandardEditsNeedC }
+    ensures rules { RulesEditByC }
 {}
 
 /// Examples of what can ever be touched.

@@ -21,7 +21,8 @@ use std::alloc::Global;
 
 /// The calls that can ever be allowed on what has `c` now and no veil of its own that goes with it,
 /// and on what is made, by what it is: the calls that are allowed under some cover that it can come
-/// to have.
+/// to have. So they are on a file, program or link that link can give a further name, beside those
+/// that its own cover allows.
 #[derive(Clone, Copy, Debug, PartialEq, Eq)]
 pub struct Movable {
     /// On a directory, rmdir aside.

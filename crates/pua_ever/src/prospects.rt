@@ -1,6 +1,6 @@
 //! What decides the calls of the lines.
 
-ghost use Rattle.std.specs.Prelude.{◌≡◌, ◌&&◌, Option, option_map, true, not, is_none};
+ghost use Rattle.std.specs.Prelude.{◌≡◌, ◌&&◌, Option, Some, option_map, true, not, is_none};
 ghost use Rattle.std.specs.Prelude.{if◌then◌else◌, ◌==◌, IfOk};
 ghost use Rattle.std.specs.List.{list_any};
 ghost use Rattle.pua_tree.specs.Tree.{Tree, WellFormed, empty_tree, is_dir as lives_as_dir};
@@ -20,6 +20,8 @@ ghost use Rattle.pua_objects.specs.Objects.{cover_in as cover_of_others};
 ghost use Rattle.pua_ever.specs.Ever.{may_edit as edits_tree, is_yes as says_yes, edit_calls};
 ghost use Rattle.pua_ever.specs.Ever.{can_make, is_allowed_under, is_ever_allowed, is_new_allowed};
 ghost use Rattle.pua_ever.specs.Ever.{is_named_way, own_spot};
+ghost use Rattle.pua_ever.specs.Ever.{may_link as links_files, can_link as gives_names};
+ghost use Rattle.pua_ever.specs.Ever.{named_covers};
 ghost use Rattle.pua_ever.specs.EverReady.{IsProspects, AreOnFreed, new_of, own_given};
 ghost use Rattle.pua_ever.specs.EverReady.{kind_allowed, kind_covers};
 ghost use Rattle.pua_ever.specs.Laws.{EditsNeedC};
@@ -28,6 +30,7 @@ use crate::made::Made;
 use crate::movable::{Movable, calls_by_object};
 use crate::openings::{find_openings, has_c};
 use pua_objects::{Item, Subject};
+use pua_path::Last;
 use pua_policy::{Call, CallTable, Calls, Cover, May, Object, Place, Process, Promises, judge};
 use pua_tree::{FileTree, Name, NodeId, OutOfMemory};
 use std::alloc::Global;
@@ -37,6 +40,8 @@ use std::alloc::Global;
 pub(crate) struct Prospects {
     /// Whether the tree can change at all.
     may_edit: bool,
+    /// Whether the promises of both of link's names are held.
+    may_link: bool,
     /// The directories in which something stays that has no `c`: no other one with `c` but can be
     /// emptied.
     held: Vec<NodeId>,
@@ -58,6 +63,7 @@ pub(crate) fn find_prospects<T: FileTree>(
     let movable = calls_by_object(process, table, &found);
     Ok(Prospects {
         may_edit: may_edit(process, table),
+        may_link: may_link(process, table),
         held: found.held,
         movable,
     })
@@ -71,6 +77,15 @@ fn may_edit(process: &Process, table: &CallTable) -> bool
         return true;
     }
     may_any(process, table.link().new_name().alternatives()) || may_call(process, table)
+}
+
+/// Whether a process holds the promises of both of link's names.
+fn may_link(process: &Process, table: &CallTable) -> bool
+    ensures { (h : History) → StandsFor process.now h → result ≡ links_files table.now h }
+{
+    let link = table.link();
+    may_any(process, link.old_name().alternatives())
+        && may_any(process, link.new_name().alternatives())
 }
 
 /// Whether a process holds the promises of one of the five calls that make a name or take one away.
@@ -176,10 +191,43 @@ impl Prospects {
             ≡ is_allowed_under table.now h (kind_covers t table.now h cover.now kind)
             (object_of_kind kind) call }
     {
-        if object != Object::Missing && self.may_edit && has_c(*cover) {
+        if object == Object::Missing {
+            return judge::allowed(process, table, *cover, object);
+        }
+        self.on_thing(process, table, cover, object)
+    }
+
+    /// The same, of what stands there.
+    fn on_thing(&self, process: &Process, table: &CallTable, cover: &Cover, object: Object) -> Calls
+        ensures { (t : Tree) (h : History) (kind : Kind) → StandsFor process.now h →
+            IsProspects t table.now h self.now →
+            object ≡ object_seen empty_tree (object_of_kind (Some kind)) →
+            (call : AnyCall) → has result call
+            ≡ is_allowed_under table.now h (named_covers t table.now h (Some kind) cover.now)
+            (object_of_kind (Some kind)) call }
+    {
+        if self.may_edit && has_c(*cover) {
             return self.movable.on(object);
         }
-        judge::allowed(process, table, *cover, object)
+        let calls = judge::allowed(process, table, *cover, object);
+        if self.can_link(table, *cover, object) {
+            return calls.union(self.movable.on(object));
+        }
+        calls
+    }
+
+    /// Whether what is no directory and stands at a name can be given a further one by link, by what
+    /// covers it.
+    fn can_link(&self, table: &CallTable, cover: Cover, object: Object) -> bool
+        ensures { (t : Tree) (h : History) (kind : Kind) → IsProspects t table.now h self.now →
+            object ≡ object_seen empty_tree (object_of_kind (Some kind)) →
+            result ≡ gives_names table.now h (Some kind) cover }
+    {
+        let old_name = table.link().old_name();
+        if !self.may_link || judge::cover_fault(cover, old_name.perms()).is_some() {
+            return false;
+        }
+        object != Object::Link || old_name.last() == Last::Kept
     }
 
     /// The calls on the name at which an item stands, if it has a veil of its own and the item can

@@ -4,7 +4,8 @@ ghost use Rattle.std.specs.Prelude.{◌≡◌, ◌⊎◌, true, None, Option, fi
 ghost use Rattle.pua_policy.specs.History.{History, StandsFor, is_ended};
 ghost use Rattle.pua_script.specs.Laws.{IsConfined};
 ghost use Rattle.pua_ever.specs.Laws.{EditsNeedC};
-ghost use Rattle.pua_ever.specs.Refusals.{lacks_c, changing_calls, both_need_c as pair_needs_c};
+ghost use Rattle.pua_ever.specs.Refusals.{lacks_c, changing_calls};
+ghost use Rattle.pua_ever.specs.Refusals.{both_need_c as pair_needs_c, new_needs_c as makes_by_c};
 ghost use Rattle.pua_ever.specs.Refusals.{refusal as refusal_of};
 
 use pua_policy::{Call, CallTable, May, PairNeed, Perms, Process, Promises};
@@ -20,7 +21,7 @@ pub enum Refusal {
     LacksC(Call),
     /// The same of rename(2), by one of its two names.
     RenameLacksC,
-    /// The same of link(2).
+    /// The same of link(2), by its new name.
     LinkLacksC,
 }
 
@@ -51,7 +52,7 @@ fn reason(process: &Process, table: &CallTable) -> Option<Refusal>
     if !both_need_c(table.rename()) {
         return Some(Refusal::RenameLacksC);
     }
-    if !both_need_c(table.link()) {
+    if !new_needs_c(table.link()) {
         return Some(Refusal::LinkLacksC);
     }
     None
@@ -61,8 +62,14 @@ fn reason(process: &Process, table: &CallTable) -> Option<Refusal>
 fn both_need_c(pair: &PairNeed) -> bool
     ensures { result ≡ pair_needs_c pair.now }
 {
-    pair.old_name().perms().contains(Perms::CREATE)
-        && pair.new_name().perms().contains(Perms::CREATE)
+    pair.old_name().perms().contains(Perms::CREATE) && new_needs_c(pair)
+}
+
+/// Whether the new name of a request with two paths needs `c`.
+fn new_needs_c(pair: &PairNeed) -> bool
+    ensures { result ≡ makes_by_c pair.now }
+{
+    pair.new_name().perms().contains(Perms::CREATE)
 }
 
 /// The first of the five calls that does not need `c`.

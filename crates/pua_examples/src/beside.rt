@@ -1,15 +1,19 @@
 //! Audits and lists of objects side by side: of the stories, of the rows, and of random worlds by a fixed
 //! seed.
 
-use crate::compared::{Asked, Counts, is_listed};
-use crate::deep::are_deep_listed;
-use crate::generator::{Random, listing, nodes, script};
+mod compared;
+mod deep;
+pub(crate) mod subjects;
+
+use crate::beside::compared::{Asked, Counts, is_listed};
+use crate::beside::deep::are_deep_listed;
+use crate::random::generator::{Random, listing, nodes, script};
+use crate::rows::table::{Entry, entry_of};
+use crate::rows::trees::table_of;
 use crate::stories::STORIES;
-use crate::table::{Row, Table, words_of};
-use crate::trees::table_of;
 use crate::written::Files;
 use anyhow::{Result, anyhow};
-use pua_policy::{CallTable, Process};
+use pua_policy::{CallTable, Process, Rules};
 use pua_script::{World, read_script};
 use pua_tool::{AuditWords, Processes, Text};
 use pua_tree::{ListTree, read_listing};
@@ -69,28 +73,20 @@ fn run_stories(rt: &HostRuntime, by_table: bool, counts: &mut Counts) -> Result<
 fn run_rows(rt: &HostRuntime, by_table: bool, counts: &mut Counts) -> Result<()> {
     let alloc = rt.alloc();
     let text = fs::read_to_string(rt, "rows.toml")?;
-    let table: Table = toml::from_str(alloc, text.as_str())?;
-    for row in &table.row {
-        if row.fault.is_empty() && !is_row_listed(alloc, &table, row, by_table, counts)? {
-            println!(rt; "not as the objects: {}", row.name)?;
+    let table = toml::table_from_str(alloc, text.as_str())?;
+    let table = Entry::new(&table);
+    let trees = table.entry("tree")?;
+    for row in table.entries("row") {
+        let row = entry_of(Some(row))?;
+        let files = row.files(trees.entry(row.text("tree"))?);
+        let words = row.words(alloc)?;
+        if row.given("fault").is_none()
+            && !is_as_listed(alloc, words.as_slice(), &files, by_table, counts)?
+        {
+            println!(rt; "not as the objects: {}", row.text("name"))?;
         }
     }
     Ok(())
-}
-
-/// Whether what a row asks for is as the list of objects says.
-fn is_row_listed(
-    alloc: Global,
-    table: &Table,
-    row: &Row,
-    by_table: bool,
-    counts: &mut Counts,
-) -> Result<bool> {
-    let Some(tree) = table.tree.get(row.tree.as_str()) else {
-        return Err(anyhow!("{}: there is no tree {}", row.name, row.tree));
-    };
-    let words = words_of(alloc, row.command.as_str(), row.words.as_slice())?;
-    is_as_listed(alloc, words.as_slice(), &row.files(tree), by_table, counts)
 }
 
 /// Compares audits of both processes of random worlds.
@@ -115,8 +111,9 @@ fn run_worlds(rt: &HostRuntime, counts: &mut Counts) -> Result<()> {
 
 /// Whether audits of the process that a command asks about are as its list of objects says: the one
 /// that the command asks for, if it does, and those at the longest limit that is cheap. A run asks
-/// about none, and a list may ask about all: process 1 stands for them. Nothing is compared where the command names a table and is not to,
-/// or names none and is to.
+/// about none, and a list may ask about all: process 1 stands for them. Nothing is compared where the
+/// command goes by another table than the standard one and is not to, or goes by that one and is to go by
+/// another.
 fn is_as_listed(
     alloc: Global,
     words: &[&str],
@@ -127,7 +124,8 @@ fn is_as_listed(
     let Ok(command) = read_words(alloc, words) else {
         return Err(anyhow!("these words are no command"));
     };
-    if command.table.is_some() != by_table {
+    let is_standard = command.table.is_none() && command.rules == Rules::Profile;
+    if is_standard == by_table {
         return Ok(true);
     }
     let table = table_of(alloc, files, &command)?;

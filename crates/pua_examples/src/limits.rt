@@ -1,6 +1,7 @@
 //! Inputs as large as the limits let them be, or larger by one: they are answered, and not with want
 //! of memory. What is expected follows from the rules, line by line.
 
+use crate::rooms;
 use crate::written::{Files, as_expected};
 use anyhow::Result;
 use pua_tree::{FileTree, Kind, Name, NodeId, TreeFault, read_listing};
@@ -93,6 +94,7 @@ pub(crate) fn run(rt: &HostRuntime) -> Result<()> {
     tell(rt, "one node more than 4,096", are_nodes_refused(alloc)?)?;
     tell(rt, "4,095 names of one file", are_further_names(alloc)?)?;
     tell(rt, "65,534 names of one file", are_most_names(alloc)?)?;
+    tell(rt, "65,534 files", rooms::are_full(alloc)?)?;
     tell(rt, "59,990 directories made by a script", are_made(alloc)?)?;
     tell(rt, "4,081 names beside one path", are_beside(alloc)?)?;
     Ok(())
@@ -407,7 +409,7 @@ fn are_further_names(alloc: Global) -> Result<bool> {
 }
 
 /// A name of five digits.
-fn numbered(alloc: Global, number: u32) -> Result<Name> {
+pub(crate) fn numbered(alloc: Global, number: u32) -> Result<Name> {
     let text = format!(in alloc; "{number:05}")?;
     Ok(Name::read(text.as_bytes())?)
 }

@@ -1,37 +1,13 @@
-//! Random cases: the lines of an audit are those that a filter of all words finds, asking for each
-//! pair whether the call would be answered `ok` next; an audit that is resumed after any pair has
-//! the lines after it; a front of a script has the front of its answers; and a listing is read back
-//! as the tree that it was printed from.
+//! What is made at random by a fixed seed, and what is tried over it: audits beside a filter of all words,
+//! edits of both kinds of trees, and worlds whose requests are served one by one.
 
-use crate::case::Case;
-use crate::generator::Random;
-use anyhow::Result;
-use std::alloc::Global;
-
-/// How many cases are tried.
-const CASES: usize = 200;
-
-/// Prints a line for each case that is not as expected, and then how many cases there were, and how
-/// many pairs.
-pub(crate) fn run(rt: &HostRuntime) -> Result<()> {
-    let mut random = Random::new();
-    let mut pairs = 0usize;
-    for number in 1..=CASES {
-        let case = Case::new(rt.alloc(), &mut random)?;
-        let filtered = case.filtered(rt.alloc(), &mut random)?;
-        pairs = pairs.saturating_add(filtered.pairs());
-        for (what, holds) in [
-            ("the listing read back", case.is_read_back(rt.alloc())?),
-            ("the fronts of the run", case.has_fronts(rt.alloc())?),
-            ("the audit", case.is_filtered(rt.alloc(), &filtered)?),
-            ("the audit resumed", case.goes_on(rt.alloc(), &filtered)?),
-        ] {
-            if !holds {
-                println!(rt; "not as expected: {what} of case {number}:")?;
-                println!(rt; "{}{}", case.listing, case.script)?;
-            }
-        }
-    }
-    println!(rt; "{CASES} random cases with {pairs} pairs")?;
-    Ok(())
-}
+mod about;
+pub(crate) mod case;
+pub(crate) mod cases;
+pub(crate) mod edits;
+pub(crate) mod ever;
+pub(crate) mod futures;
+pub(crate) mod generator;
+mod reached;
+mod spared;
+pub(crate) mod stated;

@@ -2,10 +2,15 @@
 //! are there is also done by calls of the libraries, over each kind of tree. Each audit that a row has
 //! whole is also cut after each of its lines and resumed there.
 
-use crate::table::{Misused, Refused, Row, Table, ended, words_of};
-use crate::trees::are_alike;
+pub(crate) mod listed;
+pub(crate) mod state;
+pub(crate) mod table;
+pub(crate) mod trees;
+
+use crate::rows::table::{Entry, ended, entry_of};
+use crate::rows::trees::are_alike;
 use crate::written::{Files, SMALL};
-use anyhow::{Result, anyhow};
+use anyhow::Result;
 use pua_tool::DEVICE;
 use std::alloc::Global;
 use std::fs;
@@ -36,60 +41,66 @@ const NO_SCRIPT: &str = "0";
 pub(crate) fn run(rt: &HostRuntime) -> Result<()> {
     let alloc = rt.alloc();
     let text = fs::read_to_string(rt, "rows.toml")?;
-    let table: Table = toml::from_str(alloc, text.as_str())?;
-    for misused in &table.misused {
-        let Some(usage) = table.usage.get(misused.usage.as_str()) else {
-            return Err(anyhow!("{}: there is no line {}", misused.name, misused.usage));
-        };
-        if !is_misused(alloc, misused, usage.as_str())? {
-            println!(rt; "not as expected: {}", misused.name)?;
+    let table = toml::table_from_str(alloc, text.as_str())?;
+    let table = Entry::new(&table);
+    let usages = table.entry("usage")?;
+    let (misuses, refusals) = (table.entries("misused"), table.entries("refused"));
+    for misused in misuses {
+        let misused = entry_of(Some(misused))?;
+        if !is_misused(alloc, misused, usages.text(misused.text("usage")))? {
+            println!(rt; "not as expected: {}", misused.text("name"))?;
         }
     }
-    for refused in &table.refused {
+    for refused in refusals {
+        let refused = entry_of(Some(refused))?;
         if !is_refused(alloc, refused)? {
-            println!(rt; "not as expected ({}): {}", refused.from, refused.name)?;
+            println!(rt;
+                "not as expected ({}): {}",
+                refused.text("from"),
+                refused.text("name")
+            )?;
         }
     }
-    run_rows(rt, &table)?;
-    println!(rt;
-        "{} misuses, {} refusals",
-        table.misused.len(),
-        table.refused.len()
-    )?;
+    run_rows(rt, table)?;
+    println!(rt; "{} misuses, {} refusals", misuses.len(), refusals.len())?;
     Ok(())
 }
 
 /// Judges each row with its answers and pairs.
-fn run_rows(rt: &HostRuntime, table: &Table) -> Result<()> {
+fn run_rows(rt: &HostRuntime, table: Entry<'_>) -> Result<()> {
     let alloc = rt.alloc();
+    let trees = table.entry("tree")?;
+    let rows = table.entries("row");
     let mut resumed = 0usize;
-    for row in &table.row {
-        let Some(tree) = table.tree.get(row.tree.as_str()) else {
-            return Err(anyhow!("{}: there is no tree {}", row.name, row.tree));
-        };
-        let files = row.files(tree);
+    for row in rows {
+        let row = entry_of(Some(row))?;
+        let files = row.files(trees.entry(row.text("tree"))?);
         match judged(alloc, row, &files)? {
             Some(lines) => resumed = resumed.saturating_add(lines),
-            None => println!(rt; "not as expected ({}): {}", row.from, row.name)?,
+            None => println!(rt;
+                "not as expected ({}): {}",
+                row.text("from"),
+                row.text("name")
+            )?,
         }
     }
-    println!(rt; "{} rows, resumed after {resumed} lines", table.row.len())?;
+    println!(rt; "{} rows, resumed after {resumed} lines", rows.len())?;
     Ok(())
 }
 
-/// Whether words are answered as no command.
-fn is_misused(alloc: Global, misused: &Misused, usage: &str) -> Result<bool> {
-    let words = words_of(alloc, misused.command.as_str(), misused.words.as_slice())?;
+/// Whether words are answered as no command, by a line that is there.
+fn is_misused(alloc: Global, misused: Entry<'_>, usage: &str) -> Result<bool> {
+    let words = misused.words(alloc)?;
     let files = Files::new(ROOT.as_bytes(), b"");
     let usage = ended(alloc, usage)?;
     let written = files.written(alloc, words.as_slice(), SMALL)?;
-    Ok(written.is(2, b"", usage.as_bytes()))
+    Ok(!usage.is_empty() && written.is(2, b"", usage.as_bytes()))
 }
 
 /// Whether a listing, a script or a table is refused by each command.
-fn is_refused(alloc: Global, refused: &Refused) -> Result<bool> {
+fn is_refused(alloc: Global, refused: Entry<'_>) -> Result<bool> {
     let files = refused_files(refused);
-    let fault = ended(alloc, refused.fault.as_str())?;
+    let fault = ended(alloc, refused.text("fault"))?;
     for command in &REFUSING {
         let mut words = Vec::from_slice(alloc, command)?;
         if files.table.is_some() {
@@ -106,14 +117,12 @@ fn is_refused(alloc: Global, refused: &Refused) -> Result<bool> {
 }
 
 /// The files of which the one that is given has a fault. So have those that are judged after it.
-fn refused_files(refused: &Refused) -> Files<'_> {
-    let table = refused.table.as_ref().map(String::as_bytes);
+fn refused_files(refused: Entry<'_>) -> Files<'_> {
+    let table = refused.given("table").map(str::as_bytes);
     let tree = if table.is_some() { NO_LISTING } else { ROOT };
-    let tree = refused.listing.as_ref().map_or(tree, String::as_str);
-    let script = refused.script.as_ref().map_or(NO_SCRIPT, String::as_str);
     Files {
-        tree: tree.as_bytes(),
-        script: script.as_bytes(),
+        tree: refused.given("listing").unwrap_or(tree).as_bytes(),
+        script: refused.given("script").unwrap_or(NO_SCRIPT).as_bytes(),
         table,
     }
 }
@@ -121,22 +130,23 @@ fn refused_files(refused: &Refused) -> Files<'_> {
 /// After how many lines a row's audit was resumed: none where the row has no whole audit. None
 /// where the row's command wrote something else, over either kind of tree, or the audit went on in
 /// another way. A row with an input that can't be read has no tree.
-fn judged(alloc: Global, row: &Row, files: &Files<'_>) -> Result<Option<usize>> {
-    let words = words_of(alloc, row.command.as_str(), row.words.as_slice())?;
+fn judged(alloc: Global, row: Entry<'_>, files: &Files<'_>) -> Result<Option<usize>> {
+    let words = row.words(alloc)?;
     let words = words.as_slice();
     let output = row.output(alloc)?;
-    let fault = ended(alloc, row.fault.as_str())?;
+    let fault = ended(alloc, row.text("fault"))?;
+    let status = u8::try_from(row.number("status").unwrap_or(0)).unwrap_or(u8::MAX);
     let written = files.written(alloc, words, SMALL)?;
-    if !written.is(row.status, output.as_bytes(), fault.as_bytes()) {
+    if !written.is(status, output.as_bytes(), fault.as_bytes()) {
         return Ok(None);
     }
-    if row.status != DEVICE && !are_alike(alloc, words, files, output.as_str(), fault.as_str())? {
+    if status != DEVICE && !are_alike(alloc, words, files, output.as_str(), fault.as_str())? {
         return Ok(None);
     }
-    if row.reach.is_none() {
+    if row.number("reach").is_none() {
         return Ok(Some(0));
     }
-    let front = row.answers.as_str().split_whitespace().count();
+    let front = row.text("answers").split_whitespace().count();
     let front = front.saturating_add(1);
     lines_resumed(alloc, words, files, output.as_str(), front)
 }

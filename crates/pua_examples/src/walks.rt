@@ -1,8 +1,8 @@
 //! Audits of two letters, over trees and scripts that were chosen for the walk: their lines are those
 //! that a filter of all words finds, from the root and from the working directory.
 
-use crate::case::Case;
-use crate::generator::Random;
+use crate::random::case::Case;
+use crate::random::generator::Random;
 use anyhow::Result;
 
 /// Two directories, a file, a program, and links: to a directory, up and down again, to itself.

@@ -66,13 +66,10 @@ pub(crate) fn run(rt: &HostRuntime) -> Result<()> {
     short_audits(rt)?;
     short_commands(rt)?;
     small_rooms(rt)?;
-    long_audits(rt)?;
-    short_puts(rt)?;
+    let whole = long_text(rt)?;
+    long_audits(rt, whole.bytes())?;
+    short_puts(rt, whole.bytes())?;
     readings(rt)
-}
-
-fn memory_sink(alloc: Global, room: usize) -> Result<MemorySink> {
-    Ok(MemorySink::new(alloc, room)?)
 }
 
 /// The first bytes of a text, at most so many.
@@ -115,7 +112,7 @@ fn short_command<O: Sink>(alloc: Global, out: &mut O) -> Result<(u8, MemorySink)
     let words = ["audit", "--limit", "2", "T", "S", "a"];
     let entries = [("T", SHORT.tree), ("S", SHORT.script)];
     let mut inputs = MemoryInputs::new(&entries);
-    let mut err = memory_sink(alloc, 1_024)?;
+    let mut err = MemorySink::new(alloc, 1_024)?;
     let status = command(alloc, &words, &mut inputs, out, &mut err);
     Ok((status, err))
 }
@@ -156,7 +153,7 @@ fn small_rooms(rt: &HostRuntime) -> Result<()> {
     let mut cases = 0u32;
     for room in 0..=SHORT_TEXT.len() {
         cases = cases.saturating_add(1);
-        let mut out = memory_sink(rt.alloc(), room)?;
+        let mut out = MemorySink::new(rt.alloc(), room)?;
         let (status, err) = short_command(rt.alloc(), &mut out)?;
         if out.bytes() != &SHORT_TEXT[..room] || !is_told(status, err.bytes(), room as u64) {
             println!(rt; "short command, room {room}: wrong")?;
@@ -166,18 +163,23 @@ fn small_rooms(rt: &HostRuntime) -> Result<()> {
     Ok(())
 }
 
-/// The long audit, with sinks that fail about the ends of the first block and of the text.
-fn long_audits(rt: &HostRuntime) -> Result<()> {
-    let mut whole = memory_sink(rt.alloc(), ROOM)?;
+/// The text of the long audit.
+fn long_text(rt: &HostRuntime) -> Result<MemorySink> {
+    let mut whole = MemorySink::new(rt.alloc(), ROOM)?;
     let answer = audit_to(rt.alloc(), LONG.tree, LONG.script, &LONG.job, &mut whole);
     if answer != Ok(()) || whole.bytes().len() != LONG_BYTES {
         println!(rt; "long audit: {} bytes", whole.bytes().len())?;
     }
+    Ok(whole)
+}
+
+/// The long audit, with sinks that fail about the ends of the first block and of the text.
+fn long_audits(rt: &HostRuntime, text: &[u8]) -> Result<()> {
     let mut cases = 0u32;
     for edge in [BEFORE_BLOCK, BLOCK, BEFORE_BLOCK + BLOCK, LONG_BYTES as u64] {
         for fails_from in edge.saturating_sub(2)..edge.saturating_add(4) {
             cases = cases.saturating_add(1);
-            if !is_cut(rt.alloc(), &LONG, whole.bytes(), fails_from)? {
+            if !is_cut(rt.alloc(), &LONG, text, fails_from)? {
                 println!(rt; "long audit, put {fails_from}: wrong")?;
             }
         }
@@ -186,20 +188,13 @@ fn long_audits(rt: &HostRuntime) -> Result<()> {
     Ok(())
 }
 
-/// Whether a sink that takes so many bytes a put, and never fails, is left the text of the long audit.
-fn is_whole(alloc: Global, text: &[u8], most: usize) -> Result<bool> {
-    let mut sink = DrippingSink::new(alloc, most, u64::MAX);
-    let answer = audit_to(alloc, LONG.tree, LONG.script, &LONG.job, &mut sink);
-    Ok(answer == Ok(()) && sink.bytes() == text)
-}
-
 /// The long audit, with sinks that take little or much a put, and never fail.
-fn short_puts(rt: &HostRuntime) -> Result<()> {
-    let mut whole = memory_sink(rt.alloc(), ROOM)?;
-    let answer = audit_to(rt.alloc(), LONG.tree, LONG.script, &LONG.job, &mut whole);
+fn short_puts(rt: &HostRuntime, text: &[u8]) -> Result<()> {
     let sizes = [1usize, 2, 7, 4_096, 65_535, 65_536, 65_537];
     for most in &sizes {
-        if answer != Ok(()) || !is_whole(rt.alloc(), whole.bytes(), *most)? {
+        let mut sink = DrippingSink::new(rt.alloc(), *most, u64::MAX);
+        let answer = audit_to(rt.alloc(), LONG.tree, LONG.script, &LONG.job, &mut sink);
+        if answer != Ok(()) || sink.bytes() != text {
             println!(rt; "long audit, {most} bytes a put: wrong")?;
         }
     }

@@ -12,10 +12,10 @@ const DIRS: u32 = 100;
 const DEPTH: u32 = 9;
 
 /// A script that unveils a directory without any permission.
-const NOTHING: &str = "1 unveil /d1 =\n1 unveil - -\n";
+const NOTHING: &[u8] = b"1 unveil /d1 =\n1 unveil - -\n";
 
 /// A script that unveils a file at the end of the chain for reading.
-const ONE_FILE: &str = "1 unveil /a/a/a/a/a/a/a/a/a/f r\n1 unveil - -\n";
+const ONE_FILE: &[u8] = b"1 unveil /a/a/a/a/a/a/a/a/a/f r\n1 unveil - -\n";
 
 /// What an audit writes where nothing is allowed.
 const EMPTY: &str = "1 ok\n2 ok\nreach 1\n";
@@ -41,30 +41,21 @@ const LAST_WORDS: [&str; 7] = [
     "S",
 ];
 
-/// The files T and S.
-#[derive(Clone, Copy)]
-struct Files<'a> {
-    listing: &'a str,
-    script: &'a str,
-}
-
-impl<'a> Files<'a> {
-    fn new(listing: &'a str, script: &'a str) -> Files<'a> {
-        Files { listing, script }
-    }
-}
-
 /// Prints a line for each of the audits: that it ended, or that it was wrong. The one that is resumed is
 /// of a process to which everything is allowed, by each path that leads anywhere.
 pub(crate) fn run(rt: &HostRuntime) -> Result<()> {
     let alloc = rt.alloc();
     let wide = wide(alloc)?;
     let deep = deep(alloc)?;
-    let dead = Files::new(wide.as_str(), NOTHING);
-    let one = Files::new(deep.as_str(), ONE_FILE);
-    let free = Files::new(wide.as_str(), "");
+    let (wide, deep) = (wide.as_bytes(), deep.as_bytes());
+    let nothing = [("T", wide), ("S", NOTHING)];
+    let one = [("T", deep), ("S", ONE_FILE)];
+    let free = [("T", wide), ("S", b"".as_slice())];
     for (what, is_ended) in [
-        ("a dead tree", is_written(alloc, &WIDE_WORDS, &dead, EMPTY)?),
+        (
+            "a dead tree",
+            is_written(alloc, &WIDE_WORDS, &nothing, EMPTY)?,
+        ),
         (
             "a tree with one file",
             is_written(alloc, &DEEP_WORDS, &one, FILE)?,
@@ -80,7 +71,7 @@ pub(crate) fn run(rt: &HostRuntime) -> Result<()> {
 }
 
 /// A listing of a root with a hundred directories.
-fn wide(alloc: Global) -> Result<String> {
+pub(crate) fn wide(alloc: Global) -> Result<String> {
     let mut text = String::from_str(alloc, "tree 1\n0 dir\n")?;
     for number in 1..=DIRS {
         writeln!(text, "{number} dir 0 d{number}")?;
@@ -89,7 +80,7 @@ fn wide(alloc: Global) -> Result<String> {
 }
 
 /// The same, and in the root the chain, with a file in its last directory.
-fn deep(alloc: Global) -> Result<String> {
+pub(crate) fn deep(alloc: Global) -> Result<String> {
     let mut text = wide(alloc)?;
     let mut parent = 0;
     for place in 1..=DEPTH {
@@ -102,12 +93,13 @@ fn deep(alloc: Global) -> Result<String> {
 }
 
 /// Whether an audit over these files writes this text, and reports nothing.
-fn is_written(alloc: Global, words: &[&str], files: &Files<'_>, text: &str) -> Result<bool> {
-    let entries = [
-        ("T", files.listing.as_bytes()),
-        ("S", files.script.as_bytes()),
-    ];
-    let mut inputs = MemoryInputs::new(&entries);
+fn is_written(
+    alloc: Global,
+    words: &[&str],
+    files: &[(&str, &[u8]); 2],
+    text: &str,
+) -> Result<bool> {
+    let mut inputs = MemoryInputs::new(files);
     let mut out = MemorySink::new(alloc, 1_024)?;
     let mut err = MemorySink::new(alloc, 1_024)?;
     let status = command(alloc, words, &mut inputs, &mut out, &mut err);

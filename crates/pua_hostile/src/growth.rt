@@ -10,6 +10,7 @@ mod seen;
 mod texts;
 mod worlds;
 
+use crate::trees::ListedTree;
 use anyhow::Result;
 use pua_tree::{ListTree, SlabTree};
 
@@ -19,20 +20,39 @@ use pua_tree::{ListTree, SlabTree};
 pub(crate) fn run(rt: &HostRuntime) -> Result<()> {
     let alloc = rt.alloc();
     let mut again = 0u32;
+    hold::<ListTree>(rt, &mut again)?;
+    hold::<SlabTree>(rt, &mut again)?;
     for (calls, holds) in [
         ("readings", readings::hold(alloc, &mut again)?),
         ("processes", processes::hold(alloc, &mut again)?),
-        ("worlds", worlds::hold(alloc, &mut again)?),
-        ("audits", lines::hold(alloc, &mut again)?),
-        ("objects", objects::hold(alloc, &mut again)?),
-        ("lists for ever", ever::hold(alloc, &mut again)?),
         ("texts", texts::hold(alloc, &mut again)?),
     ] {
-        if !holds {
-            println!(rt; "wrong after a refused growth: {calls}")?;
-        }
+        tell(rt, calls, holds)?;
     }
     println!(rt; "{again} calls made once more")?;
+    Ok(())
+}
+
+/// Makes the calls that are of a tree of this kind.
+fn hold<T: ListedTree>(rt: &HostRuntime, again: &mut u32) -> Result<()> {
+    let alloc = rt.alloc();
+    for (calls, holds) in [
+        ("trees", readings::is_listed::<T>(alloc, again)?),
+        ("worlds", worlds::hold::<T>(alloc, again)?),
+        ("audits", lines::hold::<T>(alloc, again)?),
+        ("objects", objects::hold::<T>(alloc, again)?),
+        ("lists for ever", ever::hold::<T>(alloc, again)?),
+    ] {
+        tell(rt, calls, holds)?;
+    }
+    Ok(())
+}
+
+/// Prints a line for calls of which something was wrong.
+fn tell(rt: &HostRuntime, calls: &str, holds: bool) -> Result<()> {
+    if !holds {
+        println!(rt; "wrong after a refused growth: {calls}")?;
+    }
     Ok(())
 }
 

@@ -14,6 +14,7 @@ mod devices;
 mod dripping;
 mod growth;
 mod listed;
+mod live;
 mod measured;
 mod nets;
 mod reports;
@@ -50,6 +51,7 @@ fn run_all(rt: &HostRuntime) -> Result<()> {
     cuts::run(rt)?;
     nets::run(rt)?;
     dead::run(rt)?;
+    live::run(rt)?;
     devices::run(rt)?;
     variants::run(rt)?;
     growth::run(rt)?;

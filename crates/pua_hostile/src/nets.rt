@@ -36,7 +36,7 @@ pub(crate) fn run(rt: &HostRuntime) -> Result<()> {
 
 /// A listing of a directory with 20 links to it, and in it a file with 13 links to it: each link
 /// leads to the one before.
-fn chains(alloc: Global) -> Result<String> {
+pub(crate) fn chains(alloc: Global) -> Result<String> {
     let mut text = String::from_str(alloc, "tree 1\n0 dir\n1 dir 0 d\n2 link 0 d1 d\n")?;
     for number in 2u32..21 {
         writeln!(text, "{} link 0 d{number} d{}", number + 1, number - 1)?;

@@ -1,4 +1,6 @@
+-- The claim, in reading order: what a reader has to believe of what is written and read.
 pub mod Sinks
 pub mod Sources
-pub mod Named
 pub mod Held
+-- Notes: what inputs in memory keep.
+pub mod Named

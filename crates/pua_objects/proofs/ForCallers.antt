@@ -12,3 +12,5 @@ pub use Rattle.pua_objects.proofs.Judged.{named_by_row}
 pub use Rattle.pua_objects.proofs.Completeness.{one_of_calls, some_of, failed, allowed_is, named_within_text}
 -- the word of what was found
 pub use Rattle.pua_objects.proofs.Lined.{word_seen}
+-- a front of a word stays from line to line
+pub use Rattle.pua_objects.proofs.Fronts.{less_same, stays_shared, take_less}

@@ -1,5 +1,6 @@
 pub mod ForCallers
 pub mod Among
+pub mod Fronts
 pub mod Judged
 pub mod Listing
 pub mod Completeness

@@ -1,5 +1,5 @@
 -- An item of the code, beside the definition's.
-use Rattle.std.specs.Prelude.{◌≡◌, List, [], ◌∷◌, Option, MatchOption, IsTrue}
+use Rattle.std.specs.Prelude.{◌≡◌, ◌-◌, List, [], ◌∷◌, length, take, Option, MatchOption, IsTrue}
 use Rattle.pua_tree.specs.Tree.{Tree, look, is_dir}
 use Rattle.pua_path.specs.Fits.{FoundFits, StandsAsNamed}
 use Rattle.pua_path.specs.declared.found.Way.TheVariants.{Named, Top}
@@ -53,3 +53,7 @@ pub record IsFirst (t : Tree) (process : ProcessState) (old : List Item) (word :
 -- None where nothing is left
 abbrev pub IsNext : Tree → ProcessState → List Item → Option given.Item → Word → List Item → Type 0
 IsNext t process old result word new = MatchOption result ((old ≡ []) × (new ≡ [])) (IsFirst t process old word new)
+
+-- a list is as it was but for its last element
+abbrev pub IsNear : {A : Type 0} → List A → List A → Type 0
+IsNear old new = take (length new - 1) new ≡ take (length new - 1) old

@@ -3,7 +3,7 @@
 ghost use Rattle.std.specs.Prelude.{◌≡◌, IfOk, OnOk, map};
 ghost use Rattle.pua_policy.specs.History.{History, StandsFor};
 ghost use Rattle.pua_objects.specs.Laws.{HasPlaces};
-ghost use Rattle.pua_objects.specs.Items.{IsNext};
+ghost use Rattle.pua_objects.specs.Items.{IsNear, IsNext};
 ghost use Rattle.pua_objects.specs.Objects.{items as all_items};
 
 use crate::item::Item;
@@ -63,11 +63,13 @@ impl<'t, T: FileTree> Items<'t, T> {
         })
     }
 
-    /// Gives the next item: None where nothing is left.
+    /// Gives the next item: None where nothing is left. The names that lead to it are those that led to
+    /// the item before, but for the last of them.
     pub fn next_item(&mut self) -> Option<Item<'t>>
         ensures of { (self.new.tree ≡ self.old.tree) × (self.new.process ≡ self.old.process) }
         ensures item { IsNext self.old.tree self.old.process self.old.left
             result self.new.word self.new.left }
+        ensures near { IsNear self.old.word self.new.word }
     {
         self.walk.next_item(self.tree, self.process)
     }

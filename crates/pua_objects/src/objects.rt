@@ -1,6 +1,6 @@
 //! The objects that a process can touch, line by line.
 
-ghost use Rattle.std.specs.Prelude.{◌≡◌, ◌<◌, IfOk, OnOk, OnSome, length, map};
+ghost use Rattle.std.specs.Prelude.{◌≡◌, ◌<◌, IfOk, OnOk, OnSome, length, map, take};
 ghost use Rattle.pua_policy.specs.History.{History, StandsFor};
 ghost use Rattle.pua_objects.specs.Laws.{HasPlaces};
 ghost use Rattle.pua_objects.specs.Objects.{items as all_items, objects};
@@ -15,11 +15,14 @@ use std::marker::Model;
 
 /// What a process is allowed in a tree, by object: a line for each object on which some call is
 /// allowed. Contracts see the tree, the process and the table, the names that lead to what the line
-/// given last is about, and what a line may still be about.
+/// given last is about, how many of them are those of the line before, and what a line may still be
+/// about.
 #[derive(Drop)]
 pub struct Objects<'t, T: FileTree> {
     items: Items<'t, T>,
     table: CallTable,
+    /// How many names at the front of the word are those of the line before.
+    shared: usize,
 }
 
 impl<'t, T: FileTree> Model for Objects<'t, T> {
@@ -27,7 +30,7 @@ impl<'t, T: FileTree> Model for Objects<'t, T> {
 
     ghost Value = { ObjectsState };
 
-    ghost view = { λ a. record { tree = a.items.tree; process = a.items.process; table = a.table; word = a.items.word; left = a.items.left } };
+    ghost view = { λ a. record { tree = a.items.tree; process = a.items.process; table = a.table; word = a.items.word; shared = a.shared; left = a.items.left } };
 }
 
 impl<'t, T: FileTree> Objects<'t, T> {
@@ -50,6 +53,7 @@ impl<'t, T: FileTree> Objects<'t, T> {
         Ok(Objects {
             items,
             table: *table,
+            shared: 0,
         })
     }
 
@@ -60,14 +64,18 @@ impl<'t, T: FileTree> Objects<'t, T> {
         ensures of { (self.new.tree ≡ self.old.tree) × (self.new.process ≡ self.old.process) × (self.new.table ≡ self.old.table) }
         ensures line { IsNextListed self.old.tree self.old.table self.old.process self.old.left result self.new.word self.new.left }
         ensures fewer { OnSome result (length self.new.left < length self.old.left) }
+        ensures shared { take self.new.shared self.new.word ≡ take self.new.shared self.old.word }
     {
         self.items.process().known();
+        self.shared = self.items.word().len();
         while let Some(item) = self.items.next_item() {
+            self.shared = self.shared.min(self.items.word().len().saturating_sub(1));
             let line = line_of(self.items.process(), &self.table, &item);
             if !line.calls.is_empty() {
                 return Some(line);
             }
         }
+        self.shared = 0;
         None
     }
 
@@ -77,5 +85,12 @@ impl<'t, T: FileTree> Objects<'t, T> {
         ensures { map (λ name. name.now) result.now ≡ self.now.word }
     {
         self.items.word()
+    }
+
+    /// How many names at the front of the word are those at the front of the word of the line before.
+    pub fn shared(&self) -> usize
+        ensures { result ≡ self.now.shared }
+    {
+        self.shared
     }
 }

@@ -70,6 +70,7 @@ fn add_slot<'t>(spots: &mut Vec<(NodeId, &'t Name)>, place: &'t Place) -> Result
     let Place::Slot(dir, name) = place else {
         return Ok(());
     };
+    // From this call the prover knows that the bytes are a name's, as `place` says.
     let _known = name.bytes();
     if spots.push((*dir, name)).is_err() {
         return Err(AllocError);

@@ -1,6 +1,6 @@
 //! The walk through the directories of a tree, with an open directory for each that is entered.
 
-ghost use Rattle.std.specs.Prelude.{◌≡◌, ◌<◌, ◌≤◌, ◌+◌, ◌∷◌, ◌++◌, [], ℕ, List, Option, Some, true, length, drop, IfOk, OnOk, IfSome, OnSome, MatchOption, if◌then◌else◌, vec_capacity};
+ghost use Rattle.std.specs.Prelude.{◌≡◌, ◌<◌, ◌≤◌, ◌+◌, ◌∷◌, ◌++◌, [], ℕ, List, Option, Some, true, length, drop, IfOk, OnOk, IfSome, OnSome, MatchOption, if◌then◌else◌, take, vec_capacity};
 ghost use Rattle.std.specs.List.{AllByRecursion, list_any};
 ghost use Rattle.pua_tree.specs.Tree.{Tree, WellFormed, is_dir, is_dir_kind, look, spot_cmp};
 ghost use Rattle.pua_path.specs.declared.found.Found.TheVariants as found;
@@ -10,10 +10,10 @@ ghost use Rattle.pua_policy.specs.Objects.{object_seen};
 ghost use Rattle.pua_policy.specs.Verdict.{IsDir, is_unveil, object_of, object_of_kind};
 ghost use Rattle.pua_audit.specs.Laws.{Rises};
 ghost use Rattle.pua_objects.specs.Laws.{HasPlaces};
-ghost use Rattle.pua_objects.specs.Items.{IsItemOn};
+ghost use Rattle.pua_objects.specs.Items.{IsItemOn, IsNear};
 ghost use Rattle.pua_objects.specs.Objects.{At, cover_in, items};
 ghost use Rattle.pua_objects.specs.Spots.{names_at};
-ghost use Rattle.pua_objects.specs.Ready.{IsReady, spots_in, dirs_in, IsTaken, IsFinished, IsEntered, IsNextItem, left_in};
+ghost use Rattle.pua_objects.specs.Ready.{IsReady, spots_in, dirs_in, IsTaken, IsFinished, IsEntered, IsNextItem, left_in, word_in};
 
 use crate::item::{Item, Subject};
 use crate::open_dir::{Coming, OpenDir};
@@ -97,6 +97,8 @@ impl<'t> Walk<'t> {
     fn next_name(&mut self) -> Option<(NodeId, &'t Name)>
         ensures ready { (t : Tree) (process : ProcessState) → IsReady t process self.old → self.old.coming ≡ Coming.Names → IsReady t process self.new }
         ensures kept { (self.new.coming ≡ self.old.coming) × (self.new.spots ≡ self.old.spots) }
+        ensures front { self.new.word.items
+            ≡ take (length self.new.word.items) self.old.word.items }
         ensures next { (t : Tree) (process : ProcessState) → IsReady t process self.old → self.old.coming ≡ Coming.Names →
             MatchOption result (IsFinished t process.veils self.old self.new) (λ entry. IsTaken t process.veils self.old self.new entry.0 entry.1.now) }
     {
@@ -194,6 +196,7 @@ impl<'t> Walk<'t> {
         requires names { self.old.coming ≡ Coming.Names }
         ensures ready { IsReady (T.content tree.now) process.now self.new }
         ensures item { IsNextItem (T.content tree.now) process.now self.old result self.new }
+        ensures near { IsNear (word_in self.old) (word_in self.new) }
     {
         let Some(next) = self.next_name() else {
             return None;
@@ -215,6 +218,7 @@ impl<'t> Walk<'t> {
         requires ready { IsReady (T.content tree.now) process.now self.old }
         ensures ready { IsReady (T.content tree.now) process.now self.new }
         ensures item { IsNextItem (T.content tree.now) process.now self.old result self.new }
+        ensures near { IsNear (word_in self.old) (word_in self.new) }
     {
         match self.coming {
             Coming::Root => {

@@ -21,5 +21,5 @@ pub use Rattle.pua_policy.proofs.Descending.{covers_descend}
 -- the veils that are kept, places that test alike, and whether there is any veil
 pub use Rattle.pua_policy.proofs.Veils.{veils_are_kept, same_place_is}
 pub use Rattle.pua_policy.proofs.Standing.{any_veil}
--- no table of calls that a text gives needs `error`, and rename and link need what they need by the standard one
+-- no table of calls that a text gives needs `error`, if the one doesn't over which it is read, and rename and link need what they need by that one
 pub use Rattle.pua_policy.proofs.SoundTexts.{texts_need_no_error, texts_keep_pairs}

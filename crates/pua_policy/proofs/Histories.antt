@@ -1,8 +1,10 @@
 -- What is left by a history stays so: each event that changes a process lengthens its history.
 use Rattle.std.proofs.Common.{◌≡◌, ℕ, [], ◌∷◌, true, false, refl, ap}
 use Rattle.std.specs.Prelude.{Option, Some, None}
+use Rattle.pua_policy.specs.declared.rules.ExecPromises.{ExecPromises}
+use Rattle.pua_policy.specs.declared.rules.ExecPromises.TheVariants.{Unset}
 use Rattle.pua_policy.specs.declared.place.Place.{Place}
-use Rattle.pua_policy.specs.History.{History, ProcessState, HasHistory, Pledged, Unveiled, Locked, Moved, Ended, narrowed, meet, pledged, held_for_exec, with_veil, after_exec}
+use Rattle.pua_policy.specs.History.{History, ProcessState, HasHistory, Pledged, Unveiled, Locked, Moved, Ended, narrowed, meet, pledged, held_for_exec, with_veil, left_for_exec, after_exec}
 use Rattle.pua_policy.proofs.Exec.{stands_given, stands_alone}
 
 narrows_promises : (h : History) (request execrequest given : Option ℕ) → given ≡ pledged h → narrowed given request ≡ pledged (Pledged request execrequest ∷ h)
@@ -40,10 +42,10 @@ module _ (p : ProcessState) (led : HasHistory p) where
   pub led_by_end : HasHistory (record { promises = p.promises; execpromises = p.execpromises; veils = p.veils; locked = p.locked; dir = p.dir; ended = true })
   led_by_end = record { history = Ended ∷ led.history; stands = record { promises = led.stands.promises; execpromises = led.stands.execpromises; veils = led.stands.veils; locked = led.stands.locked; dir = led.stands.dir; ended = refl } }
 
-  pub led_by_exec : (set : ℕ) → p.execpromises ≡ Some set
-      → HasHistory (record { promises = Some set; execpromises = None; veils = p.veils; locked = p.locked; dir = p.dir; ended = p.ended })
-  led_by_exec set given = record { history = after_exec led.history; stands = stands_given p led.history led.stands set given }
+  pub led_by_exec : (left : ExecPromises) (set : ℕ) → p.execpromises ≡ Some set
+      → HasHistory (record { promises = Some set; execpromises = left_for_exec left set; veils = p.veils; locked = p.locked; dir = p.dir; ended = p.ended })
+  led_by_exec left set given = record { history = after_exec left led.history; stands = stands_given left p led.history led.stands set given }
 
   pub led_by_plain_exec : p.execpromises ≡ None → p.ended ≡ false
       → HasHistory (record { promises = None; execpromises = None; veils = []; locked = false; dir = p.dir; ended = p.ended })
-  led_by_plain_exec none lives = record { history = after_exec led.history; stands = stands_alone p led.history led.stands none lives }
+  led_by_plain_exec none lives = record { history = after_exec Unset led.history; stands = stands_alone Unset p led.history led.stands none lives }

@@ -1,4 +1,4 @@
--- No table of calls that a text gives needs `error`.
+-- No table of calls that a text gives needs `error`, if the one doesn't over which it is read.
 use Rattle.std.proofs.Common.{◌≡◌, ℕ, zero, suc, ◌*◌, ◌^◌, ◌<◌, List, [], ◌∷◌, Bool, true, false, map, refl, sym, ap, ◌∙◌, subst, arith, lit<}
 use Rattle.std.proofs.lemmas.Bool.{eq-eqb, true≢false}
 use Rattle.std.proofs.lemmas.Nat.{or_lt}
@@ -10,9 +10,9 @@ use Rattle.toml.specs.Data.{Data, as_str, Items, no_items, item, Members, no_mem
 use Rattle.pua_tree.proofs.ForCallers.{step_read}
 use Rattle.pua_path.specs.declared.errno.Errno.{Errno}
 use Rattle.pua_policy.specs.Promises.{holds, error, promise_of, promises_of, perms_of, joined, union_of}
-use Rattle.pua_policy.specs.Calls.{CallTable, Rule, standard_table, standard_rule, call_named}
-use Rattle.pua_policy.specs.Tables.{NamesNoError, NeedsNoError, NoCallNeedsError, HasStandardPairs}
-use Rattle.pua_policy.specs.TableTexts.{alternative_of, alternatives_of, veil_of, row_of, rule_in, rules_with, with_rule, document_of, table_of_document, table_of}
+use Rattle.pua_policy.specs.Calls.{CallTable, Rule, standard_rule, call_named}
+use Rattle.pua_policy.specs.Tables.{NamesNoError, NeedsNoError, NoCallNeedsError, HasPairsOf}
+use Rattle.pua_policy.specs.TableTexts.{alternative_of, alternatives_of, veil_of, row_of, rule_in, rules_with, with_rule, document_of, table_of_document, table_over}
 use Rattle.pua_policy.specs.declared.call.Call.{Call}
 use Rattle.pua_policy.specs.declared.table.read.TableFault.TheVariants.{BadKey, BadRow, BadPromises}
 use Rattle.pua_policy.proofs.Keywords.{promise_of-below}
@@ -88,7 +88,7 @@ at_set P (x ∷ xs) zero (suc j) y d new old = old
 at_set P (x ∷ xs) (suc i) zero y d new old = old
 at_set P (x ∷ xs) (suc i) (suc j) y d new old = at_set P xs i j y d new old
 
--- what a table keeps by each row that is read is so of the table of a text
+-- what a table keeps by each row that is read is so of the table that a text gives over another
 module _ (P : CallTable → Type 0) (keeps : (rules : CallTable) (call : Call) (rule : Rule) → NeedsNoError rule → P rules → P (with_rule rules call rule)) where
   rules_keep : (rules : CallTable) (members : Members) (table : CallTable) → P rules → rules_with rules members ≡ Ok table → P table
   rules_keep rules no_members table so is =
@@ -99,20 +99,21 @@ module _ (P : CallTable → Type 0) (keeps : (rules : CallTable) (call : Call) (
       let rule = step_read (rule_in named.0 value) _ table named.2 in
       rules_keep (with_rule rules named.0 rule.0) members table (keeps rules named.0 rule.0 (rule_needs_no_error named.0 value rule.0 rule.1) so) rule.2
 
-  texts_keep : P standard_table → (text : List ℕ) (table : CallTable) → table_of text ≡ Ok table → P table
-  texts_keep standard text table is = by (document_of text) is
+  texts_keep : (base : CallTable) → P base → (text : List ℕ) (table : CallTable) → table_over base text ≡ Ok table → P table
+  texts_keep base so text table is = by (document_of text) is
     where
-      by : (document : Option Members) → table_of_document document ≡ Ok table → P table
+      by : (document : Option Members) → table_of_document base document ≡ Ok table → P table
       by None is = cc
-      by (Some members) is = rules_keep standard_table members table standard is
+      by (Some members) is = rules_keep base members table so is
 
-pub texts_need_no_error : NoCallNeedsError standard_table → (text : List ℕ) (table : CallTable) → table_of text ≡ Ok table → NoCallNeedsError table
+pub texts_need_no_error : (base : CallTable) → NoCallNeedsError base → (text : List ℕ) (table : CallTable) → table_over base text ≡ Ok table → NoCallNeedsError table
 texts_need_no_error = texts_keep NoCallNeedsError (λ rules call rule none sound. record {
   calls = λ asked. at_set NeedsNoError rules.rules _ _ rule (standard_rule asked) none (sound.calls asked);
   rename = sound.rename;
   link = sound.link;
 })
 
--- and rename and link need by it what they need by the standard table
-pub texts_keep_pairs : (text : List ℕ) (table : CallTable) → table_of text ≡ Ok table → HasStandardPairs table
-texts_keep_pairs = texts_keep HasStandardPairs (λ rules call rule none same. same) (refl, refl)
+-- and what no text gives is that of the table over which it is read
+pub texts_keep_pairs : (base : CallTable) (text : List ℕ) (table : CallTable) → table_over base text ≡ Ok table → HasPairsOf base table
+texts_keep_pairs base = texts_keep (HasPairsOf base) (λ rules call rule none same. record { rename = same.rename; link = same.link; execpromises = same.execpromises }) base
+    (record { rename = refl; link = refl; execpromises = refl })

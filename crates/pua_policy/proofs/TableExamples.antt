@@ -2,7 +2,7 @@
 use Rattle.std.proofs.Common.{refl, lit<}
 use Rattle.std.specs.Str.{chars, is_utf8}
 use Rattle.toml.proofs.OnLiterals.{toml_on_literals}
-use Rattle.pua_policy.specs.TableExamples.{TableRows, ReadingTable}
+use Rattle.pua_policy.specs.TableExamples.{TableRows, OpenbsdRows}
 
 pub table_rows : TableRows
 unfolding toml_on_literals chars is_utf8
@@ -33,8 +33,9 @@ table_rows = record {
   no_utf8 = refl;
 }
 
-pub reading_table_is_one : ReadingTable
-reading_table_is_one = record {
+pub openbsd_rows : OpenbsdRows
+unfolding toml_on_literals chars is_utf8
+openbsd_rows = record {
   kept = record {
     fourteen = refl;
     rules = (((lit< tt, refl), tt), (((lit< tt, refl), tt), (((lit< tt, refl), tt), (((lit< tt, refl), tt), (((lit< tt, refl), tt), (((lit< tt, refl), tt), (((lit< tt, refl), tt), (((lit< tt, refl), tt), (((lit< tt, refl), tt), (((lit< tt, refl), tt), (((lit< tt, refl), tt), (((lit< tt, refl), tt), (((lit< tt, refl), tt), (((lit< tt, refl), tt), tt))))))))))))));
@@ -43,4 +44,13 @@ reading_table_is_one = record {
   };
   chmod = refl;
   standard_chmod = refl;
+  other_call = refl;
+  exec_promises = refl;
+  exec_stay = refl;
+  standard_exec_promises = refl;
+  standard_exec_unset = refl;
+  none_given = refl;
+  no_text = refl;
+  row_over = refl;
+  no_rename = refl;
 }

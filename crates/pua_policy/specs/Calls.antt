@@ -1,4 +1,4 @@
--- The fourteen calls with one path, and what each of them needs; and what rename and link need, which have two.
+-- The fourteen calls with one path, and what each of them needs; what rename and link need, which have two; and what an exec leaves of execpromises.
 use Rattle.std.specs.Prelude.{ℕ, ◌+◌, ◌-◌, List, [], ◌∷◌, map, Option, codes, find, slice_index_or}
 use Rattle.pua_tree.specs.Names.{same_bytes}
 use Rattle.pua_policy.specs.Promises.{rpath, wpath, cpath, fattr, exec, reading, writing, executing, creating}
@@ -6,6 +6,10 @@ use Rattle.pua_path.specs.declared.text.Ending.{Ending}
 use Rattle.pua_path.specs.declared.text.Ending.TheVariants.{Dot, Dropped}
 use Rattle.pua_path.specs.declared.found.Last.{Last}
 use Rattle.pua_path.specs.declared.found.Last.TheVariants.{Followed, Kept}
+use Rattle.pua_policy.specs.declared.rules.ExecPromises.{ExecPromises}
+use Rattle.pua_policy.specs.declared.rules.ExecPromises.TheVariants.{Unset, Stay}
+use Rattle.pua_policy.specs.declared.rules.Rules.{Rules}
+use Rattle.pua_policy.specs.declared.rules.Rules.TheVariants.{Profile, Openbsd}
 use Rattle.pua_policy.specs.declared.call.Call.{Call}
 use Rattle.pua_policy.specs.declared.call.Call.TheVariants.{Stat, Lstat, Readlink, OpenRead, OpenWrite, OpenBoth, Create, Mkdir, Rmdir, Unlink, Symlink, Chmod, Chdir, Exec}
 
@@ -86,14 +90,38 @@ standard_name = record { needs = record { alternatives = cpath ∷ []; perms = c
 abbrev pub standard_pair : PairRule
 standard_pair = record { old = standard_name; new = standard_name }
 
--- a rule for each call, in the order of their numbers, and those of rename and of link
+-- a rule for each call, in the order of their numbers, those of rename and of link, and what an exec leaves of execpromises
 pub record CallTable : Type 0 where
   pub rules : List Rule
   pub rename : PairRule
   pub link : PairRule
+  pub execpromises : ExecPromises
 
+-- the rules of this project's own profile
 abbrev pub standard_table : CallTable
-standard_table = record { rules = map standard_rule calls; rename = standard_pair; link = standard_pair }
+standard_table = record { rules = map standard_rule calls; rename = standard_pair; link = standard_pair; execpromises = Unset }
+
+-- OpenBSD's kernel asks chmod to be allowed to read too
+abbrev pub openbsd_rule : Call → Rule
+openbsd_rule Chmod = record { alternatives = (rpath + fattr) ∷ []; perms = writing }
+openbsd_rule call = standard_rule call
+
+-- of its old name rename reads what it takes away
+abbrev pub openbsd_rename : PairRule
+openbsd_rename = record { old = record { needs = record { alternatives = (rpath + cpath) ∷ []; perms = reading + creating }; last = Kept }; new = standard_name }
+
+-- and link only reads it, and follows a link
+abbrev pub openbsd_link : PairRule
+openbsd_link = record { old = record { needs = record { alternatives = rpath ∷ []; perms = reading }; last = Followed }; new = standard_name }
+
+-- the rules of OpenBSD's kernel
+abbrev pub openbsd_table : CallTable
+openbsd_table = record { rules = map openbsd_rule calls; rename = openbsd_rename; link = openbsd_link; execpromises = Stay }
+
+-- the table of the rules that a command names
+abbrev pub table_by_rules : Rules → CallTable
+table_by_rules Profile = standard_table
+table_by_rules Openbsd = openbsd_table
 
 abbrev pub rule_of : CallTable → Call → Rule
 rule_of table call = slice_index_or table.rules (call_number call - 1) (standard_rule call)

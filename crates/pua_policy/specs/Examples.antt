@@ -6,7 +6,7 @@ use Rattle.pua_policy.specs.Promises.{promises_of, perms_of, reading, writing, r
 use Rattle.pua_policy.specs.Calls.{calls, standard_table}
 use Rattle.pua_policy.specs.CallSets.{calls_in, keeps_link}
 use Rattle.pua_policy.specs.Objects.{object_seen}
-use Rattle.pua_policy.specs.History.{History, Pledged, Unveiled, Locked, new_history, held, held_for_exec, pledge_fault, unveil_fault, may_any}
+use Rattle.pua_policy.specs.History.{History, Pledged, Unveiled, Locked, new_history, held, held_for_exec, pledge_fault, unveil_fault, veils, may_any}
 use Rattle.pua_policy.specs.Verdict.{cover, verdict_on, object_fault, rmdir_fault, IsDir, IsFile, IsProg, IsLink, IsMissing}
 use Rattle.pua_path.specs.declared.errno.Errno.TheVariants.{EACCES, EPERM, EINVAL, ENOENT, EBUSY, EEXIST, ENOTDIR, EISDIR, ENOTEMPTY}
 use Rattle.pua_path.specs.declared.found.Way.TheVariants as way
@@ -32,9 +32,10 @@ pub record CoverRows : Type 0 where
   pub increase : unveil_fault three_veils (Dir 3) reading ≡ Some NotPermitted
   pub locked : unveil_fault (Locked ∷ three_veils) (Dir 0) 0 ≡ Some NotPermitted
   pub reduction : unveil_fault three_veils (Dir 0) 0 ≡ None
+  pub replaced : veils (Unveiled (Dir 0) 0 ∷ three_veils) ≡ (Dir 0, 0) ∷ (Dir 3, 0) ∷ (Slot 1 (codes "passwd"), reading + writing) ∷ []
 
 pub cover_rows : CoverRows
-cover_rows = record { beneath_root = refl; beneath_nearer = refl; own = refl; missing = refl; own_alone = refl; increase = refl; locked = refl; reduction = refl }
+cover_rows = record { beneath_root = refl; beneath_nearer = refl; own = refl; missing = refl; own_alone = refl; increase = refl; locked = refl; reduction = refl; replaced = refl }
 
 -- a veil on the root and none of its permissions on a directory
 abbrev pub root_alone : History

@@ -6,6 +6,8 @@ pub use Rattle.pua_policy.specs.Limits.{place_limit}
 use Rattle.pua_policy.specs.Promises.{holds, all_promises, error}
 use Rattle.pua_path.specs.declared.errno.Errno.{Errno}
 use Rattle.pua_path.specs.declared.errno.Errno.TheVariants.{EPERM}
+use Rattle.pua_policy.specs.declared.rules.ExecPromises.{ExecPromises}
+use Rattle.pua_policy.specs.declared.rules.ExecPromises.TheVariants.{Unset, Stay}
 use Rattle.pua_policy.specs.declared.place.Place.{Place}
 use Rattle.pua_policy.specs.declared.place.Place.TheVariants.{Dir, Slot}
 use Rattle.pua_policy.specs.declared.answer.UnveilFault.{UnveilFault}
@@ -147,12 +149,17 @@ abbrev pub is_pledge : Event → Bool
 is_pledge (Pledged promises execpromises) = true
 is_pledge _ = false
 
--- the history of the program that a successful exec starts: with execpromises they are its promises, and without them the working directory alone stays
-abbrev pub after_exec : History → History
-after_exec h = by_given (held_for_exec h)
+-- the execpromises that an exec leaves, where some were given
+abbrev pub left_for_exec : ExecPromises → ℕ → Option ℕ
+left_for_exec Unset set = None
+left_for_exec Stay set = Some set
+
+-- the history of the program that a successful exec starts: with execpromises they are its promises, and are unset or stay; without them the working directory alone stays
+abbrev pub after_exec : ExecPromises → History → History
+after_exec left h = by_given (held_for_exec h)
   where
     by_given : Option ℕ → History
-    by_given (Some promises) = Pledged (Some promises) None ∷ filter (λ event. not (is_pledge event)) h
+    by_given (Some promises) = Pledged (Some promises) (left_for_exec left promises) ∷ filter (λ event. not (is_pledge event)) h
     by_given None = Moved (working_dir h) ∷ []
 
 -- whether promises allow a call that needs one of these sets

@@ -1,13 +1,19 @@
-pub mod Limits
+-- The claim, in reading order: what a reader has to believe of promises, calls and what they need.
 pub mod Promises
 pub mod Calls
 pub mod CallSets
 pub mod Tables
 pub mod TableTexts
+-- Worked rows on these, which hold by computation.
+pub mod TableExamples
+-- The claim, in reading order: what a reader has to believe of processes, and of what each call is answered.
+pub mod Limits
 pub mod History
 pub mod Verdict
-pub mod Objects
 pub mod Descent
+-- What is proved of these.
 pub mod Laws
+-- Worked rows, which hold by computation.
 pub mod Examples
-pub mod TableExamples
+-- Notes: what the code tells of an object.
+pub mod Objects

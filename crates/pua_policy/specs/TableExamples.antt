@@ -2,15 +2,14 @@
 use Rattle.std.specs.Prelude.{◌≡◌, ℕ, ◌+◌, List, [], ◌∷◌, ◌++◌, Some, None, Ok, Err, codes}
 use Rattle.pua_tree.specs.Examples.{text_of_lines}
 use Rattle.pua_tree.specs.Examples.{example_tree}
-use Rattle.pua_policy.specs.Promises.{rpath, cpath, fattr, reading, writing, creating}
-use Rattle.pua_policy.specs.Calls.{CallTable, standard_name, standard_table}
+use Rattle.pua_policy.specs.Promises.{rpath, cpath, fattr}
+use Rattle.pua_policy.specs.Calls.{standard_table, openbsd_table, rule_of}
 use Rattle.pua_policy.specs.Tables.{IsTable}
-use Rattle.pua_policy.specs.History.{History, Pledged, new_history}
+use Rattle.pua_policy.specs.History.{History, Pledged, new_history, pledged, held_for_exec, after_exec}
 use Rattle.pua_policy.specs.Verdict.{verdict_on}
-use Rattle.pua_policy.specs.TableTexts.{table_of, with_rule}
-use Rattle.pua_path.specs.declared.found.Last.TheVariants.{Kept, Followed}
+use Rattle.pua_policy.specs.TableTexts.{table_of, table_over, with_rule}
 use Rattle.pua_policy.specs.declared.answer.Verdict.TheVariants.{Allowed, Death}
-use Rattle.pua_policy.specs.declared.call.Call.TheVariants.{Stat, Mkdir, Chmod}
+use Rattle.pua_policy.specs.declared.call.Call.TheVariants.{Stat, Mkdir, Unlink, Chmod}
 use Rattle.pua_policy.specs.declared.table.read.TableFault.TheVariants.{BadToml, BadKey, BadRow, BadPromises, BadVeil}
 
 -- a text with a row of stat, of this array of promises and this veil
@@ -46,18 +45,26 @@ pub record TableRows : Type 0 where
   pub open_bracket : table_of (text_of_lines (codes "[stat" ∷ [])) ≡ Err BadToml
   pub no_utf8 : table_of (text_of_lines ((codes "# " ++ 255 ∷ []) ∷ [])) ≡ Err BadToml
 
--- a table that no text gives: chmod and rename ask to read too, and link asks to read alone what its old name leads to
-abbrev pub reading_table : CallTable
-reading_table = record (with_rule standard_table Chmod (record { alternatives = (fattr + rpath) ∷ []; perms = writing })) {
-  rename = record { old = record { needs = record { alternatives = (rpath + cpath) ∷ []; perms = reading + creating }; last = Kept }; new = standard_name };
-  link = record { old = record { needs = record { alternatives = rpath ∷ []; perms = reading }; last = Followed }; new = standard_name };
-}
-
 abbrev pub fattr_alone : History
 fattr_alone = Pledged (Some fattr) None ∷ new_history
 
-pub record ReadingTable : Type 0 where
-  -- it is one of those that may be kept
-  pub kept : IsTable reading_table
-  pub chmod : verdict_on example_tree reading_table fattr_alone Chmod (codes "/etc") ≡ Death
+abbrev pub both_for_exec : History
+both_for_exec = Pledged None (Some (rpath + cpath)) ∷ new_history
+
+-- where OpenBSD's rules differ from the standard ones
+pub record OpenbsdRows : Type 0 where
+  -- they are a table that may be kept
+  pub kept : IsTable openbsd_table
+  pub chmod : verdict_on example_tree openbsd_table fattr_alone Chmod (codes "/etc") ≡ Death
   pub standard_chmod : verdict_on example_tree standard_table fattr_alone Chmod (codes "/etc") ≡ Allowed
+  pub other_call : rule_of openbsd_table Unlink ≡ rule_of standard_table Unlink
+  -- execpromises stay after an exec, for the next one
+  pub exec_promises : pledged (after_exec openbsd_table.execpromises both_for_exec) ≡ Some (rpath + cpath)
+  pub exec_stay : held_for_exec (after_exec openbsd_table.execpromises both_for_exec) ≡ Some (rpath + cpath)
+  pub standard_exec_promises : pledged (after_exec standard_table.execpromises both_for_exec) ≡ Some (rpath + cpath)
+  pub standard_exec_unset : held_for_exec (after_exec standard_table.execpromises both_for_exec) ≡ None
+  pub none_given : after_exec openbsd_table.execpromises new_history ≡ new_history
+  -- a text's rows stand over them, and what no text gives is theirs
+  pub no_text : table_over openbsd_table [] ≡ Ok openbsd_table
+  pub row_over : table_over openbsd_table (stat_row (codes "['']") (codes "''")) ≡ Ok (with_rule openbsd_table Stat (record { alternatives = 0 ∷ []; perms = 0 }))
+  pub no_rename : table_over openbsd_table (text_of_lines (codes "[rename]" ∷ [])) ≡ Err BadKey

@@ -87,10 +87,14 @@ rules_with table (member key value members) = do
 abbrev pub document_of : List ℕ → Option Members
 document_of text = if is_utf8 text then parse_document text else None
 
-abbrev pub table_of_document : Option Members → Result CallTable TableFault
-table_of_document None = Err BadToml
-table_of_document (Some members) = rules_with standard_table members
+abbrev pub table_of_document : CallTable → Option Members → Result CallTable TableFault
+table_of_document base None = Err BadToml
+table_of_document base (Some members) = rules_with base members
 
--- the table that a text gives; calls that it doesn't name keep the standard rule
+-- the table that a text gives over another, which has the rules of calls that the text doesn't name
+abbrev pub table_over : CallTable → List ℕ → Result CallTable TableFault
+table_over base text = table_of_document base (document_of text)
+
+-- the table that a text gives over the standard one
 abbrev pub table_of : List ℕ → Result CallTable TableFault
-table_of text = table_of_document (document_of text)
+table_of text = table_over standard_table text

@@ -2,7 +2,7 @@
 use Rattle.std.specs.Prelude.{◌≡◌, ℕ, ◌-◌, ◌<◌, ◌^◌, List, ◌++◌, length, replicate, bit_and}
 use Rattle.std.specs.List.{AllByRecursion}
 use Rattle.pua_policy.specs.Promises.{error}
-use Rattle.pua_policy.specs.Calls.{Rule, PairRule, CallTable, standard_pair, rule_of}
+use Rattle.pua_policy.specs.Calls.{Rule, PairRule, CallTable, rule_of}
 use Rattle.pua_policy.specs.declared.call.Call.{Call}
 
 -- at most so many alternatives have a call
@@ -29,9 +29,11 @@ pub record NoCallNeedsError (table : CallTable) : Type 0 where
   pub rename : PairNeedsNoError table.rename
   pub link : PairNeedsNoError table.link
 
--- rename and link need what they need by the standard table
-abbrev pub HasStandardPairs : CallTable → Type 0
-HasStandardPairs table = (table.rename ≡ standard_pair) × (table.link ≡ standard_pair)
+-- a table has from another what no text gives: what rename and link need, and what an exec leaves of execpromises
+pub record HasPairsOf (base table : CallTable) : Type 0 where
+  pub rename : table.rename ≡ base.rename
+  pub link : table.link ≡ base.link
+  pub execpromises : table.execpromises ≡ base.execpromises
 
 -- a rule for each of the fourteen calls, and none of these names `error`, nor one of rename and link
 pub record IsTable (table : CallTable) : Type 0 where

@@ -150,23 +150,6 @@ pub fn allowed(process: &Process, table: &CallTable, cover: Cover, object: Objec
     calls
 }
 
-/// The calls that are allowed on what a path named. What was found is of the probe's tree as it
-/// stands. At most one more look at the tree than it has nodes.
-pub fn allowed_on<'t, P: Probe<'t>>(
-    probe: &mut P,
-    process: &Process,
-    table: &CallTable,
-    found: &Found,
-) -> Calls
-    requires { FoundFits (P.tree probe.old) found.now }
-    ensures exact { (h : History) → StandsFor process.now h → (call : Call) → has result call ≡ is_allowed (verdict (P.tree probe.old) table.now h call found.now) }
-    ensures tree { P.tree probe.new ≡ P.tree probe.old }
-    ensures cost { P.count probe.new ≤ P.count probe.old + length (P.tree probe.old).nodes + 1 }
-{
-    let object = object(probe, found);
-    allowed(process, table, process.cover(probe, found), object)
-}
-
 /// Whether a call is allowed on an object that has this cover.
 fn allows(process: &Process, table: &CallTable, call: Call, cover: &Cover, object: Object) -> bool
     ensures { (t : Tree) (h : History) (judged : Judged) → StandsFor process.now h → object ≡ object_seen t judged →

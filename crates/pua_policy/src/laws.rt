@@ -8,7 +8,7 @@ ghost use Rattle.pua_policy.specs.Limits.{place_limit};
 ghost use Rattle.pua_policy.specs.Tables.{alternative_limit};
 ghost use Rattle.pua_policy.specs.Promises.{promises_of, other_promises, perms_of};
 ghost use Rattle.pua_policy.specs.Examples.{CoverRows, VerdictRows, LastCheckRows, SetRows};
-ghost use Rattle.pua_policy.specs.TableExamples.{ReadingTable, TableRows};
+ghost use Rattle.pua_policy.specs.TableExamples.{OpenbsdRows, TableRows};
 
 use crate::call::Call;
 use crate::perms::Perms;
@@ -78,12 +78,12 @@ pub fn verdict_examples()
     ensures sets { SetRows }
 {}
 
-/// Examples of texts and of the tables that they give, or what refuses them; and of a table that no
-/// text gives, by which rename and link need something else.
-#[tactic(auto, using(crate::proofs::TableExamples::table_rows, crate::proofs::TableExamples::reading_table_is_one))]
+/// Examples of texts and of the tables that they give, or what refuses them; and of OpenBSD's rules,
+/// where they differ from the standard ones, and of a text over them.
+#[tactic(auto, using(crate::proofs::TableExamples::table_rows, crate::proofs::TableExamples::openbsd_rows))]
 pub fn table_examples()
     ensures texts { TableRows }
-    ensures other { ReadingTable }
+    ensures openbsd { OpenbsdRows }
 {}
 
 /// The veils of a process are exactly the places with their last permissions. Of all events only

@@ -13,6 +13,7 @@ mod perms;
 mod place;
 mod process;
 mod promises;
+mod rules;
 mod table;
 
 pub use answer::{Cover, May, Refusal, UnveilFault, Verdict};
@@ -27,4 +28,5 @@ pub use perms::Perms;
 pub use place::Place;
 pub use process::{PLACE_LIMIT, Process};
 pub use promises::Promises;
+pub use rules::{ExecPromises, Rules};
 pub use table::{ALTERNATIVE_LIMIT, CallTable, NameNeed, PairNeed, TableFault};

@@ -4,6 +4,7 @@ use crate::answer::{May, UnveilFault};
 use crate::perms::Perms;
 use crate::place::Place;
 use crate::promises::Promises;
+use crate::rules::ExecPromises;
 use indexmap::IndexMap;
 use pua_path::Errno;
 use pua_tree::{NodeId, OutOfMemory};
@@ -41,6 +42,7 @@ impl Model for Process {
 ghost use Rattle.std.specs.Prelude.{◌≡◌, ◌≢◌, ◌-◌, [], ◌∷◌, length, map, Option, Some, None, Err, IfOk, OnOk, OnErr, IfErr, IfSome, if◌then◌else◌, false, MatchResult, unwrap_or};
 ghost use Rattle.std.specs.List.{list_any};
 ghost use Rattle.pua_policy.specs.Promises.{holds, all_promises, error};
+ghost use Rattle.pua_policy.specs.declared.rules.ExecPromises.TheVariants.{Unset};
 ghost use Rattle.pua_policy.specs.History.{History, StandsFor, Pledged, Unveiled, Locked, Moved, Ended, new_history, HasHistory, after_exec, pledge_fault, unveil_fault, place_fault, is_within, narrowed, may_any, is_locked, is_ended, working_dir, pledged, held_for_exec, kept, veils, veil_at, has_veil};
 
 impl Process {
@@ -193,12 +195,20 @@ impl Process {
     }
 
     /// Makes it the process of a new program. Where execpromises were given, they become its
-    /// promises, and its veils and lock stay; else it holds every promise but `error`, and has no
-    /// veil and no lock. Its working directory stays. It has not ended (pledge(2); veils, lock and
-    /// directory: this profile).
+    /// promises and are unset, and its veils and lock stay; else it holds every promise but `error`,
+    /// and has no veil and no lock. Its working directory stays. It has not ended (pledge(2); the
+    /// rest: this profile).
     pub fn exec_into(&mut self)
         requires { self.old.ended ≡ false }
-        ensures { (h : History) → StandsFor self.old h → StandsFor self.new (after_exec h) }
+        ensures { (h : History) → StandsFor self.old h → StandsFor self.new (after_exec Unset h) }
+    {
+        self.exec_by(ExecPromises::Unset)
+    }
+
+    /// The same, where `left` says whether execpromises that were given are unset or stay.
+    pub fn exec_by(&mut self, left: ExecPromises)
+        requires { self.old.ended ≡ false }
+        ensures { (h : History) → StandsFor self.old h → StandsFor self.new (after_exec left h) }
     {
         let Some(promises) = self.execpromises else {
             self.promises = None;
@@ -207,7 +217,7 @@ impl Process {
             return;
         };
         self.promises = Some(promises);
-        self.execpromises = None;
+        self.execpromises = left.left(promises);
     }
 
     /// Does nothing: its contract says that some history left what the process keeps, so that
@@ -215,6 +225,7 @@ impl Process {
     pub fn known(&self)
         ensures { HasHistory self.now }
     {
+        // The prover knows the invariant of a value that is read.
         let _ = &self.ended;
     }
 

@@ -7,6 +7,7 @@ use crate::call::Call;
 use crate::needs;
 use crate::perms::Perms;
 use crate::promises::Promises;
+use crate::rules::{ExecPromises, Rules};
 pub use pair::{NameNeed, PairNeed};
 pub use read::TableFault;
 use std::marker::Model;
@@ -39,32 +40,33 @@ impl Model for Row {
     ghost inverse_ok = { λ a h i. record { sets = h.0 i; count = h.1 i; perms = a.perms } };
 }
 
-/// What each of the fourteen calls needs, and what rename and link need, which have two paths. It is
-/// kept inline, so that a copy takes no memory. Contracts see a list of fourteen rules, in the order
-/// of the calls' numbers, and those of rename and link. No alternative names `error`: a process can
-/// gain that promise, and no other.
+/// What each of the fourteen calls needs, what rename and link need, which have two paths, and what
+/// an exec leaves of execpromises. It is kept inline, so that a copy takes no memory. Contracts see a
+/// list of fourteen rules, in the order of the calls' numbers, those of rename and link, and that of
+/// execpromises. No alternative names `error`: a process can gain that promise, and no other.
 #[derive(Clone, Copy)]
 pub struct CallTable {
     rows: [Row; 14],
     rename: PairNeed,
     link: PairNeed,
+    execpromises: ExecPromises,
 }
 
 impl Model for CallTable {
-    ghost use Rattle.pua_policy.specs.Calls.{CallTable as Rules};
+    ghost use Rattle.pua_policy.specs.Calls.{CallTable as Table};
     ghost use Rattle.pua_policy.specs.Tables.{IsTable};
 
-    ghost Value = { Rules };
+    ghost Value = { Table };
 
-    ghost view = { λ a. record { rules = a.rows; rename = a.rename; link = a.link } };
+    ghost view = { λ a. record { rules = a.rows; rename = a.rename; link = a.link; execpromises = a.execpromises } };
 
-    ghost invariant = { λ a. IsTable (record { rules = a.rows; rename = a.rename; link = a.link }) };
+    ghost invariant = { λ a. IsTable (record { rules = a.rows; rename = a.rename; link = a.link; execpromises = a.execpromises }) };
 
-    ghost inverse = { λ t. record { rows = t.rules; rename = t.rename; link = t.link } };
+    ghost inverse = { λ t. record { rows = t.rules; rename = t.rename; link = t.link; execpromises = t.execpromises } };
 }
 
 ghost use Rattle.std.specs.Prelude.{◌≡◌, ◌<◌, [], ◌∷◌, ◌++◌, length};
-ghost use Rattle.pua_policy.specs.Calls.{standard_rule, standard_table, rule_of};
+ghost use Rattle.pua_policy.specs.Calls.{standard_rule, standard_table, openbsd_table, table_by_rules, rule_of};
 ghost use Rattle.pua_policy.specs.Tables.{NeedsNoError, NoCallNeedsError, alternative_limit};
 ghost use Rattle.pua_policy.specs.TableTexts.{with_rule};
 
@@ -115,8 +117,9 @@ impl Row {
 }
 
 impl CallTable {
-    /// This project's own table: each call needs what `needs::need` answers, and both names of
-    /// rename and of link need cpath and `c`, of a link itself (this profile).
+    /// This project's own table: each call needs what `needs::need` answers, both names of rename
+    /// and of link need cpath and `c`, of a link itself, and an exec unsets execpromises (this
+    /// profile).
     pub fn standard() -> CallTable
         ensures { result ≡ standard_table }
     {
@@ -124,6 +127,37 @@ impl CallTable {
             rows: Call::ALL.map(Row::standard),
             rename: PairNeed::standard(),
             link: PairNeed::standard(),
+            execpromises: ExecPromises::Unset,
+        }
+    }
+
+    /// The rules of OpenBSD's kernel, as its manual pages and its sources are known; no kernel was
+    /// tried. They are the standard ones but for these. chmod needs rpath beside fattr. The old name
+    /// of rename needs rpath and cpath, `r` and `c`; that of link rpath and `r` alone, of what a
+    /// link leads to. Execpromises stay after an exec.
+    pub fn openbsd() -> CallTable
+        ensures { result ≡ openbsd_table }
+    {
+        let mut table = CallTable::standard();
+        table.set(
+            Call::Chmod,
+            Row::one(Promises::RPATH.union(Promises::FATTR), Perms::WRITE),
+        );
+        CallTable {
+            rename: PairNeed::openbsd_rename(),
+            link: PairNeed::openbsd_link(),
+            execpromises: ExecPromises::Stay,
+            ..table
+        }
+    }
+
+    /// The table of these rules.
+    pub fn of(rules: Rules) -> CallTable
+        ensures { result ≡ table_by_rules rules }
+    {
+        match rules {
+            Rules::Profile => CallTable::standard(),
+            Rules::Openbsd => CallTable::openbsd(),
         }
     }
 
@@ -164,11 +198,19 @@ impl CallTable {
         &self.link
     }
 
+    /// What an exec leaves of execpromises that were given.
+    pub fn execpromises(&self) -> ExecPromises
+        ensures { result ≡ self.now.execpromises }
+    {
+        self.execpromises
+    }
+
     /// Does nothing. A caller learns from it what is true of each table.
     pub fn known(&self)
         ensures fourteen { length self.now.rules ≡ 14 }
         ensures no_error { NoCallNeedsError self.now }
     {
+        // The prover knows the invariant of a value that is read.
         let _rows = &self.rows;
     }
 }

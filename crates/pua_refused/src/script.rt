@@ -51,6 +51,20 @@ fn final_slash_dropped(alloc: Global) {
     }
 }
 
+/// An unlink through a link is judged by what it takes away, and not by the link.
+fn unlink_judged_by_the_link(alloc: Global) {
+    let Some(told) = answers(
+        alloc,
+        b"tree 1\n0 dir\n1 dir 0 d\n2 file 1 f\n3 link 0 l d\n",
+        b"1 unveil / c\n1 unveil /d r\n1 unlink /l/f\n",
+    ) else {
+        return;
+    };
+    if told.as_slice() != [Answer::Okay, Answer::Okay, Answer::Failed(Errno::EACCES)].as_slice() {
+        unreachable!()
+    }
+}
+
 /// A create of what stands there is answered `ok`.
 fn create_on_existing_adds(alloc: Global) {
     let Some(told) = answers(alloc, b"tree 1\n0 dir\n1 file 0 f\n", b"1 create /f\n") else {

@@ -1,7 +1,8 @@
 //! Wrong bodies of `pua_tool`.
 
+use pua_policy::Rules;
 use pua_tool::{
-    Command, DONE, MemoryInputs, MemorySink, ReadSource, Text, command, perform, put_all,
+    Command, DONE, MemoryInputs, MemorySink, ReadSource, Sink, Text, command, perform, put_all,
     read_bytes,
 };
 use std::alloc::Global;
@@ -31,6 +32,19 @@ fn put_count_ignored(alloc: Global) {
         return;
     };
     if sink.bytes() != b"ab".as_slice() {
+        unreachable!()
+    }
+}
+
+/// A put takes no more bytes than there is room for.
+fn put_grows(alloc: Global) {
+    let Ok(mut sink) = MemorySink::new(alloc, 1) else {
+        return;
+    };
+    let Ok(count) = sink.put(b"ab") else {
+        return;
+    };
+    if count > 1 {
         unreachable!()
     }
 }
@@ -69,6 +83,7 @@ fn table_not_taken(alloc: Global) {
     let run = Command {
         tree: "T",
         script: "S",
+        rules: Rules::Profile,
         table: Some("C"),
         text: Text::Run,
     };

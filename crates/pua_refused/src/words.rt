@@ -29,6 +29,13 @@ fn objects_line_for_audits(alloc: Global) {
     }
 }
 
+/// Runs have the line of the program.
+fn objects_line_for_runs() {
+    if let UsageLine::Objects = UsageLine::of(&["run"]) {
+        unreachable!()
+    }
+}
+
 /// No words have the line of the program.
 fn objects_line_for_no_words(alloc: Global) {
     if let Err(Stop::Usage(UsageLine::Objects)) = read_words(alloc, &[]) {

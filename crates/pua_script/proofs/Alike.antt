@@ -68,7 +68,7 @@ module _ (h k : History) (a : Same h k) where
   veil_alike t path (Some perms) = λ i. named (resolution_of_text t (a.dir i) ending.Dot path Followed) λ x. checked (unveil_errno (allow.unveils (place_of x) perms i)) (Ok (AddEvent (Unveiled (place_of x) perms)))
 
   decide_alike : (table : CallTable) (t : Tree) (action : Action) → decide table t h action ≡ decide table t k action
-  decide_alike table t (OnPath c path) = λ i. promised (allow.promises (rule_of table c).alternatives i) (call_alike table t c path (change_by c) i)
+  decide_alike table t (OnPath c path) = λ i. promised (allow.promises (rule_of table c).alternatives i) (call_alike table t c path (change_by table c) i)
   decide_alike table t (Symlink target path) = λ i. promised (allow.promises (rule_of table call.Symlink).alternatives i) (checked (path_fault target) (call_alike table t call.Symlink path (adding (link_node target)) i))
   decide_alike table t (Rename old new) = pair_alike table.rename t ending.Dropped old new _
   decide_alike table t (Link old new) = pair_alike table.link t ending.Dot old new _
@@ -143,7 +143,7 @@ module _ (v w : World) (same : SameWorlds v w) where
   same_made h k a (CutRow spot) = same_edited h k a _ _ (ap (λ t. cut t spot.0 spot.1) same.tree)
   same_made h k a (ShiftRow old new) = same_edited_tree h k a _ _ (ap (λ t. shift t old.0 old.1 new.0 new.1) same.tree)
   same_made h k a (TieRow spot x) = same_edited_tree h k a _ _ (ap (λ t. tie t spot.0 spot.1 x) same.tree)
-  same_made h k a BeginProgram = same_left_as h k a v.tree w.tree (after_exec h) (after_exec k) same.tree (same_after_exec h k a)
+  same_made h k a (BeginProgram left) = same_left_as h k a v.tree w.tree (after_exec left h) (after_exec left k) same.tree (same_after_exec left h k a)
   same_made h k a (AddEvent event) = same_left_as h k a v.tree w.tree (event ∷ h) (event ∷ k) same.tree (same_more event h k a)
   same_made h k a (CopyAs new) = subst (λ b. SameEffect (made v h (CopyAs new)) (cond b (Fails EAGAIN) (Copies new)))
       (λ i. same_known _ _ (same.at new) i || nat_le process_limit (same.count i)) (by (is_some (history_of v new) || nat_le process_limit (length v.histories)))

@@ -6,8 +6,8 @@ pub use Rattle.pua_script.proofs.Confined.{families_confine}
 pub use Rattle.pua_script.proofs.KeepTrees.{replays_keep_trees}
 -- what is read is bytes, and what requests in bytes leave
 pub use Rattle.pua_script.proofs.InBytes.{replays_keep_byte_trees, listings_list_byte_trees, scripts_ask_in_bytes}
--- the standard table is one that the laws speak of
-pub use Rattle.pua_script.proofs.Served.{standard_table_narrows}
+-- the rules that a command names are tables that the laws speak of
+pub use Rattle.pua_script.proofs.Served.{rules_narrow}
 -- what requests of others leave
 pub use Rattle.pua_script.proofs.Others.{others_leave, others_leave_always}
 -- a history within another: the same covers, and no more is allowed

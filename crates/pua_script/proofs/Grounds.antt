@@ -98,7 +98,7 @@ module _ (table : CallTable) (t : Tree) (h : History) (action : Action) where
   Grounds (CutRow spot) = IsCut spot
   Grounds (ShiftRow from to) = IsShifted from to
   Grounds (TieRow spot x) = IsTied spot x
-  Grounds BeginProgram = is_exec action ≡ true
+  Grounds (BeginProgram left) = is_exec action ≡ true
   Grounds (AddEvent event) = IsSaid event
   Grounds (CopyAs new) = Unit {0}
 
@@ -124,7 +124,7 @@ module _ (table : CallTable) (t : Tree) (h : History) where
   no_target : (target : List ℕ) → None ≡ Some target → is_bytes target ≡ true
   no_target target e = cc
 
-  pub on_call : (c : Call) (path : List ℕ) (x : Found) → OnOne table t h c path x → Grounds table t h (OnPath c path) (change_by c x)
+  pub on_call : (c : Call) (path : List ℕ) (x : Found) → OnOne table t h c path x → Grounds table t h (OnPath c path) (change_by table c x)
   on_call call.Create path x on = on_adding (OnPath call.Create path) call.Create path x (plain_node kind.File) on refl refl (λ small. (small, no_target)) (λ full. full)
   on_call call.Mkdir path x on = on_adding (OnPath call.Mkdir path) call.Mkdir path x (plain_node kind.Dir) on refl refl (λ small. (small, no_target)) (λ full. full)
   on_call call.Rmdir path x on = on_cutting (OnPath call.Rmdir path) call.Rmdir path x on refl

@@ -140,7 +140,7 @@ module _ (t : Tree) (h : History) where
 pub decisions_are_guarded : DecisionsAreGuarded
 decisions_are_guarded table t h (OnPath c path) change e =
     let may = from_promised (may_any h (rule_of table c).alternatives) _ change e in
-    one t h table c path (change_by c) change may.0 may.1
+    one t h table c path (change_by table c) change may.0 may.1
 decisions_are_guarded table t h (Symlink target path) change e =
     let may = from_promised (may_any h (rule_of table call.Symlink).alternatives) _ change e in
     let text = from_checked (path_fault target) _ change may.1 in
@@ -187,7 +187,7 @@ module _ (table : CallTable) (t : Tree) (h : History) where
   grounds Exit c d = subst (Grounds table t h Exit) (sym d) tt
 
 pub refusals_lack_no_room : RefusalsLackNoRoom
-refusals_lack_no_room table t h (OnPath c path) = promised_apart _ _ (object_has_room table t h c path (change_by c))
+refusals_lack_no_room table t h (OnPath c path) = promised_apart _ _ (object_has_room table t h c path (change_by table c))
 refusals_lack_no_room table t h (Symlink target path) = promised_apart _ _ (checked_apart _ _ (path_apart target) (object_has_room table t h call.Symlink path (adding (link_node target))))
 refusals_lack_no_room table t h (Rename old new) = pair_has_room table.rename t h ending.Dropped old new _ λ a b. rename_has_room t a b (node_named a)
 refusals_lack_no_room table t h (Link old new) = pair_has_room table.link t h ending.Dot old new _ λ a b. link_has_room a b (node_named a)

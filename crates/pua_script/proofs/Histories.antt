@@ -1,7 +1,9 @@
 -- Histories that one process stands for go on to be such.
 use Rattle.std.proofs.Common.{◌≡◌, ℕ, [], ◌∷◌, refl, sym, ap, subst, ◌∙◌}
 use Rattle.std.specs.Prelude.{Option, Some, None, unwrap_or}
-use Rattle.pua_policy.specs.History.{History, Event, Pledged, Unveiled, Locked, Moved, Ended, ProcessState, StandsFor, pledged, held_for_exec, veils, with_veil, is_locked, is_ended, working_dir, meet, common, after_exec, first}
+use Rattle.pua_policy.specs.History.{History, Event, Pledged, Unveiled, Locked, Moved, Ended, ProcessState, StandsFor, pledged, held_for_exec, veils, with_veil, is_locked, is_ended, working_dir, meet, common, left_for_exec, after_exec, first}
+use Rattle.pua_policy.specs.declared.rules.ExecPromises.{ExecPromises}
+use Rattle.pua_policy.specs.declared.rules.ExecPromises.TheVariants.{Unset, Stay}
 use Rattle.pua_policy.proofs.ForCallers.{others, no_promises, no_execpromises, same_veils, same_lock, same_dirs, same_end}
 
 -- what a process that stands for a history keeps
@@ -52,27 +54,32 @@ dir_left : (h : History) → working_dir (others h) ≡ working_dir h
 dir_left h = ap (λ ds. unwrap_or (first ds) 0) (same_dirs h)
 
 -- the history after an exec, by the execpromises
-abbrev exec_left : Option ℕ → History → History
-exec_left (Some promises) h = Pledged (Some promises) None ∷ others h
-exec_left None h = Moved (working_dir h) ∷ []
+abbrev exec_left : ExecPromises → Option ℕ → History → History
+exec_left left (Some promises) h = Pledged (Some promises) (left_for_exec left promises) ∷ others h
+exec_left left None h = Moved (working_dir h) ∷ []
 
-exec_by : (o : Option ℕ) (h : History) → held_for_exec h ≡ o → after_exec h ≡ exec_left o h
-exec_by None h is = rw is refl
-exec_by (Some promises) h is = rw is refl
+exec_by : (left : ExecPromises) (o : Option ℕ) (h : History) → held_for_exec h ≡ o → after_exec left h ≡ exec_left left o h
+exec_by left None h is = rw is refl
+exec_by left (Some promises) h is = rw is refl
 
-same_exec_left : (o : Option ℕ) (h k : History) → Same h k → Same (exec_left o h) (exec_left o k)
-same_exec_left None h k a = record { promises = refl; execpromises = refl; veils = refl; locked = refl; dir = a.dir; ended = refl }
-same_exec_left (Some p) h k a = record {
+-- where some were given, it has the execpromises that the exec leaves
+same_left : (left : ExecPromises) (p : ℕ) (h k : History) → held_for_exec (exec_left left (Some p) h) ≡ held_for_exec (exec_left left (Some p) k)
+same_left Unset p h k = ap common (no_execpromises h ∙ sym (no_execpromises k))
+same_left Stay p h k = ap (λ sets. Some (meet p (common sets))) (no_execpromises h ∙ sym (no_execpromises k))
+
+same_exec_left : (left : ExecPromises) (o : Option ℕ) (h k : History) → Same h k → Same (exec_left left o h) (exec_left left o k)
+same_exec_left left None h k a = record { promises = refl; execpromises = refl; veils = refl; locked = refl; dir = a.dir; ended = refl }
+same_exec_left left (Some p) h k a = record {
   promises = ap (λ sets. Some (meet p (common sets))) (no_promises h ∙ sym (no_promises k));
-  execpromises = ap common (no_execpromises h ∙ sym (no_execpromises k));
+  execpromises = same_left left p h k;
   veils = same_veils h ∙ a.veils ∙ sym (same_veils k);
   locked = same_lock h ∙ a.locked ∙ sym (same_lock k);
   dir = dir_left h ∙ a.dir ∙ sym (dir_left k);
   ended = same_end h ∙ a.ended ∙ sym (same_end k);
 }
 
-pub same_after_exec : (h k : History) → Same h k → Same (after_exec h) (after_exec k)
-same_after_exec h k a =
-    let first_left : after_exec h ≡ exec_left (held_for_exec k) h = exec_by (held_for_exec k) h a.execpromises in
-    let second_left : after_exec k ≡ exec_left (held_for_exec k) k = exec_by (held_for_exec k) k refl in
-    subst (λ x. Same x (after_exec k)) (sym first_left) (subst (Same (exec_left (held_for_exec k) h)) (sym second_left) (same_exec_left (held_for_exec k) h k a))
+pub same_after_exec : (left : ExecPromises) (h k : History) → Same h k → Same (after_exec left h) (after_exec left k)
+same_after_exec left h k a =
+    let first_left : after_exec left h ≡ exec_left left (held_for_exec k) h = exec_by left (held_for_exec k) h a.execpromises in
+    let second_left : after_exec left k ≡ exec_left left (held_for_exec k) k = exec_by left (held_for_exec k) k refl in
+    subst (λ x. Same x (after_exec left k)) (sym first_left) (subst (Same (exec_left left (held_for_exec k) h)) (sym second_left) (same_exec_left left (held_for_exec k) h k a))

@@ -42,7 +42,7 @@ pub data Fine (moves : Bool) (h : History) : Effect → Type 0 where
 
 -- a change that is no exec, and adds no event but such
 abbrev StepsOn : Bool → Change → Type 0
-StepsOn m BeginProgram = ⊥
+StepsOn m (BeginProgram left) = ⊥
 StepsOn m (AddEvent event) = IsTrue (is_step m event)
 StepsOn m _ = Unit {0}
 
@@ -61,7 +61,7 @@ module _ (m : Bool) (w : World) (h : History) where
   fine_made (CutRow spot) steps = fine_edited _
   fine_made (ShiftRow old new) steps = fine_edited_tree _
   fine_made (TieRow spot x) steps = fine_edited_tree _
-  fine_made BeginProgram steps = absurd steps
+  fine_made (BeginProgram left) steps = absurd steps
   fine_made (AddEvent event) steps = leaves (inr (event, steps, refl))
   fine_made (CopyAs new) steps = by (is_some (history_of w new) || nat_le process_limit (length w.histories))
     where
@@ -85,7 +85,7 @@ module _ (m : Bool) (t : Tree) (h : History) where
       by false false e = cc
 
   steps_by : (table : CallTable) (action : Action) (c : Change) → Grounds table t h action c → IsConfined h → is_exec action ≡ false → (IsTrue (is_chdir action) → IsTrue m) → StepsOn m c
-  steps_by table action BeginProgram g confined other moving = absurd (true≢false (sym g ∙ other))
+  steps_by table action (BeginProgram left) g confined other moving = absurd (true≢false (sym g ∙ other))
   steps_by table action (AddEvent (Unveiled place perms)) g confined other moving = absurd (no_unveil confined g.0 g.1)
   steps_by table action (AddEvent (Moved dir)) g confined other moving = moving g
   steps_by table action (AddEvent _) g confined other moving = refl

@@ -112,8 +112,8 @@ decisions_are_possible table t h action change well is = possible_by t well h ta
 
 -- what the code decides can be done
 pub can_be_done : (table : CallTable) (t : Tree) (h : History) (action : Action) (g : Granted) → WellFormed t → decision_by h g ≡ decide table t h action → CanBeDone t g
-can_be_done table t h action (granted.AddNode spot kind target) well is = decisions_are_possible table t h action _ well (sym is)
-can_be_done table t h action (granted.CutRow spot) well is = decisions_are_possible table t h action _ well (sym is)
-can_be_done table t h action (granted.ShiftRow old new) well is = decisions_are_possible table t h action _ well (sym is)
-can_be_done table t h action (granted.TieRow spot x) well is = decisions_are_possible table t h action _ well (sym is)
+can_be_done table t h action (granted.AddNode dir name kind target) well is = decisions_are_possible table t h action _ well (sym is)
+can_be_done table t h action (granted.CutRow dir name) well is = decisions_are_possible table t h action _ well (sym is)
+can_be_done table t h action (granted.ShiftRow from name to new_name) well is = decisions_are_possible table t h action _ well (sym is)
+can_be_done table t h action (granted.TieRow dir name x) well is = decisions_are_possible table t h action _ well (sym is)
 can_be_done table t h action _ well is = tt

@@ -61,7 +61,7 @@ changes_lack w h (AddNode spot node) possible = add_lacks w.tree h spot node pos
 changes_lack w h (CutRow spot) possible = never _ (edit_leaves w.tree h _ possible)
 changes_lack w h (ShiftRow old new) possible = never _ (tree_leaves w.tree h _ possible)
 changes_lack w h (TieRow spot x) possible = tie_lacks w.tree h spot x possible.0 possible.1 possible.2
-changes_lack w h BeginProgram possible = never _ (leaves_not_fails w.tree _)
+changes_lack w h (BeginProgram left) possible = never _ (leaves_not_fails w.tree _)
 changes_lack w h (AddEvent event) possible = never _ (leaves_not_fails w.tree _)
 changes_lack w h (CopyAs new) possible = never _ (by (is_some (history_of w new) || nat_le process_limit (length w.histories)))
   where

@@ -4,8 +4,9 @@ use Rattle.std.proofs.Math.Seq.{take-suc}
 use Rattle.std.specs.Prelude.{Option, Some, None, Result, Ok, Err, IfOk, OnErr, MatchResult}
 use Rattle.pua_tree.specs.Tree.{WellFormed}
 use Rattle.pua_policy.proofs.ForCallers.{texts_need_no_error, texts_keep_pairs}
-use Rattle.pua_policy.specs.Calls.{PairRule, CallTable, standard_table, rule_of}
+use Rattle.pua_policy.specs.Calls.{PairRule, CallTable, standard_table, openbsd_table, rule_of}
 use Rattle.pua_policy.specs.Tables.{NeedsNoError}
+use Rattle.pua_policy.specs.declared.rules.Rules.TheVariants.{Profile, Openbsd}
 use Rattle.pua_policy.specs.declared.call.Call.{Call}
 use Rattle.pua_policy.specs.History.{History, ProcessState}
 use Rattle.pua_policy.specs.declared.call.Call.TheVariants.{Stat, Lstat, Readlink, OpenRead, OpenWrite, OpenBoth, Create, Mkdir, Rmdir, Unlink, Symlink, Chmod, Chdir, Exec}
@@ -15,7 +16,7 @@ use Rattle.pua_script.specs.Worlds.{WorldState, StandsAt, StandsForWorld, IsServ
 use Rattle.pua_script.specs.Family.{HasHistoryOf}
 use Rattle.pua_script.specs.Tightening.{IsNarrowedBy, EndsWithin}
 use Rattle.pua_script.specs.Confinement.{NeedsC, NamesCpath, UncoveredStay, TreesAlong}
-use Rattle.pua_script.specs.Futures.{StandardTableNarrows, ReadTablesNarrow, HasProcessOf, IsNarrowing, IsSparing, AreDone, AreDoneInPart, AreHeld, AreServedInPart}
+use Rattle.pua_script.specs.Futures.{RulesNarrow, ReadTablesNarrow, HasProcessOf, IsNarrowing, IsSparing, AreDone, AreDoneInPart, AreHeld, AreServedInPart}
 use Rattle.pua_script.specs.declared.answer.Answer.{Answer}
 use Rattle.pua_script.proofs.Tightening.{each_narrows, within_self}
 use Rattle.pua_script.proofs.Confining.{each_spares}
@@ -39,9 +40,38 @@ standard_error Chmod = ((lit< tt, refl), tt)
 standard_error Chdir = ((lit< tt, refl), tt)
 standard_error Exec = ((lit< tt, refl), tt)
 
-pub standard_table_narrows : StandardTableNarrows
-standard_table_narrows = record {
+openbsd_error : (call : Call) → NeedsNoError (rule_of openbsd_table call)
+openbsd_error Stat = ((lit< tt, refl), tt)
+openbsd_error Lstat = ((lit< tt, refl), tt)
+openbsd_error Readlink = ((lit< tt, refl), tt)
+openbsd_error OpenRead = ((lit< tt, refl), tt)
+openbsd_error OpenWrite = ((lit< tt, refl), tt)
+openbsd_error OpenBoth = ((lit< tt, refl), tt)
+openbsd_error Create = ((lit< tt, refl), tt)
+openbsd_error Mkdir = ((lit< tt, refl), tt)
+openbsd_error Rmdir = ((lit< tt, refl), tt)
+openbsd_error Unlink = ((lit< tt, refl), tt)
+openbsd_error Symlink = ((lit< tt, refl), tt)
+openbsd_error Chmod = ((lit< tt, refl), tt)
+openbsd_error Chdir = ((lit< tt, refl), tt)
+openbsd_error Exec = ((lit< tt, refl), tt)
+
+pub rules_narrow : RulesNarrow
+rules_narrow Profile = record {
   error = record { calls = standard_error; rename = (((lit< tt, refl), tt), ((lit< tt, refl), tt)); link = (((lit< tt, refl), tt), ((lit< tt, refl), tt)) };
+  taking = record { rmdir = refl; unlink = refl; rename_old = refl; rename_new = refl };
+  changing = record {
+    create = (refl, tt);
+    mkdir = (refl, tt);
+    rmdir = (refl, tt);
+    unlink = (refl, tt);
+    symlink = (refl, tt);
+    rename = (refl, tt);
+    link = (refl, tt);
+  };
+}
+rules_narrow Openbsd = record {
+  error = record { calls = openbsd_error; rename = (((lit< tt, refl), tt), ((lit< tt, refl), tt)); link = (((lit< tt, refl), tt), ((lit< tt, refl), tt)) };
   taking = record { rmdir = refl; unlink = refl; rename_old = refl; rename_new = refl };
   changing = record {
     create = (refl, tt);
@@ -56,25 +86,25 @@ standard_table_narrows = record {
 
 pub read_tables_narrow : ReadTablesNarrow
 read_tables_narrow = record {
-  error = texts_need_no_error standard_table_narrows.error;
-  taking = λ text table is rmdir unlink.
-      let renames = (texts_keep_pairs text table is).0 in
+  error = texts_need_no_error;
+  taking = λ base needs text table is rmdir unlink.
+      let renames = (texts_keep_pairs base text table is).rename in
       record {
         rmdir = rmdir;
         unlink = unlink;
-        rename_old = subst (λ (pair : PairRule). NeedsC pair.old.needs) (sym renames) refl;
-        rename_new = subst (λ (pair : PairRule). NeedsC pair.new.needs) (sym renames) refl;
+        rename_old = subst (λ (pair : PairRule). NeedsC pair.old.needs) (sym renames) needs.rename_old;
+        rename_new = subst (λ (pair : PairRule). NeedsC pair.new.needs) (sym renames) needs.rename_new;
       };
-  changing = λ text table is create mkdir rmdir unlink symlink.
-      let same = texts_keep_pairs text table is in
+  changing = λ base needs text table is create mkdir rmdir unlink symlink.
+      let same = texts_keep_pairs base text table is in
       record {
         create = create;
         mkdir = mkdir;
         rmdir = rmdir;
         unlink = unlink;
         symlink = symlink;
-        rename = subst (λ (pair : PairRule). NamesCpath pair.new.needs) (sym same.0) (refl, tt);
-        link = subst (λ (pair : PairRule). NamesCpath pair.new.needs) (sym same.1) (refl, tt);
+        rename = subst (λ (pair : PairRule). NamesCpath pair.new.needs) (sym same.rename) needs.rename;
+        link = subst (λ (pair : PairRule). NamesCpath pair.new.needs) (sym same.link) needs.link;
       };
 }
 

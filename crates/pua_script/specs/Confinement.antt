@@ -20,7 +20,7 @@ use Rattle.pua_script.specs.Family.{is_exec, none_done, members_alone}
 abbrev pub NeedsC : Rule → Type 0
 NeedsC rule = IsTrue (holds rule.perms creating)
 
--- what takes a name away needs `c`: two calls, and rename, which takes away its old name and what has the new one
+-- what takes a name away needs `c`: two calls, and rename, which takes away its old name and what has the new one. Link takes none away, so nothing is asked of it: the row of its old name stays, but by the new one what it names may be written
 pub record TakingNeedsC (table : CallTable) : Type 0 where
   pub rmdir : NeedsC (rule_of table call.Rmdir)
   pub unlink : NeedsC (rule_of table call.Unlink)

@@ -19,6 +19,7 @@ use Rattle.pua_path.specs.declared.found.Last.TheVariants.{Followed}
 use Rattle.pua_path.specs.declared.found.Way.TheVariants as way
 use Rattle.pua_path.specs.declared.found.Found.{Found}
 use Rattle.pua_path.specs.declared.found.Found.TheVariants.{Whole, Slot}
+use Rattle.pua_policy.specs.declared.rules.ExecPromises.{ExecPromises}
 use Rattle.pua_policy.specs.declared.place.Place.{Place}
 use Rattle.pua_policy.specs.declared.call.Call.{Call}
 use Rattle.pua_policy.specs.declared.call.Call.TheVariants as call
@@ -33,14 +34,14 @@ use Rattle.pua_script.specs.declared.request.Given.TheVariants.{Good, Unknown}
 use Rattle.pua_script.specs.declared.request.Action.{Action}
 use Rattle.pua_script.specs.declared.request.Action.TheVariants.{OnPath, Symlink, Rename, Link, Pledge, Unveil, Lock, Fork, Exit}
 
--- what a request that is granted changes: nothing, a row of the tree, the program, the history by an event, or the number of processes
+-- what a request that is granted changes: nothing, a row of the tree, the program with what it leaves of execpromises, the history by an event, or the number of processes
 pub data Change : Type 0 where
   NoChange : Change
   AddNode : Spot → Node → Change
   CutRow : Spot → Change
   ShiftRow : Spot → Spot → Change
   TieRow : Spot → ℕ → Change
-  BeginProgram : Change
+  BeginProgram : ExecPromises → Change
   AddEvent : Event → Change
   CopyAs : ℕ → Change
 
@@ -97,14 +98,14 @@ going (Whole dir way) = AddEvent (Moved dir)
 going _ = NoChange
 
 -- what an allowed call changes, by what was found
-abbrev pub change_by : Call → Found → Change
-change_by call.Create object = adding (plain_node kind.File) object
-change_by call.Mkdir object = adding (plain_node kind.Dir) object
-change_by call.Rmdir object = removing object
-change_by call.Unlink object = removing object
-change_by call.Chdir object = going object
-change_by call.Exec object = BeginProgram
-change_by _ object = NoChange
+abbrev pub change_by : CallTable → Call → Found → Change
+change_by table call.Create object = adding (plain_node kind.File) object
+change_by table call.Mkdir object = adding (plain_node kind.Dir) object
+change_by table call.Rmdir object = removing object
+change_by table call.Unlink object = removing object
+change_by table call.Chdir object = going object
+change_by table call.Exec object = BeginProgram table.execpromises
+change_by table _ object = NoChange
 
 -- what a call on a path changes, whose promises are held
 abbrev pub decide_object : CallTable → Tree → History → Call → List ℕ → (Found → Decision) → Decision
@@ -112,7 +113,7 @@ decide_object table t h call path further = named (object_named t h call path) �
 
 abbrev pub decide_call : CallTable → Tree → History → Call → List ℕ → Decision
 decide_call table t h call path =
-    promised (may_any h (rule_of table call).alternatives) (decide_object table t h call path (λ object. Ok (change_by call object)))
+    promised (may_any h (rule_of table call).alternatives) (decide_object table t h call path (λ object. Ok (change_by table call object)))
 
 -- the promise, then the target's text, then the path
 abbrev pub decide_symlink : CallTable → Tree → History → List ℕ → List ℕ → Decision

@@ -3,8 +3,7 @@ use Rattle.std.specs.Prelude.{◌≡◌, ℕ, Bool, true, false, List, [], ◌�
 use Rattle.pua_tree.specs.Examples.{text_of_lines}
 use Rattle.pua_tree.specs.Listing.{listing}
 use Rattle.pua_tree.specs.Tree.{Tree}
-use Rattle.pua_policy.specs.Calls.{CallTable, standard_table}
-use Rattle.pua_policy.specs.TableExamples.{reading_table}
+use Rattle.pua_policy.specs.Calls.{CallTable, standard_table, openbsd_table}
 use Rattle.pua_script.specs.Requests.{Asked}
 use Rattle.pua_script.specs.Scripts.{script}
 use Rattle.pua_script.specs.Replay.{answers, new_world}
@@ -102,8 +101,8 @@ link_rows = record {
 }
 
 -- the answers where rename and link need something else
-abbrev pub answers_to_reader : List (List ℕ) → List (List ℕ) → List Answer
-answers_to_reader tree lines = answers_by reading_table (listing (text_of_lines tree)) (script (text_of_lines lines))
+abbrev pub answers_by_openbsd : List (List ℕ) → List (List ℕ) → List Answer
+answers_by_openbsd tree lines = answers_by openbsd_table (listing (text_of_lines tree)) (script (text_of_lines lines))
 
 -- two directories, of which a process may read the one, and make names in the other
 abbrev pub read_and_made : List (List ℕ)
@@ -120,19 +119,29 @@ file_linked = root_alone ++ codes "1 file 0 f" ∷ codes "2 link 0 l f" ∷ code
 abbrev pub link_linked : List (List ℕ)
 link_linked = codes "1 link /l /g" ∷ codes "1 readlink /g" ∷ codes "1 link /no /h" ∷ []
 
--- by each of two tables: rename and link need what the table says of them, promises before paths
+-- a file that is protected from writing, and a directory of the same tree in which names may be made
+abbrev pub aliases_and_spool : List (List ℕ)
+aliases_and_spool = root_alone ++ codes "1 dir 0 mail" ∷ codes "2 file 1 aliases" ∷ codes "3 dir 0 spool" ∷ []
+
+abbrev pub aliases_written : List (List ℕ)
+aliases_written = codes "1 unveil /mail r" ∷ codes "1 unveil /spool rwc" ∷ codes "1 unveil - -" ∷ codes "1 open-w /mail/aliases" ∷ codes "1 link /mail/aliases /spool/a" ∷ codes "1 open-w /spool/a" ∷ []
+
+-- by the rules of OpenBSD and the standard ones: rename and link need what the table says of them, promises before paths
 pub record PairRows : Type 0 where
-  pub letters_of_link : answers_to_reader ordered read_and_made ≡ Okay ∷ Okay ∷ Okay ∷ []
+  pub letters_of_link : answers_by_openbsd ordered read_and_made ≡ Okay ∷ Okay ∷ Okay ∷ []
   pub standard_letters_of_link : answers_of ordered read_and_made ≡ Okay ∷ Okay ∷ Failed EACCES ∷ []
-  pub letters_of_rename : answers_to_reader ordered made_alone ≡ Okay ∷ Failed EACCES ∷ []
+  pub letters_of_rename : answers_by_openbsd ordered made_alone ≡ Okay ∷ Failed EACCES ∷ []
   pub standard_letters_of_rename : answers_of ordered made_alone ≡ Okay ∷ Okay ∷ []
-  pub followed : answers_to_reader file_linked link_linked ≡ Okay ∷ Failed EINVAL ∷ Failed ENOENT ∷ []
+  pub followed : answers_by_openbsd file_linked link_linked ≡ Okay ∷ Failed EINVAL ∷ Failed ENOENT ∷ []
   pub kept : answers_of file_linked link_linked ≡ Okay ∷ Okay ∷ Okay ∷ []
-  pub promises_of_old : answers_to_reader ordered (codes "1 pledge stdio,cpath,error -" ∷ codes "1 rename /no/x /y" ∷ codes "1 link /no/x /y" ∷ []) ≡ Okay ∷ Failed ENOSYS ∷ Failed ENOSYS ∷ []
+  pub promises_of_old : answers_by_openbsd ordered (codes "1 pledge stdio,cpath,error -" ∷ codes "1 rename /no/x /y" ∷ codes "1 link /no/x /y" ∷ []) ≡ Okay ∷ Failed ENOSYS ∷ Failed ENOSYS ∷ []
   pub standard_promises_of_old : answers_of ordered (codes "1 pledge stdio,cpath,error -" ∷ codes "1 rename /no/x /y" ∷ codes "1 link /no/x /y" ∷ []) ≡ Okay ∷ Failed ENOENT ∷ Failed ENOENT ∷ []
-  pub promises_of_new : answers_to_reader ordered (codes "1 pledge stdio,rpath -" ∷ codes "1 link /no/x /y" ∷ []) ≡ Okay ∷ Killed ∷ []
+  pub promises_of_new : answers_by_openbsd ordered (codes "1 pledge stdio,rpath -" ∷ codes "1 link /no/x /y" ∷ []) ≡ Okay ∷ Killed ∷ []
+  -- what may be read alone is written by the name that it was given
+  pub aliases : answers_by_openbsd aliases_and_spool aliases_written ≡ Okay ∷ Okay ∷ Okay ∷ Failed EACCES ∷ Okay ∷ Okay ∷ []
+  pub standard_aliases : answers_of aliases_and_spool aliases_written ≡ Okay ∷ Okay ∷ Okay ∷ Failed EACCES ∷ Failed EACCES ∷ Failed ENOENT ∷ []
   -- another table changes nothing of the order of further checks
-  pub directory_linked : answers_to_reader example (codes "1 link /t /u" ∷ codes "1 rename /etc /tmp" ∷ []) ≡ Failed EPERM ∷ Failed ENOTEMPTY ∷ []
+  pub directory_linked : answers_by_openbsd example (codes "1 link /t /u" ∷ codes "1 rename /etc /tmp" ∷ []) ≡ Failed EPERM ∷ Failed ENOTEMPTY ∷ []
 
 pub pair_rows : PairRows
 pair_rows = record {
@@ -145,6 +154,8 @@ pair_rows = record {
   promises_of_old = refl;
   standard_promises_of_old = refl;
   promises_of_new = refl;
+  aliases = refl;
+  standard_aliases = refl;
   directory_linked = refl;
 }
 
@@ -239,15 +250,22 @@ replay_rows = record {
 abbrev pub exec_of_locked : List (List ℕ)
 exec_of_locked = codes "1 unveil /tmp rx" ∷ codes "1 unveil - -" ∷ codes "1 stat /etc" ∷ codes "1 exec /tmp/sh" ∷ codes "1 stat /etc" ∷ []
 
+-- a program that starts another with the promises that it was started with
+abbrev pub exec_twice : List (List ℕ)
+exec_twice = codes "1 unveil /tmp rx" ∷ codes "1 pledge - stdio,rpath,exec" ∷ codes "1 exec /tmp/sh" ∷ codes "1 exec /tmp/sh" ∷ codes "1 stat /etc" ∷ codes "1 mkdir /tmp/x" ∷ []
+
 pub record ExecRows : Type 0 where
   pub reaches_more : answers_of example exec_of_locked ≡ Okay ∷ Okay ∷ Failed ENOENT ∷ Okay ∷ Okay ∷ []
   pub left_out : has_no_exec example exec_of_locked ≡ false
   -- an exec that fails is none, and one of another process is none of the family
   pub failed : has_no_exec example (codes "1 exec /no" ∷ []) ≡ true
   pub other : has_no_exec example (codes "2 exec /tmp/sh" ∷ []) ≡ true
+  -- execpromises that stay bind the second program too, and its veils stay with them
+  pub stay : answers_by_openbsd example exec_twice ≡ Okay ∷ Okay ∷ Okay ∷ Okay ∷ Failed ENOENT ∷ Killed ∷ []
+  pub unset : answers_of example exec_twice ≡ Okay ∷ Okay ∷ Okay ∷ Okay ∷ Okay ∷ Okay ∷ []
 
 pub exec_rows : ExecRows
-exec_rows = record { reaches_more = refl; left_out = refl; failed = refl; other = refl }
+exec_rows = record { reaches_more = refl; left_out = refl; failed = refl; other = refl; stay = refl; unset = refl }
 
 -- what is no script
 abbrev pub fault_of : List ℕ → Result (List Asked) ScriptFault

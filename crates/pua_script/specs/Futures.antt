@@ -1,7 +1,8 @@
 -- What a world's requests leave of its processes and of its tree, whichever world of the replay it stands for.
 use Rattle.std.specs.Prelude.{◌≡◌, ℕ, List, [], ◌∷◌, Some, Ok, take, IsTrue, IsFalse}
-use Rattle.pua_policy.specs.Calls.{CallTable, standard_table, rule_of}
-use Rattle.pua_policy.specs.TableTexts.{table_of}
+use Rattle.pua_policy.specs.Calls.{CallTable, table_by_rules, rule_of}
+use Rattle.pua_policy.specs.TableTexts.{table_over}
+use Rattle.pua_policy.specs.declared.rules.Rules.{Rules}
 use Rattle.pua_policy.specs.Promises.{holds, cpath}
 use Rattle.pua_policy.specs.History.{History, ProcessState, StandsFor, held}
 use Rattle.pua_script.specs.Requests.{Asked}
@@ -14,17 +15,21 @@ use Rattle.pua_script.specs.Laws.{IsConfined}
 use Rattle.pua_script.specs.declared.answer.Answer.{Answer}
 use Rattle.pua_script.specs.Worlds.{WorldState, StandsForWorld, AreServed, process_at}
 
--- the standard table is one of those that narrowing is about
-pub record StandardTableNarrows : Type 0 where
-  pub error : NoCallNeedsError standard_table
-  pub taking : TakingNeedsC standard_table
-  pub changing : ChangingNeedsCpath standard_table
+-- a table is one of those that narrowing is about
+pub record TableNarrows (table : CallTable) : Type 0 where
+  pub error : NoCallNeedsError table
+  pub taking : TakingNeedsC table
+  pub changing : ChangingNeedsCpath table
 
--- of a table that a text gives the laws ask no more than of its calls: rename and link need what they need by the standard table
+-- so are the rules that a command names, whichever they are
+abbrev pub RulesNarrow : Type 0
+RulesNarrow = (rules : Rules) → TableNarrows (table_by_rules rules)
+
+-- of a table that a text gives over such a one the laws ask no more than of its calls: rename and link need what they need by that one
 pub record ReadTablesNarrow : Type 0 where
-  pub error : (text : List ℕ) (table : CallTable) → table_of text ≡ Ok table → NoCallNeedsError table
-  pub taking : (text : List ℕ) (table : CallTable) → table_of text ≡ Ok table → NeedsC (rule_of table Rmdir) → NeedsC (rule_of table Unlink) → TakingNeedsC table
-  pub changing : (text : List ℕ) (table : CallTable) → table_of text ≡ Ok table →
+  pub error : (base : CallTable) → NoCallNeedsError base → (text : List ℕ) (table : CallTable) → table_over base text ≡ Ok table → NoCallNeedsError table
+  pub taking : (base : CallTable) → TakingNeedsC base → (text : List ℕ) (table : CallTable) → table_over base text ≡ Ok table → NeedsC (rule_of table Rmdir) → NeedsC (rule_of table Unlink) → TakingNeedsC table
+  pub changing : (base : CallTable) → ChangingNeedsCpath base → (text : List ℕ) (table : CallTable) → table_over base text ≡ Ok table →
       NamesCpath (rule_of table Create) → NamesCpath (rule_of table Mkdir) → NamesCpath (rule_of table Rmdir) → NamesCpath (rule_of table Unlink) → NamesCpath (rule_of table Symlink) →
       ChangingNeedsCpath table
 

@@ -79,7 +79,7 @@ pub record IsPledge (h : History) (promises execpromises : Given) (change : Chan
 
 -- which checks a request passed that changes this
 abbrev pub IsDecided : CallTable → Tree → History → Action → Change → Type 0
-IsDecided table t h (OnPath call path) change = (object : Found) × OnOne table t h call path object × (change ≡ change_by call object)
+IsDecided table t h (OnPath call path) change = (object : Found) × OnOne table t h call path object × (change ≡ change_by table call object)
 IsDecided table t h (Symlink target path) change = (object : Found) × OnOne table t h call.Symlink path object × (path_fault target ≡ None) × (change ≡ adding (link_node target) object)
 IsDecided table t h (Rename old new) change = IsRename table.rename t h old new change
 IsDecided table t h (Link old new) change = IsLink table.link t h old new change

@@ -1,14 +1,20 @@
 -- What the code decides, by the definitions.
-use Rattle.std.specs.Prelude.{Result, Ok, Err, IsTrue, option_copied}
-use Rattle.pua_tree.specs.Tree.{Tree, target_fits}
+use Rattle.std.specs.Prelude.{ℕ, List, Result, Ok, Err, IsTrue, option_copied}
+use Rattle.std.specs.Borrow.{Bor}
+use Rattle.pua_tree.specs.Tree.{Tree, Spot, target_fits}
 use Rattle.pua_path.specs.Fits.{FoundFits, StandsAsNamed}
 use Rattle.pua_path.specs.declared.found.Found.{Found}
 use Rattle.pua_policy.specs.History.{History, Locked, Moved, Ended}
+use Rattle.pua_policy.specs.Verdict.{place_of}
 use Rattle.pua_policy.specs.declared.answer.Refusal.{Refusal}
 use Rattle.pua_script.specs.Decide.{NoChange, AddNode, CutRow, ShiftRow, TieRow, BeginProgram, AddEvent, Decision, pledging, veiling}
 use Rattle.pua_script.specs.Guards.{IsFree, IsPossible}
 use Rattle.pua_script.specs.declared.granted.Granted.{Granted}
 use Rattle.pua_script.specs.declared.granted.Granted.TheVariants as granted
+
+-- a spot whose name is lent
+abbrev pub spot_now : ℕ × Bor (List ℕ) → Spot
+spot_now spot = (spot.0, spot.1.now)
 
 -- what was found is of the tree, and stands at the name by which it was found
 pub record NameFits (t : Tree) (object : Found) : Type 0 where
@@ -18,13 +24,13 @@ pub record NameFits (t : Tree) (object : Found) : Type 0 where
 -- what was granted, as a decision: of a pledge and an unveil the process itself judges the last check
 abbrev pub decision_by : History → Granted → Decision
 decision_by h granted.NoChange = Ok NoChange
-decision_by h (granted.AddNode spot kind target) = Ok (AddNode spot (record { kind = kind; target = option_copied target }))
-decision_by h (granted.CutRow spot) = Ok (CutRow spot)
-decision_by h (granted.ShiftRow old new) = Ok (ShiftRow old new)
-decision_by h (granted.TieRow spot x) = Ok (TieRow spot x)
-decision_by h granted.BeginProgram = Ok BeginProgram
+decision_by h (granted.AddNode dir name kind target) = Ok (AddNode (dir, name.now) (record { kind = kind; target = option_copied target }))
+decision_by h (granted.CutRow dir name) = Ok (CutRow (dir, name.now))
+decision_by h (granted.ShiftRow from name to new_name) = Ok (ShiftRow (from, name.now) (to, new_name.now))
+decision_by h (granted.TieRow dir name x) = Ok (TieRow (dir, name.now) x)
+decision_by h (granted.BeginProgram left) = Ok (BeginProgram left)
 decision_by h (granted.Pledge promises execpromises) = pledging h promises execpromises
-decision_by h (granted.Unveil place perms) = veiling h place perms
+decision_by h (granted.Unveil object perms) = veiling h (place_of object.now) perms
 decision_by h granted.Lock = Ok (AddEvent Locked)
 decision_by h (granted.Enter dir) = Ok (AddEvent (Moved dir))
 decision_by h granted.Exit = Ok (AddEvent Ended)
@@ -41,8 +47,8 @@ decided h (Err refusal) = Err refusal
 
 -- what was granted can be done: want of room, or of memory, is the only fault of its edit
 abbrev pub CanBeDone : Tree → Granted → Type 0
-CanBeDone t (granted.AddNode spot kind target) = IsFree t spot × IsTrue (target_fits kind (option_copied target))
-CanBeDone t (granted.CutRow spot) = IsPossible t (CutRow spot)
-CanBeDone t (granted.ShiftRow old new) = IsPossible t (ShiftRow old new)
-CanBeDone t (granted.TieRow spot x) = IsPossible t (TieRow spot x)
+CanBeDone t (granted.AddNode dir name kind target) = IsFree t (dir, name.now) × IsTrue (target_fits kind (option_copied target))
+CanBeDone t (granted.CutRow dir name) = IsPossible t (CutRow (dir, name.now))
+CanBeDone t (granted.ShiftRow from name to new_name) = IsPossible t (ShiftRow (from, name.now) (to, new_name.now))
+CanBeDone t (granted.TieRow dir name x) = IsPossible t (TieRow (dir, name.now) x)
 CanBeDone t _ = Unit {0}

@@ -1,18 +1,22 @@
-pub mod AnswerTexts
+-- The claim, in reading order: what a reader has to believe of scripts, and of what their lines do and are answered.
 pub mod Limits
 pub mod Requests
 pub mod Scripts
-pub mod ScriptGrammar
 pub mod Decide
 pub mod Replay
-pub mod Judged
-pub mod Worlds
+pub mod AnswerTexts
+-- What is proved of these. (Of Confinement `object_in` and `has_c` are also part of what pua_ever claims.)
+pub mod ScriptGrammar
+pub mod Guards
 pub mod Laws
+pub mod Bytes
 pub mod Family
 pub mod Tightening
 pub mod Confinement
-pub mod Bytes
-pub mod Futures
 pub mod ErrorTables
+pub mod Futures
+-- Worked rows, which hold by computation.
 pub mod Examples
-pub mod Guards
+-- Notes: for which worlds of the replay a world of the code stands, and what it decides.
+pub mod Worlds
+pub mod Judged

@@ -64,7 +64,7 @@ made w h (AddNode spot node) = edited h (add w.tree spot.0 spot.1 node)
 made w h (CutRow spot) = edited h (cut w.tree spot.0 spot.1)
 made w h (ShiftRow old new) = edited_tree h (shift w.tree old.0 old.1 new.0 new.1)
 made w h (TieRow spot x) = edited_tree h (tie w.tree spot.0 spot.1 x)
-made w h BeginProgram = Leaves w.tree (after_exec h)
+made w h (BeginProgram left) = Leaves w.tree (after_exec left h)
 made w h (AddEvent event) = Leaves w.tree (event ∷ h)
 made w h (CopyAs new) = fork_effect w h new
 

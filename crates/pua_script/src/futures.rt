@@ -4,7 +4,7 @@
 ghost use Rattle.pua_script.specs.Bytes.{ListingsListByteTrees, ReplaysKeepByteTrees, ReplaysKeepTrees, RequestsKeepTrees, ScriptsAskInBytes};
 ghost use Rattle.pua_script.specs.Confinement.{CpathChanges, EachRequestSpares, FamiliesConfine};
 ghost use Rattle.pua_script.specs.ErrorTables.{ErrorTables};
-ghost use Rattle.pua_script.specs.Futures.{ReadTablesNarrow, StandardTableNarrows};
+ghost use Rattle.pua_script.specs.Futures.{ReadTablesNarrow, RulesNarrow};
 ghost use Rattle.pua_script.specs.Tightening.{EachRequestNarrows, FamiliesNarrow, ForksCopy, OthersLeave, OthersLeaveAlways};
 
 /// A request leaves the history of each process but the one that asks: its promises and execpromises,
@@ -35,7 +35,9 @@ pub fn families_law()
 /// asks rmdir, unlink and both names of rename for `c` and each tree on the way is one; and without
 /// cpath it leaves the tree, where the five calls that make a name or take one away need it, and the
 /// new names of rename and link. A single request of any process does so by the history that it had
-/// before.
+/// before. A row that stays says nothing of what is written to its file: link takes no name away, so
+/// that where it needs less of its old name, as by OpenBSD's rules, the file may be given a further
+/// name and be written by that.
 pub fn confined_law()
     ensures requests { EachRequestSpares }
     ensures lists { FamiliesConfine }
@@ -52,12 +54,12 @@ pub fn bytes_law()
     ensures scripts { ScriptsAskInBytes }
 {}
 
-/// The standard table is one of those that the laws speak of: no call needs `error`, rmdir, unlink
-/// and both names of rename need `c`, and the five calls that make a name or take one away need cpath,
-/// as the new names of rename and link do. Of a table that a text gives no more is asked than of
-/// these calls.
+/// The standard rules, and those of OpenBSD, are of those that the laws speak of: no call needs
+/// `error`, rmdir, unlink and both names of rename need `c`, and the five calls that make a name or
+/// take one away need cpath, as the new names of rename and link do. Of a table that a text gives over
+/// such rules no more is asked than of these calls.
 pub fn table_law()
-    ensures standard { StandardTableNarrows }
+    ensures rules { RulesNarrow }
     ensures read { ReadTablesNarrow }
 {}
 

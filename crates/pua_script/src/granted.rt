@@ -4,6 +4,7 @@ ghost use Rattle.std.specs.Prelude.{◌≡◌, ℕ, List, OnErr, IsOk, IsFalse, 
 ghost use Rattle.pua_tree.specs.Tree.{Tree, is_dir, is_living, look, target_fits};
 ghost use Rattle.pua_tree.specs.Edits.{add, cut, shift, tie};
 ghost use Rattle.pua_policy.specs.History.{History, StandsFor};
+ghost use Rattle.pua_policy.specs.Verdict.{place_of};
 ghost use Rattle.pua_script.specs.Decide.{pledging, veiling};
 ghost use Rattle.pua_script.specs.Judged.{CanBeDone, decision_by};
 ghost use Rattle.pua_script.specs.Replay.{World, come_of, edited, edited_tree};
@@ -11,32 +12,30 @@ ghost use Rattle.pua_script.specs.Worlds.{Attempts, AttemptsEdit, Does, Edits};
 
 use crate::answer::Answer;
 use crate::fault::WorldFault;
-use pua_path::Errno;
-use pua_policy::{Perms, Place, Process, Promises, UnveilFault};
+use pua_path::{Errno, Found};
+use pua_policy::{ExecPromises, Perms, Place, Process, Promises, UnveilFault};
 use pua_tree::{FileTree, Kind, Name, NodeId, TreeFault};
 
-/// A directory, and a name in it.
-pub(crate) type Spot = (NodeId, Name);
-
-/// What a request changes that is granted.
+/// What a request changes that is granted. Names are lent by what the request's paths named, so that
+/// no name is copied before the tree takes it.
 #[derive(Clone, Copy)]
 pub(crate) enum Granted<'a> {
     /// Nothing.
     NoChange,
-    /// A node of this kind, a link with its target, is added at a spot where nothing stands.
-    AddNode(Spot, Kind, Option<&'a [u8]>),
-    /// The row at a spot is taken away.
-    CutRow(Spot),
-    /// The row at the first spot moves to the second.
-    ShiftRow(Spot, Spot),
-    /// A node gets a further name at a spot where nothing stands.
-    TieRow(Spot, NodeId),
-    /// The process becomes that of a new program.
-    BeginProgram,
+    /// A node of this kind, a link with its target, is added under a name that nothing has.
+    AddNode(NodeId, &'a Name, Kind, Option<&'a [u8]>),
+    /// The row of this name in a directory is taken away.
+    CutRow(NodeId, &'a Name),
+    /// The row of the first name moves to the second.
+    ShiftRow(NodeId, &'a Name, NodeId, &'a Name),
+    /// A node gets a further name, which nothing has.
+    TieRow(NodeId, &'a Name, NodeId),
+    /// The process becomes that of a new program, to which so much of execpromises is left.
+    BeginProgram(ExecPromises),
     /// Promises and execpromises are given up, if the process may pledge so.
     Pledge(Option<Promises>, Option<Promises>),
-    /// A veil is put on a place, if the veils kept so far allow it.
-    Unveil(Place, Perms),
+    /// A veil is put on the place of what was found, if the veils kept so far allow it.
+    Unveil(&'a Found, Perms),
     /// The process allows no further veil.
     Lock,
     /// This becomes the working directory.
@@ -62,16 +61,16 @@ pub(crate) fn make<T: FileTree>(
 {
     match *granted {
         Granted::NoChange => Ok(Answer::Okay),
-        Granted::AddNode(spot, kind, target) => add(tree, spot, kind, target),
-        Granted::CutRow(spot) => Ok(cut(tree, spot)),
-        Granted::ShiftRow(from, to) => shift(tree, from, to),
-        Granted::TieRow(spot, node) => tie(tree, spot, node),
-        Granted::BeginProgram => {
-            process.exec_into();
+        Granted::AddNode(dir, name, kind, target) => add(tree, dir, name, kind, target),
+        Granted::CutRow(dir, name) => Ok(cut(tree, dir, name)),
+        Granted::ShiftRow(from, name, to, new_name) => shift(tree, from, name, to, new_name),
+        Granted::TieRow(dir, name, node) => tie(tree, dir, name, node),
+        Granted::BeginProgram(left) => {
+            process.exec_by(left);
             Ok(Answer::Okay)
         }
         Granted::Pledge(promises, execpromises) => Ok(pledge(process, promises, execpromises)),
-        Granted::Unveil(place, perms) => unveil(process, place, perms),
+        Granted::Unveil(found, perms) => unveil(process, found, perms),
         Granted::Lock => {
             process.lock();
             Ok(Answer::Okay)
@@ -91,20 +90,20 @@ pub(crate) fn make<T: FileTree>(
 /// before leaves no other fault.
 fn add<T: FileTree>(
     tree: &mut T,
-    spot: Spot,
+    dir: NodeId,
+    name: &Name,
     kind: Kind,
     target: Option<&[u8]>,
 ) -> Result<Answer, WorldFault>
     requires target { IsTrue (target_fits kind (option_copied target)) }
-    requires dir { IsTrue (is_dir (T.content tree.old) spot.0) }
-    requires free { look (T.content tree.old) spot.0 spot.1 ≡ None }
+    requires dir { IsTrue (is_dir (T.content tree.old) dir) }
+    requires free { look (T.content tree.old) dir name.now ≡ None }
     ensures exact { (h : History) → AttemptsEdit (T.content tree.old) h
-        (edited h (add (T.content tree.old) spot.0 spot.1 (record { kind = kind; target = option_copied target.entry })))
+        (edited h (add (T.content tree.old) dir name.now (record { kind = kind; target = option_copied target.entry })))
         result (T.content tree.new) }
     ensures unchanged { OnErr result (T.content tree.new ≡ T.content tree.old) }
 {
-    let (dir, name) = spot;
-    match tree.add(dir, name, kind, target) {
+    match tree.add(dir, *name, kind, target) {
         Ok(_number) => Ok(Answer::Okay),
         Err(TreeFault::Full) => Ok(Answer::Failed(Errno::ENOSPC)),
         Err(TreeFault::OutOfMemory) => Err(WorldFault::OutOfMemory),
@@ -113,28 +112,31 @@ fn add<T: FileTree>(
 }
 
 /// Takes a row away. What was checked before leaves no fault.
-fn cut<T: FileTree>(tree: &mut T, spot: Spot) -> Answer
-    requires { IsOk (cut (T.content tree.old) spot.0 spot.1) }
-    ensures { (h : History) → Edits (T.content tree.old) h (edited h (cut (T.content tree.old) spot.0 spot.1)) result (T.content tree.new) }
+fn cut<T: FileTree>(tree: &mut T, dir: NodeId, name: &Name) -> Answer
+    requires { IsOk (cut (T.content tree.old) dir name.now) }
+    ensures { (h : History) → Edits (T.content tree.old) h (edited h (cut (T.content tree.old) dir name.now)) result (T.content tree.new) }
 {
-    let (dir, name) = spot;
-    match tree.cut(dir, &name) {
+    match tree.cut(dir, name) {
         Ok(_number) => Answer::Okay,
         Err(_fault) => unreachable!(),
     }
 }
 
 /// Moves a row. What was checked before leaves want of memory as the only fault.
-fn shift<T: FileTree>(tree: &mut T, from: Spot, to: Spot) -> Result<Answer, WorldFault>
-    requires { IsOk (shift (T.content tree.old) from.0 from.1 to.0 to.1) }
+fn shift<T: FileTree>(
+    tree: &mut T,
+    from: NodeId,
+    name: &Name,
+    to: NodeId,
+    new_name: &Name,
+) -> Result<Answer, WorldFault>
+    requires { IsOk (shift (T.content tree.old) from name.now to new_name.now) }
     ensures exact { (h : History) → AttemptsEdit (T.content tree.old) h
-        (edited_tree h (shift (T.content tree.old) from.0 from.1 to.0 to.1))
+        (edited_tree h (shift (T.content tree.old) from name.now to new_name.now))
         result (T.content tree.new) }
     ensures unchanged { OnErr result (T.content tree.new ≡ T.content tree.old) }
 {
-    let (dir, name) = from;
-    let (new_dir, new_name) = to;
-    match tree.shift(dir, &name, new_dir, new_name) {
+    match tree.shift(from, name, to, *new_name) {
         Ok(()) => Ok(Answer::Okay),
         Err(TreeFault::OutOfMemory) => Err(WorldFault::OutOfMemory),
         Err(_) => unreachable!(),
@@ -143,18 +145,22 @@ fn shift<T: FileTree>(tree: &mut T, from: Spot, to: Spot) -> Result<Answer, Worl
 
 /// Adds a row for a node that is no directory, at a name that is free. `ENOSPC` exactly where the
 /// tree has no room for a further name: what was checked before leaves no other fault.
-fn tie<T: FileTree>(tree: &mut T, spot: Spot, node: NodeId) -> Result<Answer, WorldFault>
-    requires dir { IsTrue (is_dir (T.content tree.old) spot.0) }
-    requires free { look (T.content tree.old) spot.0 spot.1 ≡ None }
+fn tie<T: FileTree>(
+    tree: &mut T,
+    dir: NodeId,
+    name: &Name,
+    node: NodeId,
+) -> Result<Answer, WorldFault>
+    requires dir { IsTrue (is_dir (T.content tree.old) dir) }
+    requires free { look (T.content tree.old) dir name.now ≡ None }
     requires living { IsTrue (is_living (T.content tree.old) node) }
     requires other { IsFalse (is_dir (T.content tree.old) node) }
     ensures exact { (h : History) → AttemptsEdit (T.content tree.old) h
-        (edited_tree h (tie (T.content tree.old) spot.0 spot.1 node))
+        (edited_tree h (tie (T.content tree.old) dir name.now node))
         result (T.content tree.new) }
     ensures unchanged { OnErr result (T.content tree.new ≡ T.content tree.old) }
 {
-    let (dir, name) = spot;
-    match tree.tie(dir, name, node) {
+    match tree.tie(dir, *name, node) {
         Ok(()) => Ok(Answer::Okay),
         Err(TreeFault::Full) => Ok(Answer::Failed(Errno::ENOSPC)),
         Err(TreeFault::OutOfMemory) => Err(WorldFault::OutOfMemory),
@@ -177,16 +183,27 @@ fn pledge(
     }
 }
 
-/// Puts a veil on a place: `EPERM` or `E2BIG` where the process may not (unveil(2)).
-fn unveil(process: &mut Process, place: Place, perms: Perms) -> Result<Answer, WorldFault>
+/// Puts a veil on the place of what was found: `EPERM` or `E2BIG` where the process may not
+/// (unveil(2)).
+fn unveil(process: &mut Process, found: &Found, perms: Perms) -> Result<Answer, WorldFault>
     ensures exact { (h : History) (w : World) → StandsFor process.old h →
-        Attempts w.tree h (come_of w h (veiling h place perms)) result w.tree process.new }
+        Attempts w.tree h (come_of w h (veiling h (place_of found.now) perms)) result w.tree process.new }
     ensures unchanged { OnErr result (process.new ≡ process.old) }
 {
-    match process.unveil_at(place, perms) {
+    match process.unveil_at(place_of(found), perms) {
         Ok(()) => Ok(Answer::Okay),
         Err(UnveilFault::NotPermitted) => Ok(Answer::Failed(Errno::EPERM)),
         Err(UnveilFault::TooManyPlaces) => Ok(Answer::Failed(Errno::E2BIG)),
         Err(UnveilFault::OutOfMemory) => Err(WorldFault::OutOfMemory),
+    }
+}
+
+/// The place of what was found.
+fn place_of(found: &Found) -> Place
+    ensures { result ≡ place_of found.now }
+{
+    match *found {
+        Found::Whole { dir, .. } => Place::Dir(dir),
+        Found::Slot { dir, name, .. } => Place::Slot(dir, name),
     }
 }

@@ -5,15 +5,15 @@ ghost use Rattle.pua_path.specs.Resolution.{resolution_of_text};
 ghost use Rattle.pua_path.specs.declared.found.Found as founds;
 ghost use Rattle.pua_policy.specs.History.{History, StandsFor};
 ghost use Rattle.pua_policy.specs.Verdict.{place_of};
-ghost use Rattle.pua_script.specs.Decide.{Decision, adding, change_by, decide_call, decide_object, decide_symlink, decide_unveil, going, named, removing};
-ghost use Rattle.pua_script.specs.Judged.{NameFits, decided, decision_by};
+ghost use Rattle.pua_script.specs.Decide.{Decision, adding, change_by, decide_call, decide_object, decide_symlink, decide_unveil, going, link_node, removing, veiling};
+ghost use Rattle.pua_script.specs.Judged.{NameFits, decided, decision_by, on_judged};
 
 use crate::granted::Granted;
 use crate::pair::{node_named, spot_named};
 use pua_path::{Counted, Ending, Errno, Found, Last, PathText, Probe, resolve};
 use pua_policy::judge::{object_verdict, promised, promised_for};
 use pua_policy::needs::{ending, need};
-use pua_policy::{Call, CallTable, Perms, Place, Process, Promises, Refusal};
+use pua_policy::{Call, CallTable, Perms, Process, Promises, Refusal};
 use pua_tree::{FileTree, Kind, NodeId};
 
 /// What a path names from a directory.
@@ -42,112 +42,136 @@ fn judge_object<T: FileTree>(
     process: &Process,
     call: Call,
     path: &[u8],
-) -> Result<Found, Errno>
+) -> Result<Found, Refusal>
     ensures { (h : History) → StandsFor process.now h → (further : founds.Found → Decision) →
-        decide_object table.now (T.content tree.now) h call path.now further ≡ named result further }
+        decide_object table.now (T.content tree.now) h call path.now further ≡ on_judged result further }
 {
     let mut probe = Counted::new(tree);
-    let found = named(
-        &mut probe,
-        process.dir(),
-        path,
-        ending(call),
-        need(call).last,
-    )?;
-    object_verdict(&mut probe, process, table, call, &found)?;
-    Ok(found)
-}
-
-/// What a call is to change: its promises are judged before its path is read.
-pub(crate) fn decide_call<'a, T: FileTree>(
-    tree: &T,
-    table: &CallTable,
-    process: &Process,
-    call: Call,
-    path: &'a [u8],
-) -> Result<Granted<'a>, Refusal>
-    ensures { (h : History) → StandsFor process.now h → decided h result ≡ decide_call table.now (T.content tree.now) h call path.now }
-{
-    promised_for(process, table, call)?;
-    match judge_object(tree, table, process, call, path) {
-        Ok(found) => Ok(change_by(call, &found)),
+    let last = need(call).last;
+    let found = match named(&mut probe, process.dir(), path, ending(call), last) {
+        Ok(found) => found,
+        Err(errno) => return Err(Refusal::Failed(errno)),
+    };
+    match object_verdict(&mut probe, process, table, call, &found) {
+        Ok(()) => Ok(found),
         Err(errno) => Err(Refusal::Failed(errno)),
     }
 }
 
+/// What the path of a call names: its promises are judged before its path is read.
+pub(crate) fn judge_call<T: FileTree>(
+    tree: &T,
+    table: &CallTable,
+    process: &Process,
+    call: Call,
+    path: &[u8],
+) -> Result<Found, Refusal>
+    ensures { (h : History) → StandsFor process.now h →
+        on_judged result (λ object. Ok (change_by table.now call object)) ≡ decide_call table.now (T.content tree.now) h call path.now }
+{
+    promised_for(process, table, call)?;
+    judge_object(tree, table, process, call, path)
+}
+
+/// What a call is to change, by what its path named.
+pub(crate) fn grant_call<'a>(
+    table: &CallTable,
+    call: Call,
+    judged: &'a Result<Found, Refusal>,
+) -> Result<Granted<'a>, Refusal>
+    ensures { (h : History) → decided h result ≡ on_judged judged.now (λ object. Ok (change_by table.now call object)) }
+{
+    match judged {
+        Ok(found) => Ok(change_by(table, call, found)),
+        Err(refusal) => Err(*refusal),
+    }
+}
+
 /// What an allowed call changes, by what its path named.
-fn change_by<'a>(call: Call, found: &Found) -> Granted<'a>
-    ensures { (h : History) → decision_by h result ≡ Ok (change_by call found.now) }
+fn change_by<'a>(table: &CallTable, call: Call, found: &'a Found) -> Granted<'a>
+    ensures { (h : History) → decision_by h result ≡ Ok (change_by table.now call found.now) }
 {
     match call {
         Call::Create => adding(Kind::File, None, found),
         Call::Mkdir => adding(Kind::Dir, None, found),
         Call::Rmdir | Call::Unlink => removing(found),
         Call::Chdir => entering(found),
-        Call::Exec => Granted::BeginProgram,
+        Call::Exec => Granted::BeginProgram(table.execpromises()),
         _ => Granted::NoChange,
     }
 }
 
 /// A node where nothing stands.
-fn adding<'a>(kind: Kind, target: Option<&'a [u8]>, found: &Found) -> Granted<'a>
+fn adding<'a>(kind: Kind, target: Option<&'a [u8]>, found: &'a Found) -> Granted<'a>
     ensures { (h : History) → decision_by h result ≡ Ok (adding (record { kind = kind; target = option_copied target.entry }) found.now) }
 {
     match (spot_named(found), node_named(found)) {
-        (Some(spot), None) => Granted::AddNode(spot, kind, target),
+        (Some((dir, name)), None) => Granted::AddNode(dir, name, kind, target),
         _ => Granted::NoChange,
     }
 }
 
 /// The row of what has a name.
-fn removing<'a>(found: &Found) -> Granted<'a>
+fn removing<'a>(found: &'a Found) -> Granted<'a>
     ensures { (h : History) → decision_by h result ≡ Ok (removing found.now) }
 {
     match (spot_named(found), node_named(found)) {
-        (Some(spot), Some(_)) => Granted::CutRow(spot),
+        (Some((dir, name)), Some(_)) => Granted::CutRow(dir, name),
         _ => Granted::NoChange,
     }
 }
 
 /// A directory as the working directory.
-fn entering<'a>(found: &Found) -> Granted<'a>
+fn entering<'a>(found: &'a Found) -> Granted<'a>
     ensures { (h : History) → decision_by h result ≡ Ok (going found.now) }
 {
-    match *found {
-        Found::Whole { dir, .. } => Granted::Enter(dir),
+    match found {
+        Found::Whole { dir, .. } => Granted::Enter(*dir),
         Found::Slot { .. } => Granted::NoChange,
     }
 }
 
-/// What a symlink is to change: the promise, then the target's text, then the path.
-pub(crate) fn decide_symlink<'a, T: FileTree>(
+/// What the path of a symlink names: the promise, then the target's text, then the path.
+pub(crate) fn judge_symlink<T: FileTree>(
     tree: &T,
     table: &CallTable,
     process: &Process,
-    target: &'a [u8],
+    target: &[u8],
     path: &[u8],
-) -> Result<Granted<'a>, Refusal>
-    ensures { (h : History) → StandsFor process.now h → decided h result ≡ decide_symlink table.now (T.content tree.now) h target.now path.now }
+) -> Result<Found, Refusal>
+    ensures { (h : History) → StandsFor process.now h →
+        on_judged result (λ object. Ok (adding (link_node target.now) object)) ≡ decide_symlink table.now (T.content tree.now) h target.now path.now }
 {
     promised_for(process, table, Call::Symlink)?;
     if let Err(errno) = PathText::read(target, Ending::Dot) {
         return Err(Refusal::Failed(errno));
     }
-    match judge_object(tree, table, process, Call::Symlink, path) {
-        Ok(found) => Ok(adding(Kind::Link, Some(target), &found)),
-        Err(errno) => Err(Refusal::Failed(errno)),
+    judge_object(tree, table, process, Call::Symlink, path)
+}
+
+/// A link with this target, where nothing stands.
+pub(crate) fn grant_symlink<'a>(
+    target: &'a [u8],
+    judged: &'a Result<Found, Refusal>,
+) -> Result<Granted<'a>, Refusal>
+    ensures { (h : History) → decided h result ≡ on_judged judged.now (λ object. Ok (adding (link_node target.now) object)) }
+{
+    match judged {
+        Ok(found) => Ok(adding(Kind::Link, Some(target), found)),
+        Err(refusal) => Err(*refusal),
     }
 }
 
-/// What an unveil is to change: the promise, the lock, the letters, and the path. A link at the
-/// path's end is followed.
-pub(crate) fn decide_unveil<'a, T: FileTree>(
+/// What the path of an unveil names, and its permissions: the promise, the lock, the letters, and
+/// the path. A link at the path's end is followed.
+pub(crate) fn judge_unveil<T: FileTree>(
     tree: &T,
     process: &Process,
-    path: &'a [u8],
+    path: &[u8],
     perms: Option<Perms>,
-) -> Result<Granted<'a>, Refusal>
-    ensures { (h : History) → StandsFor process.now h → decided h result ≡ decide_unveil (T.content tree.now) h path.now perms }
+) -> Result<(Found, Perms), Refusal>
+    ensures { (h : History) → StandsFor process.now h →
+        on_judged result (λ veil. veiling h (place_of veil.0) veil.1) ≡ decide_unveil (T.content tree.now) h path.now perms }
 {
     promised(process, Promises::UNVEIL)?;
     if process.locked() {
@@ -158,17 +182,19 @@ pub(crate) fn decide_unveil<'a, T: FileTree>(
     };
     let mut probe = Counted::new(tree);
     match named(&mut probe, process.dir(), path, Ending::Dot, Last::Followed) {
-        Ok(found) => Ok(Granted::Unveil(place_of(&found), perms)),
+        Ok(found) => Ok((found, perms)),
         Err(errno) => Err(Refusal::Failed(errno)),
     }
 }
 
-/// The place of what was found.
-fn place_of(found: &Found) -> Place
-    ensures { result ≡ place_of found.now }
+/// A veil on the place of what was found.
+pub(crate) fn grant_unveil<'a>(
+    judged: &'a Result<(Found, Perms), Refusal>,
+) -> Result<Granted<'a>, Refusal>
+    ensures { (h : History) → decided h result ≡ on_judged judged.now (λ veil. veiling h (place_of veil.0) veil.1) }
 {
-    match *found {
-        Found::Whole { dir, .. } => Place::Dir(dir),
-        Found::Slot { dir, name, .. } => Place::Slot(dir, name),
+    match judged {
+        Ok((found, perms)) => Ok(Granted::Unveil(found, *perms)),
+        Err(refusal) => Err(*refusal),
     }
 }

@@ -23,8 +23,8 @@ pub fn script_examples()
     ensures { ScriptRows }
 {}
 
-/// Examples of scripts and their answers, of what a rename and a link check first, of these by
-/// another table, and of an exec by which a locked process reaches more.
+/// Examples of scripts and their answers, of what a rename and a link check first, of these and of
+/// an exec by OpenBSD's rules, and of an exec by which a locked process reaches more.
 pub fn replay_examples()
     ensures replays { ReplayRows }
     ensures renames { RenameRows }

@@ -3,7 +3,6 @@
 
 mod act;
 mod answer;
-mod decide;
 mod fault;
 mod fork;
 mod futures;

@@ -1,12 +1,12 @@
 //! What the two paths of a request name, where a node of the one gets the name of the other.
 
-ghost use Rattle.std.specs.Prelude.{◌≡◌, IfOk};
+ghost use Rattle.std.specs.Prelude.{◌≡◌, IfOk, option_map};
 ghost use Rattle.pua_path.specs.Fits.{spot_named, node_named};
 ghost use Rattle.pua_path.specs.declared.found.Found as found;
 ghost use Rattle.pua_policy.specs.History.{History, StandsFor};
 ghost use Rattle.pua_policy.specs.Verdict.{FoundFits};
 ghost use Rattle.pua_script.specs.Decide.{Decision, covers_fault, decide_objects, decide_pair, is_whole, named};
-ghost use Rattle.pua_script.specs.Judged.{NameFits, on_judged};
+ghost use Rattle.pua_script.specs.Judged.{NameFits, on_judged, spot_now};
 
 use crate::judged::named;
 use pua_path::{Counted, Ending, Errno, Found, Probe, Way};
@@ -37,7 +37,10 @@ pub(crate) fn judge_pair<T: FileTree>(
 {
     promised_any(process, need.old_name().alternatives())?;
     promised_any(process, need.new_name().alternatives())?;
-    pair_named(tree, need, process, ending, old, new).map_err(Refusal::Failed)
+    match pair_named(tree, need, process, ending, old, new) {
+        Ok(pair) => Ok(pair),
+        Err(errno) => Err(Refusal::Failed(errno)),
+    }
 }
 
 /// What both paths name, where both are covered with the permissions that they need.
@@ -94,15 +97,15 @@ pub(crate) fn node_named(found: &Found) -> Option<NodeId>
 }
 
 /// Where the name is that was found, if it was found by one.
-pub(crate) fn spot_named(found: &Found) -> Option<(NodeId, Name)>
-    ensures { result ≡ spot_named found.now }
+pub(crate) fn spot_named(found: &Found) -> Option<(NodeId, &Name)>
+    ensures { option_map spot_now result ≡ spot_named found.now }
 {
-    match *found {
+    match found {
         Found::Whole { way, .. } => match way {
-            Way::Named { parent, name } => Some((parent, name)),
+            Way::Named { parent, name } => Some((*parent, name)),
             Way::Dot | Way::DotDot | Way::Top => None,
         },
-        Found::Slot { dir, name, .. } => Some((dir, name)),
+        Found::Slot { dir, name, .. } => Some((*dir, name)),
     }
 }
 

@@ -1,40 +1,60 @@
 //! A rename: what is wrong with what its two paths name, and the row that moves.
 
-ghost use Rattle.std.specs.Prelude.{◌≡◌, ℕ, ◌==◌, Ok, IsTrue};
+ghost use Rattle.std.specs.Prelude.{◌≡◌, ℕ, ◌==◌, Ok, IfOk, IsTrue};
 ghost use Rattle.std.specs.List.{list_any};
 ghost use Rattle.pua_tree.specs.Tree.{is_dir, climb};
 ghost use Rattle.pua_tree.specs.Edits.{is_same_node};
 ghost use Rattle.pua_path.specs.Fits.{spot_named, node_named};
+ghost use Rattle.pua_path.specs.declared.found.Found as found;
 ghost use Rattle.pua_path.specs.declared.text.Ending.TheVariants as ending;
 ghost use Rattle.pua_policy.specs.History.{History, StandsFor};
 ghost use Rattle.pua_policy.specs.Verdict.{or_fault};
-ghost use Rattle.pua_script.specs.Decide.{decide_pair, decide_rename, dots_fault, inside_fault, is_whole, kinds_fault, shifting, top_fault, ways_fault};
-ghost use Rattle.pua_script.specs.Judged.{NameFits, decided, decision_by};
+ghost use Rattle.pua_script.specs.Decide.{Decision, decide_pair, decide_rename, dots_fault, inside_fault, is_whole, kinds_fault, shifting, top_fault, ways_fault};
+ghost use Rattle.pua_script.specs.Judged.{NameFits, decided, decision_by, on_judged};
 
 use crate::granted::Granted;
-use crate::pair::{is_whole, judge_pair, node_named, spot_named};
+use crate::pair::{Pair, is_whole, judge_pair, node_named, spot_named};
 use pua_path::{Ending, Errno, Found, Way};
 use pua_policy::{CallTable, Process, Refusal};
 use pua_tree::{FileTree, Kind, NodeId};
 
-/// What a rename is to change: the promises of both names, what is wrong with the old path and then with the new
-/// one, the covers in the same order, and what is wrong with what both paths named.
-pub(crate) fn decide_rename<'a, T: FileTree>(
+/// What both paths of a rename name: the promises of both names, what is wrong with the old path and
+/// then with the new one, and the covers in the same order.
+pub(crate) fn judge_rename<T: FileTree>(
     tree: &T,
     table: &CallTable,
     process: &Process,
-    old: &'a [u8],
+    old: &[u8],
     new: &[u8],
-) -> Result<Granted<'a>, Refusal>
-    ensures { (h : History) → StandsFor process.now h →
-        decided h result ≡ decide_pair table.now.rename (T.content tree.now) h ending.Dropped old.now new.now (λ a b. decide_rename (T.content tree.now) a b (node_named a)) }
+) -> Result<Pair, Refusal>
+    ensures exact { (h : History) → StandsFor process.now h → (further : found.Found → found.Found → Decision) →
+        decide_pair table.now.rename (T.content tree.now) h ending.Dropped old.now new.now further ≡ on_judged result (λ pair. further pair.from pair.to) }
+    ensures fit { IfOk result (λ pair. NameFits (T.content tree.now) pair.to) }
 {
-    let pair = judge_pair(tree, table.rename(), process, Ending::Dropped, old, new)?;
-    decide_shift(tree, &pair.from, &pair.to)
+    judge_pair(tree, table.rename(), process, Ending::Dropped, old, new)
+}
+
+/// What a rename is to change: the row of what its old path named moves, unless something is wrong
+/// with what both paths named.
+pub(crate) fn grant_rename<'a, T: FileTree>(
+    tree: &T,
+    judged: &'a Result<Pair, Refusal>,
+) -> Result<Granted<'a>, Refusal>
+    requires { IfOk judged.now (λ pair. NameFits (T.content tree.now) pair.to) }
+    ensures { (h : History) → decided h result ≡ on_judged judged.now (λ pair. decide_rename (T.content tree.now) pair.from pair.to (node_named pair.from)) }
+{
+    match judged {
+        Ok(pair) => decide_shift(tree, &pair.from, &pair.to),
+        Err(refusal) => Err(*refusal),
+    }
 }
 
 /// The row of what was found, unless something is wrong with it or with the place that it would get.
-fn decide_shift<'a, T: FileTree>(tree: &T, from: &Found, to: &Found) -> Result<Granted<'a>, Refusal>
+fn decide_shift<'a, T: FileTree>(
+    tree: &T,
+    from: &'a Found,
+    to: &'a Found,
+) -> Result<Granted<'a>, Refusal>
     requires { NameFits (T.content tree.now) to.now }
     ensures { (h : History) → decided h result ≡ decide_rename (T.content tree.now) from.now to.now (node_named from.now) }
 {
@@ -54,11 +74,11 @@ fn decide_shift<'a, T: FileTree>(tree: &T, from: &Found, to: &Found) -> Result<G
 }
 
 /// The row at one name moves to another.
-fn shifting<'a>(from: &Found, to: &Found) -> Granted<'a>
+fn shifting<'a>(from: &'a Found, to: &'a Found) -> Granted<'a>
     ensures { (h : History) → decision_by h result ≡ Ok (shifting (spot_named from.now) (spot_named to.now)) }
 {
     match (spot_named(from), spot_named(to)) {
-        (Some(from), Some(to)) => Granted::ShiftRow(from, to),
+        (Some((from, name)), Some((to, new_name))) => Granted::ShiftRow(from, name, to, new_name),
         _ => Granted::NoChange,
     }
 }
@@ -86,7 +106,7 @@ fn ways_fault(from: &Found, to: &Found) -> Option<Errno>
 fn dots_fault(found: &Found) -> Option<Errno>
     ensures { result ≡ dots_fault found.now }
 {
-    match *found {
+    match found {
         Found::Whole { way, .. } => match way {
             Way::Dot | Way::DotDot => Some(Errno::EINVAL),
             Way::Named { .. } | Way::Top => None,
@@ -99,7 +119,7 @@ fn dots_fault(found: &Found) -> Option<Errno>
 fn top_fault(found: &Found) -> Option<Errno>
     ensures { result ≡ top_fault found.now }
 {
-    match *found {
+    match found {
         Found::Whole { way, .. } => match way {
             Way::Top => Some(Errno::EBUSY),
             Way::Named { .. } | Way::Dot | Way::DotDot => None,
@@ -122,7 +142,9 @@ fn inside_fault<T: FileTree>(tree: &T, node: NodeId, to: &Found) -> Option<Errno
     requires { NameFits (T.content tree.now) to.now }
     ensures { result ≡ inside_fault (T.content tree.now) node (spot_named to.now) }
 {
-    let (dir, _name) = spot_named(to)?;
+    let Some((dir, _name)) = spot_named(to) else {
+        return None;
+    };
     if tree.kind(node) == Some(Kind::Dir) && is_within(tree, dir, node) {
         return Some(Errno::EINVAL);
     }

@@ -127,6 +127,8 @@ impl<T: FileTree> World<T> {
         ensures spares { IfOk result (λ _. IsSparing self.old request.now self.new) }
         ensures tree { IfOk result (λ _. WellFormed self.new.tree) }
     {
+        // What may be done afterwards follows from what `answer` says of any request, and from trees
+        // before and after it. So it is a function of its own, and no case has to show it.
         self.tree.known();
         let answer = self.answer(request)?;
         self.tree.known();

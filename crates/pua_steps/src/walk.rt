@@ -129,6 +129,7 @@ impl Walk {
         ensures stays { self.old.calls ≢ 0 →
             (self.new.word ≡ self.old.word) × (self.new.unchanged ≡ self.old.unchanged) }
     {
+        // The proof names the loop by its label.
         'words: loop {
             if let Some(call) = take_first(&mut self.calls) {
                 return Some(call);

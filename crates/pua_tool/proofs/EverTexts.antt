@@ -23,23 +23,23 @@ use Rattle.pua_tool.specs.EverLists.{EverListState, IsEverListOf}
 use Rattle.pua_tool.specs.EverTexts.{Answers, ever_after, ever_lines, ever_list, ever_text, kind_of, path_or_new, unless_refused}
 use Rattle.pua_tool.specs.ObjectTexts.{Tells}
 use Rattle.pua_io.specs.Sinks.{Adds, AddsFront, HasFailed}
-use Rattle.pua_tool.specs.Texts.{Replayed, answer_lines, ended, replayed}
+use Rattle.pua_tool.specs.Texts.{Chosen, Replayed, answer_lines, ended, replayed}
 use Rattle.pua_tool.specs.declared.fault.ToolFault.{ToolFault}
 use Rattle.pua_tool.specs.declared.fault.ToolFault.TheVariants.{NoProcess, Write, OutOfMemory}
 use Rattle.pua_tool.proofs.ObjectTexts.{tells_write, tells_refused, tells_unwritten}
 
-module _ (table_bytes : Option (List ℕ)) (tree_bytes script_bytes : List ℕ) (process : ℕ) where
-  pub ever_is : (done : Replayed) → replayed table_bytes tree_bytes script_bytes ≡ Ok done → ever_text table_bytes tree_bytes script_bytes process ≡ ever_after done process
+module _ (choice : Chosen) (tree_bytes script_bytes : List ℕ) (process : ℕ) where
+  pub ever_is : (done : Replayed) → replayed choice tree_bytes script_bytes ≡ Ok done → ever_text choice tree_bytes script_bytes process ≡ ever_after done process
   unfolding ever_text
   ever_is done r = λ i. r i >>= λ done. ever_after done process
 
   -- what refuses the replay comes first
-  pub replay_refuses : (fault : ToolFault) → replayed table_bytes tree_bytes script_bytes ≡ Err fault → ever_text table_bytes tree_bytes script_bytes process ≡ Err fault
+  pub replay_refuses : (fault : ToolFault) → replayed choice tree_bytes script_bytes ≡ Err fault → ever_text choice tree_bytes script_bytes process ≡ Err fault
   unfolding ever_text
   replay_refuses fault r = λ i. r i >>= λ done. ever_after done process
 
-  pub replay_answers : (done : Replayed) (r : Result (Unit {0}) ToolFault) (a b : Option (List ℕ)) (n m : ℕ) → replayed table_bytes tree_bytes script_bytes ≡ Ok done
-      → Answers (ever_after done process) r a b n m → Answers (ever_text table_bytes tree_bytes script_bytes process) r a b n m
+  pub replay_answers : (done : Replayed) (r : Result (Unit {0}) ToolFault) (a b : Option (List ℕ)) (n m : ℕ) → replayed choice tree_bytes script_bytes ≡ Ok done
+      → Answers (ever_after done process) r a b n m → Answers (ever_text choice tree_bytes script_bytes process) r a b n m
   replay_answers done r a b n m is = subst (λ (answer : Result (List ℕ) ToolFault). Answers answer r a b n m) (sym (ever_is done is))
 
 -- the line of a thing, by what the code gives of it

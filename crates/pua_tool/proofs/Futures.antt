@@ -76,9 +76,9 @@ confinement table w process now asks here confined none alone =
     }
 
 pub narrowing_as_read : NarrowingAsRead
-narrowing_as_read table_bytes tree_bytes script_bytes table t first asks given listed scripted process now here confined none member belongs =
+narrowing_as_read choice tree_bytes script_bytes table t first asks given listed scripted process now here confined none member belongs =
     let w = world_after table (new_world t) first in
-    let one = narrowing table (tables_need_no_error table_bytes table given) w process now asks here confined none member belongs in
+    let one = narrowing table (tables_need_no_error choice table given) w process now asks here confined none member belongs in
     (one.0, one.1, one.2.1 (world_after table w asks).tree)
 
 -- all texts that are read are bytes: those of the tree, of the first lines, and of the others
@@ -91,7 +91,7 @@ module _ (tree_bytes script_bytes : List ℕ) (table : CallTable) (t : Tree) (fi
   tree_in_bytes = replays_keep_byte_trees table (new_world t) first (listings_list_byte_trees tree_bytes t listed) both_in_bytes.0
 
 pub confinement_as_read : ConfinementAsRead
-confinement_as_read table_bytes tree_bytes script_bytes table t first asks given listed scripted process now here confined none alone =
+confinement_as_read choice tree_bytes script_bytes table t first asks given listed scripted process now here confined none alone =
     let w = world_after table (new_world t) first in
     let both = confinement table w process now asks here confined none alone in (
       λ taking. both.spares taking (tree_in_bytes tree_bytes script_bytes table t first asks listed scripted) (both_in_bytes tree_bytes script_bytes table t first asks listed scripted).1,

@@ -4,6 +4,7 @@ pub mod Tables
 pub mod Futures
 pub mod Alike
 pub mod Passing
+pub mod KeptPaths
 pub mod ObjectTexts
 pub mod EverTexts
 pub mod Stops

@@ -25,28 +25,28 @@ use Rattle.pua_objects.specs.Objects.{Item, with_commas}
 use Rattle.pua_objects.specs.Ready.{IsListed, HasNoLine, lines_of}
 use Rattle.pua_objects.specs.declared.line.ObjectLine.{ObjectLine}
 use Rattle.std.specs.Borrow.{Bor}
-use Rattle.pua_tool.specs.Texts.{Replayed, replayed, ended}
+use Rattle.pua_tool.specs.Texts.{Chosen, Replayed, replayed, ended}
 use Rattle.pua_io.specs.Sinks.{Adds, AddsFront, HasFailed}
 use Rattle.pua_tool.specs.ObjectTexts.{object_lines, lists_of, numbers_asked, objects_after, objects_text, Tells}
 use Rattle.pua_tool.specs.declared.fault.ToolFault.{ToolFault}
 use Rattle.pua_tool.specs.declared.fault.ToolFault.TheVariants.{Listing, Script, NoProcess, Audit, Write, OutOfMemory, Table, CanUnveil, LacksC, RenameLacksC, LinkLacksC}
 
-module _ (table_bytes : Option (List ℕ)) (tree_bytes script_bytes : List ℕ) (which : Processes) where
+module _ (choice : Chosen) (tree_bytes script_bytes : List ℕ) (which : Processes) where
   abbrev listed_by : Replayed → Result (List ℕ) ToolFault → Result (List ℕ) ToolFault
   listed_by done asked = asked >>= λ numbers. Ok (objects_after done.table done.told done.world numbers)
 
-  pub objects_are : (done : Replayed) (numbers : List ℕ) → replayed table_bytes tree_bytes script_bytes ≡ Ok done → numbers_asked done.world which ≡ Ok numbers
-      → objects_text table_bytes tree_bytes script_bytes which ≡ Ok (objects_after done.table done.told done.world numbers)
+  pub objects_are : (done : Replayed) (numbers : List ℕ) → replayed choice tree_bytes script_bytes ≡ Ok done → numbers_asked done.world which ≡ Ok numbers
+      → objects_text choice tree_bytes script_bytes which ≡ Ok (objects_after done.table done.told done.world numbers)
   unfolding objects_text
   objects_are done numbers r m = (λ i. r i >>= λ done. listed_by done (numbers_asked done.world which)) ∙ (λ i. listed_by done (m i))
 
   -- what refuses the replay comes first
-  pub replay_refuses : (fault : ToolFault) → replayed table_bytes tree_bytes script_bytes ≡ Err fault → objects_text table_bytes tree_bytes script_bytes which ≡ Err fault
+  pub replay_refuses : (fault : ToolFault) → replayed choice tree_bytes script_bytes ≡ Err fault → objects_text choice tree_bytes script_bytes which ≡ Err fault
   unfolding objects_text
   replay_refuses fault r = λ i. r i >>= λ done. listed_by done (numbers_asked done.world which)
 
   -- what refuses the numbers comes where the replay is not refused
-  pub asked_refuses : (done : Replayed) (fault : ToolFault) → replayed table_bytes tree_bytes script_bytes ≡ Ok done → numbers_asked done.world which ≡ Err fault → objects_text table_bytes tree_bytes script_bytes which ≡ Err fault
+  pub asked_refuses : (done : Replayed) (fault : ToolFault) → replayed choice tree_bytes script_bytes ≡ Ok done → numbers_asked done.world which ≡ Err fault → objects_text choice tree_bytes script_bytes which ≡ Err fault
   unfolding objects_text
   asked_refuses done fault r m = (λ i. r i >>= λ done. listed_by done (numbers_asked done.world which)) ∙ (λ i. listed_by done (m i))
 

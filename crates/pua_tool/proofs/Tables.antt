@@ -1,23 +1,26 @@
--- No table that is read needs `error`.
+-- No table that is gone by needs `error`.
 use Rattle.std.proofs.Common.{◌≡◌, ℕ, List, refl, ap, subst, ◌∙◌}
 use Rattle.std.specs.Prelude.{Option, Some, None, Result, Ok, Err}
-use Rattle.pua_policy.specs.Calls.{CallTable, standard_table}
+use Rattle.pua_policy.specs.Calls.{CallTable, table_by_rules}
 use Rattle.pua_policy.specs.Tables.{NoCallNeedsError}
-use Rattle.pua_policy.specs.TableTexts.{table_of}
+use Rattle.pua_policy.specs.TableTexts.{table_over}
 use Rattle.pua_policy.specs.declared.table.read.TableFault.{TableFault}
 use Rattle.pua_policy.proofs.ForCallers.{texts_need_no_error}
-use Rattle.pua_script.proofs.ForCallers.{standard_table_narrows}
-use Rattle.pua_tool.specs.Texts.{as_table, table_by}
+use Rattle.pua_script.proofs.ForCallers.{rules_narrow}
+use Rattle.pua_tool.specs.Texts.{Chosen, as_table, table_by, with_rows}
 
-pub tables_need_no_error : (given : Option (List ℕ)) (table : CallTable) → table_by given ≡ Ok table → NoCallNeedsError table
-tables_need_no_error None table is = subst NoCallNeedsError standard standard_table_narrows.error
+rows_need_no_error : (base : CallTable) → NoCallNeedsError base → (rows : Option (List ℕ)) (table : CallTable) → with_rows base rows ≡ Ok table → NoCallNeedsError table
+rows_need_no_error base sound None table is = subst NoCallNeedsError same sound
   where
-    standard : standard_table ≡ table
-    standard = cc
-tables_need_no_error (Some text) table is = by (table_of text) refl is
+    same : base ≡ table
+    same = cc
+rows_need_no_error base sound (Some text) table is = by (table_over base text) refl is
   where
-    by : (read : Result CallTable TableFault) → table_of text ≡ read → as_table read ≡ Ok table → NoCallNeedsError table
+    by : (read : Result CallTable TableFault) → table_over base text ≡ read → as_table read ≡ Ok table → NoCallNeedsError table
     by (Ok rules) reads is =
         let same : rules ≡ table = cc in
-        texts_need_no_error standard_table_narrows.error text table (reads ∙ ap Ok same)
+        texts_need_no_error base sound text table (reads ∙ ap Ok same)
     by (Err fault) reads is = cc
+
+pub tables_need_no_error : (choice : Chosen) (table : CallTable) → table_by choice ≡ Ok table → NoCallNeedsError table
+tables_need_no_error choice table is = rows_need_no_error (table_by_rules choice.rules) (rules_narrow choice.rules).error choice.rows table is

@@ -16,7 +16,7 @@ use Rattle.pua_ever.specs.declared.refusal.Refusal.TheVariants as refused
 use Rattle.pua_objects.specs.declared.kind.ObjectKind.{ObjectKind}
 use Rattle.pua_io.specs.Sinks.{Adds, AddsFront, HasFailed}
 use Rattle.pua_tool.specs.States.{head_lines}
-use Rattle.pua_tool.specs.Texts.{Replayed, ended, answer_lines, replayed}
+use Rattle.pua_tool.specs.Texts.{Chosen, Replayed, ended, answer_lines, replayed}
 use Rattle.pua_tool.specs.declared.fault.ToolFault.{ToolFault}
 use Rattle.pua_tool.specs.declared.fault.ToolFault.TheVariants.{NoProcess, Write, OutOfMemory, CanUnveil, LacksC, RenameLacksC, LinkLacksC}
 
@@ -56,8 +56,8 @@ ever_after done process =
     >>= λ h. unless_refused process (refusal done.table h) (answer_lines 1 done.told ++ ever_list done.table done.world.tree process h)
 
 -- the list for ever of a process at the end of a script over a listing, or the first fault: the table's, the listing's, the script's, a process never made, or a reason for no list
-unfoldable pub ever_text : Option (List ℕ) → List ℕ → List ℕ → ℕ → Result (List ℕ) ToolFault
-ever_text table_bytes tree_bytes script_bytes process = replayed table_bytes tree_bytes script_bytes >>= λ done. ever_after done process
+unfoldable pub ever_text : Chosen → List ℕ → List ℕ → ℕ → Result (List ℕ) ToolFault
+ever_text choice tree_bytes script_bytes process = replayed choice tree_bytes script_bytes >>= λ done. ever_after done process
 
 -- what a fault leaves: of a put that failed a front of the text; every other fault comes before anything is written, and is the answer unless memory was refused
 pub record IsUnanswered (answer : Result (List ℕ) ToolFault) (fault : ToolFault) (old new : Option (List ℕ)) (before after : ℕ) : Type 0 where

@@ -17,7 +17,7 @@ use Rattle.pua_audit.specs.Reach.{Pair, alphabet_of, reach}
 use Rattle.pua_audit.specs.SubLists.{SubList}
 use Rattle.pua_audit.specs.declared.base.Base.{Base}
 use Rattle.pua_audit.specs.declared.base.Base.TheVariants.{Root, Cwd}
-use Rattle.pua_tool.specs.Texts.{table_by}
+use Rattle.pua_tool.specs.Texts.{Chosen, table_by}
 
 -- what a process reaches by its history over a tree
 abbrev pub reach_over : Tree → CallTable → History → Base → List (List ℕ) → ℕ → List Pair
@@ -61,8 +61,8 @@ Confinement = (table : CallTable) (w : World) (process : ℕ) (now : History) (a
 
 -- over a table, a listing and a script as a command reads them: the script's first lines left a world, and the lines after them are the further requests
 abbrev pub AsRead : (CallTable → World → List Asked → Type 0) → Type 0
-AsRead Holds = (table_bytes : Option (List ℕ)) (tree_bytes script_bytes : List ℕ) (table : CallTable) (t : Tree) (first asks : List Asked) →
-    table_by table_bytes ≡ Ok table → listing tree_bytes ≡ Ok t → script script_bytes ≡ Ok (first ++ asks) →
+AsRead Holds = (choice : Chosen) (tree_bytes script_bytes : List ℕ) (table : CallTable) (t : Tree) (first asks : List Asked) →
+    table_by choice ≡ Ok table → listing tree_bytes ≡ Ok t → script script_bytes ≡ Ok (first ++ asks) →
     Holds table (world_after table (new_world t) first) asks
 
 -- each member of the family of a confined process reaches no more, over the tree that the further requests leave

@@ -1,14 +1,19 @@
-pub mod Blocks
-pub mod Statuses
+-- The claim, in reading order: what a reader has to believe of the texts that the program writes, and of how it ends.
 pub mod Texts
 pub mod States
 pub mod ObjectTexts
 pub mod EverTexts
-pub mod Lists
-pub mod EverLists
-pub mod Begun
+pub mod Statuses
+pub mod Told
 pub mod Performed
+-- What is proved of these.
 pub mod Futures
 pub mod Alike
+-- Worked rows, which hold by computation.
 pub mod Examples
-pub mod Told
+-- Notes: what the code has begun, and what it puts at once.
+pub mod Begun
+pub mod Lists
+pub mod EverLists
+pub mod Blocks
+pub mod KeptPaths

@@ -11,7 +11,7 @@ use Rattle.pua_objects.specs.Objects.{Line, line_text, objects}
 use Rattle.pua_words.specs.declared.command.Processes.{Processes}
 use Rattle.pua_words.specs.declared.command.Processes.TheVariants.{One, All}
 use Rattle.pua_tool.specs.States.{head_lines}
-use Rattle.pua_tool.specs.Texts.{ended, answer_lines, replayed}
+use Rattle.pua_tool.specs.Texts.{Chosen, ended, answer_lines, replayed}
 use Rattle.pua_tool.specs.declared.fault.ToolFault.{ToolFault}
 use Rattle.pua_tool.specs.declared.fault.ToolFault.TheVariants.{NoProcess, Write, OutOfMemory}
 use Rattle.pua_io.specs.Sinks.{Adds, AddsFront, HasFailed}
@@ -40,9 +40,9 @@ abbrev pub objects_after : CallTable → List Answer → World → List ℕ → 
 objects_after table told w numbers = answer_lines 1 told ++ lists_of table w numbers
 
 -- the lists of processes at the end of a script over a listing, or the first fault: the table's, the listing's, the script's, or a process never made
-unfoldable pub objects_text : Option (List ℕ) → List ℕ → List ℕ → Processes → Result (List ℕ) ToolFault
-objects_text table_bytes tree_bytes script_bytes which = do
-  done ← replayed table_bytes tree_bytes script_bytes
+unfoldable pub objects_text : Chosen → List ℕ → List ℕ → Processes → Result (List ℕ) ToolFault
+objects_text choice tree_bytes script_bytes which = do
+  done ← replayed choice tree_bytes script_bytes
   numbers ← numbers_asked done.world which
   Ok (objects_after done.table done.told done.world numbers)
 

@@ -14,16 +14,16 @@ use Rattle.pua_tool.specs.declared.status.TheConstants.{REFUSED}
 use Rattle.pua_io.specs.Held.{Held, Holds, HoldsNothing}
 use Rattle.pua_io.specs.Sinks.{Adds, AddsFront, HasFailed}
 use Rattle.pua_tool.specs.Statuses.{status_of}
-use Rattle.pua_tool.specs.Texts.{given, run_text, audit_text, wanted_by}
+use Rattle.pua_tool.specs.Texts.{Chosen, given, run_text, audit_text, wanted_by}
 use Rattle.pua_tool.specs.ObjectTexts.{objects_text}
 use Rattle.pua_tool.specs.EverTexts.{ever_text}
 
 -- the text that is asked for, of a table, a listing and a script, or what refuses it
-abbrev pub text_asked : Text → Option (List ℕ) → List ℕ → List ℕ → Result (List ℕ) ToolFault
-text_asked Run table tree script = run_text table tree script
-text_asked (Audit words) table tree script = audit_text table tree script (wanted_by words)
-text_asked (Objects words) table tree script = objects_text table tree script words.processes
-text_asked (Ever words) table tree script = ever_text table tree script words.process
+abbrev pub text_asked : Text → Chosen → List ℕ → List ℕ → Result (List ℕ) ToolFault
+text_asked Run choice tree script = run_text choice tree script
+text_asked (Audit words) choice tree script = audit_text choice tree script (wanted_by words)
+text_asked (Objects words) choice tree script = objects_text choice tree script words.processes
+text_asked (Ever words) choice tree script = ever_text choice tree script words.process
 
 -- the table's bytes are held under its name, or no table is named and there are none
 abbrev pub HoldsTable : Held → Option (Bor (List ℕ)) → Option (List ℕ) → Type 0
@@ -40,7 +40,7 @@ pub record Asks (held : Held) (command : Command) (answer : Result (List ℕ) To
   pub table_held : HoldsTable held command.table table
   pub tree_held : Holds held command.tree.now tree
   pub script_held : Holds held command.script.now script
-  pub answers : text_asked command.text table tree script ≡ answer
+  pub answers : text_asked command.text (record { rules = command.rules; rows = table }) tree script ≡ answer
 
 -- the whole text that is asked for was written
 pub record IsDone (held : Held) (command : Command) (old new : Option (List ℕ)) : Type 0 where

@@ -5,8 +5,10 @@ use Rattle.pua_tree.specs.Listing.{listing}
 use Rattle.pua_tree.specs.Steps.{◌>>=◌}
 use Rattle.pua_tree.specs.declared.fault.ListingFault.{ListingFault}
 use Rattle.std.specs.Borrow.{Bor}
-use Rattle.pua_policy.specs.Calls.{CallTable, call_name, standard_table}
-use Rattle.pua_policy.specs.TableTexts.{table_of}
+use Rattle.pua_policy.specs.Calls.{CallTable, call_name, table_by_rules}
+use Rattle.pua_policy.specs.TableTexts.{table_over}
+use Rattle.pua_policy.specs.declared.rules.Rules.{Rules}
+use Rattle.pua_policy.specs.declared.rules.Rules.TheVariants.{Profile}
 use Rattle.pua_policy.specs.declared.table.read.TableFault.{TableFault}
 use Rattle.pua_script.specs.Requests.{Asked}
 use Rattle.pua_script.specs.Scripts.{script}
@@ -20,6 +22,7 @@ use Rattle.pua_audit.specs.declared.base.Base.{Base}
 use Rattle.pua_audit.specs.declared.fault.AuditFault.{AuditFault}
 use Rattle.pua_words.specs.declared.command.AuditWords.{AuditWords}
 use Rattle.pua_tool.specs.declared.job.Job.{Job}
+use Rattle.pua_tool.specs.declared.table.TableChoice.{TableChoice}
 use Rattle.pua_tool.specs.declared.fault.ToolFault.{ToolFault}
 use Rattle.pua_tool.specs.declared.fault.ToolFault.TheVariants.{Table, Listing, Script, NoProcess, Audit}
 
@@ -67,10 +70,34 @@ abbrev pub as_table : Result CallTable TableFault → Result CallTable ToolFault
 as_table (Ok table) = Ok table
 as_table (Err fault) = Err (Table fault)
 
--- the table that a text gives, or its fault; the standard one where no text is given
-abbrev pub table_by : Option (List ℕ) → Result CallTable ToolFault
-table_by None = Ok standard_table
-table_by (Some text) = as_table (table_of text)
+-- whose rules are gone by, and the text with rows in the place of theirs, where there is one
+pub record Chosen : Type 0 where
+  pub rules : Rules
+  pub rows : Option (List ℕ)
+
+-- the standard table, without a text
+abbrev pub by_standard : Chosen
+by_standard = record { rules = Profile; rows = None }
+
+abbrev pub chosen : TableChoice → Chosen
+chosen table = record { rules = table.rules; rows = given table.rows }
+
+-- the rules of the profile, with a text
+abbrev pub by_profile : Option (List ℕ) → Chosen
+by_profile text = record { rules = Profile; rows = text }
+
+-- what the job of an audit chooses by these rules
+abbrev pub by_job : Rules → Job → Chosen
+by_job rules job = record { rules = rules; rows = given job.table }
+
+-- a table with the rows that a text gives over it, or the text's fault
+abbrev pub with_rows : CallTable → Option (List ℕ) → Result CallTable ToolFault
+with_rows base None = Ok base
+with_rows base (Some text) = as_table (table_over base text)
+
+-- the table that is gone by, or the fault of its text
+abbrev pub table_by : Chosen → Result CallTable ToolFault
+table_by choice = with_rows (table_by_rules choice.rules) choice.rows
 
 abbrev pub as_listing : Result Tree ListingFault → Result Tree ToolFault
 as_listing (Ok t) = Ok t
@@ -90,18 +117,18 @@ pub record Replayed : Type 0 where
   pub told : List Answer
   pub world : World
 
--- the replay of a script over a listing, by the table that a text gives, or the first fault: the table's, the listing's, or the script's
-unfoldable pub replayed : Option (List ℕ) → List ℕ → List ℕ → Result Replayed ToolFault
-replayed table_bytes tree_bytes script_bytes = do
-  table ← table_by table_bytes
+-- the replay of a script over a listing, by the table that is chosen, or the first fault: the table's, the listing's, or the script's
+unfoldable pub replayed : Chosen → List ℕ → List ℕ → Result Replayed ToolFault
+replayed choice tree_bytes script_bytes = do
+  table ← table_by choice
   t ← as_listing (listing tree_bytes)
   asks ← as_script (script script_bytes)
   Ok (record { table = table; told = answers table (new_world t) asks; world = world_after table (new_world t) asks })
 
 -- a line for each answer of a script over a listing
-abbrev pub run_text : Option (List ℕ) → List ℕ → List ℕ → Result (List ℕ) ToolFault
-run_text table_bytes tree_bytes script_bytes = do
-  done ← replayed table_bytes tree_bytes script_bytes
+abbrev pub run_text : Chosen → List ℕ → List ℕ → Result (List ℕ) ToolFault
+run_text choice tree_bytes script_bytes = do
+  done ← replayed choice tree_bytes script_bytes
   Ok (answer_lines 1 done.told)
 
 -- a replay, and the audit that begins where it ends
@@ -110,9 +137,9 @@ pub record Begun : Type 0 where
   pub beginning : Beginning
 
 -- the audit of a process at the end of a script over a listing, or the first fault: the table's, the listing's, the script's, a process never made, or what no audit begins with
-unfoldable pub begun : Option (List ℕ) → List ℕ → List ℕ → Wanted → Result Begun ToolFault
-begun table_bytes tree_bytes script_bytes wanted = do
-  done ← replayed table_bytes tree_bytes script_bytes
+unfoldable pub begun : Chosen → List ℕ → List ℕ → Wanted → Result Begun ToolFault
+begun choice tree_bytes script_bytes wanted = do
+  done ← replayed choice tree_bytes script_bytes
   h ← ok_or (history_of done.world wanted.process) NoProcess
   b ← as_audit (beginning done.world.tree done.table h wanted.base wanted.candidates wanted.limit wanted.after)
   Ok (record { told = done.told; beginning = b })
@@ -127,5 +154,5 @@ abbrev pub text_of : Wanted → Begun → List ℕ
 text_of wanted b = front_of wanted.after wanted.process b.told ++ pair_lines b.beginning.scope.base (still_to_come b.beginning)
 
 -- the whole text of an audit, or what refuses it
-abbrev pub audit_text : Option (List ℕ) → List ℕ → List ℕ → Wanted → Result (List ℕ) ToolFault
-audit_text table_bytes tree_bytes script_bytes wanted = begun table_bytes tree_bytes script_bytes wanted >>= λ b. Ok (text_of wanted b)
+abbrev pub audit_text : Chosen → List ℕ → List ℕ → Wanted → Result (List ℕ) ToolFault
+audit_text choice tree_bytes script_bytes wanted = begun choice tree_bytes script_bytes wanted >>= λ b. Ok (text_of wanted b)

@@ -1,7 +1,8 @@
 //! The text of an audit.
 
 ghost use Rattle.std.specs.Prelude.{◌≡◌, ◌≢◌, ◌++◌, ℕ, List, [], Ok, Err, IfOk, IfErr, OnOk};
-ghost use Rattle.pua_tool.specs.Texts.{Begun, given, wanted, begun, audit_text, pair_lines};
+ghost use Rattle.pua_tool.specs.Texts.{Begun, by_job, wanted, begun, audit_text, pair_lines};
+ghost use Rattle.pua_policy.specs.declared.rules.Rules.TheVariants as rule;
 ghost use Rattle.pua_tool.specs.Begun.{IsBegun, text_left};
 ghost use Rattle.pua_io.specs.Sinks.{Adds, AddsFront, HasFailed, WritesTo};
 
@@ -11,22 +12,15 @@ use crate::fault::ToolFault;
 use crate::job::Job;
 use crate::line::add_pairs;
 use crate::script::{ProgramTree, Replay, replay_script};
+use crate::table::TableChoice;
 use pua_audit::{Audit, AuditFault};
 use pua_io::{PutFault, Sink};
 use pua_path::{Counted, Probe};
+use pua_policy::Rules;
 use pua_script::{Answer, World};
 use std::alloc::Global;
 
-/// Writes the text of an audit: for each line of the script its number and what it was answered,
-/// then `reach P`, and then a line for each pair of a path and a call that the process is allowed
-/// where the script ends, over all paths of at most so many letters, each pair once, in the order of
-/// the paths' letters and then of the calls. An audit that is resumed after a pair writes the lines
-/// of the pairs after it alone. What a call needs is said by the job's text with the table of calls,
-/// or by the standard table where there is none.
-///
-/// The first that holds of `Table`, `Listing`, `Script`, `NoProcess` and `Audit` is answered before anything
-/// is written. So is `OutOfMemory`, wherever a growth was refused. `Write` is answered only where a
-/// put failed in this call, and a front of the text is then written.
+/// Writes the text of an audit by the rules of the profile. It answers what `audit_by` does.
 pub fn audit_to<S: Sink>(
     alloc: Global,
     tree_bytes: &[u8],
@@ -35,22 +29,59 @@ pub fn audit_to<S: Sink>(
     sink: &mut S,
 ) -> Result<(), ToolFault>
     ensures whole { OnOk result ((text : List ℕ)
-        × (audit_text (given job.now.table) tree_bytes.now script_bytes.now (wanted job.now)
+        × (audit_text (by_job rule.Profile job.now) tree_bytes.now script_bytes.now (wanted job.now)
         ≡ Ok text) × Adds text (S.written sink.old) (S.written sink.new)) }
     ensures unfailed { OnOk result (S.failed sink.new ≡ S.failed sink.old) }
     ensures write { result ≡ Err ToolFault.Write → (text : List ℕ)
-        × (audit_text (given job.now.table) tree_bytes.now script_bytes.now (wanted job.now)
+        × (audit_text (by_job rule.Profile job.now) tree_bytes.now script_bytes.now (wanted job.now)
         ≡ Ok text)
         × AddsFront text (S.written sink.old) (S.written sink.new)
         × HasFailed (S.failed sink.old) (S.failed sink.new) }
     ensures refused { IfErr result (λ fault. fault ≢ ToolFault.Write →
         fault ≢ ToolFault.OutOfMemory →
-        (audit_text (given job.now.table) tree_bytes.now script_bytes.now (wanted job.now)
+        (audit_text (by_job rule.Profile job.now) tree_bytes.now script_bytes.now (wanted job.now)
         ≡ Err fault)) }
     ensures unwritten { IfErr result (λ fault. fault ≢ ToolFault.Write →
         S.written sink.new ≡ S.written sink.old) }
 {
-    let mut audited = begin(alloc, tree_bytes, script_bytes, job)?;
+    audit_by(alloc, tree_bytes, script_bytes, Rules::Profile, job, sink)
+}
+
+/// Writes the text of an audit: for each line of the script its number and what it was answered,
+/// then `reach P`, and then a line for each pair of a path and a call that the process is allowed
+/// where the script ends, over all paths of at most so many letters, each pair once, in the order of
+/// the paths' letters and then of the calls. An audit that is resumed after a pair writes the lines
+/// of the pairs after it alone. What a call needs is said by these rules, where the job's
+/// text with rows may stand in the place of some.
+///
+/// The first that holds of `Table`, `Listing`, `Script`, `NoProcess` and `Audit` is answered before anything
+/// is written. So is `OutOfMemory`, wherever a growth was refused. `Write` is answered only where a
+/// put failed in this call, and a front of the text is then written.
+pub fn audit_by<S: Sink>(
+    alloc: Global,
+    tree_bytes: &[u8],
+    script_bytes: &[u8],
+    rules: Rules,
+    job: &Job<'_>,
+    sink: &mut S,
+) -> Result<(), ToolFault>
+    ensures whole { OnOk result ((text : List ℕ)
+        × (audit_text (by_job rules job.now) tree_bytes.now script_bytes.now (wanted job.now)
+        ≡ Ok text) × Adds text (S.written sink.old) (S.written sink.new)) }
+    ensures unfailed { OnOk result (S.failed sink.new ≡ S.failed sink.old) }
+    ensures write { result ≡ Err ToolFault.Write → (text : List ℕ)
+        × (audit_text (by_job rules job.now) tree_bytes.now script_bytes.now (wanted job.now)
+        ≡ Ok text)
+        × AddsFront text (S.written sink.old) (S.written sink.new)
+        × HasFailed (S.failed sink.old) (S.failed sink.new) }
+    ensures refused { IfErr result (λ fault. fault ≢ ToolFault.Write →
+        fault ≢ ToolFault.OutOfMemory →
+        (audit_text (by_job rules job.now) tree_bytes.now script_bytes.now (wanted job.now)
+        ≡ Err fault)) }
+    ensures unwritten { IfErr result (λ fault. fault ≢ ToolFault.Write →
+        S.written sink.new ≡ S.written sink.old) }
+{
+    let mut audited = begin(alloc, tree_bytes, script_bytes, rules, job)?;
     audited.write(alloc, job, sink)
 }
 
@@ -129,17 +160,22 @@ fn begin(
     alloc: Global,
     tree_bytes: &[u8],
     script_bytes: &[u8],
+    rules: Rules,
     job: &Job<'_>,
 ) -> Result<Audited, ToolFault>
     ensures begun { IfOk result (λ audited. (b : Begun)
-        × (begun (given job.now.table) tree_bytes.now script_bytes.now (wanted job.now) ≡ Ok b)
+        × (begun (by_job rules job.now) tree_bytes.now script_bytes.now (wanted job.now) ≡ Ok b)
         × IsBegun audited b) }
     ensures refused { IfErr result (λ fault. fault ≢ ToolFault.OutOfMemory →
-        (begun (given job.now.table) tree_bytes.now script_bytes.now (wanted job.now)
+        (begun (by_job rules job.now) tree_bytes.now script_bytes.now (wanted job.now)
         ≡ Err fault)) }
     ensures unwritten { IfErr result (λ fault. fault ≢ ToolFault.Write) }
 {
-    let Replay { world, told } = replay_script(alloc, tree_bytes, script_bytes, job.table)?;
+    let choice = TableChoice {
+        rules,
+        rows: job.table,
+    };
+    let Replay { world, told } = replay_script(alloc, tree_bytes, script_bytes, choice)?;
     let Some(process) = world.process(job.process) else {
         return Err(ToolFault::NoProcess);
     };

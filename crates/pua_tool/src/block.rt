@@ -57,6 +57,13 @@ impl Block {
         self.bytes.len()
     }
 
+    /// The bytes that are still to be put.
+    pub(crate) fn bytes(&self) -> &[u8]
+        ensures { result.now ≡ self.now }
+    {
+        self.bytes.as_slice()
+    }
+
     /// Adds bytes that fit.
     #[inline(always)]
     pub(crate) fn push(&mut self, bytes: &[u8])
@@ -97,6 +104,18 @@ impl Block {
         ensures { PassesOn S.written S.failed bytes.now result self.old self.new sink.old sink.new }
     {
         self.make_room(sink)?;
+        self.push(bytes);
+        Ok(())
+    }
+
+    /// Adds bytes that an empty block has room for.
+    pub(crate) fn add_all<S: Sink>(&mut self, bytes: &[u8], sink: &mut S) -> Result<(), PutFault>
+        requires fits { length bytes.now ≤ BLOCK }
+        ensures { PassesOn S.written S.failed bytes.now result self.old self.new sink.old sink.new }
+    {
+        if self.bytes.len() > BLOCK - bytes.len() {
+            return self.add_text(bytes, sink);
+        }
         self.push(bytes);
         Ok(())
     }

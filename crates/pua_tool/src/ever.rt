@@ -6,16 +6,18 @@ ghost use Rattle.pua_policy.specs.History.{History};
 ghost use Rattle.pua_tool.specs.Begun.{IsReplay};
 ghost use Rattle.pua_tool.specs.EverLists.{IsEverListOf};
 ghost use Rattle.pua_tool.specs.EverTexts.{AnswersTo, ever_after, ever_list, ever_text};
-ghost use Rattle.pua_tool.specs.Texts.{Replayed, given};
+ghost use Rattle.pua_tool.specs.Texts.{Replayed, chosen};
 ghost use Rattle.pua_io.specs.Sinks.{Adds, AddsFront, HasFailed, WritesTo};
 
 use crate::answers::answer_text;
 use crate::block::Block;
 use crate::ever_list::EverList;
 use crate::fault::ToolFault;
+use crate::kept_path::KeptPath;
 use crate::objects::told;
 use crate::places::Places;
 use crate::script::{Replay, replay_script};
+use crate::table::TableChoice;
 use pua_io::{PutFault, Sink};
 use pua_tree::FileTree;
 use std::alloc::Global;
@@ -28,8 +30,7 @@ use std::alloc::Global;
 /// can make: `dir`, `other` for the further names of such a directory, `file` and `link`. The calls of
 /// a line are all that can ever be allowed on the thing, wherever it is moved. After a line of what
 /// stands at a name with a veil of its own, and can be taken away, stands a line of the missing name.
-/// What a call needs is said by the text with the table of calls, or by the standard table where there
-/// is none.
+/// What a call needs is said by the table of calls that is chosen.
 ///
 /// The first that holds of `Table`, `Listing`, `Script`, `NoProcess`, `CanUnveil`, `LacksC`,
 /// `RenameLacksC` and `LinkLacksC` is answered before anything is written. So is `OutOfMemory`,
@@ -39,21 +40,21 @@ pub fn ever_to<S: Sink>(
     alloc: Global,
     tree_bytes: &[u8],
     script_bytes: &[u8],
-    table: Option<&[u8]>,
+    table: TableChoice<'_>,
     process: u32,
     sink: &mut S,
 ) -> Result<(), ToolFault>
     ensures whole { OnOk result ((text : List ℕ)
-        × (ever_text (given table.entry) tree_bytes.now script_bytes.now process ≡ Ok text)
+        × (ever_text (chosen table.entry) tree_bytes.now script_bytes.now process ≡ Ok text)
         × Adds text (S.written sink.old) (S.written sink.new)) }
     ensures unfailed { OnOk result (S.failed sink.new ≡ S.failed sink.old) }
     ensures write { result ≡ Err ToolFault.Write → (text : List ℕ)
-        × (ever_text (given table.entry) tree_bytes.now script_bytes.now process ≡ Ok text)
+        × (ever_text (chosen table.entry) tree_bytes.now script_bytes.now process ≡ Ok text)
         × AddsFront text (S.written sink.old) (S.written sink.new)
         × HasFailed (S.failed sink.old) (S.failed sink.new) }
     ensures refused { IfErr result (λ fault. fault ≢ ToolFault.Write →
         fault ≢ ToolFault.OutOfMemory →
-        (ever_text (given table.entry) tree_bytes.now script_bytes.now process ≡ Err fault)) }
+        (ever_text (chosen table.entry) tree_bytes.now script_bytes.now process ≡ Err fault)) }
     ensures unwritten { IfErr result (λ fault. fault ≢ ToolFault.Write →
         S.written sink.new ≡ S.written sink.old) }
 {
@@ -86,7 +87,17 @@ fn list_to<S: Sink>(
     let Ok(mut block) = Block::new(alloc) else {
         return Err(ToolFault::OutOfMemory);
     };
-    told(write_list(front.as_str(), &mut list, &mut places, &mut block, sink))
+    let Ok(mut path) = KeptPath::new(alloc) else {
+        return Err(ToolFault::OutOfMemory);
+    };
+    told(write_list(
+        front.as_str(),
+        &mut list,
+        &mut places,
+        &mut path,
+        &mut block,
+        sink,
+    ))
 }
 
 /// Writes what a block holds, then the front of a text, and then a list: the front before any line of
@@ -95,6 +106,7 @@ fn write_list<'t, T: FileTree, S: Sink>(
     front: &str,
     list: &mut EverList<'t, T>,
     places: &mut Places<'t, T>,
+    path: &mut KeptPath,
     block: &mut Block,
     sink: &mut S,
 ) -> Result<(), PutFault>
@@ -105,6 +117,6 @@ fn write_list<'t, T: FileTree, S: Sink>(
         result sink.old sink.new }
 {
     block.add_text(front.as_bytes(), sink)?;
-    list.add_to(block, places, sink)?;
+    list.add_to(block, places, path, sink)?;
     block.put(sink)
 }

@@ -8,10 +8,12 @@ ghost use Rattle.pua_ever.specs.EverLines.{lines_of};
 ghost use Rattle.pua_objects.specs.Lines.{kind_word};
 ghost use Rattle.pua_objects.specs.Objects.{with_commas};
 ghost use Rattle.pua_tool.specs.Blocks.{PassesOn};
+ghost use Rattle.pua_tool.specs.KeptPaths.{IsKept};
 ghost use Rattle.pua_tool.specs.EverTexts.{ever_lines, kind_of, path_or_new};
 ghost use Rattle.pua_tool.specs.Texts.{ended};
 
 use crate::block::Block;
+use crate::kept_path::KeptPath;
 use crate::object_line::{add_calls, add_line, kind_bytes};
 use pua_ever::{Ever, EverLine, EverThing};
 use pua_io::{PutFault, Sink};
@@ -24,6 +26,7 @@ use pua_tree::{FileTree, Name};
 pub(crate) fn add_ever<T: FileTree, S: Sink>(
     block: &mut Block,
     list: &mut Ever<'_, T>,
+    path: &mut KeptPath,
     sink: &mut S,
 ) -> Result<(), PutFault>
     ensures { (h : History) → StandsFor list.old.process h →
@@ -31,8 +34,11 @@ pub(crate) fn add_ever<T: FileTree, S: Sink>(
         (ever_lines list.old.tree (lines_of list.old.tree list.old.table h list.old.left))
         result block.old block.new sink.old sink.new }
 {
+    path.clear();
     while let Some(line) = list.next_line() {
-        add_thing(block, line, list.word(), sink)?;
+        let word = list.word();
+        path.go_to(word, list.shared());
+        add_thing(block, line, path, word, sink)?;
     }
     Ok(())
 }
@@ -41,9 +47,11 @@ pub(crate) fn add_ever<T: FileTree, S: Sink>(
 fn add_thing<S: Sink>(
     block: &mut Block,
     line: EverLine,
+    path: &KeptPath,
     word: &[&Name],
     sink: &mut S,
 ) -> Result<(), PutFault>
+    requires kept { IsKept (map (λ name. name.now) word.now) path.now }
     ensures { PassesOn S.written S.failed
         (ended (kind_word (kind_of line.thing) ++ 32 ∷ path_or_new line.thing (map
         (λ name. name.now) word.now) ++ 32 ∷ with_commas (map call_name (calls_in line.calls))))
@@ -52,7 +60,7 @@ fn add_thing<S: Sink>(
     match line.thing {
         EverThing::Stands(kind) => {
             let calls = line.calls;
-            add_line(block, ObjectLine { kind, calls }, word, sink)
+            add_line(block, ObjectLine { kind, calls }, path, word, sink)
         }
         EverThing::Comes(kind) => add_coming(block, kind, line.calls, sink),
     }

@@ -11,6 +11,7 @@ ghost use Rattle.pua_tool.specs.EverTexts.{ever_fault, ever_list, unless_refused
 use crate::block::Block;
 use crate::ever_line::add_ever;
 use crate::fault::ToolFault;
+use crate::kept_path::KeptPath;
 use crate::places::Places;
 use crate::process_head::ProcessHead;
 use pua_ever::{Ever, EverFault, Refusal};
@@ -66,6 +67,7 @@ impl<'t, T: FileTree> EverList<'t, T> {
         &mut self,
         block: &mut Block,
         places: &mut Places<'t, T>,
+        path: &mut KeptPath,
         sink: &mut S,
     ) -> Result<(), PutFault>
         ensures { (table : Rules) (process : ℕ) (h : History) →
@@ -75,7 +77,7 @@ impl<'t, T: FileTree> EverList<'t, T> {
             result block.old block.new sink.old sink.new }
     {
         self.head.add_to(block, places, sink)?;
-        add_ever(block, &mut self.ever, sink)
+        add_ever(block, &mut self.ever, path, sink)
     }
 }
 

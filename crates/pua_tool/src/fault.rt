@@ -55,7 +55,7 @@ pub enum ToolFault {
     /// The same of rename(2), by one of its two names.
     #[error("pua: table: rename: no c")]
     RenameLacksC,
-    /// The same of link(2).
+    /// The same of link(2), by its new name.
     #[error("pua: table: link: no c")]
     LinkLacksC,
 }

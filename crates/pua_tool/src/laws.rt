@@ -7,7 +7,7 @@ ghost use Rattle.pua_tool.specs.Examples.{TextRows};
 ghost use Rattle.pua_tool.specs.Futures.{Confinement, ConfinementAsRead, Narrowing};
 ghost use Rattle.pua_tool.specs.Futures.{NarrowingAsRead, NarrowingNow};
 ghost use Rattle.pua_tool.specs.States.{ConfinedIsPrinted};
-ghost use Rattle.pua_script.specs.Futures.{StandardTableNarrows};
+ghost use Rattle.pua_script.specs.Futures.{RulesNarrow};
 ghost use Rattle.pua_script.specs.Tightening.{OthersLeave, OthersLeaveAlways};
 
 use pua_tree::FileTree;
@@ -54,12 +54,15 @@ pub fn narrowing()
 /// and where the process doesn't hold cpath the tree stays. The first is so for each table of calls
 /// in which rmdir, unlink and both names of rename need `c`, and a tree and requests whose texts are
 /// bytes; the second for each table by which the five calls that make a name or take one away need
-/// cpath, and so do the new names of rename and link. The standard table is both, and so both hold of
-/// what a command reads without a table of its own: the texts of a listing and a script are bytes.
+/// cpath, and so do the new names of rename and link. The standard rules and those of OpenBSD are
+/// both, and so both hold of what a command reads without a table of its own: the texts of a listing
+/// and a script are bytes. A row that stays says nothing of its file's contents: where link needs less
+/// than `c` of its old name, as by OpenBSD's rules, the file may be given a further name elsewhere, and
+/// be written by that.
 pub fn confined()
     ensures rows { Confinement }
     ensures read { ConfinementAsRead }
-    ensures standard { StandardTableNarrows }
+    ensures rules { RulesNarrow }
 {}
 
 /// Over any two trees of the same content, however each is kept, a script is answered the same by a

@@ -11,6 +11,7 @@ mod ever_line;
 mod ever_list;
 mod fault;
 mod job;
+mod kept_path;
 mod laws;
 mod line;
 mod object_line;
@@ -24,9 +25,10 @@ mod script;
 mod service;
 mod state;
 mod status;
+mod table;
 mod veil_line;
 
-pub use audit::audit_to;
+pub use audit::{audit_by, audit_to};
 pub use cli::{command, program};
 pub use ever::ever_to;
 pub use fault::ToolFault;
@@ -38,6 +40,7 @@ pub use pua_io::{
     ReadFault, ReadSource, Sink, Source, StreamSink, put_all, read_bytes, read_file,
 };
 pub use pua_words::{AuditWords, Command, EverWords, ObjectWords, Processes, Text, UsageLine};
-pub use run::run_to;
+pub use run::{run_by, run_to};
 pub use service::perform;
 pub use status::{DEVICE, DONE, MEMORY, REFUSED, USAGE};
+pub use table::TableChoice;

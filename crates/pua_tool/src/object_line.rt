@@ -4,17 +4,19 @@ ghost use Rattle.std.specs.Prelude.{◌≡◌, ◌≤◌, ◌+◌, ◌++◌, ◌
 ghost use Rattle.pua_policy.specs.Calls.{call_name};
 ghost use Rattle.pua_policy.specs.CallSets.{calls_in};
 ghost use Rattle.pua_policy.specs.History.{History, StandsFor};
-ghost use Rattle.pua_audit.specs.Reach.{printed_path};
+ghost use Rattle.pua_audit.specs.Reach.{from_root, printed_path};
 ghost use Rattle.pua_audit.specs.declared.base.Base.TheVariants as base;
 ghost use Rattle.pua_objects.specs.Lines.{kind_word};
 ghost use Rattle.pua_objects.specs.Objects.{with_commas};
 ghost use Rattle.pua_objects.specs.Ready.{lines_of};
 ghost use Rattle.pua_tree.specs.Spelling.{spelling};
 ghost use Rattle.pua_tool.specs.Blocks.{PassesOn};
+ghost use Rattle.pua_tool.specs.KeptPaths.{IsKept};
 ghost use Rattle.pua_tool.specs.ObjectTexts.{object_lines};
 ghost use Rattle.pua_tool.specs.Texts.{ended};
 
 use crate::block::{BLOCK, Block, MOST_LINE};
+use crate::kept_path::KeptPath;
 use crate::line::{MOST_NAME, add_call, add_printed};
 use pua_io::{PutFault, Sink};
 use pua_objects::{ObjectKind, ObjectLine, Objects};
@@ -22,10 +24,12 @@ use pua_policy::{Call, Calls};
 use pua_tree::{FileTree, Name};
 
 /// Adds a line for each object that a list has still to give. A block is put where the next part of a
-/// line might not fit. Its memory is used again, so a path may be as long as it is.
+/// line might not fit. Its memory is used again, so a path may be as long as it is. What a path shares
+/// with that of the line before is not spelled again.
 pub(crate) fn add_objects<T: FileTree, S: Sink>(
     block: &mut Block,
     list: &mut Objects<'_, T>,
+    path: &mut KeptPath,
     sink: &mut S,
 ) -> Result<(), PutFault>
     ensures { (h : History) → StandsFor list.old.process h →
@@ -33,26 +37,31 @@ pub(crate) fn add_objects<T: FileTree, S: Sink>(
         (object_lines list.old.tree (lines_of list.old.tree list.old.table h list.old.left))
         result block.old block.new sink.old sink.new }
 {
+    path.clear();
     while let Some(line) = list.next_line() {
-        add_line(block, line, list.word(), sink)?;
+        let word = list.word();
+        path.go_to(word, list.shared());
+        add_line(block, line, path, word, sink)?;
     }
     Ok(())
 }
 
-/// Adds the line of what stands at the end of these names.
+/// Adds the line of what stands at the end of these names, the first of which are kept.
 pub(crate) fn add_line<S: Sink>(
     block: &mut Block,
     line: ObjectLine,
+    path: &KeptPath,
     word: &[&Name],
     sink: &mut S,
 ) -> Result<(), PutFault>
+    requires kept { IsKept (map (λ name. name.now) word.now) path.now }
     ensures { PassesOn S.written S.failed
         (ended (kind_word line.kind ++ 32 ∷ printed_path base.Root (map
         (λ name. name.now) word.now) ++ 32 ∷ with_commas (map call_name (calls_in line.calls))))
         result block.old block.new sink.old sink.new }
 {
     block.add(kind_bytes(line.kind), sink)?;
-    add_path(block, word, sink)?;
+    add_kept_path(block, path, word, sink)?;
     add_calls(block, line.calls, sink)
 }
 
@@ -71,6 +80,26 @@ pub(crate) fn kind_bytes(kind: ObjectKind) -> &'static [u8]
     }
 }
 
+/// Adds the path that leads by these names from the root, as it is printed, and a blank. The first of
+/// the names are kept.
+fn add_kept_path<S: Sink>(
+    block: &mut Block,
+    path: &KeptPath,
+    word: &[&Name],
+    sink: &mut S,
+) -> Result<(), PutFault>
+    requires kept { IsKept (map (λ name. name.now) word.now) path.now }
+    ensures { PassesOn S.written S.failed
+        (printed_path base.Root (map (λ name. name.now) word.now) ++ 32 ∷ [])
+        result block.old block.new sink.old sink.new }
+{
+    if word.is_empty() {
+        return block.add(b"/ ", sink);
+    }
+    block.add_all(path.text(), sink)?;
+    add_rest(block, &word[path.len()..], sink)
+}
+
 /// Adds the path that leads by these names from the root, as it is printed, and a blank.
 pub(crate) fn add_path<S: Sink>(
     block: &mut Block,
@@ -84,6 +113,15 @@ pub(crate) fn add_path<S: Sink>(
     if word.is_empty() {
         return block.add(b"/ ", sink);
     }
+    add_rest(block, word, sink)
+}
+
+/// Adds further names of a path as they are printed, and a blank.
+fn add_rest<S: Sink>(block: &mut Block, word: &[&Name], sink: &mut S) -> Result<(), PutFault>
+    ensures { PassesOn S.written S.failed
+        (spelling (from_root (map (λ name. name.now) word.now)) ++ 32 ∷ [])
+        result block.old block.new sink.old sink.new }
+{
     for name in word {
         add_name(block, name, sink)?;
     }

@@ -9,15 +9,17 @@ ghost use Rattle.pua_words.specs.declared.command.Processes.TheVariants as which
 ghost use Rattle.pua_tool.specs.Blocks.{PassesOn};
 ghost use Rattle.pua_tool.specs.Lists.{AreListsOf};
 ghost use Rattle.pua_tool.specs.ObjectTexts.{Tells, TellsTo, lists_of, numbers_asked, objects_text};
-ghost use Rattle.pua_tool.specs.Texts.{given};
+ghost use Rattle.pua_tool.specs.Texts.{chosen};
 ghost use Rattle.pua_io.specs.Sinks.{Adds, AddsFront, HasFailed, Writes, WritesTo};
 
 use crate::answers::answer_text;
 use crate::block::Block;
 use crate::fault::ToolFault;
+use crate::kept_path::KeptPath;
 use crate::places::Places;
 use crate::process_list::ProcessList;
 use crate::script::{Replay, replay_script};
+use crate::table::TableChoice;
 use pua_io::{PutFault, Sink};
 use pua_script::World;
 use pua_tree::{FileTree, OutOfMemory};
@@ -37,8 +39,8 @@ use std::collections::VecDeque;
 /// pledge gave any; `unveil` with `locked`, with `given-up` where it isn't locked and lacks the promise
 /// `unveil`, or with `open`; and for each veil that is kept, in the order in which their places were
 /// first kept, `veil PATH LETTERS`: where its place stands now, `-` where its directory was removed,
-/// and its letters, `=` for none. What a call needs is said by the text with the table of calls, or by
-/// the standard table where there is none.
+/// and its letters, `=` for none. What a call needs is said by the table of calls that is
+/// chosen.
 ///
 /// The first that holds of `Table`, `Listing`, `Script` and `NoProcess` is answered before anything is
 /// written. So is `OutOfMemory`, wherever a growth was refused. `Write` is answered only where a put
@@ -47,21 +49,21 @@ pub fn objects_to<S: Sink>(
     alloc: Global,
     tree_bytes: &[u8],
     script_bytes: &[u8],
-    table: Option<&[u8]>,
+    table: TableChoice<'_>,
     processes: Processes,
     sink: &mut S,
 ) -> Result<(), ToolFault>
     ensures whole { OnOk result ((text : List ℕ)
-        × (objects_text (given table.entry) tree_bytes.now script_bytes.now processes
+        × (objects_text (chosen table.entry) tree_bytes.now script_bytes.now processes
         ≡ Ok text) × Adds text (S.written sink.old) (S.written sink.new)) }
     ensures unfailed { OnOk result (S.failed sink.new ≡ S.failed sink.old) }
     ensures write { result ≡ Err ToolFault.Write → (text : List ℕ)
-        × (objects_text (given table.entry) tree_bytes.now script_bytes.now processes ≡ Ok text)
+        × (objects_text (chosen table.entry) tree_bytes.now script_bytes.now processes ≡ Ok text)
         × AddsFront text (S.written sink.old) (S.written sink.new)
         × HasFailed (S.failed sink.old) (S.failed sink.new) }
     ensures refused { IfErr result (λ fault. fault ≢ ToolFault.Write →
         fault ≢ ToolFault.OutOfMemory →
-        (objects_text (given table.entry) tree_bytes.now script_bytes.now processes ≡ Err fault)) }
+        (objects_text (chosen table.entry) tree_bytes.now script_bytes.now processes ≡ Err fault)) }
     ensures unwritten { IfErr result (λ fault. fault ≢ ToolFault.Write →
         S.written sink.new ≡ S.written sink.old) }
 {
@@ -140,7 +142,10 @@ fn lists_to<T: FileTree, S: Sink>(
     let Ok(mut block) = Block::new(alloc) else {
         return Err(ToolFault::OutOfMemory);
     };
-    told(write_text(front, &mut lists, &mut places, &mut block, sink))
+    let Ok(mut path) = KeptPath::new(alloc) else {
+        return Err(ToolFault::OutOfMemory);
+    };
+    told(write_text(front, &mut lists, &mut places, &mut path, &mut block, sink))
 }
 
 /// Begins the list of each of these processes that was ever made. The only error is that a growth was
@@ -183,6 +188,7 @@ fn write_text<'t, T: FileTree, S: Sink>(
     front: &str,
     lists: &mut VecDeque<ProcessList<'t, T>>,
     places: &mut Places<'t, T>,
+    path: &mut KeptPath,
     block: &mut Block,
     sink: &mut S,
 ) -> Result<(), PutFault>
@@ -193,7 +199,7 @@ fn write_text<'t, T: FileTree, S: Sink>(
         result sink.old sink.new }
 {
     block.add_text(front.as_bytes(), sink)?;
-    add_lists(block, lists, places, sink)?;
+    add_lists(block, lists, places, path, sink)?;
     block.put(sink)
 }
 
@@ -202,6 +208,7 @@ fn add_lists<'t, T: FileTree, S: Sink>(
     block: &mut Block,
     lists: &mut VecDeque<ProcessList<'t, T>>,
     places: &mut Places<'t, T>,
+    path: &mut KeptPath,
     sink: &mut S,
 ) -> Result<(), PutFault>
     ensures { (table : Rules) (w : Replayed) (numbers : List ℕ) → places.old.tree ≡ w.tree →
@@ -211,7 +218,7 @@ fn add_lists<'t, T: FileTree, S: Sink>(
         result block.old block.new sink.old sink.new }
 {
     while let Some(mut list) = lists.pop_front() {
-        list.add_to(block, places, sink)?;
+        list.add_to(block, places, path, sink)?;
     }
     Ok(())
 }

@@ -8,6 +8,7 @@ ghost use Rattle.pua_tool.specs.Lists.{IsListOf};
 ghost use Rattle.pua_tool.specs.ObjectTexts.{process_list};
 
 use crate::block::Block;
+use crate::kept_path::KeptPath;
 use crate::object_line::add_objects;
 use crate::places::Places;
 use crate::process_head::ProcessHead;
@@ -55,6 +56,7 @@ impl<'t, T: FileTree> ProcessList<'t, T> {
         &mut self,
         block: &mut Block,
         places: &mut Places<'t, T>,
+        path: &mut KeptPath,
         sink: &mut S,
     ) -> Result<(), PutFault>
         ensures list { (table : Rules) (process : ℕ) (h : History) →
@@ -65,6 +67,6 @@ impl<'t, T: FileTree> ProcessList<'t, T> {
         ensures tree { places.new.tree ≡ places.old.tree }
     {
         self.head.add_to(block, places, sink)?;
-        add_objects(block, &mut self.objects, sink)
+        add_objects(block, &mut self.objects, path, sink)
     }
 }

@@ -1,22 +1,19 @@
 //! The text of a run.
 
 ghost use Rattle.std.specs.Prelude.{◌≡◌, ◌≢◌, ℕ, List, Ok, Err, IfErr, OnOk};
-ghost use Rattle.pua_tool.specs.Texts.{given, run_text};
+ghost use Rattle.pua_tool.specs.Texts.{by_profile, chosen, given, run_text};
 ghost use Rattle.pua_io.specs.Sinks.{Adds, AddsFront, HasFailed};
 
 use crate::answers::answer_text;
 use crate::fault::ToolFault;
 use crate::script::replay_script;
+use crate::table::TableChoice;
 use pua_io::{Sink, put_all};
+use pua_policy::Rules;
 use std::alloc::Global;
 
-/// Writes the text of a run: for each line of the script its number and what it was answered, where
-/// all lines are served one after another over the tree of the listing. What a call needs is said by
-/// the text with the table of calls, or by the standard table where there is none.
-///
-/// The first that holds of `Table`, `Listing` and `Script` is answered before anything is written. So is
-/// `OutOfMemory`, wherever a growth was refused. `Write` is answered only where a put failed in this
-/// call, and a front of the text is then written.
+/// Writes the text of a run by the rules of the profile, where a text with rows may stand in the place
+/// of some. It answers what `run_by` does.
 pub fn run_to<S: Sink>(
     alloc: Global,
     tree_bytes: &[u8],
@@ -25,16 +22,53 @@ pub fn run_to<S: Sink>(
     sink: &mut S,
 ) -> Result<(), ToolFault>
     ensures whole { OnOk result ((text : List ℕ)
-        × (run_text (given table.entry) tree_bytes.now script_bytes.now ≡ Ok text)
-        × Adds text (S.written sink.old) (S.written sink.new)) }
+        × (run_text (by_profile (given table.entry)) tree_bytes.now script_bytes.now
+        ≡ Ok text) × Adds text (S.written sink.old) (S.written sink.new)) }
     ensures unfailed { OnOk result (S.failed sink.new ≡ S.failed sink.old) }
     ensures write { result ≡ Err ToolFault.Write → (text : List ℕ)
-        × (run_text (given table.entry) tree_bytes.now script_bytes.now ≡ Ok text)
+        × (run_text (by_profile (given table.entry)) tree_bytes.now script_bytes.now
+        ≡ Ok text)
         × AddsFront text (S.written sink.old) (S.written sink.new)
         × HasFailed (S.failed sink.old) (S.failed sink.new) }
     ensures refused { IfErr result (λ fault. fault ≢ ToolFault.Write →
         fault ≢ ToolFault.OutOfMemory →
-        (run_text (given table.entry) tree_bytes.now script_bytes.now ≡ Err fault)) }
+        (run_text (by_profile (given table.entry)) tree_bytes.now script_bytes.now
+        ≡ Err fault)) }
+    ensures unwritten { IfErr result (λ fault. fault ≢ ToolFault.Write →
+        S.written sink.new ≡ S.written sink.old) }
+{
+    let choice = TableChoice {
+        rules: Rules::Profile,
+        rows: table,
+    };
+    run_by(alloc, tree_bytes, script_bytes, choice, sink)
+}
+
+/// Writes the text of a run: for each line of the script its number and what it was answered, where
+/// all lines are served one after another over the tree of the listing. What a call needs is said by
+/// the table of calls that is chosen.
+///
+/// The first that holds of `Table`, `Listing` and `Script` is answered before anything is written. So is
+/// `OutOfMemory`, wherever a growth was refused. `Write` is answered only where a put failed in this
+/// call, and a front of the text is then written.
+pub fn run_by<S: Sink>(
+    alloc: Global,
+    tree_bytes: &[u8],
+    script_bytes: &[u8],
+    table: TableChoice<'_>,
+    sink: &mut S,
+) -> Result<(), ToolFault>
+    ensures whole { OnOk result ((text : List ℕ)
+        × (run_text (chosen table.entry) tree_bytes.now script_bytes.now ≡ Ok text)
+        × Adds text (S.written sink.old) (S.written sink.new)) }
+    ensures unfailed { OnOk result (S.failed sink.new ≡ S.failed sink.old) }
+    ensures write { result ≡ Err ToolFault.Write → (text : List ℕ)
+        × (run_text (chosen table.entry) tree_bytes.now script_bytes.now ≡ Ok text)
+        × AddsFront text (S.written sink.old) (S.written sink.new)
+        × HasFailed (S.failed sink.old) (S.failed sink.new) }
+    ensures refused { IfErr result (λ fault. fault ≢ ToolFault.Write →
+        fault ≢ ToolFault.OutOfMemory →
+        (run_text (chosen table.entry) tree_bytes.now script_bytes.now ≡ Err fault)) }
     ensures unwritten { IfErr result (λ fault. fault ≢ ToolFault.Write →
         S.written sink.new ≡ S.written sink.old) }
 {

@@ -3,10 +3,11 @@
 ghost use Rattle.std.specs.Prelude.{◌≡◌, ◌≢◌, Ok, Err, IfOk, IfErr};
 ghost use Rattle.pua_tree.specs.Listing.{listing};
 ghost use Rattle.pua_script.specs.Scripts.{script};
-ghost use Rattle.pua_tool.specs.Texts.{Replayed, as_listing, as_script, given, replayed, table_by};
+ghost use Rattle.pua_tool.specs.Texts.{Replayed, as_listing, as_script, chosen, replayed, table_by};
 ghost use Rattle.pua_tool.specs.Begun.{IsReplay};
 
 use crate::fault::ToolFault;
+use crate::table::TableChoice;
 use pua_policy::{CallTable, TableFault};
 use pua_script::{Answer, Script, ScriptFault, World, read_script};
 use pua_tree::{ListingFault, SlabTree, read_listing_slab};
@@ -22,23 +23,23 @@ pub(crate) struct Replay {
     pub(crate) told: Vec<Answer>,
 }
 
-/// Serves a script over the tree of a listing, by the table of a text or the standard one, or
+/// Serves a script over the tree of a listing, by the table that is chosen, or
 /// answers the first fault: the table's, the listing's, or the script's. `OutOfMemory` where a
 /// growth was refused.
 pub(crate) fn replay_script(
     alloc: Global,
     tree_bytes: &[u8],
     script_bytes: &[u8],
-    table_bytes: Option<&[u8]>,
+    table: TableChoice<'_>,
 ) -> Result<Replay, ToolFault>
     ensures done { IfOk result (λ replay. (done : Replayed)
-        × (replayed (given table_bytes.entry) tree_bytes.now script_bytes.now ≡ Ok done)
+        × (replayed (chosen table.entry) tree_bytes.now script_bytes.now ≡ Ok done)
         × IsReplay replay done) }
     ensures refused { IfErr result (λ fault. fault ≢ ToolFault.OutOfMemory →
-        (replayed (given table_bytes.entry) tree_bytes.now script_bytes.now ≡ Err fault)) }
+        (replayed (chosen table.entry) tree_bytes.now script_bytes.now ≡ Err fault)) }
     ensures unwritten { IfErr result (λ fault. fault ≢ ToolFault.Write) }
 {
-    let table = read_table(alloc, table_bytes)?;
+    let table = read_table(alloc, table)?;
     let tree = read_tree(alloc, tree_bytes)?;
     let script = read_requests(alloc, script_bytes)?;
     let Ok(mut world) = World::new(alloc, tree, table) else {
@@ -50,17 +51,18 @@ pub(crate) fn replay_script(
     Ok(Replay { world, told })
 }
 
-/// The table that a text gives; the standard one where no text is given.
-fn read_table(alloc: Global, bytes: Option<&[u8]>) -> Result<CallTable, ToolFault>
-    ensures read { IfOk result (λ table. table_by (given bytes.entry) ≡ Ok table) }
+/// The table that is chosen.
+fn read_table(alloc: Global, choice: TableChoice<'_>) -> Result<CallTable, ToolFault>
+    ensures read { IfOk result (λ table. table_by (chosen choice.entry) ≡ Ok table) }
     ensures refused { IfErr result (λ fault. fault ≢ ToolFault.OutOfMemory →
-        (table_by (given bytes.entry) ≡ Err fault)) }
+        (table_by (chosen choice.entry) ≡ Err fault)) }
     ensures unwritten { IfErr result (λ fault. fault ≢ ToolFault.Write) }
 {
-    let Some(bytes) = bytes else {
-        return Ok(CallTable::standard());
+    let base = CallTable::of(choice.rules);
+    let Some(bytes) = choice.rows else {
+        return Ok(base);
     };
-    match CallTable::read(alloc, bytes) {
+    match base.read_over(alloc, bytes) {
         Ok(table) => Ok(table),
         Err(TableFault::OutOfMemory) => Err(ToolFault::OutOfMemory),
         Err(fault) => Err(ToolFault::Table(fault)),

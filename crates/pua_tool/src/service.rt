@@ -12,15 +12,17 @@ ghost use Rattle.pua_tool.specs.Texts.{given};
 ghost use Rattle.pua_tool.specs.Told.{IsFaultTold};
 ghost use Rattle.pua_tool.specs.declared.outcome.CommandFault.{CommandFault};
 
-use crate::audit::audit_to;
+use crate::audit::audit_by;
 use crate::ever::ever_to;
 use crate::fault::ToolFault;
 use crate::job::job_of;
 use crate::objects::objects_to;
 use crate::outcome::{CommandFault, finish};
-use crate::run::run_to;
+use crate::run::run_by;
 use crate::status::{DEVICE, DONE, MEMORY, REFUSED, USAGE};
+use crate::table::TableChoice;
 use pua_io::{InputFault, Inputs, Sink};
+use pua_policy::Rules;
 use pua_words::{Command, Text};
 use std::alloc::Global;
 
@@ -78,7 +80,7 @@ fn serve<'c, I: Inputs, O: Sink>(
         (O.written out.old) (O.written out.new) (O.failed out.old) (O.failed out.new)) }
 {
     let taken = take_all(alloc, command, inputs)?;
-    match write_text(alloc, &taken, &command.text, out) {
+    match write_text(alloc, command.rules, &taken, &command.text, out) {
         Ok(()) => Ok(()),
         Err(fault) => Err(CommandFault::Tool(fault)),
     }
@@ -150,37 +152,48 @@ fn take_named<'c, I: Inputs>(
     }
 }
 
-/// Writes the text that is asked for, of these bytes of a listing, a script and a table.
+/// Writes the text that is asked for, by these rules, of these bytes of a listing, a script and a table.
 fn write_text<O: Sink>(
     alloc: Global,
+    rules: Rules,
     taken: &Taken,
     text: &Text<'_>,
     out: &mut O,
 ) -> Result<(), ToolFault>
     ensures whole { OnOk result ((t : List ℕ)
-        × (text_asked text.now (option_map
-        (λ bytes. bytes.items) taken.now.table) taken.now.tree.items taken.now.script.items ≡ Ok t)
+        × (text_asked text.now (record {
+          rules = rules;
+          rows = option_map
+              (λ bytes. bytes.items) taken.now.table;
+        }) taken.now.tree.items taken.now.script.items ≡ Ok t)
         × Adds t (O.written out.old) (O.written out.new)) }
     ensures unfailed { OnOk result (O.failed out.new ≡ O.failed out.old) }
     ensures write { result ≡ Err ToolFault.Write →
         (t : List ℕ)
-        × (text_asked text.now (option_map
-        (λ bytes. bytes.items) taken.now.table) taken.now.tree.items taken.now.script.items ≡ Ok t)
+        × (text_asked text.now (record {
+          rules = rules;
+          rows = option_map
+              (λ bytes. bytes.items) taken.now.table;
+        }) taken.now.tree.items taken.now.script.items ≡ Ok t)
         × AddsFront t (O.written out.old) (O.written out.new)
         × HasFailed (O.failed out.old) (O.failed out.new) }
     ensures refused { IfErr result (λ fault.
         fault ≢ ToolFault.Write → fault ≢ ToolFault.OutOfMemory →
-        text_asked text.now (option_map
-        (λ bytes. bytes.items) taken.now.table) taken.now.tree.items taken.now.script.items
+        text_asked text.now (record {
+          rules = rules;
+          rows = option_map
+              (λ bytes. bytes.items) taken.now.table;
+        }) taken.now.tree.items taken.now.script.items
         ≡ Err fault) }
     ensures unwritten { IfErr result (λ fault.
         fault ≢ ToolFault.Write → O.written out.new ≡ O.written out.old) }
 {
     let (tree, script) = (taken.tree.as_slice(), taken.script.as_slice());
-    let table = taken.table.as_ref().map(|bytes| bytes.as_slice());
+    let rows = taken.table.as_ref().map(|bytes| bytes.as_slice());
+    let table = TableChoice { rules, rows };
     match text {
-        Text::Run => run_to(alloc, tree, script, table, out),
-        Text::Audit(words) => audit_to(alloc, tree, script, &job_of(words, table), out),
+        Text::Run => run_by(alloc, tree, script, table, out),
+        Text::Audit(words) => audit_by(alloc, tree, script, rules, &job_of(words, rows), out),
         Text::Objects(words) => objects_to(alloc, tree, script, table, words.processes, out),
         Text::Ever(words) => ever_to(alloc, tree, script, table, words.process, out),
     }

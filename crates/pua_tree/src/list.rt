@@ -61,6 +61,7 @@ impl FileTree for ListTree {
     ghost content = { λ t. t };
 
     fn known(&self) {
+        // The prover knows the invariant of a value that is read.
         let _rows = &self.rows;
     }
 
@@ -215,6 +216,7 @@ impl Judged for ListTree {
     ghost held = { λ t. t };
 
     fn is_tree(&self) {
+        // The prover knows the invariant of a value that is read.
         let _rows = &self.rows;
     }
 

@@ -111,6 +111,7 @@ impl Name {
     pub(crate) fn known(&self)
         ensures { IsTrue (is_name self.now) }
     {
+        // The prover knows the invariant of a value that is read.
         let _len = &self.len;
     }
 

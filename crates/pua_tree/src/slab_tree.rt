@@ -40,6 +40,7 @@ impl FileTree for SlabTree {
     ghost content = { λ t. t };
 
     fn known(&self) {
+        // The prover knows the invariant of a value that is read.
         let _slots = &self.slots;
     }
 
@@ -175,6 +176,7 @@ impl Judged for SlabTree {
     ghost held = { λ t. t };
 
     fn is_tree(&self) {
+        // The prover knows the invariant of a value that is read.
         let _slots = &self.slots;
     }
 

@@ -1,2 +1,3 @@
+-- The claim, in reading order: what a reader has to believe of what words ask for, and of which usage line is told.
 pub mod Commands
 pub mod Usages

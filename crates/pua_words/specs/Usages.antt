@@ -13,7 +13,7 @@ line_for (first ∷ more) = if bytes_eq first (codes "objects") then Objects els
 
 abbrev pub line_text : UsageLine → List ℕ
 line_text Program = codes "pua: usage: pua run [--table FILE] TREE SCRIPT; pua audit --limit N [--process P] [--base root|cwd] [--after CALL:PATH] [--table FILE] TREE SCRIPT [NAME...]"
-line_text Objects = codes "pua: usage: pua objects [--ever] [--process P|all] [--table FILE] TREE SCRIPT"
+line_text Objects = codes "pua: usage: pua objects [--ever] [--process P|all] [--rules profile|openbsd] [--table FILE] TREE SCRIPT"
 
 -- words that are no command have this line, and a text about the program has some bytes
 abbrev pub IsStop : UsageLine → Stop → Type 0

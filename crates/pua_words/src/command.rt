@@ -1,6 +1,7 @@
 //! What the program is asked for.
 
 use pua_audit::Base;
+use pua_policy::Rules;
 
 /// A command: a text that is asked for, and the names of the inputs that it is made of.
 #[derive(Debug, Drop)]
@@ -9,7 +10,9 @@ pub struct Command<'a> {
     pub tree: &'a str,
     /// The name of the input with the script.
     pub script: &'a str,
-    /// The name of the input with the table of calls; None for the standard table.
+    /// Whose rules are gone by.
+    pub rules: Rules,
+    /// The name of the input with rows in the place of those of the rules; None for the rules alone.
     pub table: Option<&'a str>,
     /// Which text is asked for.
     pub text: Text<'a>,

@@ -6,7 +6,7 @@ pub(crate) const PROGRAM_USAGE: &str =
 
 /// How a list of objects is asked for, of now or for ever, in one line.
 pub(crate) const OBJECTS_USAGE: &str =
-    "pua: usage: pua objects [--ever] [--process P|all] [--table FILE] TREE SCRIPT";
+    "pua: usage: pua objects [--ever] [--process P|all] [--rules profile|openbsd] [--table FILE] TREE SCRIPT";
 
 pub(crate) const PUA: &str =
     "Lists what a pledged and unveiled process may still do to a file tree";
@@ -17,6 +17,8 @@ pub(crate) const OBJECTS: &str =
     "Serves a script, then lists each object and the calls still allowed";
 
 pub(crate) const AUDIT: &str = "Serves a script, then lists each path and call still allowed";
+
+pub(crate) const RULES: &str = "Whose rules: profile or openbsd";
 
 pub(crate) const TABLE: &str = "File with what the calls need, in TOML";
 
@@ -60,10 +62,13 @@ Process 1 is there from the start; `1 fork 2` makes process 2. For pledge and
 unveil `-` is NULL; `=` is an empty text.
 
 FILE, of `--table`, has a row for each call that needs something else than by
-the standard table: all promises of one of some lists, and letters of a veil.
+the rules: all promises of one of some lists, and letters of a veil.
   [mkdir]
   promises = [\"cpath\", \"dpath\"]
   veil = \"c\"
+
+With `--rules openbsd` chmod, rename and link need what OpenBSD is known to ask
+of them, and execpromises stay after an exec. This was tried on no kernel.
 
 In names and paths a backslash, and each byte that is not visible ASCII, is
 written as a backslash and three octal digits: `a\\040b`.

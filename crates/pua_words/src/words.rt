@@ -11,6 +11,7 @@ use crate::version::VERSION;
 use clap::error::ErrorKind;
 use clap::{Arg, ArgAction, ArgMatches, Error, value_parser};
 use pua_audit::Base;
+use pua_policy::Rules;
 use std::alloc::{AllocError, Global};
 
 /// The greatest number that a process has.
@@ -101,6 +102,7 @@ fn run_command<'a>(alloc: Global) -> Result<clap::Command<'a>, AllocError> {
     clap::Command::new(alloc, "run")
         .about(help::RUN)
         .after_help(help::RUN_OUTPUT)
+        .arg(rules(alloc))?
         .arg(table(alloc))?
         .arg(tree(alloc))?
         .arg(script(alloc))
@@ -112,6 +114,7 @@ fn objects_command<'a>(alloc: Global) -> Result<clap::Command<'a>, AllocError> {
         .after_help(help::OBJECTS_OUTPUT)
         .arg(ever(alloc))?
         .arg(processes(alloc))?
+        .arg(rules(alloc))?
         .arg(table(alloc))?
         .arg(tree(alloc))?
         .arg(script(alloc))
@@ -130,6 +133,7 @@ fn audit_command<'a>(alloc: Global) -> Result<clap::Command<'a>, AllocError> {
         .arg(process(alloc))?
         .arg(base(alloc))?
         .arg(after(alloc))?
+        .arg(rules(alloc))?
         .arg(table(alloc))?
         .arg(tree(alloc))?
         .arg(script(alloc))?
@@ -191,6 +195,17 @@ fn after<'a>(alloc: Global) -> Arg<'a> {
         .help(help::AFTER)
 }
 
+fn rules<'a>(alloc: Global) -> Arg<'a> {
+    Arg::new(alloc, "rules")
+        .long("rules")
+        .action(ArgAction::Set)
+        .value_name("RULES")
+        .hide_possible_values(true)
+        .help(help::RULES)
+        .default_value("profile")
+        .value_parser(["profile", "openbsd"].as_slice())
+}
+
 fn table<'a>(alloc: Global) -> Arg<'a> {
     Arg::new(alloc, "table")
         .long("table")
@@ -238,6 +253,7 @@ fn read_inputs<'a>(found: &ArgMatches<'a>, text: Text<'a>) -> Option<Command<'a>
     Some(Command {
         tree,
         script,
+        rules: read_rules(found.get_str("rules")),
         table: found.get_str("table"),
         text,
     })
@@ -317,5 +333,15 @@ fn read_base(text: Option<&str>) -> Base
     match text {
         Some("cwd") => Base::Cwd,
         _ => Base::Root,
+    }
+}
+
+/// The rules of this name, which are those of the profile where none are named.
+fn read_rules(text: Option<&str>) -> Rules
+    ensures { (result ≡ Rules.Openbsd) ↔ (option_map (λ s. s.now) text.entry ≡ Some (codes "openbsd")) }
+{
+    match text {
+        Some("openbsd") => Rules::Openbsd,
+        _ => Rules::Profile,
     }
 }

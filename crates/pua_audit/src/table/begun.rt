@@ -63,6 +63,7 @@ impl Terms {
         ensures tree { P.tree probe.new ≡ P.tree probe.old }
         ensures cost { P.count probe.new ≤ P.count probe.old + pairs_cost self.now.seen.tree (length self.now.letters.items) }
     {
+        // Each half is a function, so that its proof begins with what is true there.
         if !self.is_open(probe) {
             return self.begun_closed(alloc);
         }

@@ -9,7 +9,7 @@ use anyhow::{Result, anyhow};
 use pua_ever::{Ever, EverFault, EverLine, EverThing};
 use pua_objects::ObjectKind;
 use pua_policy::{Call, CallTable, Process};
-use pua_tree::{FileTree, ListTree, SlabTree};
+use pua_tree::FileTree;
 use std::alloc::Global;
 
 /// A line of the list: what it is about, and its calls.
@@ -65,13 +65,8 @@ const LINES: [Wanted; 8] = [
     ),
 ];
 
-/// Whether a list that is begun gives its lines, over trees of both kinds.
-pub(crate) fn hold(alloc: Global, again: &mut u32) -> Result<bool> {
-    Ok(is_whole::<ListTree>(alloc, again)? && is_whole::<SlabTree>(alloc, again)?)
-}
-
 /// Whether a list that is begun over such a tree gives its lines.
-fn is_whole<T: ListedTree>(alloc: Global, again: &mut u32) -> Result<bool> {
+pub(crate) fn hold<T: ListedTree>(alloc: Global, again: &mut u32) -> Result<bool> {
     let tree = tree_read::<T>(alloc, LISTING, again)?;
     let process = spooler(alloc)?;
     let mut list = begun_again(alloc, &tree, &process, again)?;

@@ -10,7 +10,7 @@ use anyhow::Result;
 use pua_audit::{Audit, AuditFault, Base, Line};
 use pua_path::Counted;
 use pua_policy::{Call, CallTable, Perms, Place, Process};
-use pua_tree::{FileTree, ListTree, Name, NodeId, SlabTree};
+use pua_tree::{FileTree, Name, NodeId};
 use std::alloc::Global;
 
 /// The reach of a process that may only read one file.
@@ -29,13 +29,8 @@ const LINES: [(&[u8], Call); 12] = [
     (b"/tmp/up/passwd", Call::OpenRead),
 ];
 
-/// Whether an audit that is begun lists its lines, over trees of both kinds.
-pub(crate) fn hold(alloc: Global, again: &mut u32) -> Result<bool> {
-    Ok(is_whole::<ListTree>(alloc, again)? && is_whole::<SlabTree>(alloc, again)?)
-}
-
 /// Whether an audit that is begun over such a tree lists its lines.
-fn is_whole<T: ListedTree>(alloc: Global, again: &mut u32) -> Result<bool> {
+pub(crate) fn hold<T: ListedTree>(alloc: Global, again: &mut u32) -> Result<bool> {
     let tree = tree_read::<T>(alloc, LISTING, again)?;
     let process = reader(alloc)?;
     let mut audit = begun_again(alloc, &tree, &process, again)?;

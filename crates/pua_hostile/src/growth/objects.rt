@@ -7,7 +7,7 @@ use crate::trees::ListedTree;
 use anyhow::Result;
 use pua_objects::{ObjectKind, ObjectLine, Objects};
 use pua_policy::{Call, CallTable, Calls, Perms, Place, Process};
-use pua_tree::{FileTree, ListTree, Name, NodeId, OutOfMemory, SlabTree};
+use pua_tree::{FileTree, Name, NodeId, OutOfMemory};
 use std::alloc::Global;
 
 /// A line of the list, with the names that lead to what it is about.
@@ -33,13 +33,8 @@ const LINES: [Wanted; 4] = [
     ),
 ];
 
-/// Whether a list that is begun gives its lines, over trees of both kinds.
-pub(crate) fn hold(alloc: Global, again: &mut u32) -> Result<bool> {
-    Ok(is_whole::<ListTree>(alloc, again)? && is_whole::<SlabTree>(alloc, again)?)
-}
-
 /// Whether a list that is begun over such a tree gives its lines.
-fn is_whole<T: ListedTree>(alloc: Global, again: &mut u32) -> Result<bool> {
+pub(crate) fn hold<T: ListedTree>(alloc: Global, again: &mut u32) -> Result<bool> {
     let tree = tree_read::<T>(alloc, LISTING, again)?;
     let process = spooler(alloc)?;
     let mut objects = begun_again(alloc, &tree, &process, again)?;

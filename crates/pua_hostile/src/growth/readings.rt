@@ -10,7 +10,7 @@ use anyhow::Result;
 use pua_policy::{Call, CallTable, Perms, TableFault};
 use pua_script::{Script, ScriptFault, read_script};
 use pua_tool::{InputFault, Inputs, MemoryInputs, ReadSource, read_bytes};
-use pua_tree::{FileTree, LentRow, ListTree, ListingFault, Name, OutOfMemory, SlabTree, TreeFault};
+use pua_tree::{FileTree, LentRow, ListingFault, Name, OutOfMemory, TreeFault};
 use std::alloc::Global;
 
 /// The names in the tree, in the order of their bytes.
@@ -42,14 +42,13 @@ pub(crate) fn hold(alloc: Global, again: &mut u32) -> Result<bool> {
     let script = script_read(alloc, again)?;
     let table = table_read(alloc, again)?;
     let is_read = bytes.as_slice() == LISTING && taken.as_slice() == LISTING;
-    let is_listed = is_listed::<ListTree>(alloc, again)? && is_listed::<SlabTree>(alloc, again)?;
     let are_sets = table.alternatives(Call::Mkdir).len() == 2
         && table.perms(Call::Mkdir) == Perms::CREATE;
-    Ok(is_read && is_listed && are_sets && script.requests().len() == REQUESTS)
+    Ok(is_read && are_sets && script.requests().len() == REQUESTS)
 }
 
 /// Whether a tree of this kind is read, and lists its names and its rows, as it has to.
-fn is_listed<T: ListedTree>(alloc: Global, again: &mut u32) -> Result<bool> {
+pub(crate) fn is_listed<T: ListedTree>(alloc: Global, again: &mut u32) -> Result<bool> {
     let tree = tree_read::<T>(alloc, LISTING, again)?;
     let twice = tree_read::<T>(alloc, NAMED_TWICE, again)?;
     let names = names_told(alloc, &tree, again)?;

@@ -4,9 +4,10 @@
 use crate::LISTING;
 use anyhow::Result;
 use pua_audit::Base;
+use pua_policy::Rules;
 use pua_tool::{
-    DONE, Job, MEMORY, MemoryInputs, MemorySink, Processes, Sink, ToolFault, audit_to, command,
-    ever_to, objects_to, run_to,
+    DONE, Job, MEMORY, MemoryInputs, MemorySink, Processes, Sink, TableChoice, ToolFault, audit_to,
+    command, ever_to, objects_to, run_to,
 };
 use std::alloc::Global;
 
@@ -34,6 +35,12 @@ const EVER: &[u8] =
 /// Of which processes the list is.
 const PROCESSES: Processes = Processes::All;
 
+/// By which table the texts are.
+const TABLES: TableChoice<'static> = TableChoice {
+    rules: Rules::Profile,
+    rows: Some(TABLE),
+};
+
 /// What the audit is asked for.
 const JOB: Job<'static> = Job {
     limit: 3,
@@ -47,16 +54,39 @@ const JOB: Job<'static> = Job {
 /// For how many bytes a sink has room.
 const ROOM: usize = 512;
 
+/// What is written of the script.
+#[derive(Clone, Copy)]
+enum Asked {
+    Run,
+    Objects,
+    Ever,
+    Audit,
+}
+
+impl Asked {
+    /// Writes it into a sink.
+    fn put(self, alloc: Global, sink: &mut MemorySink) -> Result<(), ToolFault> {
+        match self {
+            Asked::Run => run_to(alloc, LISTING, SCRIPT, Some(TABLE), sink),
+            Asked::Objects => objects_to(alloc, LISTING, SCRIPT, TABLES, PROCESSES, sink),
+            Asked::Ever => ever_to(alloc, LISTING, SCRIPT, TABLES, 1, sink),
+            Asked::Audit => audit_to(alloc, LISTING, SCRIPT, &JOB, sink),
+        }
+    }
+}
+
 /// Whether all is written as it has to be.
 pub(crate) fn hold(alloc: Global, again: &mut u32) -> Result<bool> {
-    Ok(
-        is_filled(alloc, again)?
-            && is_run(alloc, again)?
-            && is_listed(alloc, again)?
-            && is_lasting(alloc, again)?
-            && is_audited(alloc, again)?
-            && is_done(alloc, again)?,
-    )
+    let mut holds = is_filled(alloc, again)?;
+    for (asked, text) in [
+        (Asked::Run, RUN),
+        (Asked::Objects, OBJECTS),
+        (Asked::Ever, EVER),
+        (Asked::Audit, AUDIT),
+    ] {
+        holds = is_written(alloc, asked, text, again)? && holds;
+    }
+    Ok(is_done(alloc, again)? && holds)
 }
 
 fn sink_made(alloc: Global, again: &mut u32) -> Result<MemorySink> {
@@ -76,60 +106,17 @@ fn is_filled(alloc: Global, again: &mut u32) -> Result<bool> {
     Ok(is_taken && sink.bytes() == [7u8; ROOM].as_slice())
 }
 
-/// Whether a run is written whole.
-fn is_run(alloc: Global, again: &mut u32) -> Result<bool> {
+/// Whether a text is written whole; where a growth is refused first, into a sink that is still empty.
+fn is_written(alloc: Global, asked: Asked, text: &[u8], again: &mut u32) -> Result<bool> {
     let mut sink = sink_made(alloc, again)?;
-    match run_to(alloc, LISTING, SCRIPT, Some(TABLE), &mut sink) {
-        Err(ToolFault::OutOfMemory) => {
-            *again = again.saturating_add(1);
-            let is_empty = sink.bytes().is_empty();
-            let answer = run_to(alloc, LISTING, SCRIPT, Some(TABLE), &mut sink);
-            Ok(is_empty && answer == Ok(()) && sink.bytes() == RUN)
-        }
-        answer => Ok(answer == Ok(()) && sink.bytes() == RUN),
+    let mut answer = asked.put(alloc, &mut sink);
+    let mut is_empty = true;
+    if answer == Err(ToolFault::OutOfMemory) {
+        *again = again.saturating_add(1);
+        is_empty = sink.bytes().is_empty();
+        answer = asked.put(alloc, &mut sink);
     }
-}
-
-/// Whether a list of objects is written whole.
-fn is_listed(alloc: Global, again: &mut u32) -> Result<bool> {
-    let mut sink = sink_made(alloc, again)?;
-    match objects_to(alloc, LISTING, SCRIPT, Some(TABLE), PROCESSES, &mut sink) {
-        Err(ToolFault::OutOfMemory) => {
-            *again = again.saturating_add(1);
-            let is_empty = sink.bytes().is_empty();
-            let answer = objects_to(alloc, LISTING, SCRIPT, Some(TABLE), PROCESSES, &mut sink);
-            Ok(is_empty && answer == Ok(()) && sink.bytes() == OBJECTS)
-        }
-        answer => Ok(answer == Ok(()) && sink.bytes() == OBJECTS),
-    }
-}
-
-/// Whether a list for ever is written whole.
-fn is_lasting(alloc: Global, again: &mut u32) -> Result<bool> {
-    let mut sink = sink_made(alloc, again)?;
-    match ever_to(alloc, LISTING, SCRIPT, Some(TABLE), 1, &mut sink) {
-        Err(ToolFault::OutOfMemory) => {
-            *again = again.saturating_add(1);
-            let is_empty = sink.bytes().is_empty();
-            let answer = ever_to(alloc, LISTING, SCRIPT, Some(TABLE), 1, &mut sink);
-            Ok(is_empty && answer == Ok(()) && sink.bytes() == EVER)
-        }
-        answer => Ok(answer == Ok(()) && sink.bytes() == EVER),
-    }
-}
-
-/// Whether an audit is written whole.
-fn is_audited(alloc: Global, again: &mut u32) -> Result<bool> {
-    let mut sink = sink_made(alloc, again)?;
-    match audit_to(alloc, LISTING, SCRIPT, &JOB, &mut sink) {
-        Err(ToolFault::OutOfMemory) => {
-            *again = again.saturating_add(1);
-            let is_empty = sink.bytes().is_empty();
-            let answer = audit_to(alloc, LISTING, SCRIPT, &JOB, &mut sink);
-            Ok(is_empty && answer == Ok(()) && sink.bytes() == AUDIT)
-        }
-        answer => Ok(answer == Ok(()) && sink.bytes() == AUDIT),
-    }
+    Ok(is_empty && answer == Ok(()) && sink.bytes() == text)
 }
 
 /// Whether the program writes the audit whole, and reports the refusal alone where there is one.

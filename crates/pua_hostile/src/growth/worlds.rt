@@ -10,7 +10,6 @@ use anyhow::Result;
 use pua_path::Errno;
 use pua_policy::CallTable;
 use pua_script::{Answer, Request, Script, World, WorldFault};
-use pua_tree::{ListTree, SlabTree};
 use std::alloc::Global;
 
 /// Requests that take memory: edits, further names, veils at new places, copies of a process.
@@ -46,14 +45,9 @@ const ANSWERS: [Answer; REQUESTS] = [
 const LEFT: &[u8] =
     b"tree 1\n0 dir\n1 dir 0 etc\n2 file 1 passwd\n3 dir 0 tmp\n4 link 0 t tmp\n5 link 3 up ../etc\n6 link 3 self self\n7 prog 3 sh\n8 file 3 c\n8 file 9 m\n9 dir 3 new\n11 file 9 d\n";
 
-/// Whether worlds over trees of both kinds serve the requests as they have to be.
-pub(crate) fn hold(alloc: Global, again: &mut u32) -> Result<bool> {
-    Ok(are_served::<ListTree>(alloc, again)? && are_served::<SlabTree>(alloc, again)?)
-}
-
 /// Whether a world over such a tree serves the requests one by one, and another all of them, as they
 /// have to be.
-fn are_served<T: ListedTree>(alloc: Global, again: &mut u32) -> Result<bool> {
+pub(crate) fn hold<T: ListedTree>(alloc: Global, again: &mut u32) -> Result<bool> {
     let script = script_read(alloc, again)?;
     let mut world = world_made::<T>(alloc, again)?;
     let is_served = is_served(alloc, &mut world, &script, again)?;

@@ -42,7 +42,7 @@ impl Model for PairNeed {
 }
 
 ghost use Rattle.std.specs.Prelude.{◌≡◌};
-ghost use Rattle.pua_policy.specs.Calls.{standard_name, standard_pair};
+ghost use Rattle.pua_policy.specs.Calls.{standard_name, standard_pair, openbsd_rename, openbsd_link};
 
 impl NameNeed {
     /// What a name needs that is made or taken away, by this project's own table.
@@ -84,6 +84,35 @@ impl PairNeed {
     {
         PairNeed {
             old_name: NameNeed::standard(),
+            new_name: NameNeed::standard(),
+        }
+    }
+
+    /// What rename needs by OpenBSD's rules: its old name is read too.
+    pub(super) fn openbsd_rename() -> PairNeed
+        ensures { result ≡ openbsd_rename }
+    {
+        PairNeed {
+            old_name: NameNeed {
+                row: Row::one(
+                    Promises::RPATH.union(Promises::CPATH),
+                    Perms::READ.union(Perms::CREATE),
+                ),
+                last: Last::Kept,
+            },
+            new_name: NameNeed::standard(),
+        }
+    }
+
+    /// What link needs by OpenBSD's rules: its old name is read alone, and followed if it is a link.
+    pub(super) fn openbsd_link() -> PairNeed
+        ensures { result ≡ openbsd_link }
+    {
+        PairNeed {
+            old_name: NameNeed {
+                row: Row::one(Promises::RPATH, Perms::READ),
+                last: Last::Followed,
+            },
             new_name: NameNeed::standard(),
         }
     }

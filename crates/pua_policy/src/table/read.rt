@@ -6,8 +6,8 @@ ghost use Rattle.toml.specs.Errors.{IsBlank};
 ghost use Rattle.toml.specs.View.{view, items_view, table_view};
 ghost use Rattle.pua_policy.specs.Promises.{promises_of};
 ghost use Rattle.pua_policy.specs.Calls.{Rule, standard_table};
-ghost use Rattle.pua_policy.specs.Tables.{HasStandardPairs, NamesNoError, NeedsNoError, alternative_limit};
-ghost use Rattle.pua_policy.specs.TableTexts.{alternative_of, alternatives_of, are_alternatives, are_texts, document_of, keys_ascend, row_of, rule_in, rules_with, table_of, values_of};
+ghost use Rattle.pua_policy.specs.Tables.{HasPairsOf, NamesNoError, NeedsNoError, alternative_limit};
+ghost use Rattle.pua_policy.specs.TableTexts.{alternative_of, alternatives_of, are_alternatives, are_texts, document_of, keys_ascend, row_of, rule_in, rules_with, table_of, table_over, values_of};
 
 use crate::call::Call;
 use crate::perms::Perms;
@@ -53,13 +53,26 @@ impl CallTable {
     /// was refused, which happens to no text of white space and comments alone.
     pub fn read(alloc: Global, text: &[u8]) -> Result<CallTable, TableFault>
         ensures read { IfOk result (λ table. table_of text.now ≡ Ok table) }
-        ensures pairs { IfOk result HasStandardPairs }
+        ensures pairs { IfOk result (HasPairsOf standard_table) }
         ensures refused { IfErr result (λ fault. fault ≢ TableFault.OutOfMemory → table_of text.now ≡ Err fault) }
         ensures in_order { result ≢ Err TableFault.OutOfMemory → IfSome (document_of text.now) (λ members. IsTrue (keys_ascend members)) }
         ensures memory { result ≡ Err TableFault.OutOfMemory → ¬ IsBlank text.now }
     {
+        CallTable::standard().read_over(alloc, text)
+    }
+
+    /// The table that a TOML text gives over this one: what `read` answers, but that calls which the
+    /// text does not name, rename and link need what they need by this table, and an exec leaves of
+    /// execpromises what it leaves by this table.
+    pub fn read_over(&self, alloc: Global, text: &[u8]) -> Result<CallTable, TableFault>
+        ensures read { IfOk result (λ table. table_over self.now text.now ≡ Ok table) }
+        ensures pairs { IfOk result (HasPairsOf self.now) }
+        ensures refused { IfErr result (λ fault. fault ≢ TableFault.OutOfMemory → table_over self.now text.now ≡ Err fault) }
+        ensures in_order { result ≢ Err TableFault.OutOfMemory → IfSome (document_of text.now) (λ members. IsTrue (keys_ascend members)) }
+        ensures memory { result ≡ Err TableFault.OutOfMemory → ¬ IsBlank text.now }
+    {
         let document = document(alloc, text)?;
-        with_rows(&document)
+        with_rows(*self, &document)
     }
 }
 
@@ -77,15 +90,15 @@ fn document(alloc: Global, text: &[u8]) -> Result<Table, TableFault>
     }
 }
 
-/// The standard table with the rows of a document, in the order of its keys, or the first fault.
+/// A table with the rows of a document, in the order of its keys, or the first fault.
 #[tactic(auto, using(crate::proofs::TableTexts::keys_in_order))]
-fn with_rows(document: &Table) -> Result<CallTable, TableFault>
-    ensures exact { result ≡ rules_with standard_table (table_view document.now) }
-    ensures pairs { IfOk result HasStandardPairs }
+fn with_rows(base: CallTable, document: &Table) -> Result<CallTable, TableFault>
+    ensures exact { result ≡ rules_with base (table_view document.now) }
+    ensures pairs { IfOk result (HasPairsOf base) }
     ensures in_order { IsTrue (keys_ascend (table_view document.now)) }
     ensures no_memory { result ≢ Err TableFault.OutOfMemory }
 {
-    let mut table = CallTable::standard();
+    let mut table = base;
     for (key, value) in document {
         let Some(call) = Call::read(key.as_bytes()) else {
             return Err(TableFault::BadKey);

@@ -1,6 +1,6 @@
 //! What an exec and a fork keep of a process.
 
-use pua_policy::{May, Perms, Place, Process, Promises};
+use pua_policy::{ExecPromises, May, Perms, Place, Process, Promises};
 use pua_tree::NodeId;
 use std::alloc::Global;
 
@@ -41,6 +41,20 @@ fn exec_drops_error(alloc: Global) {
     };
     process.exec_into();
     if process.may(Promises::RPATH) != May::Enosys {
+        unreachable!()
+    }
+}
+
+/// Execpromises that stay are those of the program that is started.
+fn execpromises_unset(alloc: Global) {
+    let Ok(mut process) = Process::new(alloc) else {
+        return;
+    };
+    let Ok(()) = process.pledge(None, Some(Promises::RPATH)) else {
+        unreachable!()
+    };
+    process.exec_by(ExecPromises::Stay);
+    if process.execpromises() != Some(Promises::RPATH) {
         unreachable!()
     }
 }

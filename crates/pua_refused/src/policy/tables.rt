@@ -74,3 +74,21 @@ fn veil_before_promises(alloc: Global) {
         unreachable!()
     }
 }
+
+/// By OpenBSD's rules the old name of link is only read.
+fn openbsd_link_takes_away() {
+    let table = CallTable::openbsd();
+    if table.link().old_name().perms() != Perms::READ {
+        unreachable!()
+    }
+}
+
+/// A text over OpenBSD's rules leaves what link needs.
+fn text_takes_openbsd_link_back(alloc: Global, text: &[u8]) {
+    let Ok(table) = CallTable::openbsd().read_over(alloc, text) else {
+        return;
+    };
+    if table.link().old_name().perms() != Perms::READ {
+        unreachable!()
+    }
+}

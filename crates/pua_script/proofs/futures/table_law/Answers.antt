@@ -1,5 +1,5 @@
-use Rattle.pua_script.proofs.Served.{standard_table_narrows, read_tables_narrow}
+use Rattle.pua_script.proofs.Served.{rules_narrow, read_tables_narrow}
 use Rattle.pua_script.proofs.futures.table_law.Goals as goal
 
 pub returns : goal.returns
-returns c = record { standard = standard_table_narrows; read = read_tables_narrow }
+returns c = record { rules = rules_narrow; read = read_tables_narrow }

@@ -1,11 +1,12 @@
-use Rattle.std.proofs.Common.{[], sym, subst, ◌∙◌}
+use Rattle.std.proofs.Common.{[], sym, ap, subst, ◌∙◌, arith, length, take}
+use Rattle.std.proofs.lemmas.List.{length-map}
 use Rattle.std.specs.Prelude.{Some}
 use Rattle.pua_policy.specs.History.{ProcessState, StandsFor}
 use Rattle.pua_ever.specs.EverReady.{IsGiven, left_in, word_in}
 use Rattle.pua_ever.specs.EverState.{EverState}
 use Rattle.pua_ever.specs.declared.line.EverThing.TheVariants as told
 use Rattle.pua_objects.specs.declared.kind.ObjectKind.TheVariants as kind
-use Rattle.pua_ever.proofs.Giving.{freed_given, item_ready, item_line, made_given}
+use Rattle.pua_ever.proofs.Giving.{freed_given, item_ready, item_line, made_given, shares_in}
 use Rattle.pua_ever.proofs.ever.Ever.next_given.Goals as goal
 
 pub returns-in-Some-clause-line : goal.returns-in-Some-clause-line
@@ -53,3 +54,12 @@ returns-clause-line g c =
     (made_given t a.table a.items.process a.prospects a.items.left a.items.word a.last a.coming c.self.invariant c.in-Some-coming.made c.after-self-inside.result new.tree new.word c.take.new.self new.left c.kind.result c.calls_on_made-calls.result
     (sym c.take.ensures.value ∙ c.in_default.is) c.take.ensures.after none.0 none.1 c.in-Some-coming.is c.after-self-inside.ensures.left (c.after-self-inside.ensures.word new.word) c.kind.ensures
     (λ h found call. c.calls_on_made-calls.ensures t a.table h found call))
+
+pub returns-in-Some-next_item-clause-shared : goal.returns-in-Some-next_item-clause-shared
+returns-in-Some-next_item-clause-shared g c =
+    let a = c.self.inside in
+    let n = c.min-self-inside.result in
+    shares_in a.coming n a.items.word c.next_item.new.self.word
+    (omega (arith, c.min-self-inside.ensures, c.saturating_sub.ensures, ap length c.word.ensures, length-map c.word.result.now (λ name. name.now)))
+    c.in-Some-next_item.ensures.near
+    ∙ ap (λ (s : EverState). take n s.word) c.self.view_is

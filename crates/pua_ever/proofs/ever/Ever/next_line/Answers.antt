@@ -1,12 +1,24 @@
-use Rattle.std.proofs.Common.{◌≡◌, ◌≢◌, [], ◌++◌, refl, ap, subst, ◌∙◌, arith, length}
+use Rattle.std.proofs.Common.{◌≡◌, ◌≢◌, [], ◌++◌, sym, ap, subst, ◌∙◌, arith, length, take}
 use Rattle.pua_tree.specs.Tree.{Tree}
 use Rattle.pua_policy.specs.CallSets.{calls_in}
+use Rattle.pua_objects.proofs.ForCallers.{stays_shared}
 use Rattle.pua_ever.specs.EverLines.{lines_of, IsThing}
+use Rattle.pua_ever.specs.EverState.{EverState}
 use Rattle.pua_ever.proofs.Lined.{left_out, kept_in, is_not_so, lines_moved}
 use Rattle.pua_ever.proofs.ever.Ever.next_line.Goals as goal
 
 pub loop-line-init : goal.loop-line-init
-loop-line-init g c = record { tree = refl; process = refl; table = refl; fewer = omega arith; so_far = λ h stands. refl }
+loop-line-init g c =
+    let old = c.args.self.now in
+    let is = c.share_all.ensures in
+    record {
+      tree = ap (λ (s : EverState). s.tree) is;
+      process = ap (λ (s : EverState). s.process) is;
+      table = ap (λ (s : EverState). s.table) is;
+      fewer = omega (arith, ap (λ (s : EverState). length s.left) is);
+      shared = ap (λ (s : EverState). take c.share_all.new.self.shared s.word) is;
+      so_far = λ h stands. ap (λ (s : EverState). lines_of old.tree old.table h s.left) (sym is);
+    }
 
 pub returns-then-not-is_empty-clause-of : goal.returns-then-not-is_empty-clause-of
 returns-then-not-is_empty-clause-of g c =
@@ -49,6 +61,7 @@ loop-line-preserved g c =
       process = c.in-Some.ensures.of.1 ∙ now.process;
       table = c.in-Some.ensures.of.2 ∙ now.table;
       fewer = omega (arith, ap length first.left, now.fewer);
+      shared = stays_shared after.shared c.loop-line.self.shared c.args.self.now.word c.loop-line.self.word after.word c.in-Some.ensures.less c.loop-line.invariant.shared c.in-Some.ensures.shared;
       so_far = λ h stands.
           now.so_far h stands
           ∙ lines_moved old.tree at.tree old.table at.table old.process at.process now.tree now.table now.process at.left after.left _ first.lines h stands
@@ -65,3 +78,9 @@ returns-clause-line g c =
     let old = c.args.self.now in
     let none = c.in_default.ensures.line in
     (λ h stands. c.loop-line.invariant.so_far h stands ∙ ap (lines_of old.tree old.table h) none.0, λ h stands. ap (lines_of old.tree old.table h) none.1)
+
+pub returns-then-not-is_empty-clause-shared : goal.returns-then-not-is_empty-clause-shared
+returns-then-not-is_empty-clause-shared g c = stays_shared c.next_given.new.self.shared c.loop-line.self.shared c.args.self.now.word c.loop-line.self.word c.next_given.new.self.word c.in-Some.ensures.less c.loop-line.invariant.shared c.in-Some.ensures.shared
+
+pub returns-clause-shared : goal.returns-clause-shared
+returns-clause-shared g c = stays_shared c.next_given.new.self.shared c.loop-line.self.shared c.args.self.now.word c.loop-line.self.word c.next_given.new.self.word c.in_default.ensures.less c.loop-line.invariant.shared c.in_default.ensures.shared

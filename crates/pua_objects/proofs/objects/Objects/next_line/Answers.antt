@@ -1,8 +1,10 @@
-use Rattle.std.proofs.Common.{◌≡◌, ◌≢◌, [], sym, ap, subst, ◌∙◌, arith, length}
+use Rattle.std.proofs.Common.{◌≡◌, ◌≢◌, [], refl, sym, ap, subst, ◌∙◌, arith, length, take}
+use Rattle.std.proofs.lemmas.List.{length-map}
 use Rattle.pua_policy.specs.CallSets.{calls_in}
 use Rattle.pua_policy.specs.History.{ProcessState, StandsFor}
 use Rattle.pua_objects.specs.ObjectsState.{ObjectsState}
 use Rattle.pua_objects.specs.Ready.{lines_of}
+use Rattle.pua_objects.proofs.Fronts.{shares_on}
 use Rattle.pua_objects.proofs.Listed.{left_out, kept_in, told_lined, is_not_so}
 use Rattle.pua_objects.proofs.objects.Objects.next_line.Goals as goal
 
@@ -14,6 +16,7 @@ loop-item-init g c =
       process = ap (λ (s : ObjectsState). s.process) is;
       table = ap (λ (s : ObjectsState). s.table) is;
       fewer = omega (arith, ap (λ (s : ObjectsState). length s.left) is);
+      shared = ap (λ (s : ObjectsState). take (length c.word.result.now) s.word) is;
       so_far = λ h stands. ap (λ (s : ObjectsState). lines_of c.args.self.now.tree c.args.self.now.table h s.left) (sym is);
     }
 
@@ -65,6 +68,10 @@ loop-item-preserved g c =
       process = c.in-Some.ensures.of.1 ∙ now.process;
       table = now.table;
       fewer = omega (arith, ap length first.left, now.fewer);
+      shared = shares_on c.min-self-inside.result c.loop-item.self-inside.shared c.args.self.now.word c.loop-item.self-inside.items.word c.next_item.new.self.word
+          (omega (arith, c.min-self-inside.ensures))
+          (omega (arith, c.min-self-inside.ensures, c.saturating_sub.ensures, ap length c.word-in-Some.ensures, length-map c.word-in-Some.result.now (λ name. name.now)))
+          c.loop-item.invariant.shared c.in-Some.ensures.near;
       so_far = λ h stands. now.so_far h stands ∙ ap (lines_of old.tree old.table h) first.left ∙ left_out old.tree old.table h first.subject line (on h stands) after.word after.left none;
     }
 
@@ -78,3 +85,13 @@ returns-clause-line g c =
     let old = c.args.self.now in
     let none = c.in_default.ensures.item in
     (λ h stands. c.loop-item.invariant.so_far h stands ∙ ap (lines_of old.tree old.table h) none.0, λ h stands. ap (lines_of old.tree old.table h) none.1)
+
+pub returns-then-not-is_empty-clause-shared : goal.returns-then-not-is_empty-clause-shared
+returns-then-not-is_empty-clause-shared g c =
+    shares_on c.min-self-inside.result c.loop-item.self-inside.shared c.args.self.now.word c.loop-item.self-inside.items.word c.next_item.new.self.word
+    (omega (arith, c.min-self-inside.ensures))
+    (omega (arith, c.min-self-inside.ensures, c.saturating_sub.ensures, ap length c.word-in-Some.ensures, length-map c.word-in-Some.result.now (λ name. name.now)))
+    c.loop-item.invariant.shared c.in-Some.ensures.near
+
+pub returns-clause-shared : goal.returns-clause-shared
+returns-clause-shared g c = refl

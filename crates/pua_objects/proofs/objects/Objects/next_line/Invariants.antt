@@ -1,4 +1,4 @@
-use Rattle.std.proofs.Common.{◌≡◌, ◌≤◌, length}
+use Rattle.std.proofs.Common.{◌≡◌, ◌≤◌, length, take}
 use Rattle.pua_policy.specs.History.{History, StandsFor}
 use Rattle.pua_objects.specs.Ready.{lines_of}
 use Rattle.pua_objects.proofs.objects.Objects.next_line.Given as goal
@@ -9,6 +9,7 @@ invariant-loop-item g l = record {
   process : l.self-inside.items.process ≡ l.fn.self.process;
   table : l.self-inside.table ≡ l.fn.self.table;
   fewer : length l.self-inside.items.left ≤ length l.fn.self.left;
+  shared : take l.self-inside.shared l.self-inside.items.word ≡ take l.self-inside.shared l.fn.self.word;
   so_far : (h : History) → StandsFor l.fn.self.process h →
       lines_of l.fn.self.tree l.fn.self.table h l.fn.self.left ≡ lines_of l.fn.self.tree l.fn.self.table h l.self-inside.items.left;
 }

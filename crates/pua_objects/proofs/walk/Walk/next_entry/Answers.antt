@@ -8,6 +8,7 @@ use Rattle.pua_policy.specs.Verdict.{object_of_kind}
 use Rattle.pua_objects.specs.Spots.{spot_now}
 use Rattle.pua_objects.specs.Ready.{entered}
 use Rattle.pua_objects.proofs.Entering.{word_room, dirs_room, covered, stood, entered_ready, gave}
+use Rattle.pua_objects.proofs.Fronts.{near_front, near_map, near_pushed}
 use Rattle.pua_objects.proofs.walk.Walk.next_entry.Goals as goal
 
 pub stand_at-requires-clause-room : goal.stand_at-requires-clause-room
@@ -92,3 +93,15 @@ returns-clause-item g c =
     (ap (λ v. map spot_now v.items) done.kept.0) (ap (map (λ name. name.now)) done.word ∙ map-append (λ name. name.now) b.word.items (c.in-Some.next.1 ∷ [])) done.room done.kept.1 done.kept.2
     (Some id) _ (sym c.in-Some-look.ensures) (λ x e. ap (is_dir t) (sym (same_Some id x e)) ∙ plain)
     (λ h stands. done.item t h (entered _ (taken.next + 1) taken.cover) taken.around (Some id) ready.tree stands taken.dirs (covered t p c.args.self.now b _ _ c.requires.names ready names taken h stands) seen (sym c.in-Some-look.ensures))
+
+pub returns-in_default-clause-near : goal.returns-in_default-clause-near
+returns-in_default-clause-near g c = near_map (λ name. name.now) _ _ (near_front c.args.self.now.word.items c.next_name.new.self.word.items c.next_name.ensures.front)
+
+pub returns-in_default-look-clause-near : goal.returns-in_default-look-clause-near
+returns-in_default-look-clause-near g c = near_map (λ name. name.now) _ _ (near_pushed c.args.self.now.word.items c.next_name.new.self.word.items _ _ c.next_name.ensures.front c.stand_at.ensures.word)
+
+pub returns-then-is_directory-clause-near : goal.returns-then-is_directory-clause-near
+returns-then-is_directory-clause-near g c = near_map (λ name. name.now) _ _ (near_pushed c.args.self.now.word.items c.next_name.new.self.word.items _ _ c.next_name.ensures.front c.enter.ensures.word)
+
+pub returns-clause-near : goal.returns-clause-near
+returns-clause-near g c = near_map (λ name. name.now) _ _ (near_pushed c.args.self.now.word.items c.next_name.new.self.word.items _ _ c.next_name.ensures.front c.stand_at-2.ensures.word)

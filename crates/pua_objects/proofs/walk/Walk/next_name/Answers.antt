@@ -1,11 +1,12 @@
-use Rattle.std.proofs.Common.{◌≡◌, length, take, refl, ap, ◌∙◌, arith}
+use Rattle.std.proofs.Common.{◌≡◌, length, take, refl, sym, ap, ◌∙◌, arith}
 use Rattle.pua_objects.specs.declared.walk.Walk.{Walk}
 use Rattle.pua_objects.proofs.Leaving.{inner_open, left_ready, left_same, taken_ready, taken, taken_from, shorter, at_most, none_ready, none_left, no_dirs}
+use Rattle.pua_objects.proofs.Fronts.{front_own, front_same}
 use Rattle.pua_objects.proofs.Ranges.{lent_within}
 use Rattle.pua_objects.proofs.walk.Walk.next_name.Goals as goal
 
 pub loop-dir-init : goal.loop-dir-init
-loop-dir-init c = record { coming = refl; spots = refl; ready = λ t p ready names. ready; so_far = λ t p ready names. refl }
+loop-dir-init c = record { coming = refl; spots = refl; word = refl; ready = λ t p ready names. ready; so_far = λ t p ready names. refl }
 
 pub returns-in-Some-name_of-clause-ready : goal.returns-in-Some-name_of-clause-ready
 returns-in-Some-name_of-clause-ready c = λ t p ready names.
@@ -16,6 +17,12 @@ returns-in-Some-name_of-clause-ready c = λ t p ready names.
 
 pub returns-in-Some-name_of-clause-kept : goal.returns-in-Some-name_of-clause-kept
 returns-in-Some-name_of-clause-kept c = (c.loop-dir.invariant.coming, c.loop-dir.invariant.spots)
+
+pub returns-in-Some-name_of-clause-front : goal.returns-in-Some-name_of-clause-front
+returns-in-Some-name_of-clause-front c =
+    let old = c.args.self.now.word.items in
+    let cut = c.truncate.ensures.items ∙ ap (λ (v : _). take c.len.result v.items) c.loop-dir.invariant.word in
+    cut ∙ front_own c.len.result old ∙ ap (λ names. take (length names) old) (sym cut)
 
 pub returns-in-Some-name_of-clause-next : goal.returns-in-Some-name_of-clause-next
 returns-in-Some-name_of-clause-next c = λ t p ready names.
@@ -36,6 +43,7 @@ pub loop-dir-preserved : goal.loop-dir-preserved
 loop-dir-preserved c = record {
   coming = c.loop-dir.invariant.coming;
   spots = c.loop-dir.invariant.spots;
+  word = c.loop-dir.invariant.word;
   ready = λ t p ready names.
       left_ready t p c.loop-dir.self (c.loop-dir.invariant.ready t p ready names) (c.loop-dir.invariant.coming ∙ names) _ c.pop.new.self.items c.in-Some.ensures.items _ refl refl c.pop.ensures.capacity refl refl refl;
   so_far = λ t p ready names.
@@ -54,6 +62,9 @@ returns-clause-ready c = λ t p ready names.
 
 pub returns-clause-kept : goal.returns-clause-kept
 returns-clause-kept c = (c.loop-dir.invariant.coming, c.loop-dir.invariant.spots)
+
+pub returns-clause-front : goal.returns-clause-front
+returns-clause-front c = front_same c.args.self.now.word.items c.loop-dir.self.word.items (ap (λ (v : _). v.items) c.loop-dir.invariant.word)
 
 pub returns-clause-next : goal.returns-clause-next
 returns-clause-next c = λ t p ready names.

@@ -9,6 +9,7 @@ abbrev pub invariant-loop-dir : goal.invariant-loop-dir
 invariant-loop-dir l = record {
   coming : l.self.coming ≡ l.fn.self.coming;
   spots : l.self.spots ≡ l.fn.self.spots;
+  word : l.self.word ≡ l.fn.self.word;
   ready : (t : Tree) (process : ProcessState) → IsReady t process l.fn.self → l.fn.self.coming ≡ Names → IsReady t process l.self;
   so_far : (t : Tree) (process : ProcessState) → IsReady t process l.fn.self → l.fn.self.coming ≡ Names → names_left t process.veils l.fn.self ≡ names_left t process.veils l.self;
 }

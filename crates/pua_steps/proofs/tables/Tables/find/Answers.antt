@@ -1,4 +1,4 @@
-use Rattle.std.proofs.Common.{sym, ◌∙◌, length}
+use Rattle.std.proofs.Common.{sym, ◌∙◌, length, arith}
 use Rattle.pua_steps.proofs.Finding.{part_rises, missed_open, missed_visit, missed_split, found_entry, found_open, found_visit, found_split}
 use Rattle.pua_steps.proofs.tables.Tables.find.Goals as goal
 
@@ -25,3 +25,9 @@ returns-clause-visit c = found_visit c.args.self.now.steps c.args.self.now.live 
 
 pub returns-clause-split : goal.returns-clause-split
 returns-clause-split c = found_split c.args.self.now.steps c.args.self.now.live (length c.args.self.now.lists.layers.items) c.args.self.now.lists c.requires.table c.requires.listed c.args.left c.requires.left c.args.state c.requires.state c.args.letter c.requires.letter c.span-span.result c.span-span.ensures c.count_before.result c.count_before.ensures.low c.count_before.ensures.high c.in-Some.entry (sym c.entry_of.ensures.entry ∙ c.in-Some.is) c.visit.result c.visit.ensures
+
+pub returns-in_default-clause-raised : goal.returns-in_default-clause-raised
+returns-in_default-clause-raised c = omega (arith, c.count_before.ensures.raised, c.entry_of.ensures.raised)
+
+pub returns-clause-raised : goal.returns-clause-raised
+returns-clause-raised c = omega (arith, c.count_before.ensures.raised, c.entry_of.ensures.raised)

@@ -41,3 +41,6 @@ returns-in-Ok-clause-exact g c = λ es h count.
     let read : entry_of c.args.self.now.hard es c.args.n c.args.text.now ≡ Ok e = c.in_ok-entry.ensures es h ∙ admitted_entry c.args.self.now.hard t c.args.self.now.greatest es c.args.n e h free c.if-n-gt-MOST_LINES.false in
     let fits : Fits c.args.self.now.hard es e = (entry_read c.args.self.now.hard es c.args.n c.args.text.now e count read).1 in
     (e, read, subst (λ (u : tree.Tree). Gathers c.args.self.now.hard u e.number (es ++ e ∷ [])) (sym c.in-Ok.ensures.grown) (gathered_more c.args.self.now.hard t c.args.self.now.greatest es e h fits))
+
+pub returns-then-is_some-clause-room : goal.returns-then-is_some-clause-room
+returns-then-is_some-clause-room g c = search rules

@@ -1,0 +1,62 @@
+//! The functions of `calling`, over a small site.
+
+use crate::calling::{Served, ask, can_touch, is_reached, list, read, replay};
+use crate::written::as_expected;
+use anyhow::Result;
+use pua_path::Errno;
+use pua_policy::{Call, Process, Verdict};
+use pua_script::Answer;
+use pua_tool::{Processes, ToolFault};
+use std::alloc::Global;
+
+/// A site, and a key beside it.
+const SITE: &[u8] = b"tree 1\n0 dir\n1 dir 0 www\n2 dir 1 site\n3 file 2 index\n4 file 1 key\n";
+
+/// A server that reads the site, and a child that has ended.
+const SERVER: &[u8] =
+    b"1 unveil /www/site r\n1 unveil - -\n1 pledge stdio,rpath,proc -\n1 fork 2\n2 exit\n";
+
+/// How the list of process 2 begins.
+const FRONT: &[u8] = b"1 ok\n2 ok\n3 ok\n4 ok\n5 ok\nobjects 2\n";
+
+/// Prints whether a caller of each library is answered as expected.
+pub(crate) fn run(rt: &HostRuntime) -> Result<()> {
+    let is_called = is_replay_asked(rt.alloc())? && is_list_written(rt.alloc())?;
+    println!(rt; "a caller of each library: {}", as_expected(is_called))?;
+    Ok(())
+}
+
+/// Whether a server and its child are told what they may do.
+fn is_replay_asked(alloc: Global) -> Result<bool> {
+    let (tree, script) = read(alloc, SITE, SERVER)?;
+    let served = replay(alloc, tree, &script)?;
+    let (Some(server), Some(child)) = (served.world.process(1), served.world.process(2)) else {
+        return Ok(false);
+    };
+    Ok(
+        served.told.as_slice() == [Answer::Okay; 5].as_slice()
+            && is_server_told(alloc, &served, server)?
+            && !can_touch(alloc, served.world.tree(), child, served.world.table())?,
+    )
+}
+
+/// Whether the server may read the site, and neither read the key nor write.
+fn is_server_told(alloc: Global, served: &Served, server: &Process) -> Result<bool> {
+    let (tree, table) = (served.world.tree(), served.world.table());
+    let index = ask(tree, server, table, Call::OpenRead, b"/www/site/index");
+    let key = ask(tree, server, table, Call::OpenRead, b"/www/key");
+    Ok(
+        index == Verdict::Allowed
+            && key == Verdict::Failed(Errno::ENOENT)
+            && is_reached(alloc, tree, server, table, 3, Call::OpenRead)?
+            && !is_reached(alloc, tree, server, table, 3, Call::OpenWrite)?
+            && can_touch(alloc, tree, server, table)?,
+    )
+}
+
+/// Whether the child's list is written, and none of a process that was never made.
+fn is_list_written(alloc: Global) -> Result<bool> {
+    let sink = list(alloc, SITE, SERVER, Processes::One(2), 1000)?;
+    let none = list(alloc, SITE, SERVER, Processes::One(3), 1000).err();
+    Ok(sink.bytes().starts_with(FRONT) && none == Some(ToolFault::NoProcess))
+}

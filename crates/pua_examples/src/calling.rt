@@ -1,0 +1,215 @@
+//! A caller of each library, from a listing and a script to what a process can still do. The page for
+//! callers, docs/CALLING.md, goes through these functions.
+
+ghost use Rattle.std.specs.Prelude.{◌≡◌, ◌≢◌, ℕ, List, [], Some, None, Ok, Err, IfOk, IfErr, IsTrue, IsFalse, nat_eq};
+ghost use Rattle.std.specs.List.{list_any};
+ghost use Rattle.pua_tree.specs.Listing.{listing};
+ghost use Rattle.pua_path.specs.Fits.{FoundsFit};
+ghost use Rattle.pua_path.specs.Resolution.{resolution_of_text};
+ghost use Rattle.pua_policy.specs.Calls.{call_number, standard_table};
+ghost use Rattle.pua_policy.specs.History.{History, StandsFor};
+ghost use Rattle.pua_policy.specs.Verdict.{verdict_on};
+ghost use Rattle.pua_script.specs.Replay.{answers, new_world, world_after};
+ghost use Rattle.pua_script.specs.Scripts.{script};
+ghost use Rattle.pua_script.specs.Worlds.{StandsForWorld};
+ghost use Rattle.pua_audit.specs.Begin.{Beginning, beginning, still_to_come};
+ghost use Rattle.pua_audit.specs.declared.base.Base.TheVariants.{Root};
+ghost use Rattle.pua_objects.specs.Objects.{objects};
+ghost use Rattle.pua_tool.specs.ObjectTexts.{objects_text};
+ghost use Rattle.pua_tool.specs.Texts.{by_standard};
+ghost use Rattle.pua_examples.specs.Calling.{first_fault};
+
+use pua_audit::{Audit, AuditFault, Base};
+use pua_objects::{Objects, completeness_law};
+use pua_path::{Counted, Ending, Errno, Found, Last, PathText, resolve};
+use pua_policy::judge::verdict_of;
+use pua_policy::needs::{ending, need};
+use pua_policy::{Call, CallTable, Process, Verdict};
+use pua_script::{Answer, Script, ScriptFault, World, read_script};
+use pua_tool::{MemorySink, Processes, TableChoice, ToolFault, objects_to};
+use pua_tree::{FileTree, ListingFault, NodeId, OutOfMemory, SlabTree, read_listing_slab};
+use std::alloc::Global;
+
+/// The tree of a listing and the requests of a script. The error is the first fault of the listing, or
+/// else that of the script; `OutOfMemory` where a growth was refused.
+pub(crate) fn read(
+    alloc: Global,
+    tree: &[u8],
+    lines: &[u8],
+) -> Result<(SlabTree, Script), ToolFault>
+    ensures tree { IfOk result (λ both. listing tree.now ≡ Ok both.0) }
+    ensures script { IfOk result (λ both. script lines.now ≡ Ok both.1) }
+    ensures refused { IfErr result (λ fault. fault ≢ ToolFault.OutOfMemory →
+        first_fault (listing tree.now) (script lines.now) ≡ Some fault) }
+{
+    let tree = match read_listing_slab(alloc, tree) {
+        Ok(tree) => tree,
+        Err(ListingFault::OutOfMemory) => return Err(ToolFault::OutOfMemory),
+        Err(fault) => return Err(ToolFault::Listing(fault)),
+    };
+    match read_script(alloc, lines) {
+        Ok(script) => Ok((tree, script)),
+        Err(ScriptFault::OutOfMemory) => Err(ToolFault::OutOfMemory),
+        Err(fault) => Err(ToolFault::Script(fault)),
+    }
+}
+
+/// What the lines of a script were answered, and the world that they left.
+#[derive(Drop)]
+pub(crate) struct Served {
+    /// An answer for each line.
+    pub(crate) told: Vec<Answer>,
+    /// The tree and the processes where the script ends.
+    pub(crate) world: World<SlabTree>,
+}
+
+/// Runs a script over a tree, by the standard table of calls. The only error is that a growth was
+/// refused.
+pub(crate) fn replay(alloc: Global, tree: SlabTree, script: &Script) -> Result<Served, OutOfMemory>
+    ensures told { IfOk result (λ served.
+        served.told.items ≡ answers standard_table (new_world tree) script.now) }
+    ensures world { IfOk result (λ served.
+        StandsForWorld served.world (world_after standard_table (new_world tree) script.now)) }
+    ensures table { IfOk result (λ served. served.world.table ≡ standard_table) }
+{
+    let mut world = World::new(alloc, tree, CallTable::standard())?;
+    match world.run(alloc, script) {
+        Ok(told) => Ok(Served { told, world }),
+        Err(_) => Err(OutOfMemory),
+    }
+}
+
+/// What becomes of a call that a process makes on a path: the definition's verdict, which changes
+/// nothing.
+pub(crate) fn ask<T: FileTree>(
+    tree: &T,
+    process: &Process,
+    table: &CallTable,
+    call: Call,
+    path: &[u8],
+) -> Verdict
+    ensures { (h : History) → StandsFor process.now h →
+        result ≡ verdict_on (T.content tree.now) table.now h call path.now }
+{
+    let mut probe = Counted::new(tree);
+    let found = name(
+        &mut probe,
+        process.dir(),
+        path,
+        ending(call),
+        need(call).last,
+    );
+    verdict_of(&mut probe, process, table, call, found)
+}
+
+/// What a path names from a directory.
+fn name<T: FileTree>(
+    probe: &mut Counted<'_, T>,
+    from: NodeId,
+    path: &[u8],
+    ending: Ending,
+    last: Last,
+) -> Result<Found, Errno>
+    ensures exact { result ≡ resolution_of_text probe.old.tree from ending path.now last }
+    ensures fits { FoundsFit probe.old.tree result }
+    ensures tree { probe.new.tree ≡ probe.old.tree }
+{
+    let text = PathText::read(path, ending)?;
+    resolve(probe, from, &text, last)
+}
+
+/// Whether a process is allowed a call on some path from the root, of at most so many components that
+/// the tree has, or `..`. The error is that of the audit's beginning.
+pub(crate) fn is_reached<T: FileTree>(
+    alloc: Global,
+    tree: &T,
+    process: &Process,
+    table: &CallTable,
+    limit: u8,
+    call: Call,
+) -> Result<bool, AuditFault>
+    ensures reached { IfOk result (λ reached. (h : History) → StandsFor process.now h → (b : Beginning)
+        × (beginning (T.content tree.now) table.now h Root [] limit None ≡ Ok b)
+        × (reached ≡ list_any (λ pair. nat_eq (call_number pair.1) (call_number call))
+        (still_to_come b))) }
+    ensures refused { IfErr result (λ fault. fault ≢ AuditFault.OutOfMemory → (h : History) →
+        beginning (T.content tree.now) table.now h Root [] limit None ≡ Err fault) }
+{
+    let mut probe = Counted::new(tree);
+    let mut audit = Audit::begin(
+        alloc,
+        &mut probe,
+        process,
+        table,
+        Base::Root,
+        &[],
+        limit,
+        None,
+    )?;
+    Ok(is_lent(&mut probe, &mut audit, call))
+}
+
+/// Whether one of the pairs that an audit has still to lend has this call.
+fn is_lent<T: FileTree>(probe: &mut Counted<'_, T>, audit: &mut Audit, call: Call) -> bool
+    requires { probe.old.tree ≡ audit.old.tree }
+    ensures { result ≡ list_any (λ pair. nat_eq (call_number pair.1) (call_number call))
+        audit.old.left }
+{
+    while let Some(line) = audit.next_line(probe) {
+        if line.call.number() == call.number() {
+            return true;
+        }
+    }
+    false
+}
+
+/// Whether a process can touch anything at all. Where it can't, no call is allowed to it on any path,
+/// however long. The only error is that a growth was refused.
+#[tactic(auto, using(crate::proofs::Nowhere::nowhere))]
+pub(crate) fn can_touch<T: FileTree>(
+    alloc: Global,
+    tree: &T,
+    process: &Process,
+    table: &CallTable,
+) -> Result<bool, OutOfMemory>
+    ensures touched { IfOk result (λ touches. IsTrue touches →
+        (h : History) → StandsFor process.now h → objects (T.content tree.now) table.now h ≢ []) }
+    ensures nowhere { IfOk result (λ touches. IsFalse touches →
+        (h : History) → StandsFor process.now h → (call : Call) (text : List ℕ) →
+        verdict_on (T.content tree.now) table.now h call text ≢ Verdict.Allowed) }
+{
+    completeness_law();
+    tree.known();
+    let mut list = Objects::begin(alloc, tree, process, table)?;
+    Ok(list.next_line().is_some())
+}
+
+/// The text of `pua objects` for a process or for all, in memory with room for so many bytes. The error
+/// is the first fault of the listing or the script, `NoProcess` where the process was never made,
+/// `Write` where there is too little room, and `OutOfMemory`.
+pub(crate) fn list(
+    alloc: Global,
+    tree: &[u8],
+    lines: &[u8],
+    processes: Processes,
+    room: usize,
+) -> Result<MemorySink, ToolFault>
+    ensures whole { IfOk result (λ sink.
+        objects_text by_standard tree.now lines.now processes ≡ Ok sink.bytes) }
+    ensures refused { IfErr result (λ fault.
+        fault ≢ ToolFault.Write → fault ≢ ToolFault.OutOfMemory →
+        objects_text by_standard tree.now lines.now processes ≡ Err fault) }
+{
+    let Ok(mut sink) = MemorySink::new(alloc, room) else {
+        return Err(ToolFault::OutOfMemory);
+    };
+    objects_to(
+        alloc,
+        tree,
+        lines,
+        TableChoice::STANDARD,
+        processes,
+        &mut sink,
+    )?;
+    Ok(sink)
+}

@@ -1,0 +1,37 @@
+//! Whose rules are asked, and what an exec leaves of execpromises by them.
+
+ghost use Rattle.std.specs.Prelude.{◌≡◌};
+ghost use Rattle.pua_policy.specs.History.{left_for_exec};
+
+use crate::promises::Promises;
+
+/// Whose rules a command goes by: what calls need, and what an exec leaves of execpromises.
+#[derive(Clone, Copy, Debug, PartialEq, Eq)]
+pub enum Rules {
+    /// This project's own profile, which is the default everywhere.
+    Profile,
+    /// OpenBSD's kernel, as its manual pages and its sources are known. No kernel was tried.
+    Openbsd,
+}
+
+/// What an exec leaves of execpromises that were given: they become the promises of the program
+/// either way. Where none were given, none are left.
+#[derive(Clone, Copy, Debug, PartialEq, Eq)]
+pub enum ExecPromises {
+    /// They are unset, so that the program's own exec drops everything (this profile).
+    Unset,
+    /// They stay, for the program's own exec too (OpenBSD).
+    Stay,
+}
+
+impl ExecPromises {
+    /// The execpromises of a program that is started with these.
+    pub(crate) fn left(self, given: Promises) -> Option<Promises>
+        ensures { result ≡ left_for_exec self given }
+    {
+        match self {
+            ExecPromises::Unset => None,
+            ExecPromises::Stay => Some(given),
+        }
+    }
+}

@@ -1,0 +1,11 @@
+use Rattle.std.proofs.Common.{◌≡◌, ◌∷◌, None, Some, rules}
+use Rattle.pua_policy.specs.History.{new_history, Pledged}
+use Rattle.pua_policy.specs.Promises.{rpath}
+use Rattle.pua_refused.proofs.policy.execs.execpromises_unset.Goals as goal
+
+pub unreachable-requires-then-ne : goal.unreachable-requires-then-ne
+unreachable-requires-then-ne c =
+    let pledged = (c.in-Ok-pledge.ensures.exact new_history c.in-Ok.ensures).1 in
+    let stands = c.exec_by.ensures (Pledged None (Some rpath) ∷ new_history) pledged in
+    let same : c.execpromises.result ≡ Some rpath = c.execpromises.ensures.history _ stands in
+    search (rules, same)

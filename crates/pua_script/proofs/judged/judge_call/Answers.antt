@@ -1,0 +1,10 @@
+use Rattle.std.proofs.Common.{Some, sym, ap, ◌∙◌}
+use Rattle.std.proofs.lemmas.Result.{err_from_is_err_and}
+use Rattle.pua_policy.specs.declared.answer.Refusal.{Refusal}
+use Rattle.pua_script.proofs.Doing.{promises_refuse}
+use Rattle.pua_script.proofs.judged.judge_call.Goals as goal
+
+pub returns-in_err-promised_for : goal.returns-in_err-promised_for
+returns-in_err-promised_for g c = λ h stands.
+    let p = err_from_is_err_and c.from_residual.result c.from_residual.ensures.1 in
+    rw p.1 (sym (promises_refuse _ p.0 _ (c.in_err-promised_for.ensures.exact h stands ∙ ap (λ (r : Refusal). Some r) (sym p.2))))

@@ -1,0 +1,107 @@
+#!/bin/sh
+# What the whole program does where files, its own output and fault line, or the memory for its words fail:
+# sh devices.sh PROGRAM
+# It prints a line for each case that is not as it has to be, and at last how many were.
+set -u
+program=$(realpath "$1")
+room=$(mktemp -d)
+trap 'rm -rf "$room"' EXIT
+cd "$room" || exit 2
+printf 'tree 1\n0 dir\n' > tree
+: > script
+truncate -s 67108864 longest
+truncate -s 67108865 longer
+wrong=0
+
+# The name of a case, the status that it has to end with, and its fault line; the case's is in `told`.
+expect() {
+    if [ "$status" != "$2" ] || [ "$(cat told)" != "$3" ]; then
+        echo "$1: status $status, $(cat told)"
+        wrong=$((wrong + 1))
+    fi
+}
+
+run() {
+    "$program" "$@" > written 2> told
+    status=$?
+}
+
+run run tree script
+expect 'nothing to do' 0 ''
+run run missing script
+expect 'no such file' 3 'pua: cannot read missing'
+run run tree missing
+expect 'no such script' 3 'pua: cannot read missing'
+run run --table missing tree script
+expect 'no such table' 3 'pua: cannot read missing'
+run run --table . tree script
+expect 'a directory as a table' 3 'pua: cannot read .'
+run run --table longer tree script
+expect 'a table one byte too long' 3 'pua: cannot read longer'
+run run --table longest tree script
+expect 'a table as long as may be' 1 'pua: table: bad toml'
+run run . script
+expect 'a directory' 3 'pua: cannot read .'
+run run longer script
+expect 'one byte too long' 3 'pua: cannot read longer'
+run run longest script
+expect 'as long as may be' 1 'pua: listing: bad header'
+run
+usage=$(cat told)
+expect 'no words' 2 "pua: usage: ${usage#pua: usage: }"
+run run "$(printf '\377')" script
+expect 'a word that is no text' 2 "$usage"
+run audit --limit 1 --after '' tree script
+expect 'an empty word' 1 'pua: audit: bad resume'
+run run '' script
+expect 'a file without a name' 3 'pua: cannot read '
+"$program" audit --limit 1 tree script > /dev/full 2> told
+status=$?
+expect 'a full device' 3 'pua: cannot write'
+"$program" audit --limit 1 tree script >&- 2> told
+status=$?
+expect 'a closed output' 3 'pua: cannot write'
+mkfifo pipe
+# (more lines than a pipe holds)
+"$program" audit --limit 16 tree script $(seq -f name%g 1 200) > pipe 2> told &
+head -n 1 < pipe > written
+wait $!
+status=$?
+expect 'a pipe that ends early' 3 'pua: cannot write'
+"$program" --help > /dev/full 2> told
+status=$?
+expect 'help to a full device' 3 'pua: cannot write'
+"$program" --version > /dev/full 2> told
+status=$?
+expect 'the version to a full device' 3 'pua: cannot write'
+"$program" run tree script 2> /dev/full > written
+status=$?
+: > told
+expect 'a fault line that is not asked for' 0 ''
+"$program" 2> /dev/full > written
+status=$?
+: > told
+expect 'a fault line that cannot be written' 2 ''
+# (the memory that it may have grows until it suffices: before, the program does not start, or says so)
+set -- $(yes word | head -n 2000)
+memory=1048576
+refused=0
+while [ "$memory" -lt 268435456 ]; do
+    (
+        prlimit --as="$memory" "$program" "$@" > written 2> told
+        exit $?
+    ) 2> stopped
+    status=$?
+    if [ "$status" = 2 ]; then break; fi
+    if [ "$status" -lt 126 ]; then
+        refused=$((refused + 1))
+        expect "many words and $memory bytes of memory" 4 'pua: out of memory'
+    fi
+    memory=$((memory + 65536))
+done
+if [ "$refused" = 0 ]; then
+    echo 'many words: no memory was refused'
+    wrong=$((wrong + 1))
+fi
+echo "$wrong wrong"
+[ "$wrong" = 0 ]
