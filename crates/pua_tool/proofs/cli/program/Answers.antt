@@ -1,4 +1,4 @@
-use Rattle.std.proofs.Common.{◌∙◌, map, subst, sym, rules}
+use Rattle.std.proofs.Common.{◌∙◌, map, subst, sym}
 use Rattle.pua_words.specs.Usages.{line_for, line_text}
 use Rattle.pua_tool.specs.Texts.{ended}
 use Rattle.pua_tool.specs.Told.{IsTold, TellsStatus}
@@ -26,12 +26,3 @@ returns-clause-told g c other =
     c.command-status.result c.at_end.result _ _ _
     c.at_end.ensures.stopped c.at_end.ensures.untold c.command-status.ensures.quiet
     c.command-status.ensures.told c.at_end.ensures.reported other
-
-pub returns-clause-done : goal.returns-clause-done
-returns-clause-done g c = search rules
-
-pub returns-clause-handed : goal.returns-clause-handed
-returns-clause-handed g c = search rules
-
-pub returns-clause-unfailed : goal.returns-clause-unfailed
-returns-clause-unfailed g c = search rules
