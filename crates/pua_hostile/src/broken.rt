@@ -2,6 +2,7 @@
 
 use crate::LISTING;
 use crate::dripping::{DrippingReader, DrippingSink};
+use crate::told::{count, wrong};
 use anyhow::Result;
 use pua_audit::Base;
 use pua_tool::{
@@ -58,6 +59,9 @@ const BEFORE_BLOCK: u64 = 8;
 
 const BLOCK: u64 = 61_430;
 
+/// How many bytes the sinks take a put that never fail.
+const PUTS: [usize; 7] = [1, 2, 7, 4_096, 65_535, 65_536, 65_537];
+
 /// Room for the longest of the texts.
 const ROOM: usize = 131_072;
 
@@ -96,15 +100,14 @@ fn is_cut(alloc: Global, audited: &Audited<'_>, text: &[u8], fails_from: u64) ->
 
 /// The short audit, with a sink that fails from each put on.
 fn short_audits(rt: &HostRuntime) -> Result<()> {
-    let mut cases = 0u32;
+    let mut cases = 0usize;
     for fails_from in 1..=60 {
         cases = cases.saturating_add(1);
         if !is_cut(rt.alloc(), &SHORT, SHORT_TEXT, fails_from)? {
-            println!(rt; "short audit, put {fails_from}: wrong")?;
+            wrong(rt, "short audit, put", fails_from)?;
         }
     }
-    println!(rt; "short audit: {cases} sinks")?;
-    Ok(())
+    count(rt, "short audit", cases, "sinks")
 }
 
 /// The status of the command of the short audit with this output, and what it reports.
@@ -136,75 +139,70 @@ fn is_cut_command(alloc: Global, fails_from: u64) -> Result<bool> {
 
 /// The command of the short audit, with a sink that fails from each put on.
 fn short_commands(rt: &HostRuntime) -> Result<()> {
-    let mut cases = 0u32;
+    let mut cases = 0usize;
     for fails_from in 1..=60 {
         cases = cases.saturating_add(1);
         if !is_cut_command(rt.alloc(), fails_from)? {
-            println!(rt; "short command, put {fails_from}: wrong")?;
+            wrong(rt, "short command, put", fails_from)?;
         }
     }
-    println!(rt; "short command: {cases} sinks")?;
-    Ok(())
+    count(rt, "short command", cases, "sinks")
 }
 
 /// The command of the short audit, with a sink in memory for each room that is too small, and for
 /// the whole text.
 fn small_rooms(rt: &HostRuntime) -> Result<()> {
-    let mut cases = 0u32;
+    let mut cases = 0usize;
     for room in 0..=SHORT_TEXT.len() {
         cases = cases.saturating_add(1);
         let mut out = MemorySink::new(rt.alloc(), room)?;
         let (status, err) = short_command(rt.alloc(), &mut out)?;
         if out.bytes() != &SHORT_TEXT[..room] || !is_told(status, err.bytes(), room as u64) {
-            println!(rt; "short command, room {room}: wrong")?;
+            wrong(rt, "short command, room", room as u64)?;
         }
     }
-    println!(rt; "short command: {cases} rooms")?;
-    Ok(())
+    count(rt, "short command", cases, "rooms")
 }
 
 /// The text of the long audit.
 fn long_text(rt: &HostRuntime) -> Result<MemorySink> {
     let mut whole = MemorySink::new(rt.alloc(), ROOM)?;
     let answer = audit_to(rt.alloc(), LONG.tree, LONG.script, &LONG.job, &mut whole);
-    if answer != Ok(()) || whole.bytes().len() != LONG_BYTES {
-        println!(rt; "long audit: {} bytes", whole.bytes().len())?;
+    if answer.is_err() || whole.bytes().len() != LONG_BYTES {
+        count(rt, "long audit", whole.bytes().len(), "bytes")?;
     }
     Ok(whole)
 }
 
 /// The long audit, with sinks that fail about the ends of the first block and of the text.
 fn long_audits(rt: &HostRuntime, text: &[u8]) -> Result<()> {
-    let mut cases = 0u32;
+    let mut cases = 0usize;
     for edge in [BEFORE_BLOCK, BLOCK, BEFORE_BLOCK + BLOCK, LONG_BYTES as u64] {
         for fails_from in edge.saturating_sub(2)..edge.saturating_add(4) {
             cases = cases.saturating_add(1);
             if !is_cut(rt.alloc(), &LONG, text, fails_from)? {
-                println!(rt; "long audit, put {fails_from}: wrong")?;
+                wrong(rt, "long audit, put", fails_from)?;
             }
         }
     }
-    println!(rt; "long audit: {cases} sinks")?;
-    Ok(())
+    count(rt, "long audit", cases, "sinks")
 }
 
 /// The long audit, with sinks that take little or much a put, and never fail.
 fn short_puts(rt: &HostRuntime, text: &[u8]) -> Result<()> {
-    let sizes = [1usize, 2, 7, 4_096, 65_535, 65_536, 65_537];
-    for most in &sizes {
+    for most in &PUTS {
         let mut sink = DrippingSink::new(rt.alloc(), *most, u64::MAX);
         let answer = audit_to(rt.alloc(), LONG.tree, LONG.script, &LONG.job, &mut sink);
-        if answer != Ok(()) || sink.bytes() != text {
-            println!(rt; "long audit, {most} bytes a put: wrong")?;
+        if answer.is_err() || sink.bytes() != text {
+            wrong(rt, "long audit, bytes a put", *most as u64)?;
         }
     }
-    println!(rt; "short puts: {} sinks", sizes.len())?;
-    Ok(())
+    count(rt, "short puts", PUTS.len(), "sinks")
 }
 
 /// The listing, read by readers that fail at each read.
 fn readings(rt: &HostRuntime) -> Result<()> {
-    let mut cases = 0u32;
+    let mut cases = 0usize;
     for fails_at in 1..=120 {
         cases = cases.saturating_add(1);
         let mut source = ReadSource::new(DrippingReader::new(LISTING, fails_at));
@@ -213,9 +211,8 @@ fn readings(rt: &HostRuntime) -> Result<()> {
             Err(fault) => fails_at < 120 && fault == InputFault::Unreadable,
         };
         if !is_right {
-            println!(rt; "reading, read {fails_at}: wrong")?;
+            wrong(rt, "reading, read", fails_at)?;
         }
     }
-    println!(rt; "readings: {cases} readers")?;
-    Ok(())
+    count(rt, "readings", cases, "readers")
 }

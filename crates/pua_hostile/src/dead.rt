@@ -1,6 +1,7 @@
 //! Trees with a hundred directories in which nearly nothing is reached, or after the last of whose paths
 //! nothing is left: an audit that looked at every path would not end.
 
+use crate::told::tell;
 use anyhow::Result;
 use pua_tool::{DONE, MemoryInputs, MemorySink, command};
 use std::alloc::Global;
@@ -8,8 +9,9 @@ use std::alloc::Global;
 /// How many directories stand in the root.
 const DIRS: u32 = 100;
 
-/// How many directories named `a` stand one in another, the first in the root.
-const DEPTH: u32 = 9;
+/// Nine directories named `a`, one in another, the first in the root, and a file in the last one.
+const CHAIN: &str =
+    "101 dir 0 a\n102 dir 101 a\n103 dir 102 a\n104 dir 103 a\n105 dir 104 a\n106 dir 105 a\n107 dir 106 a\n108 dir 107 a\n109 dir 108 a\n110 file 109 f\n";
 
 /// A script that unveils a directory without any permission.
 const NOTHING: &[u8] = b"1 unveil /d1 =\n1 unveil - -\n";
@@ -41,33 +43,51 @@ const LAST_WORDS: [&str; 7] = [
     "S",
 ];
 
+/// An audit over a listing and a script, by these words, and the text that it writes.
+#[derive(Clone, Copy)]
+struct Audited<'a> {
+    words: &'a [&'a str],
+    listing: &'a str,
+    script: &'a [u8],
+    text: &'a str,
+}
+
 /// Prints a line for each of the audits: that it ended, or that it was wrong. The one that is resumed is
 /// of a process to which everything is allowed, by each path that leads anywhere.
 pub(crate) fn run(rt: &HostRuntime) -> Result<()> {
-    let alloc = rt.alloc();
-    let wide = wide(alloc)?;
-    let deep = deep(alloc)?;
-    let (wide, deep) = (wide.as_bytes(), deep.as_bytes());
-    let nothing = [("T", wide), ("S", NOTHING)];
-    let one = [("T", deep), ("S", ONE_FILE)];
-    let free = [("T", wide), ("S", b"".as_slice())];
-    for (what, is_ended) in [
-        (
-            "a dead tree",
-            is_written(alloc, &WIDE_WORDS, &nothing, EMPTY)?,
-        ),
-        (
-            "a tree with one file",
-            is_written(alloc, &DEEP_WORDS, &one, FILE)?,
-        ),
-        (
-            "after the last path",
-            is_written(alloc, &LAST_WORDS, &free, "")?,
-        ),
-    ] {
-        println!(rt; "{what}: {}", if is_ended { "ended" } else { "wrong" })?;
-    }
-    Ok(())
+    let wide = wide(rt.alloc())?;
+    let deep = deep(rt.alloc())?;
+    let (wide, deep) = (wide.as_str(), deep.as_str());
+    audit(
+        rt,
+        "a dead tree",
+        &Audited {
+            words: &WIDE_WORDS,
+            listing: wide,
+            script: NOTHING,
+            text: EMPTY,
+        },
+    )?;
+    audit(
+        rt,
+        "a tree with one file",
+        &Audited {
+            words: &DEEP_WORDS,
+            listing: deep,
+            script: ONE_FILE,
+            text: FILE,
+        },
+    )?;
+    audit(
+        rt,
+        "after the last path",
+        &Audited {
+            words: &LAST_WORDS,
+            listing: wide,
+            script: b"",
+            text: "",
+        },
+    )
 }
 
 /// A listing of a root with a hundred directories.
@@ -79,29 +99,28 @@ pub(crate) fn wide(alloc: Global) -> Result<String> {
     Ok(text)
 }
 
-/// The same, and in the root the chain, with a file in its last directory.
+/// The same, and in the root the chain.
 pub(crate) fn deep(alloc: Global) -> Result<String> {
     let mut text = wide(alloc)?;
-    let mut parent = 0;
-    for place in 1..=DEPTH {
-        let number = DIRS + place;
-        writeln!(text, "{number} dir {parent} a")?;
-        parent = number;
-    }
-    writeln!(text, "{} file {parent} f", DIRS + DEPTH + 1)?;
+    text.push_str(CHAIN)?;
     Ok(text)
 }
 
-/// Whether an audit over these files writes this text, and reports nothing.
-fn is_written(
-    alloc: Global,
-    words: &[&str],
-    files: &[(&str, &[u8]); 2],
-    text: &str,
-) -> Result<bool> {
-    let mut inputs = MemoryInputs::new(files);
-    let mut out = MemorySink::new(alloc, 1_024)?;
-    let mut err = MemorySink::new(alloc, 1_024)?;
-    let status = command(alloc, words, &mut inputs, &mut out, &mut err);
-    Ok(status == DONE && out.bytes() == text.as_bytes() && err.bytes().is_empty())
+/// Prints whether an audit writes its text, and reports nothing.
+fn audit(rt: &HostRuntime, what: &str, audited: &Audited<'_>) -> Result<()> {
+    let files = [("T", audited.listing.as_bytes()), ("S", audited.script)];
+    let mut inputs = MemoryInputs::new(&files);
+    let mut out = MemorySink::new(rt.alloc(), 1_024)?;
+    let mut err = MemorySink::new(rt.alloc(), 1_024)?;
+    let status = command(rt.alloc(), audited.words, &mut inputs, &mut out, &mut err);
+    let is_written = out.bytes() == audited.text.as_bytes() && err.bytes().is_empty();
+    tell(
+        rt,
+        what,
+        if status == DONE && is_written {
+            "ended"
+        } else {
+            "wrong"
+        },
+    )
 }

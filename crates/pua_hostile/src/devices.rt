@@ -2,6 +2,7 @@
 //! open for writing, pipes that nobody reads, files that can't be read or are too long; and files that
 //! are read whole.
 
+use crate::told::{count, tell};
 use anyhow::Result;
 use pua_tool::{
     DEVICE, DONE, DiskInputs, InputFault, Inputs, MemoryInputs, MemorySink, REFUSED, StreamSink,
@@ -20,6 +21,9 @@ const COMMANDS: [&[&str]; 5] = [
 ];
 
 const ENTRIES: [(&str, &[u8]); 2] = [("T", b"tree 1\n0 dir\n"), ("S", b"1 stat /\n")];
+
+/// How many outputs fail for each of them.
+const OUTPUTS: usize = 3;
 
 /// Files that can't be read: one that isn't there, a directory, and one that has no end.
 const UNREADABLE: [&str; 4] = ["missing", ".", "/dev/zero", "listing-fronts/missing"];
@@ -46,39 +50,46 @@ impl Write for EndingPipe {
 /// A file of so many bytes is as long as may be, and has nothing but the byte 0.
 const LONGEST: u64 = 67_108_864;
 
-/// Commands over files that can't be read, are too long, or are as long as may be and neither a listing
-/// nor a table of calls: the words, the status, and the line.
-const REFUSALS: [(&[&str], u8, &[u8]); 6] = [
-    (
-        &["run", "--table", "missing", "/dev/null", "/dev/null"],
-        DEVICE,
-        b"pua: cannot read missing\n",
-    ),
-    (
-        &["run", "--table", ".", "/dev/null", "/dev/null"],
-        DEVICE,
-        b"pua: cannot read .\n",
-    ),
-    (
-        &["run", "--table", "longer", "/dev/null", "/dev/null"],
-        DEVICE,
-        b"pua: cannot read longer\n",
-    ),
-    (
-        &["run", "longer", "/dev/null"],
-        DEVICE,
-        b"pua: cannot read longer\n",
-    ),
-    (
-        &["run", "--table", "longest", "/dev/null", "/dev/null"],
-        REFUSED,
-        b"pua: table: bad toml\n",
-    ),
-    (
-        &["run", "longest", "/dev/null"],
-        REFUSED,
-        b"pua: listing: bad header\n",
-    ),
+/// A command over files that can't be read, are too long, or are as long as may be and neither a listing
+/// nor a table of calls; its status, and the line.
+#[derive(Clone, Copy)]
+struct Refusal<'a> {
+    words: &'a [&'a str],
+    status: u8,
+    line: &'a [u8],
+}
+
+const REFUSALS: [Refusal<'static>; 6] = [
+    Refusal {
+        words: &["run", "--table", "missing", "/dev/null", "/dev/null"],
+        status: DEVICE,
+        line: b"pua: cannot read missing\n",
+    },
+    Refusal {
+        words: &["run", "--table", ".", "/dev/null", "/dev/null"],
+        status: DEVICE,
+        line: b"pua: cannot read .\n",
+    },
+    Refusal {
+        words: &["run", "--table", "longer", "/dev/null", "/dev/null"],
+        status: DEVICE,
+        line: b"pua: cannot read longer\n",
+    },
+    Refusal {
+        words: &["run", "longer", "/dev/null"],
+        status: DEVICE,
+        line: b"pua: cannot read longer\n",
+    },
+    Refusal {
+        words: &["run", "--table", "longest", "/dev/null", "/dev/null"],
+        status: REFUSED,
+        line: b"pua: table: bad toml\n",
+    },
+    Refusal {
+        words: &["run", "longest", "/dev/null"],
+        status: REFUSED,
+        line: b"pua: listing: bad header\n",
+    },
 ];
 
 /// How many bytes stand before the last one of a file that has each byte: more than a buffer holds.
@@ -87,24 +98,33 @@ const MANY: u32 = 150_000;
 /// Prints a line for each output and each file that is not answered as it has to be, and how many
 /// there were.
 pub(crate) fn run(rt: &HostRuntime) -> Result<()> {
-    let mut cases = 0u32;
+    let mut cases = 1usize;
     for words in &COMMANDS {
-        for (output, is_told) in [
-            ("a full device", is_full_told(rt, words)?),
-            ("an output that is not open", is_closed_told(rt, words)?),
-            ("a pipe that nobody reads", is_unread_told(rt, words)?),
-        ] {
-            cases = cases.saturating_add(1);
-            if !is_told {
-                println!(rt; "{output}, {}: wrong", words[0])?;
-            }
-        }
+        outputs(rt, words)?;
+        cases = cases.saturating_add(OUTPUTS);
     }
     if !is_end_told(rt)? {
-        println!(rt; "a pipe that ends: wrong")?;
+        tell(rt, "a pipe that ends", "wrong")?;
     }
-    println!(rt; "outputs: {} that fail", cases.saturating_add(1))?;
-    files(rt)
+    count(rt, "outputs", cases, "that fail")?;
+    unreadable(rt)?;
+    every_byte(rt)?;
+    refusals(rt)
+}
+
+/// Prints a line for each output in which a command's fault is not told.
+fn outputs(rt: &HostRuntime, words: &[&str]) -> Result<()> {
+    let command = words.first().copied().unwrap_or("");
+    if !is_full_told(rt, words)? {
+        tell(rt, "a full device is wrong", command)?;
+    }
+    if !is_closed_told(rt, words)? {
+        tell(rt, "an output that is not open is wrong", command)?;
+    }
+    if !is_unread_told(rt, words)? {
+        tell(rt, "a pipe that nobody reads is wrong", command)?;
+    }
+    Ok(())
 }
 
 /// Whether a command with this output reports that it can't write, and whether the same behind a
@@ -165,30 +185,24 @@ fn is_end_told(rt: &HostRuntime) -> Result<bool> {
 }
 
 /// Files that can't be read, one without bytes, and one that is read whole.
-fn files(rt: &HostRuntime) -> Result<()> {
-    let mut inputs = DiskInputs::new(rt);
+fn unreadable(rt: &HostRuntime) -> Result<()> {
     for name in UNREADABLE {
-        if inputs.take(rt.alloc(), name) != Err(InputFault::Unreadable) {
-            println!(rt; "{name}: not unreadable")?;
+        if DiskInputs::new(rt).take(rt.alloc(), name) != Err(InputFault::Unreadable) {
+            tell(rt, name, "not unreadable")?;
         }
     }
-    for (name, bytes) in [
-        ("/dev/null", b"".as_slice()),
-        ("seven-bytes", b"7 bytes".as_slice()),
-    ] {
-        let taken = inputs.take(rt.alloc(), name);
-        if !is_whole(&taken, bytes) {
-            println!(rt; "{name}: not read")?;
-        }
+    if !is_whole(rt, "/dev/null", b"") {
+        tell(rt, "/dev/null", "not read")?;
     }
-    println!(rt; "files: {} that can't be read", UNREADABLE.len())?;
-    every_byte(rt)?;
-    refusals(rt)
+    if !is_whole(rt, "seven-bytes", b"7 bytes") {
+        tell(rt, "seven-bytes", "not read")?;
+    }
+    count(rt, "files", UNREADABLE.len(), "that can't be read")
 }
 
-/// Whether an input was taken, and has these bytes.
-fn is_whole(taken: &Result<Vec<u8>, InputFault>, bytes: &[u8]) -> bool {
-    match taken {
+/// Whether a file is taken, and has these bytes.
+fn is_whole(rt: &HostRuntime, name: &str, bytes: &[u8]) -> bool {
+    match DiskInputs::new(rt).take(rt.alloc(), name) {
         Ok(all) => all.as_slice() == bytes,
         Err(_) => false,
     }
@@ -203,32 +217,35 @@ fn every_byte(rt: &HostRuntime) -> Result<()> {
     }
     bytes.push(b'\r')?;
     fs::write(rt, "every-byte", bytes.as_slice())?;
-    let taken = DiskInputs::new(rt).take(rt.alloc(), "every-byte");
+    let is_read = is_whole(rt, "every-byte", bytes.as_slice());
     fs::remove_file(rt, "every-byte")?;
-    let told = if is_whole(&taken, bytes.as_slice()) {
-        "read"
-    } else {
-        "not read"
-    };
-    println!(rt; "a file of {} bytes: {told}", bytes.len())?;
-    Ok(())
+    tell(
+        rt,
+        "a file of 150001 bytes",
+        if is_read { "read" } else { "not read" },
+    )
 }
 
 /// The commands that are refused, over the two long files, which are taken away afterwards.
 fn refusals(rt: &HostRuntime) -> Result<()> {
     File::create(rt, "longest")?.set_len(LONGEST)?;
     File::create(rt, "longer")?.set_len(LONGEST + 1)?;
-    let mut inputs = DiskInputs::new(rt);
-    for (words, wanted, line) in &REFUSALS {
-        let mut out = MemorySink::new(rt.alloc(), 256)?;
-        let mut err = MemorySink::new(rt.alloc(), 256)?;
-        let status = command(rt.alloc(), words, &mut inputs, &mut out, &mut err);
-        if status != *wanted || !out.bytes().is_empty() || err.bytes() != *line {
-            println!(rt; "a command over {} and {}: wrong", words[1], words[2])?;
+    for refusal in &REFUSALS {
+        if !is_refused(rt, refusal)? {
+            tell(rt, "wrong over a long file", str::from_utf8(refusal.line)?)?;
         }
     }
     fs::remove_file(rt, "longest")?;
     fs::remove_file(rt, "longer")?;
-    println!(rt; "files: {} commands that are refused", REFUSALS.len())?;
-    Ok(())
+    count(rt, "files", REFUSALS.len(), "commands that are refused")
+}
+
+/// Whether a command is refused with its status and line, and writes nothing.
+fn is_refused(rt: &HostRuntime, refusal: &Refusal<'_>) -> Result<bool> {
+    let mut inputs = DiskInputs::new(rt);
+    let mut out = MemorySink::new(rt.alloc(), 256)?;
+    let mut err = MemorySink::new(rt.alloc(), 256)?;
+    let status = command(rt.alloc(), refusal.words, &mut inputs, &mut out, &mut err);
+    let is_told = status == refusal.status && err.bytes() == refusal.line;
+    Ok(is_told && out.bytes().is_empty())
 }

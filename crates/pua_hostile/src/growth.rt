@@ -10,6 +10,7 @@ mod seen;
 mod texts;
 mod worlds;
 
+use crate::told::tell;
 use crate::trees::ListedTree;
 use anyhow::Result;
 use pua_tree::{ListTree, SlabTree};
@@ -18,56 +19,67 @@ use pua_tree::{ListTree, SlabTree};
 /// line for each kind of calls of which something was wrong then. It fails where a growth is refused
 /// to something else.
 pub(crate) fn run(rt: &HostRuntime) -> Result<()> {
-    let alloc = rt.alloc();
     let mut again = 0u32;
     hold::<ListTree>(rt, &mut again)?;
     hold::<SlabTree>(rt, &mut again)?;
-    for (calls, holds) in [
-        ("readings", readings::hold(alloc, &mut again)?),
-        ("processes", processes::hold(alloc, &mut again)?),
-        ("texts", texts::hold(alloc, &mut again)?),
-    ] {
-        tell(rt, calls, holds)?;
-    }
-    println!(rt; "{again} calls made once more")?;
-    Ok(())
+    tell_wrong(rt, "readings", readings::hold(rt.alloc(), &mut again)?)?;
+    tell_wrong(rt, "processes", processes::hold(rt.alloc(), &mut again)?)?;
+    tell_wrong(rt, "texts", texts::hold(rt.alloc(), &mut again)?)?;
+    Ok(println!(rt; "{again} calls made once more")?)
 }
 
 /// Makes the calls that are of a tree of this kind.
 fn hold<T: ListedTree>(rt: &HostRuntime, again: &mut u32) -> Result<()> {
-    let alloc = rt.alloc();
-    for (calls, holds) in [
-        ("trees", readings::is_listed::<T>(alloc, again)?),
-        ("worlds", worlds::hold::<T>(alloc, again)?),
-        ("audits", lines::hold::<T>(alloc, again)?),
-        ("objects", objects::hold::<T>(alloc, again)?),
-        ("lists for ever", ever::hold::<T>(alloc, again)?),
-    ] {
-        tell(rt, calls, holds)?;
+    tell_wrong(rt, "trees", readings::is_listed::<T>(rt.alloc(), again)?)?;
+    tell_wrong(rt, "worlds", worlds::hold::<T>(rt.alloc(), again)?)?;
+    tell_wrong(rt, "audits", lines::hold::<T>(rt.alloc(), again)?)?;
+    tell_wrong(rt, "objects", objects::hold::<T>(rt.alloc(), again)?)?;
+    tell_wrong(rt, "lists for ever", ever::hold::<T>(rt.alloc(), again)?)
+}
+
+/// Whether a growth was refused to a call: that is counted, and the call is to be made once more.
+fn is_refused<T, F: PartialEq + Copy>(
+    answer: &std::result::Result<T, F>,
+    refusal: F,
+    again: &mut u32,
+) -> bool {
+    match answer {
+        Err(fault) if *fault == refusal => {
+            *again = again.saturating_add(1);
+            true
+        }
+        _ => false,
     }
-    Ok(())
 }
 
 /// Prints a line for calls of which something was wrong.
-fn tell(rt: &HostRuntime, calls: &str, holds: bool) -> Result<()> {
+fn tell_wrong(rt: &HostRuntime, calls: &str, holds: bool) -> Result<()> {
     if !holds {
-        println!(rt; "wrong after a refused growth: {calls}")?;
+        tell(rt, "wrong after a refused growth", calls)?;
     }
     Ok(())
 }
 
-/// Lists a reach by paths and by objects, and what can ever be touched, over trees of both kinds, and prints of each list whether it
-/// was refused as it began, or is whole: nothing takes memory between the lines.
+/// Lists a reach by paths and by objects, and what can ever be touched, over trees of both kinds, and
+/// prints of each list whether it was refused as it began, or is whole: nothing takes memory between the
+/// lines.
 pub(crate) fn list(rt: &HostRuntime) -> Result<()> {
-    let alloc = rt.alloc();
-    println!(rt; "an audit: {}", lines::listed::<ListTree>(alloc))?;
-    println!(rt; "an audit over slots: {}", lines::listed::<SlabTree>(alloc))?;
-    println!(rt; "objects: {}", objects::listed::<ListTree>(alloc))?;
-    println!(rt;
-        "objects over slots: {}",
-        objects::listed::<SlabTree>(alloc)
+    tell(rt, "an audit", lines::listed::<ListTree>(rt.alloc()))?;
+    tell(
+        rt,
+        "an audit over slots",
+        lines::listed::<SlabTree>(rt.alloc()),
     )?;
-    println!(rt; "for ever: {}", ever::listed::<ListTree>(alloc))?;
-    println!(rt; "for ever, over slots: {}", ever::listed::<SlabTree>(alloc))?;
-    Ok(())
+    tell(rt, "objects", objects::listed::<ListTree>(rt.alloc()))?;
+    tell(
+        rt,
+        "objects over slots",
+        objects::listed::<SlabTree>(rt.alloc()),
+    )?;
+    tell(rt, "for ever", ever::listed::<ListTree>(rt.alloc()))?;
+    tell(
+        rt,
+        "for ever, over slots",
+        ever::listed::<SlabTree>(rt.alloc()),
+    )
 }

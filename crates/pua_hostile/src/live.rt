@@ -2,16 +2,19 @@
 
 ghost use Rattle.std.specs.Prelude.{◌≡◌};
 
+use self::Found::{First, Whole};
 use crate::dead::{deep, wide};
-use crate::nets::chains;
+use crate::nets::CHAINS;
+use crate::told::{count, wrong};
 use crate::trees::ListedTree;
-use anyhow::{Result, bail};
-use pua_audit::{Audit, Base};
+use anyhow::Result;
+use pua_audit::{Audit, Base, Line};
 use pua_path::{Counted, Probe};
-use pua_policy::{Call, CallTable};
+use pua_policy::{Call, CallTable, Process};
 use pua_script::{World, read_script};
 use pua_tree::{FileTree, ListTree, SlabTree};
 use std::alloc::Global;
+use std::fs;
 
 /// An audit of process 1 from the root, after a script, and what is found. Its components are the names in
 /// rows, `..` and the candidates. With N nodes, A components, a limit L and targets of at most M components
@@ -25,8 +28,14 @@ struct Case<'a> {
     limit: u8,
     looks: u64,
     reads: u64,
-    live: usize,
-    lines: usize,
+    found: Found,
+}
+
+/// How many states are live and lines come; or the path of the first line, where there are too many.
+#[derive(Clone, Copy)]
+enum Found {
+    Whole(usize, usize),
+    First(&'static [u8]),
 }
 
 /// A root in which nothing stands.
@@ -50,56 +59,59 @@ const CREATING: &[u8] = b"1 pledge stdio,cpath -\n";
 /// The first path of an audit of a hundred directories of which the last alone is unveiled, limit 16.
 const FIRST: &[u8] = b"/../../../../../../../../../../../../../../../d100";
 
+/// The most looks and reads of the audits of two letters over chains of links, of ten over the deep tree, and
+/// of sixteen over the wide one.
+const CHAINS_MOST: (u64, u64) = (293_768_160, 222);
+
+const DEEP_MOST: (u64, u64) = (14_356_010_240, 2_288);
+
+const WIDE_MOST: (u64, u64) = (18_875_352_960, 3_468);
+
 /// Prints a line for each case that is found otherwise, and how many there are.
 pub(crate) fn run(rt: &HostRuntime) -> Result<()> {
-    let alloc = rt.alloc();
-    let (chains, wide, deep) = (chains(alloc)?, wide(alloc)?, deep(alloc)?);
-    let (chains, wide, deep) = (chains.as_bytes(), wide.as_bytes(), deep.as_bytes());
+    let chains = fs::read(rt, CHAINS)?;
+    let (wide, deep) = (wide(rt.alloc())?, deep(rt.alloc())?);
+    let (chains, wide, deep) = (chains.as_slice(), wide.as_bytes(), deep.as_bytes());
     let example = crate::LISTING;
     let cases = [
-        plain_case(ROOT, b"", 0, (116_480, 4), (0, 5)),
-        plain_case(ROOT, b"", 1, (232_960, 8), (1, 10)),
-        plain_case(ROOT, ENDED, 3, (465_920, 16), (0, 0)),
-        plain_case(example, ONE_FILE, 2, (23_786_784, 54), (2, 3)),
-        plain_case(example, ONE_FILE, 3, (31_715_712, 72), (8, 12)),
-        plain_case(chains, LINKED_FILE, 2, (293_768_160, 222), (22, 607)),
-        plain_case(wide, NOTHING, 16, (18_875_352_960, 3_468), (0, 0)),
-        plain_case(deep, DEEP_FILE, 10, (14_356_010_240, 2_288), (10, 3)),
-        Case {
-            candidates: &[b"a"],
-            ..plain_case(ROOT, CREATING, 2, (524_160, 18), (2, 4))
-        },
+        case_of(ROOT, b"", &[], 0, (116_480, 4), Whole(0, 5)),
+        case_of(ROOT, b"", &[], 1, (232_960, 8), Whole(1, 10)),
+        case_of(ROOT, ENDED, &[], 3, (465_920, 16), Whole(0, 0)),
+        case_of(ROOT, CREATING, &[b"a"], 2, (524_160, 18), Whole(2, 4)),
+        case_of(example, ONE_FILE, &[], 2, (23_786_784, 54), Whole(2, 3)),
+        case_of(example, ONE_FILE, &[], 3, (31_715_712, 72), Whole(8, 12)),
+        case_of(chains, LINKED_FILE, &[], 2, CHAINS_MOST, Whole(22, 607)),
+        case_of(deep, DEEP_FILE, &[], 10, DEEP_MOST, Whole(10, 3)),
+        case_of(wide, NOTHING, &[], 16, WIDE_MOST, Whole(0, 0)),
+        case_of(wide, ONE_DIRECTORY, &[], 16, WIDE_MOST, First(FIRST)),
     ];
-    for (number, case) in cases.iter().enumerate() {
-        if !is_found::<ListTree>(alloc, case)? || !is_found::<SlabTree>(alloc, case)? {
-            println!(rt; "live states, case {number}: wrong")?;
+    let mut number = 0usize;
+    for case in &cases {
+        if !is_found::<ListTree>(rt.alloc(), case)? || !is_found::<SlabTree>(rt.alloc(), case)? {
+            wrong(rt, "live states, case", number as u64)?;
         }
+        number = number.saturating_add(1);
     }
-    let first = plain_case(wide, ONE_DIRECTORY, 16, (18_875_352_960, 3_468), (0, 0));
-    if !is_first::<ListTree>(alloc, &first)? || !is_first::<SlabTree>(alloc, &first)? {
-        println!(rt; "a first line: wrong")?;
-    }
-    println!(rt; "live states: {} audits over two trees", cases.len() + 1)?;
-    Ok(())
+    count(rt, "live states", number, "audits over two trees")
 }
 
-/// A case without candidates, with the most looks and reads, and how many states are live and lines come.
-fn plain_case<'a>(
+/// A case, with the most looks and reads, and what is found.
+fn case_of<'a>(
     listing: &'a [u8],
     script: &'a [u8],
+    candidates: &'a [&'a [u8]],
     limit: u8,
-    most: (u64, u64),
-    found: (usize, usize),
+    (looks, reads): (u64, u64),
+    found: Found,
 ) -> Case<'a> {
     Case {
         listing,
         script,
-        candidates: &[],
+        candidates,
         limit,
-        looks: most.0,
-        reads: most.1,
-        live: found.0,
-        lines: found.1,
+        looks,
+        reads,
+        found,
     }
 }
 
@@ -112,55 +124,60 @@ fn world_after<T: ListedTree>(alloc: Global, case: &Case<'_>) -> Result<World<T>
     Ok(world)
 }
 
-/// Whether an audit over one kind of tree has so many live states and lines, within the bounds.
+/// Whether an audit over one kind of tree finds this, within the bounds.
 fn is_found<T: ListedTree>(alloc: Global, case: &Case<'_>) -> Result<bool> {
     let world = world_after::<T>(alloc, case)?;
-    let Some(process) = world.process(1) else {
-        bail!("no process 1");
-    };
-    let mut probe = Counted::new(world.tree());
-    let mut audit = Audit::begin(
-        alloc,
-        &mut probe,
-        process,
-        world.table(),
-        Base::Root,
-        case.candidates,
-        case.limit,
-        None,
-    )?;
-    let begun = probe.probes();
-    let is_begun = begun <= case.looks && audit.reads() == 0;
-    let lent = count_lines(&mut probe, &mut audit);
-    let is_within = probe.probes() == begun && lent.most_reads <= case.reads;
-    let found = (audit.table_len(), lent.lines);
-    Ok(is_begun && is_within && found == (case.live, case.lines))
+    match world.process(1) {
+        Some(process) => is_audited(alloc, world.tree(), process, world.table(), case),
+        None => Ok(false),
+    }
 }
 
-/// Whether an audit lends a first line within the bounds: the first path, and stat.
-fn is_first<T: ListedTree>(alloc: Global, case: &Case<'_>) -> Result<bool> {
-    let world = world_after::<T>(alloc, case)?;
-    let Some(process) = world.process(1) else {
-        bail!("no process 1");
-    };
-    let mut probe = Counted::new(world.tree());
-    let mut audit = Audit::begin(
+fn is_audited<T: FileTree>(
+    alloc: Global,
+    tree: &T,
+    process: &Process,
+    table: &CallTable,
+    case: &Case<'_>,
+) -> Result<bool> {
+    let mut probe = Counted::new(tree);
+    let (candidates, limit) = (case.candidates, case.limit);
+    let begun = Audit::begin(
         alloc,
         &mut probe,
         process,
-        world.table(),
+        table,
         Base::Root,
-        case.candidates,
-        case.limit,
+        candidates,
+        limit,
         None,
-    )?;
+    );
+    let mut audit = begun?;
+    Ok(is_lent(&mut probe, &mut audit, case))
+}
+
+/// Whether an audit that was begun has looked and read within the bounds, and lends what is found.
+fn is_lent<T: FileTree>(probe: &mut Counted<'_, T>, audit: &mut Audit, case: &Case<'_>) -> bool
+    requires { audit.old.tree ≡ probe.old.tree }
+{
     let begun = probe.probes();
-    let is_lent = match audit.next_line(&mut probe) {
-        Some(line) => line.call == Call::Stat && line.path == FIRST,
-        None => false,
+    let is_begun = begun <= case.looks && audit.reads() == 0;
+    let is_lent = match case.found {
+        Whole(live, lines) => {
+            let lent = count_lines(probe, audit);
+            lent.most_reads <= case.reads && (audit.table_len(), lent.lines) == (live, lines)
+        }
+        First(path) => is_first(audit.next_line(probe), path) && audit.reads() <= case.reads,
     };
-    let is_within = begun <= case.looks && probe.probes() == begun;
-    Ok(is_lent && is_within && audit.reads() <= case.reads)
+    is_begun && is_lent && probe.probes() == begun
+}
+
+/// Whether a line was lent, and is of this path and of stat.
+fn is_first(line: Option<Line<'_>>, path: &[u8]) -> bool {
+    match line {
+        Some(line) => line.call == Call::Stat && line.path == path,
+        None => false,
+    }
 }
 
 /// How many lines an audit lent, and how many components were read at most for one of them, or to find

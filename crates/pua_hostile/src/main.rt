@@ -13,13 +13,14 @@ mod dead;
 mod devices;
 mod dripping;
 mod growth;
+mod inputs;
 mod listed;
 mod live;
 mod measured;
 mod nets;
 mod reports;
 mod rows;
-mod tables;
+mod told;
 mod trees;
 mod variants;
 
@@ -35,12 +36,12 @@ const SCRIPT: &[u8] =
     b"1 unveil /etc r\n1 unveil /etc rw\n1 unveil /etc/passwd rw\n1 unveil /etc q\n1 unveil /no/x r\n1 unveil - -\n1 unveil /tmp r\n1 unveil - -\n";
 
 fn main(rt: HostRuntime) -> Result<()> {
-    let words: Vec<String> = env::args(&rt)?.skip(1).collect(rt.alloc())?;
+    let words: Vec<String> = env::args(&rt)?.collect(rt.alloc())?;
     let words: Vec<&str> = words.iter().map(String::as_str).collect(rt.alloc())?;
     match words.as_slice() {
-        ["growth"] => growth::run(&rt),
-        ["list"] => growth::list(&rt),
-        ["measure", asked @ ..] => measured::run(&rt, asked),
+        [_, "growth"] => growth::run(&rt),
+        [_, "list"] => growth::list(&rt),
+        [_, "measure", asked @ ..] => measured::run(&rt, asked),
         _ => run_all(&rt),
     }
 }

@@ -4,9 +4,10 @@
 mod covers;
 mod filled;
 
-use anyhow::{Result, bail};
+use crate::rows::number;
+use crate::told::tell;
+use anyhow::Result;
 use pua_path::{Counted, Ending, Last, PathText, Probe, resolve};
-use pua_policy::Process;
 use pua_tree::{NodeId, SlabTree, read_listing_slab};
 use std::fs;
 use std::time::Instant;
@@ -24,13 +25,8 @@ pub(crate) fn run(rt: &HostRuntime, words: &[&str]) -> Result<()> {
             cover(rt, listing, from, number(veils)?, number(turns)?)
         }
         ["fill", turns] => fill(rt, number(turns)?),
-        _ => Ok(println!(rt; "{USAGE}")?),
+        _ => tell(rt, "measure", USAGE),
     }
-}
-
-/// The number that a word stands for.
-fn number(word: &str) -> Result<u32> {
-    Ok(word.parse()?)
 }
 
 /// The tree of a listing.
@@ -39,9 +35,10 @@ fn read_tree(rt: &HostRuntime, listing: &str) -> Result<SlabTree> {
     Ok(read_listing_slab(rt.alloc(), bytes.as_slice())?)
 }
 
-/// How long each of so many turns took.
-fn each(whole: u128, turns: u32) -> u128 {
-    whole / u128::from(turns.max(1))
+/// Prints how long each of so many turns took, and what was counted in all.
+fn report(rt: &HostRuntime, whole: u128, turns: u32, what: &str, counted: u64) -> Result<()> {
+    let each = whole / u128::from(turns.max(1));
+    Ok(println!(rt; "{each} {what}: {counted}")?)
 }
 
 /// Reads a listing so many times.
@@ -51,42 +48,36 @@ fn read(rt: &HostRuntime, listing: &str, turns: u32) -> Result<()> {
     for _ in 0..turns {
         read_listing_slab(rt.alloc(), bytes.as_slice())?;
     }
-    let each = each(start.elapsed(rt)?.as_micros(), turns);
-    Ok(println!(rt; "{each} us a reading")?)
+    let whole = start.elapsed(rt)?.as_micros();
+    report(
+        rt,
+        whole,
+        turns,
+        "us a reading, of bytes",
+        bytes.len() as u64,
+    )
 }
 
 /// Resolves a path so many times.
 fn resolution(rt: &HostRuntime, listing: &str, path: &str, turns: u32) -> Result<()> {
     let tree = read_tree(rt, listing)?;
     let Ok(text) = PathText::read(path.as_bytes(), Ending::Dot) else {
-        bail!("no path: {path}");
+        return tell(rt, "no path", path);
     };
     let start = Instant::now(rt)?;
     let probes = probes_of(&tree, &text, turns);
-    let each = each(start.elapsed(rt)?.as_nanos(), turns);
-    Ok(println!(rt; "{each} ns a resolution, {probes} looks in all")?)
+    let whole = start.elapsed(rt)?.as_nanos();
+    report(rt, whole, turns, "ns a resolution, looks in all", probes)
 }
 
 /// Tells so many times what some veils leave of the file `f` in a directory, one of them on the root.
 fn cover(rt: &HostRuntime, listing: &str, from: NodeId, veils: u32, turns: u32) -> Result<()> {
     let tree = read_tree(rt, listing)?;
-    let Some(process) = covers::veiled(rt.alloc(), veils) else {
-        bail!("not so many veils: {veils}");
-    };
-    time_covers(rt, &tree, from, &process, turns)
-}
-
-fn time_covers(
-    rt: &HostRuntime,
-    tree: &SlabTree,
-    from: NodeId,
-    process: &Process,
-    turns: u32,
-) -> Result<()> {
+    let process = covers::veiled(rt.alloc(), veils)?;
     let start = Instant::now(rt)?;
-    let probes = covers::probes_of(tree, from, process, turns);
-    let each = each(start.elapsed(rt)?.as_nanos(), turns);
-    Ok(println!(rt; "{each} ns a cover, {probes} looks in all")?)
+    let probes = covers::probes_of(&tree, from, &process, turns);
+    let whole = start.elapsed(rt)?.as_nanos();
+    report(rt, whole, turns, "ns a cover, looks in all", probes)
 }
 
 /// Fills a tree and empties it again, so many times.
@@ -98,8 +89,14 @@ fn fill(rt: &HostRuntime, turns: u32) -> Result<()> {
         files = filled::fill(&mut tree);
         filled::empty(&mut tree);
     }
-    let each = each(start.elapsed(rt)?.as_micros(), turns);
-    Ok(println!(rt; "{each} us for {files} files, made and removed")?)
+    let whole = start.elapsed(rt)?.as_micros();
+    report(
+        rt,
+        whole,
+        turns,
+        "us a tree, of files made and removed",
+        files as u64,
+    )
 }
 
 /// How often so many resolutions look at a tree.

@@ -2,30 +2,64 @@
 //! whole. The same commands with outputs in memory say what it is, and of the lines also a table.
 
 use crate::dripping::DrippingSink;
+use crate::told::{count, tell};
 use anyhow::Result;
 use pua_tool::{DEVICE, DONE, MemoryInputs, MemorySink, REFUSED, command};
 use std::alloc::Global;
 
-/// A command, its status, and the line that it reports.
-type Told<'a> = (&'a [&'a str], u8, &'a str);
+/// A command, what it is about, its status, and the line that it reports.
+#[derive(Clone, Copy)]
+struct Told<'a> {
+    what: &'a str,
+    words: &'a [&'a str],
+    status: u8,
+    line: &'a str,
+}
 
 /// Commands that are refused, and commands that write a text of their own.
 const TOLD: [Told<'static>; 7] = [
-    (&["--help"], DONE, ""),
-    (&["audit", "--help"], DONE, ""),
-    (&["--version"], DONE, ""),
-    (&["run", "T", "none"], DEVICE, "pua: cannot read none\n"),
-    (&["run", "S", "S"], REFUSED, "pua: listing: bad header\n"),
-    (
-        &["run", "T", "T"],
-        REFUSED,
-        "pua: script: line 1: bad line\n",
-    ),
-    (
-        &["audit", "--limit", "17", "T", "S"],
-        REFUSED,
-        "pua: audit: limit too large\n",
-    ),
+    Told {
+        what: "help",
+        words: &["--help"],
+        status: DONE,
+        line: "",
+    },
+    Told {
+        what: "the help of audits",
+        words: &["audit", "--help"],
+        status: DONE,
+        line: "",
+    },
+    Told {
+        what: "the version",
+        words: &["--version"],
+        status: DONE,
+        line: "",
+    },
+    Told {
+        what: "no script",
+        words: &["run", "T", "none"],
+        status: DEVICE,
+        line: "pua: cannot read none\n",
+    },
+    Told {
+        what: "no listing",
+        words: &["run", "S", "S"],
+        status: REFUSED,
+        line: "pua: listing: bad header\n",
+    },
+    Told {
+        what: "a bad script",
+        words: &["run", "T", "T"],
+        status: REFUSED,
+        line: "pua: script: line 1: bad line\n",
+    },
+    Told {
+        what: "a large limit",
+        words: &["audit", "--limit", "17", "T", "S"],
+        status: REFUSED,
+        line: "pua: audit: limit too large\n",
+    },
 ];
 
 const ENTRIES: [(&str, &[u8]); 2] = [("T", b"tree 1\n0 dir\n"), ("S", b"")];
@@ -33,51 +67,62 @@ const ENTRIES: [(&str, &[u8]); 2] = [("T", b"tree 1\n0 dir\n"), ("S", b"")];
 /// How many bytes the outputs take a put, and from which put on the one for faults takes none.
 const DRIPS: [(usize, u64); 4] = [(1, u64::MAX), (7, u64::MAX), (64, u64::MAX), (64, 1)];
 
-/// How many bytes the name of an input has that no file has.
-const LONG_NAME: usize = 300;
+/// The name of an input, so long that no file has it.
+const LONG_NAME: [u8; 300] = [b'n'; 300];
 
 /// Prints a line for each command that is answered otherwise, and how many there are.
 pub(crate) fn run(rt: &HostRuntime) -> Result<()> {
-    let alloc = rt.alloc();
     for told in &TOLD {
-        if !is_told(alloc, told)? {
-            println!(rt; "{} in drips: wrong", told.0[0])?;
-        }
+        tell_wrong(rt, told)?;
     }
-    let mut name = String::new(alloc);
-    for _ in 0..LONG_NAME {
-        name.push('n')?;
+    long_name(rt)?;
+    count(rt, "in drips", TOLD.len() + 1, "commands")
+}
+
+/// Prints a line where a command over an input with the long name is answered otherwise.
+fn long_name(rt: &HostRuntime) -> Result<()> {
+    let name = str::from_utf8(&LONG_NAME)?;
+    let line = format!(in rt.alloc(); "pua: cannot read {name}\n")?;
+    let words = ["run", "T", name];
+    let told = Told {
+        what: "a name of 300 bytes",
+        words: &words,
+        status: DEVICE,
+        line: line.as_str(),
+    };
+    tell_wrong(rt, &told)
+}
+
+/// Prints a line where a command is answered otherwise.
+fn tell_wrong(rt: &HostRuntime, told: &Told<'_>) -> Result<()> {
+    if !is_told(rt.alloc(), told)? {
+        tell(rt, told.what, "wrong in drips")?;
     }
-    let line = format!(in alloc; "pua: cannot read {name}\n")?;
-    let words = ["run", "T", name.as_str()];
-    if !is_told(alloc, &(words.as_slice(), DEVICE, line.as_str()))? {
-        println!(rt; "a name of {LONG_NAME} bytes in drips: wrong")?;
-    }
-    println!(rt; "in drips: {} commands", TOLD.len() + 1)?;
     Ok(())
 }
 
 /// Whether a command ends with this status, reports this line, and writes a text where it is done and
-/// none where it isn't: into memory, and the same bytes in drips. A line that can't be written is
-/// dropped, and changes nothing else.
+/// none where it isn't: into memory, and the same bytes in drips.
 fn is_told(alloc: Global, told: &Told<'_>) -> Result<bool> {
-    let (words, status, line) = *told;
     let mut inputs = MemoryInputs::new(&ENTRIES);
     let mut out = MemorySink::new(alloc, 65_536)?;
     let mut err = MemorySink::new(alloc, 1_024)?;
-    let ended = command(alloc, words, &mut inputs, &mut out, &mut err);
-    let mut holds = ended == status
-        && out.bytes().is_empty() == (status != DONE)
-        && err.bytes() == line.as_bytes();
+    let status = command(alloc, told.words, &mut inputs, &mut out, &mut err);
+    let is_text = out.bytes().is_empty() == (told.status != DONE);
+    let mut holds = status == told.status && is_text && err.bytes() == told.line.as_bytes();
     for (most, fails_from) in DRIPS {
-        let mut drips = DrippingSink::new(alloc, most, u64::MAX);
-        let mut reported = DrippingSink::new(alloc, most, fails_from);
-        let told = if fails_from == 1 { "" } else { line };
-        let again = command(alloc, words, &mut inputs, &mut drips, &mut reported);
-        holds = holds
-            && again == status
-            && drips.bytes() == out.bytes()
-            && reported.bytes() == told.as_bytes();
+        holds = is_dripped(alloc, told, out.bytes(), most, fails_from) && holds;
     }
     Ok(holds)
+}
+
+/// Whether a command ends so where its outputs take so many bytes a put, and the one for faults fails from
+/// this put on. A line that can't be written is dropped, and changes nothing else.
+fn is_dripped(alloc: Global, told: &Told<'_>, text: &[u8], most: usize, fails_from: u64) -> bool {
+    let mut inputs = MemoryInputs::new(&ENTRIES);
+    let mut out = DrippingSink::new(alloc, most, u64::MAX);
+    let mut err = DrippingSink::new(alloc, most, fails_from);
+    let status = command(alloc, told.words, &mut inputs, &mut out, &mut err);
+    let line = if fails_from == 1 { "" } else { told.line };
+    status == told.status && out.bytes() == text && err.bytes() == line.as_bytes()
 }

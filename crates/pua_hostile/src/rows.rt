@@ -1,11 +1,11 @@
-//! The rows of a table in a file: two words and an answer, one row a line.
+//! The rows of a table in a file: a number, a word and an answer, one row a line.
 
 use anyhow::{Result, bail};
 
 /// A row of a table.
 #[derive(Clone, Copy)]
 pub(crate) struct Row<'a> {
-    pub(crate) first: &'a str,
+    pub(crate) first: u32,
     pub(crate) second: &'a str,
     pub(crate) answer: &'a str,
 }
@@ -15,15 +15,19 @@ pub(crate) fn read_row(line: &str) -> Result<Option<Row<'_>>> {
     if line.starts_with('#') {
         return Ok(None);
     }
-    let Some((first, rest)) = line.split_once(' ') else {
-        bail!("no row: {line}");
-    };
-    let Some((second, answer)) = rest.split_once(' ') else {
+    let mut words = line.splitn(3, ' ');
+    let (Some(first), Some(second), Some(answer)) = (words.next(), words.next(), words.next())
+    else {
         bail!("no row: {line}");
     };
     Ok(Some(Row {
-        first,
+        first: number(first)?,
         second,
         answer,
     }))
+}
+
+/// The number that a word stands for.
+pub(crate) fn number(word: &str) -> Result<u32> {
+    Ok(word.parse()?)
 }

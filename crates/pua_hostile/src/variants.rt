@@ -1,14 +1,11 @@
 //! The listing, the script and the table of calls with each byte replaced by each of sixteen others: what
 //! comes of them is compared with a table.
 
-use crate::listed::listing_of;
-use crate::rows::read_row;
-use crate::tables::{TABLE, is_table};
-use crate::trees::ListedTree;
-use crate::{LISTING, SCRIPT};
-use anyhow::{Result, bail};
-use pua_tool::{MemorySink, ToolFault, run_to};
-use pua_tree::{ListTree, SlabTree};
+use crate::LISTING;
+use crate::inputs::{Input, TABLE_SCRIPT, is_listing, is_run};
+use crate::rows::{Row, read_row};
+use crate::told::{count, tell, wrong};
+use anyhow::Result;
 use std::alloc::Global;
 use std::fs;
 
@@ -17,100 +14,66 @@ const OTHERS: [u8; 16] = [
     0, b'\n', b'\r', b' ', b'\\', b'/', b'0', b'9', b'=', b'-', 127, 128, 255, b'c', b'r', b'z',
 ];
 
-/// What is varied.
-#[derive(Clone, Copy)]
-enum Varied {
-    Listing,
-    Script,
-    Table,
-}
-
-impl Varied {
-    fn bytes(self) -> &'static [u8] {
-        match self {
-            Varied::Listing => LISTING,
-            Varied::Script => SCRIPT,
-            Varied::Table => TABLE,
-        }
-    }
-
-    /// Whether this is what comes of a variant in which the byte at a place is another.
-    fn is_answered(self, alloc: Global, variant: &[u8], at: usize, answer: &str) -> Result<bool> {
-        match self {
-            Varied::Listing => {
-                let is_listed = is_listing::<ListTree>(alloc, variant, at, answer)?;
-                Ok(is_listed && is_listing::<SlabTree>(alloc, variant, at, answer)?)
-            }
-            Varied::Script => is_script(alloc, variant, answer),
-            Varied::Table => is_table(alloc, variant, answer),
-        }
-    }
-}
-
-/// Prints a line for each variant that is answered otherwise than its table says, and how many there
+/// Prints lines for each variant that is answered otherwise than its table says, and how many there
 /// are.
 pub(crate) fn run(rt: &HostRuntime) -> Result<()> {
-    variants(rt, "listing-variants", Varied::Listing)?;
-    variants(rt, "script-variants", Varied::Script)?;
-    variants(rt, "table-variants", Varied::Table)
+    variants(rt, "listing-variants", Input::Listing)?;
+    variants(rt, "script-variants", Input::Script)?;
+    variants(rt, "table-variants", Input::Table)
 }
 
 /// The variants of a table.
-fn variants(rt: &HostRuntime, table: &str, varied: Varied) -> Result<()> {
+fn variants(rt: &HostRuntime, table: &str, input: Input) -> Result<()> {
     let text = fs::read_to_string(rt, table)?;
     let mut cases = 0usize;
     for line in text.as_str().lines() {
         if let Some(row) = read_row(line)? {
-            let at: usize = row.first.parse()?;
             cases = cases.saturating_add(row.second.len());
-            for letter in row.second.bytes() {
-                if !is_answered(rt.alloc(), varied, at, letter, row.answer)? {
-                    println!(rt;
-                        "{table}, place {at}, byte {letter}: not so: {}",
-                        row.answer
-                    )?;
-                }
-            }
+            answered(rt, input, &row)?;
         }
     }
-    if cases != varied.bytes().len().saturating_mul(OTHERS.len()) {
-        println!(rt; "{table}: not all variants")?;
+    if cases != input.bytes().len().saturating_mul(OTHERS.len()) {
+        tell(rt, table, "not all variants")?;
     }
-    println!(rt; "{table}: {cases} variants")?;
+    count(rt, table, cases, "variants")
+}
+
+/// Prints lines for each variant of a row that is answered otherwise: the answer, the place, the letter.
+fn answered(rt: &HostRuntime, input: Input, row: &Row<'_>) -> Result<()> {
+    for letter in row.second.bytes() {
+        if !is_answered(rt.alloc(), input, row, letter)? {
+            tell(rt, "a variant is not so", row.answer)?;
+            wrong(rt, "its byte of the place", u64::from(row.first))?;
+            wrong(rt, "its byte with the letter", u64::from(letter))?;
+        }
+    }
     Ok(())
 }
 
-/// Whether this is what comes of the variant with the byte of this letter at a place.
-fn is_answered(alloc: Global, varied: Varied, at: usize, letter: u8, answer: &str) -> Result<bool> {
-    let Some(byte) = OTHERS.get(usize::from(letter.saturating_sub(b'a'))) else {
-        bail!("no byte has this letter: {letter}");
-    };
-    let mut variant = Vec::from_slice(alloc, varied.bytes())?;
-    let Some(place) = variant.get_mut(at) else {
-        bail!("no byte has this place: {at}");
+/// Whether this is what comes of the variant with the byte of this letter at the row's place.
+fn is_answered(alloc: Global, input: Input, row: &Row<'_>, letter: u8) -> Result<bool> {
+    let mut variant = Vec::from_slice(alloc, input.bytes())?;
+    let other = OTHERS.get(usize::from(letter.saturating_sub(b'a')));
+    let at = row.first as usize;
+    let (Some(byte), Some(place)) = (other, variant.get_mut(at)) else {
+        return Ok(false);
     };
     *place = *byte;
-    varied.is_answered(alloc, variant.as_slice(), at, answer)
+    match input {
+        Input::Listing => is_relisted(alloc, variant.as_slice(), at, row.answer),
+        Input::Script => is_run(alloc, variant.as_slice(), None, row.answer),
+        Input::Table => is_run(alloc, TABLE_SCRIPT, Some(variant.as_slice()), row.answer),
+    }
 }
 
-/// Whether a listing is refused with this fault, or is that of a tree of this kind with this line in
-/// place of the one that had the place.
-fn is_listing<T: ListedTree>(
-    alloc: Global,
-    variant: &[u8],
-    at: usize,
-    answer: &str,
-) -> Result<bool> {
-    match T::read(alloc, variant) {
-        Ok(tree) => {
-            let Some(line) = answer.strip_prefix("is ") else {
-                return Ok(false);
-            };
-            let wanted = with_line(alloc, at, line.as_bytes())?;
-            Ok(listing_of(alloc, &tree)?.as_slice() == wanted.as_slice())
-        }
-        Err(fault) => Ok(format!(in alloc; "{fault}")?.as_str() == answer),
-    }
+/// Whether a listing is refused with this fault, or is that of a tree with this line in place of the one
+/// that had the place.
+fn is_relisted(alloc: Global, variant: &[u8], at: usize, answer: &str) -> Result<bool> {
+    let wanted = match answer.strip_prefix("is ") {
+        Some(line) => with_line(alloc, at, line.as_bytes())?,
+        None => Vec::new(alloc),
+    };
+    is_listing(alloc, variant, wanted.as_slice(), answer)
 }
 
 /// The listing, with another line in place of the one that has this place.
@@ -125,30 +88,4 @@ fn with_line(alloc: Global, at: usize, line: &[u8]) -> Result<Vec<u8>> {
         start = end;
     }
     Ok(wanted)
-}
-
-/// Whether a script is refused with this fault, or its requests are answered with these words, one
-/// after another.
-fn is_script(alloc: Global, variant: &[u8], answer: &str) -> Result<bool> {
-    let mut sink = MemorySink::new(alloc, 1_024)?;
-    match run_to(alloc, LISTING, variant, None, &mut sink) {
-        Ok(()) => {
-            let Some(words) = answer.strip_prefix("is ") else {
-                return Ok(false);
-            };
-            Ok(sink.bytes() == run_text(alloc, words)?.as_bytes())
-        }
-        Err(ToolFault::Script(fault)) => Ok(format!(in alloc; "{fault}")?.as_str() == answer),
-        Err(_) => Ok(false),
-    }
-}
-
-/// The text of a run whose requests are answered with these words.
-pub(crate) fn run_text(alloc: Global, words: &str) -> Result<String> {
-    let mut text = String::new(alloc);
-    for (before, word) in words.split(' ').enumerate() {
-        let number = before.saturating_add(1);
-        text.push_str(format!(in alloc; "{number} {word}\n")?.as_str())?;
-    }
-    Ok(text)
 }

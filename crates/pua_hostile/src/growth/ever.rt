@@ -2,10 +2,11 @@
 //! whatever is refused then.
 
 use crate::LISTING;
+use crate::growth::is_refused;
 use crate::growth::objects::{set_of, spooler};
 use crate::growth::readings::tree_read;
 use crate::trees::ListedTree;
-use anyhow::{Result, anyhow};
+use anyhow::{Result, bail};
 use pua_ever::{Ever, EverFault, EverLine, EverThing};
 use pua_objects::ObjectKind;
 use pua_policy::{Call, CallTable, Process};
@@ -80,23 +81,23 @@ fn begun_again<'t, T: FileTree>(
     again: &mut u32,
 ) -> Result<Ever<'t, T>> {
     let table = CallTable::standard();
-    match Ever::begin(alloc, tree, process, &table) {
+    let mut list = Ever::begin(alloc, tree, process, &table);
+    if is_refused(&list, EverFault::OutOfMemory, again) {
+        list = Ever::begin(alloc, tree, process, &table);
+    }
+    match list {
         Ok(list) => Ok(list),
-        Err(EverFault::Refused(_)) => Err(anyhow!("there is no list for ever")),
-        Err(EverFault::OutOfMemory) => {
-            *again = again.saturating_add(1);
-            match Ever::begin(alloc, tree, process, &table) {
-                Ok(list) => Ok(list),
-                Err(_) => Err(anyhow!("no list for ever was begun")),
-            }
-        }
+        Err(_) => bail!("there is no list for ever"),
     }
 }
 
 /// How a list over such a tree is given: refused before the first line, or whole, or otherwise. It
 /// takes memory before the first line alone.
 pub(crate) fn listed<T: ListedTree>(alloc: Global) -> &'static str {
-    let (Ok(tree), Ok(process)) = (T::read(alloc, LISTING), spooler(alloc)) else {
+    let Ok(tree) = T::read(alloc, LISTING) else {
+        return "refused";
+    };
+    let Ok(process) = spooler(alloc) else {
         return "refused";
     };
     let Ok(mut list) = Ever::begin(alloc, &tree, &process, &CallTable::standard()) else {

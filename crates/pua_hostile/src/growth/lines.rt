@@ -4,6 +4,7 @@
 ghost use Rattle.std.specs.Prelude.{◌≡◌, IfOk};
 
 use crate::LISTING;
+use crate::growth::is_refused;
 use crate::growth::readings::tree_read;
 use crate::trees::ListedTree;
 use anyhow::Result;
@@ -12,6 +13,9 @@ use pua_path::Counted;
 use pua_policy::{Call, CallTable, Perms, Place, Process};
 use pua_tree::{FileTree, Name, NodeId};
 use std::alloc::Global;
+
+/// How many components its paths have at most.
+const LIMIT: u8 = 3;
 
 /// The reach of a process that may only read one file.
 const LINES: [(&[u8], Call); 12] = [
@@ -45,22 +49,23 @@ fn begun_again<T: FileTree>(
 ) -> Result<Audit, AuditFault>
     ensures { IfOk result (λ audit. audit.tree ≡ T.content tree.now) }
 {
-    match begun(alloc, tree, process) {
-        Err(AuditFault::OutOfMemory) => {
-            *again = again.saturating_add(1);
-            begun(alloc, tree, process)
-        }
-        answer => answer,
+    let first = begun(alloc, tree, process, &[], LIMIT);
+    if is_refused(&first, AuditFault::OutOfMemory, again) {
+        return begun(alloc, tree, process, &[], LIMIT);
     }
+    first
 }
 
 /// How an audit over such a tree is listed: refused before the first line, or whole, or otherwise. It
 /// takes memory before the first line alone.
 pub(crate) fn listed<T: ListedTree>(alloc: Global) -> &'static str {
-    let (Ok(tree), Ok(process)) = (T::read(alloc, LISTING), reader(alloc)) else {
+    let Ok(tree) = T::read(alloc, LISTING) else {
         return "refused";
     };
-    match begun(alloc, &tree, &process) {
+    let Ok(process) = reader(alloc) else {
+        return "refused";
+    };
+    match begun(alloc, &tree, &process, &[], LIMIT) {
         Ok(mut audit) => {
             if is_listed(&tree, &mut audit) {
                 "whole"
@@ -82,12 +87,28 @@ fn reader(alloc: Global) -> Result<Process> {
     Ok(process)
 }
 
-fn begun<T: FileTree>(alloc: Global, tree: &T, process: &Process) -> Result<Audit, AuditFault>
+/// The audit of a process from the root, with these candidates and this limit.
+pub(crate) fn begun<T: FileTree>(
+    alloc: Global,
+    tree: &T,
+    process: &Process,
+    candidates: &[&[u8]],
+    limit: u8,
+) -> Result<Audit, AuditFault>
     ensures { IfOk result (λ audit. audit.tree ≡ T.content tree.now) }
 {
     let mut probe = Counted::new(tree);
     let table = CallTable::standard();
-    Audit::begin(alloc, &mut probe, process, &table, Base::Root, &[], 3, None)
+    Audit::begin(
+        alloc,
+        &mut probe,
+        process,
+        &table,
+        Base::Root,
+        candidates,
+        limit,
+        None,
+    )
 }
 
 /// Whether an audit lends each of the lines in turn, and then none.

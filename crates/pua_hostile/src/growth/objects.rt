@@ -2,6 +2,7 @@
 //! whatever is refused then.
 
 use crate::LISTING;
+use crate::growth::is_refused;
 use crate::growth::readings::tree_read;
 use crate::trees::ListedTree;
 use anyhow::Result;
@@ -48,19 +49,20 @@ fn begun_again<'t, T: FileTree>(
     again: &mut u32,
 ) -> Result<Objects<'t, T>> {
     let table = CallTable::standard();
-    match Objects::begin(alloc, tree, process, &table) {
-        Err(OutOfMemory) => {
-            *again = again.saturating_add(1);
-            Ok(Objects::begin(alloc, tree, process, &table)?)
-        }
-        answer => Ok(answer?),
+    let mut objects = Objects::begin(alloc, tree, process, &table);
+    if is_refused(&objects, OutOfMemory, again) {
+        objects = Objects::begin(alloc, tree, process, &table);
     }
+    Ok(objects?)
 }
 
 /// How a list over such a tree is given: refused before the first line, or whole, or otherwise. It
 /// takes memory before the first line alone.
 pub(crate) fn listed<T: ListedTree>(alloc: Global) -> &'static str {
-    let (Ok(tree), Ok(process)) = (T::read(alloc, LISTING), spooler(alloc)) else {
+    let Ok(tree) = T::read(alloc, LISTING) else {
+        return "refused";
+    };
+    let Ok(process) = spooler(alloc) else {
         return "refused";
     };
     let Ok(mut objects) = Objects::begin(alloc, &tree, &process, &CallTable::standard()) else {

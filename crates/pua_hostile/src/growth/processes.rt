@@ -1,11 +1,12 @@
 //! Processes, each made, given veils and copied once more where a growth was refused.
 
 use crate::LISTING;
+use crate::growth::is_refused;
 use crate::growth::readings::tree_read;
 use crate::growth::seen::process_seen;
 use anyhow::{Result, bail};
 use pua_policy::{Perms, Place, Process, Promises, UnveilFault};
-use pua_tree::{ListTree, NodeId};
+use pua_tree::{ListTree, NodeId, OutOfMemory};
 use std::alloc::Global;
 
 /// The directories that get veils: two of the tree, and others with later numbers.
@@ -32,23 +33,19 @@ pub(crate) fn hold(alloc: Global, again: &mut u32) -> Result<bool> {
 }
 
 fn process_made(alloc: Global, again: &mut u32) -> Result<Process> {
-    match Process::new(alloc) {
-        Ok(process) => Ok(process),
-        Err(_) => {
-            *again = again.saturating_add(1);
-            Ok(Process::new(alloc)?)
-        }
+    let mut process = Process::new(alloc);
+    if is_refused(&process, OutOfMemory, again) {
+        process = Process::new(alloc);
     }
+    Ok(process?)
 }
 
 fn process_copied(alloc: Global, process: &Process, again: &mut u32) -> Result<Process> {
-    match process.fork(alloc) {
-        Ok(copy) => Ok(copy),
-        Err(_) => {
-            *again = again.saturating_add(1);
-            Ok(process.fork(alloc)?)
-        }
+    let mut copy = process.fork(alloc);
+    if is_refused(&copy, OutOfMemory, again) {
+        copy = process.fork(alloc);
     }
+    Ok(copy?)
 }
 
 fn pledge(process: &mut Process) -> Result<()> {

@@ -2,9 +2,10 @@
 
 use crate::LISTING;
 use crate::dripping::DrippingReader;
+use crate::growth::is_refused;
 use crate::growth::worlds::{REQUESTS, SCRIPT};
+use crate::inputs::TABLE;
 use crate::listed::listing_of;
-use crate::tables::TABLE;
 use crate::trees::ListedTree;
 use anyhow::Result;
 use pua_policy::{Call, CallTable, Perms, TableFault};
@@ -60,48 +61,40 @@ pub(crate) fn is_listed<T: ListedTree>(alloc: Global, again: &mut u32) -> Result
 
 fn bytes_read(alloc: Global, again: &mut u32) -> Result<Vec<u8>> {
     let mut source = ReadSource::new(DrippingReader::new(LISTING, 0));
-    match read_bytes(alloc, &mut source) {
-        Err(InputFault::OutOfMemory) => {
-            *again = again.saturating_add(1);
-            let mut source = ReadSource::new(DrippingReader::new(LISTING, 0));
-            Ok(read_bytes(alloc, &mut source)?)
-        }
-        answer => Ok(answer?),
+    let mut bytes = read_bytes(alloc, &mut source);
+    if is_refused(&bytes, InputFault::OutOfMemory, again) {
+        source = ReadSource::new(DrippingReader::new(LISTING, 0));
+        bytes = read_bytes(alloc, &mut source);
     }
+    Ok(bytes?)
 }
 
 /// The listing, taken from inputs of which the refused taking leaves everything.
 fn input_taken(alloc: Global, again: &mut u32) -> Result<Vec<u8>> {
     let entries = [("S", b"0".as_slice()), ("T", LISTING)];
     let mut inputs = MemoryInputs::new(&entries);
-    match inputs.take(alloc, "T") {
-        Err(InputFault::OutOfMemory) => {
-            *again = again.saturating_add(1);
-            Ok(inputs.take(alloc, "T")?)
-        }
-        answer => Ok(answer?),
+    let mut taken = inputs.take(alloc, "T");
+    if is_refused(&taken, InputFault::OutOfMemory, again) {
+        taken = inputs.take(alloc, "T");
     }
+    Ok(taken?)
 }
 
 /// The tree of a listing.
 pub(crate) fn tree_read<T: ListedTree>(alloc: Global, bytes: &[u8], again: &mut u32) -> Result<T> {
-    match T::read(alloc, bytes) {
-        Err(ListingFault::OutOfMemory) => {
-            *again = again.saturating_add(1);
-            Ok(T::read(alloc, bytes)?)
-        }
-        answer => Ok(answer?),
+    let mut tree = T::read(alloc, bytes);
+    if is_refused(&tree, ListingFault::OutOfMemory, again) {
+        tree = T::read(alloc, bytes);
     }
+    Ok(tree?)
 }
 
 fn names_told<T: FileTree>(alloc: Global, tree: &T, again: &mut u32) -> Result<Vec<Name>> {
-    match tree.names(alloc) {
-        Err(TreeFault::OutOfMemory) => {
-            *again = again.saturating_add(1);
-            Ok(tree.names(alloc)?)
-        }
-        answer => Ok(answer?),
+    let mut names = tree.names(alloc);
+    if is_refused(&names, TreeFault::OutOfMemory, again) {
+        names = tree.names(alloc);
     }
+    Ok(names?)
 }
 
 /// Whether these are the names of the tree.
@@ -119,13 +112,11 @@ fn rows_lent<'t, T: FileTree>(
     tree: &'t T,
     again: &mut u32,
 ) -> Result<Vec<LentRow<'t>>> {
-    match tree.rows(alloc) {
-        Err(OutOfMemory) => {
-            *again = again.saturating_add(1);
-            Ok(tree.rows(alloc)?)
-        }
-        answer => Ok(answer?),
+    let mut rows = tree.rows(alloc);
+    if is_refused(&rows, OutOfMemory, again) {
+        rows = tree.rows(alloc);
     }
+    Ok(rows?)
 }
 
 /// Whether these are the rows of the tree.
@@ -140,22 +131,18 @@ fn are_rows(rows: &[LentRow<'_>]) -> bool {
 }
 
 fn table_read(alloc: Global, again: &mut u32) -> Result<CallTable> {
-    match CallTable::read(alloc, TABLE) {
-        Err(TableFault::OutOfMemory) => {
-            *again = again.saturating_add(1);
-            Ok(CallTable::read(alloc, TABLE)?)
-        }
-        answer => Ok(answer?),
+    let mut table = CallTable::read(alloc, TABLE);
+    if is_refused(&table, TableFault::OutOfMemory, again) {
+        table = CallTable::read(alloc, TABLE);
     }
+    Ok(table?)
 }
 
 /// The script that worlds serve.
 pub(crate) fn script_read(alloc: Global, again: &mut u32) -> Result<Script> {
-    match read_script(alloc, SCRIPT) {
-        Err(ScriptFault::OutOfMemory) => {
-            *again = again.saturating_add(1);
-            Ok(read_script(alloc, SCRIPT)?)
-        }
-        answer => Ok(answer?),
+    let mut script = read_script(alloc, SCRIPT);
+    if is_refused(&script, ScriptFault::OutOfMemory, again) {
+        script = read_script(alloc, SCRIPT);
     }
+    Ok(script?)
 }

@@ -2,11 +2,12 @@
 
 ghost use Rattle.std.specs.Prelude.{◌≡◌};
 
+use crate::growth::lines::begun;
 use crate::listed::listing_of;
 use anyhow::Result;
-use pua_audit::{Audit, Base};
+use pua_audit::Audit;
 use pua_path::Counted;
-use pua_policy::{CallTable, Process};
+use pua_policy::Process;
 use pua_script::World;
 use pua_tree::FileTree;
 use std::alloc::Global;
@@ -36,26 +37,21 @@ pub(crate) fn process_seen<T: FileTree>(
     tree: &T,
     process: &Process,
 ) -> Result<Vec<u8>> {
-    let mut probe = Counted::new(tree);
-    let table = CallTable::standard();
-    let names = &[b"new".as_slice()];
-    let begun = Audit::begin(
-        alloc,
-        &mut probe,
-        process,
-        &table,
-        Base::Root,
-        names,
-        2,
-        None,
-    );
-    let mut audit = begun?;
-    let mut text = lines_of(alloc, tree, &mut audit)?;
+    let mut text = reach_seen(alloc, tree, process)?;
+    let state = state_seen(alloc, process)?;
+    text.extend_from_slice(state.as_bytes())?;
+    Ok(text)
+}
+
+fn reach_seen<T: FileTree>(alloc: Global, tree: &T, process: &Process) -> Result<Vec<u8>> {
+    let mut audit = begun(alloc, tree, process, &[b"new"], 2)?;
+    lines_of(alloc, tree, &mut audit)
+}
+
+fn state_seen(alloc: Global, process: &Process) -> Result<String> {
     let dir = process.dir().number();
     let (locked, ended) = (process.locked(), process.ended());
-    let front = format!(in alloc; "in {dir}, locked {locked}, ended {ended}\n")?;
-    text.extend_from_slice(front.as_bytes())?;
-    Ok(text)
+    Ok(format!(in alloc; "in {dir}, locked {locked}, ended {ended}\n")?)
 }
 
 /// The listing of a world's tree, and what can be seen of each of its processes.

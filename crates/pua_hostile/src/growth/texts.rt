@@ -2,6 +2,7 @@
 //! by the first call, and the second writes everything.
 
 use crate::LISTING;
+use crate::growth::is_refused;
 use anyhow::Result;
 use pua_audit::Base;
 use pua_policy::Rules;
@@ -9,6 +10,7 @@ use pua_tool::{
     DONE, Job, MEMORY, MemoryInputs, MemorySink, Processes, Sink, TableChoice, ToolFault, audit_to,
     command, ever_to, objects_to, run_to,
 };
+use pua_tree::OutOfMemory;
 use std::alloc::Global;
 
 /// A script of a process that may then only read one file, and change its mode.
@@ -90,13 +92,11 @@ pub(crate) fn hold(alloc: Global, again: &mut u32) -> Result<bool> {
 }
 
 fn sink_made(alloc: Global, again: &mut u32) -> Result<MemorySink> {
-    match MemorySink::new(alloc, ROOM) {
-        Ok(sink) => Ok(sink),
-        Err(_) => {
-            *again = again.saturating_add(1);
-            Ok(MemorySink::new(alloc, ROOM)?)
-        }
+    let mut sink = MemorySink::new(alloc, ROOM);
+    if is_refused(&sink, OutOfMemory, again) {
+        sink = MemorySink::new(alloc, ROOM);
     }
+    Ok(sink?)
 }
 
 /// Whether a sink has its room, and no more.

@@ -2,25 +2,24 @@
 
 ghost use Rattle.pua_policy.specs.Verdict.{FoundFits};
 
+use anyhow::Result;
 use pua_path::{Counted, Ending, Found, Last, PathText, Probe, resolve};
 use pua_policy::{Perms, Place, Process};
 use pua_tree::{NodeId, SlabTree};
 use std::alloc::Global;
 
 /// A process with so many veils: one on the root, and the others on nodes that no tree has.
-pub(crate) fn veiled(alloc: Global, veils: u32) -> Option<Process> {
-    let mut process = Process::new(alloc).ok()?;
+pub(crate) fn veiled(alloc: Global, veils: u32) -> Result<Process> {
+    let mut process = Process::new(alloc)?;
     for veil in 0..veils {
         let number = if veil == 0 {
             0
         } else {
             veil.saturating_add(1_000_000)
         };
-        process
-            .unveil_at(Place::Dir(NodeId::new(number)), Perms::READ)
-            .ok()?;
+        process.unveil_at(Place::Dir(NodeId::new(number)), Perms::READ)?;
     }
-    Some(process)
+    Ok(process)
 }
 
 /// How often so many covers of the file `f` in a directory look at a tree.

@@ -27,6 +27,6 @@ pub(crate) fn empty(tree: &mut SlabTree) {
 
 /// A name for each number below 2^18, of three bytes from 40 to 7F.
 fn name_of(number: usize) -> Option<Name> {
-    let byte = |place: usize| 0x40 | (number >> (6 * place) & 0x3f) as u8;
-    Name::from_bytes(&[byte(0), byte(1), byte(2)])
+    let (low, middle, high) = (number % 64, number / 64 % 64, number / 4_096 % 64);
+    Name::from_bytes(&[64 + low as u8, 64 + middle as u8, 64 + high as u8])
 }

@@ -1,7 +1,13 @@
-use Rattle.std.proofs.Common.{sym}
+use Rattle.std.proofs.Common.{sym, rules}
 use Rattle.pua_tool.specs.declared.fault.ToolFault.TheVariants.{Write}
 use Rattle.pua_tool.specs.declared.outcome.CommandFault.TheVariants.{Tool}
 use Rattle.pua_tool.proofs.cli.at_end.Goals as goal
 
 pub returns-then-status-eq-DONE-clause-reported : goal.returns-then-status-eq-DONE-clause-reported
 returns-then-status-eq-DONE-clause-reported g c other = (Tool Write, sym c.finish.ensures.status, c.finish.ensures.told)
+
+pub returns-then-status-eq-DONE-clause-device : goal.returns-then-status-eq-DONE-clause-device
+returns-then-status-eq-DONE-clause-device g c = search rules
+
+pub returns-then-status-eq-DONE-clause-told : goal.returns-then-status-eq-DONE-clause-told
+returns-then-status-eq-DONE-clause-told g c = search rules

@@ -1,7 +1,13 @@
-use Rattle.std.proofs.Common.{sym}
+use Rattle.std.proofs.Common.{sym, rules}
 use Rattle.pua_tool.specs.declared.fault.ToolFault.TheVariants.{Write}
 use Rattle.pua_tool.specs.declared.outcome.CommandFault.TheVariants.{Tool}
 use Rattle.pua_tool.proofs.cli.show.Goals as goal
 
 pub returns-in-Err-clause-told : goal.returns-in-Err-clause-told
 returns-in-Err-clause-told g c other = (Tool Write, sym c.finish.ensures.status, c.finish.ensures.told)
+
+pub returns-in-Err-clause-whole : goal.returns-in-Err-clause-whole
+returns-in-Err-clause-whole g c = search rules
+
+pub returns-in-Err-clause-unfailed : goal.returns-in-Err-clause-unfailed
+returns-in-Err-clause-unfailed g c = search rules

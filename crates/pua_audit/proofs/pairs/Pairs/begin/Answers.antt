@@ -1,4 +1,4 @@
-use Rattle.std.proofs.Common.{arith}
+use Rattle.std.proofs.Common.{arith, rules}
 use Rattle.pua_audit.specs.Ready.{letters_of}
 use Rattle.pua_audit.proofs.Coming.{along_none}
 use Rattle.pua_audit.proofs.pairs.Pairs.begin.Goals as goal
@@ -17,3 +17,9 @@ returns-clause-ready g c =
       bytes = omega (arith, c.most_bytes.ensures, c.in-Ok.ensures.bytes);
       starts = c.in-Ok.ensures.letters;
     }
+
+pub returns-clause-left : goal.returns-clause-left
+returns-clause-left g c = search rules
+
+pub returns-clause-live : goal.returns-clause-live
+returns-clause-live g c = c.in_ok-walk.ensures.live

@@ -1,4 +1,4 @@
-use Rattle.std.proofs.Common.{List, ℕ, [], ◌∷◌, ◌++◌, codes, subst}
+use Rattle.std.proofs.Common.{List, ℕ, [], ◌∷◌, ◌++◌, codes, subst, rules}
 use Rattle.std.proofs.lemmas.Result.{err_from_is_err_and}
 use Rattle.pua_io.specs.Sinks.{Adds, AddsFront}
 use Rattle.pua_io.proofs.ForCallers.{writes_then, writes_front}
@@ -20,3 +20,9 @@ returns-in_ok-put_all-in-Unreadable g c =
     (subst (λ (b : List ℕ). Adds b (g.E.Sink.written c.args.err.now) (g.E.Sink.written c.put_all.new.sink)) c.as_bytes.ensures.value c.in_ok-put_all-in-Unreadable.ensures.whole)
     c.in_ok-put_all-in-Unreadable.ensures.unfailed
     c.put_line-in-Unreadable.ensures)
+
+pub returns-in-Tool-OutOfMemory : goal.returns-in-Tool-OutOfMemory
+returns-in-Tool-OutOfMemory g c = search rules
+
+pub returns-in-Tool-NoProcess : goal.returns-in-Tool-NoProcess
+returns-in-Tool-NoProcess g c = search rules

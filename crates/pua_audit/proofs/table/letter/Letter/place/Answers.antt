@@ -1,0 +1,5 @@
+use Rattle.std.proofs.Common.{rules}
+use Rattle.pua_audit.proofs.table.letter.Letter.place.Goals as goal
+
+pub returns-clause-to : goal.returns-clause-to
+returns-clause-to c = search rules

@@ -1,0 +1,26 @@
+//! The lines that are printed, each by one function of its form: what prints is long to prove, and all else
+//! hands it texts.
+
+use anyhow::Result;
+use std::alloc::Global;
+use std::fmt::Display;
+
+/// Prints what became of something.
+pub(crate) fn tell(rt: &HostRuntime, what: &str, word: &str) -> Result<()> {
+    Ok(println!(rt; "{what}: {word}")?)
+}
+
+/// Prints how many there were of something.
+pub(crate) fn count(rt: &HostRuntime, what: &str, number: usize, of: &str) -> Result<()> {
+    Ok(println!(rt; "{what}: {number} {of}")?)
+}
+
+/// Prints that the case of a number is not as it has to be.
+pub(crate) fn wrong(rt: &HostRuntime, what: &str, number: u64) -> Result<()> {
+    Ok(println!(rt; "{what} {number}: wrong")?)
+}
+
+/// Whether a fault is told in these words.
+pub(crate) fn is_fault<F: Display>(alloc: Global, fault: &F, words: &str) -> Result<bool> {
+    Ok(format!(in alloc; "{fault}")?.as_str() == words)
+}

@@ -1,0 +1,5 @@
+use Rattle.std.proofs.Common.{rules}
+use Rattle.pua_policy.proofs.process.Process.exec_into.Goals as goal
+
+pub returns : goal.returns
+returns c = search rules
