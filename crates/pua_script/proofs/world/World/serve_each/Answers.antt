@@ -1,4 +1,5 @@
-use Rattle.std.proofs.Common.{◌+◌, ◌∷◌, ◌++◌, [], refl, take}
+use Rattle.std.proofs.Common.{◌+◌, ◌∷◌, ◌++◌, ◌∙◌, [], refl, take, arith, subst}
+use Rattle.std.proofs.lemmas.List.{take_all}
 use Rattle.std.proofs.lemmas.Result.{err_from_is_err_and}
 use Rattle.pua_script.specs.Futures.{AreDone, AreDoneInPart}
 use Rattle.pua_script.proofs.Served.{done_before, done_next}
@@ -21,3 +22,9 @@ pub loop-request-preserved : goal.loop-request-preserved
 loop-request-preserved g c =
     done_next _ _ _ c.requests-requests.result.now c.loop-request.request-index _ _ c.request-item.result c.in_ok-answer.answer c.loop-request-test.true c.request-item.is c.in-Ok-push.ensures.items
     c.in_ok-answer.ensures.tree c.loop-request.invariant c.in_ok-answer.ensures.served
+
+pub returns : goal.returns
+returns g c =
+    let past = c.loop-request-test.false in
+    let all = take_all c.loop-request.request-index c.requests-requests.result.now (omega (arith, past)) in
+    subst (λ asks. AreDone c.args.self.now asks c.loop-request.told.items c.loop-request.self) (all ∙ c.requests-requests.ensures) c.loop-request.invariant
