@@ -6,7 +6,7 @@ use std::alloc::Global;
 use std::fs;
 
 /// The program's version, and the toolchain's line.
-const VERSION: &[u8] = b"pua 0.1.0\nrattle-kit-13f logic dac8208d650f15bf\n";
+const VERSION: &[u8] = b"pua 0.1.0\nrattle-kit-13b logic dac8208d650f15bf\n";
 
 /// The words by which help is asked for, and the files that have its texts.
 const HELP: [(&[&str], &str); 8] = [
