@@ -40,12 +40,6 @@ module _ (t : Tree) (table : CallTable) (h : History) (base : Base) (texts : Lis
     candidates ← read
     ending candidates (is_short candidates)
 
-  pub too_large : 16 < limit → beginning t table h base texts limit after ≡ Err LimitTooLarge
-  too_large large = ap (λ b. tested b (nat_le (length texts) 1024) (candidates_from 1 texts)) (lt-leb limit 16 large)
-
-  pub too_many : limit ≤ 16 → 1024 < length texts → beginning t table h base texts limit after ≡ Err TooManyNames
-  too_many small many = (λ i. tested (le-leb limit 16 small i) (lt-leb (length texts) 1024 many i) (candidates_from 1 texts))
-
   module _ (small : limit ≤ 16) (few : length texts ≤ 1024) where
     pub bad_candidate : (fault : AuditFault) → candidates_from 1 texts ≡ Err fault → beginning t table h base texts limit after ≡ Err fault
     bad_candidate fault bad = (λ i. tested (le-leb limit 16 small i) (le-leb (length texts) 1024 few i) (bad i))

@@ -94,11 +94,6 @@ components_of a (b ∷ word) piece all =
 pub components_from_root : (a : List ℕ) (word : Word) → IsPiece a → AllByRecursion IsPiece word → components (from_root (a ∷ word)) ≡ a ∷ word
 components_from_root a word piece all = components_of a word piece all
 
--- no slash ends a word's path
-ends_of : (a : List ℕ) (rest : List ℕ) → list_any slash a ≡ false → nat_lt 0 (length a) ≡ true → (before : ℕ) → ends_in_slash (before ∷ a ++ rest) ≡ ends_in_slash (47 ∷ a ++ rest)
-ends_of [] rest h some before = absurd (false≢true some)
-ends_of (b ∷ a) rest h some before = refl
-
 end_cut : (b : ℕ) (a : List ℕ) (word : Word) → list_any slash (b ∷ a) ≡ false → AllByRecursion IsPiece word → ends_in_slash ((b ∷ a) ++ from_root word) ≡ false
 end_cut b [] [] h all = by (b == 47) h
   where

@@ -1,14 +1,12 @@
 -- Places of directories.
-use Rattle.std.proofs.Common.{ℕ, ◌<◌, ◌≤◌, ◌≡◌, List, [], ◌∷◌, ◌++◌, Some, true, false, ◌||◌, refl, arith, sym, ◌∙◌, length, get_or, nat_eq, subst}
+use Rattle.std.proofs.Common.{ℕ, ◌<◌, ◌≤◌, ◌≡◌, List, [], ◌∷◌, ◌++◌, Some, true, false, ◌||◌, refl, sym, ◌∙◌, length, get_or, nat_eq, subst}
 use Rattle.std.specs.Prelude.{slice_get, if◌then◌else◌}
 use Rattle.std.specs.List.{AllByRecursion, list_any}
 use Rattle.std.proofs.lemmas.Bool.{eqb-true}
-use Rattle.std.proofs.lemmas.List.{length-append}
 use Rattle.std.proofs.lemmas.Map.Steps.{length-le_from_distinct_below}
 use Rattle.std.proofs.lemmas.Option.{get_or_from_slice_get}
-use Rattle.std.proofs.Math.ListN.{get_or-append}
 use Rattle.indexmap.specs.IndexSet.{insert_key}
-use Rattle.pua_audit.specs.Rows.{AreNumbers, IsGrown}
+use Rattle.pua_audit.specs.Rows.{AreNumbers}
 use Rattle.pua_audit.proofs.Rising.{all_joined}
 
 -- numbers below 2^32, none of them twice, are at most so many
@@ -29,10 +27,6 @@ few_numbers ns is = length-le_from_distinct_below ns 4294967296 is.apart (λ q. 
 pub all_inserted : (P : ℕ → Type 0) (ns : List ℕ) (n : ℕ) → P n → AllByRecursion P ns → AllByRecursion P (insert_key nat_eq ns n)
 all_inserted P ns n here all = elim (list_any (nat_eq n) ns) as (λ b. AllByRecursion P (if b then ns else ns ++ n ∷ [])) [ true ↦ all | false ↦ all_joined P ns (n ∷ []) all (here, tt) ]
 
-pub grown_inserted : (ns : List ℕ) (n : ℕ) → IsGrown ns (insert_key nat_eq ns n)
-grown_inserted ns n = elim (list_any (nat_eq n) ns) as (λ b. IsGrown ns (if b then ns else ns ++ n ∷ [])) [
-  | true ↦ record { more = omega arith; same = λ d low. refl }
-  | false ↦ record { more = omega (arith, length-append ns (n ∷ [])); same = λ d low. get_or-append ns (n ∷ []) 0 d low }
 ]
 
 pub placed : (ns : List ℕ) (place n : ℕ) → (k : ℕ) × (slice_get ns place ≡ Some k) × (nat_eq n k ≡ true) → get_or ns place 0 ≡ n

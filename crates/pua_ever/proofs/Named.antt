@@ -98,16 +98,6 @@ module _ (t : Tree) (well : WellFormed t) (table : CallTable) (h : History) wher
           ∙ ap (λ s. can_be_freed t table h s && is_ever_allowed t table h (At (Slot s.0 s.1 None)) call) (same_Some _ _ (own ∙ is));
     }
 
-    pub not_free : (left : Cover) → left ≡ cover_on t h about → (may_edit table h && has_c left) ≡ false → can_be_freed t table h spot ≡ false
-    not_free left covered none =
-        ap (λ b. is_some (kept h (place.Slot spot.0 spot.1)) && (may_edit table h && b)) (free_by about spot fits (sym own) ∙ sym (ap has_c covered))
-        ∙ ap (λ b. is_some (kept h (place.Slot spot.0 spot.1)) && b) none
-        ∙ never (is_some (kept h (place.Slot spot.0 spot.1)))
-      where
-        never : (b : Bool) → (b && false) ≡ false
-        never true = refl
-        never false = refl
-
     -- and one that can
     pub freed : (left : Cover) (perms : ℕ) (set : ℕ) → left ≡ cover_on t h about → kept h (place.Slot spot.0 spot.1) ≡ Some perms → (may_edit table h && has_c left) ≡ true
         → ((call : Call) → has set call ≡ is_allowed (covered_verdict empty_tree table h call (Only perms) IsMissing)) → AreOnFreed t table h (own_spot about) set

@@ -13,7 +13,7 @@ use Rattle.pua_policy.specs.Calls.{CallTable, rule_of}
 use Rattle.pua_policy.specs.CallSets.{has, keeps_link}
 use Rattle.pua_policy.specs.History.{History, kept, may_any}
 use Rattle.pua_policy.specs.Objects.{object_seen}
-use Rattle.pua_policy.specs.Verdict.{Object, IsDir, IsMissing, object_fault, cover_fault, or_fault, allowed_unless, if_promised, covered_verdict, is_allowed}
+use Rattle.pua_policy.specs.Verdict.{Object, IsDir, object_fault, cover_fault, or_fault, allowed_unless, if_promised, covered_verdict, is_allowed}
 use Rattle.pua_policy.specs.declared.call.Call.{Call}
 use Rattle.pua_policy.specs.declared.call.Call.TheVariants as call
 use Rattle.pua_policy.specs.declared.place.Place.TheVariants as place
@@ -24,7 +24,7 @@ use Rattle.pua_policy.specs.declared.object.Object as seen
 use Rattle.pua_policy.specs.declared.object.Object.TheVariants as see
 use Rattle.pua_script.specs.Confinement.{has_c}
 use Rattle.pua_script.proofs.ForCallers.{c_from_cover}
-use Rattle.pua_objects.specs.Objects.{At, Others, cover_in}
+use Rattle.pua_objects.specs.Objects.{At, cover_in}
 use Rattle.pua_ever.specs.Ever.{row_cover, can_empty, dir_covers, may_edit, ever_covers, removable_dir, lasting_dir, is_named_way, is_allowed_under, is_ever_allowed}
 use Rattle.pua_ever.specs.EverReady.{IsProspects}
 use Rattle.pua_ever.specs.Laws.{EditsNeedC}
@@ -197,13 +197,3 @@ module _ (t : Tree) (table : CallTable) (h : History) (p : Prospects) (is : IsPr
             tidy true true false r some = refl
             tidy true false e false some = refl
             tidy true false e true some = absurd (false≢true (some refl))
-
-  module _ (dir : ℕ) where
-    abbrev moves_in : Bool
-    moves_in = may_edit table h && is_none (kept h (place.Dir dir))
-
-    pub others_moved : (moves_in && has_c (cover_in t h dir)) ≡ true → (call : Call) → has p.movable.others call ≡ is_ever_allowed t table h (Others dir) call
-    others_moved can call = is.movable.others call ∙ ap (λ b. is_allowed_under table h (cond b (dir_covers t h) (cover_in t h dir ∷ [])) IsMissing call) (sym can)
-
-    pub others_still : (moves_in && has_c (cover_in t h dir)) ≡ false → (call : Call) → is_allowed (covered_verdict empty_tree table h call (cover_in t h dir) IsMissing) ≡ is_ever_allowed t table h (Others dir) call
-    others_still can call = last _ ∙ ap (λ b. is_allowed_under table h (cond b (dir_covers t h) (cover_in t h dir ∷ [])) IsMissing call) (sym can)

@@ -1,7 +1,7 @@
 -- What puts one after another leave in a sink.
-use Rattle.std.proofs.Common.{◌≡◌, ℕ, suc, zero-add, ◌+◌, ◌-◌, ◌^◌, ◌<◌, ◌≤◌, List, [], ◌∷◌, ◌++◌, length, take, drop, Option, refl, sym, ap, ◌∙◌, subst, append_assoc, append-nil, length-append, take-append-drop, take_all, length-drop, inl, inr, ◌⊎◌, arith}
+use Rattle.std.proofs.Common.{◌≡◌, ℕ, suc, zero-add, ◌+◌, ◌-◌, ◌^◌, ◌<◌, ◌≤◌, List, [], ◌∷◌, ◌++◌, length, take, drop, Option, sym, ap, ◌∙◌, subst, append_assoc, length-append, take-append-drop, take_all, length-drop, inl, inr, ◌⊎◌, arith}
 use Rattle.std.specs.Io.KnownBytes.{Appends, Keeps}
-use Rattle.std.proofs.KnownBytes.{Appends-nil, Appends-trans, Appends-kept}
+use Rattle.std.proofs.KnownBytes.{Appends-trans, Appends-kept}
 use Rattle.std.proofs.lemmas.Bool.{cases_order}
 use Rattle.std.proofs.lemmas.List.{take-append-le}
 use lib.Seq.{take-append_seam}
@@ -15,9 +15,6 @@ pub record HasPut (text rest : List ℕ) (old new : Option (List ℕ)) : Type 0 
   pub parts : text ≡ done ++ rest
   pub adds : Appends old new done
 
-pub has_put_none : (text : List ℕ) (a : Option (List ℕ)) → HasPut text text a a
-has_put_none text a = record { done = []; parts = refl; adds = Appends-nil a }
-
 pub has_put_more : (text rest : List ℕ) (n : ℕ) (a b c : Option (List ℕ)) → HasPut text rest a b → Puts rest n b c → HasPut text (take (length rest - n) (drop n rest)) a c
 has_put_more text rest n a b c put more =
     let whole : take (length rest - n) (drop n rest) ≡ drop n rest = take_all _ (drop n rest) (omega (arith, length-drop n rest)) in
@@ -26,11 +23,6 @@ has_put_more text rest n a b c put more =
       parts = put.parts ∙ ap (λ r. put.done ++ r) (sym (take-append-drop n rest)) ∙ sym (append_assoc put.done (take n rest) (drop n rest)) ∙ ap (λ r. (put.done ++ take n rest) ++ r) (sym whole);
       adds = Appends-trans a b c put.done (take n rest) put.adds more.adds;
     }
-
--- nothing is left
-pub has_put_all : (text rest : List ℕ) (a b : Option (List ℕ)) → HasPut text rest a b → rest ≡ [] → Adds text a b
-has_put_all text rest a b put none =
-    subst (λ t. Appends a b t) (sym (put.parts ∙ ap (λ r. put.done ++ r) none ∙ append-nil put.done)) put.adds
 
 -- the next put added nothing
 pub has_put_front : (text rest : List ℕ) (a b c : Option (List ℕ)) → HasPut text rest a b → Keeps b c → AddsFront text a c

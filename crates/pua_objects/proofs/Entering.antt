@@ -201,7 +201,3 @@ module _ (t : Tree) (p : ProcessState) (a b : Walk) (dir : ℕ) (name : List ℕ
         fits = (living, (opened.0.living, row));
         tells = on;
       }
-
--- no name is left
-pub nothing_left : (t : Tree) (vs : List (Place × ℕ)) (a : Walk) → a.coming ≡ Names → a.dirs.items ≡ [] → left_in t vs a ≡ []
-nothing_left t vs a names none = only_names t vs a names ∙ ap (λ ds. to_come t vs (frames_at t (spots_in a) (word_in a) (reverse ds))) none

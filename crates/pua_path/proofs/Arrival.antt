@@ -57,11 +57,6 @@ arrives t (suc links) dir way ps =
 pub step_arrives : (t : Tree) (dir used : ℕ) (part : Part) (found : Resolved) → found ≡ resolve_parts (link_limit - used) t Followed dir ways.Top (part ∷ []) → (found >>= arrived) ≡ step t dir used part
 step_arrives t dir used part found e = ap (λ r. r >>= arrived) e ∙ sym (arrives t (link_limit - used) dir ways.Top (part ∷ []))
 
--- where a path starts, as the answer of a search for it
-pub starts_nowhere : (guard : Bool) (start : ℕ) (further : Result Found Errno) → None ≡ (if guard then None else Some start) → Err ENOENT ≡ (if guard then Err ENOENT else further)
-starts_nowhere true start further e = refl
-starts_nowhere false start further e = cc
-
 pub starts_at : (guard : Bool) (start begin : ℕ) (further : ℕ → Result Found Errno) → Some start ≡ (if guard then None else Some begin) → further start ≡ (if guard then Err ENOENT else further begin)
 starts_at true start begin further e = cc
 starts_at false start begin further e = let same : start ≡ begin = cc in ap further same

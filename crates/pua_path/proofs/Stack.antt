@@ -25,10 +25,6 @@ pending_popped (suc depth) below text p l = let lt : depth < length below = omeg
 pub pending_pushed : (depth : ℕ) (below : List (Bor (List ℕ))) (text : Bor (List ℕ)) → depth < length below → pending (take (depth + 1) (set below depth text)) ≡ rest_parts text.now ++ pending (take depth below)
 pending_pushed depth below text l = rw (take_more_set below depth text l, pending_last) refl
 
-waiting_popped : (depth : ℕ) (below : List (Bor (List ℕ))) (text : Bor (List ℕ)) → 0 < depth → depth ≤ length below → list_all can_wait (take depth below) ≡ (list_all can_wait (take (depth - 1) below) && (can_wait (get_or below (depth - 1) text) && true))
-waiting_popped zero below text p l = absurd (omega (arith, p))
-waiting_popped (suc depth) below text p l = let lt : depth < length below = omega arith in rw (sub-one, take-suc below depth text, list_all-append) refl
-
 -- what a stack of texts is, in facts
 pub record IsStack (top : List ℕ) (waiting : List (Bor (List ℕ))) : Type 0 where
   pub readable : is_readable top ≡ true

@@ -1,5 +1,5 @@
 -- What one part does to a resolution.
-use Rattle.std.proofs.Common.{◌≡◌, ℕ, zero, suc, true, false, List, [], ◌∷◌, ◌++◌, Option, Some, None, refl, sym, ap, ◌∙◌, arith, ◌-◌, ◌<◌, sub-one, Result, Ok, Err}
+use Rattle.std.proofs.Common.{◌≡◌, ℕ, zero, suc, true, false, List, [], ◌∷◌, ◌++◌, Option, Some, None, refl, sym, ap, ◌∙◌, ◌-◌, ◌<◌, Result, Ok, Err}
 use Rattle.std.specs.Prelude.{if◌then◌else◌}
 use Rattle.pua_tree.specs.Tree.{Tree, above}
 use Rattle.pua_path.specs.Paths.{parts_of}
@@ -96,24 +96,3 @@ module _ (t : Tree) (mode : Last) where
       r ≡ (if is_done rest then Ok (Some (Slot dir name None)) else Err ENOENT) → resolve_parts links t mode dir way (parts.Name name ∷ rest) ≡ goes_on r links further
   resolve_nothing links dir way name rest r further e k =
       resolve_name links dir way name rest Nothing e ∙ sym (ap (λ a. goes_on a links further) k ∙ ends rest (Slot dir name None) ENOENT links further)
-
-  pub followed_no_more : (links from : ℕ) (target : List ℕ) (rest : List Part) → links ≡ 0 → followed links t mode from target rest ≡ Err ELOOP
-  followed_no_more links from target rest e = ap (λ n. followed n t mode from target rest) e
-
-  pub followed_further : (links from : ℕ) (target : List ℕ) (rest : List Part) → 0 < links →
-      followed links t mode from target rest ≡ resolve_parts (links - 1) t mode (start_of target from) ways.Top (parts_of ending.Dot target ++ rest)
-  followed_further zero from target rest l = absurd (omega (arith, l))
-  followed_further (suc links) from target rest l = rw sub-one refl
-
-  -- how a directory was named matters where no part is left alone
-  pub resolve_passed : (links dir : ℕ) (way other : Way) (rest : List Part) → is_done rest ≡ false → resolve_parts links t mode dir way rest ≡ resolve_parts links t mode dir other rest
-  resolve_passed links dir way other [] d = cc
-  resolve_passed links dir way other (parts.Dot ∷ rest) d = resolve_dot links dir way rest ∙ sym (resolve_dot links dir other rest)
-  resolve_passed links dir way other (parts.DotDot ∷ rest) d = resolve_dotdot links dir way rest ∙ sym (resolve_dotdot links dir other rest)
-  resolve_passed links dir way other (parts.Name name ∷ rest) d =
-      resolve_name links dir way name rest (standing_at t dir name) refl ∙ sym (resolve_name links dir other name rest (standing_at t dir name) refl)
-
-  -- the same behind a directory that was entered
-  pub resolve_entered : (links dir : ℕ) (way other : Way) (name : List ℕ) (rest : List Part) (x : ℕ) → Directory x ≡ standing_at t dir name → is_done rest ≡ false →
-      resolve_parts links t mode dir way (parts.Name name ∷ rest) ≡ resolve_parts links t mode x other rest
-  resolve_entered links dir way other name rest x e d = resolve_directory links dir way name rest x e ∙ resolve_passed links x (ways.Named dir name) other rest d

@@ -1,5 +1,5 @@
 -- Rows of tables as they are read, one after another.
-use Rattle.std.proofs.Common.{◌≡◌, ℕ, zero, suc, ◌-◌, ◌*◌, ◌<◌, ◌^◌, true, false, List, [], ◌∷◌, ◌++◌, length, replicate, set, refl, sym, ap, ◌∙◌, arith, append_assoc, inl, inr}
+use Rattle.std.proofs.Common.{◌≡◌, ℕ, zero, suc, ◌-◌, ◌*◌, ◌<◌, ◌^◌, true, false, List, [], ◌∷◌, ◌++◌, length, set, refl, sym, ap, ◌∙◌, arith, append_assoc, inl, inr}
 use Rattle.std.specs.Prelude.{Option, Some, None, Result, Ok, Err, ok_or, slice_set, bit_and, ◌==◌}
 use Rattle.std.specs.List.{AllByRecursion}
 use Rattle.std.specs.Int.{bit_at}
@@ -18,7 +18,7 @@ use Rattle.toml.specs.declared.value.Value.{Value}
 use Rattle.pua_tree.specs.Steps.{◌>>=◌}
 use Rattle.pua_policy.specs.Promises.{holds, error}
 use Rattle.pua_policy.specs.Calls.{CallTable, Rule, call_named}
-use Rattle.pua_policy.specs.Tables.{NeedsNoError, padded}
+use Rattle.pua_policy.specs.Tables.{NeedsNoError}
 use Rattle.pua_policy.specs.TableTexts.{count, document_of, keys_ascend, member_count, rule_in, rules_with, with_rule}
 use Rattle.pua_policy.specs.declared.call.Call.{Call}
 use Rattle.pua_policy.specs.declared.table.read.TableFault.{TableFault}
@@ -35,9 +35,6 @@ module _ (t : CallTable) (key : List ℕ) (value : Data) (rest : Members) where
   pub unnamed : call_named key ≡ None → rules_with t (member key value rest) ≡ Err BadKey
   unnamed none = named_as None none
 
-  pub refused_row : (call : Call) (fault : TableFault) → call_named key ≡ Some call → rule_in call value ≡ Err fault → rules_with t (member key value rest) ≡ Err fault
-  refused_row call fault named refused = named_as (Some call) named ∙ (λ i. refused i >>= put call)
-
   pub one_row : (call : Call) (rule : Rule) → call_named key ≡ Some call → rule_in call value ≡ Ok rule → rules_with t (member key value rest) ≡ put call rule
   one_row call rule named is = named_as (Some call) named ∙ (λ i. is i >>= put call)
 
@@ -50,11 +47,6 @@ all_set (r ∷ rules) (suc i) rule all one = (all.0, all_set rules i rule all.1 
 set_next : (xs ys : List ℕ) (a b : ℕ) → slice_set (xs ++ a ∷ ys) (length xs) b ≡ xs ++ b ∷ ys
 set_next [] ys a b = refl
 set_next (x ∷ xs) ys a b = ap (λ zs. x ∷ zs) (set_next xs ys a b)
-
--- one more set in the place of the first empty one
-pub padded_more : (sets : List ℕ) (s n : ℕ) → 8 - length sets ≡ suc n → 8 - length (sets ++ s ∷ []) ≡ n → padded (sets ++ s ∷ []) ≡ slice_set (padded sets) (length sets) s
-padded_more sets s n left fewer =
-    rw (left, fewer) (append_assoc sets (s ∷ []) (replicate n 0) ∙ sym (set_next sets (replicate n 0) 0 s))
 
 -- as many items as values
 pub count_of : (values : List Value) → count (items_view values) ≡ length values

@@ -1,5 +1,5 @@
 -- Where each row that isn't covered with `c` stays, its cover stays too.
-use Rattle.std.proofs.Common.{◌≡◌, ◌≢◌, ℕ, zero, suc, List, ◌∷◌, Bool, true, false, cond, map, refl, sym, ap, ◌∙◌}
+use Rattle.std.proofs.Common.{◌≡◌, ◌≢◌, ℕ, zero, suc, ◌∷◌, Bool, true, false, cond, map, refl, sym, ap, ◌∙◌}
 use Rattle.std.specs.List.{list_any}
 use Rattle.std.specs.Prelude.{Option, Some, None, option_map}
 use Rattle.std.proofs.lemmas.Bool.{true≢false}
@@ -34,12 +34,6 @@ module _ (t u : Tree) (well : WellFormed t) (well_then : WellFormed u) (h : Hist
 
   abbrev dir_cover : Tree → ℕ → Cover
   dir_cover v d = nearest (veil d ∷ map veil (climb v (above v d)))
-
-  abbrev slot_cover : Tree → Spot → Cover
-  slot_cover v s = nearest (kept h (place.Slot s.0 s.1) ∷ over_list v s.0)
-    where
-      over_list : Tree → ℕ → List (Option ℕ)
-      over_list v d = map veil (climb v d)
 
   same_dir : (x : ℕ) → node_at u x ≡ node_at t x → is_dir u x ≡ is_dir t x
   same_dir x e = ap (λ o. is_dir_kind (option_map (λ n. n.kind) o)) e

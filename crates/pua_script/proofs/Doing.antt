@@ -1,16 +1,14 @@
 -- What a process does, by the effect of what it asks for.
-use Rattle.std.proofs.Common.{◌≡◌, ℕ, Some, Result, Ok, Err, IsOk, refl, sym, ap, subst, true≢false}
+use Rattle.std.proofs.Common.{◌≡◌, ℕ, Some, Result, Ok, Err, sym, ap, subst}
 use Rattle.pua_tree.specs.Tree.{Tree}
-use Rattle.pua_tree.specs.declared.fault.TreeFault.{TreeFault}
 use Rattle.pua_policy.specs.History.{ProcessState, History, StandsFor}
 use Rattle.pua_policy.specs.Verdict.{refusal_of}
 use Rattle.pua_policy.specs.declared.answer.May.{May}
 use Rattle.pua_policy.specs.declared.answer.Refusal.{Refusal}
 use Rattle.pua_script.specs.declared.answer.Answer.{Answer}
-use Rattle.pua_script.specs.declared.answer.Answer.TheVariants.{Okay}
 use Rattle.pua_script.specs.declared.fault.WorldFault.{WorldFault}
 use Rattle.pua_script.specs.Decide.{Decision, promised, unless_refused}
-use Rattle.pua_script.specs.Replay.{Effect, edited, edited_tree, answer_to}
+use Rattle.pua_script.specs.Replay.{Effect}
 use Rattle.pua_script.specs.Worlds.{Does, Edits, Attempts, AttemptsEdit}
 
 -- where promises refuse, the decision is the refusal
@@ -37,12 +35,3 @@ module _ (t u : Tree) (h : History) (r : Result Answer WorldFault) (q : ProcessS
       by : (r : Result Answer WorldFault) → AttemptsEdit t h e r u → StandsFor q h → Attempts t h e r u q
       by (Ok answer) edits stands = as_edit t u h answer q e edits stands
       by (Err fault) okay stands = okay
-
--- an edit that has no fault is told `ok`
-pub edited_okay : (h : History) (r : Result (ℕ × Tree) TreeFault) → IsOk r → answer_to (edited h r) ≡ Okay
-edited_okay h (Ok x) ok = refl
-edited_okay h (Err fault) ok = absurd (true≢false (sym ok))
-
-pub edited_tree_okay : (h : History) (r : Result Tree TreeFault) → IsOk r → answer_to (edited_tree h r) ≡ Okay
-edited_tree_okay h (Ok x) ok = refl
-edited_tree_okay h (Err fault) ok = absurd (true≢false (sym ok))

@@ -173,10 +173,6 @@ done_before before mid after asks own i told is same first = (
   ),
 )
 
--- none was served yet
-pub done_none : (s : WorldState) → WellFormed s.tree → AreDone s [] [] s
-done_none s well = (λ w stands. (refl, stands, refl), λ w stands. subst WellFormed stands.tree well)
-
 -- what was served holds the families
 held_by : (before after : WorldState) (asks : List Asked) → ((w : World) → StandsForWorld before w → StandsForWorld after (world_after before.table w asks) × TreesAlong before.table w asks) → AreHeld before asks after
 held_by before after asks done = record {

@@ -97,10 +97,6 @@ module _ (letters m u : ℕ) where
     pub low : AllByRecursion (λ (y : Visit). y.letter < a) front
     pub rises : Rising a back
 
-  raise : (a next : ℕ) (es : List Entry) → Rising next es → IfSome (first_of es) (λ e. a ≤ e.letter) → Rising a es
-  raise a next [] rises high = tt
-  raise a next (e ∷ es) rises high = (high, rises.1)
-
   cut_here : (a next : ℕ) (es : List Entry) → next ≤ a → a < letters → Rising next es → IfSome (first_of es) (λ e. a ≤ e.letter) → Cut a next es es
   unfolding visits_from
   cut_here a next [] low within rises high = record {

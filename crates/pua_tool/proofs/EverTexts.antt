@@ -77,9 +77,6 @@ after_by done process h = unless_refused process (refusal done.table h) (answer_
 pub after_made : (done : Replayed) (process : ℕ) (h : History) → history_of done.world process ≡ Some h → ever_after done process ≡ after_by done process h
 after_made done process h is = ap (λ made. ok_or made NoProcess >>= after_by done process) is
 
-pub after_none : (done : Replayed) (process : ℕ) → history_of done.world process ≡ None → ever_after done process ≡ Err NoProcess
-after_none done process is = ap (λ made. ok_or made NoProcess >>= after_by done process) is
-
 -- a list, where there is no reason for none
 pub unrefused : (process : ℕ) (h : History) (done : Replayed) → refusal done.table h ≡ None → after_by done process h ≡ Ok (answer_lines 1 done.told ++ ever_list done.table done.world.tree process h)
 unrefused process h done is = ap (λ reason. unless_refused process reason (answer_lines 1 done.told ++ ever_list done.table done.world.tree process h)) is

@@ -1,6 +1,6 @@
 -- The text of lists, step by step.
-use Rattle.std.proofs.Common.{◌≡◌, ℕ, ◌+◌, List, [], ◌∷◌, ◌++◌, ◌<◌, ◌≤◌, ◌∙◌, slice_index_or, get_or, subst, refl, sym, ap, map, drop, length, append_assoc, append-nil, arith, Bool, true, false, cond}
-use Rattle.std.specs.Prelude.{Option, Some, None, is_none, option_map, Result, Ok, Err, ok_or, filter, ◌==◌, ◌≢◌, OnOk, IfErr}
+use Rattle.std.proofs.Common.{◌≡◌, ℕ, ◌+◌, List, [], ◌∷◌, ◌++◌, ◌<◌, ◌≤◌, ◌∙◌, slice_index_or, get_or, subst, refl, sym, ap, map, drop, length, append_assoc, append-nil, Bool, true, false, cond}
+use Rattle.std.specs.Prelude.{Option, Result, Ok, Err, filter, ◌==◌, ◌≢◌, OnOk, IfErr}
 use Rattle.std.proofs.lemmas.Grind.{flat_map-append}
 use Rattle.std.proofs.lemmas.Bool.{true≢false}
 use Rattle.std.proofs.lemmas.List.{drop_more}
@@ -10,14 +10,11 @@ use Rattle.pua_tree.specs.Spelling.{byte_spelling, spelling}
 use Rattle.pua_policy.specs.Calls.{CallTable, call_name, calls}
 use Rattle.pua_policy.specs.CallSets.{has, calls_in}
 use Rattle.pua_policy.specs.declared.call.Call.{Call}
-use Rattle.pua_policy.specs.declared.call.Call.TheVariants.{Stat, Lstat, Readlink, OpenRead, OpenWrite, OpenBoth, Create, Mkdir, Rmdir, Unlink, Symlink, Chmod, Chdir, Exec}
+use Rattle.pua_policy.specs.declared.call.Call.TheVariants.{Stat}
 use Rattle.pua_policy.specs.History.{History, ProcessState, StandsFor}
 use Rattle.pua_tree.specs.Tree.{Tree}
-use Rattle.pua_script.specs.Replay.{World, history_of}
-use Rattle.pua_script.specs.Worlds.{StandsAt}
+use Rattle.pua_script.specs.Replay.{World}
 use Rattle.pua_words.specs.declared.command.Processes.{Processes}
-use Rattle.pua_words.specs.declared.command.Processes.TheVariants.{One}
-use Rattle.pua_tool.proofs.Replays.{is_made, none_made}
 use Rattle.pua_audit.specs.Reach.{Word, from_root, printed_path}
 use Rattle.pua_audit.specs.declared.base.Base.TheVariants.{Root}
 use Rattle.pua_objects.specs.Lines.{kind_word}
@@ -49,17 +46,6 @@ module _ (choice : Chosen) (tree_bytes script_bytes : List ℕ) (which : Process
   pub asked_refuses : (done : Replayed) (fault : ToolFault) → replayed choice tree_bytes script_bytes ≡ Ok done → numbers_asked done.world which ≡ Err fault → objects_text choice tree_bytes script_bytes which ≡ Err fault
   unfolding objects_text
   asked_refuses done fault r m = (λ i. r i >>= λ done. listed_by done (numbers_asked done.world which)) ∙ (λ i. listed_by done (m i))
-
--- what is asked of one process, by what the world keeps at its number
-pub asked_made : (w : World) (process : ℕ) (o : Option ProcessState) → StandsAt o (history_of w process) → is_none o ≡ false → numbers_asked w (One process) ≡ Ok (process ∷ [])
-asked_made w process None at some = absurd (true≢false some)
-asked_made w process (Some p) at some =
-    let made = is_made p (history_of w process) at in
-    ap (λ h. ok_or (option_map (λ g. process ∷ []) h) NoProcess) made.is
-
-pub asked_none : (w : World) (process : ℕ) (o : Option ProcessState) → StandsAt o (history_of w process) → is_none o ≡ true → numbers_asked w (One process) ≡ Err NoProcess
-asked_none w process None at none = ap (λ h. ok_or (option_map (λ g. process ∷ []) h) NoProcess) (none_made (history_of w process) at)
-asked_none w process (Some p) at none = absurd (true≢false (sym none))
 
 -- a path from the root goes on with a slash and a spelled name
 pub name_next : (name : List ℕ) (word : Word) → spelling (from_root (name ∷ word)) ≡ (47 ∷ spelling name) ++ spelling (from_root word)
@@ -131,22 +117,6 @@ call_left set before i within own =
 
 pub calls_done : (set : ℕ) (before : List ℕ) (i : ℕ) → length calls ≤ i → calls_left set before i ≡ 10 ∷ []
 calls_done set before i past = ap (λ cs. joined before (map call_name (filter (has set) cs)) ++ 10 ∷ []) (drop_of_length-le calls past)
-
-pub name_short : (call : Call) → length (call_name call) ≤ 8
-name_short Stat = omega arith
-name_short Lstat = omega arith
-name_short Readlink = omega arith
-name_short OpenRead = omega arith
-name_short OpenWrite = omega arith
-name_short OpenBoth = omega arith
-name_short Create = omega arith
-name_short Mkdir = omega arith
-name_short Rmdir = omega arith
-name_short Unlink = omega arith
-name_short Symlink = omega arith
-name_short Chmod = omega arith
-name_short Chdir = omega arith
-name_short Exec = omega arith
 
 -- the line of an object, by what the code gives of it
 abbrev pub text_given : ObjectLine → List (Bor (List ℕ)) → List ℕ

@@ -1,27 +1,13 @@
 -- What words that ask for no command leave.
-use Rattle.std.proofs.Common.{ℕ, ◌≡◌, ◌≢◌, List, Option, Result, Ok, Err, OnErr, OnOk, arith, string_bytes, inr, subst}
+use Rattle.std.proofs.Common.{ℕ, ◌≡◌, ◌≢◌, List, Option, Result, Ok, Err, OnErr, OnOk, arith, subst}
 use Rattle.pua_words.specs.Usages.{IsStop, line_text}
 use Rattle.pua_words.specs.declared.usage.UsageLine.{UsageLine}
 use Rattle.pua_words.specs.declared.words.Stop.{Stop}
 use Rattle.pua_words.specs.declared.words.Stop.TheVariants as stop
-use Rattle.pua_io.specs.Held.{Held}
-use Rattle.pua_tool.specs.Performed.{HasAnswered, HasHalted}
 use Rattle.pua_tool.specs.Texts.{ended}
-use Rattle.pua_tool.specs.Told.{IsTold, Shows, ShowsFront, TellsUsage}
+use Rattle.pua_tool.specs.Told.{IsTold, TellsUsage}
 use Rattle.pua_io.specs.declared.sink.PutFault.{PutFault}
 use Rattle.pua_tool.specs.declared.status.TheConstants.{DONE, USAGE, DEVICE}
-
--- a text about the program was written
-pub answered_by_stop : (held : Held) (line : UsageLine) (s : Stop) (a b : Option (List ℕ)) → IsStop line s → Shows s a b → HasAnswered held a b
-answered_by_stop held line (stop.Display text) a b some adds = inr (string_bytes text, some, adds)
-answered_by_stop held line (stop.Usage told) a b some adds = absurd adds
-answered_by_stop held line stop.OutOfMemory a b some adds = absurd adds
-
--- a front of it was written
-pub halted_by_stop : (held : Held) (s : Stop) (a b : Option (List ℕ)) (before after : ℕ) → ShowsFront s a b before after → HasHalted held a b before after
-halted_by_stop held (stop.Display text) a b before after front = inr (string_bytes text, front.0, front.1)
-halted_by_stop held (stop.Usage told) a b before after front = absurd front
-halted_by_stop held stop.OutOfMemory a b before after front = absurd front
 
 -- the words' line was told
 pub told_by_stop : (line : UsageLine) (s : Stop) (a b : Option (List ℕ)) (before after : ℕ) → IsStop line s → TellsUsage s a b before after → IsTold (ended (line_text line)) a b before after

@@ -72,10 +72,6 @@ abbrev pub Rising : ℕ → List Entry → Type 0
 Rising low [] = Unit {0}
 Rising low (e ∷ es) = (low < e.number) × Rising e.number es
 
-pub rising_down : (low high : ℕ) (es : List Entry) → low ≤ high → Rising high es → Rising low es
-rising_down low high [] h r = tt
-rising_down low high (e ∷ es) h r = (omega (arith, r.0, h), r.1)
-
 pub last_number_push : (es : List Entry) (e : Entry) → last_number (es ++ e ∷ []) ≡ e.number
 last_number_push [] e = refl
 last_number_push (x ∷ []) e = refl
