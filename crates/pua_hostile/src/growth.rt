@@ -63,11 +63,23 @@ fn is_refused<T, F: PartialEq + Copy>(
 pub(crate) fn list(rt: &HostRuntime) -> Result<()> {
     let alloc = rt.alloc();
     tell_whole(rt, "an audit", lines::is_whole::<ListTree>(alloc))?;
-    tell_whole(rt, "an audit over slots", lines::is_whole::<SlabTree>(alloc))?;
+    tell_whole(
+        rt,
+        "an audit over slots",
+        lines::is_whole::<SlabTree>(alloc),
+    )?;
     tell_whole(rt, "objects", objects::is_whole::<ListTree>(alloc))?;
-    tell_whole(rt, "objects over slots", objects::is_whole::<SlabTree>(alloc))?;
+    tell_whole(
+        rt,
+        "objects over slots",
+        objects::is_whole::<SlabTree>(alloc),
+    )?;
     tell_whole(rt, "for ever", ever::is_whole::<ListTree>(alloc))?;
-    tell_whole(rt, "for ever, over slots", ever::is_whole::<SlabTree>(alloc))
+    tell_whole(
+        rt,
+        "for ever, over slots",
+        ever::is_whole::<SlabTree>(alloc),
+    )
 }
 
 /// Prints whether a list is whole; an error is that it was refused as it began.

@@ -151,12 +151,7 @@ fn judged_in(rt: &HostRuntime, file: &str, cases: &[Case<'_>], first: usize) -> 
 }
 
 /// Prints a line for each case over a listing that is found otherwise; the number that follows.
-fn judged(
-    rt: &HostRuntime,
-    listing: &[u8],
-    cases: &[Case<'_>],
-    first: usize,
-) -> Result<usize> {
+fn judged(rt: &HostRuntime, listing: &[u8], cases: &[Case<'_>], first: usize) -> Result<usize> {
     let mut number = first;
     for case in cases {
         let holds = is_found_twice(rt.alloc(), listing, case)?;
