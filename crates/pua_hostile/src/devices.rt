@@ -2,12 +2,13 @@
 //! open for writing, pipes that nobody reads, files that can't be read or are too long; and files that
 //! are read whole.
 
-use crate::told::{count, tell};
+use crate::called::command_done;
+use crate::told::{count, tell, tell_unless};
 use anyhow::Result;
 use pua_tool::{
     DEVICE, DONE, DiskInputs, InputFault, Inputs, MemoryInputs, MemorySink, REFUSED, StreamSink,
-    command,
 };
+use std::alloc::Global;
 use std::fs::{self, File, OpenOptions};
 use std::io::{self, BufWriter, PipeReader, PipeWriter, Write};
 
@@ -56,39 +57,39 @@ const LONGEST: u64 = 67_108_864;
 struct Refusal<'a> {
     words: &'a [&'a str],
     status: u8,
-    line: &'a [u8],
+    line: &'a str,
 }
 
 const REFUSALS: [Refusal<'static>; 6] = [
     Refusal {
         words: &["run", "--table", "missing", "/dev/null", "/dev/null"],
         status: DEVICE,
-        line: b"pua: cannot read missing\n",
+        line: "pua: cannot read missing\n",
     },
     Refusal {
         words: &["run", "--table", ".", "/dev/null", "/dev/null"],
         status: DEVICE,
-        line: b"pua: cannot read .\n",
+        line: "pua: cannot read .\n",
     },
     Refusal {
         words: &["run", "--table", "longer", "/dev/null", "/dev/null"],
         status: DEVICE,
-        line: b"pua: cannot read longer\n",
+        line: "pua: cannot read longer\n",
     },
     Refusal {
         words: &["run", "longer", "/dev/null"],
         status: DEVICE,
-        line: b"pua: cannot read longer\n",
+        line: "pua: cannot read longer\n",
     },
     Refusal {
         words: &["run", "--table", "longest", "/dev/null", "/dev/null"],
         status: REFUSED,
-        line: b"pua: table: bad toml\n",
+        line: "pua: table: bad toml\n",
     },
     Refusal {
         words: &["run", "longest", "/dev/null"],
         status: REFUSED,
-        line: b"pua: listing: bad header\n",
+        line: "pua: listing: bad header\n",
     },
 ];
 
@@ -98,15 +99,11 @@ const MANY: u32 = 150_000;
 /// Prints a line for each output and each file that is not answered as it has to be, and how many
 /// there were.
 pub(crate) fn run(rt: &HostRuntime) -> Result<()> {
-    let mut cases = 1usize;
     for words in &COMMANDS {
         outputs(rt, words)?;
-        cases = cases.saturating_add(OUTPUTS);
     }
-    if !is_end_told(rt)? {
-        tell(rt, "a pipe that ends", "wrong")?;
-    }
-    count(rt, "outputs", cases, "that fail")?;
+    tell_unless(rt, is_end_told(rt)?, "a pipe that ends", "wrong")?;
+    count(rt, "outputs", COMMANDS.len() * OUTPUTS + 1, "that fail")?;
     unreadable(rt)?;
     every_byte(rt)?;
     refusals(rt)
@@ -115,55 +112,52 @@ pub(crate) fn run(rt: &HostRuntime) -> Result<()> {
 /// Prints a line for each output in which a command's fault is not told.
 fn outputs(rt: &HostRuntime, words: &[&str]) -> Result<()> {
     let command = words.first().copied().unwrap_or("");
-    if !is_full_told(rt, words)? {
-        tell(rt, "a full device is wrong", command)?;
-    }
-    if !is_closed_told(rt, words)? {
-        tell(rt, "an output that is not open is wrong", command)?;
-    }
-    if !is_unread_told(rt, words)? {
-        tell(rt, "a pipe that nobody reads is wrong", command)?;
-    }
-    Ok(())
+    let is_told = is_full_told(rt, words)?;
+    tell_unless(rt, is_told, "a full device is wrong", command)?;
+    let is_told = is_closed_told(rt, words)?;
+    tell_unless(rt, is_told, "an output that is not open is wrong", command)?;
+    let is_told = is_unread_told(rt, words)?;
+    tell_unless(rt, is_told, "a pipe that nobody reads is wrong", command)
 }
 
-/// Whether a command with this output reports that it can't write, and whether the same behind a
-/// buffer is reported by the flush.
-fn is_told<D: Write + Drop, B: Write + Drop>(
-    rt: &HostRuntime,
-    words: &[&str],
-    direct: D,
-    below: B,
-) -> Result<bool> {
-    let mut err = MemorySink::new(rt.alloc(), 256)?;
+/// Whether a command with this output reports that it can't write.
+fn is_told<W: Write + Drop>(alloc: Global, words: &[&str], direct: W) -> Result<bool> {
+    let mut err = MemorySink::new(alloc, 256)?;
     let mut inputs = MemoryInputs::new(&ENTRIES);
     let mut out = StreamSink::new(direct);
-    let status = command(rt.alloc(), words, &mut inputs, &mut out, &mut err);
-    let is_direct = status == DEVICE && err.bytes() == b"pua: cannot write\n".as_slice();
-    let mut held = StreamSink::new(BufWriter::new(rt.alloc(), below)?);
-    let status = command(rt.alloc(), words, &mut inputs, &mut held, &mut err);
-    Ok(is_direct && status == DONE && held.flush().is_err())
+    let status = command_done(alloc, words, &mut inputs, &mut out, &mut err);
+    Ok(status == DEVICE && err.bytes() == b"pua: cannot write\n".as_slice())
 }
 
-/// The same, with a device that has no room.
+/// Whether the same behind a buffer is reported by the flush.
+fn is_flush_told<W: Write + Drop>(alloc: Global, words: &[&str], below: W) -> Result<bool> {
+    let mut err = MemorySink::new(alloc, 256)?;
+    let mut inputs = MemoryInputs::new(&ENTRIES);
+    let mut out = StreamSink::new(BufWriter::new(alloc, below)?);
+    let status = command_done(alloc, words, &mut inputs, &mut out, &mut err);
+    Ok(status == DONE && out.flush().is_err())
+}
+
+/// Both, with a device that has no room.
 fn is_full_told(rt: &HostRuntime, words: &[&str]) -> Result<bool> {
-    let direct = OpenOptions::new().write(true).open(rt, "/dev/full")?;
-    let below = OpenOptions::new().write(true).open(rt, "/dev/full")?;
-    is_told(rt, words, direct, below)
+    let is_direct = is_told(rt.alloc(), words, full_device(rt)?)?;
+    Ok(is_direct && is_flush_told(rt.alloc(), words, full_device(rt)?)?)
 }
 
-/// The same, with a file that is open for reading alone.
+fn full_device(rt: &HostRuntime) -> Result<File> {
+    Ok(OpenOptions::new().write(true).open(rt, "/dev/full")?)
+}
+
+/// Both, with a file that is open for reading alone.
 fn is_closed_told(rt: &HostRuntime, words: &[&str]) -> Result<bool> {
-    let direct = fs::open(rt, "listing-fronts")?;
-    let below = fs::open(rt, "listing-fronts")?;
-    is_told(rt, words, direct, below)
+    let is_direct = is_told(rt.alloc(), words, fs::open(rt, "listing-fronts")?)?;
+    Ok(is_direct && is_flush_told(rt.alloc(), words, fs::open(rt, "listing-fronts")?)?)
 }
 
-/// The same, with pipes whose readers are gone.
+/// Both, with pipes whose readers are gone.
 fn is_unread_told(rt: &HostRuntime, words: &[&str]) -> Result<bool> {
-    let direct = unread_pipe(rt)?;
-    let below = unread_pipe(rt)?;
-    is_told(rt, words, direct, below)
+    let is_direct = is_told(rt.alloc(), words, unread_pipe(rt)?)?;
+    Ok(is_direct && is_flush_told(rt.alloc(), words, unread_pipe(rt)?)?)
 }
 
 fn unread_pipe(rt: &HostRuntime) -> Result<PipeWriter> {
@@ -174,30 +168,28 @@ fn unread_pipe(rt: &HostRuntime) -> Result<PipeWriter> {
 /// Whether an audit whose reader goes after its first lines reports that it can't write.
 fn is_end_told(rt: &HostRuntime) -> Result<bool> {
     let (reader, writer) = io::pipe(rt)?;
-    let mut out = StreamSink::new(EndingPipe {
-        reader: Some(reader),
-        writer,
-    });
-    let mut err = MemorySink::new(rt.alloc(), 256)?;
-    let mut inputs = MemoryInputs::new(&ENTRIES);
-    let status = command(rt.alloc(), COMMANDS[0], &mut inputs, &mut out, &mut err);
-    Ok(status == DEVICE && err.bytes() == b"pua: cannot write\n".as_slice())
+    let reader = Some(reader);
+    is_told(rt.alloc(), COMMANDS[0], EndingPipe { reader, writer })
 }
 
 /// Files that can't be read, one without bytes, and one that is read whole.
 fn unreadable(rt: &HostRuntime) -> Result<()> {
-    for name in UNREADABLE {
-        if DiskInputs::new(rt).take(rt.alloc(), name) != Err(InputFault::Unreadable) {
-            tell(rt, name, "not unreadable")?;
-        }
+    for name in &UNREADABLE {
+        tell_unless(rt, is_unreadable(rt, name), name, "not unreadable")?;
     }
-    if !is_whole(rt, "/dev/null", b"") {
-        tell(rt, "/dev/null", "not read")?;
-    }
-    if !is_whole(rt, "seven-bytes", b"7 bytes") {
-        tell(rt, "seven-bytes", "not read")?;
-    }
+    let is_read = is_whole(rt, "/dev/null", b"");
+    tell_unless(rt, is_read, "/dev/null", "not read")?;
+    let is_read = is_whole(rt, "seven-bytes", b"7 bytes");
+    tell_unless(rt, is_read, "seven-bytes", "not read")?;
     count(rt, "files", UNREADABLE.len(), "that can't be read")
+}
+
+/// Whether a file can't be read.
+fn is_unreadable(rt: &HostRuntime, name: &str) -> bool {
+    match DiskInputs::new(rt).take(rt.alloc(), name) {
+        Ok(_) => false,
+        Err(fault) => fault == InputFault::Unreadable,
+    }
 }
 
 /// Whether a file is taken, and has these bytes.
@@ -211,19 +203,22 @@ fn is_whole(rt: &HostRuntime, name: &str, bytes: &[u8]) -> bool {
 /// A file with each byte, one after another and many times, that ends in a carriage return: it is read
 /// as it was written.
 fn every_byte(rt: &HostRuntime) -> Result<()> {
-    let mut bytes = Vec::new(rt.alloc());
-    for number in 0..MANY {
-        bytes.push((number & 255) as u8)?;
-    }
-    bytes.push(b'\r')?;
+    let bytes = many_bytes(rt.alloc())?;
     fs::write(rt, "every-byte", bytes.as_slice())?;
     let is_read = is_whole(rt, "every-byte", bytes.as_slice());
     fs::remove_file(rt, "every-byte")?;
-    tell(
-        rt,
-        "a file of 150001 bytes",
-        if is_read { "read" } else { "not read" },
-    )
+    let word = if is_read { "read" } else { "not read" };
+    tell(rt, "a file of 150001 bytes", word)
+}
+
+/// Its bytes.
+fn many_bytes(alloc: Global) -> Result<Vec<u8>> {
+    let mut bytes = Vec::new(alloc);
+    for number in 0..MANY {
+        bytes.push((number % 256) as u8)?;
+    }
+    bytes.push(b'\r')?;
+    Ok(bytes)
 }
 
 /// The commands that are refused, over the two long files, which are taken away afterwards.
@@ -231,9 +226,8 @@ fn refusals(rt: &HostRuntime) -> Result<()> {
     File::create(rt, "longest")?.set_len(LONGEST)?;
     File::create(rt, "longer")?.set_len(LONGEST + 1)?;
     for refusal in &REFUSALS {
-        if !is_refused(rt, refusal)? {
-            tell(rt, "wrong over a long file", str::from_utf8(refusal.line)?)?;
-        }
+        let is_refused = is_refused(rt, refusal)?;
+        tell_unless(rt, is_refused, "wrong over a long file", refusal.line)?;
     }
     fs::remove_file(rt, "longest")?;
     fs::remove_file(rt, "longer")?;
@@ -245,7 +239,7 @@ fn is_refused(rt: &HostRuntime, refusal: &Refusal<'_>) -> Result<bool> {
     let mut inputs = DiskInputs::new(rt);
     let mut out = MemorySink::new(rt.alloc(), 256)?;
     let mut err = MemorySink::new(rt.alloc(), 256)?;
-    let status = command(rt.alloc(), refusal.words, &mut inputs, &mut out, &mut err);
-    let is_told = status == refusal.status && err.bytes() == refusal.line;
+    let status = command_done(rt.alloc(), refusal.words, &mut inputs, &mut out, &mut err);
+    let is_told = status == refusal.status && err.bytes() == refusal.line.as_bytes();
     Ok(is_told && out.bytes().is_empty())
 }

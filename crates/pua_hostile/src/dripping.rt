@@ -12,15 +12,15 @@ use std::io::{self, Read};
 pub(crate) struct DrippingSink {
     bytes: Vec<u8>,
     most: usize,
-    puts: u64,
-    fails_from: u64,
+    puts: usize,
+    fails_from: usize,
     failed: u64,
 }
 
 impl DrippingSink {
     /// A sink that takes at most so many bytes a put, but at least one, and whose puts fail from this
     /// one on.
-    pub(crate) fn new(alloc: Global, most: usize, fails_from: u64) -> DrippingSink {
+    pub(crate) fn new(alloc: Global, most: usize, fails_from: usize) -> DrippingSink {
         DrippingSink {
             bytes: Vec::new(alloc),
             most,
@@ -56,13 +56,13 @@ impl Sink for DrippingSink {
 #[derive(Drop)]
 pub(crate) struct DrippingReader<'a> {
     rest: &'a [u8],
-    reads: u64,
-    fails_at: u64,
+    reads: usize,
+    fails_at: usize,
 }
 
 impl<'a> DrippingReader<'a> {
     /// A reader of these bytes, whose read of this number fails.
-    pub(crate) fn new(bytes: &'a [u8], fails_at: u64) -> DrippingReader<'a> {
+    pub(crate) fn new(bytes: &'a [u8], fails_at: usize) -> DrippingReader<'a> {
         DrippingReader {
             rest: bytes,
             reads: 0,

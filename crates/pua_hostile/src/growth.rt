@@ -10,10 +10,13 @@ mod seen;
 mod texts;
 mod worlds;
 
-use crate::told::tell;
+use crate::told::{tell, tell_unless};
 use crate::trees::ListedTree;
 use anyhow::Result;
 use pua_tree::{ListTree, SlabTree};
+
+/// What is printed before calls of which something was wrong.
+const WRONG: &str = "wrong after a refused growth";
 
 /// Makes the calls, and prints how many of them were refused a growth and made once more, after a
 /// line for each kind of calls of which something was wrong then. It fails where a growth is refused
@@ -22,19 +25,21 @@ pub(crate) fn run(rt: &HostRuntime) -> Result<()> {
     let mut again = 0u32;
     hold::<ListTree>(rt, &mut again)?;
     hold::<SlabTree>(rt, &mut again)?;
-    tell_wrong(rt, "readings", readings::hold(rt.alloc(), &mut again)?)?;
-    tell_wrong(rt, "processes", processes::hold(rt.alloc(), &mut again)?)?;
-    tell_wrong(rt, "texts", texts::hold(rt.alloc(), &mut again)?)?;
+    let alloc = rt.alloc();
+    tell_unless(rt, readings::hold(alloc, &mut again)?, WRONG, "readings")?;
+    tell_unless(rt, processes::hold(alloc, &mut again)?, WRONG, "processes")?;
+    tell_unless(rt, texts::hold(alloc, &mut again)?, WRONG, "texts")?;
     Ok(println!(rt; "{again} calls made once more")?)
 }
 
 /// Makes the calls that are of a tree of this kind.
 fn hold<T: ListedTree>(rt: &HostRuntime, again: &mut u32) -> Result<()> {
-    tell_wrong(rt, "trees", readings::is_listed::<T>(rt.alloc(), again)?)?;
-    tell_wrong(rt, "worlds", worlds::hold::<T>(rt.alloc(), again)?)?;
-    tell_wrong(rt, "audits", lines::hold::<T>(rt.alloc(), again)?)?;
-    tell_wrong(rt, "objects", objects::hold::<T>(rt.alloc(), again)?)?;
-    tell_wrong(rt, "lists for ever", ever::hold::<T>(rt.alloc(), again)?)
+    let alloc = rt.alloc();
+    tell_unless(rt, readings::is_listed::<T>(alloc, again)?, WRONG, "trees")?;
+    tell_unless(rt, worlds::hold::<T>(alloc, again)?, WRONG, "worlds")?;
+    tell_unless(rt, lines::hold::<T>(alloc, again)?, WRONG, "audits")?;
+    tell_unless(rt, objects::hold::<T>(alloc, again)?, WRONG, "objects")?;
+    tell_unless(rt, ever::hold::<T>(alloc, again)?, WRONG, "lists for ever")
 }
 
 /// Whether a growth was refused to a call: that is counted, and the call is to be made once more.
@@ -52,34 +57,37 @@ fn is_refused<T, F: PartialEq + Copy>(
     }
 }
 
-/// Prints a line for calls of which something was wrong.
-fn tell_wrong(rt: &HostRuntime, calls: &str, holds: bool) -> Result<()> {
-    if !holds {
-        tell(rt, "wrong after a refused growth", calls)?;
-    }
-    Ok(())
-}
-
 /// Lists a reach by paths and by objects, and what can ever be touched, over trees of both kinds, and
 /// prints of each list whether it was refused as it began, or is whole: nothing takes memory between the
 /// lines.
 pub(crate) fn list(rt: &HostRuntime) -> Result<()> {
-    tell(rt, "an audit", lines::listed::<ListTree>(rt.alloc()))?;
-    tell(
+    let alloc = rt.alloc();
+    tell_whole(rt, "an audit", lines::is_whole::<ListTree>(alloc))?;
+    tell_whole(
         rt,
         "an audit over slots",
-        lines::listed::<SlabTree>(rt.alloc()),
+        lines::is_whole::<SlabTree>(alloc),
     )?;
-    tell(rt, "objects", objects::listed::<ListTree>(rt.alloc()))?;
-    tell(
+    tell_whole(rt, "objects", objects::is_whole::<ListTree>(alloc))?;
+    tell_whole(
         rt,
         "objects over slots",
-        objects::listed::<SlabTree>(rt.alloc()),
+        objects::is_whole::<SlabTree>(alloc),
     )?;
-    tell(rt, "for ever", ever::listed::<ListTree>(rt.alloc()))?;
-    tell(
+    tell_whole(rt, "for ever", ever::is_whole::<ListTree>(alloc))?;
+    tell_whole(
         rt,
         "for ever, over slots",
-        ever::listed::<SlabTree>(rt.alloc()),
+        ever::is_whole::<SlabTree>(alloc),
     )
+}
+
+/// Prints whether a list is whole; an error is that it was refused as it began.
+fn tell_whole(rt: &HostRuntime, list: &str, is_whole: Result<bool>) -> Result<()> {
+    let word = match is_whole {
+        Ok(true) => "whole",
+        Ok(false) => "wrong",
+        Err(_) => "refused",
+    };
+    tell(rt, list, word)
 }

@@ -1,11 +1,12 @@
 //! The three texts that are cut and varied, and what comes of reading one.
 
+use crate::called::run_done;
 use crate::listed::listing_of;
 use crate::told::is_fault;
 use crate::trees::ListedTree;
 use crate::{LISTING, SCRIPT};
 use anyhow::Result;
-use pua_tool::{MemorySink, ToolFault, run_to};
+use pua_tool::{MemorySink, ToolFault};
 use pua_tree::{ListTree, SlabTree};
 use std::alloc::Global;
 
@@ -63,12 +64,20 @@ pub(crate) fn is_run(
     answer: &str,
 ) -> Result<bool> {
     let mut sink = MemorySink::new(alloc, 1_024)?;
-    match run_to(alloc, LISTING, script, table, &mut sink) {
+    match run_done(alloc, script, table, &mut sink) {
         Ok(()) => is_run_text(alloc, sink.bytes(), answer),
-        Err(ToolFault::Script(fault)) => is_fault(alloc, &fault, answer),
-        Err(ToolFault::Table(fault)) => is_fault(alloc, &fault, answer),
-        Err(_) => Ok(false),
+        Err(fault) => is_refusal(alloc, &fault, answer),
     }
+}
+
+/// Whether a fault is one of a script or of a table, and is told in these words.
+fn is_refusal(alloc: Global, fault: &ToolFault, words: &str) -> Result<bool> {
+    let line = format!(in alloc; "{fault}")?;
+    let line = line.as_str();
+    let told = line
+        .strip_prefix("pua: script: ")
+        .or(line.strip_prefix("pua: table: "));
+    Ok(told == Some(words))
 }
 
 /// Whether this is the text of a run whose requests are answered with the words after `is`.

@@ -7,7 +7,9 @@
 //! how long something takes.
 #![tactic(auto)]
 
+mod audited;
 mod broken;
+mod called;
 mod cuts;
 mod dead;
 mod devices;

@@ -1,5 +1,5 @@
 //! The lines that are printed, each by one function of its form: what prints is long to prove, and all else
-//! hands it texts.
+//! hands it texts. Whether there is a line is chosen here too, since a choice is long to prove inside a loop.
 
 use anyhow::Result;
 use std::alloc::Global;
@@ -15,8 +15,19 @@ pub(crate) fn count(rt: &HostRuntime, what: &str, number: usize, of: &str) -> Re
     Ok(println!(rt; "{what}: {number} {of}")?)
 }
 
-/// Prints that the case of a number is not as it has to be.
-pub(crate) fn wrong(rt: &HostRuntime, what: &str, number: u64) -> Result<()> {
+/// Prints what became of something, unless it is as it has to be.
+pub(crate) fn tell_unless(rt: &HostRuntime, holds: bool, what: &str, word: &str) -> Result<()> {
+    if holds {
+        return Ok(());
+    }
+    tell(rt, what, word)
+}
+
+/// Prints that the case of a number is not as it has to be, unless it is.
+pub(crate) fn wrong_unless(rt: &HostRuntime, holds: bool, what: &str, number: usize) -> Result<()> {
+    if holds {
+        return Ok(());
+    }
     Ok(println!(rt; "{what} {number}: wrong")?)
 }
 

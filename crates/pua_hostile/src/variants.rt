@@ -4,7 +4,7 @@
 use crate::LISTING;
 use crate::inputs::{Input, TABLE_SCRIPT, is_listing, is_run};
 use crate::rows::{Row, read_row};
-use crate::told::{count, tell, wrong};
+use crate::told::{count, tell_unless, wrong_unless};
 use anyhow::Result;
 use std::alloc::Global;
 use std::fs;
@@ -27,27 +27,30 @@ fn variants(rt: &HostRuntime, table: &str, input: Input) -> Result<()> {
     let text = fs::read_to_string(rt, table)?;
     let mut cases = 0usize;
     for line in text.as_str().lines() {
-        if let Some(row) = read_row(line)? {
-            cases = cases.saturating_add(row.second.len());
-            answered(rt, input, &row)?;
-        }
+        cases = cases.saturating_add(row_answered(rt, input, line)?);
     }
-    if cases != input.bytes().len().saturating_mul(OTHERS.len()) {
-        tell(rt, table, "not all variants")?;
-    }
+    let are_all = cases == input.bytes().len().saturating_mul(OTHERS.len());
+    tell_unless(rt, are_all, table, "not all variants")?;
     count(rt, table, cases, "variants")
 }
 
-/// Prints lines for each variant of a row that is answered otherwise: the answer, the place, the letter.
-fn answered(rt: &HostRuntime, input: Input, row: &Row<'_>) -> Result<()> {
+/// Prints lines for each variant of a row that is answered otherwise; how many it has.
+fn row_answered(rt: &HostRuntime, input: Input, line: &str) -> Result<usize> {
+    let Some(row) = read_row(line)? else {
+        return Ok(0);
+    };
     for letter in row.second.bytes() {
-        if !is_answered(rt.alloc(), input, row, letter)? {
-            tell(rt, "a variant is not so", row.answer)?;
-            wrong(rt, "its byte of the place", u64::from(row.first))?;
-            wrong(rt, "its byte with the letter", u64::from(letter))?;
-        }
+        variant_answered(rt, input, &row, letter)?;
     }
-    Ok(())
+    Ok(row.second.len())
+}
+
+/// Prints lines for a variant if it is answered otherwise: the answer, the place, the letter.
+fn variant_answered(rt: &HostRuntime, input: Input, row: &Row<'_>, letter: u8) -> Result<()> {
+    let holds = is_answered(rt.alloc(), input, row, letter)?;
+    tell_unless(rt, holds, "a variant is not so", row.answer)?;
+    wrong_unless(rt, holds, "its byte of the place", row.first as usize)?;
+    wrong_unless(rt, holds, "its byte with the letter", usize::from(letter))
 }
 
 /// Whether this is what comes of the variant with the byte of this letter at the row's place.

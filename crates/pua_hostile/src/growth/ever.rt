@@ -70,8 +70,19 @@ const LINES: [Wanted; 8] = [
 pub(crate) fn hold<T: ListedTree>(alloc: Global, again: &mut u32) -> Result<bool> {
     let tree = tree_read::<T>(alloc, LISTING, again)?;
     let process = spooler(alloc)?;
-    let mut list = begun_again(alloc, &tree, &process, again)?;
+    let Ok(mut list) = begun_again(alloc, &tree, &process, again) else {
+        bail!("there is no list for ever");
+    };
     Ok(is_listed(&mut list))
+}
+
+/// The list of a process.
+fn begun<'t, T: FileTree>(
+    alloc: Global,
+    tree: &'t T,
+    process: &'t Process,
+) -> Result<Ever<'t, T>, EverFault> {
+    Ever::begin(alloc, tree, process, &CallTable::standard())
 }
 
 fn begun_again<'t, T: FileTree>(
@@ -79,47 +90,41 @@ fn begun_again<'t, T: FileTree>(
     tree: &'t T,
     process: &'t Process,
     again: &mut u32,
-) -> Result<Ever<'t, T>> {
-    let table = CallTable::standard();
-    let mut list = Ever::begin(alloc, tree, process, &table);
+) -> Result<Ever<'t, T>, EverFault> {
+    let mut list = begun(alloc, tree, process);
     if is_refused(&list, EverFault::OutOfMemory, again) {
-        list = Ever::begin(alloc, tree, process, &table);
+        list = begun(alloc, tree, process);
     }
-    match list {
-        Ok(list) => Ok(list),
-        Err(_) => bail!("there is no list for ever"),
-    }
+    list
 }
 
-/// How a list over such a tree is given: refused before the first line, or whole, or otherwise. It
+/// Whether a list over such a tree is given whole; an error where it was refused before the first line. It
 /// takes memory before the first line alone.
-pub(crate) fn listed<T: ListedTree>(alloc: Global) -> &'static str {
-    let Ok(tree) = T::read(alloc, LISTING) else {
-        return "refused";
+pub(crate) fn is_whole<T: ListedTree>(alloc: Global) -> Result<bool> {
+    let tree = T::read(alloc, LISTING)?;
+    let process = spooler(alloc)?;
+    let Ok(mut list) = begun(alloc, &tree, &process) else {
+        bail!("there is no list for ever");
     };
-    let Ok(process) = spooler(alloc) else {
-        return "refused";
-    };
-    let Ok(mut list) = Ever::begin(alloc, &tree, &process, &CallTable::standard()) else {
-        return "refused";
-    };
-    if is_listed(&mut list) {
-        "whole"
-    } else {
-        "wrong"
-    }
+    Ok(is_listed(&mut list))
 }
 
 /// Whether a list gives each of the lines in turn, and then none.
 fn is_listed<T: FileTree>(list: &mut Ever<'_, T>) -> bool {
     for (thing, calls) in &LINES {
-        let wanted = EverLine {
-            thing: *thing,
-            calls: set_of(calls),
-        };
-        if list.next_line() != Some(wanted) {
+        if !is_next(list, *thing, calls) {
             return false;
         }
     }
-    list.next_line().is_none()
+    next_line(list).is_none()
+}
+
+/// Whether a list gives next a line about this, of these calls.
+fn is_next<T: FileTree>(list: &mut Ever<'_, T>, thing: EverThing, calls: &[Call]) -> bool {
+    let calls = set_of(calls);
+    next_line(list) == Some(EverLine { thing, calls })
+}
+
+fn next_line<T: FileTree>(list: &mut Ever<'_, T>) -> Option<EverLine> {
+    list.next_line()
 }

@@ -1,15 +1,13 @@
 //! An audit that is begun once more where a growth was refused, and lists its lines whole whatever
 //! is refused then.
 
-ghost use Rattle.std.specs.Prelude.{◌≡◌, IfOk};
-
 use crate::LISTING;
+use crate::audited::TreeAudit;
 use crate::growth::is_refused;
 use crate::growth::readings::tree_read;
 use crate::trees::ListedTree;
 use anyhow::Result;
-use pua_audit::{Audit, AuditFault, Base, Line};
-use pua_path::Counted;
+use pua_audit::AuditFault;
 use pua_policy::{Call, CallTable, Perms, Place, Process};
 use pua_tree::{FileTree, Name, NodeId};
 use std::alloc::Global;
@@ -38,43 +36,40 @@ pub(crate) fn hold<T: ListedTree>(alloc: Global, again: &mut u32) -> Result<bool
     let tree = tree_read::<T>(alloc, LISTING, again)?;
     let process = reader(alloc)?;
     let mut audit = begun_again(alloc, &tree, &process, again)?;
-    Ok(is_listed(&tree, &mut audit))
+    Ok(is_listed(&mut audit))
 }
 
-fn begun_again<T: FileTree>(
+/// The audit of a process.
+fn begun<'t, T: FileTree>(
     alloc: Global,
-    tree: &T,
+    tree: &'t T,
+    process: &Process,
+) -> Result<TreeAudit<'t, T>, AuditFault> {
+    TreeAudit::begin(alloc, tree, process, &CallTable::standard(), &[], LIMIT)
+}
+
+fn begun_again<'t, T: FileTree>(
+    alloc: Global,
+    tree: &'t T,
     process: &Process,
     again: &mut u32,
-) -> Result<Audit, AuditFault>
-    ensures { IfOk result (λ audit. audit.tree ≡ T.content tree.now) }
-{
-    let first = begun(alloc, tree, process, &[], LIMIT);
-    if is_refused(&first, AuditFault::OutOfMemory, again) {
-        return begun(alloc, tree, process, &[], LIMIT);
+) -> Result<TreeAudit<'t, T>, AuditFault> {
+    let mut audit = begun(alloc, tree, process);
+    if is_refused(&audit, AuditFault::OutOfMemory, again) {
+        audit = begun(alloc, tree, process);
     }
-    first
+    audit
 }
 
-/// How an audit over such a tree is listed: refused before the first line, or whole, or otherwise. It
-/// takes memory before the first line alone.
-pub(crate) fn listed<T: ListedTree>(alloc: Global) -> &'static str {
-    let Ok(tree) = T::read(alloc, LISTING) else {
-        return "refused";
-    };
-    let Ok(process) = reader(alloc) else {
-        return "refused";
-    };
-    match begun(alloc, &tree, &process, &[], LIMIT) {
-        Ok(mut audit) => {
-            if is_listed(&tree, &mut audit) {
-                "whole"
-            } else {
-                "wrong"
-            }
-        }
-        Err(AuditFault::OutOfMemory) => "refused",
-        Err(_) => "wrong",
+/// Whether an audit over such a tree is listed whole; an error where a growth was refused before the first
+/// line. It takes memory before the first line alone.
+pub(crate) fn is_whole<T: ListedTree>(alloc: Global) -> Result<bool> {
+    let tree = T::read(alloc, LISTING)?;
+    let process = reader(alloc)?;
+    match begun(alloc, &tree, &process) {
+        Ok(mut audit) => Ok(is_listed(&mut audit)),
+        Err(fault) if fault == AuditFault::OutOfMemory => Err(fault.into()),
+        Err(_) => Ok(false),
     }
 }
 
@@ -87,47 +82,12 @@ fn reader(alloc: Global) -> Result<Process> {
     Ok(process)
 }
 
-/// The audit of a process from the root, with these candidates and this limit.
-pub(crate) fn begun<T: FileTree>(
-    alloc: Global,
-    tree: &T,
-    process: &Process,
-    candidates: &[&[u8]],
-    limit: u8,
-) -> Result<Audit, AuditFault>
-    ensures { IfOk result (λ audit. audit.tree ≡ T.content tree.now) }
-{
-    let mut probe = Counted::new(tree);
-    let table = CallTable::standard();
-    Audit::begin(
-        alloc,
-        &mut probe,
-        process,
-        &table,
-        Base::Root,
-        candidates,
-        limit,
-        None,
-    )
-}
-
 /// Whether an audit lends each of the lines in turn, and then none.
-fn is_listed<T: FileTree>(tree: &T, audit: &mut Audit) -> bool
-    requires { audit.old.tree ≡ T.content tree.now }
-{
-    let mut probe = Counted::new(tree);
-    for (path, call) in &LINES {
-        if !is_line(audit.next_line(&mut probe), path, *call) {
+fn is_listed<T: FileTree>(audit: &mut TreeAudit<'_, T>) -> bool {
+    for line in &LINES {
+        if !audit.lends(Some(*line)) {
             return false;
         }
     }
-    audit.next_line(&mut probe).is_none()
-}
-
-/// Whether a line was lent, and is of this path and call.
-fn is_line(line: Option<Line<'_>>, path: &[u8], call: Call) -> bool {
-    match line {
-        Some(line) => line.path == path && line.call == call,
-        None => false,
-    }
+    audit.lends(None)
 }

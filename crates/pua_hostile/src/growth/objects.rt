@@ -42,37 +42,35 @@ pub(crate) fn hold<T: ListedTree>(alloc: Global, again: &mut u32) -> Result<bool
     Ok(is_listed(&mut objects))
 }
 
+/// The list of a process.
+fn begun<'t, T: FileTree>(
+    alloc: Global,
+    tree: &'t T,
+    process: &'t Process,
+) -> Result<Objects<'t, T>, OutOfMemory> {
+    Objects::begin(alloc, tree, process, &CallTable::standard())
+}
+
 fn begun_again<'t, T: FileTree>(
     alloc: Global,
     tree: &'t T,
     process: &'t Process,
     again: &mut u32,
-) -> Result<Objects<'t, T>> {
-    let table = CallTable::standard();
-    let mut objects = Objects::begin(alloc, tree, process, &table);
+) -> Result<Objects<'t, T>, OutOfMemory> {
+    let mut objects = begun(alloc, tree, process);
     if is_refused(&objects, OutOfMemory, again) {
-        objects = Objects::begin(alloc, tree, process, &table);
+        objects = begun(alloc, tree, process);
     }
-    Ok(objects?)
+    objects
 }
 
-/// How a list over such a tree is given: refused before the first line, or whole, or otherwise. It
-/// takes memory before the first line alone.
-pub(crate) fn listed<T: ListedTree>(alloc: Global) -> &'static str {
-    let Ok(tree) = T::read(alloc, LISTING) else {
-        return "refused";
-    };
-    let Ok(process) = spooler(alloc) else {
-        return "refused";
-    };
-    let Ok(mut objects) = Objects::begin(alloc, &tree, &process, &CallTable::standard()) else {
-        return "refused";
-    };
-    if is_listed(&mut objects) {
-        "whole"
-    } else {
-        "wrong"
-    }
+/// Whether a list over such a tree is given whole; an error where a growth was refused before the first
+/// line. It takes memory before the first line alone.
+pub(crate) fn is_whole<T: ListedTree>(alloc: Global) -> Result<bool> {
+    let tree = T::read(alloc, LISTING)?;
+    let process = spooler(alloc)?;
+    let mut objects = begun(alloc, &tree, &process)?;
+    Ok(is_listed(&mut objects))
 }
 
 /// A locked process that may write into a directory under one name alone.
@@ -98,20 +96,26 @@ fn place_of(dir: NodeId, name: &[u8]) -> Result<Place> {
 /// Whether a list gives each of the lines in turn, and then none.
 fn is_listed<T: FileTree>(objects: &mut Objects<'_, T>) -> bool {
     for (kind, names, calls) in &LINES {
-        let line = objects.next_line();
-        if !is_line(line, *kind, calls) || !is_word(objects.word(), names) {
+        if !is_next(objects, *kind, names, calls) {
             return false;
         }
     }
-    objects.next_line().is_none()
+    next_line(objects).is_none()
 }
 
-/// Whether a line was given, and is of this kind and of these calls.
-fn is_line(line: Option<ObjectLine>, kind: ObjectKind, calls: &[Call]) -> bool {
-    match line {
-        Some(line) => line.kind == kind && line.calls == set_of(calls),
-        None => false,
-    }
+/// Whether a list gives next a line of this kind and of these calls, behind these names.
+fn is_next<T: FileTree>(
+    objects: &mut Objects<'_, T>,
+    kind: ObjectKind,
+    names: &[&[u8]],
+    calls: &[Call],
+) -> bool {
+    let calls = set_of(calls);
+    next_line(objects) == Some(ObjectLine { kind, calls }) && is_word(objects.word(), names)
+}
+
+fn next_line<T: FileTree>(objects: &mut Objects<'_, T>) -> Option<ObjectLine> {
+    objects.next_line()
 }
 
 /// The set of some calls.

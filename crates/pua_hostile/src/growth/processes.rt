@@ -19,17 +19,30 @@ pub(crate) fn hold(alloc: Global, again: &mut u32) -> Result<bool> {
     let tree = tree_read::<ListTree>(alloc, LISTING, again)?;
     let mut process = process_made(alloc, again)?;
     pledge(&mut process)?;
-    let mut is_kept = true;
-    for (before, dir) in DIRS.iter().enumerate() {
-        if !is_unveiled(alloc, &tree, &mut process, before, *dir, again)? {
-            is_kept = false;
-        }
-    }
+    let are_put = are_unveiled(alloc, &tree, &mut process, again)?;
     let copy = process_copied(alloc, &process, again)?;
     let wanted = process_seen(alloc, &tree, &with_veils(alloc, DIRS.len())?)?;
-    let seen = process_seen(alloc, &tree, &process)?;
-    let copied = process_seen(alloc, &tree, &copy)?;
-    Ok(is_kept && seen.as_slice() == wanted.as_slice() && copied.as_slice() == wanted.as_slice())
+    let is_kept = is_seen(alloc, &tree, &process, wanted.as_slice())?;
+    Ok(are_put && is_kept && is_seen(alloc, &tree, &copy, wanted.as_slice())?)
+}
+
+/// Whether that can be seen of a process.
+fn is_seen(alloc: Global, tree: &ListTree, process: &Process, wanted: &[u8]) -> Result<bool> {
+    Ok(process_seen(alloc, tree, process)?.as_slice() == wanted)
+}
+
+/// Whether a process takes all veils, one by one.
+fn are_unveiled(
+    alloc: Global,
+    tree: &ListTree,
+    process: &mut Process,
+    again: &mut u32,
+) -> Result<bool> {
+    let mut is_kept = true;
+    for (before, dir) in DIRS.iter().enumerate() {
+        is_kept = is_unveiled(alloc, tree, process, before, *dir, again)? && is_kept;
+    }
+    Ok(is_kept)
 }
 
 fn process_made(alloc: Global, again: &mut u32) -> Result<Process> {
@@ -56,6 +69,11 @@ fn pledge(process: &mut Process) -> Result<()> {
     }
 }
 
+/// Puts a veil on a directory.
+fn unveil(process: &mut Process, dir: u32) -> Result<(), UnveilFault> {
+    process.unveil_at(Place::Dir(NodeId::new(dir)), Perms::READ)
+}
+
 /// Whether a process that has the first veils takes the one of this directory, and is as it was
 /// where a growth is refused to that.
 fn is_unveiled(
@@ -66,18 +84,14 @@ fn is_unveiled(
     dir: u32,
     again: &mut u32,
 ) -> Result<bool> {
-    let place = Place::Dir(NodeId::new(dir));
-    match process.unveil_at(place, Perms::READ) {
-        Ok(()) => Ok(true),
-        Err(UnveilFault::OutOfMemory) => {
-            *again = again.saturating_add(1);
-            let seen = process_seen(alloc, tree, process)?;
-            let wanted = process_seen(alloc, tree, &with_veils(alloc, before)?)?;
-            let is_taken = process.unveil_at(place, Perms::READ) == Ok(());
-            Ok(is_taken && seen.as_slice() == wanted.as_slice())
-        }
-        Err(fault) => Err(fault.into()),
+    let put = unveil(process, dir);
+    if !is_refused(&put, UnveilFault::OutOfMemory, again) {
+        put?;
+        return Ok(true);
     }
+    let wanted = process_seen(alloc, tree, &with_veils(alloc, before)?)?;
+    let is_same = is_seen(alloc, tree, process, wanted.as_slice())?;
+    Ok(unveil(process, dir).is_ok() && is_same)
 }
 
 /// A process with so many of the veils.
@@ -85,7 +99,7 @@ fn with_veils(alloc: Global, count: usize) -> Result<Process> {
     let mut process = Process::new(alloc)?;
     pledge(&mut process)?;
     for dir in DIRS.iter().take(count) {
-        process.unveil_at(Place::Dir(NodeId::new(*dir)), Perms::READ)?;
+        unveil(&mut process, *dir)?;
     }
     Ok(process)
 }

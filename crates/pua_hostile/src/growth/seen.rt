@@ -1,34 +1,15 @@
 //! What can be seen of processes and worlds, as a text: before and after a refusal it is the same.
 
-ghost use Rattle.std.specs.Prelude.{◌≡◌};
-
-use crate::growth::lines::begun;
+use crate::audited::TreeAudit;
 use crate::listed::listing_of;
 use anyhow::Result;
-use pua_audit::Audit;
-use pua_path::Counted;
-use pua_policy::Process;
+use pua_policy::{CallTable, Process};
 use pua_script::World;
 use pua_tree::FileTree;
 use std::alloc::Global;
 
 /// Processes have numbers up to this one, in the worlds that are looked at here.
 const PROCESSES: u32 = 3;
-
-/// All lines that an audit has still to lend: each path in plain bytes, and the call after a blank.
-fn lines_of<T: FileTree>(alloc: Global, tree: &T, audit: &mut Audit) -> Result<Vec<u8>>
-    requires { audit.old.tree ≡ T.content tree.now }
-{
-    let mut lines = Vec::new(alloc);
-    let mut probe = Counted::new(tree);
-    while let Some(line) = audit.next_line(&mut probe) {
-        lines.extend_from_slice(line.path)?;
-        lines.push(b' ')?;
-        lines.extend_from_slice(line.call.name().as_bytes())?;
-        lines.push(b'\n')?;
-    }
-    Ok(lines)
-}
 
 /// The working directory of a process, whether it is locked or has ended, and its reach by paths of
 /// two components, one of which may be a name that nothing has.
@@ -44,8 +25,9 @@ pub(crate) fn process_seen<T: FileTree>(
 }
 
 fn reach_seen<T: FileTree>(alloc: Global, tree: &T, process: &Process) -> Result<Vec<u8>> {
-    let mut audit = begun(alloc, tree, process, &[b"new"], 2)?;
-    lines_of(alloc, tree, &mut audit)
+    let table = CallTable::standard();
+    let mut audit = TreeAudit::begin(alloc, tree, process, &table, &[b"new"], 2)?;
+    audit.lines(alloc)
 }
 
 fn state_seen(alloc: Global, process: &Process) -> Result<String> {
@@ -58,11 +40,21 @@ fn state_seen(alloc: Global, process: &Process) -> Result<String> {
 pub(crate) fn world_seen<T: FileTree>(alloc: Global, world: &World<T>) -> Result<Vec<u8>> {
     let mut text = listing_of(alloc, world.tree())?;
     for number in 1..=PROCESSES {
-        if let Some(process) = world.process(number) {
-            let seen = process_seen(alloc, world.tree(), process)?;
-            text.extend_from_slice(seen.as_slice())?;
-        }
-        text.extend_from_slice(b"process\n")?;
+        add_process(alloc, world, number, &mut text)?;
     }
     Ok(text)
+}
+
+/// Adds what can be seen of the process of a number, if there is one.
+fn add_process<T: FileTree>(
+    alloc: Global,
+    world: &World<T>,
+    number: u32,
+    text: &mut Vec<u8>,
+) -> Result<()> {
+    if let Some(process) = world.process(number) {
+        let seen = process_seen(alloc, world.tree(), process)?;
+        text.extend_from_slice(seen.as_slice())?;
+    }
+    Ok(text.extend_from_slice(b"process\n")?)
 }

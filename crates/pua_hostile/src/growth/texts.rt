@@ -2,13 +2,13 @@
 //! by the first call, and the second writes everything.
 
 use crate::LISTING;
+use crate::called::{audit_done, command_done, ever_done, objects_done, run_done};
 use crate::growth::is_refused;
 use anyhow::Result;
 use pua_audit::Base;
 use pua_policy::Rules;
 use pua_tool::{
-    DONE, Job, MEMORY, MemoryInputs, MemorySink, Processes, Sink, TableChoice, ToolFault, audit_to,
-    command, ever_to, objects_to, run_to,
+    DONE, Job, MEMORY, MemoryInputs, MemorySink, Processes, Sink, TableChoice, ToolFault,
 };
 use pua_tree::OutOfMemory;
 use std::alloc::Global;
@@ -34,9 +34,6 @@ const OBJECTS: &[u8] =
 const EVER: &[u8] =
     b"1 ok\n2 ok\never 1\nprocess alive\npromises -\nexecpromises -\nunveil locked\nveil /etc/passwd r\nfile /etc/passwd stat,lstat,open-r,chmod\n";
 
-/// Of which processes the list is.
-const PROCESSES: Processes = Processes::All;
-
 /// By which table the texts are.
 const TABLES: TableChoice<'static> = TableChoice {
     rules: Rules::Profile,
@@ -52,6 +49,9 @@ const JOB: Job<'static> = Job {
     table: Some(TABLE),
     candidates: &[],
 };
+
+/// The words of the command that does the same.
+const WORDS: [&str; 7] = ["audit", "--limit", "3", "--table", "C", "T", "S"];
 
 /// For how many bytes a sink has room.
 const ROOM: usize = 512;
@@ -69,24 +69,27 @@ impl Asked {
     /// Writes it into a sink.
     fn put(self, alloc: Global, sink: &mut MemorySink) -> Result<(), ToolFault> {
         match self {
-            Asked::Run => run_to(alloc, LISTING, SCRIPT, Some(TABLE), sink),
-            Asked::Objects => objects_to(alloc, LISTING, SCRIPT, TABLES, PROCESSES, sink),
-            Asked::Ever => ever_to(alloc, LISTING, SCRIPT, TABLES, 1, sink),
-            Asked::Audit => audit_to(alloc, LISTING, SCRIPT, &JOB, sink),
+            Asked::Run => run_done(alloc, SCRIPT, Some(TABLE), sink),
+            Asked::Objects => objects_done(alloc, SCRIPT, TABLES, Processes::All, sink),
+            Asked::Ever => ever_done(alloc, SCRIPT, TABLES, 1, sink),
+            Asked::Audit => audit_done(alloc, LISTING, SCRIPT, &JOB, sink),
         }
     }
 }
 
+/// What is asked for, and the text that is written then.
+const TEXTS: [(Asked, &[u8]); 4] = [
+    (Asked::Run, RUN),
+    (Asked::Objects, OBJECTS),
+    (Asked::Ever, EVER),
+    (Asked::Audit, AUDIT),
+];
+
 /// Whether all is written as it has to be.
 pub(crate) fn hold(alloc: Global, again: &mut u32) -> Result<bool> {
     let mut holds = is_filled(alloc, again)?;
-    for (asked, text) in [
-        (Asked::Run, RUN),
-        (Asked::Objects, OBJECTS),
-        (Asked::Ever, EVER),
-        (Asked::Audit, AUDIT),
-    ] {
-        holds = is_written(alloc, asked, text, again)? && holds;
+    for (asked, text) in &TEXTS {
+        holds = is_written(alloc, *asked, text, again)? && holds;
     }
     Ok(is_done(alloc, again)? && holds)
 }
@@ -110,27 +113,25 @@ fn is_filled(alloc: Global, again: &mut u32) -> Result<bool> {
 fn is_written(alloc: Global, asked: Asked, text: &[u8], again: &mut u32) -> Result<bool> {
     let mut sink = sink_made(alloc, again)?;
     let mut answer = asked.put(alloc, &mut sink);
-    let mut is_empty = true;
-    if answer == Err(ToolFault::OutOfMemory) {
-        *again = again.saturating_add(1);
-        is_empty = sink.bytes().is_empty();
+    if is_refused(&answer, ToolFault::OutOfMemory, again) {
+        let is_empty = sink.bytes().is_empty();
         answer = asked.put(alloc, &mut sink);
+        return Ok(is_empty && answer.is_ok() && sink.bytes() == text);
     }
-    Ok(is_empty && answer == Ok(()) && sink.bytes() == text)
+    Ok(answer.is_ok() && sink.bytes() == text)
 }
 
 /// Whether the program writes the audit whole, and reports the refusal alone where there is one.
 fn is_done(alloc: Global, again: &mut u32) -> Result<bool> {
-    let words = ["audit", "--limit", "3", "--table", "C", "T", "S"];
     let entries = [("T", LISTING), ("S", SCRIPT), ("C", TABLE)];
     let mut inputs = MemoryInputs::new(&entries);
     let (mut out, mut err) = (sink_made(alloc, again)?, sink_made(alloc, again)?);
-    let mut status = command(alloc, &words, &mut inputs, &mut out, &mut err);
+    let mut status = command_done(alloc, &WORDS, &mut inputs, &mut out, &mut err);
     let mut line = b"".as_slice();
     if status == MEMORY && out.bytes().is_empty() {
         *again = again.saturating_add(1);
         line = b"pua: out of memory\n";
-        status = command(alloc, &words, &mut inputs, &mut out, &mut err);
+        status = command_done(alloc, &WORDS, &mut inputs, &mut out, &mut err);
     }
     Ok(status == DONE && out.bytes() == AUDIT && err.bytes() == line)
 }

@@ -2,6 +2,7 @@
 //! world that is as it was.
 
 use crate::LISTING;
+use crate::growth::is_refused;
 use crate::growth::readings::{script_read, tree_read};
 use crate::growth::seen::world_seen;
 use crate::listed::listing_of;
@@ -10,6 +11,7 @@ use anyhow::Result;
 use pua_path::Errno;
 use pua_policy::CallTable;
 use pua_script::{Answer, Request, Script, World, WorldFault};
+use pua_tree::OutOfMemory;
 use std::alloc::Global;
 
 /// Requests that take memory: edits, further names, veils at new places, copies of a process.
@@ -55,18 +57,32 @@ pub(crate) fn hold<T: ListedTree>(alloc: Global, again: &mut u32) -> Result<bool
     Ok(is_served && is_left && is_run::<T>(alloc, &script, again)?)
 }
 
+/// A world over a tree.
+fn world_over<T: ListedTree>(alloc: Global, tree: T) -> Result<World<T>, OutOfMemory> {
+    World::new(alloc, tree, CallTable::standard())
+}
+
 /// A world of the tree; where it is refused a growth, the tree is gone and read once more.
 fn world_made<T: ListedTree>(alloc: Global, again: &mut u32) -> Result<World<T>> {
-    let tree = tree_read::<T>(alloc, LISTING, again)?;
-    let table = CallTable::standard();
-    match World::new(alloc, tree, table) {
-        Ok(world) => Ok(world),
-        Err(_) => {
-            *again = again.saturating_add(1);
-            let tree = tree_read::<T>(alloc, LISTING, again)?;
-            Ok(World::new(alloc, tree, table)?)
-        }
+    let mut world = world_over(alloc, tree_read::<T>(alloc, LISTING, again)?);
+    if is_refused(&world, OutOfMemory, again) {
+        world = world_over(alloc, tree_read::<T>(alloc, LISTING, again)?);
     }
+    Ok(world?)
+}
+
+/// What a request is answered.
+fn applied<T: ListedTree>(world: &mut World<T>, request: &Request) -> Result<Answer, WorldFault> {
+    world.apply(request)
+}
+
+/// What all requests are answered.
+fn served<T: ListedTree>(
+    alloc: Global,
+    world: &mut World<T>,
+    script: &Script,
+) -> Result<Vec<Answer>, WorldFault> {
+    world.run(alloc, script)
 }
 
 /// Whether each request is answered as it has to be.
@@ -76,37 +92,39 @@ fn is_served<T: ListedTree>(
     script: &Script,
     again: &mut u32,
 ) -> Result<bool> {
-    let mut is_answered = script.requests().len() == ANSWERS.len();
-    for (before, (request, wanted)) in script.requests().iter().zip(ANSWERS.iter()).enumerate() {
-        match world.apply(request) {
-            Ok(answer) if answer == *wanted => {}
-            Ok(_) => is_answered = false,
-            Err(WorldFault::OutOfMemory) => {
-                *again = again.saturating_add(1);
-                let is_same = is_after(alloc, world, script, before)?;
-                let is_wanted = is_answered_with(world, request, *wanted)?;
-                is_answered = is_answered && is_same && is_wanted;
-            }
-        }
+    let mut is_answered = script.requests().len() == REQUESTS;
+    for (before, request) in script.requests().iter().enumerate() {
+        let answer = answer_again(alloc, world, script, before, request, again)?;
+        is_answered = is_answered && answer == ANSWERS.get(before).copied();
     }
     Ok(is_answered)
 }
 
-/// Whether a request is answered with this.
-fn is_answered_with<T: ListedTree>(
+/// What a request is answered, before which so many were served; None where a growth was refused to it and
+/// the world was then not as it had been.
+fn answer_again<T: ListedTree>(
+    alloc: Global,
     world: &mut World<T>,
+    script: &Script,
+    before: usize,
     request: &Request,
-    wanted: Answer,
-) -> Result<bool> {
-    let answer = world.apply(request)?;
-    Ok(answer == wanted)
+    again: &mut u32,
+) -> Result<Option<Answer>> {
+    let answer = applied(world, request);
+    if !is_refused(&answer, WorldFault::OutOfMemory, again) {
+        return Ok(Some(answer?));
+    }
+    if !is_after(alloc, world, script, before)? {
+        return Ok(None);
+    }
+    Ok(Some(applied(world, request)?))
 }
 
 /// What can be seen of a world that served so many requests, the first ones.
 fn seen_after<T: ListedTree>(alloc: Global, script: &Script, count: usize) -> Result<Vec<u8>> {
     let mut world = world_made::<T>(alloc, &mut 0)?;
     for request in script.requests().iter().take(count) {
-        world.apply(request)?;
+        applied(&mut world, request)?;
     }
     world_seen(alloc, &world)
 }
@@ -126,16 +144,14 @@ fn is_after<T: ListedTree>(
 /// that of some first requests, and another one answers all of them.
 fn is_run<T: ListedTree>(alloc: Global, script: &Script, again: &mut u32) -> Result<bool> {
     let mut world = world_made::<T>(alloc, again)?;
-    match world.run(alloc, script) {
-        Ok(answers) => Ok(answers.as_slice() == ANSWERS.as_slice()),
-        Err(WorldFault::OutOfMemory) => {
-            *again = again.saturating_add(1);
-            let is_front = is_after_some(alloc, &world, script)?;
-            let mut whole = world_made::<T>(alloc, &mut 0)?;
-            let answers = whole.run(alloc, script)?;
-            Ok(is_front && answers.as_slice() == ANSWERS.as_slice())
-        }
+    let answers = served(alloc, &mut world, script);
+    if !is_refused(&answers, WorldFault::OutOfMemory, again) {
+        return Ok(answers?.as_slice() == ANSWERS.as_slice());
     }
+    let is_front = is_after_some(alloc, &world, script)?;
+    let mut whole = world_made::<T>(alloc, &mut 0)?;
+    let answers = served(alloc, &mut whole, script)?;
+    Ok(is_front && answers.as_slice() == ANSWERS.as_slice())
 }
 
 /// Whether a world is one that served some first requests.
