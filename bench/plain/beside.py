@@ -1,11 +1,11 @@
 #!/usr/bin/env python3
 """Compares audits with lists of objects by the plain program alone: python3 beside.py [WORDS]
 
-It takes the cases of `crates/pua_examples/src/beside.rt`: the stories, the rows whose commands report no fault, and the
-random worlds of `generator.rt`, made once more by `worlds.py`. For each it runs `beside.rs`, with limits that are as long as at
-most WORDS words allow (10,000, as in `deep.rt`), and prints what is not as the list says; then the last two lines of the
-program `pua_examples`: of what goes by the standard table, and of what goes by OpenBSD's rules or by a table from a file. Nothing
-of the crates is run for it, so these lines are no output of theirs."""
+It takes the cases of `crates/pua_examples/src/beside.rt`: the stories, the rows whose commands report no fault and ask for
+no reasons, and the random worlds of `generator.rt`, made once more by `worlds.py`. For each it runs `beside.rs`, with limits
+that are as long as at most WORDS words allow (10,000, as in `deep.rt`), and prints what is not as the list says; then the last
+two lines of the program `pua_examples`: of what goes by the standard table, and of what goes by OpenBSD's rules or by a table
+from a file. Nothing of the crates is run for it, so these lines are no output of theirs."""
 import concurrent.futures
 import pathlib
 import subprocess
@@ -58,8 +58,8 @@ def cases():
         yield story, listing, script, table.read_text() if table.exists() else "", command.split()[1:]
     table = tomllib.loads((EXAMPLES / "data/rows.toml").read_text())
     for row in table["row"]:
-        words = row.get("words") or row["command"].split()
-        if not row.get("fault"):
+        words = row["command"].split(" ")
+        if not row.get("fault") and words[0] != "why" and "--why" not in words:
             yield row["name"], table["tree"][row["tree"]]["listing"], row.get("script", ""), row.get("table", ""), words
     random = Random()
     for number in range(1, 51):

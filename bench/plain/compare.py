@@ -4,7 +4,8 @@
 It runs each story of `examples/` and each row of `examples/rows.toml`, and prints a line for each whose standard
 output, fault line or status is another than expected; an audit that a row has whole is also resumed after each of its
 lines. Then it prints how many there were. PROGRAM can be `pua` itself, or with --no-tables the plain one, which knows the
-standard table of calls alone: commands with the option --table or --rules are left out then. Where PLAIN, the plain one, is given, the
+standard table of calls alone, and no reasons: commands with the option --table, --rules or --why and the command why are left
+out then. Where PLAIN, the plain one, is given, the
 lists of all processes of random worlds are compared too: what it writes of them is expected."""
 import pathlib
 import subprocess
@@ -21,9 +22,15 @@ WORLDS = 500
 counts = {"runs": 0, "differ": 0}
 
 
+def is_left_out(words, status):
+    """Whether a plain program does not know these words."""
+    has_tables = status != 2 and any(word.startswith(("--table", "--rules", "--why")) for word in words)
+    return not HAS_TABLES and (has_tables or words[:1] == ["why"])
+
+
 def run(name, words, folder, output, fault="", status=0):
     """Runs the program in a folder, and judges what it writes."""
-    if status != 2 and not HAS_TABLES and any(word.startswith(("--table", "--rules")) for word in words):
+    if is_left_out(words, status):
         return
     ran = subprocess.run([PROGRAM, *words], cwd=folder, capture_output=True)
     counts["runs"] += 1
@@ -34,7 +41,7 @@ def run(name, words, folder, output, fault="", status=0):
 
 def words_of(row):
     """The words of a row's command, or of one that is none."""
-    return row.get("words") or row["command"].split()
+    return row["command"].split(" ") if "command" in row else []
 
 
 def output_of(row):
@@ -45,7 +52,7 @@ def output_of(row):
     for line in row.get("pairs", "").splitlines():
         path, *calls = line.split()
         lines += [f"{path} {call}" for call in calls]
-    lines += (row.get("state", "") + row.get("lines", "")).splitlines()
+    lines += (row.get("state", "") + row.get("lines", "") + row.get("whole", "")).splitlines()
     return [line + "\n" for line in lines], front
 
 

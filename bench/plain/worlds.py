@@ -70,6 +70,14 @@ class Random:
     def script(self):
         return "1 fork 2\n" + "".join(f"{self.below(2) + 1} {self.request()}\n" for _ in range(7))
 
+    def family_script(self):
+        text = "1 fork 2\n" + "".join(f"1 unveil {self.pick('PATHS')} {self.pick('PERMS')}\n" for _ in range(3))
+        text += "1 unveil - -\n1 fork 3\n"
+        for _ in range(24):
+            text += f"{self.below(4) + 1} "
+            text += (f"fork {self.below(2) + 4}" if self.below(8) == 0 else self.request()) + "\n"
+        return text
+
     def locked_script(self):
         text = "".join(f"1 unveil {self.pick('PATHS')} {self.pick('PERMS')}\n" for _ in range(3)) + "1 unveil - -\n"
         return text + (f"1 pledge {self.pick('PLEDGES')} -\n" if self.below(2) == 0 else "")

@@ -11,7 +11,8 @@ use Rattle.pua_tree.proofs.ForCallers.{Sound, sound_from, row_says, row_of, Some
 use Rattle.pua_path.specs.Resolution.{resolution_of_text}
 use Rattle.pua_path.specs.Fits.{FoundFits, IsOf, StandsAsNamed, is_link, is_link_kind}
 use Rattle.pua_path.specs.declared.errno.Errno.{Errno}
-use Rattle.pua_path.specs.declared.errno.Errno.TheVariants as errno
+use Rattle.pua_policy.specs.Misfits.{misfit_errno}
+use Rattle.pua_policy.specs.declared.reason.Misfit.TheVariants.{IsNotEmpty}
 use Rattle.pua_path.specs.declared.found.Last.{Last}
 use Rattle.pua_path.specs.declared.found.Last.TheVariants.{Followed, Kept}
 use Rattle.pua_path.specs.declared.found.Way.{Way}
@@ -223,7 +224,7 @@ module _ (table : CallTable) (t0 : Tree) (h : History) (well0 : WellFormed t0) (
         let empty : is_empty u d ≡ true = emptied (is_empty u d) e in
         and_from (is_named_way (own_way t0 d)) _ (ap is_named_way own) (and_from (can_empty t0 h d) _ (could_empty table t0 h well0 stand u k d empty) (by empty edit))
       where
-        emptied : (b : Bool) → cond b None (Some errno.ENOTEMPTY) ≡ None → b ≡ true
+        emptied : (b : Bool) → option_map misfit_errno (cond b None (Some IsNotEmpty)) ≡ None → b ≡ true
         emptied true e = refl
         emptied false e = cc
 

@@ -1,11 +1,12 @@
 -- The list of the objects of now lies within the list for ever.
 use Rattle.std.proofs.Common.{◌≡◌, ℕ, zero, suc, List, [], ◌∷◌, ◌++◌, Bool, true, false, cond, map, refl, sym, ap, subst, ◌∙◌, inl, inr}
-use Rattle.std.specs.Prelude.{Option, Some, None, not, ◌&&◌, ◌||◌, ◌==◌, is_none, if◌then◌else◌, flat_map, nat_lt, length}
+use Rattle.std.specs.Prelude.{Option, Some, None, option_map, not, ◌&&◌, ◌||◌, ◌==◌, is_none, if◌then◌else◌, flat_map, nat_lt, length}
 use Rattle.std.specs.List.{list_any}
 use Rattle.std.proofs.lemmas.Bool.{and_parts, and_from, or_right}
 use Rattle.pua_tree.specs.Tree.{Tree, WellFormed, is_dir, look, kind_at, is_empty, has_no_row}
 use Rattle.pua_tree.proofs.ForCallers.{sound_from, row_says}
-use Rattle.pua_path.specs.declared.errno.Errno.TheVariants as errno
+use Rattle.pua_policy.specs.Misfits.{misfit_errno}
+use Rattle.pua_policy.specs.declared.reason.Misfit.TheVariants.{IsNotEmpty}
 use Rattle.pua_path.specs.declared.found.Way.{Way}
 use Rattle.pua_path.specs.declared.found.Way.TheVariants.{Named, Top, Dot, DotDot}
 use Rattle.pua_path.specs.declared.found.Found.TheVariants.{Whole, Slot}
@@ -108,7 +109,7 @@ module _ (t : Tree) (h : History) where
         let none : has_no_row t dir ≡ true = (and_parts (is_dir t dir) (has_no_row t dir) (emptied (is_empty t dir) e)).1 in
         and_from (can_empty t h dir) _ (empty_can t h dir none) (or_right (may_edit table h) _ none)
       where
-        emptied : (b : Bool) → cond b None (Some errno.ENOTEMPTY) ≡ None → b ≡ true
+        emptied : (b : Bool) → option_map misfit_errno (cond b None (Some IsNotEmpty)) ≡ None → b ≡ true
         emptied true e = refl
         emptied false e = cc
 

@@ -1,11 +1,12 @@
 -- The calls of a thing, by what was found for them.
 use Rattle.std.proofs.Common.{◌≡◌, ◌⊎◌, ℕ, List, [], ◌∷◌, Bool, true, false, cond, refl, sym, ap, ◌∙◌, inl, inr}
-use Rattle.std.specs.Prelude.{Option, Some, None, not, ◌&&◌, ◌||◌, ◌==◌, is_none}
+use Rattle.std.specs.Prelude.{Option, Some, None, option_map, not, ◌&&◌, ◌||◌, ◌==◌, is_none}
 use Rattle.std.specs.List.{list_any, list_all}
 use Rattle.std.proofs.lemmas.Bool.{false≢true, and_parts, and_from}
 use Rattle.pua_tree.specs.Tree.{Tree, Spot, is_dir, is_empty, has_no_row, empty_tree}
 use Rattle.pua_path.specs.declared.errno.Errno.{Errno}
-use Rattle.pua_path.specs.declared.errno.Errno.TheVariants.{ENOTEMPTY}
+use Rattle.pua_policy.specs.Misfits.{misfit_errno}
+use Rattle.pua_policy.specs.declared.reason.Misfit.TheVariants.{IsNotEmpty}
 use Rattle.pua_path.specs.declared.found.Way.{Way}
 use Rattle.pua_path.specs.declared.found.Way.TheVariants.{Named, Top, Dot, DotDot}
 use Rattle.pua_path.specs.declared.found.Found.TheVariants.{Whole}
@@ -172,7 +173,7 @@ module _ (t : Tree) (table : CallTable) (h : History) (p : Prospects) (is : IsPr
         own : (w : Way) → object_seen t (IsDir dir w) ≡ cond (empty_now w) see.Removable see.Directory
         own (Named parent name) = by (is_empty t dir)
           where
-            by : (b : Bool) → cond (is_none (cond b None (Some ENOTEMPTY))) see.Removable see.Directory ≡ cond b see.Removable see.Directory
+            by : (b : Bool) → cond (is_none (option_map misfit_errno (cond b None (Some IsNotEmpty)))) see.Removable see.Directory ≡ cond b see.Removable see.Directory
             by true = refl
             by false = refl
         own Top = refl

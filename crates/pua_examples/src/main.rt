@@ -10,12 +10,15 @@ mod beside;
 mod called;
 mod calling;
 mod limits;
+mod lists;
 mod random;
 mod rooms;
 mod rows;
 mod shown;
 mod stories;
+mod told;
 mod walks;
+mod worlds;
 mod written;
 
 use anyhow::Result;
@@ -32,5 +35,6 @@ fn main(rt: HostRuntime) -> Result<()> {
     random::futures::run(&rt)?;
     random::ever::run(&rt)?;
     random::stated::run(&rt)?;
+    random::dated::run(&rt)?;
     beside::run(&rt)
 }

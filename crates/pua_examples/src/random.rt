@@ -4,6 +4,7 @@
 mod about;
 pub(crate) mod case;
 pub(crate) mod cases;
+pub(crate) mod dated;
 pub(crate) mod edits;
 pub(crate) mod ever;
 pub(crate) mod futures;

@@ -1,15 +1,16 @@
 //! What the program prints of itself: its version, and its help, which fits into a terminal of 80 columns.
 
-use crate::written::{Files, SMALL, as_expected};
+use crate::told::{say_unless, tell};
+use crate::written::{Files, Wanted};
 use anyhow::Result;
 use std::alloc::Global;
 use std::fs;
 
 /// The program's version, and the toolchain's line.
-const VERSION: &[u8] = b"pua 0.1.0\nrattle-kit-13b logic dac8208d650f15bf\n";
+const VERSION: &[u8] = b"pua 0.1.0\nrattle-kit-13f logic dac8208d650f15bf\n";
 
 /// The words by which help is asked for, and the files that have its texts.
-const HELP: [(&[&str], &str); 8] = [
+const HELP: [(&[&str], &str); 9] = [
     (&["--help"], "help/pua"),
     (&["-h"], "help/pua"),
     (&["help"], "help/pua"),
@@ -18,6 +19,7 @@ const HELP: [(&[&str], &str); 8] = [
     (&["audit", "-h"], "help/audit"),
     (&["audit", "--help"], "help/audit"),
     (&["objects", "--help"], "help/objects"),
+    (&["why", "--help"], "help/why"),
 ];
 
 /// The most bytes in a line of help. All of them are ASCII.
@@ -27,24 +29,23 @@ const COLUMNS: usize = 80;
 const NO_FILES: Files<'static> = Files {
     tree: b"",
     script: b"",
-    table: None,
+    table: b"",
 };
 
 /// Prints a line for the version, and one for help.
 pub(crate) fn run(rt: &HostRuntime) -> Result<()> {
-    println!(rt; "the version: {}", as_expected(is_version(rt.alloc())?))?;
+    let is_version = is_version(rt.alloc())?;
+    tell(rt, &["the version"], is_version)?;
     help(rt)
 }
 
 /// Whether both words for the version print it.
 fn is_version(alloc: Global) -> Result<bool> {
-    for word in ["--version", "-V"] {
-        let written = NO_FILES.written(alloc, &[word], SMALL)?;
-        if !written.is(0, VERSION, b"") {
-            return Ok(false);
-        }
-    }
-    Ok(true)
+    let version = Wanted::text(VERSION);
+    Ok(
+        NO_FILES.write(alloc, &["--version"], &version)?
+            && NO_FILES.write(alloc, &["-V"], &version)?,
+    )
 }
 
 /// Prints a line for each request for help that is answered with another text than its file's, or with a
@@ -52,17 +53,26 @@ fn is_version(alloc: Global) -> Result<bool> {
 fn help(rt: &HostRuntime) -> Result<()> {
     let mut are_shown = true;
     for (words, file) in &HELP {
-        let help = fs::read_to_string(rt, *file)?;
-        let written = NO_FILES.written(rt.alloc(), words, SMALL)?;
-        let mut is_shown = written.is(0, help.as_bytes(), b"");
-        for line in help.as_str().lines() {
-            is_shown = is_shown && line.len() <= COLUMNS;
-        }
-        if !is_shown {
-            are_shown = false;
-            println!(rt; "not as in {file}, or too wide")?;
+        let is_shown = is_shown(rt, words, file)?;
+        say_unless(rt, is_shown, &["not as in ", file, ", or too wide"])?;
+        are_shown &= is_shown;
+    }
+    tell(rt, &["help in 80 columns"], are_shown)
+}
+
+/// Whether a request for help is answered with the text of a file, each of whose lines is short enough.
+fn is_shown(rt: &HostRuntime, words: &[&str], file: &str) -> Result<bool> {
+    let help = fs::read_to_string(rt, file)?;
+    let is_written = NO_FILES.write(rt.alloc(), words, &Wanted::text(help.as_bytes()))?;
+    Ok(is_written && is_narrow(help.as_str()))
+}
+
+/// Whether no line of a text is too long.
+fn is_narrow(text: &str) -> bool {
+    for line in text.lines() {
+        if line.len() > COLUMNS {
+            return false;
         }
     }
-    println!(rt; "help in 80 columns: {}", as_expected(are_shown))?;
-    Ok(())
+    true
 }

@@ -1,13 +1,15 @@
 //! The stories: each folder has a listing, a script, the words of a command over them, and what it
 //! writes; and the same of a list of objects, also by OpenBSD's rules, and of the list for ever of a
-//! process that can put no veil any more. Some have further commands: all lists, or over another script
-//! or a table of calls.
+//! process that can put no veil any more; and a run and the list of objects with reasons, and what
+//! decides one request. Some have further commands: all lists, or over another script or a table of
+//! calls.
 
-use crate::written::{SMALL, as_expected, run_command};
+use crate::told::tell;
+use crate::written::{Wanted, does_write};
 use anyhow::Result;
-use pua_tool::DiskInputs;
+use pua_tool::{DEVICE, DiskInputs};
+use std::alloc::{AllocError, Global};
 use std::fs;
-use std::rt::Files;
 
 /// The folders of the stories.
 pub(crate) const STORIES: [&str; 17] = [
@@ -59,68 +61,114 @@ const FURTHER: [(&str, &str, &str); 14] = [
     ("drop-box", "openbsd-ever-command", "openbsd-ever-output"),
 ];
 
-/// The stories whose objects by OpenBSD's rules are not those by the standard ones.
-const BY_OPENBSD: [&str; 1] = ["aliases"];
+/// The story whose objects by OpenBSD's rules are not those by the standard ones.
+const BY_OPENBSD: &str = "aliases";
+
+/// With reasons.
+const WHY: [&str; 1] = ["--why"];
 
 /// By OpenBSD's rules.
 const OPENBSD: [&str; 2] = ["--rules", "openbsd"];
 
-/// Prints a line for each folder, which says whether its commands write what the folder has; one
-/// for each further command; one for each folder's objects by OpenBSD's rules; and one for a command whose
-/// listing isn't there.
+/// Prints a line for each folder, which says whether its commands write what the folder has, and one
+/// for each which says so of those with reasons; one for each further command; one for each folder's
+/// objects by OpenBSD's rules; and one for a command whose listing isn't there.
 pub(crate) fn run(rt: &HostRuntime) -> Result<()> {
     for story in &STORIES {
-        let is_told = is_so(rt, story, "command", "output")?;
-        let is_listed = is_so(rt, story, "objects-command", "objects-output")?;
-        let is_lasting = *story == UNLOCKED || is_so(rt, story, "ever-command", "ever-output")?;
-        let seen = as_expected(is_told && is_listed && is_lasting);
-        println!(rt; "{story}: {seen}")?;
-    }
-    for (story, command, output) in &FURTHER {
-        let seen = as_expected(is_so(rt, story, command, output)?);
-        println!(rt; "{story}, {command}: {seen}")?;
+        tell(rt, &[story], is_story(rt, story)?)?;
     }
     for story in &STORIES {
-        let output = if BY_OPENBSD.contains(story) {
-            "openbsd-output"
-        } else {
-            "objects-output"
-        };
-        let seen = as_expected(is_with(rt, story, "objects-command", &OPENBSD, output)?);
-        println!(rt; "{story}, by OpenBSD's rules: {seen}")?;
+        tell(rt, &[story, ", with reasons"], is_reasoned(rt, story)?)?;
     }
-    let seen = as_expected(is_missed(rt)?);
-    println!(rt; "a listing that is not there: {seen}")?;
+    for (story, command, output) in &FURTHER {
+        let is_so = is_so(rt, story, command, output)?;
+        tell(rt, &[story, ", ", command], is_so)?;
+    }
+    run_by_openbsd(rt)?;
+    tell(rt, &["a listing that is not there"], is_missed(rt)?)
+}
+
+/// Prints a line for each folder's objects by OpenBSD's rules.
+fn run_by_openbsd(rt: &HostRuntime) -> Result<()> {
+    for story in &STORIES {
+        let output = openbsd_output(story);
+        let is_so = is_with(rt, story, "objects-command", &OPENBSD, output)?;
+        tell(rt, &[story, ", by OpenBSD's rules"], is_so)?;
+    }
     Ok(())
 }
 
+/// The file of a story that has its objects by OpenBSD's rules.
+fn openbsd_output(story: &str) -> &'static str {
+    if story == BY_OPENBSD {
+        "openbsd-output"
+    } else {
+        "objects-output"
+    }
+}
+
+/// Whether the commands of a story that each has write what its folder has.
+fn is_story(rt: &HostRuntime, story: &str) -> Result<bool> {
+    Ok(
+        is_so(rt, story, "command", "output")?
+            && is_so(rt, story, "objects-command", "objects-output")?
+            && (story == UNLOCKED || is_so(rt, story, "ever-command", "ever-output")?),
+    )
+}
+
+/// Whether the commands with reasons of a story each write what its folder has.
+fn is_reasoned(rt: &HostRuntime, story: &str) -> Result<bool> {
+    Ok(
+        is_so(rt, story, "reasons-command", "reasons-output")?
+            && is_so(rt, story, "why-command", "why-output")?
+            && is_with(rt, story, "objects-command", &WHY, "objects-why-output")?,
+    )
+}
+
 /// Whether the command in one file of a story writes what another one has.
-fn is_so<R: AllocGlobal + Files>(rt: &R, story: &str, command: &str, output: &str) -> Result<bool> {
+fn is_so(rt: &HostRuntime, story: &str, command: &str, output: &str) -> Result<bool> {
     is_with(rt, story, command, &[], output)
 }
 
 /// Whether the command in one file of a story, with further words, writes what another one has.
-fn is_with<R: AllocGlobal + Files>(
-    rt: &R,
+fn is_with(
+    rt: &HostRuntime,
     story: &str,
     command: &str,
     further: &[&str],
     output: &str,
 ) -> Result<bool> {
-    let alloc = rt.alloc();
-    let line = fs::read_to_string(rt, format!(in alloc; "{story}/{command}")?.as_str())?;
-    let output = fs::read(rt, format!(in alloc; "{story}/{output}")?.as_str())?;
-    let own = line.as_str().split_whitespace().skip(1);
-    let words: Vec<&str> = own.chain(further.iter().copied()).collect(alloc)?;
-    let mut inputs = DiskInputs::new(rt);
-    let written = run_command(alloc, words.as_slice(), &mut inputs, SMALL)?;
-    Ok(written.is(0, output.as_slice(), b""))
+    let line = file(rt, story, command)?;
+    let output = file(rt, story, output)?;
+    let mut words = words_of(rt.alloc(), line.as_str())?;
+    words.extend_from_slice(further)?;
+    let wanted = Wanted::text(output.as_bytes());
+    does_write(
+        rt.alloc(),
+        words.as_slice(),
+        &mut DiskInputs::new(rt),
+        &wanted,
+    )
+}
+
+/// What a file of a story has.
+pub(crate) fn file(rt: &HostRuntime, story: &str, name: &str) -> Result<String> {
+    let path = [story, "/", name].concat(rt.alloc())?;
+    Ok(fs::read_to_string(rt, path.as_str())?)
+}
+
+/// The words of a line after the program's name.
+pub(crate) fn words_of(alloc: Global, line: &str) -> Result<Vec<&str>, AllocError> {
+    line.split_whitespace().skip(1).collect(alloc)
 }
 
 /// Whether a command whose listing isn't there reports that, and writes nothing.
-fn is_missed<R: AllocGlobal + Files>(rt: &R) -> Result<bool> {
+fn is_missed(rt: &HostRuntime) -> Result<bool> {
+    let wanted = Wanted {
+        status: DEVICE,
+        out: b"",
+        err: b"pua: cannot read first-run/no-listing\n",
+    };
     let words = ["run", "first-run/no-listing", "first-run/script"];
-    let mut inputs = DiskInputs::new(rt);
-    let written = run_command(rt.alloc(), &words, &mut inputs, SMALL)?;
-    Ok(written.is(3, b"", b"pua: cannot read first-run/no-listing\n"))
+    does_write(rt.alloc(), &words, &mut DiskInputs::new(rt), &wanted)
 }

@@ -3,14 +3,15 @@
 
 use crate::random::case::Case;
 use crate::random::generator::Random;
+use crate::told::say_unless;
 use anyhow::Result;
 
 /// Two directories, a file, a program, and links: to a directory, up and down again, to itself.
 const EXAMPLE: &str =
     "tree 1\n0 dir\n1 dir 0 etc\n2 file 1 passwd\n3 dir 0 tmp\n4 link 0 t tmp\n5 link 3 up ../etc\n6 link 3 self self\n7 prog 3 sh\n";
 
-/// The names in it, and one that is not there.
-const EXAMPLE_LETTERS: [&str; 8] = ["etc", "new", "passwd", "self", "sh", "t", "tmp", "up"];
+/// The letters of its audits: `..`, the names in it, and one that is not there.
+const EXAMPLE_LETTERS: [&str; 9] = ["..", "etc", "new", "passwd", "self", "sh", "t", "tmp", "up"];
 
 /// Scripts over it: of veils, of moves, and of directories that are removed.
 const SCRIPTS: [&str; 6] = [
@@ -30,18 +31,18 @@ const NETS: [&str; 4] = [
     "tree 1\n0 dir\n1 dir 0 d\n2 dir 1 c\n3 link 2 b new\n4 link 0 a d/c/b\n",
 ];
 
-/// The names in them, and one that is not there.
-const NET_LETTERS: [&str; 5] = ["a", "b", "c", "d", "new"];
+/// The letters of their audits: `..`, the names in them, and one that is not there.
+const NET_LETTERS: [&str; 6] = ["..", "a", "b", "c", "d", "new"];
 
 /// The script over each of them.
 const NET_SCRIPT: &str = "1 unveil /a rwxc\n1 unveil /d/c rc\n1 unveil /new rwc\n1 chdir /a\n";
 
 /// Prints a line for each audit that is not as expected, and how many there were.
 pub(crate) fn run(rt: &HostRuntime) -> Result<()> {
-    for script in SCRIPTS {
+    for script in &SCRIPTS {
         compare(rt, EXAMPLE, script, &EXAMPLE_LETTERS)?;
     }
-    for net in NETS {
+    for net in &NETS {
         compare(rt, net, NET_SCRIPT, &NET_LETTERS)?;
     }
     println!(rt; "{} walks", SCRIPTS.len() + NETS.len())?;
@@ -49,19 +50,19 @@ pub(crate) fn run(rt: &HostRuntime) -> Result<()> {
 }
 
 /// Compares the audits from both bases with the filter, whole and resumed after a pair and after each line.
-fn compare(
+fn compare<'x>(
     rt: &HostRuntime,
-    listing: &str,
-    script: &str,
+    listing: &'x str,
+    script: &'x str,
     letters: &'static [&'static str],
 ) -> Result<()> {
-    for base in ["root", "cwd"] {
+    for base in &["root", "cwd"] {
         let case = Case::written(rt.alloc(), listing, script, base, letters)?;
         let filtered = case.filtered(rt.alloc(), &mut Random::new())?;
         let is_whole = case.is_filtered(rt.alloc(), &filtered)?;
-        if !is_whole || !case.goes_on(rt.alloc(), &filtered)? {
-            println!(rt; "not as expected, from {base}: {listing}{script}")?;
-        }
+        let holds = case.goes_on(rt.alloc(), &filtered)? && is_whole;
+        say_unless(rt, holds, &["not as expected, from ", base])?;
+        say_unless(rt, holds, &[listing, script])?;
     }
     Ok(())
 }

@@ -1,48 +1,47 @@
 //! What a command writes.
 
-use anyhow::{Result, anyhow};
+use anyhow::Result;
 use pua_tool::{Inputs, MemoryInputs, MemorySink, command};
 use std::alloc::Global;
 
-/// For how many bytes the outputs of a small command have room.
-pub(crate) const SMALL: usize = 65_536;
-
-/// What a command wrote on both outputs, and its status.
-#[derive(Drop)]
-pub(crate) struct Written {
+/// What a command is to write on both outputs, and its status.
+#[derive(Clone, Copy)]
+pub(crate) struct Wanted<'a> {
     pub(crate) status: u8,
-    pub(crate) out: MemorySink,
-    pub(crate) err: MemorySink,
+    pub(crate) out: &'a [u8],
+    pub(crate) err: &'a [u8],
 }
 
-impl Written {
-    /// Whether it is this and nothing else.
-    pub(crate) fn is(&self, status: u8, out: &[u8], err: &[u8]) -> bool {
-        self.status == status && self.out.bytes() == out && self.err.bytes() == err
+impl<'a> Wanted<'a> {
+    /// This text, and no fault.
+    pub(crate) fn text(out: &'a [u8]) -> Wanted<'a> {
+        Wanted {
+            status: 0,
+            out,
+            err: b"",
+        }
     }
 }
 
-/// Runs a command over inputs, with room for so many bytes on each output.
-pub(crate) fn run_command<I: Inputs>(
+/// Whether a command over inputs writes this and nothing else: each output has no room for more.
+pub(crate) fn does_write<I: Inputs>(
     alloc: Global,
     words: &[&str],
     inputs: &mut I,
-    room: usize,
-) -> Result<Written> {
-    let (Ok(mut out), Ok(mut err)) = (MemorySink::new(alloc, room), MemorySink::new(alloc, SMALL))
-    else {
-        return Err(anyhow!("out of memory"));
-    };
+    wanted: &Wanted<'_>,
+) -> Result<bool> {
+    let mut out = MemorySink::new(alloc, wanted.out.len())?;
+    let mut err = MemorySink::new(alloc, wanted.err.len())?;
     let status = command(alloc, words, inputs, &mut out, &mut err);
-    Ok(Written { status, out, err })
+    Ok(status == wanted.status && out.bytes() == wanted.out && err.bytes() == wanted.err)
 }
 
-/// The bytes of the files TREE and SCRIPT, and of the file TABLE, if there is one.
+/// The bytes of the files TREE, SCRIPT and TABLE.
 #[derive(Clone, Copy)]
 pub(crate) struct Files<'a> {
     pub(crate) tree: &'a [u8],
     pub(crate) script: &'a [u8],
-    pub(crate) table: Option<&'a [u8]>,
+    pub(crate) table: &'a [u8],
 }
 
 impl<'a> Files<'a> {
@@ -51,32 +50,17 @@ impl<'a> Files<'a> {
         Files {
             tree,
             script,
-            table: None,
+            table: b"",
         }
     }
 
-    /// Runs a command over these files, with room for so many bytes of output.
-    pub(crate) fn written(&self, alloc: Global, words: &[&str], room: usize) -> Result<Written> {
-        let Some(table) = self.table else {
-            let entries = [("TREE", self.tree), ("SCRIPT", self.script)];
-            let mut inputs = MemoryInputs::new(&entries);
-            return run_command(alloc, words, &mut inputs, room);
-        };
+    /// Whether a command over these files writes this and nothing else.
+    pub(crate) fn write(&self, alloc: Global, words: &[&str], wanted: &Wanted<'_>) -> Result<bool> {
         let entries = [
             ("TREE", self.tree),
             ("SCRIPT", self.script),
-            ("TABLE", table),
+            ("TABLE", self.table),
         ];
-        let mut inputs = MemoryInputs::new(&entries);
-        run_command(alloc, words, &mut inputs, room)
-    }
-}
-
-/// What is printed of something that is as expected, or isn't.
-pub(crate) fn as_expected(holds: bool) -> &'static str {
-    if holds {
-        "as expected"
-    } else {
-        "not as expected"
+        does_write(alloc, words, &mut MemoryInputs::new(&entries), wanted)
     }
 }

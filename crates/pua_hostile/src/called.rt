@@ -4,7 +4,7 @@
 use crate::LISTING;
 use pua_tool::{
     Inputs, Job, MemorySink, Processes, Sink, TableChoice, ToolFault, audit_to, command, ever_to,
-    objects_to, run_to,
+    objects_to, objects_why_to, run_to, run_why_to, why_to,
 };
 use std::alloc::Global;
 
@@ -60,4 +60,36 @@ pub(crate) fn ever_done(
     sink: &mut MemorySink,
 ) -> Result<(), ToolFault> {
     ever_to(alloc, LISTING, script, table, process, sink)
+}
+
+/// Writes a run of a script over the listing, with reasons.
+pub(crate) fn run_why_done(
+    alloc: Global,
+    script: &[u8],
+    table: TableChoice<'_>,
+    sink: &mut MemorySink,
+) -> Result<(), ToolFault> {
+    run_why_to(alloc, LISTING, script, table, sink)
+}
+
+/// Writes what decides a request of the first process behind a script over the listing.
+pub(crate) fn why_done(
+    alloc: Global,
+    script: &[u8],
+    table: TableChoice<'_>,
+    fields: &[&[u8]],
+    sink: &mut MemorySink,
+) -> Result<(), ToolFault> {
+    why_to(alloc, LISTING, script, table, 1, fields, sink)
+}
+
+/// Writes the list of objects with reasons of these processes after a script over the listing.
+pub(crate) fn objects_why_done(
+    alloc: Global,
+    script: &[u8],
+    table: TableChoice<'_>,
+    processes: Processes,
+    sink: &mut MemorySink,
+) -> Result<(), ToolFault> {
+    objects_why_to(alloc, LISTING, script, table, processes, sink)
 }

@@ -23,8 +23,8 @@ pub struct ObjectLine {
     pub calls: Calls,
 }
 
-/// The line of an item.
-pub(crate) fn line_of(process: &Process, table: &CallTable, item: &Item<'_>) -> ObjectLine
+/// The line of an item: the calls that are allowed on it, of which there may be none.
+pub fn line_of(process: &Process, table: &CallTable, item: &Item<'_>) -> ObjectLine
     ensures { (t : Tree) (h : History) (about : About) → StandsFor process.now h →
         IsItemOn t h about item.now → IsLineOn t table.now h about result }
 {

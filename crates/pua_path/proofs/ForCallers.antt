@@ -12,3 +12,7 @@ pub use Rattle.pua_path.proofs.FollowLaw.{missing_follows, file_follows, found_k
 pub use Rattle.pua_path.proofs.Living.{above_lives, start_lives}
 -- what is true of each element is true of the one found
 pub use Rattle.pua_path.proofs.Living.{find_passes, list_all-find_key}
+-- a trace answers as the resolution does, says what stands in the tree, and says how the path goes
+pub use Rattle.pua_path.proofs.Answering.{traces_answer, text_traces_answer}
+pub use Rattle.pua_path.proofs.Holding.{traces_hold}
+pub use Rattle.pua_path.proofs.Going.{traces_arrive, coming_resolves}

@@ -1,6 +1,6 @@
 -- Pieces of texts: components, a slash at the end, and whether a text can be read, along a cut.
 use Rattle.std.proofs.Common.{IsTrue, ◌≡◌, ℕ, zero, suc, Bool, true, false, not, ◌&&◌, ◌||◌, cond, List, [], ◌∷◌, ◌++◌, length, map, refl, sym, ap, ◌∙◌, append-nil, arith, lt-ltb, get_or, take, drop, ◌<◌, ◌≤◌, Some, None, position, drop-cons, ltb-false, take_all, ne_eqb, eqb-true, Fits, w8}
-use Rattle.std.specs.Prelude.{◌==◌, if◌then◌else◌, nat_lt, nat_le}
+use Rattle.std.specs.Prelude.{◌==◌, if◌then◌else◌, nat_lt, nat_le, option_map}
 use Rattle.std.specs.List.{All, filter, slice_split, onto_first, list_any, list_all}
 use Rattle.std.proofs.lemmas.List.Splits.{slice_split_none, slice_split_at}
 use Rattle.std.proofs.lemmas.List.Folds.{list_any-append, list_all-append}
@@ -13,11 +13,11 @@ use Rattle.std.proofs.lemmas.Bool.{and_parts, or_parts}
 use Rattle.std.proofs.lemmas.Bool.Decides.{nat_tests}
 use Rattle.std.proofs.Math.Bool.{or-false}
 use Rattle.pua_tree.specs.Names.{is_name, is_name_byte, same_bytes, has_byte, components, has_short_components}
-use Rattle.pua_path.specs.Paths.{part_of, ends_in_slash, ending_parts, parts_of, path_fault}
+use Rattle.pua_path.specs.Paths.{part_of, ends_in_slash, ending_parts, parts_of, path_fault, text_errno}
 use Rattle.pua_path.specs.Limits.{path_limit}
 use Rattle.pua_path.specs.Pieces.{begins_slash, IsCutAtSlash}
 use Rattle.pua_path.specs.Remaining.{slash_part, rest_parts, is_readable, is_piece, is_done, after_slashes}
-use Rattle.pua_path.specs.declared.errno.Errno.TheVariants.{ENAMETOOLONG, EINVAL}
+use Rattle.pua_path.specs.declared.traced.TextFault.TheVariants.{LongText, LongComponent, NulInText}
 use Rattle.pua_path.specs.declared.text.Ending.TheVariants as ending
 use Rattle.pua_path.specs.declared.found.Part.{Part}
 use Rattle.pua_path.specs.declared.found.Part.TheVariants.{Dot, DotDot, Name}
@@ -329,7 +329,7 @@ no_parts target [] e n = parts_of-begin target ∙ ap rest_parts (sym e)
 no_parts target (x ∷ xs) e n = absurd (omega (arith, eqb-true (length (x ∷ xs)) 0 n))
 
 -- the parts of a path without fault can be read
-fault_free : (long short nul : Bool) → (if long then Some ENAMETOOLONG else (if not short then Some ENAMETOOLONG else (if nul then Some EINVAL else None))) ≡ None → (not nul && short) ≡ true
+fault_free : (long short nul : Bool) → option_map text_errno (if long then Some LongText else (if not short then Some LongComponent else (if nul then Some NulInText else None))) ≡ None → (not nul && short) ≡ true
 fault_free true short nul h = cc
 fault_free false false nul h = cc
 fault_free false true true h = cc

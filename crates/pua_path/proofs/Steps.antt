@@ -96,3 +96,11 @@ module _ (t : Tree) (mode : Last) where
       r ≡ (if is_done rest then Ok (Some (Slot dir name None)) else Err ENOENT) → resolve_parts links t mode dir way (parts.Name name ∷ rest) ≡ goes_on r links further
   resolve_nothing links dir way name rest r further e k =
       resolve_name links dir way name rest Nothing e ∙ sym (ap (λ a. goes_on a links further) k ∙ ends rest (Slot dir name None) ENOENT links further)
+
+  -- how a directory was named matters where no part is left alone
+  pub resolve_passed : (links dir : ℕ) (way other : Way) (rest : List Part) → is_done rest ≡ false → resolve_parts links t mode dir way rest ≡ resolve_parts links t mode dir other rest
+  resolve_passed links dir way other [] d = cc
+  resolve_passed links dir way other (parts.Dot ∷ rest) d = resolve_dot links dir way rest ∙ sym (resolve_dot links dir other rest)
+  resolve_passed links dir way other (parts.DotDot ∷ rest) d = resolve_dotdot links dir way rest ∙ sym (resolve_dotdot links dir other rest)
+  resolve_passed links dir way other (parts.Name name ∷ rest) d =
+      resolve_name links dir way name rest (standing_at t dir name) refl ∙ sym (resolve_name links dir other name rest (standing_at t dir name) refl)

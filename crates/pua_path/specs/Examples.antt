@@ -1,13 +1,17 @@
 -- Worked rows on resolution over the example tree, and paths that meet many links.
-use Rattle.std.specs.Prelude.{◌≡◌, Some, None, Ok, Err, codes, refl}
+use Rattle.std.specs.Prelude.{◌≡◌, [], ◌∷◌, Some, None, Ok, Err, codes, refl}
 use Rattle.pua_tree.specs.Examples.{example_tree}
 use Rattle.pua_path.specs.Resolution.{resolution, step, last}
+use Rattle.pua_path.specs.Traces.{trace_from, trace_of_text}
 use Rattle.pua_path.specs.declared.errno.Errno.TheVariants.{ENOENT, ENOTDIR, ELOOP}
 use Rattle.pua_path.specs.declared.text.Ending.TheVariants as ending
 use Rattle.pua_path.specs.declared.found.Part.TheVariants as part
 use Rattle.pua_path.specs.declared.found.Last.TheVariants.{Followed, Kept}
 use Rattle.pua_path.specs.declared.found.Way.TheVariants.{Named, Dot, DotDot, Top}
 use Rattle.pua_path.specs.declared.found.Found.TheVariants.{Whole, Slot}
+use Rattle.pua_path.specs.declared.traced.Stop.TheVariants.{NoEntry, NoDirectory, LinkBeyond}
+use Rattle.pua_path.specs.declared.traced.TextFault.TheVariants.{EmptyText, NulInText}
+use Rattle.pua_path.specs.declared.traced.PathFault.TheVariants.{InText, NoStart, Stops}
 
 -- what texts name in the example tree, from the root
 pub record ResolutionRows : Type 0 where
@@ -29,6 +33,17 @@ pub record StepRows : Type 0 where
   pub second : step example_tree 3 1 (part.Name (codes "up")) ≡ Ok (1, 2)
   pub third : last example_tree 1 2 (part.Name (codes "passwd")) Followed ≡ Ok (Slot 1 (codes "passwd") (Some 2))
 
+-- how texts go, from the root and from elsewhere
+pub record TraceRows : Type 0 where
+  pub two_links : trace_of_text example_tree 0 ending.Dot (codes "/t/up/passwd") Followed ≡ record { links = (0, codes "t") ∷ (3, codes "up") ∷ []; outcome = Ok (Slot 1 (codes "passwd") (Some 2)) }
+  pub kept : trace_of_text example_tree 0 ending.Dot (codes "/t") Kept ≡ record { links = []; outcome = Ok (Slot 0 (codes "t") (Some 4)) }
+  pub through_file : trace_of_text example_tree 0 ending.Dot (codes "/tmp/up/passwd/x") Followed ≡ record { links = (3, codes "up") ∷ []; outcome = Err (Stops (NoDirectory (1, codes "passwd"))) }
+  pub through_missing : trace_of_text example_tree 3 ending.Dot (codes "up/no/x") Followed ≡ record { links = (3, codes "up") ∷ []; outcome = Err (Stops (NoEntry (1, codes "no"))) }
+  pub endless : (trace_of_text example_tree 0 ending.Dot (codes "/tmp/self") Followed).outcome ≡ Err (Stops (LinkBeyond (3, codes "self")))
+  pub empty : trace_of_text example_tree 0 ending.Dot [] Followed ≡ record { links = []; outcome = Err (InText EmptyText) }
+  pub nul : trace_of_text example_tree 0 ending.Dot (97 ∷ 0 ∷ []) Followed ≡ record { links = []; outcome = Err (InText NulInText) }
+  pub removed : trace_of_text example_tree 9 ending.Dot (codes "x") Followed ≡ record { links = []; outcome = Err NoStart }
+
 pub resolution_rows : ResolutionRows
 resolution_rows = record {
   root = refl;
@@ -46,3 +61,7 @@ resolution_rows = record {
 
 pub step_rows : StepRows
 step_rows = record { first = refl; second = refl; third = refl }
+
+pub trace_rows : TraceRows
+unfolding trace_from
+trace_rows = record { two_links = refl; kept = refl; through_file = refl; through_missing = refl; endless = refl; empty = refl; nul = refl; removed = refl }

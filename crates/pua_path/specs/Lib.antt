@@ -2,10 +2,13 @@
 pub mod Limits
 pub mod Paths
 pub mod Resolution
+pub mod Traces
 pub mod Fits
+pub mod Goes
 pub mod ErrnoNames
 -- What is proved of these.
 pub mod Laws
+pub mod TraceLaws
 -- Worked rows, which hold by computation.
 pub mod Examples
 -- What contracts say of looks at a tree.

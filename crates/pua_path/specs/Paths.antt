@@ -1,5 +1,5 @@
 -- The start and the parts of a path text, and its faults.
-use Rattle.std.specs.Prelude.{ℕ, Bool, false, not, if◌then◌else◌, List, [], ◌∷◌, ◌++◌, length, map, nat_lt, ◌==◌, Option, Some, None}
+use Rattle.std.specs.Prelude.{ℕ, Bool, false, not, if◌then◌else◌, List, [], ◌∷◌, ◌++◌, length, map, nat_lt, ◌==◌, Option, Some, None, option_map}
 use Rattle.pua_tree.specs.Names.{same_bytes, has_byte, components, has_short_components}
 use Rattle.pua_path.specs.Limits.{path_limit}
 use Rattle.pua_path.specs.declared.errno.Errno.{Errno}
@@ -8,6 +8,8 @@ use Rattle.pua_path.specs.declared.text.Ending.{Ending}
 use Rattle.pua_path.specs.declared.text.Ending.TheVariants as ending
 use Rattle.pua_path.specs.declared.found.Part.{Part}
 use Rattle.pua_path.specs.declared.found.Part.TheVariants.{Dot, DotDot, Name}
+use Rattle.pua_path.specs.declared.traced.TextFault.{TextFault}
+use Rattle.pua_path.specs.declared.traced.TextFault.TheVariants.{EmptyText, LongText, LongComponent, NulInText}
 
 -- a path text: its bytes, and what a slash at its end adds
 pub record Text : Type 0 where
@@ -39,9 +41,19 @@ abbrev pub parts_of : Ending → List ℕ → List Part
 parts_of ending text = map part_of (components text) ++ ending_parts ending (components text) (ends_in_slash text)
 
 -- the first fault of a text that is no path: none, too long, a component too long, a NUL
+abbrev pub text_fault : List ℕ → Option TextFault
+text_fault [] = Some EmptyText
+text_fault (b ∷ more) =
+    if nat_lt path_limit (length (b ∷ more)) then Some LongText
+    else (if not (has_short_components (b ∷ more)) then Some LongComponent
+    else (if has_byte 0 (b ∷ more) then Some NulInText else None))
+
+abbrev pub text_errno : TextFault → Errno
+text_errno EmptyText = ENOENT
+text_errno LongText = ENAMETOOLONG
+text_errno LongComponent = ENAMETOOLONG
+text_errno NulInText = EINVAL
+
+-- its errno
 abbrev pub path_fault : List ℕ → Option Errno
-path_fault [] = Some ENOENT
-path_fault (b ∷ more) =
-    if nat_lt path_limit (length (b ∷ more)) then Some ENAMETOOLONG
-    else (if not (has_short_components (b ∷ more)) then Some ENAMETOOLONG
-    else (if has_byte 0 (b ∷ more) then Some EINVAL else None))
+path_fault text = option_map text_errno (text_fault text)

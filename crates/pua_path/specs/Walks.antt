@@ -1,13 +1,15 @@
 -- A resolution on its way: what stands at a name, and how one part leads on to the next.
-use Rattle.std.specs.Prelude.{ℕ, ◌+◌, ◌*◌, ◌≤◌, List, length, Option, Some, None, Result, Ok, Err, IsTrue}
+use Rattle.std.specs.Prelude.{ℕ, ◌+◌, ◌*◌, ◌≤◌, Bool, if◌then◌else◌, List, [], ◌∷◌, length, Option, Some, None, Result, Ok, Err, IsTrue}
 use Rattle.pua_tree.specs.Names.{is_name}
-use Rattle.pua_tree.specs.Tree.{Tree, WellFormed, is_dir}
+use Rattle.pua_tree.specs.Tree.{Tree, Spot, WellFormed, is_dir}
 use Rattle.pua_path.specs.Limits.{link_limit}
 use Rattle.pua_path.specs.Paths.{parts_of}
 use Rattle.pua_path.specs.Remaining.{Remaining, is_readable}
 use Rattle.pua_path.specs.Resolution.{Resolved, Standing, Directory, Linked, Plain, Nothing}
 use Rattle.pua_path.specs.Bounds.{most_parts}
+use Rattle.pua_path.specs.Traces.{Trace, at_once, behind}
 use Rattle.pua_path.specs.declared.errno.Errno.{Errno}
+use Rattle.pua_path.specs.declared.errno.Errno.TheVariants.{ENOENT, ENOTDIR}
 use Rattle.pua_path.specs.declared.text.Ending.TheVariants.{Dot}
 use Rattle.pua_path.specs.declared.found.Found.{Found}
 use Rattle.pua_path.specs.declared.found.Found.TheVariants.{Whole, Slot}
@@ -19,6 +21,8 @@ use Rattle.pua_path.specs.declared.resolver.Nameless.{Nameless}
 use Rattle.pua_path.specs.declared.resolver.Nameless.TheVariants as nameless
 use Rattle.pua_path.specs.declared.resolver.Standing as seen
 use Rattle.pua_path.specs.declared.resolver.Standing.TheVariants as see
+use Rattle.pua_path.specs.declared.traced.Stop.{Stop}
+use Rattle.pua_path.specs.declared.traced.Stop.TheVariants.{NoEntry, NoDirectory, LinkBeyond}
 
 -- what was seen at a name
 abbrev pub standing_seen : seen.Standing → Standing
@@ -67,6 +71,23 @@ abbrev pub goes_on : Result (Option Found) Errno → ℕ → Resolved → Resolv
 goes_on (Ok None) left further = further
 goes_on (Ok (Some found)) left further = Ok (found, left)
 goes_on (Err errno) left further = Err errno
+
+-- the stop at a name, by its errno
+abbrev pub stop_at : Spot → Errno → Stop
+stop_at spot ENOENT = NoEntry spot
+stop_at spot ENOTDIR = NoDirectory spot
+stop_at spot _ = LinkBeyond spot
+
+-- the same of a trace: a part at this name follows a link or none, and ends the trace or leaves it to the further parts
+abbrev pub traced_on : Spot → Bool → Result (Option Found) Errno → ℕ → Trace → Trace
+traced_on spot linked (Ok None) left further = behind (if linked then spot ∷ [] else []) further
+traced_on spot linked (Ok (Some found)) left further = at_once (Ok (found, left))
+traced_on spot linked (Err errno) left further = at_once (Err (stop_at spot errno))
+
+-- what a trace answers, and the links left then
+abbrev pub told : Result Found Stop → ℕ → Result (Found × ℕ) Stop
+told (Ok found) left = Ok (found, left)
+told (Err stop) left = Err stop
 
 -- what a resolution answers, and the links left then
 abbrev pub ended : Result Found Errno → ℕ → Resolved

@@ -2,15 +2,19 @@
 
 ghost use Rattle.std.specs.Prelude.{◌≡◌};
 ghost use Rattle.pua_path.specs.Limits.{link_limit, path_limit};
-ghost use Rattle.pua_path.specs.Examples.{ResolutionRows, StepRows};
+ghost use Rattle.pua_path.specs.Examples.{ResolutionRows, StepRows, TraceRows};
 ghost use Rattle.pua_path.specs.Laws.{FollowDecides, KeptFollowsNone, LastsFollow, LinksDecide, ResolutionComposes, ResolutionsFit, StepsCompose, StepsFollow};
+ghost use Rattle.pua_path.specs.Goes.{ComingResolves, TracesArrive};
+ghost use Rattle.pua_path.specs.TraceLaws.{TextTracesAnswer, TracesAnswer, TracesHold};
 
 use crate::limits::{LINK_LIMIT, PATH_LIMIT};
 
-/// Examples of what texts and parts name.
+/// Examples of what texts and parts name, and of how texts go.
+#[tactic(auto, using(crate::specs::Examples::resolution_rows, crate::specs::Examples::step_rows, crate::specs::Examples::trace_rows))]
 pub fn resolution_examples()
     ensures texts { ResolutionRows }
     ensures steps { StepRows }
+    ensures traces { TraceRows }
 {}
 
 /// The limits are those of the definitions.
@@ -46,4 +50,25 @@ pub fn links_law()
 /// directory, and no more links are used than may be followed.
 pub fn fitting_law()
     ensures { ResolutionsFit }
+{}
+
+/// A trace answers as the resolution does.
+#[tactic(auto, using(crate::proofs::Answering::traces_answer, crate::proofs::Answering::text_traces_answer))]
+pub fn trace_law()
+    ensures parts { TracesAnswer }
+    ensures texts { TextTracesAnswer }
+{}
+
+/// What a trace says stands in the tree stands there, and its links are counted.
+#[tactic(auto, using(crate::proofs::Holding::traces_hold))]
+pub fn stop_law()
+    ensures { TracesHold }
+{}
+
+/// A trace says how a path goes, one part after another, to what it names or to where it stops; and
+/// the resolution goes so.
+#[tactic(auto, using(crate::proofs::Going::traces_arrive, crate::proofs::Going::coming_resolves))]
+pub fn going_law()
+    ensures arrive { TracesArrive }
+    ensures resolve { ComingResolves }
 {}

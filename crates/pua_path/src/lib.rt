@@ -10,13 +10,16 @@ mod probe;
 mod resolver;
 mod rest;
 mod text;
+mod traced;
 
 pub use errno::Errno;
 pub use found::{Found, Last, Part, Way};
 pub use laws::{
-    fitting_law, limits_law, links_law, resolution_examples, resolution_law, steps_law,
+    fitting_law, going_law, limits_law, links_law, resolution_examples, resolution_law, steps_law,
+    stop_law, trace_law,
 };
 pub use limits::{LINK_LIMIT, PATH_LIMIT};
 pub use probe::{Counted, Probe};
-pub use resolver::{follow, last, resolve, step};
-pub use text::{Ending, PathText};
+pub use resolver::{follow, last, resolve, step, trace};
+pub use text::{Ending, PathText, text_fault};
+pub use traced::{Links, PathFault, Spot, Stop, TextFault};

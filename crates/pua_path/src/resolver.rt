@@ -1,12 +1,15 @@
 //! Resolution: what parts name in a tree.
 
-ghost use Rattle.std.specs.Prelude.{◌≡◌, ◌≤◌, ◌<◌, ◌+◌, ◌-◌, ◌*◌, ◌∷◌, ◌++◌, IsTrue, IfOk, IfErr, IfSome, OnOk, is_some, not, false, ◌&&◌, ◌==◌, Ok, Err, Some, None, [], if◌then◌else◌};
+mod tracing;
+
+ghost use Rattle.std.specs.Prelude.{nat_lt, ◌≡◌, ◌≤◌, ◌<◌, ◌+◌, ◌-◌, ◌*◌, ◌∷◌, ◌++◌, IsTrue, IfOk, IfErr, IfSome, OnOk, is_some, not, false, ◌&&◌, ◌==◌, Ok, Err, Some, None, [], if◌then◌else◌};
 ghost use Rattle.pua_tree.specs.Names.{is_name};
 ghost use Rattle.pua_tree.specs.Tree.{above, is_dir};
 ghost use Rattle.pua_path.specs.Resolution.{resolution, resolve_parts, standing_at, is_followed, start_of, step, last, follow};
 ghost use Rattle.pua_path.specs.Limits.{link_limit};
 ghost use Rattle.pua_path.specs.Paths.{is_absolute, part_of, parts_of};
-ghost use Rattle.pua_path.specs.Walks.{way_of, lent_name, found_of, all_found, IsNamed, AreNamed, standing_seen, StandsIn, CanGoOn, goes_on, ended, potential};
+ghost use Rattle.pua_path.specs.Walks.{way_of, lent_name, found_of, all_found, IsNamed, AreNamed, standing_seen, StandsIn, CanGoOn, goes_on, traced_on, ended, potential};
+ghost use Rattle.pua_path.specs.Traces.{trace_parts};
 ghost use Rattle.pua_path.specs.Bounds.{part_cost};
 ghost use Rattle.pua_path.specs.Fits.{FoundFits, FoundsFit, StandsAsNamed};
 ghost use Rattle.pua_path.specs.Remaining.{Remaining, is_done, is_piece, is_readable};
@@ -24,6 +27,7 @@ use crate::probe::Probe;
 use crate::rest::Rest;
 use crate::text::PathText;
 use pua_tree::{Kind, Name, NodeId};
+pub use tracing::trace;
 
 /// What a path names from a directory, by the rules of path resolution (intro(2), symlink(7)): 32
 /// links are followed at most (this profile). A relative path needs `from` to be a living
@@ -352,6 +356,12 @@ impl<'a> Walk<'a> {
         ensures exact { let t = P.tree probe.old in
             resolve_parts self.old.left t mode self.old.here (way_of self.old.way) (part_of piece.now ∷ self.old.rest.parts)
             ≡ goes_on (all_found result) self.new.left (resolve_parts self.new.left t mode self.new.here (way_of self.new.way) self.new.rest.parts) }
+        ensures traced { let t = P.tree probe.old in
+            trace_parts self.old.left t mode self.old.here (way_of self.old.way) (part_of piece.now ∷ self.old.rest.parts)
+            ≡ traced_on (self.old.here, piece.now) (nat_lt self.new.left self.old.left) (all_found result) self.new.left
+            (trace_parts self.new.left t mode self.new.here (way_of self.new.way) self.new.rest.parts) }
+        ensures stopped { IfErr result (λ _. IsTrue (is_name piece.now)) }
+        ensures linked { self.new.left < self.old.left → IsTrue (is_name piece.now) }
         ensures ready { CanGoOn (P.tree probe.old) self.new.here self.new.left self.new.rest }
         ensures left { self.new.left ≤ self.old.left }
         ensures potential { potential (P.tree probe.old) self.new.left self.new.rest ≤ potential (P.tree probe.old) self.old.left self.old.rest }
@@ -428,6 +438,10 @@ impl<'a> Walk<'a> {
         ensures exact { let t = P.tree probe.old in
             resolve_parts self.old.left t mode self.old.here (way_of self.old.way) (parts.Name name.now ∷ self.old.rest.parts)
             ≡ goes_on (all_found result) self.new.left (resolve_parts self.new.left t mode self.new.here (way_of self.new.way) self.new.rest.parts) }
+        ensures traced { let t = P.tree probe.old in
+            trace_parts self.old.left t mode self.old.here (way_of self.old.way) (parts.Name name.now ∷ self.old.rest.parts)
+            ≡ traced_on (self.old.here, name.now) (nat_lt self.new.left self.old.left) (all_found result) self.new.left
+            (trace_parts self.new.left t mode self.new.here (way_of self.new.way) self.new.rest.parts) }
         ensures ready { CanGoOn (P.tree probe.old) self.new.here self.new.left self.new.rest }
         ensures left { self.new.left ≤ self.old.left }
         ensures potential { potential (P.tree probe.old) self.new.left self.new.rest ≤ potential (P.tree probe.old) self.old.left self.old.rest }

@@ -2,6 +2,7 @@
 
 use crate::errno::Errno;
 use crate::limits::PATH_LIMIT;
+use crate::traced::TextFault;
 use pua_tree::has_short_components;
 use std::marker::Model;
 
@@ -34,7 +35,7 @@ impl<'a> Model for PathText<'a> {
 }
 
 ghost use Rattle.std.specs.Prelude.{◌≡◌, Some, None, MatchResult};
-ghost use Rattle.pua_path.specs.Paths.{path_fault};
+ghost use Rattle.pua_path.specs.Paths.{path_fault, text_fault};
 
 impl<'a> PathText<'a> {
     /// A path of these bytes, and what a slash at its end adds. The first of these faults that it
@@ -46,8 +47,8 @@ impl<'a> PathText<'a> {
             (λ text. (path_fault bytes.now ≡ None) × (text ≡ record { bytes = bytes.now; ending = ending }))
             (λ errno. path_fault bytes.now ≡ Some errno) }
     {
-        match fault_of(bytes) {
-            Some(errno) => Err(errno),
+        match text_fault(bytes) {
+            Some(fault) => Err(fault.errno()),
             None => Ok(PathText { bytes, ending }),
         }
     }
@@ -68,18 +69,22 @@ impl<'a> PathText<'a> {
     }
 }
 
-/// The first fault of a text that is no path.
-fn fault_of(bytes: &[u8]) -> Option<Errno>
-    ensures { result ≡ path_fault bytes.now }
+/// What is wrong with a text that is no path: the first of the faults of `PathText::read` that it
+/// has, told apart. None where it is a path.
+pub fn text_fault(bytes: &[u8]) -> Option<TextFault>
+    ensures { result ≡ text_fault bytes.now }
 {
     if bytes.is_empty() {
-        return Some(Errno::ENOENT);
+        return Some(TextFault::EmptyText);
     }
-    if bytes.len() > PATH_LIMIT || !has_short_components(bytes) {
-        return Some(Errno::ENAMETOOLONG);
+    if bytes.len() > PATH_LIMIT {
+        return Some(TextFault::LongText);
+    }
+    if !has_short_components(bytes) {
+        return Some(TextFault::LongComponent);
     }
     if bytes.contains(&0) {
-        return Some(Errno::EINVAL);
+        return Some(TextFault::NulInText);
     }
     None
 }

@@ -23,3 +23,8 @@ pub use Rattle.pua_policy.proofs.Veils.{veils_are_kept, same_place_is}
 pub use Rattle.pua_policy.proofs.Standing.{any_veil}
 -- no table of calls that a text gives needs `error`, if the one doesn't over which it is read, and rename and link need what they need by that one
 pub use Rattle.pua_policy.proofs.SoundTexts.{texts_need_no_error, texts_keep_pairs}
+-- what is told of promises, of veils and of objects
+pub use Rattle.pua_policy.proofs.Lacking.{suffices, least, lackings_hold, promisings_hold, promisings_answer}
+pub use Rattle.pua_policy.proofs.Coverings.{coverings_cover}
+pub use Rattle.pua_policy.proofs.NearestVeil.{coverings_hold}
+pub use Rattle.pua_policy.proofs.Misfits.{misfits_hold}

@@ -2,9 +2,10 @@
 use Rattle.std.proofs.Common.{◌≡◌, ℕ, ◌<◌, ◌^◌, List, [], ◌∷◌, Bool, true, false, cond, map, refl, sym, ap, ◌∙◌, arith}
 use Rattle.std.proofs.lemmas.Bool.Decides.{nat_tests}
 use Rattle.std.specs.List.{find, filter}
-use Rattle.std.specs.Prelude.{Option, Some, None, option_map, nat_lt}
+use Rattle.std.specs.Prelude.{◌≤◌, Option, Some, None, length, option_map, nat_lt, slice_get}
+use Rattle.std.proofs.lemmas.Option.{slice_get-map, slice_get_past}
 use Rattle.pua_tree.specs.Names.{same_bytes}
-use Rattle.pua_policy.specs.Promises.{holds, keyword_rows, keywords_of, promise_of}
+use Rattle.pua_policy.specs.Promises.{holds, keyword_at, keyword_if, keyword_rows, keywords_of, promise_of}
 use Rattle.pua_path.proofs.ForCallers.{find_passes}
 
 -- finding after a map is a map after finding
@@ -48,3 +49,16 @@ pub keywords_of-filter : {F : Type 0} (row : F → (List ℕ × ℕ)) (flags : L
     keywords_of set ≡ map (λ flag. (row flag).0) (filter (λ flag. holds set (row flag).1) flags)
 keywords_of-filter row flags set e =
     ap (λ rows. map (λ row. row.0) (filter (λ row. holds set row.1) rows)) (sym e) ∙ filter-map row (λ row. row.0) (λ row. holds set row.1) flags
+
+-- the keyword at an index is that of the flag there
+keyword_found : {F : Type 0} (row : F → (List ℕ × ℕ)) (flags : List F) (set index : ℕ) (found : Option F) → map row flags ≡ keyword_rows → slice_get flags index ≡ found →
+    keyword_at set index ≡ keyword_if set (option_map row found)
+keyword_found row flags set index found e is =
+    ap (λ rows. keyword_if set (slice_get rows index)) (sym e) ∙ ap (keyword_if set) (slice_get-map row flags index ∙ ap (option_map row) is)
+
+pub keyword_past : {F : Type 0} (row : F → (List ℕ × ℕ)) (flags : List F) (set index : ℕ) → map row flags ≡ keyword_rows → length flags ≤ index → keyword_at set index ≡ None
+keyword_past row flags set index e past = keyword_found row flags set index None e (slice_get_past flags index past)
+
+pub keyword_there : {F : Type 0} (row : F → (List ℕ × ℕ)) (flags : List F) (set index : ℕ) (flag : F) → map row flags ≡ keyword_rows → slice_get flags index ≡ Some flag →
+    keyword_at set index ≡ keyword_if set (Some (row flag))
+keyword_there row flags set index flag e is = keyword_found row flags set index (Some flag) e is

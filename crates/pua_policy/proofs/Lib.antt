@@ -16,4 +16,9 @@ pub mod Unveiled
 pub mod Descending
 pub mod Histories
 pub mod SoundTexts
+pub mod Lacking
+pub mod Veiled
+pub mod Coverings
+pub mod NearestVeil
+pub mod Misfits
 pub mod ForCallers

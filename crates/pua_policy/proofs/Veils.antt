@@ -34,7 +34,7 @@ same_place_is (Slot a n) (Slot b m) e =
 same_place_is (Dir a) (Slot b m) e = cc
 same_place_is (Slot a n) (Dir b) e = cc
 
-same_place_refl : (a : Place) → same_place a a ≡ true
+pub same_place_refl : (a : Place) → same_place a a ≡ true
 same_place_refl (Dir a) = eq-eqb a a refl
 same_place_refl (Slot a n) = ap (λ b. b && same_bytes n n) (eq-eqb a a refl) ∙ (bytes_decides n n).1 refl
 

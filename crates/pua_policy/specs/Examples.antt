@@ -1,12 +1,14 @@
 -- Worked rows on covers and verdicts over the example tree.
-use Rattle.std.specs.Prelude.{◌≡◌, ◌+◌, ◌-◌, ◌^◌, [], ◌∷◌, Some, None, Ok, Err, codes, map, filter, refl}
+use Rattle.std.specs.Prelude.{◌≡◌, ◌+◌, ◌-◌, ◌^◌, true, false, [], ◌∷◌, Some, None, Ok, Err, codes, map, filter, refl}
 use Rattle.pua_tree.specs.Tree.{empty_tree}
 use Rattle.pua_tree.specs.Examples.{example_tree}
-use Rattle.pua_policy.specs.Promises.{promises_of, perms_of, reading, writing, rpath, wpath, error}
+use Rattle.pua_policy.specs.Promises.{promises_of, perms_of, lacking, reading, writing, rpath, wpath, error}
 use Rattle.pua_policy.specs.Calls.{calls, standard_table}
 use Rattle.pua_policy.specs.CallSets.{calls_in, keeps_link}
 use Rattle.pua_policy.specs.Objects.{object_seen}
-use Rattle.pua_policy.specs.History.{History, Pledged, Unveiled, Locked, new_history, held, held_for_exec, pledge_fault, unveil_fault, veils, may_any}
+use Rattle.pua_policy.specs.History.{History, Pledged, Unveiled, Locked, Ended, new_history, held, held_for_exec, pledge_fault, unveil_fault, veils, may_any}
+use Rattle.pua_policy.specs.Misfits.{misfit}
+use Rattle.pua_policy.specs.Reasons.{Holds, HasEnded, Lacks, promising, covering}
 use Rattle.pua_policy.specs.Verdict.{cover, verdict_on, object_fault, rmdir_fault, IsDir, IsFile, IsProg, IsLink, IsMissing}
 use Rattle.pua_path.specs.declared.errno.Errno.TheVariants.{EACCES, EPERM, EINVAL, ENOENT, EBUSY, EEXIST, ENOTDIR, EISDIR, ENOTEMPTY}
 use Rattle.pua_path.specs.declared.found.Way.TheVariants as way
@@ -14,6 +16,8 @@ use Rattle.pua_path.specs.declared.found.Found.TheVariants as found
 use Rattle.pua_policy.specs.declared.call.Call.TheVariants.{Stat, Lstat, Readlink, Mkdir, Rmdir, Unlink, Symlink, Exec}
 use Rattle.pua_policy.specs.declared.object.Object.TheVariants as see
 use Rattle.pua_policy.specs.declared.place.Place.TheVariants.{Dir, Slot}
+use Rattle.pua_policy.specs.declared.reason.Covering.TheVariants.{InView, NoneOver, By}
+use Rattle.pua_policy.specs.declared.reason.Misfit.TheVariants.{Exists, IsDirectory, IsNoFile, IsNoDirectory, IsNoLink, IsNoProgram, IsNotEmpty}
 use Rattle.pua_policy.specs.declared.answer.UnveilFault.TheVariants.{NotPermitted}
 use Rattle.pua_policy.specs.declared.answer.Cover.TheVariants.{Only}
 use Rattle.pua_policy.specs.declared.answer.May.TheVariants as may
@@ -127,4 +131,36 @@ set_rows = record {
   with_rows = refl;
   without_rows = refl;
   by_dot = refl;
+}
+
+-- why something is allowed or not
+pub record ReasonRows : Type 0 where
+  pub lacks : lacking (reading + 4) (reading + writing + 8) ≡ writing + 8
+  pub first_held : promising narrowed (wpath ∷ rpath ∷ 0 ∷ []) ≡ Holds rpath
+  pub none_held : promising with_error (wpath ∷ (rpath + wpath) ∷ []) ≡ Lacks true (wpath ∷ wpath ∷ [])
+  pub no_error : promising narrowed (wpath ∷ []) ≡ Lacks false (wpath ∷ [])
+  pub ended : promising (Ended ∷ narrowed) (rpath ∷ []) ≡ HasEnded
+  pub in_view : covering example_tree new_history (found.Whole 1 (way.Named 0 (codes "etc"))) ≡ InView
+  pub own_veil : covering example_tree three_veils (found.Slot 1 (codes "passwd") (Some 2)) ≡ By (Slot 1 (codes "passwd")) (reading + writing)
+  pub nearer_veil : covering example_tree three_veils (found.Slot 3 (codes "sh") (Some 7)) ≡ By (Dir 3) 0
+  pub root_veil : covering example_tree three_veils (found.Slot 1 (codes "x") None) ≡ By (Dir 0) reading
+  pub none_over : covering example_tree (Unveiled (Dir 3) reading ∷ new_history) (found.Whole 1 (way.Named 0 (codes "etc"))) ≡ NoneOver
+  pub directory : map (λ call. misfit example_tree call (IsDir 1 (way.Named 0 (codes "etc")))) calls
+      ≡ None ∷ None ∷ Some IsNoLink ∷ None ∷ Some IsDirectory ∷ Some IsDirectory ∷ Some IsDirectory ∷ Some Exists ∷ Some IsNotEmpty ∷ Some IsNoFile ∷ Some Exists ∷ None ∷ None ∷ Some IsNoProgram ∷ []
+  pub file : map (λ call. misfit example_tree call IsFile) (Rmdir ∷ Unlink ∷ Exec ∷ []) ≡ Some IsNoDirectory ∷ None ∷ Some IsNoProgram ∷ []
+
+pub reason_rows : ReasonRows
+reason_rows = record {
+  lacks = refl;
+  first_held = refl;
+  none_held = refl;
+  no_error = refl;
+  ended = refl;
+  in_view = refl;
+  own_veil = refl;
+  nearer_veil = refl;
+  root_veil = refl;
+  none_over = refl;
+  directory = refl;
+  file = refl;
 }

@@ -9,10 +9,13 @@ pub mod TableExamples
 -- The claim, in reading order: what a reader has to believe of processes, and of what each call is answered.
 pub mod Limits
 pub mod History
+pub mod Misfits
 pub mod Verdict
+pub mod Reasons
 pub mod Descent
 -- What is proved of these.
 pub mod Laws
+pub mod ReasonLaws
 -- Worked rows, which hold by computation.
 pub mod Examples
 -- Notes: what the code tells of an object.

@@ -1,5 +1,5 @@
 -- Sets of promises and of permissions as numbers, a bit for each member, and how they are read.
-use Rattle.std.specs.Prelude.{ℕ, map, ◌*◌, ◌++◌, if◌then◌else◌, ◌-◌, ◌^◌, Bool, List, [], ◌∷◌, ◌==◌, Option, Some, None, Result, Ok, Err, codes, bit_and, bit_or, filter, find, not, position, option_map}
+use Rattle.std.specs.Prelude.{ℕ, map, ◌*◌, ◌++◌, if◌then◌else◌, ◌-◌, ◌^◌, Bool, List, [], ◌∷◌, ◌==◌, Option, Some, None, Result, Ok, Err, codes, bit_and, bit_or, bit_xor, filter, find, not, position, option_map, slice_get}
 use Rattle.std.specs.List.{slice_split}
 use Rattle.pua_tree.specs.Names.{same_bytes}
 use Rattle.pua_path.specs.declared.errno.Errno.{Errno}
@@ -8,6 +8,10 @@ use Rattle.pua_path.specs.declared.errno.Errno.TheVariants.{EINVAL}
 -- every member of the second set is one of the first
 abbrev pub holds : ℕ → ℕ → Bool
 holds set wanted = bit_and set wanted == wanted
+
+-- the members of a wanted set that a set lacks
+abbrev pub lacking : ℕ → ℕ → ℕ
+lacking set wanted = bit_xor wanted (bit_and wanted set)
 
 -- the keywords of pledge, the first at bit 0
 abbrev pub keywords : List (List ℕ)
@@ -81,6 +85,14 @@ other_promises word = union_of (map (λ row. Some row.1) (filter (λ row. not (s
 -- the keywords of a set's members, in the order of all keywords
 abbrev pub keywords_of : ℕ → List (List ℕ)
 keywords_of set = map (λ row. row.0) (filter (λ row. holds set row.1) keyword_rows)
+
+-- the keyword at an index, if it is one of a set's
+abbrev pub keyword_if : ℕ → Option (List ℕ × ℕ) → Option (List ℕ)
+keyword_if set None = None
+keyword_if set (Some row) = if holds set row.1 then Some row.0 else None
+
+abbrev pub keyword_at : ℕ → ℕ → Option (List ℕ)
+keyword_at set index = keyword_if set (slice_get keyword_rows index)
 
 -- the letters of permissions
 abbrev pub letter_of : ℕ → Option ℕ

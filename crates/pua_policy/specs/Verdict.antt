@@ -1,22 +1,22 @@
 -- What the veils leave of an object, and whether a call is allowed.
-use Rattle.std.specs.Prelude.{ℕ, Bool, true, false, if◌then◌else◌, List, [], ◌∷◌, map, Option, Some, None, Result, Ok, Err}
+use Rattle.std.specs.Prelude.{ℕ, Bool, true, false, if◌then◌else◌, List, [], ◌∷◌, map, Option, Some, None, option_map, Result, Ok, Err}
 use Rattle.std.specs.List.{list_any}
-use Rattle.pua_tree.specs.Tree.{Tree, kind_at, above, climb, is_empty}
+use Rattle.pua_tree.specs.Tree.{Tree, kind_at, above, climb}
 use Rattle.pua_path.specs.Resolution.{resolution_of_text}
 pub use Rattle.pua_path.specs.Fits.{found_fits, FoundFits, FoundsFit, is_link_kind, is_link}
+pub use Rattle.pua_policy.specs.Misfits.{Object, IsDir, IsFile, IsProg, IsLink, IsMissing}
+use Rattle.pua_policy.specs.Misfits.{rmdir_misfit, misfit, misfit_errno}
 use Rattle.pua_policy.specs.Promises.{holds}
 use Rattle.pua_policy.specs.Calls.{CallTable, rule_of, last_of, ending_of}
 use Rattle.pua_policy.specs.History.{History, Event, Unveiled, kept, may_any, working_dir}
 use Rattle.pua_tree.specs.declared.node.Kind.{Kind}
 use Rattle.pua_tree.specs.declared.node.Kind.TheVariants as kind
 use Rattle.pua_path.specs.declared.errno.Errno.{Errno}
-use Rattle.pua_path.specs.declared.errno.Errno.TheVariants.{ENOENT, EACCES, EBUSY, EEXIST, ENOTDIR, EISDIR, EINVAL, ENOTEMPTY, EPERM, ENOSYS}
+use Rattle.pua_path.specs.declared.errno.Errno.TheVariants.{ENOENT, EACCES, ENOSYS}
 use Rattle.pua_path.specs.declared.found.Way.{Way}
-use Rattle.pua_path.specs.declared.found.Way.TheVariants as way
 use Rattle.pua_path.specs.declared.found.Found.{Found}
 use Rattle.pua_path.specs.declared.found.Found.TheVariants as found
 use Rattle.pua_policy.specs.declared.call.Call.{Call}
-use Rattle.pua_policy.specs.declared.call.Call.TheVariants.{Readlink, OpenWrite, OpenBoth, Create, Mkdir, Rmdir, Unlink, Symlink, Chdir, Exec}
 use Rattle.pua_policy.specs.declared.place.Place.{Place}
 use Rattle.pua_policy.specs.declared.place.Place.TheVariants.{Dir, Slot}
 use Rattle.pua_policy.specs.declared.answer.Cover.{Cover}
@@ -53,14 +53,6 @@ abbrev pub cover : Tree → History → Found → Cover
 cover t h object =
     if list_any is_unveil h then nearest (kept h (place_of object) ∷ map (λ dir. kept h (Dir dir)) (directories_over t object)) else All
 
--- what was found, as the last check sees it
-pub data Object : Type 0 where
-  IsDir : ℕ → Way → Object
-  IsFile : Object
-  IsProg : Object
-  IsLink : Object
-  IsMissing : Object
-
 abbrev pub object_of_kind : Option Kind → Object
 object_of_kind (Some kind.Prog) = IsProg
 object_of_kind (Some kind.Link) = IsLink
@@ -74,32 +66,11 @@ object_of t (found.Slot dir name (Some x)) = object_of_kind (kind_at t x)
 
 -- a directory is removed by its name alone, and only if it is empty
 abbrev pub rmdir_fault : Tree → ℕ → Way → Option Errno
-rmdir_fault t dir way.Dot = Some EINVAL
-rmdir_fault t dir way.DotDot = Some EINVAL
-rmdir_fault t dir way.Top = Some EBUSY
-rmdir_fault t dir (way.Named parent name) = if is_empty t dir then None else Some ENOTEMPTY
+rmdir_fault t dir way = option_map misfit_errno (rmdir_misfit t dir way)
 
--- the last check of a call, by what was found; a link that is followed is never found
+-- the last check of a call, by what was found
 abbrev pub object_fault : Tree → Call → Object → Option Errno
-object_fault t Create (IsDir dir way) = Some EISDIR
-object_fault t Create _ = None
-object_fault t Mkdir IsMissing = None
-object_fault t Mkdir _ = Some EEXIST
-object_fault t Symlink IsMissing = None
-object_fault t Symlink _ = Some EEXIST
-object_fault t _ IsMissing = Some ENOENT
-object_fault t Readlink IsLink = None
-object_fault t Readlink _ = Some EINVAL
-object_fault t OpenWrite (IsDir dir way) = Some EISDIR
-object_fault t OpenBoth (IsDir dir way) = Some EISDIR
-object_fault t Rmdir (IsDir dir way) = rmdir_fault t dir way
-object_fault t Rmdir _ = Some ENOTDIR
-object_fault t Unlink (IsDir dir way) = Some EPERM
-object_fault t Chdir (IsDir dir way) = None
-object_fault t Chdir _ = Some ENOTDIR
-object_fault t Exec IsProg = None
-object_fault t Exec _ = Some EACCES
-object_fault t _ _ = None
+object_fault t call object = option_map misfit_errno (misfit t call object)
 
 abbrev pub allowed_unless : Option Errno → Verdict
 allowed_unless None = Allowed
@@ -112,9 +83,9 @@ cover_fault Nothing perms = Some ENOENT
 cover_fault (Only given) perms = if holds given perms then None else Some EACCES
 
 -- the first of two faults
-abbrev pub or_fault : Option Errno → Option Errno → Option Errno
+abbrev pub or_fault : {E : Type 0} → Option E → Option E → Option E
 or_fault None next = next
-or_fault (Some errno) next = Some errno
+or_fault (Some fault) next = Some fault
 
 -- what becomes of a call without its promises; None where it has them
 abbrev pub refusal_of : May → Option Refusal

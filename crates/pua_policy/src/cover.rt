@@ -4,11 +4,14 @@ ghost use Rattle.std.specs.Prelude.{◌≡◌, ◌+◌, ◌≤◌, length, map, 
 ghost use Rattle.pua_tree.specs.Tree.{WellFormed, is_dir, climb};
 ghost use Rattle.pua_policy.specs.Descent.{own_or};
 ghost use Rattle.pua_policy.specs.History.{History, StandsFor, kept, veil_at};
+ghost use Rattle.pua_policy.specs.Reasons.{covering, first_veiled, covering_at};
 ghost use Rattle.pua_policy.specs.Verdict.{FoundFits, cover, nearest};
 
 use crate::answer::Cover;
+use crate::perms::Perms;
 use crate::place::Place;
 use crate::process::Process;
+use crate::reason::Covering;
 use pua_path::{Found, Probe};
 use pua_tree::NodeId;
 
@@ -28,11 +31,36 @@ impl Process {
         }
         probe.known();
         match *found {
-            Found::Whole { dir, .. } => self.nearest(probe, dir),
+            Found::Whole { dir, .. } => self.cover_from(probe, dir),
             Found::Slot { dir, name, .. } => match self.kept(&Place::Slot(dir, name)) {
                 Some(perms) => Cover::Only(perms),
-                None => self.nearest(probe, dir),
+                None => self.cover_from(probe, dir),
             },
+        }
+    }
+
+    /// Which veil covers an object, by the rules of `cover`: where it is kept, and its permissions.
+    /// What was found is of the probe's tree as it stands. At most as many looks at the tree as it has
+    /// nodes.
+    pub fn covering<'t, P: Probe<'t>>(&self, probe: &mut P, found: &Found) -> Covering
+        requires { FoundFits (P.tree probe.old) found.now }
+        ensures exact { (h : History) → StandsFor self.now h → result ≡ covering (P.tree probe.old) h found.now }
+        ensures tree { P.tree probe.new ≡ P.tree probe.old }
+        ensures cost { P.count probe.new ≤ P.count probe.old + length (P.tree probe.old).nodes }
+    {
+        if !self.is_veiled() {
+            return Covering::InView;
+        }
+        probe.known();
+        match *found {
+            Found::Whole { dir, .. } => self.covering_from(probe, dir),
+            Found::Slot { dir, name, .. } => {
+                let own = Place::Slot(dir, name);
+                match self.kept(&own) {
+                    Some(perms) => Covering::By(own, perms),
+                    None => self.covering_from(probe, dir),
+                }
+            }
         }
     }
 
@@ -48,23 +76,51 @@ impl Process {
     }
 
     /// The permissions of the first directory that has a veil, from this one up to the root.
-    fn nearest<'t, P: Probe<'t>>(&self, probe: &mut P, from: NodeId) -> Cover
+    fn cover_from<'t, P: Probe<'t>>(&self, probe: &mut P, from: NodeId) -> Cover
         requires tree { WellFormed (P.tree probe.old) }
         requires living { IsTrue (is_dir (P.tree probe.old) from) }
         ensures exact { result ≡ nearest (map (λ dir. veil_at self.now.veils (Place.Dir dir)) (climb (P.tree probe.old) from)) }
         ensures tree { P.tree probe.new ≡ P.tree probe.old }
         ensures cost { P.count probe.new ≤ P.count probe.old + length (P.tree probe.old).nodes }
     {
+        match self.nearest(probe, from) {
+            Some(veil) => Cover::Only(veil.1),
+            None => Cover::Nothing,
+        }
+    }
+
+    /// The veil of the first directory that has one, from this one up to the root.
+    fn covering_from<'t, P: Probe<'t>>(&self, probe: &mut P, from: NodeId) -> Covering
+        requires tree { WellFormed (P.tree probe.old) }
+        requires living { IsTrue (is_dir (P.tree probe.old) from) }
+        ensures exact { result ≡ covering_at (first_veiled (λ dir. veil_at self.now.veils (Place.Dir dir)) (climb (P.tree probe.old) from)) }
+        ensures tree { P.tree probe.new ≡ P.tree probe.old }
+        ensures cost { P.count probe.new ≤ P.count probe.old + length (P.tree probe.old).nodes }
+    {
+        match self.nearest(probe, from) {
+            Some((dir, perms)) => Covering::By(Place::Dir(dir), perms),
+            None => Covering::NoneOver,
+        }
+    }
+
+    /// The first directory that has a veil, from this one up to the root, and its permissions.
+    fn nearest<'t, P: Probe<'t>>(&self, probe: &mut P, from: NodeId) -> Option<(NodeId, Perms)>
+        requires tree { WellFormed (P.tree probe.old) }
+        requires living { IsTrue (is_dir (P.tree probe.old) from) }
+        ensures exact { result ≡ first_veiled (λ dir. veil_at self.now.veils (Place.Dir dir)) (climb (P.tree probe.old) from) }
+        ensures tree { P.tree probe.new ≡ P.tree probe.old }
+        ensures cost { P.count probe.new ≤ P.count probe.old + length (P.tree probe.old).nodes }
+    {
         let mut dir = from;
         loop {
             if let Some(perms) = self.kept(&Place::Dir(dir)) {
-                return Cover::Only(perms);
+                return Some((dir, perms));
             }
             if dir == NodeId::ROOT {
-                return Cover::Nothing;
+                return None;
             }
             let Some(above) = probe.parent(dir) else {
-                return Cover::Nothing;
+                return None;
             };
             dir = above;
         }

@@ -6,7 +6,8 @@ ghost use Rattle.pua_policy.specs.Calls.{rule_of};
 ghost use Rattle.pua_policy.specs.CallSets.{has};
 ghost use Rattle.pua_policy.specs.History.{History, StandsFor, may_any};
 ghost use Rattle.pua_policy.specs.Objects.{object_seen};
-ghost use Rattle.pua_policy.specs.Verdict.{FoundFits, FoundsFit, verdict, verdict_of, covered_verdict, is_allowed, refusal_of, found_fault, cover_fault, object_fault, rmdir_fault, Object as Judged, object_of, object_of_kind, IsDir};
+ghost use Rattle.pua_policy.specs.Verdict.{FoundFits, FoundsFit, verdict, verdict_of, covered_verdict, is_allowed, refusal_of, found_fault, cover_fault, object_fault, Object as Judged, object_of, object_of_kind, IsDir};
+ghost use Rattle.pua_policy.specs.Misfits.{misfit, rmdir_misfit};
 ghost use Rattle.pua_path.specs.declared.found.Way as way;
 
 use crate::answer::{Cover, May, Refusal, Verdict};
@@ -16,6 +17,7 @@ use crate::object::Object;
 use crate::perms::Perms;
 use crate::process::Process;
 use crate::promises::Promises;
+use crate::reason::Misfit;
 use crate::table::CallTable;
 use pua_path::{Errno, Found, Probe, Way};
 use pua_tree::{Kind, NodeId};
@@ -167,7 +169,7 @@ pub fn object<'t, P: Probe<'t>>(probe: &mut P, found: &Found) -> Object
     ensures cost { P.count probe.new ≤ P.count probe.old + 1 }
 {
     match *found {
-        Found::Whole { dir, way } => match rmdir_fault(probe, dir, way) {
+        Found::Whole { dir, way } => match rmdir_misfit(probe, dir, way) {
             Some(_) => Object::Directory,
             None => Object::Removable,
         },
@@ -194,17 +196,29 @@ pub fn cover_fault(cover: Cover, perms: Perms) -> Option<Errno>
     }
 }
 
-/// What is wrong with what was found.
+/// The error of what is wrong with what was found.
 fn object_fault<'t, P: Probe<'t>>(probe: &mut P, call: Call, found: &Found) -> Option<Errno>
     ensures exact { result ≡ object_fault (P.tree probe.old) call (object_of (P.tree probe.old) found.now) }
     ensures tree { P.tree probe.new ≡ P.tree probe.old }
     ensures cost { P.count probe.new ≤ P.count probe.old + 1 }
 {
+    let misfit = misfit(probe, call, found)?;
+    Some(misfit.errno())
+}
+
+/// What is wrong with what a path named, for a call, the veils aside: the fault of its kind, whose
+/// errno `object_verdict` answers (which kind a call is on: this profile). What was found is of the
+/// probe's tree as it stands. One look at the tree at most.
+pub fn misfit<'t, P: Probe<'t>>(probe: &mut P, call: Call, found: &Found) -> Option<Misfit>
+    ensures exact { result ≡ misfit (P.tree probe.old) call (object_of (P.tree probe.old) found.now) }
+    ensures tree { P.tree probe.new ≡ P.tree probe.old }
+    ensures cost { P.count probe.new ≤ P.count probe.old + 1 }
+{
     match *found {
-        Found::Whole { dir, way } if call == Call::Rmdir => rmdir_fault(probe, dir, way),
-        Found::Whole { .. } => directory_fault(call),
-        Found::Slot { node: Some(id), .. } => slot_fault(call, probe.kind(id)),
-        Found::Slot { node: None, .. } => slot_fault(call, None),
+        Found::Whole { dir, way } if call == Call::Rmdir => rmdir_misfit(probe, dir, way),
+        Found::Whole { .. } => directory_misfit(call),
+        Found::Slot { node: Some(id), .. } => slot_misfit(call, probe.kind(id)),
+        Found::Slot { node: None, .. } => slot_misfit(call, None),
     }
 }
 
@@ -212,60 +226,61 @@ fn object_fault<'t, P: Probe<'t>>(probe: &mut P, call: Call, found: &Found) -> O
 fn suits(call: Call, object: Object) -> bool
     ensures { (t : Tree) (judged : Judged) → object ≡ object_seen t judged → result ≡ is_none (object_fault t call judged) }
 {
-    let fault = match object {
-        Object::Missing => slot_fault(call, None),
-        Object::File => slot_fault(call, Some(Kind::File)),
-        Object::Program => slot_fault(call, Some(Kind::Prog)),
-        Object::Link => slot_fault(call, Some(Kind::Link)),
+    let misfit = match object {
+        Object::Missing => slot_misfit(call, None),
+        Object::File => slot_misfit(call, Some(Kind::File)),
+        Object::Program => slot_misfit(call, Some(Kind::Prog)),
+        Object::Link => slot_misfit(call, Some(Kind::Link)),
         Object::Directory if call == Call::Rmdir => return false,
-        Object::Directory | Object::Removable => directory_fault(call),
+        Object::Directory | Object::Removable => directory_misfit(call),
     };
-    fault.is_none()
+    misfit.is_none()
 }
 
 /// What is wrong with a directory, which may be removed if the call is rmdir.
-fn directory_fault(call: Call) -> Option<Errno>
-    ensures { (t : Tree) (dir : ℕ) (how : way.Way) → (call ≡ Call.Rmdir → rmdir_fault t dir how ≡ None) → result ≡ object_fault t call (IsDir dir how) }
+fn directory_misfit(call: Call) -> Option<Misfit>
+    ensures { (t : Tree) (dir : ℕ) (how : way.Way) → (call ≡ Call.Rmdir → rmdir_misfit t dir how ≡ None) → result ≡ misfit t call (IsDir dir how) }
 {
     match call {
         Call::Stat | Call::Lstat | Call::OpenRead | Call::Rmdir | Call::Chmod | Call::Chdir => None,
-        Call::Readlink => Some(Errno::EINVAL),
-        Call::OpenWrite | Call::OpenBoth | Call::Create => Some(Errno::EISDIR),
-        Call::Mkdir | Call::Symlink => Some(Errno::EEXIST),
-        Call::Unlink => Some(Errno::EPERM),
-        Call::Exec => Some(Errno::EACCES),
+        Call::Readlink => Some(Misfit::IsNoLink),
+        Call::OpenWrite | Call::OpenBoth | Call::Create => Some(Misfit::IsDirectory),
+        Call::Mkdir | Call::Symlink => Some(Misfit::Exists),
+        Call::Unlink => Some(Misfit::IsNoFile),
+        Call::Exec => Some(Misfit::IsNoProgram),
     }
 }
 
 /// What is wrong with removing a directory.
-fn rmdir_fault<'t, P: Probe<'t>>(probe: &mut P, dir: NodeId, way: Way) -> Option<Errno>
-    ensures exact { result ≡ rmdir_fault (P.tree probe.old) dir way }
+fn rmdir_misfit<'t, P: Probe<'t>>(probe: &mut P, dir: NodeId, way: Way) -> Option<Misfit>
+    ensures exact { result ≡ rmdir_misfit (P.tree probe.old) dir way }
     ensures tree { P.tree probe.new ≡ P.tree probe.old }
     ensures cost { P.count probe.new ≤ P.count probe.old + 1 }
 {
     match way {
-        Way::Dot | Way::DotDot => Some(Errno::EINVAL),
-        Way::Top => Some(Errno::EBUSY),
+        Way::Dot => Some(Misfit::ByDot),
+        Way::DotDot => Some(Misfit::ByDotDot),
+        Way::Top => Some(Misfit::ByNothing),
         Way::Named { .. } if probe.is_empty(dir) => None,
-        Way::Named { .. } => Some(Errno::ENOTEMPTY),
+        Way::Named { .. } => Some(Misfit::IsNotEmpty),
     }
 }
 
 /// What is wrong with a name where no directory stands; None where nothing stands there.
-fn slot_fault(call: Call, kind: Option<Kind>) -> Option<Errno>
-    ensures { (t : Tree) → result ≡ object_fault t call (object_of_kind kind) }
+fn slot_misfit(call: Call, kind: Option<Kind>) -> Option<Misfit>
+    ensures { (t : Tree) → result ≡ misfit t call (object_of_kind kind) }
 {
     let Some(kind) = kind else {
         return match call {
             Call::Create | Call::Mkdir | Call::Symlink => None,
-            _ => Some(Errno::ENOENT),
+            _ => Some(Misfit::Missing),
         };
     };
     match call {
-        Call::Readlink if kind != Kind::Link => Some(Errno::EINVAL),
-        Call::Mkdir | Call::Symlink => Some(Errno::EEXIST),
-        Call::Rmdir | Call::Chdir => Some(Errno::ENOTDIR),
-        Call::Exec if kind != Kind::Prog => Some(Errno::EACCES),
+        Call::Readlink if kind != Kind::Link => Some(Misfit::IsNoLink),
+        Call::Mkdir | Call::Symlink => Some(Misfit::Exists),
+        Call::Rmdir | Call::Chdir => Some(Misfit::IsNoDirectory),
+        Call::Exec if kind != Kind::Prog => Some(Misfit::IsNoProgram),
         _ => None,
     }
 }

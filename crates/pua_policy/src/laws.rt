@@ -3,11 +3,12 @@
 
 ghost use Rattle.std.specs.Prelude.{◌≡◌, [], ◌∷◌, Ok, codes, map};
 ghost use Rattle.pua_policy.specs.Laws.{VeilsAreKept, CoverNeedsUnveil, NearestCounts, KeptPlacesNarrow, CoversDescend, HeldNeverGrows, PledgesNarrow, ProcessesDecide};
+ghost use Rattle.pua_policy.specs.ReasonLaws.{CoveringsHold, LackingsHold, MisfitsHold, PromisingsAnswer, PromisingsHold};
 ghost use Rattle.pua_policy.specs.Calls.{calls};
 ghost use Rattle.pua_policy.specs.Limits.{place_limit};
 ghost use Rattle.pua_policy.specs.Tables.{alternative_limit};
 ghost use Rattle.pua_policy.specs.Promises.{promises_of, other_promises, perms_of};
-ghost use Rattle.pua_policy.specs.Examples.{CoverRows, VerdictRows, LastCheckRows, SetRows};
+ghost use Rattle.pua_policy.specs.Examples.{CoverRows, VerdictRows, LastCheckRows, SetRows, ReasonRows};
 ghost use Rattle.pua_policy.specs.TableExamples.{OpenbsdRows, TableRows};
 
 use crate::call::Call;
@@ -70,12 +71,13 @@ pub fn cover_examples()
 {}
 
 /// Examples of what promises and veils allow, the last check of each call on each kind of object,
-/// and sets of calls.
-#[tactic(auto, using(crate::specs::Examples::verdict_rows, crate::specs::Examples::last_check_rows, crate::specs::Examples::set_rows))]
+/// sets of calls, and why something is allowed or not.
+#[tactic(auto, using(crate::specs::Examples::verdict_rows, crate::specs::Examples::last_check_rows, crate::specs::Examples::set_rows, crate::specs::Examples::reason_rows))]
 pub fn verdict_examples()
     ensures verdicts { VerdictRows }
     ensures checks { LastCheckRows }
     ensures sets { SetRows }
+    ensures reasons { ReasonRows }
 {}
 
 /// Examples of texts and of the tables that they give, or what refuses them; and of OpenBSD's rules,
@@ -112,4 +114,27 @@ pub fn promise_laws()
 /// What a process keeps decides what it may do, whichever history it stands for.
 pub fn standing_law()
     ensures { ProcessesDecide }
+{}
+
+/// What a set is told to lack of another suffices beside it, and whatever suffices has it. Of promises
+/// it is told which set is held, the first one, or what of each lacks; and whether promises allow a
+/// call follows from what is told.
+#[tactic(auto, using(crate::proofs::Lacking::lackings_hold, crate::proofs::Lacking::promisings_hold, crate::proofs::Lacking::promisings_answer))]
+pub fn lacking_law()
+    ensures sets { LackingsHold }
+    ensures promises { PromisingsHold }
+    ensures answers { PromisingsAnswer }
+{}
+
+/// The veil that is told to cover an object is the nearest, and would decide with any other letters;
+/// or none stands on the way up; or none is kept. What is left of the object follows from it.
+#[tactic(auto, using(crate::proofs::NearestVeil::coverings_hold))]
+pub fn covering_law()
+    ensures { CoveringsHold }
+{}
+
+/// What is told to be wrong with an object is so.
+#[tactic(auto, using(crate::proofs::Misfits::misfits_hold))]
+pub fn misfit_law()
+    ensures { MisfitsHold }
 {}

@@ -27,7 +27,7 @@ impl Model for Perms {
 }
 
 ghost use Rattle.std.specs.Prelude.{⊤, ◌≡◌, [], ◌∷◌, codes, bit_or};
-ghost use Rattle.pua_policy.specs.Promises.{holds, perms_of, letter_of, letters_of, reading, writing, executing, creating};
+ghost use Rattle.pua_policy.specs.Promises.{holds, lacking, perms_of, letter_of, letters_of, reading, writing, executing, creating};
 
 use pua_path::Errno;
 
@@ -139,11 +139,28 @@ impl Perms {
         }
     }
 
+    /// These as a number, with a bit for each letter, r at bit 0, then w, x and c.
+    pub fn bits(self) -> u8
+        ensures { result ≡ self }
+    {
+        self.letters.0
+    }
+
     /// Whether each of the others is one of these.
     pub fn contains(self, others: Perms) -> bool
         ensures { result ≡ holds self others }
     {
         self.letters.contains(others.letters)
+    }
+
+    /// These without those of them that are among the others: what the others lack of these.
+    pub fn without(self, others: Perms) -> Perms
+        ensures { result ≡ lacking others self }
+    {
+        let common = self.letters.intersection(others.letters);
+        Perms {
+            letters: self.letters.symmetric_difference(common),
+        }
     }
 
     /// These and the others.

@@ -43,7 +43,7 @@ ghost use Rattle.std.specs.Prelude.{◌≡◌, ◌≢◌, ◌-◌, [], ◌∷◌
 ghost use Rattle.std.specs.List.{list_any};
 ghost use Rattle.pua_policy.specs.Promises.{holds, all_promises, error};
 ghost use Rattle.pua_policy.specs.declared.rules.ExecPromises.TheVariants.{Unset};
-ghost use Rattle.pua_policy.specs.History.{History, StandsFor, Pledged, Unveiled, Locked, Moved, Ended, new_history, HasHistory, after_exec, pledge_fault, unveil_fault, place_fault, is_within, narrowed, may_any, is_locked, is_ended, working_dir, pledged, held_for_exec, kept, veils, veil_at, has_veil};
+ghost use Rattle.pua_policy.specs.History.{History, StandsFor, Pledged, Unveiled, Locked, Moved, Ended, new_history, HasHistory, after_exec, pledge_fault, unveil_fault, place_fault, is_within, narrowed, may_any, is_locked, is_ended, working_dir, pledged, held, held_for_exec, kept, veils, veil_at, has_veil};
 
 impl Process {
     /// A new process, in the root: it holds every promise but `error`, and has no veil (this
@@ -272,9 +272,11 @@ impl Process {
         }
     }
 
-    /// The promises that it holds.
-    fn held(&self) -> Promises
-        ensures { result ≡ unwrap_or self.now.promises (all_promises - error) }
+    /// The promises that it holds: those that its pledges left it, and before the first one that gave
+    /// promises every one but `error`. Whether it has ended is not asked.
+    pub fn held(&self) -> Promises
+        ensures state { result ≡ unwrap_or self.now.promises (all_promises - error) }
+        ensures history { (h : History) → StandsFor self.now h → result ≡ held h }
     {
         self.promises.unwrap_or(Promises::ALL_BUT_ERROR)
     }

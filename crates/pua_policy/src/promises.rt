@@ -27,7 +27,7 @@ impl Model for Promises {
 }
 
 ghost use Rattle.std.specs.Prelude.{⊤, ◌≡◌, ◌==◌, IfOk, bit_and, bit_or, map, option_map};
-ghost use Rattle.pua_policy.specs.Promises.{holds, keywords_of, promises_of, promise_of, union_of, keyword_rows};
+ghost use Rattle.pua_policy.specs.Promises.{holds, lacking, keyword_at, keywords_of, promises_of, promise_of, union_of, keyword_rows};
 ghost use Rattle.std.specs.List.{slice_split};
 
 use pua_path::Errno;
@@ -308,6 +308,38 @@ impl Promises {
     {
         Promises {
             keywords: self.keywords.intersection(others.keywords),
+        }
+    }
+
+    /// These without those of them that are among the others: what the others lack of these.
+    pub fn without(self, others: Promises) -> Promises
+        ensures { result ≡ lacking others self }
+    {
+        let common = self.keywords.intersection(others.keywords);
+        Promises {
+            keywords: self.keywords.symmetric_difference(common),
+        }
+    }
+
+    /// These as a number, with a bit for each of the 36 keywords, the first at bit 0.
+    pub fn bits(self) -> u64
+        ensures { result ≡ self }
+    {
+        self.keywords.0
+    }
+
+    /// How many keywords there are.
+    pub const KEYWORDS: usize = 36;
+
+    /// The keyword at this index among all, the first at 0, if it is one of these.
+    pub fn keyword(self, index: usize) -> Option<&'static str>
+        ensures { option_map (λ name. name.now) result ≡ keyword_at self index }
+    {
+        let flag = Keywords::flags().get(index)?;
+        if self.keywords.contains(flag.value) {
+            Some(flag.name)
+        } else {
+            None
         }
     }
 

@@ -36,6 +36,20 @@ fn objects_line_for_runs() {
     }
 }
 
+/// To ask why has a line of its own.
+fn program_line_for_why(alloc: Global) {
+    if let Err(Stop::Usage(UsageLine::Program)) = read_words(alloc, &["why"]) {
+        unreachable!()
+    }
+}
+
+/// A list of objects doesn't have the line of that.
+fn why_line_for_objects() {
+    if let UsageLine::Why = UsageLine::of(&["objects"]) {
+        unreachable!()
+    }
+}
+
 /// No words have the line of the program.
 fn objects_line_for_no_words(alloc: Global) {
     if let Err(Stop::Usage(UsageLine::Objects)) = read_words(alloc, &[]) {

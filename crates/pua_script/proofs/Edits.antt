@@ -1,6 +1,6 @@
 -- What is left of an edit's faults after what was checked before it.
 use Rattle.std.proofs.Common.{◌≡◌, ℕ, List, Bool, true, false, cond, refl, sym, ap, subst, ◌∙◌}
-use Rattle.std.specs.Prelude.{Option, Some, None, Ok, Err, IsOk, ◌&&◌, ◌==◌, not}
+use Rattle.std.specs.Prelude.{Option, Some, None, option_map, Ok, Err, IsOk, ◌&&◌, ◌==◌, not}
 use Rattle.std.specs.Option.{option_eq}
 use Rattle.std.proofs.lemmas.Bool.{and_parts}
 use Rattle.std.proofs.lemmas.Option.{same_Some}
@@ -9,7 +9,8 @@ use Rattle.pua_tree.specs.Edits.{cut, cut_found, is_full_dir, without_unnamed, w
 use Rattle.pua_tree.specs.declared.node.Kind.{Kind}
 use Rattle.pua_tree.specs.declared.node.Kind.TheVariants as kinds
 use Rattle.pua_tree.specs.declared.fault.TreeFault.TheVariants as faults
-use Rattle.pua_path.specs.declared.errno.Errno.TheVariants.{ENOTEMPTY}
+use Rattle.pua_policy.specs.Misfits.{misfit_errno}
+use Rattle.pua_policy.specs.declared.reason.Misfit.TheVariants.{IsNotEmpty}
 use Rattle.pua_path.specs.declared.found.Way.TheVariants as ways
 use Rattle.pua_path.specs.declared.found.Found.{Found}
 use Rattle.pua_path.specs.declared.found.Found.TheVariants.{Whole, Slot}
@@ -47,9 +48,9 @@ empty_alone t x empty = ap (λ b. is_dir t x && not b) (and_parts (is_dir t x) (
     by true = refl
     by false = refl
 
-is_emptied : (b : Bool) → cond b None (Some ENOTEMPTY) ≡ None → b ≡ true
+is_emptied : (b : Bool) → option_map misfit_errno (cond b None (Some IsNotEmpty)) ≡ None → b ≡ true
 is_emptied true is = refl
-is_emptied false is = absurd (some_none ENOTEMPTY is)
+is_emptied false is = absurd (some_none _ is)
 
 pub not_dir : (b : Bool) → not b ≡ true → b ≡ false
 not_dir true is = cc

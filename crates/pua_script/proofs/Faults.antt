@@ -1,15 +1,15 @@
 -- No fault of a check is want of room.
 use Rattle.std.proofs.Common.{◌≡◌, ◌≢◌, ℕ, zero, suc, List, [], ◌∷◌, ◌++◌, Bool, true, false, cond, refl, ap, ◌∙◌}
-use Rattle.std.specs.Prelude.{Option, Some, None, Result, Ok, Err, not, ◌&&◌, nat_lt, length, is_some}
-use Rattle.pua_tree.specs.Names.{has_byte, has_short_components}
+use Rattle.std.specs.Prelude.{Option, Some, None, option_map, Result, Ok, Err, not, ◌&&◌, is_some}
 use Rattle.pua_tree.specs.Steps.{◌>>=◌}
 use Rattle.pua_tree.specs.Tree.{Tree, is_dir, is_empty, above}
-use Rattle.pua_path.specs.Limits.{path_limit}
-use Rattle.pua_path.specs.Paths.{parts_of, is_absolute, path_fault}
+use Rattle.pua_path.specs.Paths.{parts_of, is_absolute, path_fault, text_fault, text_errno}
 use Rattle.pua_path.specs.Resolution.{Resolved, Directory, Linked, Plain, Nothing, standing_at, is_followed, slot_or, walk, start_of, resolve_parts, resolution_of_text, link_limit}
 use Rattle.pua_path.specs.Fits.{node_named}
 use Rattle.pua_path.specs.declared.errno.Errno.{Errno}
-use Rattle.pua_path.specs.declared.errno.Errno.TheVariants.{EPERM, ENOENT, EACCES, ENAMETOOLONG, EINVAL, ENOTEMPTY, ENOSPC, ENOTDIR, ELOOP}
+use Rattle.pua_path.specs.declared.errno.Errno.TheVariants.{EPERM, ENOENT, EACCES, EINVAL, ENOTEMPTY, ENOSPC, ENOTDIR, ELOOP}
+use Rattle.pua_path.specs.declared.traced.TextFault.{TextFault}
+use Rattle.pua_path.specs.declared.traced.TextFault.TheVariants.{EmptyText, LongText, LongComponent, NulInText}
 use Rattle.pua_path.specs.declared.text.Ending.{Ending}
 use Rattle.pua_path.specs.declared.text.Ending.TheVariants as ending
 use Rattle.pua_path.specs.declared.found.Part.{Part}
@@ -23,16 +23,17 @@ use Rattle.pua_path.specs.declared.found.Found.TheVariants.{Slot}
 use Rattle.pua_policy.specs.Promises.{holds}
 use Rattle.pua_policy.specs.Calls.{CallTable, PairRule, rule_of, ending_of, last_of}
 use Rattle.pua_policy.specs.History.{History, working_dir, may_any, unveil_fault}
-use Rattle.pua_policy.specs.Verdict.{Object, IsDir, IsFile, IsProg, IsLink, IsMissing, place_of, cover, cover_fault, rmdir_fault, object_fault, object_of, object_named}
+use Rattle.pua_policy.specs.Misfits.{misfit, misfit_errno}
+use Rattle.pua_policy.specs.Verdict.{Object, place_of, cover, cover_fault, object_fault, object_of, object_named}
+use Rattle.pua_policy.specs.declared.reason.Misfit.{Misfit}
+use Rattle.pua_policy.specs.declared.reason.Misfit.TheVariants.{Missing, Exists, IsDirectory, IsNoFile, IsNoDirectory, IsNoLink, IsNoProgram, IsNotEmpty, ByDot, ByDotDot, ByNothing}
 use Rattle.pua_policy.specs.declared.call.Call.{Call}
-use Rattle.pua_policy.specs.declared.call.Call.TheVariants as call
 use Rattle.pua_policy.specs.declared.answer.Cover.{Cover}
 use Rattle.pua_policy.specs.declared.answer.Cover.TheVariants as covers
 use Rattle.pua_policy.specs.declared.answer.UnveilFault.{UnveilFault}
 use Rattle.pua_policy.specs.declared.answer.UnveilFault.TheVariants as unveil_faults
 use Rattle.pua_policy.specs.declared.answer.May.{May}
 use Rattle.pua_policy.specs.declared.answer.May.TheVariants as may
-use Rattle.pua_script.specs.declared.request.Action.TheVariants.{Symlink}
 use Rattle.pua_tree.specs.Edits.{is_inside, is_same_node}
 use Rattle.pua_path.specs.declared.errno.Errno.TheVariants.{EEXIST, EISDIR}
 use Rattle.pua_path.specs.Fits.{spot_named}
@@ -89,12 +90,15 @@ pub none_or : (b : Bool) (errno : Errno) → errno ≢ ENOSPC → Apart (cond b 
 none_or true errno other e = cc
 none_or false errno other e = fault_or true errno None other (λ e. cc) e
 
+text_apart : (o : Option TextFault) → Apart (option_map text_errno o)
+text_apart None = λ e. cc
+text_apart (Some EmptyText) = λ e. cc
+text_apart (Some LongText) = λ e. cc
+text_apart (Some LongComponent) = λ e. cc
+text_apart (Some NulInText) = λ e. cc
+
 pub path_apart : (text : List ℕ) → Apart (path_fault text)
-path_apart [] = λ e. cc
-path_apart (b ∷ more) =
-    fault_or (nat_lt path_limit (length (b ∷ more))) ENAMETOOLONG _ (λ e. cc)
-    (fault_or (not (has_short_components (b ∷ more))) ENAMETOOLONG _ (λ e. cc)
-    (fault_or (has_byte 0 (b ∷ more)) EINVAL None (λ e. cc) (λ e. cc)))
+path_apart text = text_apart (text_fault text)
 
 abbrev IsApart : Resolved → Type 0
 IsApart (Ok found) = Unit {0}
@@ -161,34 +165,22 @@ cover_apart covers.All perms = λ e. cc
 cover_apart covers.Nothing perms = λ e. cc
 cover_apart (covers.Only given) perms = none_or (holds given perms) EACCES (λ e. cc)
 
-rmdir_apart : (t : Tree) (dir : ℕ) (by : Way) → Apart (rmdir_fault t dir by)
-rmdir_apart t dir way.Dot = λ e. cc
-rmdir_apart t dir way.DotDot = λ e. cc
-rmdir_apart t dir way.Top = λ e. cc
-rmdir_apart t dir (way.Named parent name) = none_or (is_empty t dir) ENOTEMPTY (λ e. cc)
-
-each_apart : (f : Object → Option Errno) → ((dir : ℕ) (by : Way) → Apart (f (IsDir dir by))) → Apart (f IsFile) → Apart (f IsProg) → Apart (f IsLink) → Apart (f IsMissing) → (o : Object) → Apart (f o)
-each_apart f dirs file prog link missing (IsDir dir by) = dirs dir by
-each_apart f dirs file prog link missing IsFile = file
-each_apart f dirs file prog link missing IsProg = prog
-each_apart f dirs file prog link missing IsLink = link
-each_apart f dirs file prog link missing IsMissing = missing
+misfit_apart : (o : Option Misfit) → Apart (option_map misfit_errno o)
+misfit_apart None = λ e. cc
+misfit_apart (Some Missing) = λ e. cc
+misfit_apart (Some Exists) = λ e. cc
+misfit_apart (Some IsDirectory) = λ e. cc
+misfit_apart (Some IsNoFile) = λ e. cc
+misfit_apart (Some IsNoDirectory) = λ e. cc
+misfit_apart (Some IsNoLink) = λ e. cc
+misfit_apart (Some IsNoProgram) = λ e. cc
+misfit_apart (Some IsNotEmpty) = λ e. cc
+misfit_apart (Some ByDot) = λ e. cc
+misfit_apart (Some ByDotDot) = λ e. cc
+misfit_apart (Some ByNothing) = λ e. cc
 
 object_apart : (t : Tree) (c : Call) (o : Object) → Apart (object_fault t c o)
-object_apart t call.Stat = each_apart (object_fault t call.Stat) (λ d b e. cc) (λ e. cc) (λ e. cc) (λ e. cc) (λ e. cc)
-object_apart t call.Lstat = each_apart (object_fault t call.Lstat) (λ d b e. cc) (λ e. cc) (λ e. cc) (λ e. cc) (λ e. cc)
-object_apart t call.Readlink = each_apart (object_fault t call.Readlink) (λ d b e. cc) (λ e. cc) (λ e. cc) (λ e. cc) (λ e. cc)
-object_apart t call.OpenRead = each_apart (object_fault t call.OpenRead) (λ d b e. cc) (λ e. cc) (λ e. cc) (λ e. cc) (λ e. cc)
-object_apart t call.OpenWrite = each_apart (object_fault t call.OpenWrite) (λ d b e. cc) (λ e. cc) (λ e. cc) (λ e. cc) (λ e. cc)
-object_apart t call.OpenBoth = each_apart (object_fault t call.OpenBoth) (λ d b e. cc) (λ e. cc) (λ e. cc) (λ e. cc) (λ e. cc)
-object_apart t call.Create = each_apart (object_fault t call.Create) (λ d b e. cc) (λ e. cc) (λ e. cc) (λ e. cc) (λ e. cc)
-object_apart t call.Mkdir = each_apart (object_fault t call.Mkdir) (λ d b e. cc) (λ e. cc) (λ e. cc) (λ e. cc) (λ e. cc)
-object_apart t call.Rmdir = each_apart (object_fault t call.Rmdir) (rmdir_apart t) (λ e. cc) (λ e. cc) (λ e. cc) (λ e. cc)
-object_apart t call.Unlink = each_apart (object_fault t call.Unlink) (λ d b e. cc) (λ e. cc) (λ e. cc) (λ e. cc) (λ e. cc)
-object_apart t call.Symlink = each_apart (object_fault t call.Symlink) (λ d b e. cc) (λ e. cc) (λ e. cc) (λ e. cc) (λ e. cc)
-object_apart t call.Chmod = each_apart (object_fault t call.Chmod) (λ d b e. cc) (λ e. cc) (λ e. cc) (λ e. cc) (λ e. cc)
-object_apart t call.Chdir = each_apart (object_fault t call.Chdir) (λ d b e. cc) (λ e. cc) (λ e. cc) (λ e. cc) (λ e. cc)
-object_apart t call.Exec = each_apart (object_fault t call.Exec) (λ d b e. cc) (λ e. cc) (λ e. cc) (λ e. cc) (λ e. cc)
+object_apart t c o = misfit_apart (misfit t c o)
 
 veil_apart : (o : Option UnveilFault) → Apart (unveil_errno o)
 veil_apart None = λ e. cc

@@ -24,3 +24,5 @@ pub use Rattle.pua_script.proofs.Spared.{c_from_cover, covered_by_c, has_spot}
 pub use Rattle.pua_script.proofs.Applied.{by_request, by_living, by_decision, by_tree, by_own_tree}
 pub use Rattle.pua_script.proofs.Changing.{by_placing, by_cutting, by_going, by_tying, by_moves}
 pub use Rattle.pua_script.proofs.Guarding.{decisions_are_guarded, first_none, second_none, not_faulty}
+-- a request is answered ENOSPC exactly where it was granted a change for which there is no room
+pub use Rattle.pua_script.proofs.RequestRoom.{requests_lack}

@@ -13,8 +13,8 @@ use Rattle.pua_script.specs.Judged.{NameFits}
 use Rattle.pua_tree.specs.Limits.{most_target}
 use Rattle.pua_tree.specs.Names.{is_target, has_byte, has_short_components}
 use Rattle.pua_path.specs.Limits.{path_limit}
-use Rattle.pua_path.specs.Paths.{path_fault}
-use Rattle.pua_path.specs.declared.errno.Errno.TheVariants.{EINVAL, ENAMETOOLONG}
+use Rattle.pua_path.specs.Paths.{path_fault, text_errno}
+use Rattle.pua_path.specs.declared.traced.TextFault.TheVariants.{LongText, LongComponent, NulInText}
 
 -- the node of a row lives
 pub row_lives : (t : Tree) → WellFormed t → (dir : ℕ) (name : List ℕ) (x : ℕ) → look t dir name ≡ Some x → is_living t x ≡ true
@@ -33,7 +33,7 @@ named_lives t well (Whole dir way) x fits is = subst (λ y. is_living t y ≡ tr
 named_lives t well (Slot dir name there) x fits is = row_lives t well dir name x (fits.named.1 ∙ is)
 
 -- a link's text without fault is a target
-target_free : (long short nul some : Bool) → cond long (Some ENAMETOOLONG) (cond (not short) (Some ENAMETOOLONG) (cond nul (Some EINVAL) None)) ≡ None → (long ≡ false) × (short ≡ true) × (nul ≡ false)
+target_free : (long short nul some : Bool) → option_map text_errno (cond long (Some LongText) (cond (not short) (Some LongComponent) (cond nul (Some NulInText) None))) ≡ None → (long ≡ false) × (short ≡ true) × (nul ≡ false)
 target_free true short nul some e = cc
 target_free false false nul some e = cc
 target_free false true true some e = cc

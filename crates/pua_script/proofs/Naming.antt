@@ -1,6 +1,6 @@
 -- What a path of bytes names has a name.
 use Rattle.std.proofs.Common.{◌≡◌, ℕ, zero, suc, List, [], ◌∷◌, ◌++◌, map, Bool, true, false, not, ◌&&◌, cond, refl, sym, ap, subst, ◌∙◌, arith}
-use Rattle.std.specs.Prelude.{Option, Some, None, Result, Ok, Err, IsTrue, nat_lt, nat_le, length, ◌==◌, unwrap_or}
+use Rattle.std.specs.Prelude.{Option, Some, None, option_map, Result, Ok, Err, IsTrue, nat_lt, nat_le, length, ◌==◌, unwrap_or}
 use Rattle.std.specs.List.{filter, slice_split, onto_first, list_all, list_any}
 use Rattle.std.proofs.lemmas.List.Folds.{list_all-append}
 use Rattle.std.proofs.lemmas.Bool.{false≢true, true≢false, and_parts, and_from, or_parts, lt-ltb}
@@ -12,10 +12,11 @@ use Rattle.pua_tree.specs.declared.node.Kind.{Kind}
 use Rattle.pua_tree.specs.declared.node.Kind.TheVariants as kind
 use Rattle.pua_tree.proofs.ForCallers.{sound_from}
 use Rattle.pua_path.specs.Limits.{path_limit}
-use Rattle.pua_path.specs.Paths.{part_of, parts_of, ending_parts, ends_in_slash, is_absolute, path_fault}
+use Rattle.pua_path.specs.Paths.{part_of, parts_of, ending_parts, ends_in_slash, is_absolute, path_fault, text_errno}
 use Rattle.pua_path.specs.Resolution.{Resolved, Directory, Linked, Plain, Nothing, standing_at, standing_of, is_followed, slot_or, walk, start_of, resolve_parts, resolution_of_text, link_limit}
 use Rattle.pua_path.specs.declared.errno.Errno.{Errno}
-use Rattle.pua_path.specs.declared.errno.Errno.TheVariants.{ENOENT, ENOTDIR, ELOOP, ENAMETOOLONG, EINVAL}
+use Rattle.pua_path.specs.declared.errno.Errno.TheVariants.{ENOENT, ENOTDIR, ELOOP}
+use Rattle.pua_path.specs.declared.traced.TextFault.TheVariants.{LongText, LongComponent, NulInText}
 use Rattle.pua_path.specs.declared.text.Ending.{Ending}
 use Rattle.pua_path.specs.declared.text.Ending.TheVariants as ending
 use Rattle.pua_path.specs.declared.found.Part.{Part}
@@ -204,7 +205,7 @@ module _ (t : Tree) (is_tree : IsByteTree t) where
   named_if true r is = tt
   named_if false r is = is
 
-  fault_free : (long short nul : Bool) → cond long (Some ENAMETOOLONG) (cond (not short) (Some ENAMETOOLONG) (cond nul (Some EINVAL) None)) ≡ None → (nul ≡ false) × (short ≡ true)
+  fault_free : (long short nul : Bool) → option_map text_errno (cond long (Some LongText) (cond (not short) (Some LongComponent) (cond nul (Some NulInText) None))) ≡ None → (nul ≡ false) × (short ≡ true)
   fault_free true short nul e = cc
   fault_free false false nul e = cc
   fault_free false true true e = cc

@@ -1,24 +1,28 @@
 -- What a request decides to change, by the tree and the history of the one that asks: all checks in their order. Of other processes, and of the room that a change needs, nothing is known here.
-use Rattle.std.specs.Prelude.{ℕ, Bool, true, false, not, ◌||◌, if◌then◌else◌, List, [], ◌∷◌, Option, Some, None, Result, Ok, Err, is_some}
+use Rattle.std.specs.Prelude.{ℕ, Bool, true, false, not, ◌||◌, if◌then◌else◌, List, [], ◌∷◌, Option, Some, None, option_map, Result, Ok, Err, is_some}
 use Rattle.pua_tree.specs.Tree.{Tree, Node, Spot, is_empty}
 use Rattle.pua_tree.specs.Edits.{is_inside, is_same_node}
 use Rattle.pua_path.specs.Paths.{path_fault}
 use Rattle.pua_path.specs.Resolution.{resolution_of_text}
 use Rattle.pua_path.specs.Fits.{spot_named, node_named}
 use Rattle.pua_policy.specs.Promises.{proc, unveil}
-use Rattle.pua_policy.specs.Calls.{CallTable, NameRule, PairRule, rule_of}
+use Rattle.pua_policy.specs.Calls.{CallTable, NameRule, PairRule, rule_of, last_of, ending_of}
 use Rattle.pua_policy.specs.History.{History, Event, Pledged, Unveiled, Locked, Moved, Ended, working_dir, is_locked, pledge_fault, unveil_fault, may_any}
-use Rattle.pua_policy.specs.Verdict.{place_of, cover, cover_fault, or_fault, object_named, found_fault, refusal_of}
+use Rattle.pua_policy.specs.Misfits.{misfit, misfit_errno}
+use Rattle.pua_policy.specs.declared.reason.Misfit.{Misfit}
+use Rattle.pua_policy.specs.declared.reason.Misfit.TheVariants.{Missing, Exists, IsDirectory, IsNoFile, IsNoDirectory, IsNotEmpty, ByDot, ByDotDot, ByNothing}
+use Rattle.pua_policy.specs.Verdict.{place_of, cover, cover_fault, or_fault, object_of, refusal_of}
 use Rattle.pua_tree.specs.declared.node.Kind.{Kind}
 use Rattle.pua_tree.specs.declared.node.Kind.TheVariants as kind
 use Rattle.pua_path.specs.declared.errno.Errno.{Errno}
-use Rattle.pua_path.specs.declared.errno.Errno.TheVariants.{EPERM, ENOENT, E2BIG, EBUSY, EEXIST, ENOTDIR, EISDIR, EINVAL, ENOTEMPTY}
+use Rattle.pua_path.specs.declared.errno.Errno.TheVariants.{EPERM, E2BIG, EINVAL}
 use Rattle.pua_path.specs.declared.text.Ending.{Ending}
 use Rattle.pua_path.specs.declared.text.Ending.TheVariants as ending
 use Rattle.pua_path.specs.declared.found.Last.TheVariants.{Followed}
 use Rattle.pua_path.specs.declared.found.Way.TheVariants as way
 use Rattle.pua_path.specs.declared.found.Found.{Found}
 use Rattle.pua_path.specs.declared.found.Found.TheVariants.{Whole, Slot}
+use Rattle.pua_path.specs.declared.found.Last.{Last}
 use Rattle.pua_policy.specs.declared.rules.ExecPromises.{ExecPromises}
 use Rattle.pua_policy.specs.declared.place.Place.{Place}
 use Rattle.pua_policy.specs.declared.call.Call.{Call}
@@ -45,31 +49,60 @@ pub data Change : Type 0 where
   AddEvent : Event → Change
   CopyAs : ℕ → Change
 
-abbrev pub Decision : Type 0
-Decision = Result Change Refusal
+-- what a request is to change, or what is told of the check at which it is refused
+abbrev pub Outcome : Type 0 → Type 0
+Outcome R = Result Change R
 
--- a request that fails
-abbrev pub fails : Errno → Decision
-fails errno = Err (Failed errno)
+abbrev pub Decision : Type 0
+Decision = Outcome Refusal
+
+-- of two paths, which one; or the only one
+pub data Side : Type 0 where
+  Sole : Side
+  Old : Side
+  New : Side
+
+-- what is told of each check that fails: R of promises, and E of all checks behind them
+pub record Telling (E R : Type 0) : Type 0 where
+  -- none of these sets of promises is held
+  pub promises : History → List ℕ → Option R
+  -- a fault behind them, as what is told of the request
+  pub failed : E → R
+  -- the target of a link is no path
+  pub target : List ℕ → Option E
+  -- a path names nothing
+  pub path : Side → Tree → ℕ → Ending → List ℕ → Last → Result Found E
+  -- the veils leave an object less than these permissions
+  pub cover : Side → Tree → History → Found → ℕ → Option E
+  -- an object is wrong in this way
+  pub misfit : Side → Found → Misfit → E
+  -- the new name is inside what the old one names
+  pub inside : Found → Found → E
+  -- an argument of pledge is unknown: of the two, whether it is execpromises
+  pub unknown_promise : Bool → E
+  -- a pledge asks for more than was given
+  pub beyond : History → Option ℕ → Option ℕ → Option E
+  -- the veils are locked
+  pub locked : E
+  -- the letters of an unveil are unknown
+  pub unknown_letter : E
+  -- a place may not have these permissions
+  pub place : History → Place → ℕ → Option E
 
 -- further checks where nothing refuses
-abbrev pub unless_refused : Option Refusal → Decision → Decision
+abbrev pub unless_refused : {R : Type 0} → Option R → Outcome R → Outcome R
 unless_refused None further = further
 unless_refused (Some refusal) further = Err refusal
 
--- further checks where promises allow it
-abbrev pub promised : May → Decision → Decision
-promised may further = unless_refused (refusal_of may) further
-
 -- further checks where there is no fault
-abbrev pub checked : Option Errno → Decision → Decision
-checked None further = further
-checked (Some errno) further = fails errno
+abbrev pub unless_failed : {E R : Type 0} → (E → R) → Option E → Outcome R → Outcome R
+unless_failed failed None further = further
+unless_failed failed (Some fault) further = Err (failed fault)
 
 -- further checks of what paths named, where they named something
-abbrev pub named : {X : Type 0} → Result X Errno → (X → Decision) → Decision
-named (Ok x) further = further x
-named (Err errno) further = fails errno
+abbrev pub on_named : {X E R : Type 0} → (E → R) → Result X E → (X → Outcome R) → Outcome R
+on_named failed (Ok x) further = further x
+on_named failed (Err fault) further = Err (failed fault)
 
 abbrev pub plain_node : Kind → Node
 plain_node k = record { kind = k; target = None }
@@ -107,46 +140,43 @@ change_by table call.Chdir object = going object
 change_by table call.Exec object = BeginProgram table.execpromises
 change_by table _ object = NoChange
 
--- what a call on a path changes, whose promises are held
-abbrev pub decide_object : CallTable → Tree → History → Call → List ℕ → (Found → Decision) → Decision
-decide_object table t h call path further = named (object_named t h call path) λ object. checked (found_fault t table h call object) (further object)
-
-abbrev pub decide_call : CallTable → Tree → History → Call → List ℕ → Decision
-decide_call table t h call path =
-    promised (may_any h (rule_of table call).alternatives) (decide_object table t h call path (λ object. Ok (change_by table call object)))
-
--- the promise, then the target's text, then the path
-abbrev pub decide_symlink : CallTable → Tree → History → List ℕ → List ℕ → Decision
-decide_symlink table t h target path =
-    promised (may_any h (rule_of table call.Symlink).alternatives)
-    (checked (path_fault target) (decide_object table t h call.Symlink path (λ object. Ok (adding (link_node target) object))))
-
-abbrev pub dots_fault : Found → Option Errno
-dots_fault (Whole dir way.Dot) = Some EINVAL
-dots_fault (Whole dir way.DotDot) = Some EINVAL
-dots_fault _ = None
-
-abbrev pub top_fault : Found → Option Errno
-top_fault (Whole dir way.Top) = Some EBUSY
-top_fault _ = None
-
 abbrev pub is_whole : Found → Bool
 is_whole (Whole dir way) = true
 is_whole (Slot dir name _) = false
 
-abbrev pub fault_if : Bool → Errno → Option Errno
-fault_if test errno = if test then Some errno else None
+abbrev pub fault_if : {E : Type 0} → Bool → E → Option E
+fault_if test fault = if test then Some fault else None
 
--- a rename of x onto what stands at the new name
-abbrev pub kinds_fault : Tree → ℕ → Found → Found → Option Errno
-kinds_fault t x old (Whole y way) = or_fault (fault_if (not (is_whole old)) EISDIR) (fault_if (not (is_empty t y)) ENOTEMPTY)
-kinds_fault t x old (Slot dir name None) = None
-kinds_fault t x old (Slot dir name (Some y)) = fault_if (is_whole old) ENOTDIR
+-- an object that was named by `.` or `..`
+abbrev pub dots_by : {E : Type 0} → (Misfit → E) → Found → Option E
+dots_by tell (Whole dir way.Dot) = Some (tell ByDot)
+dots_by tell (Whole dir way.DotDot) = Some (tell ByDotDot)
+dots_by tell _ = None
+
+-- the root, by no component
+abbrev pub top_by : {E : Type 0} → (Misfit → E) → Found → Option E
+top_by tell (Whole dir way.Top) = Some (tell ByNothing)
+top_by tell _ = None
+
+-- what is wrong with the ways by which two paths were named: no `.`, no `..`, and not the root
+abbrev pub ways_by : {E : Type 0} → (Side → Found → Misfit → E) → Found → Found → Option E
+ways_by tell old new =
+    or_fault (dots_by (tell Old old) old) (or_fault (dots_by (tell New new) new) (or_fault (top_by (tell Old old) old) (top_by (tell New new) new)))
+
+-- what is wrong with the new name of a rename, by the kinds of both
+abbrev pub kinds_by : {E : Type 0} → (Misfit → E) → Tree → Found → Found → Option E
+kinds_by tell t old (Whole y way) = or_fault (fault_if (not (is_whole old)) (tell IsDirectory)) (fault_if (not (is_empty t y)) (tell IsNotEmpty))
+kinds_by tell t old (Slot dir name None) = None
+kinds_by tell t old (Slot dir name (Some y)) = fault_if (is_whole old) (tell IsNoDirectory)
 
 -- a directory would come to stand in itself or beneath itself
-abbrev pub inside_fault : Tree → ℕ → Option Spot → Option Errno
-inside_fault t x None = None
-inside_fault t x (Some spot) = fault_if (is_inside t x spot.0) EINVAL
+abbrev pub inside_by : {E : Type 0} → E → Tree → ℕ → Option Spot → Option E
+inside_by fault t x None = None
+inside_by fault t x (Some spot) = fault_if (is_inside t x spot.0) fault
+
+-- what is wrong with a link's names: a directory gets none, and the new one is free
+abbrev pub names_by : {E : Type 0} → (Side → Found → Misfit → E) → Found → Found → Option E
+names_by tell old new = or_fault (fault_if (is_whole old) (tell Old old IsNoFile)) (fault_if (is_some (node_named new)) (tell New new Exists))
 
 abbrev pub shifting : Option Spot → Option Spot → Change
 shifting (Some old) (Some new) = ShiftRow old new
@@ -156,70 +186,6 @@ abbrev pub tying : ℕ → Option Spot → Change
 tying x None = NoChange
 tying x (Some spot) = TieRow spot x
 
--- what is wrong with the ways by which two paths were named: no `.`, no `..`, and not the root
-abbrev pub ways_fault : Found → Found → Option Errno
-ways_fault old new = or_fault (dots_fault old) (or_fault (dots_fault new) (or_fault (top_fault old) (top_fault new)))
-
--- a rename of what both paths named, once both are covered
-abbrev pub decide_rename : Tree → Found → Found → Option ℕ → Decision
-decide_rename t old new None = fails ENOENT
-decide_rename t old new (Some x) =
-    checked (ways_fault old new)
-    (if is_same_node x (node_named new) then Ok NoChange
-    else checked (or_fault (inside_fault t x (spot_named new)) (kinds_fault t x old new)) (Ok (shifting (spot_named old) (spot_named new))))
-
--- a further name for what the old path named, once both are covered
-abbrev pub decide_link : Found → Found → Option ℕ → Decision
-decide_link old new None = fails ENOENT
-decide_link old new (Some x) =
-    checked (or_fault (fault_if (is_whole old) EPERM) (fault_if (is_some (node_named new)) EEXIST)) (Ok (tying x (spot_named new)))
-
--- what a path names of which this is needed
-abbrev pub named_by : NameRule → Tree → History → Ending → List ℕ → Result Found Errno
-named_by name t h ending path = resolution_of_text t (working_dir h) ending path name.last
-
--- what is wrong with the covers of two objects
-abbrev pub covers_fault : PairRule → Tree → History → Found → Found → Option Errno
-covers_fault pair t h old new = or_fault (cover_fault (cover t h old) pair.old.needs.perms) (cover_fault (cover t h new) pair.new.needs.perms)
-
--- what two paths named, where the veils leave enough of both: the old path first each time
-abbrev pub decide_objects : PairRule → Tree → History → Ending → List ℕ → List ℕ → (Found → Found → Decision) → Decision
-decide_objects pair t h ending old_path new_path further =
-    named (named_by pair.old t h ending old_path) λ old.
-    named (named_by pair.new t h ending new_path) λ new.
-    checked (covers_fault pair t h old new) (further old new)
-
--- two paths: the promises of both names first
-abbrev pub decide_pair : PairRule → Tree → History → Ending → List ℕ → List ℕ → (Found → Found → Decision) → Decision
-decide_pair pair t h ending old_path new_path further =
-    promised (may_any h pair.old.needs.alternatives)
-    (promised (may_any h pair.new.needs.alternatives) (decide_objects pair t h ending old_path new_path further))
-
-abbrev pub unveil_errno : Option UnveilFault → Option Errno
-unveil_errno None = None
-unveil_errno (Some NotPermitted) = Some EPERM
-unveil_errno (Some TooManyPlaces) = Some E2BIG
-unveil_errno (Some unveil_faults.OutOfMemory) = None
-
--- a veil on a place, after the veils kept so far
-abbrev pub veiling : History → Place → ℕ → Decision
-veiling h place perms = checked (unveil_errno (unveil_fault h place perms)) (Ok (AddEvent (Unveiled place perms)))
-
--- the letters of an unveil, then its path, then the place
-abbrev pub decide_veil : Tree → History → List ℕ → Option ℕ → Decision
-decide_veil t h path None = fails EINVAL
-decide_veil t h path (Some perms) = named (resolution_of_text t (working_dir h) ending.Dot path Followed) λ object. veiling h (place_of object) perms
-
--- an unveil of a path: the promise and the lock first
-abbrev pub decide_unveil : Tree → History → List ℕ → Option ℕ → Decision
-decide_unveil t h path perms = promised (may_any h (unveil ∷ [])) (checked (fault_if (is_locked h) EPERM) (decide_veil t h path perms))
-
-abbrev pub decide_lock : History → Decision
-decide_lock h = promised (may_any h (unveil ∷ [])) (Ok (AddEvent Locked))
-
-abbrev pub decide_fork : History → ℕ → Decision
-decide_fork h new = promised (may_any h (proc ∷ [])) (Ok (CopyAs new))
-
 abbrev pub given_set : Given → Option ℕ
 given_set (Good set) = Some set
 given_set _ = None
@@ -228,22 +194,196 @@ abbrev pub is_unknown : Given → Bool
 is_unknown Unknown = true
 is_unknown _ = false
 
+-- what a call on a path changes, whose promises are held
+abbrev pub object_by : {E R : Type 0} → Telling E R → CallTable → Tree → History → Call → List ℕ → (Found → Outcome R) → Outcome R
+object_by told table t h call path further =
+    on_named told.failed (told.path Sole t (working_dir h) (ending_of call) path (last_of call)) λ object.
+    unless_failed told.failed (or_fault (told.cover Sole t h object (rule_of table call).perms) (option_map (told.misfit Sole object) (misfit t call (object_of t object)))) (further object)
+
+abbrev pub call_by : {E R : Type 0} → Telling E R → CallTable → Tree → History → Call → List ℕ → Outcome R
+call_by told table t h call path =
+    unless_refused (told.promises h (rule_of table call).alternatives) (object_by told table t h call path (λ object. Ok (change_by table call object)))
+
+-- the promise, then the target's text, then the path
+abbrev pub symlink_by : {E R : Type 0} → Telling E R → CallTable → Tree → History → List ℕ → List ℕ → Outcome R
+symlink_by told table t h target path =
+    unless_refused (told.promises h (rule_of table call.Symlink).alternatives)
+    (unless_failed told.failed (told.target target) (object_by told table t h call.Symlink path (λ object. Ok (adding (link_node target) object))))
+
+-- a rename of what both paths named, once both are covered
+abbrev pub rename_by : {E R : Type 0} → Telling E R → Tree → Found → Found → Option ℕ → Outcome R
+rename_by told t old new None = Err (told.failed (told.misfit Old old Missing))
+rename_by told t old new (Some x) =
+    unless_failed told.failed (ways_by told.misfit old new)
+    (if is_same_node x (node_named new) then Ok NoChange
+    else unless_failed told.failed (or_fault (inside_by (told.inside old new) t x (spot_named new)) (kinds_by (told.misfit New new) t old new))
+    (Ok (shifting (spot_named old) (spot_named new))))
+
+-- a further name for what the old path named, once both are covered
+abbrev pub link_by : {E R : Type 0} → Telling E R → Found → Found → Option ℕ → Outcome R
+link_by told old new None = Err (told.failed (told.misfit Old old Missing))
+link_by told old new (Some x) = unless_failed told.failed (names_by told.misfit old new) (Ok (tying x (spot_named new)))
+
+-- what is wrong with the covers of two objects
+abbrev pub covers_by : {E R : Type 0} → Telling E R → PairRule → Tree → History → Found → Found → Option E
+covers_by told pair t h old new = or_fault (told.cover Old t h old pair.old.needs.perms) (told.cover New t h new pair.new.needs.perms)
+
+-- what two paths named, where the veils leave enough of both: the old path first each time
+abbrev pub objects_by : {E R : Type 0} → Telling E R → PairRule → Tree → History → Ending → List ℕ → List ℕ → (Found → Found → Outcome R) → Outcome R
+objects_by told pair t h ending old_path new_path further =
+    on_named told.failed (told.path Old t (working_dir h) ending old_path pair.old.last) λ old.
+    on_named told.failed (told.path New t (working_dir h) ending new_path pair.new.last) λ new.
+    unless_failed told.failed (covers_by told pair t h old new) (further old new)
+
+-- two paths: the promises of both names first
+abbrev pub pair_by : {E R : Type 0} → Telling E R → PairRule → Tree → History → Ending → List ℕ → List ℕ → (Found → Found → Outcome R) → Outcome R
+pair_by told pair t h ending old_path new_path further =
+    unless_refused (told.promises h pair.old.needs.alternatives)
+    (unless_refused (told.promises h pair.new.needs.alternatives) (objects_by told pair t h ending old_path new_path further))
+
+-- a veil on a place, after the veils kept so far
+abbrev pub veiling_by : {E R : Type 0} → Telling E R → History → Place → ℕ → Outcome R
+veiling_by told h place perms = unless_failed told.failed (told.place h place perms) (Ok (AddEvent (Unveiled place perms)))
+
+-- the letters of an unveil, then its path, then the place
+abbrev pub veil_by : {E R : Type 0} → Telling E R → Tree → History → List ℕ → Option ℕ → Outcome R
+veil_by told t h path None = Err (told.failed told.unknown_letter)
+veil_by told t h path (Some perms) =
+    on_named told.failed (told.path Sole t (working_dir h) ending.Dot path Followed) λ object. veiling_by told h (place_of object) perms
+
+-- an unveil of a path: the promise and the lock first
+abbrev pub unveil_by : {E R : Type 0} → Telling E R → Tree → History → List ℕ → Option ℕ → Outcome R
+unveil_by told t h path perms =
+    unless_refused (told.promises h (unveil ∷ [])) (unless_failed told.failed (fault_if (is_locked h) told.locked) (veil_by told t h path perms))
+
+abbrev pub lock_by : {E R : Type 0} → Telling E R → History → Outcome R
+lock_by told h = unless_refused (told.promises h (unveil ∷ [])) (Ok (AddEvent Locked))
+
+abbrev pub fork_by : {E R : Type 0} → Telling E R → History → ℕ → Outcome R
+fork_by told h new = unless_refused (told.promises h (proc ∷ [])) (Ok (CopyAs new))
+
 -- what is given and given up, after what was before
+abbrev pub pledging_by : {E R : Type 0} → Telling E R → History → Option ℕ → Option ℕ → Outcome R
+pledging_by told h promises execpromises =
+    unless_failed told.failed (told.beyond h promises execpromises) (Ok (AddEvent (Pledged promises execpromises)))
+
+abbrev pub pledge_by : {E R : Type 0} → Telling E R → History → Given → Given → Outcome R
+pledge_by told h promises execpromises =
+    unless_failed told.failed (fault_if (is_unknown promises || is_unknown execpromises) (told.unknown_promise (not (is_unknown promises))))
+    (pledging_by told h (given_set promises) (given_set execpromises))
+
+-- what a living process's request changes, or what is told of why it is refused: all checks in their order
+abbrev pub decide_by : {E R : Type 0} → Telling E R → CallTable → Tree → History → Action → Outcome R
+decide_by told table t h (OnPath call path) = call_by told table t h call path
+decide_by told table t h (Symlink target path) = symlink_by told table t h target path
+decide_by told table t h (Rename old new) = pair_by told table.rename t h ending.Dropped old new (λ a b. rename_by told t a b (node_named a))
+decide_by told table t h (Link old new) = pair_by told table.link t h ending.Dot old new (λ a b. link_by told a b (node_named a))
+decide_by told table t h (Pledge promises execpromises) = pledge_by told h promises execpromises
+decide_by told table t h (Unveil path perms) = unveil_by told t h path perms
+decide_by told table t h Lock = lock_by told h
+decide_by told table t h (Fork new) = fork_by told h new
+decide_by told table t h Exit = Ok (AddEvent Ended)
+
+-- an errno is told of a check that fails, and of promises whether the process ends
+abbrev pub unveil_errno : Option UnveilFault → Option Errno
+unveil_errno None = None
+unveil_errno (Some NotPermitted) = Some EPERM
+unveil_errno (Some TooManyPlaces) = Some E2BIG
+unveil_errno (Some unveil_faults.OutOfMemory) = None
+
+abbrev pub refusals : Telling Errno Refusal
+refusals = record {
+  promises = λ h sets. refusal_of (may_any h sets);
+  failed = λ errno. Failed errno;
+  target = path_fault;
+  path = λ side t from ending text last. resolution_of_text t from ending text last;
+  cover = λ side t h object perms. cover_fault (cover t h object) perms;
+  misfit = λ side object wrong. misfit_errno wrong;
+  inside = λ old new. EINVAL;
+  unknown_promise = λ of_exec. EINVAL;
+  beyond = pledge_fault;
+  locked = EPERM;
+  unknown_letter = EINVAL;
+  place = λ h place perms. unveil_errno (unveil_fault h place perms);
+}
+
+-- the checks of a decision, by names of their own
+abbrev pub fails : Errno → Decision
+fails errno = Err (Failed errno)
+
+abbrev pub promised : May → Decision → Decision
+promised may further = unless_refused (refusal_of may) further
+
+abbrev pub checked : Option Errno → Decision → Decision
+checked fault further = unless_failed (λ errno. Failed errno) fault further
+
+abbrev pub named : {X : Type 0} → Result X Errno → (X → Decision) → Decision
+named found further = on_named (λ errno. Failed errno) found further
+
+abbrev pub dots_fault : Found → Option Errno
+dots_fault object = dots_by (λ wrong. misfit_errno wrong) object
+
+abbrev pub top_fault : Found → Option Errno
+top_fault object = top_by (λ wrong. misfit_errno wrong) object
+
+abbrev pub ways_fault : Found → Found → Option Errno
+ways_fault old new = ways_by (λ side object wrong. misfit_errno wrong) old new
+
+abbrev pub kinds_fault : Tree → ℕ → Found → Found → Option Errno
+kinds_fault t x old new = kinds_by (λ wrong. misfit_errno wrong) t old new
+
+abbrev pub inside_fault : Tree → ℕ → Option Spot → Option Errno
+inside_fault t x spot = inside_by EINVAL t x spot
+
+-- what a path names of which this is needed
+abbrev pub named_by : NameRule → Tree → History → Ending → List ℕ → Result Found Errno
+named_by name t h ending path = resolution_of_text t (working_dir h) ending path name.last
+
+abbrev pub covers_fault : PairRule → Tree → History → Found → Found → Option Errno
+covers_fault pair t h old new = or_fault (cover_fault (cover t h old) pair.old.needs.perms) (cover_fault (cover t h new) pair.new.needs.perms)
+
+abbrev pub decide_object : CallTable → Tree → History → Call → List ℕ → (Found → Decision) → Decision
+decide_object table t h call path further = object_by refusals table t h call path further
+
+abbrev pub decide_call : CallTable → Tree → History → Call → List ℕ → Decision
+decide_call table t h call path = call_by refusals table t h call path
+
+abbrev pub decide_symlink : CallTable → Tree → History → List ℕ → List ℕ → Decision
+decide_symlink table t h target path = symlink_by refusals table t h target path
+
+abbrev pub decide_rename : Tree → Found → Found → Option ℕ → Decision
+decide_rename t old new node = rename_by refusals t old new node
+
+abbrev pub decide_link : Found → Found → Option ℕ → Decision
+decide_link old new node = link_by refusals old new node
+
+abbrev pub decide_objects : PairRule → Tree → History → Ending → List ℕ → List ℕ → (Found → Found → Decision) → Decision
+decide_objects pair t h ending old_path new_path further = objects_by refusals pair t h ending old_path new_path further
+
+abbrev pub decide_pair : PairRule → Tree → History → Ending → List ℕ → List ℕ → (Found → Found → Decision) → Decision
+decide_pair pair t h ending old_path new_path further = pair_by refusals pair t h ending old_path new_path further
+
+abbrev pub veiling : History → Place → ℕ → Decision
+veiling h place perms = veiling_by refusals h place perms
+
+abbrev pub decide_veil : Tree → History → List ℕ → Option ℕ → Decision
+decide_veil t h path perms = veil_by refusals t h path perms
+
+abbrev pub decide_unveil : Tree → History → List ℕ → Option ℕ → Decision
+decide_unveil t h path perms = unveil_by refusals t h path perms
+
+abbrev pub decide_lock : History → Decision
+decide_lock h = lock_by refusals h
+
+abbrev pub decide_fork : History → ℕ → Decision
+decide_fork h new = fork_by refusals h new
+
 abbrev pub pledging : History → Option ℕ → Option ℕ → Decision
-pledging h promises execpromises = checked (pledge_fault h promises execpromises) (Ok (AddEvent (Pledged promises execpromises)))
+pledging h promises execpromises = pledging_by refusals h promises execpromises
 
 abbrev pub decide_pledge : History → Given → Given → Decision
-decide_pledge h promises execpromises =
-    checked (fault_if (is_unknown promises || is_unknown execpromises) EINVAL) (pledging h (given_set promises) (given_set execpromises))
+decide_pledge h promises execpromises = pledge_by refusals h promises execpromises
 
--- what a living process's request changes, or why it is refused: all checks in their order
+-- what a living process's request changes, or why it is refused
 abbrev pub decide : CallTable → Tree → History → Action → Decision
-decide table t h (OnPath call path) = decide_call table t h call path
-decide table t h (Symlink target path) = decide_symlink table t h target path
-decide table t h (Rename old new) = decide_pair table.rename t h ending.Dropped old new (λ a b. decide_rename t a b (node_named a))
-decide table t h (Link old new) = decide_pair table.link t h ending.Dot old new (λ a b. decide_link a b (node_named a))
-decide table t h (Pledge promises execpromises) = decide_pledge h promises execpromises
-decide table t h (Unveil path perms) = decide_unveil t h path perms
-decide table t h Lock = decide_lock h
-decide table t h (Fork new) = decide_fork h new
-decide table t h Exit = Ok (AddEvent Ended)
+decide table t h action = decide_by refusals table t h action

@@ -29,6 +29,7 @@ pub use laws::{
     standing_law,
 };
 pub use limits::{LINE_LIMIT, NUMBER_LIMIT, PROCESS_LIMIT};
+pub use line::read_request;
 pub use request::{Action, Given, PathBytes, Request};
 pub use script::{Script, read_script};
 pub use world::World;

@@ -11,8 +11,9 @@ use pua_policy::{Call, Perms, Promises};
 use pua_tree::{Fields, number_within, unspelled};
 use std::alloc::Global;
 
-/// The request of a line with this number.
-pub(crate) fn read_request(alloc: Global, number: u32, line: &[u8]) -> Result<Request, ScriptFault>
+/// Reads one line of a script, whose number is told with a fault. `OutOfMemory` where a growth was
+/// refused.
+pub fn read_request(alloc: Global, number: u32, line: &[u8]) -> Result<Request, ScriptFault>
     ensures { IsReadAs (request_of number line.now) result }
 {
     let Some(fields) = Fields::read(line) else {

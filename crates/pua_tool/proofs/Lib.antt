@@ -12,3 +12,8 @@ pub mod Ends
 pub mod States
 pub mod Lists
 pub mod Climbing
+pub mod WhyTexts
+pub mod VeilDates
+pub mod WhyColumns
+pub mod WhyItems
+pub mod Keywords

@@ -26,7 +26,7 @@ use Rattle.pua_tool.specs.Texts.{Chosen, Replayed, replayed, ended}
 use Rattle.pua_io.specs.Sinks.{Adds, AddsFront, HasFailed}
 use Rattle.pua_tool.specs.ObjectTexts.{object_lines, lists_of, numbers_asked, objects_after, objects_text, Tells}
 use Rattle.pua_tool.specs.declared.fault.ToolFault.{ToolFault}
-use Rattle.pua_tool.specs.declared.fault.ToolFault.TheVariants.{Listing, Script, NoProcess, Audit, Write, OutOfMemory, Table, CanUnveil, LacksC, RenameLacksC, LinkLacksC}
+use Rattle.pua_tool.specs.declared.fault.ToolFault.TheVariants.{Listing, Script, Request, NoProcess, Audit, Write, OutOfMemory, Table, CanUnveil, LacksC, RenameLacksC, LinkLacksC}
 
 module _ (choice : Chosen) (tree_bytes script_bytes : List ℕ) (which : Processes) where
   abbrev listed_by : Replayed → Result (List ℕ) ToolFault → Result (List ℕ) ToolFault
@@ -69,13 +69,17 @@ pub path_printed : (names : List (Bor (List ℕ))) → (length names == 0) ≡ f
 path_printed [] some = absurd (true≢false some)
 path_printed (name ∷ names) some = refl
 
--- the kind, the path and the calls make the line
+-- the kind, the path and the calls stand before what ends the line
+pub parts_before : (kind path names end : List ℕ) → (kind ++ 32 ∷ []) ++ ((path ++ 32 ∷ []) ++ (names ++ end)) ≡ (kind ++ 32 ∷ path ++ 32 ∷ names) ++ end
+parts_before kind path names end =
+    append_assoc kind (32 ∷ []) ((path ++ 32 ∷ []) ++ (names ++ end))
+    ∙ ap (λ t. kind ++ 32 ∷ t) (append_assoc path (32 ∷ []) (names ++ end))
+    ∙ sym (append_assoc kind (32 ∷ path) (32 ∷ (names ++ end)))
+    ∙ sym (append_assoc (kind ++ 32 ∷ path) (32 ∷ names) end)
+
+-- and make the line with its end
 pub line_parts : (kind path names : List ℕ) → (kind ++ 32 ∷ []) ++ ((path ++ 32 ∷ []) ++ (names ++ 10 ∷ [])) ≡ ended (kind ++ 32 ∷ path ++ 32 ∷ names)
-line_parts kind path names =
-    append_assoc kind (32 ∷ []) ((path ++ 32 ∷ []) ++ (names ++ 10 ∷ []))
-    ∙ ap (λ t. kind ++ 32 ∷ t) (append_assoc path (32 ∷ []) (names ++ 10 ∷ []))
-    ∙ sym (append_assoc kind (32 ∷ path) (32 ∷ (names ++ 10 ∷ [])))
-    ∙ sym (append_assoc (kind ++ 32 ∷ path) (32 ∷ names) (10 ∷ []))
+line_parts kind path names = parts_before kind path names (10 ∷ [])
 
 -- names with a separator before the first, and commas before the others
 abbrev pub joined : List ℕ → List (List ℕ) → List ℕ
@@ -90,12 +94,12 @@ joined_is (name ∷ more) = after name more
     after name [] = sym (append-nil name)
     after name (other ∷ more) = ap (λ t. name ++ 44 ∷ t) (after other more)
 
--- what the names of a set's calls have still to come from a place among all calls on, and LF
+-- what the names of a set's calls have still to come from a place among all calls on
 abbrev pub calls_left : ℕ → List ℕ → ℕ → List ℕ
-calls_left set before i = joined before (map call_name (filter (has set) (drop i calls))) ++ 10 ∷ []
+calls_left set before i = joined before (map call_name (filter (has set) (drop i calls)))
 
-pub calls_all : (set : ℕ) → calls_left set [] 0 ≡ with_commas (map call_name (filter (has set) calls)) ++ 10 ∷ []
-calls_all set = ap (λ t. t ++ 10 ∷ []) (sym (joined_is (map call_name (filter (has set) calls))))
+pub calls_all : (set : ℕ) → calls_left set [] 0 ≡ with_commas (map call_name (filter (has set) calls))
+calls_all set = sym (joined_is (map call_name (filter (has set) calls)))
 
 kept_or_not : (set : ℕ) (before : List ℕ) (call : Call) (more : List Call) (own : Bool) → has set call ≡ own →
     joined before (map call_name (filter (has set) (call ∷ more))) ≡ cond own (before ++ call_name call ++ joined (44 ∷ []) (map call_name (filter (has set) more))) (joined before (map call_name (filter (has set) more)))
@@ -105,18 +109,17 @@ kept_or_not set before call more false is = ap (λ b. joined before (map call_na
 -- a call of the set comes next
 pub call_taken : (set : ℕ) (before : List ℕ) (i : ℕ) → i < length calls → has set (get_or calls i Stat) ≡ true → calls_left set before i ≡ (before ++ call_name (get_or calls i Stat)) ++ calls_left set (44 ∷ []) (i + 1)
 call_taken set before i within own =
-    ap (λ cs. joined before (map call_name (filter (has set) cs)) ++ 10 ∷ []) (drop_more calls i Stat within)
-    ∙ ap (λ t. t ++ 10 ∷ []) (kept_or_not set before (get_or calls i Stat) (drop (i + 1) calls) true own)
-    ∙ append_assoc (before ++ call_name (get_or calls i Stat)) (joined (44 ∷ []) (map call_name (filter (has set) (drop (i + 1) calls)))) (10 ∷ [])
+    ap (λ cs. joined before (map call_name (filter (has set) cs))) (drop_more calls i Stat within)
+    ∙ kept_or_not set before (get_or calls i Stat) (drop (i + 1) calls) true own
 
 -- another one adds nothing
 pub call_left : (set : ℕ) (before : List ℕ) (i : ℕ) → i < length calls → has set (get_or calls i Stat) ≡ false → calls_left set before i ≡ calls_left set before (i + 1)
 call_left set before i within own =
-    ap (λ cs. joined before (map call_name (filter (has set) cs)) ++ 10 ∷ []) (drop_more calls i Stat within)
-    ∙ ap (λ t. t ++ 10 ∷ []) (kept_or_not set before (get_or calls i Stat) (drop (i + 1) calls) false own)
+    ap (λ cs. joined before (map call_name (filter (has set) cs))) (drop_more calls i Stat within)
+    ∙ kept_or_not set before (get_or calls i Stat) (drop (i + 1) calls) false own
 
-pub calls_done : (set : ℕ) (before : List ℕ) (i : ℕ) → length calls ≤ i → calls_left set before i ≡ 10 ∷ []
-calls_done set before i past = ap (λ cs. joined before (map call_name (filter (has set) cs)) ++ 10 ∷ []) (drop_of_length-le calls past)
+pub calls_done : (set : ℕ) (before : List ℕ) (i : ℕ) → length calls ≤ i → calls_left set before i ≡ []
+calls_done set before i past = ap (λ cs. joined before (map call_name (filter (has set) cs))) (drop_of_length-le calls past)
 
 -- the line of an object, by what the code gives of it
 abbrev pub text_given : ObjectLine → List (Bor (List ℕ)) → List ℕ
@@ -165,6 +168,7 @@ module _ (answer : Result (List ℕ) ToolFault) (text : List ℕ) (a b : Option 
   tells_refused (Err OutOfMemory) told = λ written room. absurd (room refl)
   tells_refused (Err (Listing fault)) told = absurd told
   tells_refused (Err (Script fault)) told = absurd told
+  tells_refused (Err (Request fault)) told = absurd told
   tells_refused (Err NoProcess) told = absurd told
   tells_refused (Err (Audit fault)) told = absurd told
   tells_refused (Err (Table fault)) told = absurd told
@@ -179,6 +183,7 @@ module _ (answer : Result (List ℕ) ToolFault) (text : List ℕ) (a b : Option 
   tells_unwritten (Err OutOfMemory) told = λ written. told
   tells_unwritten (Err (Listing fault)) told = absurd told
   tells_unwritten (Err (Script fault)) told = absurd told
+  tells_unwritten (Err (Request fault)) told = absurd told
   tells_unwritten (Err NoProcess) told = absurd told
   tells_unwritten (Err (Audit fault)) told = absurd told
   tells_unwritten (Err (Table fault)) told = absurd told

@@ -1,6 +1,6 @@
 -- What is replayed and begun, step by step.
 use Rattle.std.proofs.Common.{◌≡◌, ℕ, List, ◌++◌, refl, sym, subst, ◌∙◌}
-use Rattle.std.specs.Prelude.{Option, Some, None, Result, Ok, Err, OnOk, IfErr, ok_or}
+use Rattle.std.specs.Prelude.{Option, Some, None, Result, Ok, Err, OnOk, IfErr, IfOk, ok_or}
 use Rattle.pua_tree.specs.Tree.{Tree}
 use Rattle.pua_tree.specs.Listing.{listing}
 use Rattle.pua_tree.specs.Steps.{◌>>=◌}
@@ -110,6 +110,10 @@ on_ok (Err fault) so p = p
 pub if_err : {T E : Type 0} {P Q : E → Type 0} (r : Result T E) → ((fault : E) → P fault → Q fault) → IfErr r P → IfErr r Q
 if_err (Ok value) so p = p
 if_err (Err fault) so p = so fault p
+
+pub if_ok : {T E : Type 0} {P Q : T → Type 0} (r : Result T E) → ((value : T) → P value → Q value) → IfOk r P → IfOk r Q
+if_ok (Ok value) so p = so value p
+if_ok (Err fault) so p = p
 
 -- what a process stands for at a number is a history that was made
 pub record IsMade (p : ProcessState) (made : Option History) : Type 0 where

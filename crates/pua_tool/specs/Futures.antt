@@ -1,5 +1,5 @@
 -- What a process that can put no veil any more may come to reach and to change, whatever is asked afterwards.
-use Rattle.std.specs.Prelude.{◌≡◌, ℕ, Bool, List, [], ◌∷◌, ◌++◌, Option, Some, Ok, IsTrue, IsFalse}
+use Rattle.std.specs.Prelude.{◌≡◌, ℕ, Bool, List, [], ◌∷◌, ◌++◌, Some, Ok, IsTrue, IsFalse}
 use Rattle.pua_tree.specs.Tree.{Tree}
 use Rattle.pua_tree.specs.Listing.{listing}
 use Rattle.pua_policy.specs.Promises.{holds, cpath}

@@ -3,6 +3,7 @@ pub mod Texts
 pub mod States
 pub mod ObjectTexts
 pub mod EverTexts
+pub mod WhyTexts
 pub mod Statuses
 pub mod Told
 pub mod Performed
@@ -15,5 +16,7 @@ pub mod Examples
 pub mod Begun
 pub mod Lists
 pub mod EverLists
+pub mod PosedScripts
+pub mod WhyLists
 pub mod Blocks
 pub mod KeptPaths

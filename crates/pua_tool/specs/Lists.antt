@@ -40,12 +40,15 @@ pub record IsListOf (table : CallTable) (t : Tree) (process : ℕ) (h : History)
   pub left : lines_of t table h list.objects.left ≡ objects t table h
 
 -- the first list is that of a number, if it was made
-abbrev pub BeginsWith : CallTable → Tree → ℕ → Option History → (List ListState → Type 0) → List ListState → Type 0
-BeginsWith table t process None Others lists = Others lists
-BeginsWith table t process (Some h) Others [] = ⊥
-BeginsWith table t process (Some h) Others (list ∷ more) = IsListOf table t process h list × Others more
+abbrev pub BeginsBy : {A : Type 0} → (History → A → Type 0) → Option History → (List A → Type 0) → List A → Type 0
+BeginsBy Is None Others lists = Others lists
+BeginsBy Is (Some h) Others [] = ⊥
+BeginsBy Is (Some h) Others (list ∷ more) = Is h list × Others more
 
--- the lists that were begun are those of these numbers
+-- the lists that were begun are those of these numbers, by which of them were made, and by whose list each is
+abbrev pub AreListsBy : {A : Type 0} → (ℕ → Option History) → (ℕ → History → A → Type 0) → List ℕ → List A → Type 0
+AreListsBy made Is [] lists = lists ≡ []
+AreListsBy made Is (process ∷ more) lists = BeginsBy (Is process) (made process) (AreListsBy made Is more) lists
+
 abbrev pub AreListsOf : CallTable → World → List ℕ → List ListState → Type 0
-AreListsOf table w [] lists = lists ≡ []
-AreListsOf table w (process ∷ more) lists = BeginsWith table w.tree process (history_of w process) (AreListsOf table w more) lists
+AreListsOf table w = AreListsBy (history_of w) (IsListOf table w.tree)

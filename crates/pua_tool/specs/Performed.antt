@@ -1,11 +1,11 @@
 -- What the performance of a command promises.
-use Rattle.std.specs.Prelude.{◌≡◌, ◌<◌, ◌⊎◌, ⊤, ℕ, List, length, Option, Some, None, Result, Ok, Err}
+use Rattle.std.specs.Prelude.{◌≡◌, ◌<◌, ◌⊎◌, ⊤, ℕ, List, length, map, Option, Some, None, Result, Ok, Err}
 use Rattle.std.specs.Borrow.{Bor}
 use Rattle.std.specs.Io.KnownBytes.{Keeps}
 use Rattle.pua_words.specs.Commands.{AsksSoundly}
 use Rattle.pua_words.specs.declared.command.Command.{Command}
 use Rattle.pua_words.specs.declared.command.Text.{Text}
-use Rattle.pua_words.specs.declared.command.Text.TheVariants.{Run, Audit, Objects, Ever}
+use Rattle.pua_words.specs.declared.command.Text.TheVariants.{Run, RunWhy, Why, Audit, Objects, ObjectsWhy, Ever}
 use Rattle.pua_tool.specs.declared.fault.ToolFault.{ToolFault}
 use Rattle.pua_tool.specs.declared.fault.ToolFault.TheVariants.{Write, OutOfMemory}
 use Rattle.pua_tool.specs.declared.outcome.CommandFault.{CommandFault}
@@ -17,12 +17,16 @@ use Rattle.pua_tool.specs.Statuses.{status_of}
 use Rattle.pua_tool.specs.Texts.{Chosen, given, run_text, audit_text, wanted_by}
 use Rattle.pua_tool.specs.ObjectTexts.{objects_text}
 use Rattle.pua_tool.specs.EverTexts.{ever_text}
+use Rattle.pua_tool.specs.WhyTexts.{objects_why_text, run_why_text, why_text}
 
 -- the text that is asked for, of a table, a listing and a script, or what refuses it
 abbrev pub text_asked : Text → Chosen → List ℕ → List ℕ → Result (List ℕ) ToolFault
 text_asked Run choice tree script = run_text choice tree script
+text_asked RunWhy choice tree script = run_why_text choice tree script
+text_asked (Why words) choice tree script = why_text choice tree script words.process (map (λ field. field.now) words.fields.items)
 text_asked (Audit words) choice tree script = audit_text choice tree script (wanted_by words)
 text_asked (Objects words) choice tree script = objects_text choice tree script words.processes
+text_asked (ObjectsWhy words) choice tree script = objects_why_text choice tree script words.processes
 text_asked (Ever words) choice tree script = ever_text choice tree script words.process
 
 -- the table's bytes are held under its name, or no table is named and there are none

@@ -14,6 +14,8 @@ use Rattle.pua_script.specs.Requests.{Asked}
 use Rattle.pua_script.specs.Scripts.{script}
 use Rattle.pua_script.specs.Replay.{World, new_world, history_of, answers, world_after}
 use Rattle.pua_script.specs.AnswerTexts.{answer_text}
+-- each line of a text ends in LF
+pub use Rattle.pua_script.specs.AnswerTexts.{ended}
 use Rattle.pua_script.specs.declared.answer.Answer.{Answer}
 use Rattle.pua_script.specs.declared.fault.ScriptFault.{ScriptFault}
 use Rattle.pua_audit.specs.Reach.{Pair, printed_path}
@@ -25,10 +27,6 @@ use Rattle.pua_tool.specs.declared.job.Job.{Job}
 use Rattle.pua_tool.specs.declared.table.TableChoice.{TableChoice}
 use Rattle.pua_tool.specs.declared.fault.ToolFault.{ToolFault}
 use Rattle.pua_tool.specs.declared.fault.ToolFault.TheVariants.{Table, Listing, Script, NoProcess, Audit}
-
--- each line of a text ends in LF
-abbrev pub ended : List ℕ → List ℕ
-ended line = line ++ 10 ∷ []
 
 abbrev pub answer_line : ℕ → Answer → List ℕ
 answer_line n answer = ended (decimal n ++ 32 ∷ answer_text answer)

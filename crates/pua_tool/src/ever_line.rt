@@ -80,5 +80,5 @@ fn add_coming<S: Sink>(
 {
     block.add(kind_bytes(kind), sink)?;
     block.add(b"new ", sink)?;
-    add_calls(block, calls, sink)
+    add_calls(block, calls, b'\n', sink)
 }

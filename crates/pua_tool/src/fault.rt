@@ -29,6 +29,9 @@ pub enum ToolFault {
     /// The script's bytes are no script.
     #[error("pua: script: {0}")]
     Script(ScriptFault),
+    /// The fields of a request that is asked about are no line of a script.
+    #[error("pua: request: {0}")]
+    Request(ScriptFault),
     /// The process was never made.
     #[error("{line}", line = NO_PROCESS)]
     NoProcess,

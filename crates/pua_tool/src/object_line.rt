@@ -1,6 +1,6 @@
 //! The lines of the objects of a list, added to a block.
 
-ghost use Rattle.std.specs.Prelude.{◌≡◌, ◌≤◌, ◌+◌, ◌++◌, ◌∷◌, [], if◌then◌else◌, length, map};
+ghost use Rattle.std.specs.Prelude.{◌≡◌, ◌<◌, ◌≤◌, ◌+◌, ◌++◌, ◌∷◌, [], if◌then◌else◌, length, map};
 ghost use Rattle.pua_policy.specs.Calls.{call_name};
 ghost use Rattle.pua_policy.specs.CallSets.{calls_in};
 ghost use Rattle.pua_policy.specs.History.{History, StandsFor};
@@ -62,7 +62,7 @@ pub(crate) fn add_line<S: Sink>(
 {
     block.add(kind_bytes(line.kind), sink)?;
     add_kept_path(block, path, word, sink)?;
-    add_calls(block, line.calls, sink)
+    add_calls(block, line.calls, b'\n', sink)
 }
 
 /// The word of a kind, and a blank.
@@ -140,25 +140,28 @@ fn add_name<S: Sink>(block: &mut Block, name: &Name, sink: &mut S) -> Result<(),
     Ok(())
 }
 
-/// Adds the names of calls with commas between them, and LF.
+/// Adds the names of calls with commas between them, and a byte behind the last.
 pub(crate) fn add_calls<S: Sink>(
     block: &mut Block,
     calls: Calls,
+    behind: u8,
     sink: &mut S,
 ) -> Result<(), PutFault>
     ensures { PassesOn S.written S.failed
-        (with_commas (map call_name (calls_in calls)) ++ 10 ∷ [])
+        (with_commas (map call_name (calls_in calls)) ++ behind ∷ [])
         result block.old block.new sink.old sink.new }
 {
     block.make_room(sink)?;
     add_names(block, calls);
+    block.push(&[behind]);
     Ok(())
 }
 
-/// Adds the names of calls with commas between them, and LF, to a block that has room for a line.
+/// Adds the names of calls with commas between them to a block that has room for a line.
 fn add_names(block: &mut Block, calls: Calls)
     requires { length block.old + MOST_LINE ≤ BLOCK }
-    ensures { block.new ≡ block.old ++ (with_commas (map call_name (calls_in calls)) ++ 10 ∷ []) }
+    ensures names { block.new ≡ block.old ++ with_commas (map call_name (calls_in calls)) }
+    ensures short { length block.new < length block.old + MOST_LINE }
 {
     let mut is_first = true;
     for call in Call::ALL {
@@ -167,7 +170,6 @@ fn add_names(block: &mut Block, calls: Calls)
             is_first = false;
         }
     }
-    block.push(b"\n");
 }
 
 /// Adds the name of a call, with a comma before it unless it is the first of its line.

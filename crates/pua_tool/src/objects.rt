@@ -20,7 +20,7 @@ use crate::places::Places;
 use crate::process_list::ProcessList;
 use crate::script::{Replay, replay_script};
 use crate::table::TableChoice;
-use pua_io::{PutFault, Sink};
+use pua_io::{PutFault, Sink, put_all};
 use pua_script::World;
 use pua_tree::{FileTree, OutOfMemory};
 use pua_words::Processes;
@@ -77,7 +77,7 @@ pub fn objects_to<S: Sink>(
 
 /// The numbers of the processes that are asked for: `NoProcess` where the one that is named was never
 /// made. The only other fault is `OutOfMemory`, where a growth was refused.
-fn numbers_of<T: FileTree>(
+pub(crate) fn numbers_of<T: FileTree>(
     alloc: Global,
     world: &World<T>,
     processes: Processes,
@@ -180,6 +180,13 @@ pub(crate) fn told(written: Result<(), PutFault>) -> Result<(), ToolFault>
         Ok(()) => Ok(()),
         Err(PutFault) => Err(ToolFault::Write),
     }
+}
+
+/// Puts a text, as the tool reports it.
+pub(crate) fn put_text<S: Sink>(text: &str, sink: &mut S) -> Result<(), ToolFault>
+    ensures { TellsTo S.written S.failed text.now result sink.old sink.new }
+{
+    told(put_all(sink, text.as_bytes()))
 }
 
 /// Writes what a block holds, then the front of a text, and then lists, one after another: the front

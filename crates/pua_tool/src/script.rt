@@ -52,7 +52,7 @@ pub(crate) fn replay_script(
 }
 
 /// The table that is chosen.
-fn read_table(alloc: Global, choice: TableChoice<'_>) -> Result<CallTable, ToolFault>
+pub(crate) fn read_table(alloc: Global, choice: TableChoice<'_>) -> Result<CallTable, ToolFault>
     ensures read { IfOk result (λ table. table_by (chosen choice.entry) ≡ Ok table) }
     ensures refused { IfErr result (λ fault. fault ≢ ToolFault.OutOfMemory →
         (table_by (chosen choice.entry) ≡ Err fault)) }
@@ -69,7 +69,7 @@ fn read_table(alloc: Global, choice: TableChoice<'_>) -> Result<CallTable, ToolF
     }
 }
 
-fn read_tree(alloc: Global, bytes: &[u8]) -> Result<ProgramTree, ToolFault>
+pub(crate) fn read_tree(alloc: Global, bytes: &[u8]) -> Result<ProgramTree, ToolFault>
     ensures read { IfOk result (λ tree. as_listing (listing bytes.now) ≡ Ok tree) }
     ensures refused { IfErr result (λ fault. fault ≢ ToolFault.OutOfMemory →
         (as_listing (listing bytes.now) ≡ Err fault)) }
@@ -82,7 +82,7 @@ fn read_tree(alloc: Global, bytes: &[u8]) -> Result<ProgramTree, ToolFault>
     }
 }
 
-fn read_requests(alloc: Global, bytes: &[u8]) -> Result<Script, ToolFault>
+pub(crate) fn read_requests(alloc: Global, bytes: &[u8]) -> Result<Script, ToolFault>
     ensures read { IfOk result (λ asks. as_script (script bytes.now) ≡ Ok asks) }
     ensures refused { IfErr result (λ fault. fault ≢ ToolFault.OutOfMemory →
         (as_script (script bytes.now) ≡ Err fault)) }

@@ -17,10 +17,13 @@ use crate::ever::ever_to;
 use crate::fault::ToolFault;
 use crate::job::job_of;
 use crate::objects::objects_to;
+use crate::objects_why::objects_why_to;
 use crate::outcome::{CommandFault, finish};
 use crate::run::run_by;
+use crate::run_why::run_why_to;
 use crate::status::{DEVICE, DONE, MEMORY, REFUSED, USAGE};
 use crate::table::TableChoice;
+use crate::why::why_to;
 use pua_io::{InputFault, Inputs, Sink};
 use pua_policy::Rules;
 use pua_words::{Command, Text};
@@ -193,8 +196,16 @@ fn write_text<O: Sink>(
     let table = TableChoice { rules, rows };
     match text {
         Text::Run => run_by(alloc, tree, script, table, out),
+        Text::RunWhy => run_why_to(alloc, tree, script, table, out),
+        Text::Why(words) => {
+            let fields = words.fields.as_slice();
+            why_to(alloc, tree, script, table, words.process, fields, out)
+        }
         Text::Audit(words) => audit_by(alloc, tree, script, rules, &job_of(words, rows), out),
         Text::Objects(words) => objects_to(alloc, tree, script, table, words.processes, out),
+        Text::ObjectsWhy(words) => {
+            objects_why_to(alloc, tree, script, table, words.processes, out)
+        }
         Text::Ever(words) => ever_to(alloc, tree, script, table, words.process, out),
     }
 }

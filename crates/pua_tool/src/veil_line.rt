@@ -81,7 +81,7 @@ fn add_letters<S: Sink>(block: &mut Block, perms: Perms, sink: &mut S) -> Result
 }
 
 /// The letters of a veil, or `=` where it has none.
-fn shown_letters(perms: Perms) -> &'static str
+pub(crate) fn shown_letters(perms: Perms) -> &'static str
     ensures letters { result.now ≡ or_equals (letters_of perms) }
     ensures short { length result.now ≤ 4 }
 {

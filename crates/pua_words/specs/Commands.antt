@@ -1,7 +1,7 @@
 -- What the words of a command line may ask for.
 use Rattle.std.specs.Prelude.{ℕ, ◌≤◌, ⊤, Bool, true, false, Option, Some, None}
 use Rattle.pua_words.specs.declared.command.Text.{Text}
-use Rattle.pua_words.specs.declared.command.Text.TheVariants.{Run, Audit, Objects, Ever}
+use Rattle.pua_words.specs.declared.command.Text.TheVariants.{Run, RunWhy, Why, Audit, Objects, ObjectsWhy, Ever}
 use Rattle.pua_words.specs.declared.command.Processes.{Processes}
 use Rattle.pua_words.specs.declared.command.Processes.TheVariants.{One, All}
 use Rattle.pua_words.specs.declared.words.TheConstants.{MOST_PROCESS}
@@ -15,15 +15,25 @@ abbrev pub AreSound : Processes → Type 0
 AreSound (One process) = IsProcessNumber process
 AreSound All = ⊤
 
--- an audit is asked of a process that may have been made, and so is a list for ever, and a list of objects unless it is asked of all
+-- an audit is asked of a process that may have been made, and so is a list for ever, a single request, and a list of objects unless it is asked of all
 abbrev pub AsksSoundly : Text → Type 0
 AsksSoundly Run = ⊤
+AsksSoundly RunWhy = ⊤
+AsksSoundly (Why words) = IsProcessNumber words.process
 AsksSoundly (Audit words) = IsProcessNumber words.process
 AsksSoundly (Objects words) = AreSound words.processes
+AsksSoundly (ObjectsWhy words) = AreSound words.processes
 AsksSoundly (Ever words) = IsProcessNumber words.process
 
--- the list that is asked for of these processes, of now or for ever; all have no list for ever together
-abbrev pub list_asked : Bool → Processes → Option Text
-list_asked false processes = Some (Objects (record { processes = processes }))
-list_asked true (One process) = Some (Ever (record { process = process }))
-list_asked true All = None
+-- the text of a run that is asked for, with reasons or without
+abbrev pub run_asked : Bool → Text
+run_asked false = Run
+run_asked true = RunWhy
+
+-- the list that is asked for of these processes, of now or for ever, with reasons or without; all have no list for ever together, and a list for ever has no reasons
+abbrev pub list_asked : Bool → Bool → Processes → Option Text
+list_asked false false processes = Some (Objects (record { processes = processes }))
+list_asked false true processes = Some (ObjectsWhy (record { processes = processes }))
+list_asked true false (One process) = Some (Ever (record { process = process }))
+list_asked true false All = None
+list_asked true true processes = None

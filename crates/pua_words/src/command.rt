@@ -23,10 +23,17 @@ pub struct Command<'a> {
 pub enum Text<'a> {
     /// What each line of the script is answered.
     Run,
+    /// The same, and behind each answer that is not `ok` why it is so.
+    RunWhy,
+    /// What decides one request behind the script, check by check, and its answer.
+    Why(WhyWords<'a>),
     /// The same, and then what a process may still do, path by path.
     Audit(AuditWords<'a>),
     /// The same as a run's, and then what a process may still do, object by object.
     Objects(ObjectWords),
+    /// The same with reasons: behind each answer, and behind each object the promises on which its
+    /// calls rest and the veil that covers it.
+    ObjectsWhy(ObjectWords),
     /// The same as a run's, and then all that a process and what it forks can ever touch.
     Ever(EverWords),
 }
@@ -44,6 +51,15 @@ pub struct AuditWords<'a> {
     pub after: Option<&'a [u8]>,
     /// Spellings of further names to try in paths. Audits take at most 1,024.
     pub names: Vec<&'a [u8]>,
+}
+
+/// Which request is asked about, besides the inputs.
+#[derive(Debug, Drop)]
+pub struct WhyWords<'a> {
+    /// The number of the process that asks, 1 to 999,999 where the words of the command line named it.
+    pub process: u32,
+    /// What it asks, as the fields of a script's line behind the number: the call first.
+    pub fields: Vec<&'a [u8]>,
 }
 
 /// Of which processes a list of objects is asked.

@@ -6,7 +6,11 @@ pub(crate) const PROGRAM_USAGE: &str =
 
 /// How a list of objects is asked for, of now or for ever, in one line.
 pub(crate) const OBJECTS_USAGE: &str =
-    "pua: usage: pua objects [--ever] [--process P|all] [--rules profile|openbsd] [--table FILE] TREE SCRIPT";
+    "pua: usage: pua objects [--ever|--why] [--process P|all] [--rules profile|openbsd] [--table FILE] TREE SCRIPT";
+
+/// How it is asked why a request is answered as it is, in one line.
+pub(crate) const WHY_USAGE: &str =
+    "pua: usage: pua why [--process P] [--rules profile|openbsd] [--table FILE] TREE SCRIPT CALL [ARG...]";
 
 pub(crate) const PUA: &str =
     "Lists what a pledged and unveiled process may still do to a file tree";
@@ -15,6 +19,8 @@ pub(crate) const RUN: &str = "Serves the calls of a script over a tree, and prin
 
 pub(crate) const OBJECTS: &str =
     "Serves a script, then lists each object and the calls still allowed";
+
+pub(crate) const WHY: &str = "Serves a script, then says what decides one more call";
 
 pub(crate) const AUDIT: &str = "Serves a script, then lists each path and call still allowed";
 
@@ -33,6 +39,14 @@ pub(crate) const LIMIT: &str = "Most components of a path, from 0 to 16";
 pub(crate) const PROCESS: &str = "Number of the process, from 1 to 999999";
 
 pub(crate) const EVER: &str = "List all that it and what it forks can ever touch";
+
+pub(crate) const RUN_WHY: &str = "Say why, behind each answer that is not ok";
+
+pub(crate) const OBJECTS_WHY: &str = "Say by which promises, and by which veil";
+
+pub(crate) const CALL: &str = "The call, spelled as in SCRIPT";
+
+pub(crate) const ARGUMENTS: &str = "Its arguments, spelled as in SCRIPT";
 
 pub(crate) const PROCESSES: &str = "Process number, 1 to 999999, or `all`";
 
@@ -122,8 +136,38 @@ A fault is one line on standard error. It says, or most often comes from:
 }
 
 pub(crate) const RUN_OUTPUT: &str = with_calls_and_faults!(
-    "Prints `N ANSWER` for each line N: ok, the name of an error, killed or gone.",
+    "\
+Prints `N ANSWER` for each line N: ok, the name of an error, killed or gone.
+
+With `--why` a line whose answer is not ok goes on with the reason, and then, if
+it was not so from the start, with `since line M`: before that line of SCRIPT
+the same call would have had another reason.
+  killed no wpath since line 10    a promise that the process does not hold
+  ENOENT no veil on /d/f or above  no veil covers what the path names
+  EACCES no w in veil r on /d      the veil that does lacks a letter
+  ENOENT old: /d is missing        of two paths it says which one it is about
+pua(1) lists all reasons.",
     ""
+);
+
+pub(crate) const WHY_OUTPUT: &str = with_calls_and_faults!(
+    "\
+Serves `P CALL ARG...` behind the last line of SCRIPT, and prints a line for
+each check that it passes, and then its answer as `pua run --why` has it:
+  needs PROMISES       those by which it is let through, all of them held
+  link PATH to TARGET  a link that its path follows
+  names KIND PATH      what its path names: dir, file, prog, link or missing
+  veil LETTERS on PATH since line M
+                       the veil that covers this; or `no veils`
+  ANSWER REASON since line M
+Where a call has two paths, `old: ` or `new: ` stands before what is said of
+one. An ARG that is `-` is NULL, as in SCRIPT; one that begins with `-` has to
+stand behind `--`.
+
+Example: pua why --process 2 TREE SCRIPT rename /tmp/new /etc/passwd",
+    "
+  request: line 1: ..  CALL and what is behind it are no line of SCRIPT: one of
+                       the faults above"
 );
 
 pub(crate) const OBJECTS_OUTPUT: &str = with_calls_and_faults!(
@@ -148,6 +192,12 @@ of theirs succeeds: on what stands at PATH now, wherever it is moved, and in the
 end on what they can make: `dir new`, `other new` (the names in such a
 directory), `file new` and `link new`. Where no line has exec, none can succeed.
 It is a list of one process, which can put no veil any more.
+
+With `--why` an answer that is not ok has its reason, as of `pua run --why`, and
+behind CALLS a line has `PROMISES PLACE LETTERS LINE`: the promises by which
+these calls are let through, = for none, and of the veil that covers PATH its
+place, its letters, and the line of SCRIPT since which it has them. Where no
+veil was put, these are three times -.
 
 Example: pua objects --process all TREE SCRIPT",
     "

@@ -8,6 +8,6 @@ mod usage;
 mod version;
 mod words;
 
-pub use command::{AuditWords, Command, EverWords, ObjectWords, Processes, Text};
+pub use command::{AuditWords, Command, EverWords, ObjectWords, Processes, Text, WhyWords};
 pub use usage::UsageLine;
 pub use words::{Stop, read_words};

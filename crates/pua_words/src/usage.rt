@@ -12,6 +12,8 @@ pub enum UsageLine {
     Program,
     /// How a list of objects is asked for, of now or for ever.
     Objects,
+    /// How it is asked why a request is answered as it is.
+    Why,
 }
 
 impl UsageLine {
@@ -22,6 +24,7 @@ impl UsageLine {
     {
         match words.first() {
             Some(first) if *first == "objects" => UsageLine::Objects,
+            Some(first) if *first == "why" => UsageLine::Why,
             _ => UsageLine::Program,
         }
     }
@@ -33,6 +36,7 @@ impl UsageLine {
         match self {
             UsageLine::Program => help::PROGRAM_USAGE,
             UsageLine::Objects => help::OBJECTS_USAGE,
+            UsageLine::Why => help::WHY_USAGE,
         }
     }
 }

@@ -1,10 +1,10 @@
 //! The words of the command line, read by `clap`.
 
 ghost use Rattle.std.specs.Prelude.{◌≡◌, ◌↔◌, IfErr, IfOk, IfSome, Some, codes, map, option_map};
-ghost use Rattle.pua_words.specs.Commands.{AreSound, AsksSoundly, IsProcessNumber, list_asked};
+ghost use Rattle.pua_words.specs.Commands.{AreSound, AsksSoundly, IsProcessNumber, list_asked, run_asked};
 ghost use Rattle.pua_words.specs.Usages.{IsStop, line_for};
 
-use crate::command::{AuditWords, Command, EverWords, ObjectWords, Processes, Text};
+use crate::command::{AuditWords, Command, EverWords, ObjectWords, Processes, Text, WhyWords};
 use crate::help;
 use crate::usage::UsageLine;
 use crate::version::VERSION;
@@ -64,27 +64,32 @@ fn read_command<'a>(
     let Some((name, inner)) = found.subcommand() else {
         return Ok(None);
     };
-    let text = match name {
-        "run" => Text::Run,
-        "objects" => {
-            let Some(text) = read_objects(inner) else {
-                return Ok(None);
-            };
-            text
-        }
-        _ => {
-            let Some(words) = read_audit(alloc, inner)? else {
-                return Ok(None);
-            };
-            Text::Audit(words)
-        }
+    let Some(text) = read_text(alloc, name, inner)? else {
+        return Ok(None);
     };
     Ok(read_inputs(inner, text))
+}
+
+/// The text that the command of this name is asked for.
+fn read_text<'a>(
+    alloc: Global,
+    name: &str,
+    found: &ArgMatches<'a>,
+) -> Result<Option<Text<'a>>, AllocError>
+    ensures { IfOk result (λ text. IfSome text AsksSoundly) }
+{
+    Ok(match name {
+        "run" => Some(run_of(found.get_flag("why"))),
+        "objects" => read_objects(found),
+        "why" => read_why(alloc, found)?.map(Text::Why),
+        _ => read_audit(alloc, found)?.map(Text::Audit),
+    })
 }
 
 fn pua_command<'a>(alloc: Global) -> Result<clap::Command<'a>, AllocError> {
     let run = run_command(alloc)?;
     let objects = objects_command(alloc)?;
+    let why = why_command(alloc)?;
     let audit = audit_command(alloc)?;
     clap::Command::new(alloc, "pua")
         .no_binary_name(true)
@@ -95,6 +100,7 @@ fn pua_command<'a>(alloc: Global) -> Result<clap::Command<'a>, AllocError> {
         .subcommand_required(true)
         .subcommand(run)?
         .subcommand(objects)?
+        .subcommand(why)?
         .subcommand(audit)
 }
 
@@ -102,6 +108,7 @@ fn run_command<'a>(alloc: Global) -> Result<clap::Command<'a>, AllocError> {
     clap::Command::new(alloc, "run")
         .about(help::RUN)
         .after_help(help::RUN_OUTPUT)
+        .arg(why(alloc, help::RUN_WHY))?
         .arg(rules(alloc))?
         .arg(table(alloc))?
         .arg(tree(alloc))?
@@ -113,11 +120,34 @@ fn objects_command<'a>(alloc: Global) -> Result<clap::Command<'a>, AllocError> {
         .about(help::OBJECTS)
         .after_help(help::OBJECTS_OUTPUT)
         .arg(ever(alloc))?
+        .arg(why(alloc, help::OBJECTS_WHY))?
         .arg(processes(alloc))?
         .arg(rules(alloc))?
         .arg(table(alloc))?
         .arg(tree(alloc))?
         .arg(script(alloc))
+}
+
+fn why_command<'a>(alloc: Global) -> Result<clap::Command<'a>, AllocError> {
+    let call = Arg::new(alloc, "call")
+        .required(true)
+        .value_name("CALL")
+        .help(help::CALL);
+    let arguments = Arg::new(alloc, "arguments")
+        .value_name("ARG")
+        .help(help::ARGUMENTS)
+        .action(ArgAction::Append)
+        .num_args(0..);
+    clap::Command::new(alloc, "why")
+        .about(help::WHY)
+        .after_help(help::WHY_OUTPUT)
+        .arg(process(alloc))?
+        .arg(rules(alloc))?
+        .arg(table(alloc))?
+        .arg(tree(alloc))?
+        .arg(script(alloc))?
+        .arg(call)?
+        .arg(arguments)
 }
 
 fn audit_command<'a>(alloc: Global) -> Result<clap::Command<'a>, AllocError> {
@@ -165,6 +195,13 @@ fn ever<'a>(alloc: Global) -> Arg<'a> {
         .long("ever")
         .action(ArgAction::SetTrue)
         .help(help::EVER)
+}
+
+fn why<'a>(alloc: Global, text: &'a str) -> Arg<'a> {
+    Arg::new(alloc, "why")
+        .long("why")
+        .action(ArgAction::SetTrue)
+        .help(text)
 }
 
 fn processes<'a>(alloc: Global) -> Arg<'a> {
@@ -259,27 +296,37 @@ fn read_inputs<'a>(found: &ArgMatches<'a>, text: Text<'a>) -> Option<Command<'a>
     })
 }
 
+/// The text of a run, with reasons or without.
+fn run_of<'a>(why: bool) -> Text<'a>
+    ensures asked { result ≡ run_asked why }
+    ensures sound { AsksSoundly result }
+{
+    if why { Text::RunWhy } else { Text::Run }
+}
+
 /// The list of objects that the words ask for, of now or for ever. None where they name no process,
-/// and where a list for ever is asked of all.
+/// and where a list for ever is asked of all or with reasons.
 fn read_objects<'a>(found: &ArgMatches<'a>) -> Option<Text<'a>>
     ensures { IfSome result AsksSoundly }
 {
     list_of(
         found.get_flag("ever"),
+        found.get_flag("why"),
         read_processes(found.get_str("process"))?,
     )
 }
 
-/// The list of these processes, of now or for ever. None for a list for ever of all: there is one of
-/// each alone.
-fn list_of<'a>(ever: bool, processes: Processes) -> Option<Text<'a>>
-    ensures asked { result ≡ list_asked ever processes }
+/// The list of these processes, of now or for ever, with reasons or without. None for a list for ever
+/// of all, since there is one of each alone, and for one with reasons.
+fn list_of<'a>(ever: bool, why: bool, processes: Processes) -> Option<Text<'a>>
+    ensures asked { result ≡ list_asked ever why processes }
     ensures sound { AreSound processes → IfSome result AsksSoundly }
 {
-    match processes {
-        Processes::One(process) if ever => Some(Text::Ever(EverWords { process })),
-        Processes::All if ever => None,
-        processes => Some(Text::Objects(ObjectWords { processes })),
+    match (ever, why, processes) {
+        (false, false, processes) => Some(Text::Objects(ObjectWords { processes })),
+        (false, true, processes) => Some(Text::ObjectsWhy(ObjectWords { processes })),
+        (true, false, Processes::One(process)) => Some(Text::Ever(EverWords { process })),
+        (true, false, Processes::All) | (true, true, _) => None,
     }
 }
 
@@ -315,6 +362,21 @@ fn read_audit<'a>(
         after: found.get_str("after").map(|text| text.as_bytes()),
         names: names.iter().map(|name| name.as_bytes()).collect(alloc)?,
     }))
+}
+
+/// The request that is asked about: the call, and behind it its arguments.
+fn read_why<'a>(alloc: Global, found: &ArgMatches<'a>) -> Result<Option<WhyWords<'a>>, AllocError>
+    ensures { IfOk result (λ words. IfSome words (λ words. IsProcessNumber words.process)) }
+{
+    let (Some(call), Some(process)) = (found.get_str("call"), read_process(found)) else {
+        return Ok(None);
+    };
+    let mut fields = Vec::new(alloc);
+    fields.push(call.as_bytes())?;
+    for argument in found.get_strs("arguments").unwrap_or(&[]) {
+        fields.push(argument.as_bytes())?;
+    }
+    Ok(Some(WhyWords { process, fields }))
 }
 
 fn read_process(found: &ArgMatches<'_>) -> Option<u32>

@@ -3,17 +3,14 @@
 //! that of a pair whose path names the same. Where that is so of all lines, the objects and calls of the
 //! pairs are those of the list.
 
-ghost use Rattle.std.specs.Prelude.{◌≡◌};
-
-use crate::beside::subjects::{Subject, has_veil, subject_at, subject_named};
-use anyhow::{Result, anyhow};
-use pua_audit::{Audit, Base, LETTER_LIMIT};
-use pua_objects::Objects;
-use pua_path::Counted;
-use pua_policy::{Call, Calls, Process};
+use crate::beside::subjects::{Subject, has_veil, is_of_kind, subject_named};
+use crate::lists::{Asked, Line, Pair, objects, pairs};
+use anyhow::Result;
+use pua_audit::{Base, LETTER_LIMIT};
+use pua_policy::{Call, Process};
 use pua_script::World;
 use pua_tree::{FileTree, ListTree, Name, NodeId};
-use std::alloc::Global;
+use std::alloc::{AllocError, Global};
 
 /// How much was compared.
 #[derive(Drop)]
@@ -38,25 +35,15 @@ impl Counts {
             equal: 0,
         }
     }
-}
 
-/// What an audit is asked for, beside the tree and the process.
-#[derive(Clone, Copy)]
-pub(crate) struct Asked<'a> {
-    pub(crate) base: Base,
-    pub(crate) names: &'a [&'a [u8]],
-    pub(crate) limit: u8,
-}
-
-/// A line of a list.
-#[derive(Drop)]
-struct Listed {
-    subject: Subject,
-    /// How many names lead from the root to what the line is about, or to one of the further names.
-    names: usize,
-    calls: Calls,
-    /// The calls of those pairs whose paths name what the line is about.
-    found: Calls,
+    /// Counts the lines of a list, so many of which had to be found whole.
+    fn count(&mut self, lines: usize, whole: usize) {
+        self.lines = self.lines.saturating_add(lines);
+        self.whole = self.whole.saturating_add(whole);
+        if whole == lines {
+            self.equal = self.equal.saturating_add(1);
+        }
+    }
 }
 
 /// The paths of an audit.
@@ -69,8 +56,8 @@ struct Paths<'a> {
     depth: Option<usize>,
 }
 
-/// Whether an audit is as the list of objects says: each pair has a line, and each line whose own path
-/// the audit has is found with all its calls.
+/// Whether an audit is as the list of objects says: each line is of what stands there, each pair has a
+/// line, and each line whose own path the audit has is found with all its calls.
 pub(crate) fn is_listed(
     alloc: Global,
     world: &World<ListTree>,
@@ -78,87 +65,36 @@ pub(crate) fn is_listed(
     asked: &Asked<'_>,
     counts: &mut Counts,
 ) -> Result<bool> {
-    let tree = world.tree();
-    let mut lines = lines_of(alloc, world, process)?;
-    let mut probe = Counted::new(tree);
-    let begun = Audit::begin(
-        alloc,
-        &mut probe,
-        process,
-        world.table(),
-        asked.base,
-        asked.names,
-        asked.limit,
-        None,
-    );
-    let mut audit = begun?;
+    let mut lines = objects(alloc, world.tree(), process, world.table())?;
+    let pairs = pairs(alloc, world.tree(), process, world.table(), asked)?;
+    let letters = letters(alloc, world.tree(), asked.names)?;
     counts.audits = counts.audits.saturating_add(1);
-    if !are_within(tree, process, &mut audit, lines.as_mut_slice(), counts) {
-        return Ok(false);
-    }
-    let letters = letters(alloc, tree, asked.names)?;
+    counts.pairs = counts.pairs.saturating_add(pairs.len());
     let paths = Paths {
-        tree,
+        tree: world.tree(),
         process,
         letters: letters.as_slice(),
-        depth: depth_of(tree, process, asked),
+        depth: depth_of(world.tree(), process, asked),
     };
-    Ok(are_found(&paths, lines.as_slice(), counts))
+    Ok(
+        are_there(world.tree(), lines.as_slice())
+            && paths.are_within(pairs.as_slice(), lines.as_mut_slice())
+            && paths.are_found(lines.as_slice(), counts),
+    )
 }
 
-/// The lines of a list, without a pair yet.
-fn lines_of(alloc: Global, world: &World<ListTree>, process: &Process) -> Result<Vec<Listed>> {
-    let tree = world.tree();
-    let begun = Objects::begin(alloc, tree, process, world.table());
-    let mut list = begun?;
-    let mut lines = Vec::new(alloc);
-    while let Some(line) = list.next_line() {
-        let Some(subject) = subject_at(tree, line.kind, list.word()) else {
-            return Err(anyhow!("a line of what isn't there"));
-        };
-        lines.push(Listed {
-            subject,
-            names: names_to(&subject, list.word()),
-            calls: line.calls,
-            found: Calls::NONE,
-        })?;
-    }
-    Ok(lines)
-}
-
-/// How many names lead to what a line is about, or to one of a directory's further names.
-fn names_to(subject: &Subject, word: &[&Name]) -> usize {
-    match subject {
-        Subject::Others(_) => word.len().saturating_add(1),
-        _ => word.len(),
-    }
-}
-
-/// Whether what the path of each pair names has a line with the pair's call.
-fn are_within(
-    tree: &ListTree,
-    process: &Process,
-    audit: &mut Audit,
-    lines: &mut [Listed],
-    counts: &mut Counts,
-) -> bool
-    requires { audit.old.tree ≡ tree.now }
-{
-    let mut probe = Counted::new(tree);
-    while let Some(line) = audit.next_line(&mut probe) {
-        let Some(subject) = subject_named(tree, process, line.call, line.path) else {
-            return false;
-        };
-        if !is_within(lines, &subject, line.call) {
+/// Whether each line is of what stands there.
+fn are_there(tree: &ListTree, lines: &[Line]) -> bool {
+    for line in lines {
+        if !is_of_kind(tree, line.kind, &line.subject) {
             return false;
         }
-        counts.pairs = counts.pairs.saturating_add(1);
     }
     true
 }
 
 /// Whether there is a line about this that has a call, which is noted there as found.
-fn is_within(lines: &mut [Listed], subject: &Subject, call: Call) -> bool {
+fn is_within(lines: &mut [Line], subject: &Subject, call: Call) -> bool {
     for line in lines {
         if line.subject == *subject {
             line.found = line.found.with(call);
@@ -168,28 +104,42 @@ fn is_within(lines: &mut [Listed], subject: &Subject, call: Call) -> bool {
     false
 }
 
-/// Whether each line is found with all its calls whose own path is one of the audit's.
-fn are_found(paths: &Paths<'_>, lines: &[Listed], counts: &mut Counts) -> bool {
-    let mut whole = 0usize;
-    for line in lines {
-        if paths.has(line) {
-            whole = whole.saturating_add(1);
-            if line.found != line.calls {
+impl Paths<'_> {
+    /// Whether what the path of each pair names has a line with the pair's call.
+    fn are_within(&self, pairs: &[Pair], lines: &mut [Line]) -> bool {
+        for pair in pairs {
+            if !self.is_within(pair, lines) {
                 return false;
             }
         }
+        true
     }
-    counts.lines = counts.lines.saturating_add(lines.len());
-    counts.whole = counts.whole.saturating_add(whole);
-    if whole == lines.len() {
-        counts.equal = counts.equal.saturating_add(1);
-    }
-    true
-}
 
-impl Paths<'_> {
+    /// Whether what the path of a pair names has a line with the pair's call.
+    fn is_within(&self, pair: &Pair, lines: &mut [Line]) -> bool {
+        match subject_named(self.tree, self.process, pair.call, pair.path.as_slice()) {
+            Some(subject) => is_within(lines, &subject, pair.call),
+            None => false,
+        }
+    }
+
+    /// Whether each line is found with all its calls whose own path is one of the audit's.
+    fn are_found(&self, lines: &[Line], counts: &mut Counts) -> bool {
+        let mut whole = 0usize;
+        for line in lines {
+            if self.has(line) {
+                whole = whole.saturating_add(1);
+                if line.found != line.calls {
+                    return false;
+                }
+            }
+        }
+        counts.count(lines.len(), whole);
+        true
+    }
+
     /// Whether the audit has a line's own path; of a line about further names, that of one of them.
-    fn has(&self, line: &Listed) -> bool {
+    fn has(&self, line: &Line) -> bool {
         match self.depth {
             Some(depth) => line.names <= depth && self.spell(&line.subject),
             None => false,
@@ -200,9 +150,9 @@ impl Paths<'_> {
     /// directory's further names, whether one is.
     fn spell(&self, subject: &Subject) -> bool {
         match subject {
-            Subject::Dir(_) => true,
-            Subject::Name(_, name) => self.letters.contains(name),
+            Subject::Name(_, name) | Subject::Missing(_, name) => self.letters.contains(name),
             Subject::Others(dir) => self.have_further(*dir),
+            Subject::Dir(_) | Subject::Coming => true,
         }
     }
 
@@ -238,10 +188,15 @@ fn depth_of(tree: &ListTree, process: &Process, asked: &Asked<'_>) -> Option<usi
 pub(crate) fn letters(alloc: Global, tree: &ListTree, names: &[&[u8]]) -> Result<Vec<Name>> {
     let mut letters = tree.names(alloc)?;
     for name in names {
-        let name = Name::read(name)?;
-        if !letters.contains(&name) {
-            letters.push(name)?;
-        }
+        add_letter(&mut letters, Name::read(name)?)?;
     }
     Ok(letters)
+}
+
+/// Adds a letter, unless it is there.
+fn add_letter(letters: &mut Vec<Name>, name: Name) -> Result<(), AllocError> {
+    if !letters.contains(&name) {
+        letters.push(name)?;
+    }
+    Ok(())
 }

@@ -1,20 +1,20 @@
 //! The audits that are compared beside those that are asked for: as deep as they are cheap.
 
-use crate::beside::compared::{Asked, Counts, is_listed, letters};
-use crate::rows::trees::spell;
+use crate::beside::compared::{Counts, is_listed, letters};
+use crate::lists::{Asked, add_plain, spell};
 use anyhow::Result;
 use pua_audit::{Base, LETTER_LIMIT};
 use pua_path::PATH_LIMIT;
 use pua_policy::{Place, Process};
 use pua_script::World;
 use pua_tree::{ListTree, Name};
-use std::alloc::Global;
+use std::alloc::{AllocError, Global};
 
 /// An audit is cheap that has no more words.
 const CHEAP: usize = 10_000;
 
 /// A name that stands in no tree here.
-const NOWHERE: &[u8] = b"nowhere";
+const NOWHERE: &str = "nowhere";
 
 /// Whether audits of a process are as the list says, from the root and from the working directory, at
 /// the longest limit that is cheap: with these names, one that stands nowhere, and each that has a veil.
@@ -25,44 +25,69 @@ pub(crate) fn are_deep_listed(
     names: &[&[u8]],
     counts: &mut Counts,
 ) -> Result<bool> {
-    let spellings = deep_names(alloc, process, names)?;
-    let names: Vec<&[u8]> = spellings.iter().map(Vec::as_slice).collect(alloc)?;
-    let letters = letters(alloc, world.tree(), names.as_slice())?;
-    let limit = cheap_limit(letters.as_slice());
-    for base in [Base::Root, Base::Cwd] {
-        let asked = Asked {
-            base,
-            names: names.as_slice(),
-            limit,
-        };
-        if !is_listed(alloc, world, process, &asked, counts)? {
-            return Ok(false);
-        }
-    }
-    Ok(true)
+    let text = deep_names(alloc, process, names)?;
+    let names = names_of(alloc, text.as_str())?;
+    are_listed(alloc, world, process, names.as_slice(), counts)
 }
 
-/// The spellings of these names, of one that stands nowhere, and of each that has a veil of its own.
-fn deep_names(alloc: Global, process: &Process, names: &[&[u8]]) -> Result<Vec<Vec<u8>>> {
+/// The names of a text.
+fn names_of(alloc: Global, text: &str) -> Result<Vec<&[u8]>, AllocError> {
+    let mut names = Vec::new(alloc);
+    for name in text.split(' ') {
+        names.push(name.as_bytes())?;
+    }
+    Ok(names)
+}
+
+/// Whether audits of a process with these names are as the list says, from the root and from the working
+/// directory, at the longest limit that is cheap.
+fn are_listed(
+    alloc: Global,
+    world: &World<ListTree>,
+    process: &Process,
+    names: &[&[u8]],
+    counts: &mut Counts,
+) -> Result<bool> {
+    let letters = letters(alloc, world.tree(), names)?;
+    let asked = Asked {
+        base: Base::Root,
+        names,
+        limit: cheap_limit(letters.as_slice()),
+        after: None,
+    };
+    let from_dir = Asked {
+        base: Base::Cwd,
+        ..asked
+    };
+    Ok(
+        is_listed(alloc, world, process, &asked, counts)?
+            && is_listed(alloc, world, process, &from_dir, counts)?,
+    )
+}
+
+/// The spellings of these names, of one that stands nowhere, and of each that has a veil of its own, with blanks
+/// between them.
+fn deep_names(alloc: Global, process: &Process, names: &[&[u8]]) -> Result<String> {
     let places = process.places(alloc)?;
-    let mut spellings = copies(alloc, names)?;
-    spellings.push(Vec::from_slice(alloc, NOWHERE)?)?;
-    for place in &places {
-        if let Place::Slot(_, name) = *place {
-            let mut text = Vec::new(alloc);
-            spell(&mut text, name.bytes())?;
-            spellings.push(text)?;
-        }
+    let mut text = String::new(alloc);
+    for name in names {
+        add_plain(&mut text, name)?;
+        text.push(' ')?;
     }
-    Ok(spellings)
+    text.push_str(NOWHERE)?;
+    for place in &places {
+        add_name(&mut text, place)?;
+    }
+    Ok(text)
 }
 
-fn copies(alloc: Global, names: &[&[u8]]) -> Result<Vec<Vec<u8>>> {
-    let mut copies = Vec::new(alloc);
-    for name in names {
-        copies.push(Vec::from_slice(alloc, name)?)?;
-    }
-    Ok(copies)
+/// Adds the spelling of a place's name, if it is one.
+fn add_name(names: &mut String, place: &Place) -> Result<(), AllocError> {
+    let Place::Slot(_, name) = place else {
+        return Ok(());
+    };
+    names.push(' ')?;
+    spell(names, name.bytes())
 }
 
 /// The longest limit at which an audit of these letters and `..` is cheap, and no path is too long.

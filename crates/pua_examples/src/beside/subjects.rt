@@ -1,21 +1,26 @@
 //! What the line of a list of objects is about, and what the line of something that a path names is.
 
+ghost use Rattle.std.specs.Prelude.{IfSome};
+ghost use Rattle.pua_path.specs.Fits.{FoundFits};
+
 use pua_objects::ObjectKind;
-use pua_path::{Counted, Found, PathText, resolve};
+use pua_path::{Counted, Ending, Found, Last, PathText, resolve};
 use pua_policy::{Call, Place, Process, needs};
 use pua_tree::{FileTree, Kind, Name, NodeId};
 
-/// What a line is about: a directory, a name in a directory under which none stands, or all further
-/// names of a directory.
+/// What a line is about: a directory, a name in a directory and what stands there, a name with a veil of
+/// its own as one that is missing, all further names of a directory, or what can be made.
 #[derive(Clone, Copy, PartialEq, Eq)]
 pub(crate) enum Subject {
     Dir(NodeId),
     Name(NodeId, Name),
+    Missing(NodeId, Name),
     Others(NodeId),
+    Coming,
 }
 
-/// What the line of a kind is about to which these names lead from the root; None where they lead to
-/// something of another kind, or nowhere.
+/// What the line of a kind is about to which these names lead from the root, whatever stands there: a list
+/// for ever has missing names under which something stands. None where a directory isn't there.
 pub(crate) fn subject_at<T: FileTree>(
     tree: &T,
     kind: ObjectKind,
@@ -24,15 +29,19 @@ pub(crate) fn subject_at<T: FileTree>(
     match kind {
         ObjectKind::Dir => Some(Subject::Dir(dir_at(tree, word)?)),
         ObjectKind::Other => Some(Subject::Others(dir_at(tree, word)?)),
-        ObjectKind::File => name_at(tree, word, Some(Kind::File)),
-        ObjectKind::Prog => name_at(tree, word, Some(Kind::Prog)),
-        ObjectKind::Link => name_at(tree, word, Some(Kind::Link)),
-        ObjectKind::Missing => name_at(tree, word, None),
+        ObjectKind::Missing => {
+            let (dir, name) = name_at(tree, word)?;
+            Some(Subject::Missing(dir, name))
+        }
+        _ => {
+            let (dir, name) = name_at(tree, word)?;
+            Some(Subject::Name(dir, name))
+        }
     }
 }
 
 /// The directory to which names lead from the root.
-pub(crate) fn dir_at<T: FileTree>(tree: &T, word: &[&Name]) -> Option<NodeId> {
+fn dir_at<T: FileTree>(tree: &T, word: &[&Name]) -> Option<NodeId> {
     let mut dir = NodeId::ROOT;
     for name in word {
         dir = tree.look(dir, name)?;
@@ -44,19 +53,36 @@ pub(crate) fn dir_at<T: FileTree>(tree: &T, word: &[&Name]) -> Option<NodeId> {
     }
 }
 
-/// The last of some names in its directory, if what stands there is of this kind.
-fn name_at<T: FileTree>(tree: &T, word: &[&Name], kind: Option<Kind>) -> Option<Subject> {
+/// The last of some names, and its directory.
+fn name_at<T: FileTree>(tree: &T, word: &[&Name]) -> Option<(NodeId, Name)> {
     let (name, above) = word.split_last()?;
-    let dir = dir_at(tree, above)?;
-    let there = match tree.look(dir, name) {
-        Some(node) => tree.kind(node),
-        None => None,
+    Some((dir_at(tree, above)?, **name))
+}
+
+/// Whether what the line of a kind is about is of this kind in a tree.
+pub(crate) fn is_of_kind<T: FileTree>(tree: &T, kind: ObjectKind, subject: &Subject) -> bool {
+    let stands = match subject {
+        Subject::Dir(dir) | Subject::Others(dir) => tree.kind(*dir),
+        Subject::Name(dir, name) | Subject::Missing(dir, name) => kind_at(tree, *dir, name),
+        Subject::Coming => None,
     };
-    if there == kind {
-        Some(Subject::Name(dir, **name))
-    } else {
-        None
+    stands == kind_in(kind)
+}
+
+/// What stands in a tree that a line of a kind is about; None where nothing does.
+fn kind_in(kind: ObjectKind) -> Option<Kind> {
+    match kind {
+        ObjectKind::Dir | ObjectKind::Other => Some(Kind::Dir),
+        ObjectKind::File => Some(Kind::File),
+        ObjectKind::Prog => Some(Kind::Prog),
+        ObjectKind::Link => Some(Kind::Link),
+        ObjectKind::Missing => None,
     }
+}
+
+/// The kind of what stands at a name in a directory.
+fn kind_at<T: FileTree>(tree: &T, dir: NodeId, name: &Name) -> Option<Kind> {
+    tree.kind(tree.look(dir, name)?)
 }
 
 /// What the line is about that stands for what a path names, by the call's rule for the path's end;
@@ -67,18 +93,33 @@ pub(crate) fn subject_named<T: FileTree>(
     call: Call,
     path: &[u8],
 ) -> Option<Subject> {
-    let Ok(text) = PathText::read(path, needs::ending(call)) else {
+    let (ending, last) = (needs::ending(call), needs::need(call).last);
+    let found = found_at(tree, process.dir(), path, ending, last)?;
+    Some(subject_of(process, &found))
+}
+
+/// What a path names from a directory, if anything.
+pub(crate) fn found_at<T: FileTree>(
+    tree: &T,
+    dir: NodeId,
+    path: &[u8],
+    ending: Ending,
+    last: Last,
+) -> Option<Found>
+    ensures { IfSome result (FoundFits (T.content tree.now)) }
+{
+    let Ok(text) = PathText::read(path, ending) else {
         return None;
     };
     let mut probe = Counted::new(tree);
-    match resolve(&mut probe, process.dir(), &text, needs::need(call).last) {
-        Ok(found) => Some(subject_of(process, &found)),
+    match resolve(&mut probe, dir, &text, last) {
+        Ok(found) => Some(found),
         Err(_) => None,
     }
 }
 
 /// What the line of something that was found is about: a directory, however it was named; a name; or,
-/// where nothing stands and the name has no veil of its own, the further names of a directory.
+/// where nothing stands, the missing name, or the further names of a directory if it has no veil of its own.
 fn subject_of(process: &Process, found: &Found) -> Subject {
     match *found {
         Found::Whole { dir, .. } => Subject::Dir(dir),
@@ -98,7 +139,7 @@ fn subject_of(process: &Process, found: &Found) -> Subject {
 /// What the line of a name is about under which nothing stands.
 fn missing_in(process: &Process, dir: NodeId, name: &Name) -> Subject {
     if has_veil(process, dir, name) {
-        Subject::Name(dir, *name)
+        Subject::Missing(dir, *name)
     } else {
         Subject::Others(dir)
     }

@@ -1,8 +1,10 @@
 //! What a line of a list is about, by the numbers that things had in the beginning.
 
-use crate::beside::subjects::dir_at;
+use crate::beside::subjects::Subject;
+use crate::lists::Line;
+use anyhow::{Result, bail};
 use pua_objects::ObjectKind;
-use pua_tree::{FileTree, Name, NodeId};
+use pua_tree::{FileTree, ListTree, Name, NodeId};
 
 /// What a line is about: something that stood in the beginning, the further names of a directory of
 /// then, a missing name with a veil of its own, or what was made since, by its kind.
@@ -14,38 +16,34 @@ pub(crate) enum About {
     New(ObjectKind),
 }
 
-/// What the line of a kind is about to which these names lead in a tree, beside the tree of the
-/// beginning; None where they lead nowhere. A number that nothing had in the beginning is new, since
-/// none is given twice.
-pub(crate) fn thing_at<T: FileTree>(
-    first: &T,
-    tree: &T,
-    kind: ObjectKind,
-    word: &[&Name],
-) -> Option<About> {
-    let (node, about) = match kind {
-        ObjectKind::Dir => {
-            let dir = dir_at(tree, word)?;
-            (dir, About::Node(dir))
+/// What a line over a tree is about, beside the tree of the beginning. A number that nothing had in the
+/// beginning is new, since none is given twice.
+pub(crate) fn thing_of(first: &ListTree, tree: &ListTree, line: &Line) -> Result<About> {
+    match about_of(tree, line) {
+        Some(about) if was_there(first, &about) => Ok(about),
+        Some(_) => Ok(About::New(line.kind)),
+        None => bail!("a line of what isn't there"),
+    }
+}
+
+/// What a line is about by its number, or that of its directory. A missing name is that name, whatever
+/// stands there. None where nothing stands at another one.
+fn about_of(tree: &ListTree, line: &Line) -> Option<About> {
+    match line.subject {
+        Subject::Dir(dir) => Some(About::Node(dir)),
+        Subject::Others(dir) => Some(About::Others(dir)),
+        Subject::Missing(dir, name) => Some(About::Missing(dir, name)),
+        Subject::Name(dir, name) => Some(About::Node(tree.look(dir, &name)?)),
+        Subject::Coming => Some(About::New(line.kind)),
+    }
+}
+
+/// Whether something had its number in the tree of the beginning, or its directory had.
+fn was_there(first: &ListTree, about: &About) -> bool {
+    match about {
+        About::Node(node) | About::Others(node) | About::Missing(node, _) => {
+            first.kind(*node).is_some()
         }
-        ObjectKind::Other => {
-            let dir = dir_at(tree, word)?;
-            (dir, About::Others(dir))
-        }
-        ObjectKind::Missing => {
-            let (name, above) = word.split_last()?;
-            let dir = dir_at(tree, above)?;
-            (dir, About::Missing(dir, **name))
-        }
-        _ => {
-            let (name, above) = word.split_last()?;
-            let node = tree.look(dir_at(tree, above)?, name)?;
-            (node, About::Node(node))
-        }
-    };
-    Some(if first.kind(node).is_some() {
-        about
-    } else {
-        About::New(kind)
-    })
+        About::New(_) => false,
+    }
 }

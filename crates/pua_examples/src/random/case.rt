@@ -1,11 +1,12 @@
 //! A case: a tree, a script, and an audit of one of its processes.
 
-use crate::random::generator::{NAMES, Node, Random, listing, nodes, number_of, script};
-use crate::written::Files;
-use anyhow::{Result, anyhow};
+use crate::random::generator::{Drawn, NAMES, Node, Random, SCRIPT, node_id, node_of, nodes};
+use crate::told::{add, pair_of};
+use crate::written::Wanted;
+use anyhow::Result;
 use pua_tool::{MemorySink, run_to};
 use pua_tree::{FileTree, Kind, Name, NodeId, read_listing};
-use std::alloc::Global;
+use std::alloc::{AllocError, Global};
 
 /// For how many bytes the output of a random case has room.
 const ROOM: usize = 65_536;
@@ -16,14 +17,16 @@ const CALLS: [&str; 14] = [
     "unlink", "symlink", "chmod", "chdir", "exec",
 ];
 
-/// A case, at random or written out. Its audit has these letters beside `..`, in the order of their
-/// bytes.
+/// The letters of a random case.
+const LETTERS: [&str; 6] = ["..", "a", "b", "c", "d", "e"];
+
+/// A case, at random or written out. Its audit has these letters, in the order of their bytes: `..` comes
+/// first.
 #[derive(Drop)]
 pub(crate) struct Case {
     nodes: Vec<Node>,
     letters: &'static [&'static str],
-    pub(crate) listing: String,
-    pub(crate) script: String,
+    pub(crate) drawn: Drawn,
     process: &'static str,
     base: &'static str,
     limit: &'static str,
@@ -34,7 +37,9 @@ pub(crate) struct Case {
 #[derive(Drop)]
 pub(crate) struct Filtered {
     lines: String,
+    /// The pair that was drawn, if it was asked for, and how many others come before it.
     pair: String,
+    before: usize,
     rest: usize,
 }
 
@@ -43,12 +48,11 @@ impl Case {
     pub(crate) fn new(alloc: Global, random: &mut Random) -> Result<Case> {
         let nodes = nodes(alloc, random)?;
         Ok(Case {
-            listing: listing(alloc, nodes.as_slice())?,
-            script: script(alloc, random)?,
+            drawn: Drawn::over(alloc, random, nodes.as_slice(), &SCRIPT)?,
             process: if random.below(2) == 0 { "1" } else { "2" },
             base: if random.below(2) == 0 { "root" } else { "cwd" },
             limit: if random.below(4) == 0 { "2" } else { "1" },
-            letters: &NAMES,
+            letters: &LETTERS,
             nodes,
         })
     }
@@ -62,8 +66,10 @@ impl Case {
         letters: &'static [&'static str],
     ) -> Result<Case> {
         Ok(Case {
-            listing: String::from_str(alloc, listing)?,
-            script: String::from_str(alloc, script)?,
+            drawn: Drawn {
+                listing: String::from_str(alloc, listing)?,
+                script: String::from_str(alloc, script)?,
+            },
             process: "1",
             base,
             limit: "2",
@@ -76,93 +82,79 @@ impl Case {
     /// target, a further name's number is no node's, and each name in each directory is its node, or
     /// isn't there.
     pub(crate) fn is_read_back(&self, alloc: Global) -> Result<bool> {
-        let Ok(tree) = read_listing(alloc, self.listing.as_bytes()) else {
+        let Ok(tree) = read_listing(alloc, self.drawn.listing.as_bytes()) else {
             return Ok(false);
         };
+        let mut is_read = tree.kind(node_id(self.nodes.len())).is_none();
         for (number, node) in self.nodes.iter().enumerate() {
-            let id = node_id(number);
-            let target = (node.kind == "link").then_some(node.target.as_bytes());
-            if tree.kind(id) != kind(node) || tree.target(id) != target {
-                return Ok(false);
-            }
-            if !self.has_rows(&tree, number)? {
-                return Ok(false);
-            }
+            is_read &= is_node(&tree, number, node);
+            is_read &= self.has_rows(&tree, number)?;
         }
-        Ok(tree.kind(node_id(self.nodes.len())).is_none())
+        Ok(is_read)
     }
 
     /// Whether each name in a directory is its node, or isn't there.
     fn has_rows<T: FileTree>(&self, tree: &T, dir: usize) -> Result<bool> {
+        let mut has_rows = true;
         for text in NAMES {
-            let Ok(name) = Name::read(text.as_bytes()) else {
-                return Err(anyhow!("no name: {text}"));
-            };
-            let number = number_of(self.nodes.as_slice(), dir, text);
-            if tree.look(node_id(dir), &name) != number.map(node_id) {
-                return Ok(false);
-            }
+            let name = Name::read(text.as_bytes())?;
+            has_rows &= tree.look(node_id(dir), &name) == node_of(self.nodes.as_slice(), dir, text);
         }
-        Ok(true)
+        Ok(has_rows)
     }
 
     /// The text of a run of a script over the case's tree.
     fn run(&self, alloc: Global, script: &str) -> Result<MemorySink> {
-        let Ok(mut sink) = MemorySink::new(alloc, ROOM) else {
-            return Err(anyhow!("out of memory"));
-        };
-        match run_to(
-            alloc,
-            self.listing.as_bytes(),
-            script.as_bytes(),
-            None,
-            &mut sink,
-        ) {
-            Ok(()) => Ok(sink),
-            Err(_) => Err(anyhow!("not run: {script}")),
-        }
+        let mut sink = MemorySink::new(alloc, ROOM)?;
+        let (tree, script) = (self.drawn.listing.as_bytes(), script.as_bytes());
+        run_to(alloc, tree, script, None, &mut sink)?;
+        Ok(sink)
     }
 
     /// Whether each front of the script has the front of the script's answers, a line for each.
     pub(crate) fn has_fronts(&self, alloc: Global) -> Result<bool> {
-        let whole = self.run(alloc, self.script.as_str())?;
+        let whole = self.run(alloc, self.drawn.script.as_str())?;
+        let mut has_fronts = true;
         let mut front = String::new(alloc);
-        for (place, line) in self.script.as_str().lines().enumerate() {
-            let answers = self.run(alloc, front.as_str())?;
-            let lines = str::from_utf8(answers.bytes())?.lines().count();
-            let is_front = whole.bytes().starts_with(answers.bytes());
-            if !is_front || lines != place {
-                return Ok(false);
-            }
-            writeln!(front, "{line}")?;
+        for (place, line) in self.drawn.script.as_str().lines().enumerate() {
+            has_fronts &= self.is_front(alloc, front.as_str(), whole.bytes(), place)?;
+            add(&mut front, &[line, "\n"])?;
         }
-        Ok(true)
+        Ok(has_fronts)
+    }
+
+    /// Whether a front of the script has so many lines of answers, with which the whole's begin.
+    fn is_front(&self, alloc: Global, front: &str, whole: &[u8], lines: usize) -> Result<bool> {
+        let answers = self.run(alloc, front)?;
+        let count = str::from_utf8(answers.bytes())?.lines().count();
+        Ok(count == lines && whole.starts_with(answers.bytes()))
     }
 
     /// Whether a call on a path would be answered `ok` where the script ends.
     fn is_served(&self, alloc: Global, call: &str, path: &str) -> Result<bool> {
         let target = if call == "symlink" { "a " } else { "" };
-        let script = format!(in alloc; "{}{} {call} {target}{path}\n", self.script, self.process)?;
+        let mut script = String::from_str(alloc, self.drawn.script.as_str())?;
+        add_request(&mut script, self.process, call, target, path)?;
         let answers = self.run(alloc, script.as_str())?;
         Ok(answers.bytes().ends_with(b" ok\n"))
     }
 
-    /// The paths of all words, in their order.
-    fn paths(&self, alloc: Global) -> Result<Vec<String>> {
+    /// The paths of all words, in their order, one a line.
+    fn paths(&self, alloc: Global) -> Result<String, AllocError> {
         let (alone, first) = if self.base == "root" {
-            ("/", "/")
+            ("/\n", "/")
         } else {
-            (".", "")
+            (".\n", "")
         };
-        let mut paths = Vec::new(alloc);
-        paths.push(String::from_str(alloc, alone)?)?;
-        for letter in [".."].iter().chain(self.letters.iter()) {
-            paths.push(format!(in alloc; "{first}{letter}")?)?;
-            if self.limit == "2" {
-                for next in [".."].iter().chain(self.letters.iter()) {
-                    paths.push(format!(in alloc; "{first}{letter}/{next}")?)?;
-                }
-            }
+        let count = if self.limit == "2" {
+            self.letters.len()
+        } else {
+            0
+        };
+        let next = self.letters.get(..count).unwrap_or(&[]);
+        let mut paths = String::from_str(alloc, alone)?;
+        for letter in self.letters {
+            add_paths(&mut paths, first, letter, next)?;
         }
         Ok(paths)
     }
@@ -170,55 +162,55 @@ impl Case {
     /// All pairs whose call would be answered `ok`, each asked by itself, and one pair of all.
     pub(crate) fn filtered(&self, alloc: Global, random: &mut Random) -> Result<Filtered> {
         let paths = self.paths(alloc)?;
-        let drawn = random.below(paths.len().saturating_mul(CALLS.len()));
+        let count = paths.as_str().lines().count().saturating_mul(CALLS.len());
         let mut filtered = Filtered {
             lines: String::new(alloc),
             pair: String::new(alloc),
             rest: 0,
+            before: random.below(count),
         };
-        let mut number = 0usize;
-        for path in &paths {
-            for call in CALLS {
-                if self.is_served(alloc, call, path.as_str())? {
-                    writeln!(filtered.lines, "{path} {call}")?;
-                }
-                if number == drawn {
-                    filtered.pair = format!(in alloc; "{call}:{path}")?;
-                    filtered.rest = filtered.lines.len();
-                }
-                number = number.saturating_add(1);
-            }
+        for path in paths.as_str().lines() {
+            self.ask_each(alloc, path, &mut filtered)?;
         }
         Ok(filtered)
     }
 
-    /// The output of the case's audit; None where it isn't written whole.
-    fn audited(&self, alloc: Global, after: Option<&str>) -> Result<Option<MemorySink>> {
-        let mut words = Vec::new(alloc);
-        words.extend_from_slice(&["audit", "--process", self.process, "--base", self.base])?;
-        words.extend_from_slice(&["--limit", self.limit, "TREE", "SCRIPT"])?;
-        words.extend_from_slice(self.letters)?;
-        if let Some(after) = after {
-            words.extend_from_slice(&["--after", after])?;
+    /// Asks for the pairs of a path, each by itself.
+    fn ask_each(&self, alloc: Global, path: &str, filtered: &mut Filtered) -> Result<()> {
+        for call in &CALLS {
+            let is_served = self.is_served(alloc, call, path)?;
+            filtered.keep(path, call, is_served)?;
         }
-        let files = Files::new(self.listing.as_bytes(), self.script.as_bytes());
-        let written = files.written(alloc, words.as_slice(), ROOM)?;
-        let is_whole = written.status == 0 && written.err.bytes().is_empty();
-        Ok(if is_whole { Some(written.out) } else { None })
+        Ok(())
+    }
+
+    /// Whether the case's audit writes this.
+    fn is_written(&self, alloc: Global, after: &[&str], text: &[u8]) -> Result<bool> {
+        let asked = [
+            "audit",
+            "--process",
+            self.process,
+            "--base",
+            self.base,
+            "--limit",
+            self.limit,
+            "TREE",
+            "SCRIPT",
+        ];
+        let mut words = Vec::from_slice(alloc, &asked)?;
+        words.extend_from_slice(self.letters.get(1..).unwrap_or(&[]))?;
+        words.extend_from_slice(after)?;
+        self.drawn
+            .files()
+            .write(alloc, words.as_slice(), &Wanted::text(text))
     }
 
     /// Whether the audit has the script's answers and then the lines of the filter.
     pub(crate) fn is_filtered(&self, alloc: Global, filtered: &Filtered) -> Result<bool> {
-        let answers = self.run(alloc, self.script.as_str())?;
-        let mut text = Vec::new(alloc);
-        text.extend_from_slice(answers.bytes())?;
-        text.extend_from_slice(format!(in alloc; "reach {}\n", self.process)?.as_bytes())?;
-        text.extend_from_slice(filtered.lines.as_bytes())?;
-        let audited = self.audited(alloc, None)?;
-        Ok(match audited {
-            Some(out) => out.bytes() == text.as_slice(),
-            None => false,
-        })
+        let answers = self.run(alloc, self.drawn.script.as_str())?;
+        let answers = str::from_utf8(answers.bytes())?;
+        let text = reach_text(alloc, answers, self.process, filtered.lines.as_str())?;
+        self.is_written(alloc, &[], text.as_bytes())
     }
 
     /// Whether the audit, resumed after a pair, has what stands in the filter's lines from a byte on.
@@ -230,39 +222,92 @@ impl Case {
         rest: usize,
     ) -> Result<bool> {
         let rest = filtered.lines.as_bytes().get(rest..).unwrap_or(&[]);
-        let audited = self.audited(alloc, Some(pair))?;
-        Ok(match audited {
-            Some(out) => out.bytes() == rest,
-            None => false,
-        })
+        self.is_written(alloc, &["--after", pair], rest)
     }
 
     /// Whether the audit, resumed after the pair that was drawn and after each of the filter's lines,
     /// has the filter's lines after that.
     pub(crate) fn goes_on(&self, alloc: Global, filtered: &Filtered) -> Result<bool> {
-        if !self.goes_on_after(alloc, filtered, filtered.pair.as_str(), filtered.rest)? {
-            return Ok(false);
-        }
+        let mut does_go_on = self.goes_on_after(
+            alloc,
+            filtered,
+            filtered.pair.as_str(),
+            filtered.rest,
+        )?;
         let mut end = 0usize;
         for line in filtered.lines.as_str().lines() {
             end = end.saturating_add(line.len()).saturating_add(1);
-            let Some((path, call)) = line.rsplit_once(' ') else {
-                return Ok(false);
-            };
-            let pair = format!(in alloc; "{call}:{path}")?;
-            if !self.goes_on_after(alloc, filtered, pair.as_str(), end)? {
-                return Ok(false);
-            }
+            let pair = pair_of(alloc, line)?;
+            does_go_on &= self.goes_on_after(alloc, filtered, pair.as_str(), end)?;
         }
-        Ok(true)
+        Ok(does_go_on)
     }
 }
 
+/// Adds the line of a request on a path.
+fn add_request(
+    script: &mut String,
+    process: &str,
+    call: &str,
+    target: &str,
+    path: &str,
+) -> Result<(), AllocError> {
+    add(script, &[process, " ", call, " ", target, path, "\n"])
+}
+
+/// The text of an audit of a process that has these lines, after some answers.
+fn reach_text(
+    alloc: Global,
+    answers: &str,
+    process: &str,
+    lines: &str,
+) -> Result<String, AllocError> {
+    [answers, "reach ", process, "\n", lines].concat(alloc)
+}
+
+/// Adds the paths of the words that begin with a letter, after which one of these may come.
+fn add_paths(
+    paths: &mut String,
+    first: &str,
+    letter: &str,
+    next: &[&str],
+) -> Result<(), AllocError> {
+    add(paths, &[first, letter, "\n"])?;
+    for next in next {
+        add(paths, &[first, letter, "/", next, "\n"])?;
+    }
+    Ok(())
+}
+
 impl Filtered {
+    /// Keeps a line for a pair, if its call would be answered `ok`, and the pair if it is the one that was drawn.
+    fn keep(&mut self, path: &str, call: &str, is_served: bool) -> Result<(), AllocError> {
+        if is_served {
+            add(&mut self.lines, &[path, " ", call, "\n"])?;
+        }
+        if self.before == 0 && self.pair.is_empty() {
+            add(&mut self.pair, &[call, ":", path])?;
+            self.rest = self.lines.len();
+        }
+        self.before = self.before.saturating_sub(1);
+        Ok(())
+    }
+
     /// How many pairs were found.
     pub(crate) fn pairs(&self) -> usize {
         self.lines.as_str().lines().count()
     }
+}
+
+/// Whether a node has its kind and target in a tree.
+fn is_node<T: FileTree>(tree: &T, number: usize, node: &Node) -> bool {
+    let target = if node.kind == "link" {
+        Some(node.target.as_bytes())
+    } else {
+        None
+    };
+    let id = node_id(number);
+    tree.kind(id) == kind(node) && tree.target(id) == target
 }
 
 /// What a node is; a further name is none.
@@ -274,8 +319,4 @@ fn kind(node: &Node) -> Option<Kind> {
         "link" => Some(Kind::Link),
         _ => None,
     }
-}
-
-fn node_id(number: usize) -> NodeId {
-    NodeId::new(u32::try_from(number).unwrap_or(u32::MAX))
 }

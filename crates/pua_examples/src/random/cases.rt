@@ -3,10 +3,9 @@
 //! the lines after it; a front of a script has the front of its answers; and a listing is read back
 //! as the tree that it was printed from.
 
-use crate::random::case::Case;
+use crate::random::case::{Case, Filtered};
 use crate::random::generator::Random;
 use anyhow::Result;
-use std::alloc::Global;
 
 /// How many cases are tried.
 const CASES: usize = 200;
@@ -20,18 +19,35 @@ pub(crate) fn run(rt: &HostRuntime) -> Result<()> {
         let case = Case::new(rt.alloc(), &mut random)?;
         let filtered = case.filtered(rt.alloc(), &mut random)?;
         pairs = pairs.saturating_add(filtered.pairs());
-        for (what, holds) in [
-            ("the listing read back", case.is_read_back(rt.alloc())?),
-            ("the fronts of the run", case.has_fronts(rt.alloc())?),
-            ("the audit", case.is_filtered(rt.alloc(), &filtered)?),
-            ("the audit resumed", case.goes_on(rt.alloc(), &filtered)?),
-        ] {
-            if !holds {
-                println!(rt; "not as expected: {what} of case {number}:")?;
-                println!(rt; "{}{}", case.listing, case.script)?;
-            }
-        }
+        run_case(rt, number, &case, &filtered)?;
     }
     println!(rt; "{CASES} random cases with {pairs} pairs")?;
+    Ok(())
+}
+
+/// Prints what of a case is not as expected.
+fn run_case(rt: &HostRuntime, number: usize, case: &Case, filtered: &Filtered) -> Result<()> {
+    let alloc = rt.alloc();
+    let held = [
+        (
+            "not as expected: the listing read back of case",
+            case.is_read_back(alloc)?,
+        ),
+        (
+            "not as expected: the fronts of the run of case",
+            case.has_fronts(alloc)?,
+        ),
+        (
+            "not as expected: the audit of case",
+            case.is_filtered(alloc, filtered)?,
+        ),
+        (
+            "not as expected: the audit resumed of case",
+            case.goes_on(alloc, filtered)?,
+        ),
+    ];
+    for (what, holds) in held {
+        case.drawn.tell(rt, what, number, holds)?;
+    }
     Ok(())
 }

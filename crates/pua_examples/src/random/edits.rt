@@ -2,10 +2,11 @@
 //! slots are used again, and then many at random. After each edit both trees answer the same.
 
 use crate::random::generator::{NAMES, Random};
-use crate::written::as_expected;
-use anyhow::{Result, anyhow};
+use crate::told::tell;
+use crate::worlds::{run_over, script_of};
+use anyhow::Result;
 use pua_policy::CallTable;
-use pua_script::{Answer, World, read_script};
+use pua_script::Answer;
 use pua_tree::{FileTree, Kind, Name, NodeId, TreeFault, read_listing, read_listing_slab};
 use std::alloc::Global;
 
@@ -22,47 +23,43 @@ const SCRIPT: &[u8] = b"1 mkdir /a\n1 rmdir /a\n1 create /b\n1 mkdir /a\n1 creat
 /// which the two trees differ; then how many edits there were.
 pub(crate) fn run(rt: &HostRuntime) -> Result<()> {
     let alloc = rt.alloc();
-    let (Ok(mut listed), Ok(mut slotted)) = (
-        read_listing(alloc, ROOT),
-        read_listing_slab(alloc, ROOT),
-    ) else {
-        return Err(anyhow!("no listing"));
-    };
+    let mut listed = read_listing(alloc, ROOT)?;
+    let mut slotted = read_listing_slab(alloc, ROOT)?;
     let mut random = Random::new();
     for number in 1..=EDITS {
         let edit = Edit::new(&mut random, &listed)?;
-        if edit.answer(&mut listed) != edit.answer(&mut slotted)
-            || !are_same(alloc, &listed, &slotted, number)?
-        {
-            println!(rt; "the trees differ after edit {number}")?;
-        }
+        let is_alike = edit.answer(&mut listed) == edit.answer(&mut slotted);
+        let are_same = are_same(alloc, &listed, &slotted, number)?;
+        run_edit(rt, number, is_alike && are_same)?;
     }
-    println!(rt; "slots used again: {}", as_expected(are_new(alloc)?))?;
+    tell(rt, &["slots used again"], are_new(alloc)?)?;
     println!(rt; "{EDITS} edits of two trees")?;
+    Ok(())
+}
+
+/// Prints that two trees differ after an edit, if they do.
+fn run_edit(rt: &HostRuntime, number: u32, are_alike: bool) -> Result<()> {
+    if !are_alike {
+        println!(rt; "the trees differ after edit {number}")?;
+    }
     Ok(())
 }
 
 /// Whether numbers are given once, over each kind of tree.
 fn are_new(alloc: Global) -> Result<bool> {
-    match (read_listing(alloc, ROOT), read_listing_slab(alloc, ROOT)) {
-        (Ok(listed), Ok(slotted)) => {
-            Ok(are_given_once(alloc, listed)? && are_given_once(alloc, slotted)?)
-        }
-        _ => Err(anyhow!("no listing")),
-    }
+    let is_listed = are_given_once(alloc, read_listing(alloc, ROOT)?)?;
+    Ok(is_listed && are_given_once(alloc, read_listing_slab(alloc, ROOT)?)?)
 }
 
 /// Whether the script is answered `ok` throughout, and gives numbers that were never given.
 fn are_given_once<T: FileTree + Drop>(alloc: Global, tree: T) -> Result<bool> {
-    let table = CallTable::standard();
-    let mut world = World::new(alloc, tree, table)?;
-    let script = read_script(alloc, SCRIPT)?;
-    let told = world.run(alloc, &script)?;
-    let tree = world.tree();
+    let script = script_of(alloc, SCRIPT)?;
+    let ran = run_over(alloc, tree, &script, CallTable::standard())?;
+    let tree = ran.world.tree();
     let are_named = node_of(tree, b"b")? == Some(NodeId::new(2))
         && node_of(tree, b"a")? == Some(NodeId::new(3))
         && node_of(tree, b"c")? == Some(NodeId::new(4));
-    let are_okay = told.as_slice() == [Answer::Okay; 5].as_slice();
+    let are_okay = ran.told.as_slice() == [Answer::Okay; 5].as_slice();
     Ok(are_okay && are_named && tree.kind(NodeId::new(1)).is_none())
 }
 
@@ -78,9 +75,7 @@ fn named(bytes: &[u8]) -> Result<Name> {
 /// An edit of a tree.
 #[derive(Clone, Copy)]
 enum Edit {
-    AddDir(NodeId, Name),
-    AddFile(NodeId, Name),
-    AddLink(NodeId, Name),
+    Add(NodeId, Name, Kind),
     Tie(NodeId, Name, NodeId),
     Cut(NodeId, Name),
     Shift(NodeId, Name, NodeId, Name),
@@ -92,29 +87,29 @@ impl Edit {
         let (dir, name) = (drawn_node(random, tree)?, drawn_name(random)?);
         let other = drawn_node(random, tree)?;
         Ok(match random.below(8) {
-            0 | 1 => Edit::AddDir(dir, name),
-            2 => Edit::AddFile(dir, name),
-            3 => Edit::AddLink(dir, name),
+            0 | 1 => Edit::Add(dir, name, Kind::Dir),
+            2 => Edit::Add(dir, name, Kind::File),
+            3 => Edit::Add(dir, name, Kind::Link),
             4 => Edit::Tie(dir, name, other),
             5 => Edit::Cut(dir, name),
             _ => Edit::Shift(dir, name, other, drawn_name(random)?),
         })
     }
 
-    /// Edits a tree: the node that was added or lost its name, or why nothing was done.
-    fn answer<T: FileTree>(&self, tree: &mut T) -> Result<Option<NodeId>, TreeFault> {
+    /// Edits a tree: the node that was added, lost its name or was given one, or to whose names one was
+    /// moved; or why nothing was done.
+    fn answer<T: FileTree>(&self, tree: &mut T) -> Result<NodeId, TreeFault> {
         match self {
-            Edit::AddDir(dir, name) => Ok(Some(tree.add(*dir, *name, Kind::Dir, None)?)),
-            Edit::AddFile(dir, name) => Ok(Some(tree.add(*dir, *name, Kind::File, None)?)),
-            Edit::AddLink(dir, name) => Ok(Some(tree.add(*dir, *name, Kind::Link, Some(b"a"))?)),
+            Edit::Add(dir, name, Kind::Link) => tree.add(*dir, *name, Kind::Link, Some(b"a")),
+            Edit::Add(dir, name, kind) => tree.add(*dir, *name, *kind, None),
             Edit::Tie(dir, name, node) => {
                 tree.tie(*dir, *name, *node)?;
-                Ok(None)
+                Ok(*node)
             }
-            Edit::Cut(dir, name) => Ok(Some(tree.cut(*dir, name)?)),
+            Edit::Cut(dir, name) => tree.cut(*dir, name),
             Edit::Shift(from, name, to, new_name) => {
                 tree.shift(*from, name, *to, *new_name)?;
-                Ok(None)
+                Ok(*to)
             }
         }
     }

@@ -2,18 +2,18 @@
 //! forks ask for, the objects of each of them lie within the list for ever of the beginning. How many of
 //! the calls of these lists were met on the way is counted.
 
-use crate::beside::{process_of, world_of};
-use crate::random::about::{About, thing_at};
+use crate::lists::{Line, ever, objects};
+use crate::random::about::{About, thing_of};
 use crate::random::futures::is_call;
-use crate::random::generator::{Random, listing, locked_script, member_script, nodes};
+use crate::random::generator::{Drawn, LOCKED_SCRIPT, MEMBER_SCRIPT, Random, script};
+use crate::told::say;
+use crate::worlds::{answer, process_of, script_of, world_of};
 use crate::written::Files;
-use anyhow::{Result, anyhow};
-use pua_ever::{Ever, EverThing};
-use pua_objects::Objects;
-use pua_policy::{Call, CallTable, Calls, Process};
-use pua_script::{Answer, World, read_script};
+use anyhow::Result;
+use pua_policy::{Call, CallTable, Calls};
+use pua_script::{Answer, World};
 use pua_tree::ListTree;
-use std::alloc::Global;
+use std::alloc::{AllocError, Global};
 
 /// How many worlds are tried.
 const WORLDS: usize = 50;
@@ -53,20 +53,30 @@ pub(crate) fn run(rt: &HostRuntime) -> Result<()> {
         met: 0,
     };
     for number in 1..=WORLDS {
-        let nodes = nodes(alloc, &mut random)?;
-        let listing = listing(alloc, nodes.as_slice())?;
-        let front = locked_script(alloc, &mut random)?;
-        let files = Files::new(listing.as_bytes(), front.as_bytes());
-        if let Some(script) = first_beyond(alloc, &files, &mut random, &mut counts)? {
-            println!(rt; "beyond the list for ever: world {number}:")?;
-            println!(rt; "{listing}{front}{script}")?;
-        }
+        let drawn = Drawn::new(alloc, &mut random, &LOCKED_SCRIPT)?;
+        let beyond = first_beyond(alloc, &drawn.files(), &mut random, &mut counts)?;
+        tell_beyond(rt, number, &drawn, &beyond)?;
     }
     println!(rt;
         "{WORLDS} worlds, {} lists within those for ever, of which {} calls of {} were met",
         counts.lists, counts.met, counts.calls
     )?;
     Ok(())
+}
+
+/// Prints the listing of a world and its script, and the one that left something beyond the list for ever,
+/// if one did.
+fn tell_beyond(
+    rt: &HostRuntime,
+    number: usize,
+    drawn: &Drawn,
+    beyond: &Option<String>,
+) -> Result<()> {
+    let Some(script) = beyond else {
+        return Ok(());
+    };
+    drawn.tell(rt, "beyond the list for ever: world", number, false)?;
+    say(rt, &[script.as_str()])
 }
 
 /// The first script of the family that leaves something beyond the list for ever; None where none does.
@@ -79,7 +89,7 @@ fn first_beyond(
     let first = world_of(alloc, files, CallTable::standard())?;
     let mut calls = calls_ahead(alloc, &first)?;
     for _ in 0..PLAYS {
-        let script = member_script(alloc, random)?;
+        let script = script(alloc, random, &MEMBER_SCRIPT)?;
         let world = world_of(alloc, files, CallTable::standard())?;
         let calls = calls.as_mut_slice();
         if !is_within(alloc, first.tree(), world, script.as_str(), calls, counts)? {
@@ -94,34 +104,35 @@ fn first_beyond(
 /// Each call in the lines of the list for ever of process 1.
 fn calls_ahead(alloc: Global, world: &World<ListTree>) -> Result<Vec<Foreseen>> {
     let tree = world.tree();
-    let process = process_of(world, 1)?;
-    let Ok(mut list) = Ever::begin(alloc, tree, process, world.table()) else {
-        return Err(anyhow!("there is no list for ever"));
-    };
+    let lines = ever(alloc, tree, process_of(world, 1)?, 1, world.table())?;
     let mut calls = Vec::new(alloc);
-    while let Some(line) = list.next_line() {
-        let found = match line.thing {
-            EverThing::Comes(kind) => Some(About::New(kind)),
-            EverThing::Stands(kind) => thing_at(tree, tree, kind, list.word()),
-        };
-        let Some(about) = found else {
-            return Err(anyhow!("a line of what isn't there"));
-        };
-        add_calls(&mut calls, &about, line.calls)?;
+    for line in &lines {
+        add_calls(&mut calls, &thing_of(tree, tree, line)?, line.calls)?;
     }
     Ok(calls)
 }
 
 /// Adds the calls of a line that is about something.
-fn add_calls(foreseen: &mut Vec<Foreseen>, about: &About, calls: Calls) -> Result<()> {
+fn add_calls(foreseen: &mut Vec<Foreseen>, about: &About, calls: Calls) -> Result<(), AllocError> {
     for call in Call::ALL {
-        if calls.contains(call) {
-            foreseen.push(Foreseen {
-                about: *about,
-                call,
-                is_met: false,
-            })?;
-        }
+        add_call(foreseen, about, calls, call)?;
+    }
+    Ok(())
+}
+
+/// Adds a call, if it is one of these.
+fn add_call(
+    foreseen: &mut Vec<Foreseen>,
+    about: &About,
+    calls: Calls,
+    call: Call,
+) -> Result<(), AllocError> {
+    if calls.contains(call) {
+        foreseen.push(Foreseen {
+            about: *about,
+            call,
+            is_met: false,
+        })?;
     }
     Ok(())
 }
@@ -147,10 +158,10 @@ fn is_within(
     calls: &mut [Foreseen],
     counts: &mut Counts,
 ) -> Result<bool> {
-    let script = read_script(alloc, script.as_bytes())?;
+    let script = script_of(alloc, script.as_bytes())?;
     let mut world = world;
     for request in script.requests() {
-        let answer = world.apply(request)?;
+        let answer = answer(&mut world, request)?;
         if answer == Answer::Okay && is_call(request, Call::Exec) {
             return Ok(true);
         }
@@ -169,37 +180,42 @@ fn are_foreseen(
     calls: &mut [Foreseen],
     counts: &mut Counts,
 ) -> Result<bool> {
+    let mut are_foreseen = true;
     for number in 1..=PROCESSES {
-        if let Some(process) = world.process(number) {
-            counts.lists = counts.lists.saturating_add(1);
-            if !is_foreseen(alloc, first, world, process, calls)? {
-                return Ok(false);
-            }
-        }
+        are_foreseen &= is_foreseen(alloc, first, world, number, calls, counts)?;
     }
-    Ok(true)
+    Ok(are_foreseen)
 }
 
-/// Whether each line of a process's list of objects was foreseen.
+/// Whether what the process of a number can touch was foreseen, if there is one.
 fn is_foreseen(
     alloc: Global,
     first: &ListTree,
     world: &World<ListTree>,
-    process: &Process,
+    number: u32,
+    calls: &mut [Foreseen],
+    counts: &mut Counts,
+) -> Result<bool> {
+    let Some(process) = world.process(number) else {
+        return Ok(true);
+    };
+    counts.lists = counts.lists.saturating_add(1);
+    let lines = objects(alloc, world.tree(), process, world.table())?;
+    are_lines_foreseen(first, world.tree(), lines.as_slice(), calls)
+}
+
+/// Whether each line of a list of objects was foreseen.
+fn are_lines_foreseen(
+    first: &ListTree,
+    tree: &ListTree,
+    lines: &[Line],
     calls: &mut [Foreseen],
 ) -> Result<bool> {
-    let tree = world.tree();
-    let begun = Objects::begin(alloc, tree, process, world.table());
-    let mut list = begun?;
-    while let Some(line) = list.next_line() {
-        let Some(about) = thing_at(first, tree, line.kind, list.word()) else {
-            return Err(anyhow!("a line of what isn't there"));
-        };
-        if !meet(calls, about, line.calls) {
-            return Ok(false);
-        }
+    let mut are_foreseen = true;
+    for line in lines {
+        are_foreseen &= meet(calls, thing_of(first, tree, line)?, line.calls);
     }
-    Ok(true)
+    Ok(are_foreseen)
 }
 
 /// Whether all calls of a line were foreseen, which are noted as met.

@@ -3,14 +3,16 @@
 //! others, over the tree that a request leaves; a child is allowed its parent's lines; and each name
 //! that the one that asks can't touch with `c` stays.
 
-use crate::random::generator::{Random, family_script, listing, nodes};
+use crate::random::generator::{Drawn, FAMILY_SCRIPT, Random};
 use crate::random::reached::{is_within, reached};
-use crate::random::spared::spared;
+use crate::random::spared::{Uncovered, spared};
+use crate::worlds::{answer, script_of, world_of};
+use crate::written::Files;
 use anyhow::Result;
 use pua_audit::Base;
 use pua_policy::{Call, CallTable, May, Process, Promises};
-use pua_script::{Action, Answer, Request, World, read_script};
-use pua_tree::{ListTree, read_listing};
+use pua_script::{Action, Answer, Request, World};
+use pua_tree::ListTree;
 use std::alloc::Global;
 
 /// How many worlds are tried.
@@ -42,13 +44,9 @@ pub(crate) fn run(rt: &HostRuntime) -> Result<()> {
         names: 0,
     };
     for number in 1..=WORLDS {
-        let nodes = nodes(rt.alloc(), &mut random)?;
-        let listing = listing(rt.alloc(), nodes.as_slice())?;
-        let script = family_script(rt.alloc(), &mut random)?;
-        if !is_held(rt.alloc(), listing.as_str(), script.as_str(), &mut counts)? {
-            println!(rt; "not as expected: world {number}:")?;
-            println!(rt; "{listing}{script}")?;
-        }
+        let drawn = Drawn::new(rt.alloc(), &mut random, &FAMILY_SCRIPT)?;
+        let is_held = is_held(rt.alloc(), &drawn, &mut counts)?;
+        drawn.tell(rt, "not as expected: world", number, is_held)?;
     }
     println!(rt;
         "{WORLDS} worlds, {} reaches and {} names after requests",
@@ -58,17 +56,15 @@ pub(crate) fn run(rt: &HostRuntime) -> Result<()> {
 }
 
 /// Whether each request of a script over a listing leaves what it has to.
-fn is_held(alloc: Global, listing: &str, script: &str, counts: &mut Counts) -> Result<bool> {
-    let tree = read_listing(alloc, listing.as_bytes())?;
-    let script = read_script(alloc, script.as_bytes())?;
-    let table = CallTable::standard();
-    let mut world = World::new(alloc, tree, table)?;
+fn is_held(alloc: Global, drawn: &Drawn, counts: &mut Counts) -> Result<bool> {
+    let script = script_of(alloc, drawn.script.as_bytes())?;
+    let files = Files::new(drawn.listing.as_bytes(), b"");
+    let mut world = world_of(alloc, &files, CallTable::standard())?;
+    let mut is_held = true;
     for request in script.requests() {
-        if !is_served(alloc, &mut world, request, counts)? {
-            return Ok(false);
-        }
+        is_held &= is_served(alloc, &mut world, request, counts)?;
     }
-    Ok(true)
+    Ok(is_held)
 }
 
 /// Serves a request, and answers whether it leaves what it has to.
@@ -80,23 +76,25 @@ fn is_served(
 ) -> Result<bool> {
     let earlier = processes(alloc, world)?;
     let Some(asker) = one_of(earlier.as_slice(), request.process()) else {
-        return Ok(world.apply(request) == Ok(Answer::Gone));
+        return Ok(answer(world, request)? == Answer::Gone);
     };
     let names = spared(alloc, world.tree(), &asker.process)?;
-    let answer = world.apply(request)?;
-    for name in &names {
-        if !name.stays(world.tree(), &asker.process)? {
-            return Ok(false);
-        }
-    }
+    let is_okay = answer(world, request)? == Answer::Okay;
     counts.names = counts.names.saturating_add(names.len());
-    let is_okay = answer == Answer::Okay;
-    for one in &earlier {
-        if !is_within_before(alloc, world, one, request, is_okay, counts)? {
-            return Ok(false);
-        }
+    Ok(
+        do_stay(names.as_slice(), world.tree(), &asker.process)?
+            && are_within_before(alloc, world, earlier.as_slice(), request, is_okay, counts)?
+            && (!is_okay || is_child_alike(alloc, world, asker, request)?),
+    )
+}
+
+/// Whether each of these names stays.
+fn do_stay(names: &[Uncovered], tree: &ListTree, process: &Process) -> Result<bool> {
+    let mut do_stay = true;
+    for name in names {
+        do_stay &= name.stays(tree, process)?;
     }
-    Ok(!is_okay || is_child_alike(alloc, world, asker, request)?)
+    Ok(do_stay)
 }
 
 /// The process of a number.
@@ -113,12 +111,23 @@ fn one_of(earlier: &[Earlier], number: u32) -> Option<&Earlier> {
 fn processes(alloc: Global, world: &World<ListTree>) -> Result<Vec<Earlier>> {
     let mut earlier = Vec::new(alloc);
     for number in 1..=PROCESSES {
-        if let Some(process) = world.process(number) {
-            let process = process.fork(alloc)?;
-            earlier.push(Earlier { number, process })?;
-        }
+        add_process(alloc, &mut earlier, world, number)?;
     }
     Ok(earlier)
+}
+
+/// Adds a copy of the process of a number, if there is one.
+fn add_process(
+    alloc: Global,
+    earlier: &mut Vec<Earlier>,
+    world: &World<ListTree>,
+    number: u32,
+) -> Result<()> {
+    if let Some(process) = world.process(number) {
+        let process = process.fork(alloc)?;
+        earlier.push(Earlier { number, process })?;
+    }
+    Ok(())
 }
 
 /// Whether a process can put no veil any more.
@@ -132,6 +141,22 @@ pub(crate) fn is_call(request: &Request, call: Call) -> bool {
         Action::OnPath(other, _) => *other == call,
         _ => false,
     }
+}
+
+/// Whether each process reaches after a request what it may.
+fn are_within_before(
+    alloc: Global,
+    world: &World<ListTree>,
+    earlier: &[Earlier],
+    request: &Request,
+    is_okay: bool,
+    counts: &mut Counts,
+) -> Result<bool> {
+    let mut are_within = true;
+    for one in earlier {
+        are_within &= is_within_before(alloc, world, one, request, is_okay, counts)?;
+    }
+    Ok(are_within)
 }
 
 /// Whether a process reaches no more after a request than it would as it was before: the same where
@@ -155,18 +180,26 @@ fn is_within_before(
         return Ok(true);
     }
     let has_moved = is_own && is_okay && is_call(request, Call::Chdir);
-    for base in [Base::Root, Base::Cwd] {
-        let now = reached(alloc, world.tree(), process, base)?;
-        let before = reached(alloc, world.tree(), &earlier.process, base)?;
-        let is_within = is_within(now.as_slice(), before.as_slice());
-        let is_alike = is_own || now.len() == before.len();
-        let is_moved = has_moved && base == Base::Cwd;
-        if !is_moved && !(is_within && is_alike) {
-            return Ok(false);
-        }
-        counts.reaches = counts.reaches.saturating_add(1);
-    }
-    Ok(is_confined(process))
+    let (tree, before) = (world.tree(), &earlier.process);
+    let is_root_held = is_reach_held(alloc, tree, process, before, Base::Root, is_own)?;
+    let is_dir_held = is_reach_held(alloc, tree, process, before, Base::Cwd, is_own)?;
+    counts.reaches = counts.reaches.saturating_add(2);
+    Ok(is_root_held && (is_dir_held || has_moved) && is_confined(process))
+}
+
+/// Whether a process reaches from a base no more than an earlier one, and, but for its own request, no less.
+fn is_reach_held(
+    alloc: Global,
+    tree: &ListTree,
+    process: &Process,
+    earlier: &Process,
+    base: Base,
+    is_own: bool,
+) -> Result<bool> {
+    let now = reached(alloc, tree, process, base)?;
+    let before = reached(alloc, tree, earlier, base)?;
+    let is_alike = is_own || now.len() == before.len();
+    Ok(is_alike && is_within(now.as_str(), before.as_str()))
 }
 
 /// Whether the child that a request made, if it made one, reaches what the one that asked does.
@@ -184,5 +217,5 @@ fn is_child_alike(
     };
     let reach = reached(alloc, world.tree(), child, Base::Root)?;
     let parents = reached(alloc, world.tree(), &asker.process, Base::Root)?;
-    Ok(reach.as_slice() == parents.as_slice())
+    Ok(reach.as_str() == parents.as_str())
 }

@@ -1,29 +1,31 @@
 //! Trees and scripts at random, by a fixed seed, so that each run of the program has the same ones.
 
+use crate::told::{add, say};
+use crate::written::Files;
 use anyhow::Result;
-use std::alloc::Global;
+use pua_tree::NodeId;
+use std::alloc::{AllocError, Global};
 
 /// The names in the trees, in the order of their bytes.
 pub(crate) const NAMES: [&str; 5] = ["a", "b", "c", "d", "e"];
 
 /// How many nodes a tree has beside its root, at the most.
-pub(crate) const NODES: usize = 12;
+const NODES: usize = 12;
+
+/// Their numbers, and the root's.
+const NUMBERS: [&str; 13] = [
+    "0", "1", "2", "3", "4", "5", "6", "7", "8", "9", "10", "11", "12",
+];
 
 /// How many nodes are drawn at the most; those without room are left out.
 const DRAWS: usize = 200;
 
-/// How many lines a script has.
-pub(crate) const LINES: usize = 8;
-
-/// How many veils process 1 of a family is given before its lock.
-const VEILS: usize = 3;
-
-/// How many lines a family's script has after the lock, and one of states after its first line.
-const FAMILY_LINES: usize = 24;
-
 const KINDS: [&str; 9] = [
     "dir", "dir", "dir", "dir", "file", "prog", "link", "link", "hard",
 ];
+
+/// What a further name is no name of.
+const UNNAMED: [&str; 2] = ["dir", "hard"];
 
 const TARGETS: [&str; 12] = [
     "a", "b", "../c", "/d", "a/b", "..", ".", "/", "c/", "d/../a", "/a/e", "e/e",
@@ -62,13 +64,194 @@ const TURNS: [&str; 8] = [
     "exit",
 ];
 
+/// The numbers of processes that a family forks.
+const CHILDREN: [&str; 2] = ["4", "5"];
+
+/// What a line asks for.
+const REQUESTS: [&str; 9] = [
+    "ASKER unveil PATH PERMS",
+    "ASKER unveil PATH PERMS",
+    "ASKER pledge PLEDGE PLEDGE",
+    "ASKER rename PATH PATH",
+    "ASKER link PATH PATH",
+    "ASKER symlink TARGET PATH",
+    "LOCK-OR-CALL",
+    "ASKER CALL PATH",
+    "ASKER CALL PATH",
+];
+
+/// What a line of a family asks for.
+const IN_FAMILY: [&str; 8] = [
+    "ASKER fork CHILD",
+    "REQUEST",
+    "REQUEST",
+    "REQUEST",
+    "REQUEST",
+    "REQUEST",
+    "REQUEST",
+    "REQUEST",
+];
+
+/// The same where most lines change the tree.
+const CHANGES: [&str; 8] = [
+    "ASKER rename PATH PATH",
+    "ASKER rename PATH PATH",
+    "ASKER rename PATH PATH",
+    "ASKER fork CHILD",
+    "REQUEST",
+    "ASKER CALL PATH",
+    "ASKER CALL PATH",
+    "ASKER CALL PATH",
+];
+
+/// The same where each line that a state can have is left. Process 2 makes, moves and takes away directories
+/// at which veils of the others stand.
+const IN_STATES: [&str; 8] = [
+    "ASKER unveil PATH PERMS",
+    "ASKER unveil PATH PERMS",
+    "ASKER unveil PATH PERMS",
+    "PLEDGE-OR-TURN",
+    "ASKER unveil PATH r\n2 rmdir AGAIN",
+    "ASKER unveil PATH r\n2 mkdir AGAIN",
+    "2 rename PATH PATH",
+    "CALL-OR-TURN",
+];
+
+/// The words that stand for texts of which one is drawn: for parts of a line, and for lines. Such a text may be such
+/// a word itself.
+const DRAWN: [(&str, &[&str]); 15] = [
+    ("PATH", &PATHS),
+    ("PERMS", &PERMS),
+    ("PLEDGE", &PLEDGES),
+    ("TARGET", &TARGETS),
+    ("CALL", &CALLS),
+    ("TURN", &TURNS),
+    ("CHILD", &CHILDREN),
+    ("REQUEST", &REQUESTS),
+    ("IN-FAMILY", &IN_FAMILY),
+    ("CHANGE", &CHANGES),
+    ("IN-STATES", &IN_STATES),
+    ("LOCK-OR-CALL", &["ASKER unveil - -", "ASKER CALL PATH"]),
+    ("PLEDGE-OR-NOTHING", &["ASKER pledge PLEDGE -", NOTHING]),
+    (
+        "PLEDGE-OR-TURN",
+        &["ASKER pledge PLEDGE PLEDGE", "ASKER TURN"],
+    ),
+    ("CALL-OR-TURN", &["ASKER CALL PATH", "ASKER TURN"]),
+];
+
+/// How many words may stand for one another.
+const DEPTH: usize = 3;
+
+/// The word that stands for the process that a line is of.
+const ASKER: &str = "ASKER";
+
+/// The word that stands for the path before it.
+const AGAIN: &str = "AGAIN";
+
+/// What stands for no line.
+const NOTHING: &str = "NOTHING";
+
+/// A part of a script: so many lines, each of one of some processes, that do what a word stands for, or all the
+/// same.
+#[derive(Clone, Copy)]
+pub(crate) struct Part {
+    count: usize,
+    processes: &'static [&'static str],
+    lines: &'static str,
+}
+
+/// The line that makes process 2.
+const FORK: Part = Part {
+    count: 1,
+    processes: &["1"],
+    lines: "1 fork 2",
+};
+
+/// Veils of process 1.
+const VEILS: Part = Part {
+    count: 3,
+    processes: &["1"],
+    lines: "ASKER unveil PATH PERMS",
+};
+
+/// A script: its first line makes process 2, and each later one is of process 1 or 2.
+pub(crate) const SCRIPT: [Part; 2] = [
+    FORK,
+    Part {
+        count: 7,
+        processes: &["1", "2"],
+        lines: "REQUEST",
+    },
+];
+
+/// A script of up to five processes. Its first lines make process 2, put veils on what process 1 may reach,
+/// lock it, and make process 3, which has its lock. Each later one is of one of the first four, and some of them
+/// make the others.
+pub(crate) const FAMILY_SCRIPT: [Part; 4] = [
+    FORK,
+    VEILS,
+    Part {
+        count: 1,
+        processes: &["1"],
+        lines: "1 unveil - -\n1 fork 3",
+    },
+    Part {
+        count: 24,
+        processes: &["1", "2", "3", "4"],
+        lines: "IN-FAMILY",
+    },
+];
+
+/// A script of process 1 after which it can put no veil any more.
+pub(crate) const LOCKED_SCRIPT: [Part; 3] = [
+    VEILS,
+    Part {
+        count: 1,
+        processes: &["1"],
+        lines: "1 unveil - -",
+    },
+    Part {
+        count: 1,
+        processes: &["1"],
+        lines: "PLEDGE-OR-NOTHING",
+    },
+];
+
 /// Process 1 and what it may have forked.
 const MEMBERS: [&str; 4] = ["1", "1", "3", "4"];
+
+/// A script of process 1 and of what it forks, most of whose lines change the tree.
+pub(crate) const MEMBER_SCRIPT: [Part; 2] = [
+    Part {
+        count: 1,
+        processes: &["1"],
+        lines: "1 fork 3",
+    },
+    Part {
+        count: 24,
+        processes: &MEMBERS,
+        lines: "CHANGE",
+    },
+];
+
+/// A script of up to three processes that leaves each line that a state can have. Process 2, which the first line
+/// makes, puts no veil: it makes, moves and takes away directories at which veils of the others stand.
+pub(crate) const STATE_SCRIPT: [Part; 2] = [
+    FORK,
+    Part {
+        count: 24,
+        processes: &["1", "3"],
+        lines: "IN-STATES",
+    },
+];
 
 /// A generator of numbers (xorshift).
 #[derive(Drop)]
 pub(crate) struct Random {
     state: u64,
+    /// The place of what was drawn last.
+    last: usize,
 }
 
 impl Random {
@@ -76,6 +259,7 @@ impl Random {
     pub(crate) fn new() -> Random {
         Random {
             state: 0x9e37_79b9_7f4a_7c15,
+            last: 0,
         }
     }
 
@@ -94,13 +278,96 @@ impl Random {
         drawn.checked_rem(bound).unwrap_or(0)
     }
 
-    /// One of some texts.
-    fn pick<'a>(&mut self, texts: &[&'a str]) -> &'a str {
-        let place = self.below(texts.len());
-        match texts.get(place) {
-            Some(text) => *text,
-            None => "",
+    /// One of some texts; the empty one where there are none. Where there is but one, no number is drawn.
+    pub(crate) fn pick(&mut self, texts: &[&'static str]) -> &'static str {
+        let place = self.place(texts.len());
+        text_at(texts, place)
+    }
+
+    /// The place of one of so many, which is kept.
+    fn place(&mut self, count: usize) -> usize {
+        if count < 2 {
+            return 0;
         }
+        self.last = self.below(count);
+        self.last
+    }
+
+    /// One of the texts for which a word stands, or the path that was drawn last; the empty one where it
+    /// stands for itself.
+    fn drawn(&mut self, word: &str) -> &'static str {
+        if word == AGAIN {
+            return text_at(&PATHS, self.last);
+        }
+        self.pick(texts_of(word))
+    }
+
+    /// A line of these, with the words for which texts are drawn.
+    fn line(&mut self, lines: &'static str) -> &'static str {
+        let mut line = lines;
+        for _ in 0..DEPTH {
+            let drawn = self.drawn(line);
+            line = if drawn.is_empty() { line } else { drawn };
+        }
+        line
+    }
+
+    /// A node of a tree that has so many.
+    fn node(&mut self, count: usize) -> Node {
+        Node {
+            kind: self.pick(&KINDS),
+            parent: self.below(count),
+            name: self.pick(&NAMES),
+            target: self.pick(&TARGETS),
+            named: self.below(count),
+        }
+    }
+}
+
+/// A tree and a script, as texts.
+#[derive(Drop)]
+pub(crate) struct Drawn {
+    pub(crate) listing: String,
+    pub(crate) script: String,
+}
+
+impl Drawn {
+    /// The next ones of a generator.
+    pub(crate) fn new(alloc: Global, random: &mut Random, parts: &[Part]) -> Result<Drawn> {
+        let nodes = nodes(alloc, random)?;
+        Ok(Drawn::over(alloc, random, nodes.as_slice(), parts)?)
+    }
+
+    /// The tree of some nodes, and the next script.
+    pub(crate) fn over(
+        alloc: Global,
+        random: &mut Random,
+        nodes: &[Node],
+        parts: &[Part],
+    ) -> Result<Drawn, AllocError> {
+        let listing = listing(alloc, nodes)?;
+        let script = script(alloc, random, parts)?;
+        Ok(Drawn { listing, script })
+    }
+
+    /// Their files.
+    pub(crate) fn files(&self) -> Files<'_> {
+        Files::new(self.listing.as_bytes(), self.script.as_bytes())
+    }
+
+    /// Prints them with what of them is not as expected, if it isn't.
+    pub(crate) fn tell(
+        &self,
+        rt: &HostRuntime,
+        what: &str,
+        number: usize,
+        holds: bool,
+    ) -> Result<()> {
+        if holds {
+            return Ok(());
+        }
+        println!(rt; "{what} {number}:")?;
+        say(rt, &[self.listing.as_str(), self.script.as_str()])
     }
 }
 
@@ -115,230 +382,172 @@ pub(crate) struct Node {
     pub(crate) named: usize,
 }
 
+/// The root of a tree.
+const ROOT: Node = Node {
+    kind: "dir",
+    parent: 0,
+    name: "",
+    target: "",
+    named: 0,
+};
+
 /// The nodes and further names of a tree, the root first: a node's number is its place.
-pub(crate) fn nodes(alloc: Global, random: &mut Random) -> Result<Vec<Node>> {
-    let mut nodes = Vec::new(alloc);
-    nodes.push(Node {
-        kind: "dir",
-        parent: 0,
-        name: "",
-        target: "",
-        named: 0,
-    })?;
+pub(crate) fn nodes(alloc: Global, random: &mut Random) -> Result<Vec<Node>, AllocError> {
+    let mut nodes = Vec::from_slice(alloc, &[ROOT])?;
     for _ in 0..DRAWS {
-        let node = Node {
-            kind: random.pick(&KINDS),
-            parent: random.below(nodes.len()),
-            name: random.pick(&NAMES),
-            target: random.pick(&TARGETS),
-            named: random.below(nodes.len()),
-        };
-        if nodes.len() <= NODES && has_room(nodes.as_slice(), &node) {
-            nodes.push(node)?;
-        }
+        let node = random.node(nodes.len());
+        add_if_room(&mut nodes, node)?;
     }
     Ok(nodes)
 }
 
-/// Whether a node's parent is a directory, in which nothing has its name; and, for a further name,
-/// whether what it names may have one.
-fn has_room(nodes: &[Node], node: &Node) -> bool {
-    let is_dir = match nodes.get(node.parent) {
-        Some(above) => above.kind == "dir",
-        None => false,
-    };
-    let is_file = match nodes.get(node.named) {
-        Some(named) => named.kind != "dir" && named.kind != "hard",
-        None => false,
-    };
-    let may_be_named = node.kind != "hard" || is_file;
-    is_dir && may_be_named && number_of(nodes, node.parent, node.name).is_none()
+/// Adds a further node, if there is room for it.
+fn add_if_room(nodes: &mut Vec<Node>, node: Node) -> Result<(), AllocError> {
+    if has_room(nodes.as_slice(), &node) {
+        nodes.push(node)?;
+    }
+    Ok(())
 }
 
-/// The number of the node with a name in a directory.
-pub(crate) fn number_of(nodes: &[Node], parent: usize, name: &str) -> Option<usize> {
+/// Whether a tree takes a further node, whose parent is a directory, in which nothing has its name; and, for a
+/// further name, whether what it names may have one.
+fn has_room(nodes: &[Node], node: &Node) -> bool {
+    nodes.len() <= NODES
+        && kind_of(nodes, node.parent) == "dir"
+        && node_of(nodes, node.parent, node.name).is_none()
+        && (node.kind != "hard" || !UNNAMED.contains(&kind_of(nodes, node.named)))
+}
+
+/// The kind of the node with a number.
+fn kind_of(nodes: &[Node], number: usize) -> &'static str {
+    match nodes.get(number) {
+        Some(node) => node.kind,
+        None => "",
+    }
+}
+
+/// The node with a name in a directory.
+pub(crate) fn node_of(nodes: &[Node], parent: usize, name: &str) -> Option<NodeId> {
     for (place, node) in nodes.iter().enumerate() {
         if node.parent == parent && node.name == name {
-            return Some(if node.kind == "hard" {
-                node.named
-            } else {
-                place
-            });
+            let is_hard = node.kind == "hard";
+            return Some(node_id(if is_hard { node.named } else { place }));
         }
     }
     None
 }
 
+pub(crate) fn node_id(number: usize) -> NodeId {
+    NodeId::new(u32::try_from(number).unwrap_or(u32::MAX))
+}
+
 /// The listing of a tree.
-pub(crate) fn listing(alloc: Global, nodes: &[Node]) -> Result<String> {
-    let mut form = 1u32;
+fn listing(alloc: Global, nodes: &[Node]) -> Result<String, AllocError> {
+    let mut text = String::from_str(alloc, front_of(nodes))?;
+    for (number, node) in nodes.iter().enumerate().skip(1) {
+        add_node(&mut text, number, node)?;
+    }
+    Ok(text)
+}
+
+/// The first line of a listing, which says whether it may have further names, and that of the root.
+fn front_of(nodes: &[Node]) -> &'static str {
     for node in nodes {
         if node.kind == "hard" {
-            form = 2;
+            return "tree 2\n0 dir\n";
         }
     }
-    let mut text = format!(in alloc; "tree {form}\n0 dir\n")?;
-    for (number, node) in nodes.iter().enumerate().skip(1) {
-        write!(text, "{number} {} {} {}", node.kind, node.parent, node.name)?;
-        if node.kind == "link" {
-            write!(text, " {}", node.target)?;
-        } else if node.kind == "hard" {
-            write!(text, " {}", node.named)?;
-        }
-        text.push('\n')?;
-    }
-    Ok(text)
+    "tree 1\n0 dir\n"
 }
 
-/// The lines of a script: the first makes process 2, and each later one is of process 1 or 2.
-pub(crate) fn script(alloc: Global, random: &mut Random) -> Result<String> {
-    let mut text = String::from_str(alloc, "1 fork 2\n")?;
-    for _ in 1..LINES {
-        let process = random.below(2).saturating_add(1);
-        write!(text, "{process} ")?;
-        request(&mut text, random)?;
-    }
-    Ok(text)
+/// Adds the line of a node, or of a further name.
+fn add_node(text: &mut String, number: usize, node: &Node) -> Result<(), AllocError> {
+    let (number, parent) = (text_at(&NUMBERS, number), text_at(&NUMBERS, node.parent));
+    let [blank, end] = end_of(node);
+    add(
+        text,
+        &[
+            number, " ", node.kind, " ", parent, " ", node.name, blank, end, "\n",
+        ],
+    )
 }
 
-/// The lines of a script of up to five processes. The first make process 2, put veils on what process
-/// 1 may reach, lock it, and make process 3, which has its lock. Each later one is of one of the
-/// first four, and some of them make the others.
-pub(crate) fn family_script(alloc: Global, random: &mut Random) -> Result<String> {
-    let mut text = String::from_str(alloc, "1 fork 2\n")?;
-    for _ in 0..VEILS {
-        let (path, perms) = (random.pick(&PATHS), random.pick(&PERMS));
-        writeln!(text, "1 unveil {path} {perms}")?;
+/// What stands behind the name of a node, and the blank before it.
+fn end_of(node: &Node) -> [&'static str; 2] {
+    match node.kind {
+        "link" => [" ", node.target],
+        "hard" => [" ", text_at(&NUMBERS, node.named)],
+        _ => ["", ""],
     }
-    text.push_str("1 unveil - -\n1 fork 3\n")?;
-    for _ in 0..FAMILY_LINES {
-        let process = random.below(4).saturating_add(1);
-        write!(text, "{process} ")?;
-        if random.below(8) == 0 {
-            writeln!(text, "fork {}", random.below(2).saturating_add(4))?;
-        } else {
-            request(&mut text, random)?;
-        }
-    }
-    Ok(text)
 }
 
-/// The lines of a script of process 1 after which it can put no veil any more.
-pub(crate) fn locked_script(alloc: Global, random: &mut Random) -> Result<String> {
+/// The lines of a script.
+pub(crate) fn script(
+    alloc: Global,
+    random: &mut Random,
+    parts: &[Part],
+) -> Result<String, AllocError> {
     let mut text = String::new(alloc);
-    for _ in 0..VEILS {
-        let (path, perms) = (random.pick(&PATHS), random.pick(&PERMS));
-        writeln!(text, "1 unveil {path} {perms}")?;
-    }
-    text.push_str("1 unveil - -\n")?;
-    if random.below(2) == 0 {
-        writeln!(text, "1 pledge {} -", random.pick(&PLEDGES))?;
+    for part in parts {
+        add_lines(&mut text, random, part)?;
     }
     Ok(text)
 }
 
-/// The lines of a script of process 1 and of what it forks, most of which change the tree.
-pub(crate) fn member_script(alloc: Global, random: &mut Random) -> Result<String> {
-    let mut text = String::from_str(alloc, "1 fork 3\n")?;
-    for _ in 0..FAMILY_LINES {
-        write!(text, "{} ", random.pick(&MEMBERS))?;
-        match random.below(8) {
-            0 | 1 | 2 => writeln!(
-                text,
-                "rename {} {}",
-                random.pick(&PATHS),
-                random.pick(&PATHS)
-            )?,
-            3 => writeln!(text, "fork {}", random.below(2).saturating_add(4))?,
-            4 => request(&mut text, random)?,
-            _ => writeln!(text, "{} {}", random.pick(&CALLS), random.pick(&PATHS))?,
-        }
-    }
-    Ok(text)
-}
-
-/// The lines of a script of up to three processes that leaves each line that a state can have. Process 2,
-/// which the first makes, puts no veil, and makes, moves and takes away directories at which those of the
-/// others stand.
-pub(crate) fn state_script(alloc: Global, random: &mut Random) -> Result<String> {
-    let mut text = String::from_str(alloc, "1 fork 2\n")?;
-    for _ in 0..FAMILY_LINES {
-        let process = random.below(2).saturating_mul(2).saturating_add(1);
-        state_line(&mut text, random, process)?;
-    }
-    Ok(text)
-}
-
-/// Adds a line of this process or of process 2, or one of each.
-fn state_line(text: &mut String, random: &mut Random, process: usize) -> Result<()> {
-    match random.below(8) {
-        0 | 1 | 2 => writeln!(
-            text,
-            "{process} unveil {} {}",
-            random.pick(&PATHS),
-            random.pick(&PERMS)
-        )?,
-        3 if random.below(2) == 0 => writeln!(
-            text,
-            "{process} pledge {} {}",
-            random.pick(&PLEDGES),
-            random.pick(&PLEDGES)
-        )?,
-        4 => {
-            let path = random.pick(&PATHS);
-            writeln!(text, "{process} unveil {path} r\n2 rmdir {path}")?;
-        }
-        5 => {
-            let path = random.pick(&PATHS);
-            writeln!(text, "{process} unveil {path} r\n2 mkdir {path}")?;
-        }
-        6 => writeln!(
-            text,
-            "2 rename {} {}",
-            random.pick(&PATHS),
-            random.pick(&PATHS)
-        )?,
-        7 if random.below(2) == 0 => writeln!(
-            text,
-            "{process} {} {}",
-            random.pick(&CALLS),
-            random.pick(&PATHS)
-        )?,
-        _ => writeln!(text, "{process} {}", random.pick(&TURNS))?,
+/// Adds the lines of a part.
+fn add_lines(text: &mut String, random: &mut Random, part: &Part) -> Result<(), AllocError> {
+    for _ in 0..part.count {
+        let process = random.pick(part.processes);
+        let line = random.line(part.lines);
+        add_line(text, random, process, line)?;
     }
     Ok(())
 }
 
-/// Adds what a line asks for, and its end.
-fn request(text: &mut String, random: &mut Random) -> Result<()> {
-    match random.below(9) {
-        0 | 1 => writeln!(
-            text,
-            "unveil {} {}",
-            random.pick(&PATHS),
-            random.pick(&PERMS)
-        )?,
-        2 => writeln!(
-            text,
-            "pledge {} {}",
-            random.pick(&PLEDGES),
-            random.pick(&PLEDGES)
-        )?,
-        3 => writeln!(
-            text,
-            "rename {} {}",
-            random.pick(&PATHS),
-            random.pick(&PATHS)
-        )?,
-        4 => writeln!(text, "link {} {}", random.pick(&PATHS), random.pick(&PATHS))?,
-        5 => writeln!(
-            text,
-            "symlink {} {}",
-            random.pick(&TARGETS),
-            random.pick(&PATHS)
-        )?,
-        6 if random.below(2) == 0 => writeln!(text, "unveil - -")?,
-        _ => writeln!(text, "{} {}", random.pick(&CALLS), random.pick(&PATHS))?,
+/// Adds a line of a process, with a text that is drawn for each word that stands for some; nothing where it
+/// stands for no line.
+fn add_line(
+    text: &mut String,
+    random: &mut Random,
+    process: &str,
+    line: &str,
+) -> Result<(), AllocError> {
+    if line == NOTHING {
+        return Ok(());
     }
-    Ok(())
+    for word in line.split(' ') {
+        text.push_str(shown(word, process, random.drawn(word)))?;
+        text.push(' ')?;
+    }
+    text.pop();
+    text.push('\n')
+}
+
+/// What a line of a process shows of a word, for which this was drawn.
+fn shown<'a>(word: &'a str, process: &'a str, drawn: &'a str) -> &'a str {
+    if word == ASKER {
+        process
+    } else if drawn.is_empty() {
+        word
+    } else {
+        drawn
+    }
+}
+
+/// The text at a place.
+fn text_at(texts: &[&'static str], place: usize) -> &'static str {
+    match texts.get(place) {
+        Some(text) => *text,
+        None => "",
+    }
+}
+
+/// The texts for which a word stands; none where it stands for itself.
+fn texts_of(word: &str) -> &'static [&'static str] {
+    for (name, texts) in &DRAWN {
+        if *name == word {
+            return texts;
+        }
+    }
+    &[]
 }

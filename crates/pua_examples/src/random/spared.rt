@@ -3,8 +3,8 @@
 use anyhow::{Result, bail};
 use pua_path::{Counted, Ending, Last, PathText, resolve};
 use pua_policy::{Cover, Perms, Process};
-use pua_tree::{FileTree, Kind, ListTree, Name, NodeId};
-use std::alloc::Global;
+use pua_tree::{FileTree, Kind, LentRow, ListTree, Name, NodeId};
+use std::alloc::{AllocError, Global};
 
 /// A name in a directory, what stands there, and what the veils of a process leave of it.
 #[derive(Drop)]
@@ -23,25 +23,38 @@ pub(crate) fn spared(alloc: Global, tree: &ListTree, process: &Process) -> Resul
     let mut spared = Vec::new(alloc);
     for row in &rows {
         let cover = cover_at(tree, process, row.dir, row.name)?;
-        if !has_c(cover) {
-            spared.push(Uncovered {
-                dir: row.dir,
-                name: *row.name,
-                node: row.node,
-                kind: tree.kind(row.node),
-                target: target_of(alloc, tree, row.node)?,
-                cover,
-            })?;
-        }
+        add_uncovered(alloc, &mut spared, tree, row, cover)?;
     }
     Ok(spared)
 }
 
-fn target_of(alloc: Global, tree: &ListTree, node: NodeId) -> Result<Option<Vec<u8>>> {
-    Ok(match tree.target(node) {
-        Some(target) => Some(Vec::from_slice(alloc, target)?),
-        None => None,
-    })
+/// Adds the name of a row, if what the veils leave of it has no `c`.
+fn add_uncovered(
+    alloc: Global,
+    spared: &mut Vec<Uncovered>,
+    tree: &ListTree,
+    row: &LentRow<'_>,
+    cover: Cover,
+) -> Result<(), AllocError> {
+    if has_c(cover) {
+        return Ok(());
+    }
+    spared.push(Uncovered {
+        dir: row.dir,
+        name: *row.name,
+        node: row.node,
+        kind: tree.kind(row.node),
+        target: target_of(alloc, tree, row.node)?,
+        cover,
+    })?;
+    Ok(())
+}
+
+fn target_of(alloc: Global, tree: &ListTree, node: NodeId) -> Result<Option<Vec<u8>>, AllocError> {
+    match tree.target(node) {
+        Some(target) => Ok(Some(Vec::from_slice(alloc, target)?)),
+        None => Ok(None),
+    }
 }
 
 impl Uncovered {

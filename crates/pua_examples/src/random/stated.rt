@@ -1,15 +1,18 @@
 //! Random worlds by a fixed seed: what a command writes of all their processes is the state that each has
 //! by the answers to its requests, and its objects.
 
-use crate::random::generator::{Random, listing, nodes, state_script};
+use crate::beside::subjects::found_at;
+use crate::random::generator::{Drawn, Random, STATE_SCRIPT};
 use crate::rows::listed::add_list;
 use crate::rows::state::State;
-use crate::written::{Files, SMALL};
+use crate::rows::trees::add_answers;
+use crate::worlds::{answer, script_of, world_of};
+use crate::written::{Files, Wanted};
 use anyhow::Result;
-use pua_path::{Counted, Ending, Found, Last, PathText, resolve};
+use pua_path::{Ending, Found, Last};
 use pua_policy::{CallTable, Place};
-use pua_script::{Action, Answer, Request, World, read_script};
-use pua_tree::{ListTree, read_listing};
+use pua_script::{Action, Answer, Request, World};
+use pua_tree::ListTree;
 use std::alloc::Global;
 
 /// How many worlds are tried.
@@ -31,14 +34,9 @@ pub(crate) fn run(rt: &HostRuntime) -> Result<()> {
     let mut random = Random::new();
     let mut states = 0usize;
     for number in 1..=WORLDS {
-        let nodes = nodes(rt.alloc(), &mut random)?;
-        let listing = listing(rt.alloc(), nodes.as_slice())?;
-        let script = state_script(rt.alloc(), &mut random)?;
-        let files = Files::new(listing.as_bytes(), script.as_bytes());
-        if !is_written(rt.alloc(), &files, &mut states)? {
-            println!(rt; "not as expected: state of world {number}:")?;
-            println!(rt; "{listing}{script}")?;
-        }
+        let drawn = Drawn::new(rt.alloc(), &mut random, &STATE_SCRIPT)?;
+        let is_written = is_written(rt.alloc(), &drawn.files(), &mut states)?;
+        drawn.tell(rt, "not as expected: state of world", number, is_written)?;
     }
     println!(rt; "{WORLDS} worlds with {states} states of processes")?;
     Ok(())
@@ -46,42 +44,64 @@ pub(crate) fn run(rt: &HostRuntime) -> Result<()> {
 
 /// Whether a command writes the answers, and of each process its state and its objects.
 fn is_written(alloc: Global, files: &Files<'_>, states: &mut usize) -> Result<bool> {
-    let tree = read_listing(alloc, files.tree)?;
-    let script = read_script(alloc, files.script)?;
-    let mut world = World::new(alloc, tree, CallTable::standard())?;
-    let mut known = Vec::new(alloc);
-    known.push(Known {
-        number: 1,
-        state: State::new(alloc),
-    })?;
-    let mut text = Vec::new(alloc);
-    for (place, request) in script.requests().iter().enumerate() {
-        let answer = served(alloc, &mut world, request, &mut known)?;
-        let line = format!(in alloc; "{} {answer}\n", place.saturating_add(1))?;
-        text.extend_from_slice(line.as_bytes())?;
+    let script = script_of(alloc, files.script)?;
+    let files_before = Files::new(files.tree, b"");
+    let mut world = world_of(alloc, &files_before, CallTable::standard())?;
+    let mut kept = Kept::new(alloc)?;
+    for request in script.requests() {
+        kept.serve(alloc, &mut world, request)?;
     }
-    for one in &known {
-        add_list(alloc, &world, one.number, &one.state, &mut text)?;
-    }
-    *states = states.saturating_add(known.len());
-    let written = files.written(alloc, &WORDS, SMALL)?;
-    Ok(written.is(0, text.as_slice(), b""))
+    *states = states.saturating_add(kept.known.len());
+    let text = kept.text(alloc, &world)?;
+    files.write(alloc, &WORDS, &Wanted::text(text.as_bytes()))
 }
 
-/// Serves a request, and keeps what its answer says.
-fn served(
-    alloc: Global,
-    world: &mut World<ListTree>,
-    request: &Request,
-    known: &mut Vec<Known>,
-) -> Result<Answer> {
-    let place = place_asked(world, request);
-    let answer = world.apply(request)?;
-    let Some(child) = noted(alloc, known.as_mut_slice(), request, answer, place)? else {
-        return Ok(answer);
-    };
-    known.push(child)?;
-    Ok(answer)
+/// What is kept of a world's requests: their answers, and the processes.
+#[derive(Drop)]
+struct Kept {
+    told: Vec<Answer>,
+    known: Vec<Known>,
+}
+
+impl Kept {
+    /// That of a new world.
+    fn new(alloc: Global) -> Result<Kept> {
+        let mut known = Vec::new(alloc);
+        known.push(Known {
+            number: 1,
+            state: State::new(alloc),
+        })?;
+        Ok(Kept {
+            told: Vec::new(alloc),
+            known,
+        })
+    }
+
+    /// Serves a request, and keeps what its answer says.
+    fn serve(
+        &mut self,
+        alloc: Global,
+        world: &mut World<ListTree>,
+        request: &Request,
+    ) -> Result<()> {
+        let place = place_asked(world, request);
+        let answer = answer(world, request)?;
+        self.told.push(answer)?;
+        if let Some(child) = noted(alloc, self.known.as_mut_slice(), request, answer, place)? {
+            self.known.push(child)?;
+        }
+        Ok(())
+    }
+
+    /// The answers, and the lists of all processes.
+    fn text(&self, alloc: Global, world: &World<ListTree>) -> Result<String> {
+        let mut text = String::new(alloc);
+        add_answers(&mut text, self.told.as_slice())?;
+        for one in &self.known {
+            add_list(alloc, &mut text, world, one.number, &one.state)?;
+        }
+        Ok(text)
+    }
 }
 
 /// Keeps what an answer says of the process that asked; the process that it made, if it made one.
@@ -131,14 +151,10 @@ fn place_asked(world: &World<ListTree>, request: &Request) -> Option<Place> {
     let Action::Unveil(path, _) = request.action() else {
         return None;
     };
-    let process = world.process(request.process())?;
-    let Ok(text) = PathText::read(path.bytes(), Ending::Dot) else {
-        return None;
-    };
-    let mut probe = Counted::new(world.tree());
-    match resolve(&mut probe, process.dir(), &text, Last::Followed) {
-        Ok(found) => Some(place_of(&found)),
-        Err(_) => None,
+    let dir = world.process(request.process())?.dir();
+    match found_at(world.tree(), dir, path.bytes(), Ending::Dot, Last::Followed) {
+        Some(found) => Some(place_of(&found)),
+        None => None,
     }
 }
 

@@ -1,115 +1,88 @@
-//! The lines of a list of objects, of now or for ever, by calls of the libraries over a tree that is kept in any way.
+//! The texts of lists of objects, of now or for ever, over a tree that is kept in any way.
 
+use crate::lists::{Line, objects, spell};
 use crate::rows::state::State;
-use crate::rows::trees::spell;
-use anyhow::{Result, anyhow};
-use pua_ever::{Ever, EverThing};
-use pua_objects::{ObjectKind, ObjectLine, Objects};
+use crate::told::add;
+use crate::worlds::process_of;
+use anyhow::Result;
+use pua_objects::ObjectKind;
 use pua_policy::{Call, Calls};
 use pua_script::World;
-use pua_tree::{FileTree, Name};
+use pua_tree::FileTree;
 use std::alloc::{AllocError, Global};
 
-/// Adds the list of a process in this state: its heading, the state, and a line for each object.
+/// Adds the list of a process in this state: its head, and a line for each object.
 pub(crate) fn add_list<T: FileTree>(
     alloc: Global,
+    text: &mut String,
     world: &World<T>,
     number: u32,
     state: &State,
-    text: &mut Vec<u8>,
 ) -> Result<()> {
-    let Some(process) = world.process(number) else {
-        return Err(anyhow!("there is no process {number}"));
-    };
-    let heading = format!(in alloc; "objects {number}\n")?;
-    text.extend_from_slice(heading.as_bytes())?;
-    state.add_lines(alloc, world.tree(), text)?;
-    let begun = Objects::begin(alloc, world.tree(), process, world.table());
-    let mut list = begun?;
-    let lines = object_lines(&mut list, Vec::new(alloc))?;
-    Ok(text.extend_from_slice(lines.as_slice())?)
+    add_head(alloc, text, world.tree(), number, state)?;
+    let process = process_of(world, number)?;
+    let lines = objects(alloc, world.tree(), process, world.table())?;
+    Ok(add_lines(text, lines.as_slice())?)
 }
 
-/// Adds the list for ever of a process in this state: its heading, the state, and a line for each thing.
-pub(crate) fn add_ever<T: FileTree>(
+/// Adds the heading of the list of a process in this state, and the state.
+pub(crate) fn add_head<T: FileTree>(
     alloc: Global,
+    text: &mut String,
     tree: &T,
     number: u32,
     state: &State,
-    list: Ever<'_, T>,
-    text: &mut Vec<u8>,
 ) -> Result<()> {
-    let heading = format!(in alloc; "ever {number}\n")?;
-    text.extend_from_slice(heading.as_bytes())?;
-    state.add_lines(alloc, tree, text)?;
-    let mut list = list;
-    while let Some(line) = list.next_line() {
-        match line.thing {
-            EverThing::Stands(kind) => {
-                text.extend_from_slice(kind_bytes(kind))?;
-                add_path(text, list.word())?;
-            }
-            EverThing::Comes(kind) => {
-                text.extend_from_slice(kind_bytes(kind))?;
-                text.extend_from_slice(b"new")?;
-            }
-        }
-        add_calls(text, line.calls)?;
+    writeln!(text, "objects {number}")?;
+    state.add_lines(alloc, text, tree)
+}
+
+/// Adds the text of the lines of a list.
+pub(crate) fn add_lines(text: &mut String, lines: &[Line]) -> Result<(), AllocError> {
+    for line in lines {
+        add_line(text, line)?;
+        text.push('\n')?;
     }
     Ok(())
 }
 
-/// A text, and after it a line for each object that a list has still to give.
-fn object_lines<T: FileTree>(
-    list: &mut Objects<'_, T>,
-    front: Vec<u8>,
-) -> Result<Vec<u8>, AllocError> {
-    let mut text = front;
-    while let Some(line) = list.next_line() {
-        add_line(&mut text, line, list.word())?;
-    }
-    Ok(text)
-}
-
-/// Adds the line of what stands at the end of these names.
-fn add_line(text: &mut Vec<u8>, line: ObjectLine, word: &[&Name]) -> Result<(), AllocError> {
-    text.extend_from_slice(kind_bytes(line.kind))?;
-    add_path(text, word)?;
+/// Adds the text of a line, without its end.
+pub(crate) fn add_line(text: &mut String, line: &Line) -> Result<(), AllocError> {
+    text.push_str(kind_text(line.kind))?;
+    spell(text, line.path.as_slice())?;
     add_calls(text, line.calls)
 }
 
-fn kind_bytes(kind: ObjectKind) -> &'static [u8] {
+fn kind_text(kind: ObjectKind) -> &'static str {
     match kind {
-        ObjectKind::Dir => b"dir ",
-        ObjectKind::File => b"file ",
-        ObjectKind::Prog => b"prog ",
-        ObjectKind::Link => b"link ",
-        ObjectKind::Missing => b"missing ",
-        ObjectKind::Other => b"other ",
+        ObjectKind::Dir => "dir ",
+        ObjectKind::File => "file ",
+        ObjectKind::Prog => "prog ",
+        ObjectKind::Link => "link ",
+        ObjectKind::Missing => "missing ",
+        ObjectKind::Other => "other ",
     }
 }
 
-fn add_path(text: &mut Vec<u8>, word: &[&Name]) -> Result<(), AllocError> {
-    if word.is_empty() {
-        text.push(b'/')?;
-    }
-    for name in word {
-        text.push(b'/')?;
-        spell(text, name.bytes())?;
-    }
-    Ok(())
-}
-
-/// Adds what separates the first call from the path and each other from the one before, and the calls.
-fn add_calls(text: &mut Vec<u8>, calls: Calls) -> Result<(), AllocError> {
-    let mut before = b' ';
+/// Adds the calls, with what separates the first from the path and each other from the one before.
+fn add_calls(text: &mut String, calls: Calls) -> Result<(), AllocError> {
+    let mut before = " ";
     for call in Call::ALL {
-        if calls.contains(call) {
-            text.push(before)?;
-            text.extend_from_slice(call.name().as_bytes())?;
-            before = b',';
-        }
+        before = add_call(text, before, calls, call)?;
     }
-    text.push(b'\n')?;
     Ok(())
+}
+
+/// Adds a call with what comes before it, if it is one of these; what comes before the next.
+fn add_call(
+    text: &mut String,
+    before: &'static str,
+    calls: Calls,
+    call: Call,
+) -> Result<&'static str, AllocError> {
+    if !calls.contains(call) {
+        return Ok(before);
+    }
+    add(text, &[before, call.name()])?;
+    Ok(",")
 }

@@ -1,12 +1,13 @@
 //! The state of a process as a list of objects has it, in plain Rust: what was kept of its requests, and
 //! its lines over a tree that is kept in any way.
 
-use crate::rows::trees::spell;
+use crate::lists::{path_of, spell};
+use crate::told::add;
 use anyhow::Result;
 use pua_policy::{Call, Perms, Place, Process, Promises};
 use pua_script::{Action, Given};
 use pua_tree::{FileTree, LentRow, Name, NodeId};
-use std::alloc::Global;
+use std::alloc::{AllocError, Global};
 
 /// The keywords of promises, in their order.
 const KEYWORDS: [&str; 36] = [
@@ -48,6 +49,14 @@ const KEYWORDS: [&str; 36] = [
     "wroute",
 ];
 
+/// The letters of permissions, in their order.
+const LETTERS: [(&str, Perms); 4] = [
+    ("r", Perms::READ),
+    ("w", Perms::WRITE),
+    ("x", Perms::EXEC),
+    ("c", Perms::CREATE),
+];
+
 /// A place, and what is kept there.
 #[derive(Clone, Copy)]
 struct Veil {
@@ -80,18 +89,10 @@ impl State {
 
     /// That of a process of the library.
     pub(crate) fn of(alloc: Global, process: &Process) -> Result<State> {
-        let places = process.places(alloc)?;
-        let mut veils = Vec::new(alloc);
-        for place in &places {
-            if let Some(perms) = process.kept(place) {
-                let place = **place;
-                veils.push(Veil { place, perms })?;
-            }
-        }
         Ok(State {
             promises: process.promises(),
             execpromises: process.execpromises(),
-            veils,
+            veils: veils_of(alloc, process)?,
             is_locked: process.locked(),
             has_ended: process.ended(),
         })
@@ -154,24 +155,27 @@ impl State {
     pub(crate) fn add_lines<T: FileTree>(
         &self,
         alloc: Global,
+        text: &mut String,
         tree: &T,
-        text: &mut Vec<u8>,
     ) -> Result<()> {
         if self.has_ended {
-            return add(text, "process ended\n");
+            return Ok(add(text, &["process ended\n"])?);
         }
-        add(text, "process alive\npromises")?;
-        add_set(text, self.promises)?;
-        add(text, "execpromises")?;
-        add_set(text, self.execpromises)?;
-        add(text, self.unveil_line())?;
+        self.add_promises(text)?;
         let rows = tree.rows(alloc)?;
         for veil in &self.veils {
-            add(text, "veil ")?;
-            add_place(alloc, text, rows.as_slice(), &veil.place)?;
-            add_letters(text, veil.perms)?;
+            add_veil(alloc, text, rows.as_slice(), veil)?;
         }
         Ok(())
+    }
+
+    /// Adds the lines before those of the veils.
+    fn add_promises(&self, text: &mut String) -> Result<(), AllocError> {
+        add(text, &["process alive\npromises "])?;
+        add_set(text, self.promises)?;
+        add(text, &["execpromises "])?;
+        add_set(text, self.execpromises)?;
+        add(text, &[self.unveil_line()])
     }
 
     fn unveil_line(&self) -> &'static str {
@@ -183,6 +187,24 @@ impl State {
     }
 }
 
+/// The veils of a process.
+fn veils_of(alloc: Global, process: &Process) -> Result<Vec<Veil>> {
+    let places = process.places(alloc)?;
+    let mut veils = Vec::new(alloc);
+    for place in &places {
+        add_kept(&mut veils, **place, process.kept(place))?;
+    }
+    Ok(veils)
+}
+
+/// Adds what is kept at a place, if something is.
+fn add_kept(veils: &mut Vec<Veil>, place: Place, kept: Option<Perms>) -> Result<(), AllocError> {
+    if let Some(perms) = kept {
+        veils.push(Veil { place, perms })?;
+    }
+    Ok(())
+}
+
 /// What is left of a set by a pledge's argument.
 fn narrowed(kept: Option<Promises>, given: Given) -> Option<Promises> {
     match (kept, given) {
@@ -192,76 +214,91 @@ fn narrowed(kept: Option<Promises>, given: Given) -> Option<Promises> {
     }
 }
 
-fn add(text: &mut Vec<u8>, more: &str) -> Result<()> {
-    Ok(text.extend_from_slice(more.as_bytes())?)
+/// Adds a set of promises as a script has it, and the line's end.
+fn add_set(text: &mut String, set: Option<Promises>) -> Result<(), AllocError> {
+    match set {
+        None => add(text, &["-\n"]),
+        Some(set) if set == Promises::NONE => add(text, &["=\n"]),
+        Some(set) => add_keywords(text, set),
+    }
 }
 
-/// Adds a set of promises as a script has it, with a blank before it, and the line's end.
-fn add_set(text: &mut Vec<u8>, set: Option<Promises>) -> Result<()> {
-    let Some(set) = set else {
-        return add(text, " -\n");
-    };
-    if set == Promises::NONE {
-        return add(text, " =\n");
-    }
-    add(text, " ")?;
-    for keyword in KEYWORDS {
-        if set.contains(Promises::read(keyword.as_bytes()).unwrap_or(Promises::ERROR)) {
-            add(text, keyword)?;
-            add(text, ",")?;
-        }
+/// Adds the keywords of promises, and the line's end.
+fn add_keywords(text: &mut String, set: Promises) -> Result<(), AllocError> {
+    for keyword in &KEYWORDS {
+        add_keyword(text, set, keyword)?;
     }
     text.pop();
-    add(text, "\n")
+    text.push('\n')
 }
 
-/// Adds letters with a blank before them, and the line's end.
-fn add_letters(text: &mut Vec<u8>, perms: Perms) -> Result<()> {
-    add(text, if perms == Perms::NONE { " =" } else { " " })?;
-    for (letter, one) in [
-        ("r", Perms::READ),
-        ("w", Perms::WRITE),
-        ("x", Perms::EXEC),
-        ("c", Perms::CREATE),
-    ] {
-        if perms.contains(one) {
-            add(text, letter)?;
-        }
-    }
-    add(text, "\n")
-}
-
-/// Adds the path of a place by the rows of a tree; `-` where its directory is not in it.
-fn add_place(alloc: Global, text: &mut Vec<u8>, rows: &[LentRow<'_>], place: &Place) -> Result<()> {
-    let mut names = Vec::new(alloc);
-    let dir = match place {
-        Place::Dir(dir) => *dir,
-        Place::Slot(dir, name) => {
-            names.push(*name)?;
-            *dir
-        }
-    };
-    if !climb(rows, dir, &mut names)? {
-        return add(text, "-");
-    }
-    if names.is_empty() {
-        add(text, "/")?;
-    }
-    for name in names.iter().rev() {
-        add(text, "/")?;
-        spell(text, name.bytes())?;
+/// Adds a keyword and a comma, if its promise is one of these.
+fn add_keyword(text: &mut String, set: Promises, keyword: &str) -> Result<(), AllocError> {
+    if set.contains(Promises::read(keyword.as_bytes()).unwrap_or(Promises::ERROR)) {
+        add(text, &[keyword, ","])?;
     }
     Ok(())
 }
 
+/// Adds the line of a veil by the rows of a tree.
+fn add_veil(
+    alloc: Global,
+    text: &mut String,
+    rows: &[LentRow<'_>],
+    veil: &Veil,
+) -> Result<(), AllocError> {
+    add(text, &["veil "])?;
+    add_place(alloc, text, rows, &veil.place)?;
+    add_letters(text, veil.perms)
+}
+
+/// Adds letters with a blank before them, and the line's end.
+fn add_letters(text: &mut String, perms: Perms) -> Result<(), AllocError> {
+    add(text, &[if perms == Perms::NONE { " =" } else { " " }])?;
+    for (letter, one) in &LETTERS {
+        add(text, &[if perms.contains(*one) { letter } else { "" }])?;
+    }
+    text.push('\n')
+}
+
+/// Adds the path of a place by the rows of a tree; `-` where its directory is not in it.
+fn add_place(
+    alloc: Global,
+    text: &mut String,
+    rows: &[LentRow<'_>],
+    place: &Place,
+) -> Result<(), AllocError> {
+    let mut names = Vec::new(alloc);
+    if let Place::Slot(_, name) = place {
+        names.push(name)?;
+    }
+    if !climb(rows, dir_of(place), &mut names)? {
+        return add(text, &["-"]);
+    }
+    let word: Vec<&Name> = names.iter().rev().copied().collect(alloc)?;
+    spell(text, path_of(alloc, word.as_slice())?.as_slice())
+}
+
+/// The directory that a place is, or in which it is a name.
+fn dir_of(place: &Place) -> NodeId {
+    match place {
+        Place::Dir(dir) => *dir,
+        Place::Slot(dir, _) => *dir,
+    }
+}
+
 /// Adds the names that lead to a directory, from its own on; whether they begin at the root.
-fn climb(rows: &[LentRow<'_>], dir: NodeId, names: &mut Vec<Name>) -> Result<bool> {
+fn climb<'t>(
+    rows: &[LentRow<'t>],
+    dir: NodeId,
+    names: &mut Vec<&'t Name>,
+) -> Result<bool, AllocError> {
     let mut at = dir;
     for _ in 0..rows.len() {
         let Some(row) = row_of(rows, at) else {
             return Ok(at == NodeId::ROOT);
         };
-        names.push(*row.name)?;
+        names.push(row.name)?;
         at = row.dir;
     }
     Ok(at == NodeId::ROOT)

@@ -1,19 +1,19 @@
 //! What commands write, by calls of the libraries over a tree that is kept in any way. The program
 //! keeps its tree in slots; what it writes is to be the same over a tree of two sorted lists.
 
-ghost use Rattle.std.specs.Prelude.{◌≡◌};
-
-use crate::rows::listed::{add_ever, add_list};
+use crate::lists::{Asked, Pair, ever, pairs, spell};
+use crate::rows::listed::{add_lines, add_list};
+use crate::rows::reasons::{add_chain, add_list_with_reasons, add_reasons};
+use crate::rows::since::Replay;
 use crate::rows::state::State;
-use crate::written::Files;
-use anyhow::{Result, anyhow};
-use pua_audit::Audit;
-use pua_ever::{Ever, EverFault, Refusal};
-use pua_path::{Counted, Probe};
+use crate::told::add;
+use crate::worlds::{Readable, process_of, run_over, script_of, tree_of};
+use crate::written::{Files, Wanted};
+use anyhow::{Error, Result, bail};
 use pua_policy::CallTable;
-use pua_script::{Answer, World, read_script};
+use pua_script::{Answer, World};
 use pua_tool::{AuditWords, Command, Processes, Text, ToolFault};
-use pua_tree::{FileTree, ListingFault, byte_spelling, read_listing, read_listing_slab};
+use pua_tree::{FileTree, ListTree, SlabTree};
 use pua_words::read_words;
 use std::alloc::{AllocError, Global};
 
@@ -23,61 +23,47 @@ pub(crate) fn are_alike(
     alloc: Global,
     words: &[&str],
     files: &Files<'_>,
-    output: &str,
-    fault: &str,
+    wanted: &Wanted<'_>,
 ) -> Result<bool> {
-    let Ok(command) = read_words(alloc, words) else {
-        return Err(anyhow!("these words are no command"));
-    };
-    let listed = text_over(alloc, read_listing(alloc, files.tree), files, &command);
-    let slotted = text_over(alloc, read_listing_slab(alloc, files.tree), files, &command);
-    Ok(is_written(alloc, &listed, output, fault)? && is_written(alloc, &slotted, output, fault)?)
+    let listed = text_over::<ListTree>(alloc, words, files);
+    let slotted = text_over::<SlabTree>(alloc, words, files);
+    Ok(is_wanted(alloc, &listed, wanted)? && is_wanted(alloc, &slotted, wanted)?)
 }
 
 /// Whether this is the output, or the fault with this line.
-fn is_written(
-    alloc: Global,
-    written: &Result<Vec<u8>, ToolFault>,
-    output: &str,
-    line: &str,
-) -> Result<bool> {
+fn is_wanted(alloc: Global, written: &Result<String>, wanted: &Wanted<'_>) -> Result<bool> {
     match written {
-        Ok(text) => Ok(line.is_empty() && text.as_slice() == output.as_bytes()),
-        Err(fault) => {
-            let told = format!(in alloc; "{fault}\n")?;
-            Ok(output.is_empty() && told.as_str() == line)
-        }
+        Ok(text) => Ok(wanted.err.is_empty() && text.as_bytes() == wanted.out),
+        Err(fault) => is_reported(alloc, fault, wanted),
     }
 }
 
-/// The text that is asked for over a tree, if it was read; or the first fault.
-fn text_over<T: FileTree + Drop>(
+/// Whether this is the fault with this line.
+fn is_reported(alloc: Global, fault: &Error, wanted: &Wanted<'_>) -> Result<bool> {
+    let told = format!(in alloc; "{fault}\n")?;
+    Ok(wanted.out.is_empty() && told.as_bytes() == wanted.err)
+}
+
+/// The text that a command asks for, over a tree of this kind; or the first fault.
+pub(crate) fn text_over<T: Readable>(
     alloc: Global,
-    tree: Result<T, ListingFault>,
+    words: &[&str],
     files: &Files<'_>,
-    command: &Command<'_>,
-) -> Result<Vec<u8>, ToolFault> {
-    let table = table_of(alloc, files, command)?;
-    let tree = match tree {
-        Ok(tree) => tree,
-        Err(fault) => return Err(ToolFault::Listing(fault)),
+) -> Result<String> {
+    let Ok(command) = read_words(alloc, words) else {
+        bail!("these words are no command");
     };
-    let script = match read_script(alloc, files.script) {
-        Ok(script) => script,
-        Err(fault) => return Err(ToolFault::Script(fault)),
+    let table = table_of(alloc, files, &command)?;
+    let tree = tree_of::<T>(alloc, files.tree)?;
+    let script = script_of(alloc, files.script)?;
+    let ran = run_over(alloc, tree, &script, table)?;
+    let replay = Replay {
+        tree: files.tree,
+        table,
+        requests: script.requests(),
+        told: ran.told.as_slice(),
     };
-    let Ok(mut world) = World::new(alloc, tree, table) else {
-        return Err(ToolFault::OutOfMemory);
-    };
-    let Ok(told) = world.run(alloc, &script) else {
-        return Err(ToolFault::OutOfMemory);
-    };
-    match &command.text {
-        Text::Run => or_memory(answer_lines(alloc, told.as_slice())),
-        Text::Objects(words) => object_text(alloc, &world, told.as_slice(), words.processes),
-        Text::Ever(words) => ever_text(alloc, &world, told.as_slice(), words.process),
-        Text::Audit(words) => audit_lines(alloc, &world, told.as_slice(), words),
-    }
+    text_after(alloc, &ran.world, &replay, &command.text)
 }
 
 /// The table of calls that a command goes by: its rules, and the rows of the text that it names, if it
@@ -86,93 +72,105 @@ pub(crate) fn table_of(
     alloc: Global,
     files: &Files<'_>,
     command: &Command<'_>,
-) -> Result<CallTable, ToolFault> {
+) -> Result<CallTable> {
     let base = CallTable::of(command.rules);
-    match (command.table, files.table) {
-        (Some(_), Some(text)) => match base.read_over(alloc, text) {
-            Ok(table) => Ok(table),
-            Err(fault) => Err(ToolFault::Table(fault)),
-        },
-        _ => Ok(base),
+    if command.table.is_none() {
+        return Ok(base);
+    }
+    match base.read_over(alloc, files.table) {
+        Ok(table) => Ok(table),
+        Err(fault) => Err(ToolFault::Table(fault).into()),
     }
 }
 
-fn or_memory(text: Result<Vec<u8>, AllocError>) -> Result<Vec<u8>, ToolFault> {
-    match text {
-        Ok(text) => Ok(text),
-        Err(_) => Err(ToolFault::OutOfMemory),
+/// The text that is asked for after a script, which left this world.
+fn text_after<T: Readable>(
+    alloc: Global,
+    world: &World<T>,
+    replay: &Replay<'_>,
+    asked: &Text<'_>,
+) -> Result<String> {
+    let mut text = String::new(alloc);
+    match front_of(asked) {
+        Front::Answers => add_answers(&mut text, replay.told)?,
+        Front::Reasons => add_reasons::<T>(alloc, &mut text, replay)?,
+        Front::Nothing => {}
+    }
+    add_asked(alloc, &mut text, world, replay, asked)?;
+    Ok(text)
+}
+
+/// What comes first.
+#[derive(Clone, Copy)]
+enum Front {
+    Answers,
+    Reasons,
+    Nothing,
+}
+
+/// What comes first in a text: the answers, unless an audit is resumed, or one request alone is asked about.
+fn front_of(asked: &Text<'_>) -> Front {
+    match asked {
+        Text::RunWhy | Text::ObjectsWhy(_) => Front::Reasons,
+        Text::Why(_) => Front::Nothing,
+        Text::Audit(words) if words.after.is_some() => Front::Nothing,
+        _ => Front::Answers,
     }
 }
 
-/// A line for each answer.
-fn answer_lines(alloc: Global, told: &[Answer]) -> Result<Vec<u8>, AllocError> {
-    let mut text = Vec::new(alloc);
+/// Adds a line for each answer.
+pub(crate) fn add_answers(text: &mut String, told: &[Answer]) -> Result<(), AllocError> {
     for (place, answer) in told.iter().enumerate() {
-        let line = format!(in alloc; "{} {answer}\n", place.saturating_add(1))?;
-        text.extend_from_slice(line.as_bytes())?;
+        writeln!(text, "{} {answer}", place.saturating_add(1))?;
     }
-    Ok(text)
+    Ok(())
 }
 
-/// The answers, and the list of each process that is asked for.
-fn object_text<T: FileTree>(
+/// Adds what is asked for beside the answers.
+fn add_asked<T: Readable>(
     alloc: Global,
+    text: &mut String,
     world: &World<T>,
-    told: &[Answer],
+    replay: &Replay<'_>,
+    asked: &Text<'_>,
+) -> Result<()> {
+    match asked {
+        Text::Run | Text::RunWhy => Ok(()),
+        Text::Why(words) => add_chain(alloc, text, world, replay, words),
+        Text::Objects(words) => add_objects(alloc, text, world, words.processes),
+        Text::ObjectsWhy(words) => add_reasoned(alloc, text, world, replay, words.processes),
+        Text::Ever(words) => add_ever(alloc, text, world, words.process),
+        Text::Audit(words) => add_audit(alloc, text, world, words),
+    }
+}
+
+/// Adds the list of each process that is asked for.
+fn add_objects<T: FileTree>(
+    alloc: Global,
+    text: &mut String,
+    world: &World<T>,
     processes: Processes,
-) -> Result<Vec<u8>, ToolFault> {
-    let Ok(numbers) = numbers_of(alloc, world, processes) else {
-        return Err(ToolFault::OutOfMemory);
-    };
-    let mut text = or_memory(answer_lines(alloc, told))?;
+) -> Result<()> {
+    let numbers = numbers_of(alloc, world, processes)?;
     for number in &numbers {
-        let Some(process) = world.process(*number) else {
-            return Err(ToolFault::NoProcess);
-        };
-        let Ok(state) = State::of(alloc, process) else {
-            return Err(ToolFault::OutOfMemory);
-        };
-        if add_list(alloc, world, *number, &state, &mut text).is_err() {
-            return Err(ToolFault::OutOfMemory);
-        }
+        add_process(alloc, text, world, *number)?;
     }
-    Ok(text)
+    Ok(())
 }
 
-/// The answers, and the list for ever of a process.
-fn ever_text<T: FileTree>(
+/// Adds the list with reasons of each process that is asked for.
+fn add_reasoned<T: Readable>(
     alloc: Global,
+    text: &mut String,
     world: &World<T>,
-    told: &[Answer],
-    number: u32,
-) -> Result<Vec<u8>, ToolFault> {
-    let Some(process) = world.process(number) else {
-        return Err(ToolFault::NoProcess);
-    };
-    let begun = Ever::begin(alloc, world.tree(), process, world.table());
-    let list = match begun {
-        Ok(list) => list,
-        Err(fault) => return Err(no_list(number, fault)),
-    };
-    let Ok(state) = State::of(alloc, process) else {
-        return Err(ToolFault::OutOfMemory);
-    };
-    let mut text = or_memory(answer_lines(alloc, told))?;
-    if add_ever(alloc, world.tree(), number, &state, list, &mut text).is_err() {
-        return Err(ToolFault::OutOfMemory);
+    replay: &Replay<'_>,
+    processes: Processes,
+) -> Result<()> {
+    let numbers = numbers_of(alloc, world, processes)?;
+    for number in &numbers {
+        add_list_with_reasons(alloc, text, world, replay, *number)?;
     }
-    Ok(text)
-}
-
-/// Why there is no list for ever of a process.
-fn no_list(number: u32, fault: EverFault) -> ToolFault {
-    match fault {
-        EverFault::Refused(Refusal::CanUnveil) => ToolFault::CanUnveil(number),
-        EverFault::Refused(Refusal::LacksC(call)) => ToolFault::LacksC(call),
-        EverFault::Refused(Refusal::RenameLacksC) => ToolFault::RenameLacksC,
-        EverFault::Refused(Refusal::LinkLacksC) => ToolFault::LinkLacksC,
-        EverFault::OutOfMemory => ToolFault::OutOfMemory,
-    }
+    Ok(())
 }
 
 /// The numbers of the processes that are asked for.
@@ -181,80 +179,63 @@ fn numbers_of<T: FileTree>(
     world: &World<T>,
     processes: Processes,
 ) -> Result<Vec<u32>> {
-    Ok(match processes {
-        Processes::One(number) => Vec::from_slice(alloc, &[number])?,
-        Processes::All => world.numbers(alloc)?,
-    })
+    match processes {
+        Processes::One(number) => Ok(Vec::from_slice(alloc, &[number])?),
+        Processes::All => Ok(world.numbers(alloc)?),
+    }
 }
 
-/// The answers and the heading, unless the audit is resumed, and a line for each pair.
-fn audit_lines<T: FileTree>(
+/// Adds the list of a process.
+fn add_process<T: FileTree>(
     alloc: Global,
+    text: &mut String,
     world: &World<T>,
-    told: &[Answer],
-    words: &AuditWords<'_>,
-) -> Result<Vec<u8>, ToolFault> {
-    let Some(process) = world.process(words.process) else {
-        return Err(ToolFault::NoProcess);
-    };
-    let mut probe = Counted::new(world.tree());
-    let names = words.names.as_slice();
-    let begun = Audit::begin(
-        alloc,
-        &mut probe,
-        process,
-        world.table(),
-        words.base,
-        names,
-        words.limit,
-        words.after,
-    );
-    match begun {
-        Ok(mut audit) => {
-            let front = or_memory(front_lines(alloc, told, words))?;
-            or_memory(pair_lines(&mut audit, &mut probe, front))
-        }
-        Err(fault) => Err(ToolFault::Audit(fault)),
-    }
+    number: u32,
+) -> Result<()> {
+    let state = State::of(alloc, process_of(world, number)?)?;
+    add_list(alloc, text, world, number, &state)
 }
 
-/// What stands before the pairs.
-fn front_lines(
+/// Adds the list for ever of a process.
+fn add_ever<T: FileTree>(
     alloc: Global,
-    told: &[Answer],
+    text: &mut String,
+    world: &World<T>,
+    number: u32,
+) -> Result<()> {
+    let process = process_of(world, number)?;
+    let lines = ever(alloc, world.tree(), process, number, world.table())?;
+    writeln!(text, "ever {number}")?;
+    State::of(alloc, process)?.add_lines(alloc, text, world.tree())?;
+    Ok(add_lines(text, lines.as_slice())?)
+}
+
+/// Adds the heading of an audit, unless it is resumed, and a line for each pair.
+fn add_audit<T: FileTree>(
+    alloc: Global,
+    text: &mut String,
+    world: &World<T>,
     words: &AuditWords<'_>,
-) -> Result<Vec<u8>, AllocError> {
-    if words.after.is_some() {
-        return Ok(Vec::new(alloc));
+) -> Result<()> {
+    let asked = Asked {
+        base: words.base,
+        names: words.names.as_slice(),
+        limit: words.limit,
+        after: words.after,
+    };
+    let process = process_of(world, words.process)?;
+    let pairs = pairs(alloc, world.tree(), process, world.table(), &asked)?;
+    if words.after.is_none() {
+        writeln!(text, "reach {}", words.process)?;
     }
-    let mut text = answer_lines(alloc, told)?;
-    let heading = format!(in alloc; "reach {}\n", words.process)?;
-    text.extend_from_slice(heading.as_bytes())?;
-    Ok(text)
+    Ok(add_pairs(text, pairs.as_slice())?)
 }
 
-/// A text, and after it a line for each pair that an audit has still to give.
-fn pair_lines<'t, P: Probe<'t>>(
-    audit: &mut Audit,
-    probe: &mut P,
-    front: Vec<u8>,
-) -> Result<Vec<u8>, AllocError>
-    requires { P.tree probe.old ≡ audit.old.tree }
-{
-    let mut text = front;
-    while let Some(line) = audit.next_line(probe) {
-        spell(&mut text, line.path)?;
-        text.push(b' ')?;
-        text.extend_from_slice(line.call.name().as_bytes())?;
-        text.push(b'\n')?;
-    }
-    Ok(text)
-}
-
-/// Adds the spelling of a path.
-pub(crate) fn spell(text: &mut Vec<u8>, path: &[u8]) -> Result<(), AllocError> {
-    for byte in path {
-        text.extend_from_slice(byte_spelling(*byte).as_bytes())?;
+/// Adds a line for each pair.
+pub(crate) fn add_pairs(text: &mut String, pairs: &[Pair]) -> Result<(), AllocError> {
+    for pair in pairs {
+        spell(text, pair.path.as_slice())?;
+        add(text, &[" ", pair.call.name(), "\n"])?;
     }
     Ok(())
 }

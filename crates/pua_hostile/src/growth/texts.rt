@@ -2,7 +2,10 @@
 //! by the first call, and the second writes everything.
 
 use crate::LISTING;
-use crate::called::{audit_done, command_done, ever_done, objects_done, run_done};
+use crate::called::{
+    audit_done, command_done, ever_done, objects_done, objects_why_done, run_done, run_why_done,
+    why_done,
+};
 use crate::growth::is_refused;
 use anyhow::Result;
 use pua_audit::Base;
@@ -34,6 +37,26 @@ const OBJECTS: &[u8] =
 const EVER: &[u8] =
     b"1 ok\n2 ok\never 1\nprocess alive\npromises -\nexecpromises -\nunveil locked\nveil /etc/passwd r\nfile /etc/passwd stat,lstat,open-r,chmod\n";
 
+/// A script of such a process that asks for more.
+const ASKING: &[u8] = b"1 unveil /etc/passwd r\n1 unveil - -\n1 open-w /t/up/passwd\n";
+
+/// The answers to it, with reasons.
+const REASONS: &[u8] = b"1 ok\n2 ok\n3 EACCES no w in veil r on /etc/passwd since line 1\n";
+
+/// What decides its last line, once more.
+const CHAIN: &[u8] =
+    b"needs wpath\nlink /t to tmp\nlink /tmp/up to ../etc\nnames file /etc/passwd\nEACCES no w in veil r on /etc/passwd since line 1\n";
+
+/// Its state, and what it may touch, with reasons.
+const REASONED: &[u8] =
+    b"1 ok\n2 ok\n3 EACCES no w in veil r on /etc/passwd since line 1\nobjects 1\nprocess alive\npromises -\nexecpromises -\nunveil locked\nveil /etc/passwd r\nfile /etc/passwd stat,lstat,open-r,chmod fattr,rpath /etc/passwd r 1\n";
+
+/// What is asked once more.
+const FIELDS: [&[u8]; 2] = [b"open-w", b"/t/up/passwd"];
+
+/// Of which processes the list is.
+const PROCESSES: Processes = Processes::All;
+
 /// By which table the texts are.
 const TABLES: TableChoice<'static> = TableChoice {
     rules: Rules::Profile,
@@ -63,6 +86,9 @@ enum Asked {
     Objects,
     Ever,
     Audit,
+    Reasons,
+    Chain,
+    Reasoned,
 }
 
 impl Asked {
@@ -70,19 +96,25 @@ impl Asked {
     fn put(self, alloc: Global, sink: &mut MemorySink) -> Result<(), ToolFault> {
         match self {
             Asked::Run => run_done(alloc, SCRIPT, Some(TABLE), sink),
-            Asked::Objects => objects_done(alloc, SCRIPT, TABLES, Processes::All, sink),
+            Asked::Objects => objects_done(alloc, SCRIPT, TABLES, PROCESSES, sink),
             Asked::Ever => ever_done(alloc, SCRIPT, TABLES, 1, sink),
             Asked::Audit => audit_done(alloc, LISTING, SCRIPT, &JOB, sink),
+            Asked::Reasons => run_why_done(alloc, ASKING, TABLES, sink),
+            Asked::Chain => why_done(alloc, ASKING, TABLES, &FIELDS, sink),
+            Asked::Reasoned => objects_why_done(alloc, ASKING, TABLES, PROCESSES, sink),
         }
     }
 }
 
 /// What is asked for, and the text that is written then.
-const TEXTS: [(Asked, &[u8]); 4] = [
+const TEXTS: [(Asked, &[u8]); 7] = [
     (Asked::Run, RUN),
     (Asked::Objects, OBJECTS),
     (Asked::Ever, EVER),
     (Asked::Audit, AUDIT),
+    (Asked::Reasons, REASONS),
+    (Asked::Chain, CHAIN),
+    (Asked::Reasoned, REASONED),
 ];
 
 /// Whether all is written as it has to be.

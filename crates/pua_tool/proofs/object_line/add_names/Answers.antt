@@ -1,4 +1,4 @@
-use Rattle.std.proofs.Common.{◌≤◌, ◌+◌, ◌++◌, ◌∷◌, [], ℕ, List, get_or, sym, ap, ◌∙◌, append_assoc, arith}
+use Rattle.std.proofs.Common.{◌≤◌, ◌+◌, ◌++◌, ◌∷◌, [], ℕ, List, get_or, sym, ap, ◌∙◌, append_assoc, append-nil, arith}
 use Rattle.std.specs.Prelude.{if◌then◌else◌}
 use Rattle.pua_policy.specs.Calls.{call_name, calls}
 use Rattle.pua_policy.specs.declared.call.Call.TheVariants.{Stat}
@@ -27,13 +27,13 @@ loop-call-preserved c =
       })
     ]
 
-pub returns : goal.returns
-returns c =
+pub returns-clause-names : goal.returns-clause-names
+returns-clause-names c =
     let set : ℕ = c.args.calls in
     let i : ℕ = c.loop-call.call-index in
     let before : List ℕ = if c.loop-call.is_first then [] else 44 ∷ [] in
     let past : 14 ≤ i = omega (arith, c.loop-call-test.false) in
-    c.push.ensures
+    sym (append-nil c.loop-call.block)
     ∙ ap (λ t. c.loop-call.block ++ t) (sym (calls_done set before i past))
     ∙ c.loop-call.invariant.names
     ∙ ap (λ t. c.args.block.now ++ t) (calls_all set)

@@ -1,4 +1,4 @@
-use Rattle.std.proofs.Common.{List, ℕ, ◌+◌, ◌∷◌, [], Err, arith}
+use Rattle.std.proofs.Common.{◌+◌, ◌∷◌, [], arith}
 use Rattle.std.proofs.lemmas.Result.{err_from_is_err_and}
 use Rattle.pua_tree.specs.Spelling.{spelling}
 use Rattle.pua_tool.proofs.Passing.{passing_more, passing_fails, passing_last}

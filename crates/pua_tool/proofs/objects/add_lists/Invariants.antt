@@ -1,8 +1,8 @@
 use Rattle.std.proofs.Common.{◌≡◌, List, ℕ, length}
 use Rattle.pua_policy.specs.Calls.{CallTable}
-use Rattle.pua_script.specs.Replay.{World}
-use Rattle.pua_tool.specs.Lists.{AreListsOf}
-use Rattle.pua_tool.specs.ObjectTexts.{lists_of}
+use Rattle.pua_script.specs.Replay.{World, history_of}
+use Rattle.pua_tool.specs.Lists.{AreListsOf, IsListOf}
+use Rattle.pua_tool.specs.ObjectTexts.{lists_of, process_list}
 use Rattle.pua_tool.proofs.Lists.{Left}
 use Rattle.pua_tool.proofs.objects.add_lists.Given as goal
 
@@ -10,7 +10,7 @@ use Rattle.pua_tool.proofs.objects.add_lists.Given as goal
 abbrev pub invariant-loop-list : goal.invariant-loop-list
 invariant-loop-list g l = record {
   tree : l.places.tree ≡ l.fn.places.tree;
-  lists : (table : CallTable) (w : World) (numbers : List ℕ) → l.fn.places.tree ≡ w.tree → AreListsOf table w numbers l.fn.lists.items → Left table w (lists_of table w numbers) l.lists.items
+  lists : (table : CallTable) (w : World) (numbers : List ℕ) → l.fn.places.tree ≡ w.tree → AreListsOf table w numbers l.fn.lists.items → Left (history_of w) (IsListOf table w.tree) (process_list table w.tree) (lists_of table w numbers) l.lists.items
       l.fn.block l.block (g.S.Sink.written l.fn.sink) (g.S.Sink.written l.sink) (g.S.Sink.failed l.fn.sink) (g.S.Sink.failed l.sink);
 }
 

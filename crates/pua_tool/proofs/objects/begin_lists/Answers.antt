@@ -1,7 +1,7 @@
 use Rattle.std.proofs.Common.{List, ℕ, ◌+◌, ◌++◌, ◌∷◌, [], take, sym, subst, ◌∙◌, arith, take_all}
 use Rattle.std.proofs.lemmas.List.{take_more}
 use Rattle.pua_script.specs.Replay.{history_of}
-use Rattle.pua_tool.specs.Lists.{AreListsOf, ListState}
+use Rattle.pua_tool.specs.Lists.{AreListsOf, IsListOf, ListState}
 use Rattle.pua_tool.proofs.Replays.{is_made, none_made}
 use Rattle.pua_tool.proofs.Lists.{one_more, none_more, same_list}
 use Rattle.pua_tool.proofs.objects.begin_lists.Goals as goal
@@ -12,7 +12,7 @@ loop-number-preserved-in_default g c = λ w stands.
     let numbers = c.args.numbers.now in
     let i = c.loop-number.number-index in
     subst (λ (ns : List ℕ). AreListsOf table w ns c.loop-number.lists.items) (sym (take_more numbers i _ c.loop-number-test.true))
-    (none_more table w (take i numbers) c.loop-number.lists.items _ (c.loop-number.invariant w stands) (none_made (history_of w _) (c.in_default.ensures.history w stands)))
+    (none_more (history_of w) (IsListOf table w.tree) (take i numbers) c.loop-number.lists.items _ (c.loop-number.invariant w stands) (none_made (history_of w _) (c.in_default.ensures.history w stands)))
 
 pub loop-number-preserved : goal.loop-number-preserved
 loop-number-preserved g c = λ w stands.
@@ -24,7 +24,7 @@ loop-number-preserved g c = λ w stands.
     let listed = same_list _ _ _ _ _ made.history c.in_ok-list.list c.table.ensures at (c.in_ok-list.ensures made.history made.stands) in
     subst (λ (lists : List ListState). AreListsOf table w (take (i + 1) numbers) lists) (sym c.in-Ok.ensures.items)
     (subst (λ (ns : List ℕ). AreListsOf table w ns (c.loop-number.lists.items ++ c.in_ok-list.list ∷ [])) (sym (take_more numbers i _ c.loop-number-test.true))
-    (one_more table w (take i numbers) c.loop-number.lists.items _ made.history c.in_ok-list.list (c.loop-number.invariant w stands) made.is listed))
+    (one_more (history_of w) (IsListOf table w.tree) (take i numbers) c.loop-number.lists.items _ made.history c.in_ok-list.list (c.loop-number.invariant w stands) made.is listed))
 
 pub returns : goal.returns
 returns g c = λ w stands.

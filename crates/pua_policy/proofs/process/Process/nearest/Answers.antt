@@ -1,12 +1,13 @@
-use Rattle.std.proofs.Common.{◌≡◌, ◌≢◌, ◌∙◌, cond, sym, ap, arith, map}
+use Rattle.std.proofs.Common.{◌≡◌, ◌≢◌, ◌∙◌, cond, sym, ap, arith}
 use Rattle.std.proofs.lemmas.Bool.{eq-eqb}
 use Rattle.std.proofs.lemmas.Option.{same_Some}
 use Rattle.std.specs.Prelude.{Some, None}
 use Rattle.pua_tree.specs.Tree.{above, climb, parent}
 use Rattle.pua_policy.specs.declared.place.Place.TheVariants.{Dir}
 use Rattle.pua_policy.specs.History.{veil_at}
-use Rattle.pua_policy.specs.Verdict.{nearest}
-use Rattle.pua_policy.proofs.Climbs.{climb-some, length-climb, length-climb_step, is_dir_above, nearest_here, nearest_above}
+use Rattle.pua_policy.specs.Reasons.{first_veiled}
+use Rattle.pua_policy.proofs.Climbs.{climb-some, length-climb, length-climb_step, is_dir_above}
+use Rattle.pua_policy.proofs.Veiled.{veiled_here, veiled_above}
 use Rattle.pua_policy.proofs.process.Process.nearest.Goals as goal
 use Rattle.pua_policy.proofs.process.Process.nearest.Goals.{In-Some-parent}
 use Rattle.pua_policy.proofs.process.Process.nearest.Given.{Over}
@@ -27,7 +28,7 @@ goes_up g c =
 pub returns-in-Some-clause-exact : goal.returns-in-Some-clause-exact
 returns-in-Some-clause-exact g c =
     let t = g.P.Probe.tree c.args.probe.now in
-    sym (nearest_here t c.requires.tree (λ dir. veil_at c.args.self.now.veils (Dir dir)) c.loop-perms.dir c.in-Some.perms c.loop-perms.invariant.living (sym c.kept.ensures.state ∙ c.in-Some.is))
+    sym (veiled_here t c.requires.tree (λ dir. veil_at c.args.self.now.veils (Dir dir)) c.loop-perms.dir c.in-Some.perms c.loop-perms.invariant.living (sym c.kept.ensures.state ∙ c.in-Some.is))
     ∙ c.loop-perms.invariant.still_nearest
 
 pub returns-in-Some-clause-cost : goal.returns-in-Some-clause-cost
@@ -55,8 +56,8 @@ loop-perms-preserved g c =
     record {
       same_tree = c.parent.ensures.tree ∙ c.loop-perms.invariant.same_tree;
       living = rw (goes_up g c) (is_dir_above t c.requires.tree dir);
-      still_nearest = ap (λ d. nearest (map (λ dir. veil_at c.args.self.now.veils (Dir dir)) (climb t d))) (goes_up g c)
-          ∙ sym (nearest_above t c.requires.tree (λ dir. veil_at c.args.self.now.veils (Dir dir)) dir (is_other g c) living (sym c.kept.ensures.state ∙ c.in_default.is))
+      still_nearest = ap (λ d. first_veiled (λ dir. veil_at c.args.self.now.veils (Dir dir)) (climb t d)) (goes_up g c)
+          ∙ sym (veiled_above t c.requires.tree (λ dir. veil_at c.args.self.now.veils (Dir dir)) dir (is_other g c) living (sym c.kept.ensures.state ∙ c.in_default.is))
           ∙ c.loop-perms.invariant.still_nearest;
       cost = rw (goes_up g c) (omega (arith, step, c.parent.ensures.count, c.loop-perms.invariant.cost));
     }

@@ -1,9 +1,0 @@
-use Rattle.std.proofs.Common.{◌≡◌, length}
-use Rattle.pua_examples.proofs.rows.trees.pair_lines.Given as goal
-
--- the audit stays one of the probe's tree
-abbrev pub invariant-loop-line : goal.invariant-loop-line
-invariant-loop-line g l = g.P.Probe.tree l.probe ≡ l.audit.tree
-
-abbrev pub decreases-loop-line : goal.decreases-loop-line
-decreases-loop-line g l = length l.audit.left

@@ -1,0 +1,17 @@
+use Rattle.std.proofs.Common.{sym, ap, ◌∙◌}
+use Rattle.pua_tree.specs.Tree.{climb}
+use Rattle.pua_policy.specs.declared.place.Place.TheVariants.{Dir}
+use Rattle.pua_policy.specs.History.{veil_at}
+use Rattle.pua_policy.specs.Reasons.{covering_at, cover_of}
+use Rattle.pua_policy.proofs.Veiled.{veiled_covers}
+use Rattle.pua_policy.proofs.process.Process.cover_from.Goals as goal
+
+pub returns-in-Some-clause-exact : goal.returns-in-Some-clause-exact
+returns-in-Some-clause-exact g c =
+    ap (λ veil. cover_of (covering_at veil)) (sym c.in-Some.is ∙ c.nearest.ensures.exact)
+    ∙ veiled_covers (λ dir. veil_at c.args.self.now.veils (Dir dir)) (climb (g.P.Probe.tree c.args.probe.now) c.args.from)
+
+pub returns-in-None-clause-exact : goal.returns-in-None-clause-exact
+returns-in-None-clause-exact g c =
+    ap (λ veil. cover_of (covering_at veil)) (sym c.in-None.is ∙ c.nearest.ensures.exact)
+    ∙ veiled_covers (λ dir. veil_at c.args.self.now.veils (Dir dir)) (climb (g.P.Probe.tree c.args.probe.now) c.args.from)

@@ -1,0 +1,96 @@
+-- What is true of what is told of promises, of veils and of objects.
+use Rattle.std.specs.Prelude.{◌≡◌, ◌≢◌, ◌↔◌, ℕ, true, false, List, [], ◌∷◌, ◌++◌, Some, None, is_none, IfSome, bit_or}
+use Rattle.std.specs.List.{list_all, list_any}
+use Rattle.pua_tree.specs.Tree.{Tree, is_empty}
+use Rattle.pua_path.specs.declared.found.Way.TheVariants as way
+use Rattle.pua_path.specs.declared.found.Found.{Found}
+use Rattle.pua_policy.specs.Promises.{holds, lacking}
+use Rattle.pua_policy.specs.History.{History, Unveiled, held, is_ended, kept, may_any}
+use Rattle.pua_policy.specs.Laws.{places_over}
+use Rattle.pua_policy.specs.Misfits.{Object, IsDir, IsProg, IsLink, IsMissing, misfit}
+use Rattle.pua_policy.specs.Verdict.{cover, cover_fault, is_unveil}
+use Rattle.pua_policy.specs.Reasons.{Promising, Holds, HasEnded, Lacks, promising, may_of, covering, cover_of}
+use Rattle.pua_policy.specs.declared.call.Call.{Call}
+use Rattle.pua_policy.specs.declared.place.Place.{Place}
+use Rattle.pua_policy.specs.declared.reason.Covering.{Covering}
+use Rattle.pua_policy.specs.declared.reason.Covering.TheVariants.{InView, NoneOver, By}
+use Rattle.pua_policy.specs.declared.reason.Misfit.{Misfit}
+use Rattle.pua_policy.specs.declared.reason.Misfit.TheVariants.{Missing, Exists, IsDirectory, IsNoFile, IsNoDirectory, IsNoLink, IsNoProgram, IsNotEmpty, ByDot, ByDotDot, ByNothing}
+
+-- what is told of promises is so: the set is one of those asked for, and held; or of each set some is not held, and with just that it were
+pub record LacksSome (h : History) (set some : ℕ) : Type 0 where
+  pub not_held : holds (held h) set ≡ false
+  pub were_held : holds (bit_or (held h) some) set ≡ true
+  pub of_it : some ≡ lacking (held h) set
+
+abbrev pub LackSome : History → List ℕ → List ℕ → Type 0
+LackSome h [] [] = Unit {0}
+LackSome h (set ∷ sets) (some ∷ more) = LacksSome h set some × LackSome h sets more
+LackSome h _ _ = ⊥
+
+abbrev pub PromisingHolds : History → List ℕ → Promising → Type 0
+PromisingHolds h sets (Holds set) = (holds (held h) set ≡ true) × (is_ended h ≡ false)
+PromisingHolds h sets HasEnded = is_ended h ≡ true
+PromisingHolds h sets (Lacks error lacks) = LackSome h sets lacks
+
+abbrev pub PromisingsHold : Type 0
+PromisingsHold = (h : History) (sets : List ℕ) → PromisingHolds h sets (promising h sets)
+
+-- and it tells whether promises allow it
+abbrev pub PromisingsAnswer : Type 0
+PromisingsAnswer = (h : History) (sets : List ℕ) → may_of (promising h sets) ≡ may_any h sets
+
+-- no place has a veil
+abbrev pub NoneKept : History → List Place → Type 0
+NoneKept h places = list_all (λ place. is_none (kept h place)) places ≡ true
+
+-- the veil at this place is the nearest, and were its letters these, they would decide
+pub record DecidesBy (t : Tree) (h : History) (object : Found) (place : Place) (given : ℕ) : Type 0 where
+  pub near : List Place
+  pub far : List Place
+  pub split : places_over t object ≡ near ++ place ∷ far
+  pub none_nearer : NoneKept h near
+  pub kept_here : kept h place ≡ Some given
+  pub were : (letters wanted : ℕ) → (cover_fault (cover t (Unveiled place letters ∷ h) object) wanted ≡ None) ↔ (holds letters wanted ≡ true)
+
+-- what is told of a cover is so
+abbrev pub CoveringHolds : Tree → History → Found → Covering → Type 0
+CoveringHolds t h object InView = list_any is_unveil h ≡ false
+CoveringHolds t h object NoneOver = NoneKept h (places_over t object)
+CoveringHolds t h object (By place given) = DecidesBy t h object place given
+
+abbrev pub CoveringsHold : Type 0
+CoveringsHold = (t : Tree) (h : History) (object : Found) → (cover_of (covering t h object) ≡ cover t h object) × CoveringHolds t h object (covering t h object)
+
+-- with what is told to lack nothing lacks, and it does with no less
+pub record IsLacking (set wanted : ℕ) : Type 0 where
+  pub suffices : holds (bit_or set (lacking set wanted)) wanted ≡ true
+  pub least : (more : ℕ) → holds (bit_or set more) wanted ≡ true → holds more (lacking set wanted) ≡ true
+
+abbrev pub LackingsHold : Type 0
+LackingsHold = (set wanted : ℕ) → IsLacking set wanted
+
+-- what is told of an object is so
+abbrev pub IsDirectoryNow : Object → Type 0
+IsDirectoryNow (IsDir dir way) = Unit {0}
+IsDirectoryNow _ = ⊥
+
+abbrev pub IsNoMissing : Object → Type 0
+IsNoMissing IsMissing = ⊥
+IsNoMissing _ = Unit {0}
+
+abbrev pub MisfitHolds : Tree → Object → Misfit → Type 0
+MisfitHolds t object Missing = object ≡ IsMissing
+MisfitHolds t object Exists = IsNoMissing object
+MisfitHolds t object IsDirectory = IsDirectoryNow object
+MisfitHolds t object IsNoFile = IsDirectoryNow object
+MisfitHolds t object IsNoDirectory = IsNoMissing object × (IsDirectoryNow object → ⊥)
+MisfitHolds t object IsNoLink = IsNoMissing object × (object ≢ IsLink)
+MisfitHolds t object IsNoProgram = IsNoMissing object × (object ≢ IsProg)
+MisfitHolds t object IsNotEmpty = (dir parent : ℕ) × (name : List ℕ) × (object ≡ IsDir dir (way.Named parent name)) × (is_empty t dir ≡ false)
+MisfitHolds t object ByDot = (dir : ℕ) × (object ≡ IsDir dir way.Dot)
+MisfitHolds t object ByDotDot = (dir : ℕ) × (object ≡ IsDir dir way.DotDot)
+MisfitHolds t object ByNothing = (dir : ℕ) × (object ≡ IsDir dir way.Top)
+
+abbrev pub MisfitsHold : Type 0
+MisfitsHold = (t : Tree) (call : Call) (object : Object) → IfSome (misfit t call object) (MisfitHolds t object)

@@ -1,0 +1,38 @@
+//! By which promises a process may do something.
+
+ghost use Rattle.std.specs.Prelude.{◌≡◌, find};
+ghost use Rattle.pua_policy.specs.History.{History, StandsFor};
+ghost use Rattle.pua_policy.specs.Promises.{holds};
+ghost use Rattle.pua_policy.specs.Reasons.{promising, promising_seen};
+
+use crate::process::Process;
+use crate::promises::Promises;
+use crate::reason::Promising;
+
+impl Process {
+    /// By which of these sets it may do what needs all promises of one of them, the first that it
+    /// holds; or why it may not (pledge(2)). `may_any` answers whether it may. Takes no memory.
+    pub fn promising<'s>(&self, sets: &'s [Promises]) -> Promising<'s>
+        ensures { (h : History) → StandsFor self.now h → promising_seen result ≡ promising h sets.now }
+    {
+        if self.ended() {
+            return Promising::HasEnded;
+        }
+        let held = self.held();
+        match first_held(held, sets) {
+            Some(set) => Promising::Holds(set),
+            None => Promising::Lacks {
+                error: held.contains(Promises::ERROR),
+                held,
+                sets,
+            },
+        }
+    }
+}
+
+/// The first of these sets that is held.
+fn first_held(held: Promises, sets: &[Promises]) -> Option<Promises>
+    ensures { result ≡ find (holds held) sets.now }
+{
+    sets.iter().find(|set| held.contains(**set)).copied()
+}

@@ -1,0 +1,156 @@
+-- What is kept of all questions holds behind a further request too.
+use Rattle.std.proofs.Common.{◌≡◌, ℕ, zero, suc, ◌<◌, ◌↔◌, List, [], ◌∷◌, ◌++◌, map, length, true, false, Some, None, Option, refl, sym, ap, subst, ◌∙◌, arith}
+use Rattle.std.specs.Prelude.{IsTrue, IsSome}
+use Rattle.std.specs.Option.{option_to_list}
+use Rattle.std.specs.Ordering.{nat_cmp}
+use Rattle.std.specs.FinMap.{is_sorted}
+use Rattle.std.proofs.lemmas.Bool.{false≢true}
+use Rattle.std.proofs.lemmas.List.{reverse-append}
+use Rattle.std.proofs.lemmas.List.Elements.{All-map, All-push, All-same, All-weaker}
+use Rattle.pua_policy.specs.Calls.{CallTable}
+use Rattle.pua_script.specs.Requests.{Asked}
+use Rattle.pua_script.specs.Replay.{World, answers, apply, world_after}
+use Rattle.pua_script.specs.declared.answer.Answer.{Answer}
+use Rattle.pua_script.specs.declared.answer.Answer.TheVariants.{Okay, Failed, Killed, Gone}
+use Rattle.pua_script.specs.declared.request.Action.{Action}
+use Rattle.pua_script.specs.declared.request.Action.TheVariants.{OnPath, Symlink, Rename, Link, Pledge, Unveil, Lock, Fork, Exit}
+use Rattle.pua_since.specs.Changes.{has_changed, has_forked, LeavesAsIs}
+use Rattle.pua_since.specs.Watched.{AreHanded, AreWatched, IsAbout, IsBegunIn, IsHanded, IsWatched, fork_by, fork_told, fork_seen, forks_done, forks_left, forebear_by, handed_by, made_by}
+use Rattle.pua_since.specs.declared.watch.Question.{Question}
+use Rattle.pua_since.specs.declared.watch.Watch.{Watch}
+use Rattle.pua_since.specs.declared.watches.Fork.{Fork as Made}
+use Rattle.pua_since.specs.declared.watches.Watches.{Watches}
+use Rattle.pua_since.proofs.Forks.{forebears_tell}
+use Rattle.pua_since.proofs.Sincing.{one_more}
+use Rattle.pua_since.proofs.Watching.{begun, came_itself, handed_on, not_forked, stays_handed, stays_watched}
+
+no_fork : (ask : Asked) (answer : Answer) (more : List (ℕ × ℕ)) → has_forked ask.action answer ≡ false → fork_told ask answer more ≡ more
+no_fork ask (Failed errno) more e = refl
+no_fork ask Killed more e = refl
+no_fork ask Gone more e = refl
+no_fork ask Okay more e = by ask.action e
+  where
+    by : (action : Action) → has_forked action Okay ≡ false → fork_by ask action more ≡ more
+    by (Fork new) e = cc
+    by (OnPath call path) e = refl
+    by (Symlink target path) e = refl
+    by (Rename old new) e = refl
+    by (Link old new) e = refl
+    by (Pledge promises execpromises) e = refl
+    by (Unveil path perms) e = refl
+    by Lock e = refl
+    by Exit e = refl
+
+one_fork : (ask : Asked) (answer : Answer) (more : List (ℕ × ℕ)) → has_forked ask.action answer ≡ true →
+    (fork : ℕ × ℕ) × (fork_told ask answer more ≡ fork ∷ more)
+one_fork ask answer more e = by answer ask.action e
+  where
+    by : (answer : Answer) (action : Action) → has_forked action answer ≡ true →
+        (fork : ℕ × ℕ) × (fork_told (record ask { action = action }) answer more ≡ fork ∷ more)
+    by Okay (Fork new) e = ((ask.process, new), refl)
+    by Okay (OnPath call path) e = absurd (false≢true e)
+    by Okay (Symlink target path) e = absurd (false≢true e)
+    by Okay (Rename old new) e = absurd (false≢true e)
+    by Okay (Link old new) e = absurd (false≢true e)
+    by Okay (Pledge promises execpromises) e = absurd (false≢true e)
+    by Okay (Unveil path perms) e = absurd (false≢true e)
+    by Okay Lock e = absurd (false≢true e)
+    by Okay Exit e = absurd (false≢true e)
+    by (Failed errno) action e = absurd (false≢true e)
+    by Killed action e = absurd (false≢true e)
+    by Gone action e = absurd (false≢true e)
+
+-- a list from which nothing was taken is empty
+pub emptied : (made : Option Made) (n : ℕ) → (IsSome made ↔ (0 < n)) → made ≡ None → n ≡ 0
+emptied None zero known is = refl
+emptied None (suc n) known is = absurd (false≢true (known.1 (omega arith)))
+emptied (Some fork) n known is = cc
+
+-- the first fork that is left is the last one that is kept
+popped : (kept : List Made) (made : Option Made) (all : List Made) (first : ℕ × ℕ) (rest : List (ℕ × ℕ)) →
+    all ≡ kept ++ option_to_list made → (made ≡ None → length all ≡ 0) → made_by all ≡ first ∷ rest → made_by kept ≡ rest
+popped kept None all first rest is none made = absurd (empty all (none refl) made)
+  where
+    empty : (all : List Made) → length all ≡ 0 → made_by all ≡ first ∷ rest → ⊥
+    empty [] none made = cc
+    empty (fork ∷ all) none made = absurd (omega (arith, none))
+popped kept (Some fork) all first rest is none made =
+    let turned : made_by all ≡ fork_seen fork ∷ made_by kept = ap made_by is
+    ∙ ap (λ (forks : List Made). map fork_seen forks) (reverse-append kept (fork ∷ [])) in
+    let both : (fork_seen fork ∷ made_by kept) ≡ (first ∷ rest) = sym turned ∙ made in
+    same (fork_seen fork) first (made_by kept) rest both
+  where
+    same : (a b : ℕ × ℕ) (more others : List (ℕ × ℕ)) → (a ∷ more) ≡ (b ∷ others) → more ≡ others
+    same a b more others e = cc
+
+module _ (table : CallTable) (w : World) (done : List Asked) (ask : Asked) (left : List Asked) (s : Watches)
+    (watched : AreWatched table w done (ask ∷ left) s) where
+  abbrev Before : World
+  Before = world_after table w done
+
+  abbrev Next : World
+  Next = (apply table (world_after table w done) ask).1
+
+  abbrev Later : List (ℕ × ℕ)
+  Later = forks_done left (answers table (apply table (world_after table w done) ask).1 left)
+
+  -- no process was made
+  pub stay_handed : has_forked ask.action (apply table Before ask).0 ≡ false → AreHanded table w done ask left s
+  stay_handed none = record {
+    forks = watched.forks ∙ no_fork ask (apply table Before ask).0 Later none;
+    each = All-weaker (IsWatched table w done (ask ∷ left)) (IsHanded table w done ask left)
+        (λ watch. stays_handed table w done ask left watch (λ process. came_itself table Before ask process none)) s.watches.items
+        watched.each;
+  }
+
+  -- one was
+  pub are_handed : (kept : List Made) (made : Option Made) (after : Watches) → has_forked ask.action (apply table Before ask).0 ≡ true
+      → s.forks.items ≡ kept ++ option_to_list made → (made ≡ None → length s.forks.items ≡ 0) → after.forks.items ≡ kept →
+      after.watches.items ≡ map (handed_by (made_by kept)) s.watches.items → AreHanded table w done ask left after
+  are_handed kept made after forked is none forks watches =
+      let first = one_fork ask (apply table Before ask).0 Later forked in
+      let now : made_by kept ≡ Later = popped kept made s.forks.items first.0 Later is none (watched.forks ∙ first.1) in
+      record {
+        forks = ap made_by forks ∙ now;
+        each = All-same (IsHanded table w done ask left) after.watches.items (map (handed_by (made_by kept)) s.watches.items) watches
+            (All-map (IsHanded table w done ask left) (handed_by (made_by kept)) s.watches.items
+            (All-weaker (IsWatched table w done (ask ∷ left)) (λ watch. IsHanded table w done ask left (handed_by (made_by kept) watch))
+            (λ watch. handed_on table w done ask left (made_by kept) now watch) s.watches.items watched.each));
+      }
+
+  -- nothing was changed
+  pub stay_watched : has_changed ask.action (apply table Before ask).0 ≡ false → Next ≡ Before →
+      AreWatched table w (done ++ ask ∷ []) left s
+  stay_watched none same =
+      let alone = not_forked ask.action (apply table Before ask).0 none in
+      record {
+        forks = watched.forks ∙ no_fork ask (apply table Before ask).0 Later alone
+            ∙ ap (λ v. forks_done left (answers table v left)) (sym (one_more table w done ask));
+        each = All-weaker (IsWatched table w done (ask ∷ left)) (IsWatched table w (done ++ ask ∷ []) left)
+            (λ watch. stays_watched table w done ask left watch same (λ process. came_itself table Before ask process alone))
+            s.watches.items watched.each;
+      }
+
+-- a question is added at the start
+pub one_added : (table : CallTable) (w : World) (left : List Asked) (s after : Watches) (process asker : ℕ) (question : Question)
+    (last : ℕ) (watch : Watch) → AreWatched table w [] left s
+    → asker ≡ forebear_by (forks_left s) process → IsAbout process asker question last watch → IsBegunIn table w asker watch →
+    after.forks ≡ s.forks → after.watches.items ≡ s.watches.items ++ watch ∷ [] → AreWatched table w [] left after
+one_added table w left s after process asker question last watch watched is about at_first forks watches = record {
+  forks = ap (λ made. made_by made.items) forks ∙ watched.forks;
+  each = All-same (IsWatched table w [] left) after.watches.items (s.watches.items ++ watch ∷ []) watches
+      (All-push (IsWatched table w [] left) s.watches.items watch watched.each
+      (begun table w left process asker question last watch
+      (is ∙ ap (λ made. forebear_by made process) watched.forks ∙ forebears_tell table w left process) about at_first));
+}
+
+-- the same by what is known of an answer
+pub told_stay : (action : Action) (answer : Answer) → LeavesAsIs action answer → has_changed action answer ≡ false →
+    (table : CallTable) (w : World) (done : List Asked) (ask : Asked) (left : List Asked) (s : Watches) →
+    action ≡ ask.action → IsTrue (is_sorted nat_cmp (world_after table w done).histories) →
+    answer ≡ (apply table (world_after table w done) ask).0 →
+    AreWatched table w done (ask ∷ left) s → AreWatched table w (done ++ ask ∷ []) left s
+told_stay action answer leaves none table w done ask left s is sorted told watched =
+    let here : LeavesAsIs ask.action answer = subst (λ a. LeavesAsIs a answer) is leaves in
+    stay_watched table w done ask left s watched ((λ i. has_changed (sym is i) (sym told i)) ∙ none)
+    (here table (world_after table w done) ask.process sorted told)

@@ -1,0 +1,96 @@
+-- A request that can't have changed a world leaves it as it is.
+use Rattle.std.proofs.Common.{◌≡◌, ℕ, List, Bool, true, false, cond, Some, Ok, refl, sym, ap, subst, ◌∙◌}
+use Rattle.std.specs.Prelude.{IsTrue, T}
+use Rattle.std.specs.declared.cmp.Ordering.{Ordering}
+use Rattle.std.specs.declared.cmp.Ordering.TheVariants.{Less, Equal, Greater}
+use Rattle.std.specs.Ordering.{nat_cmp, is_eq}
+use Rattle.std.specs.Cmp.{nat_cmp_total}
+use Rattle.std.specs.FinMap.{put, find as find_key, is_sorted, nat_cmp-IsAntisymmetric}
+use Rattle.std.specs.FinMap.Entries.{find-put, find_tied, is_sorted-put, same_entries}
+use Rattle.pua_path.specs.declared.found.Found.{Found}
+use Rattle.pua_policy.specs.Calls.{CallTable}
+use Rattle.pua_policy.specs.History.{History}
+use Rattle.pua_policy.specs.declared.call.Call.{Call}
+use Rattle.pua_policy.specs.declared.call.Call.TheVariants as call
+use Rattle.pua_policy.specs.declared.answer.Refusal.{Refusal}
+use Rattle.pua_policy.specs.declared.answer.Refusal.TheVariants.{Failed, Killed}
+use Rattle.pua_script.specs.Requests.{Asked}
+use Rattle.pua_script.specs.Decide.{Change, NoChange, change_by, decide}
+use Rattle.pua_script.specs.Replay.{World, apply, Effect, Fails, Kills, Leaves, Copies, history_of, answer_to, left_by, made, refused}
+use Rattle.pua_script.specs.declared.answer.Answer.{Answer}
+use Rattle.pua_script.specs.declared.request.Action.{Action}
+use Rattle.pua_script.specs.declared.request.Action.TheVariants.{OnPath, Symlink, Rename, Link, Pledge, Unveil, Lock, Fork, Exit}
+use Rattle.pua_script.proofs.ForCallers.{by_request, by_decision, decisions_are_guarded}
+use Rattle.pua_since.specs.Changes.{call_changes, action_changes, has_changed, LeavesAsIs}
+
+ordered : (b : Bool) → b ≡ true → T b
+ordered b e = subst T (sym e) tt
+
+-- putting what is there
+put_there : (process : ℕ) (h : History) (made : List (ℕ × History)) → IsTrue (is_sorted nat_cmp made) →
+    find_key nat_cmp process made ≡ Some h → put nat_cmp process h made ≡ made
+put_there process h made sorted here =
+    let in_order : T (is_sorted nat_cmp made) = ordered _ sorted in
+    same_entries nat_cmp nat_cmp_total nat_cmp-IsAntisymmetric (put nat_cmp process h made) made
+    (is_sorted-put nat_cmp nat_cmp_total process h made in_order) in_order
+    (λ q. find-put nat_cmp nat_cmp_total q process h made ∙ by q (nat_cmp q process) refl)
+  where
+    by : (q : ℕ) (o : Ordering) → nat_cmp q process ≡ o → cond (is_eq o) (Some h) (find_key nat_cmp q made) ≡ find_key nat_cmp q made
+    by q Equal tied = sym here ∙ find_tied nat_cmp nat_cmp_total q process tied made
+    by q Less tied = refl
+    by q Greater tied = refl
+
+-- the calls that change nothing
+no_change : (table : CallTable) (c : Call) (object : Found) → call_changes c ≡ false → change_by table c object ≡ NoChange
+no_change table call.Create object e = cc
+no_change table call.Mkdir object e = cc
+no_change table call.Rmdir object e = cc
+no_change table call.Unlink object e = cc
+no_change table call.Symlink object e = cc
+no_change table call.Chdir object e = cc
+no_change table call.Exec object e = cc
+no_change table _ object e = refl
+
+module _ (table : CallTable) (w : World) (ask : Asked) (sorted : IsTrue (is_sorted nat_cmp w.histories)) (h : History)
+    (here : history_of w ask.process ≡ Some h) where
+  kept : left_by w ask.process h (made w h NoChange) ≡ w
+  kept = ap (λ histories. record w { histories = histories }) (put_there ask.process h w.histories sorted here)
+
+  by_action : (action : Action) (c : Change) → decide table w.tree h action ≡ Ok c → action_changes action ≡ false →
+      left_by w ask.process h (made w h c) ≡ w
+  by_action (OnPath asked path) c is e =
+      let guarded = decisions_are_guarded table w.tree h (OnPath asked path) c is in
+      ap (λ d. left_by w ask.process h (made w h d)) (guarded.2 ∙ no_change table asked guarded.0 e) ∙ kept
+  by_action (Symlink target path) c is e = cc
+  by_action (Rename old new) c is e = cc
+  by_action (Link old new) c is e = cc
+  by_action (Pledge promises execpromises) c is e = cc
+  by_action (Unveil path perms) c is e = cc
+  by_action Lock c is e = cc
+  by_action (Fork new) c is e = cc
+  by_action Exit c is e = cc
+
+  by_effect : (e : Effect) → (action_changes ask.action ≡ false → left_by w ask.process h e ≡ w) →
+      has_changed ask.action (answer_to e) ≡ false → left_by w ask.process h e ≡ w
+  by_effect (Fails errno) okay none = refl
+  by_effect Kills okay none = cc
+  by_effect (Leaves t after) okay none = okay none
+  by_effect (Copies new) okay none = okay none
+
+  refusing : (r : Refusal) → has_changed ask.action (answer_to (refused r)) ≡ false → left_by w ask.process h (refused r) ≡ w
+  refusing (Failed errno) none = refl
+  refusing Killed none = cc
+
+unchanged : (table : CallTable) (w : World) (ask : Asked) → IsTrue (is_sorted nat_cmp w.histories) →
+    has_changed ask.action (apply table w ask).0 ≡ false → (apply table w ask).1 ≡ w
+unchanged table w ask sorted =
+    by_request table w ask (λ done. has_changed ask.action done.0 ≡ false → done.1 ≡ w) (λ none. refl)
+    λ h here. by_decision w h (λ e. has_changed ask.action (answer_to e) ≡ false → left_by w ask.process h e ≡ w)
+    (decide table w.tree h ask.action)
+    (refusing table w ask sorted h here)
+    (λ c is. by_effect table w ask sorted h here (made w h c) (by_action table w ask sorted h here ask.action c is))
+
+-- a request that can't have changed a world leaves it as it is
+pub unchanged_stay : (action : Action) (answer : Answer) → has_changed action answer ≡ false → LeavesAsIs action answer
+unchanged_stay action answer none table w process sorted told =
+    unchanged table w (record { process = process; action = action }) sorted (ap (has_changed action) (sym told) ∙ none)

@@ -1,0 +1,6 @@
+use Rattle.std.proofs.Common.{◌≡◌, map, take, flat_map}
+use Rattle.pua_since.specs.Dates.{veil_seen, veils_at}
+use Rattle.pua_since.proofs.veils.veils_of.Given as goal
+
+abbrev pub invariant-loop-number : goal.invariant-loop-number
+invariant-loop-number g l = map veil_seen l.all.items ≡ flat_map (veils_at l.world) (take l.number-index l.numbers)

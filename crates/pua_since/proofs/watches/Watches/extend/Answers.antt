@@ -1,0 +1,34 @@
+use Rattle.std.proofs.Common.{◌≡◌, ◌<◌, true, false, Some, refl, ap, length, arith, rules}
+use Rattle.std.specs.Prelude.{slice_get}
+use Rattle.std.proofs.lemmas.Option.{slice_get_read, slice_get_within}
+use Rattle.pua_since.specs.Watched.{IsSameTopic}
+use Rattle.pua_since.proofs.Topics.{kept_by_set, topic_by_set}
+use Rattle.pua_since.proofs.watches.Watches.extend.Goals as goal
+
+pub returns-in-Some-clause-place : goal.returns-in-Some-clause-place
+returns-in-Some-clause-place c =
+    let items = c.args.self.now.watches.items in
+    let here : slice_get items c.args.place ≡ Some c.in-Some.watch.now = search (rules, slice_get_read) in
+    let same : IsSameTopic c.in-Some.watch.now c.extend.new.self = record {
+      process = ap (λ watch. watch.process) c.extend.ensures;
+      question = ap (λ watch. watch.question) c.extend.ensures;
+      wanted = omega (arith, ap (λ watch. watch.last) c.extend.ensures);
+    } in
+    λ process question before topic. topic_by_set items c.args.place c.in-Some.watch.now c.extend.new.self here same process question
+    before c.args.last (omega (arith, ap (λ watch. watch.last) c.extend.ensures)) topic
+
+pub returns-in-Some-clause-kept : goal.returns-in-Some-clause-kept
+returns-in-Some-clause-kept c =
+    let items = c.args.self.now.watches.items in
+    let here : slice_get items c.args.place ≡ Some c.in-Some.watch.now = search (rules, slice_get_read) in
+    kept_by_set items c.args.place c.in-Some.watch.now c.extend.new.self here record {
+      process = ap (λ watch. watch.process) c.extend.ensures;
+      question = ap (λ watch. watch.question) c.extend.ensures;
+      wanted = omega (arith, ap (λ watch. watch.last) c.extend.ensures);
+    }
+
+-- where there is a question there is a place
+pub returns-in_default-clause-place : goal.returns-in_default-clause-place
+returns-in_default-clause-place c = λ process question before topic.
+    let within : c.args.place < length c.args.self.now.watches.items = slice_get_within c.args.self.now.watches.items c.args.place topic.watch topic.stands in
+    let no : false ≡ true = c.in_default.ensures.variant.1 (search (rules, within)) in cc

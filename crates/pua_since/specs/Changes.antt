@@ -1,0 +1,44 @@
+-- Which requests may have changed a world, by their answers.
+use Rattle.std.specs.Prelude.{◌≡◌, ℕ, Bool, true, false, IsTrue}
+use Rattle.std.specs.Ordering.{nat_cmp}
+use Rattle.std.specs.FinMap.{is_sorted}
+use Rattle.pua_policy.specs.Calls.{CallTable}
+use Rattle.pua_policy.specs.declared.call.Call.{Call}
+use Rattle.pua_policy.specs.declared.call.Call.TheVariants as call
+use Rattle.pua_script.specs.Replay.{World, apply}
+use Rattle.pua_script.specs.Worlds.{is_fork}
+use Rattle.pua_script.specs.declared.answer.Answer.{Answer}
+use Rattle.pua_script.specs.declared.answer.Answer.TheVariants.{Okay, Killed}
+use Rattle.pua_script.specs.declared.request.Action.{Action}
+use Rattle.pua_script.specs.declared.request.Action.TheVariants.{OnPath}
+
+-- the calls that change something where they are done
+abbrev pub call_changes : Call → Bool
+call_changes call.Create = true
+call_changes call.Mkdir = true
+call_changes call.Rmdir = true
+call_changes call.Unlink = true
+call_changes call.Symlink = true
+call_changes call.Chdir = true
+call_changes call.Exec = true
+call_changes _ = false
+
+abbrev pub action_changes : Action → Bool
+action_changes (OnPath call path) = call_changes call
+action_changes _ = true
+
+-- one that failed changed nothing
+abbrev pub has_changed : Action → Answer → Bool
+has_changed action Okay = action_changes action
+has_changed action Killed = true
+has_changed action _ = false
+
+abbrev pub has_forked : Action → Answer → Bool
+has_forked action Okay = is_fork action
+has_forked action _ = false
+
+-- a request that can't have changed anything leaves each world of the replay as it is, where it is answered so
+abbrev pub LeavesAsIs : Action → Answer → Type 0
+LeavesAsIs action answer = (table : CallTable) (w : World) (process : ℕ) → IsTrue (is_sorted nat_cmp w.histories) →
+    answer ≡ (apply table w (record { process = process; action = action })).0 →
+    (apply table w (record { process = process; action = action })).1 ≡ w

@@ -1,0 +1,18 @@
+//! Since which line of a script something is so, and the texts that tell it: the lines of a run with
+//! their reasons, and the chain of what decides one request.
+//!
+//! A script is served once more, and each question is asked again behind each line that may have
+//! changed the world.
+#![tactic(auto)]
+
+mod chain;
+mod change;
+mod reason_line;
+mod reason_lines;
+mod veils;
+mod watch;
+mod watches;
+
+pub use chain::chain_text;
+pub use reason_lines::reason_text;
+pub use veils::{dated_text, veils_of};

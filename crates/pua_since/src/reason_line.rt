@@ -1,0 +1,89 @@
+//! Answers with their reasons, as they are written.
+
+ghost use Rattle.std.specs.Prelude.{◌≡◌, ◌++◌, OnOk, string_bytes};
+ghost use Rattle.pua_script.specs.Replay.{World as Replayed, apply};
+ghost use Rattle.pua_script.specs.Worlds.{StandsForWorld};
+ghost use Rattle.pua_why.specs.Reasons.{reason};
+ghost use Rattle.pua_why.specs.Seen.{reason_seen};
+ghost use Rattle.pua_why.specs.Texts.{date_of, reason_text, since_text, spaced, words};
+
+use pua_script::{Action, Answer, World};
+use pua_tree::FileTree;
+use pua_why::{Fault, Reason, TreePaths, push_reason, push_since, reason};
+use std::alloc::{AllocError, Global};
+use std::fmt::Write;
+
+/// Adds what a request is answered in a world, and if that is not `ok`, why, and since which line, if
+/// that is told.
+pub(crate) fn push_answer<T: FileTree>(
+    alloc: Global,
+    text: &mut String,
+    world: &World<T>,
+    process: u32,
+    action: &Action,
+    answer: Answer,
+    line: Option<usize>,
+) -> Result<(), AllocError>
+    ensures { OnOk result ((w : Replayed) → StandsForWorld world.now w →
+        answer ≡ (apply world.now.table w (record { process = process; action = action.now })).0 →
+        string_bytes text.new ≡ string_bytes text.old
+        ++ (words world.now.table w (record { process = process; action = action.now })
+        ++ since_text (date_of (reason world.now.table w
+        (record { process = process; action = action.now })) line))) }
+{
+    if let Answer::Okay = answer {
+        return text.push_str("ok");
+    }
+    let Ok(reason) = reason(alloc, world, process, action, answer) else {
+        return Err(AllocError);
+    };
+    write!(text, "{answer}")?;
+    push_words(alloc, text, world, &reason)?;
+    push_since(text, date_of(&reason, line))
+}
+
+/// Adds the words of a reason, by the paths of a world's tree, with a blank before them, if it has any.
+fn push_words<T: FileTree>(
+    alloc: Global,
+    text: &mut String,
+    world: &World<T>,
+    reason: &Reason<'_>,
+) -> Result<(), AllocError>
+    ensures { OnOk result (string_bytes text.new ≡ string_bytes text.old
+        ++ spaced (reason_text world.now.tree (reason_seen reason.now))) }
+{
+    // These have no path, and a script may have many: the rows of the tree are not gathered for them.
+    match reason {
+        Reason::NeverMade => return text.push_str(" never made"),
+        Reason::Ended => return text.push_str(" ended"),
+        Reason::Refused(_) | Reason::Granted => {}
+    }
+    let Ok(mut paths) = TreePaths::new(alloc, world.tree()) else {
+        return Err(AllocError);
+    };
+    let mut words = String::new(alloc);
+    push_reason(alloc, &mut words, &mut paths, reason)?;
+    push_spaced(text, words.as_str())
+}
+
+/// Adds words with a blank before them, if there are any.
+fn push_spaced(text: &mut String, words: &str) -> Result<(), AllocError>
+    ensures { OnOk result (string_bytes text.new ≡ string_bytes text.old ++ spaced words.now) }
+{
+    if words.is_empty() {
+        return Ok(());
+    }
+    text.push_str(" ")?;
+    text.push_str(words)
+}
+
+/// Since which line a reason is told. That a process was never made was so from the start, and since
+/// when a tree is full is not told.
+fn date_of(reason: &Reason<'_>, line: Option<usize>) -> Option<usize>
+    ensures { result ≡ date_of (reason_seen reason.now) line }
+{
+    match reason {
+        Reason::Granted | Reason::NeverMade | Reason::Refused(Fault::NoRoom) => None,
+        Reason::Ended | Reason::Refused(_) => line,
+    }
+}

@@ -1,0 +1,202 @@
+//! The lines of a run with reasons.
+
+ghost use Rattle.std.specs.Prelude.{◌≡◌, ◌++◌, ◌∷◌, [], ℕ, List, Ok, IfOk, OnOk, decimal, flat_map, string_bytes};
+ghost use Rattle.pua_script.specs.AnswerTexts.{ended};
+ghost use Rattle.pua_script.specs.Replay.{World as Replayed, answers, apply, world_after};
+ghost use Rattle.pua_script.specs.Requests.{Asked};
+ghost use Rattle.pua_script.specs.Scripts.{request_of, script};
+ghost use Rattle.std.specs.Slice.Iter.{iter_rest};
+ghost use Rattle.pua_script.specs.Worlds.{StandsForWorld};
+ghost use Rattle.pua_why.specs.Reasons.{reason};
+ghost use Rattle.pua_why.specs.Texts.{date_of, since_text, why_lines, words};
+ghost use Rattle.pua_since.specs.Dates.{AreKnown, ArePlacesOf, IsRequestAt, line_of, places_left};
+ghost use Rattle.pua_since.specs.Watched.{AreWatched, IsKeptThrough};
+
+use crate::reason_line::push_answer;
+use crate::watch::Question;
+use crate::watches::Watches;
+use bstr::ByteSlice;
+use indexmap::IndexMap;
+use itoa::Buffer;
+use pua_script::{Answer, Request, World};
+use pua_tree::{FileTree, OutOfMemory};
+use std::alloc::{AllocError, Global};
+use std::slice::Iter;
+
+/// The questions of a script's lines, and for each line that is not answered `ok` the place of its own
+/// among them, in the order of the lines.
+///
+/// Lines with the same bytes ask the same, so each is asked about once.
+pub(crate) fn watch_lines<'a, T: FileTree>(
+    alloc: Global,
+    world: &World<T>,
+    script_bytes: &[u8],
+    requests: &'a [Request],
+    told: &[Answer],
+    watches: &mut Watches<'a>,
+) -> Result<Vec<usize>, OutOfMemory>
+    ensures places { IfOk result (λ places. (w : Replayed) → StandsForWorld world.now w →
+        script script_bytes.now ≡ Ok requests.now →
+        told.now ≡ answers world.now.table w requests.now →
+        ArePlacesOf watches.new.watches.items 0 requests.now told.now places.items) }
+    ensures watched { OnOk result ((w : Replayed) (left : List Asked) →
+        StandsForWorld world.now w → AreWatched world.now.table w [] left watches.old →
+        AreWatched world.now.table w [] left watches.new) }
+    ensures kept { OnOk result (IsKeptThrough watches.old.watches.items
+        watches.new.watches.items) }
+{
+    let mut known = IndexMap::new(alloc);
+    let mut places = Vec::new(alloc);
+    let lines = script_bytes.lines().zip(requests.iter().zip(told));
+    for (done, (line, (request, answer))) in lines.enumerate() {
+        if let Answer::Okay = answer {
+            continue;
+        }
+        let place = place_of(alloc, world, request, done, line, &mut known, watches)?;
+        let Ok(()) = places.push(place) else {
+            return Err(OutOfMemory);
+        };
+    }
+    Ok(places)
+}
+
+/// The place of the question of a line behind so many others: of an earlier one with the same bytes, or
+/// its own.
+fn place_of<'a, 'l, T: FileTree>(
+    alloc: Global,
+    world: &World<T>,
+    request: &'a Request,
+    done: usize,
+    line: &'l [u8],
+    known: &mut IndexMap<&'l [u8], usize>,
+    watches: &mut Watches<'a>,
+) -> Result<usize, OutOfMemory>
+    ensures place { IfOk result (λ place. (n : ℕ) →
+        AreKnown watches.old.watches.items known.old.entries →
+        request_of n line.now ≡ Ok request.now →
+        IsRequestAt watches.new.watches.items place request.now done) }
+    ensures known { OnOk result ((n : ℕ) →
+        AreKnown watches.old.watches.items known.old.entries →
+        request_of n line.now ≡ Ok request.now →
+        AreKnown watches.new.watches.items known.new.entries) }
+    ensures watched { OnOk result ((w : Replayed) (left : List Asked) →
+        StandsForWorld world.now w → AreWatched world.now.table w [] left watches.old →
+        AreWatched world.now.table w [] left watches.new) }
+    ensures kept { OnOk result (IsKeptThrough watches.old.watches.items
+        watches.new.watches.items) }
+{
+    if let Some(place) = known.get(&line) {
+        watches.extend(*place, done);
+        return Ok(*place);
+    }
+    let question = Question::Request(request.action());
+    let place = watches.add(alloc, world, request.process(), question, done)?;
+    match known.insert(line, place) {
+        Ok(_) => Ok(place),
+        Err(_) => Err(OutOfMemory),
+    }
+}
+
+/// A line for each request, with its number, what it is answered, and if that is not `ok`, why, and
+/// since which line. The world is the one before them, and serves them; the questions of those that are
+/// not answered `ok` stand at these places.
+pub(crate) fn lines_text<T: FileTree>(
+    alloc: Global,
+    world: &mut World<T>,
+    requests: &[Request],
+    told: &[Answer],
+    places: &[usize],
+    watches: &mut Watches<'_>,
+) -> Result<String, OutOfMemory>
+    ensures text { IfOk result (λ text. (w : Replayed) → StandsForWorld world.old w →
+        told.now ≡ answers world.old.table w requests.now →
+        AreWatched world.old.table w [] requests.now watches.old →
+        ArePlacesOf watches.old.watches.items 0 requests.now told.now places.now →
+        string_bytes text ≡ flat_map ended (why_lines world.old.table w [] 1 requests.now)) }
+    ensures watched { OnOk result ((w : Replayed) → StandsForWorld world.old w →
+        told.now ≡ answers world.old.table w requests.now →
+        AreWatched world.old.table w [] requests.now watches.old →
+        AreWatched world.old.table w requests.now [] watches.new) }
+    ensures world { OnOk result ((w : Replayed) → StandsForWorld world.old w →
+        told.now ≡ answers world.old.table w requests.now →
+        StandsForWorld world.new (world_after world.old.table w requests.now)
+        × (world.new.table ≡ world.old.table)) }
+    ensures kept { OnOk result (IsKeptThrough watches.old.watches.items
+        watches.new.watches.items) }
+{
+    let mut text = String::new(alloc);
+    let mut left = places.iter();
+    for (done, (request, answer)) in requests.iter().zip(told).enumerate() {
+        let line = next_line(watches, *answer, &mut left);
+        let number = done + 1;
+        let Ok(()) = push_line(alloc, &mut text, number, world, request, *answer, line) else {
+            return Err(OutOfMemory);
+        };
+        watches.serve(alloc, world, request, *answer, number)?;
+    }
+    Ok(text)
+}
+
+/// Since which line the next of these questions is told what it is, which is asked about a request that
+/// is answered so; None where that is `ok`, so that it has no question.
+fn next_line(watches: &Watches<'_>, answer: Answer, left: &mut Iter<'_, usize>) -> Option<usize>
+    ensures line { result ≡ line_of watches.now.watches.items answer (iter_rest left.old) }
+    ensures left { iter_rest left.new ≡ places_left answer (iter_rest left.old) }
+{
+    match answer {
+        Answer::Okay => None,
+        _ => watches.line(*left.next()?),
+    }
+}
+
+/// Adds the line of the request with this number.
+fn push_line<T: FileTree>(
+    alloc: Global,
+    text: &mut String,
+    number: usize,
+    world: &World<T>,
+    request: &Request,
+    answer: Answer,
+    line: Option<usize>,
+) -> Result<(), AllocError>
+    ensures { OnOk result ((w : Replayed) → StandsForWorld world.now w →
+        answer ≡ (apply world.now.table w request.now).0 →
+        string_bytes text.new ≡ string_bytes text.old ++ ended (decimal number ++ 32 ∷
+        (words world.now.table w request.now
+        ++ since_text (date_of (reason world.now.table w request.now) line)))) }
+{
+    let mut digits = Buffer::new();
+    text.push_str(digits.format(number))?;
+    text.push_str(" ")?;
+    let (process, action) = (request.process(), request.action());
+    push_answer(alloc, text, world, process, action, answer, line)?;
+    text.push_str("\n")
+}
+
+/// The text of a run of a script with reasons: a line for each of its requests, with its number, what
+/// it is answered, and if that is not `ok`, why, and since which line that is so, unless it was so from
+/// the start. The script was read from these bytes, and its requests were answered so, in a world as
+/// this one, which serves them. The only error is that a growth was refused.
+pub fn reason_text<T: FileTree>(
+    alloc: Global,
+    world: &mut World<T>,
+    script_bytes: &[u8],
+    requests: &[Request],
+    told: &[Answer],
+) -> Result<String, OutOfMemory>
+    ensures { IfOk result (λ text. (w : Replayed) → StandsForWorld world.old w →
+        script script_bytes.now ≡ Ok requests.now →
+        told.now ≡ answers world.old.table w requests.now →
+        string_bytes text ≡ flat_map ended (why_lines world.old.table w [] 1 requests.now)) }
+{
+    let mut watches = Watches::new(alloc, requests, told)?;
+    let places = watch_lines(alloc, world, script_bytes, requests, told, &mut watches)?;
+    lines_text(
+        alloc,
+        world,
+        requests,
+        told,
+        places.as_slice(),
+        &mut watches,
+    )
+}

@@ -1,0 +1,243 @@
+//! The questions of a replay, and the processes that they are about.
+
+ghost use Rattle.std.specs.Prelude.{◌≡◌, ℕ, ◌<◌, ◌+◌, ◌++◌, ◌∷◌, [], List, IfOk, OnOk, length, map};
+ghost use Rattle.pua_policy.specs.Calls.{CallTable};
+ghost use Rattle.pua_script.specs.Replay.{World as Replayed, answers, apply, world_after};
+ghost use Rattle.pua_script.specs.Requests.{Asked};
+ghost use Rattle.pua_script.specs.Worlds.{StandsForWorld};
+ghost use Rattle.pua_since.specs.declared.watch.Question.{Question as Asking};
+ghost use Rattle.pua_since.specs.Watched.{AreHanded, AreWatched, IsKeptThrough, IsTopicAt, forebear_by, fork_seen, fork_told, forks_done, forks_left, handed_by, line_at, made_by};
+
+use crate::change::{has_changed, has_forked};
+use crate::watch::{Question, Watch};
+use pua_script::{Action, Answer, Request, World};
+use pua_tree::{FileTree, OutOfMemory};
+use std::alloc::Global;
+
+/// A fork that was done: the process that asked for it, and the one that it made.
+#[derive(Clone, Copy)]
+struct Fork {
+    parent: u32,
+    child: u32,
+}
+
+/// The forks of a script that are still to be done, and the questions of its replay.
+#[derive(Drop)]
+pub(crate) struct Watches<'a> {
+    /// The forks that are still to be done, the last one first.
+    forks: Vec<Fork>,
+    watches: Vec<Watch<'a>>,
+}
+
+impl<'a> Watches<'a> {
+    /// No question yet, of the replay of these requests, which were answered so.
+    pub(crate) fn new(
+        alloc: Global,
+        requests: &[Request],
+        told: &[Answer],
+    ) -> Result<Watches<'a>, OutOfMemory>
+        ensures watched { IfOk result (λ watches. (table : CallTable) (w : Replayed) →
+            told.now ≡ answers table w requests.now →
+            AreWatched table w [] requests.now watches) }
+        ensures none { IfOk result (λ watches. watches.watches.items ≡ []) }
+    {
+        Ok(Watches {
+            forks: forks_of(alloc, requests, told)?,
+            watches: Vec::new(alloc),
+        })
+    }
+
+    /// Adds a question about a process, whose answer is wanted behind so many lines, and answers
+    /// its place. It is asked of the world in which the replay begins.
+    pub(crate) fn add<T: FileTree>(
+        &mut self,
+        alloc: Global,
+        world: &World<T>,
+        process: u32,
+        question: Question<'a>,
+        last: usize,
+    ) -> Result<usize, OutOfMemory>
+        ensures place { IfOk result (λ place.
+            IsTopicAt self.new.watches.items place process question.entry last) }
+        ensures watched { OnOk result ((w : Replayed) (left : List Asked) →
+            StandsForWorld world.now w → AreWatched world.now.table w [] left self.old →
+            AreWatched world.now.table w [] left self.new) }
+        ensures kept { IsKeptThrough self.old.watches.items self.new.watches.items }
+    {
+        let asker = forebear(&self.forks, process);
+        let watch = Watch::begin(alloc, world, process, asker, question, last)?;
+        let place = self.watches.len();
+        let Ok(()) = self.watches.push(watch) else {
+            return Err(OutOfMemory);
+        };
+        Ok(place)
+    }
+
+    /// Has the answer to a question wanted behind so many lines too, if there is one at this place.
+    pub(crate) fn extend(&mut self, place: usize, last: usize)
+        ensures place { (process : ℕ) (question : Asking) (before : ℕ) →
+            IsTopicAt self.old.watches.items place process question before →
+            IsTopicAt self.new.watches.items place process question last }
+        ensures watched { (table : CallTable) (w : Replayed) (left : List Asked) →
+            AreWatched table w [] left self.old → AreWatched table w [] left self.new }
+        ensures kept { IsKeptThrough self.old.watches.items self.new.watches.items }
+    {
+        if let Some(watch) = self.watches.get_mut(place) {
+            watch.extend(last);
+        }
+    }
+
+    /// Since which line the question at this place is told what it is told now; None where it was
+    /// from the start, or where there is no such question.
+    pub(crate) fn line(&self, place: usize) -> Option<usize>
+        ensures { result ≡ line_at self.now.watches.items place }
+    {
+        self.watches.get(place)?.line()
+    }
+
+    /// Serves the next request of the replay, on this line, which was answered so, and asks each
+    /// question again, if the request may have changed anything.
+    pub(crate) fn serve<T: FileTree>(
+        &mut self,
+        alloc: Global,
+        world: &mut World<T>,
+        request: &Request,
+        answer: Answer,
+        line: usize,
+    ) -> Result<(), OutOfMemory>
+        ensures watched { OnOk result ((w : Replayed) (done left : List Asked) →
+            StandsForWorld world.old (world_after world.old.table w done) →
+            answer ≡ (apply world.old.table (world_after world.old.table w done) request.now).0 →
+            line ≡ length done + 1 →
+            AreWatched world.old.table w done (request.now ∷ left) self.old →
+            AreWatched world.old.table w (done ++ request.now ∷ []) left self.new) }
+        ensures world { OnOk result ((w : Replayed) →
+            StandsForWorld world.old w →
+            StandsForWorld world.new (apply world.old.table w request.now).1
+            × (world.new.table ≡ world.old.table)) }
+        ensures kept { IsKeptThrough self.old.watches.items self.new.watches.items }
+    {
+        let Ok(_) = world.apply(request) else {
+            return Err(OutOfMemory);
+        };
+        if !has_changed(request.action(), answer) {
+            return Ok(());
+        }
+        self.hand_on(request.action(), answer);
+        self.ask_again(alloc, world, line)
+    }
+
+    /// Serves all requests of the replay, which were answered so.
+    pub(crate) fn serve_all<T: FileTree>(
+        &mut self,
+        alloc: Global,
+        world: &mut World<T>,
+        requests: &[Request],
+        told: &[Answer],
+    ) -> Result<(), OutOfMemory>
+        ensures watched { OnOk result ((w : Replayed) → StandsForWorld world.old w →
+            told.now ≡ answers world.old.table w requests.now →
+            AreWatched world.old.table w [] requests.now self.old →
+            AreWatched world.old.table w requests.now [] self.new) }
+        ensures world { OnOk result ((w : Replayed) → StandsForWorld world.old w →
+            told.now ≡ answers world.old.table w requests.now →
+            StandsForWorld world.new (world_after world.old.table w requests.now)
+            × (world.new.table ≡ world.old.table)) }
+        ensures kept { IsKeptThrough self.old.watches.items self.new.watches.items }
+    {
+        for (index, (request, answer)) in requests.iter().zip(told).enumerate() {
+            self.serve(alloc, world, request, *answer, index + 1)?;
+        }
+        Ok(())
+    }
+
+    /// Has each question asked behind this action, which was answered so, by who it is about there.
+    fn hand_on(&mut self, action: &Action, answer: Answer)
+        ensures handed { (table : CallTable) (w : Replayed) (done : List Asked) (ask : Asked)
+            (left : List Asked) → ask.action ≡ action.now →
+            answer ≡ (apply table (world_after table w done) ask).0 →
+            AreWatched table w done (ask ∷ left) self.old →
+            AreHanded table w done ask left self.new }
+        ensures kept { IsKeptThrough self.old.watches.items self.new.watches.items }
+    {
+        if has_forked(action, answer) {
+            let _ = self.forks.pop();
+            self.find_askers();
+        }
+    }
+
+    /// Finds who asks each question in the world behind the forks that were done.
+    fn find_askers(&mut self)
+        ensures askers { self.new.watches.items
+            ≡ map (handed_by (forks_left self.old)) self.old.watches.items }
+        ensures forks { self.new.forks ≡ self.old.forks }
+    {
+        for watch in self.watches.iter_mut() {
+            watch.hand_to(forebear(&self.forks, watch.process()));
+        }
+    }
+
+    /// Asks each question again whose answer is wanted behind this line.
+    fn ask_again<T: FileTree>(
+        &mut self,
+        alloc: Global,
+        world: &World<T>,
+        line: usize,
+    ) -> Result<(), OutOfMemory>
+        ensures asked { OnOk result ((w : Replayed) (done : List Asked) (ask : Asked)
+            (left : List Asked) →
+            StandsForWorld world.now
+            (apply world.now.table (world_after world.now.table w done) ask).1 →
+            line ≡ length done + 1 → AreHanded world.now.table w done ask left self.old →
+            AreWatched world.now.table w (done ++ ask ∷ []) left self.new) }
+        ensures kept { IsKeptThrough self.old.watches.items self.new.watches.items }
+    {
+        for watch in self.watches.iter_mut() {
+            watch.ask(alloc, world, line)?;
+        }
+        Ok(())
+    }
+}
+
+/// The forks among requests that were done, the last one first.
+fn forks_of(alloc: Global, requests: &[Request], told: &[Answer]) -> Result<Vec<Fork>, OutOfMemory>
+    ensures { IfOk result (λ forks. made_by forks.items ≡ forks_done requests.now told.now) }
+{
+    let mut forks = Vec::new(alloc);
+    for (request, answer) in requests.iter().zip(told) {
+        add_fork(&mut forks, request, *answer)?;
+    }
+    forks.reverse();
+    Ok(forks)
+}
+
+/// Adds the fork of a request that was answered so, if it made a process.
+fn add_fork(forks: &mut Vec<Fork>, request: &Request, answer: Answer) -> Result<(), OutOfMemory>
+    ensures { OnOk result (map fork_seen forks.new.items
+        ≡ map fork_seen forks.old.items ++ fork_told request.now answer []) }
+{
+    let (Action::Fork(child), Answer::Okay) = (request.action(), answer) else {
+        return Ok(());
+    };
+    let fork = Fork {
+        parent: request.process(),
+        child: *child,
+    };
+    match forks.push(fork) {
+        Ok(()) => Ok(()),
+        Err(_) => Err(OutOfMemory),
+    }
+}
+
+/// Which process this one was before these forks, of which the last one is the first here.
+fn forebear(forks: &[Fork], process: u32) -> u32
+    ensures { result ≡ forebear_by (made_by forks.now) process }
+{
+    let mut at = process;
+    for fork in forks {
+        if fork.child == at {
+            at = fork.parent;
+        }
+    }
+    at
+}

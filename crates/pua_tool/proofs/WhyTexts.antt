@@ -1,0 +1,137 @@
+-- The texts with reasons, step by step.
+use Rattle.std.proofs.Common.{◌≡◌, ℕ, ◌+◌, ◌<◌, ◌≤◌, List, ◌∷◌, ◌++◌, ◌∙◌, get_or, drop, length, map, sym, ap, append-nil, append_assoc}
+use Rattle.std.specs.Prelude.{Option, Result, Ok, Err, flat_map}
+use Rattle.std.specs.Borrow.{Bor}
+use Rattle.std.proofs.lemmas.List.{drop_more}
+use Rattle.std.proofs.Math.ListN.{drop_of_length-le}
+use Rattle.pua_tree.specs.Tree.{Tree}
+use Rattle.pua_tree.specs.Listing.{listing}
+use Rattle.pua_tree.specs.Steps.{◌>>=◌}
+use Rattle.pua_policy.specs.Calls.{CallTable}
+use Rattle.pua_script.specs.Requests.{Asked}
+use Rattle.pua_script.specs.Scripts.{script, request_of}
+use Rattle.pua_script.specs.Replay.{new_world}
+use Rattle.pua_script.specs.declared.fault.ScriptFault.{ScriptFault}
+use Rattle.pua_words.specs.declared.command.Processes.{Processes}
+use Rattle.pua_tool.specs.EverTexts.{Answers}
+use Rattle.pua_tool.specs.ObjectTexts.{Tells, numbers_asked}
+use Rattle.pua_tool.specs.Texts.{Chosen, as_listing, as_script, table_by}
+use Rattle.pua_tool.specs.WhyTexts.{Posed, as_request, chain_lines, objects_why_text, posed, reason_lines, request_line, run_why_text, why_lists_of, why_text, world_left}
+use Rattle.pua_tool.specs.declared.fault.ToolFault.{ToolFault}
+use Rattle.pua_tool.proofs.EverTexts.{answers_told}
+
+-- what is read of a script without a fault
+pub script_is : (read : Result (List Asked) ScriptFault) (asks : List Asked) → as_script read ≡ Ok asks → read ≡ Ok asks
+script_is (Ok others) asks is = let same : others ≡ asks = cc in ap Ok same
+script_is (Err fault) asks is = cc
+
+module _ (choice : Chosen) (tree_bytes script_bytes : List ℕ) where
+  abbrev posed_by : CallTable → Tree → List Asked → Posed
+  posed_by table t asks = record { table = table; world = new_world t; asks = asks }
+
+  abbrev asked : CallTable → Tree → Result (List Asked) ToolFault → Result Posed ToolFault
+  asked table t requests = requests >>= λ asks. Ok (posed_by table t asks)
+
+  abbrev listed : CallTable → Result Tree ToolFault → Result Posed ToolFault
+  listed table read = read >>= λ t. asked table t (as_script (script script_bytes))
+
+  pub posed_is : (table : CallTable) (t : Tree) (asks : List Asked)
+      → table_by choice ≡ Ok table → as_listing (listing tree_bytes) ≡ Ok t → as_script (script script_bytes) ≡ Ok asks
+      → posed choice tree_bytes script_bytes ≡ Ok (record { table = table; world = new_world t; asks = asks })
+  unfolding posed
+  posed_is table t asks b l s = λ i. b i >>= λ table. l i >>= λ t. s i >>= λ asks. Ok (posed_by table t asks)
+
+  -- a table's fault comes first
+  pub table_refuses : (fault : ToolFault) → table_by choice ≡ Err fault → posed choice tree_bytes script_bytes ≡ Err fault
+  unfolding posed
+  table_refuses fault b = λ i. b i >>= λ table. listed table (as_listing (listing tree_bytes))
+
+  -- a listing's fault comes where the table has none
+  pub listing_refuses : (table : CallTable) (fault : ToolFault) → table_by choice ≡ Ok table → as_listing (listing tree_bytes) ≡ Err fault
+      → posed choice tree_bytes script_bytes ≡ Err fault
+  unfolding posed
+  listing_refuses table fault b l = λ i. b i >>= λ table. listed table (l i)
+
+  -- a script's fault comes where both have none
+  pub script_refuses : (table : CallTable) (t : Tree) (fault : ToolFault)
+      → table_by choice ≡ Ok table → as_listing (listing tree_bytes) ≡ Ok t → as_script (script script_bytes) ≡ Err fault
+      → posed choice tree_bytes script_bytes ≡ Err fault
+  unfolding posed
+  script_refuses table t fault b l s = λ i. b i >>= λ table. l i >>= λ t. asked table t (s i)
+
+  -- what refuses a run comes first
+  pub run_refuses : (fault : ToolFault) → posed choice tree_bytes script_bytes ≡ Err fault → run_why_text choice tree_bytes script_bytes ≡ Err fault
+  run_refuses fault is = λ i. is i >>= λ p. Ok (reason_lines p)
+
+  -- the lines of a run that is told are the answer
+  pub run_told : (p : Posed) (r : Result (Unit {0}) ToolFault) (a b : Option (List ℕ)) (n m : ℕ) → posed choice tree_bytes script_bytes ≡ Ok p
+      → Tells (reason_lines p) r a b n m → Answers (run_why_text choice tree_bytes script_bytes) r a b n m
+  run_told p r a b n m is = answers_told (run_why_text choice tree_bytes script_bytes) (reason_lines p) r a b n m (λ i. is i >>= λ p. Ok (reason_lines p))
+
+  module _ (process : ℕ) (fields : List (List ℕ)) where
+    abbrev request : Result Asked ToolFault
+    request = as_request (request_of 1 (request_line process fields))
+
+    abbrev told_by : Posed → Result Asked ToolFault → Result (List ℕ) ToolFault
+    told_by p read = read >>= λ ask. Ok (chain_lines p ask)
+
+    -- what refuses the script comes first
+    pub why_refuses : (fault : ToolFault) → posed choice tree_bytes script_bytes ≡ Err fault → why_text choice tree_bytes script_bytes process fields ≡ Err fault
+    unfolding why_text
+    why_refuses fault is = λ i. is i >>= λ p. told_by p request
+
+    -- what refuses the request comes where the script is not refused
+    pub request_refuses : (p : Posed) (fault : ToolFault) → posed choice tree_bytes script_bytes ≡ Ok p → as_request (request_of 1 (request_line process fields)) ≡ Err fault
+        → why_text choice tree_bytes script_bytes process fields ≡ Err fault
+    unfolding why_text
+    request_refuses p fault is r = (λ i. is i >>= λ p. told_by p request) ∙ (λ i. told_by p (r i))
+
+    why_is : (p : Posed) (ask : Asked) → posed choice tree_bytes script_bytes ≡ Ok p → as_request (request_of 1 (request_line process fields)) ≡ Ok ask
+        → why_text choice tree_bytes script_bytes process fields ≡ Ok (chain_lines p ask)
+    unfolding why_text
+    why_is p ask is r = (λ i. is i >>= λ p. told_by p request) ∙ (λ i. told_by p (r i))
+
+    -- the chain that is told is the answer
+    pub why_told : (p : Posed) (ask : Asked) (r : Result (Unit {0}) ToolFault) (a b : Option (List ℕ)) (n m : ℕ)
+        → posed choice tree_bytes script_bytes ≡ Ok p → as_request (request_of 1 (request_line process fields)) ≡ Ok ask
+        → Tells (chain_lines p ask) r a b n m → Answers (why_text choice tree_bytes script_bytes process fields) r a b n m
+    why_told p ask r a b n m is read = answers_told (why_text choice tree_bytes script_bytes process fields) (chain_lines p ask) r a b n m (why_is p ask is read)
+
+  module _ (which : Processes) where
+    abbrev listed_by : Posed → Result (List ℕ) ToolFault → Result (List ℕ) ToolFault
+    listed_by p asked = asked >>= λ numbers. Ok (reason_lines p ++ why_lists_of p numbers)
+
+    -- what refuses the script comes first
+    pub objects_refuse : (fault : ToolFault) → posed choice tree_bytes script_bytes ≡ Err fault → objects_why_text choice tree_bytes script_bytes which ≡ Err fault
+    unfolding objects_why_text
+    objects_refuse fault is = λ i. is i >>= λ p. listed_by p (numbers_asked (world_left p) which)
+
+    -- what refuses the numbers comes where the script is not refused
+    pub numbers_refuse : (p : Posed) (fault : ToolFault) → posed choice tree_bytes script_bytes ≡ Ok p → numbers_asked (world_left p) which ≡ Err fault
+        → objects_why_text choice tree_bytes script_bytes which ≡ Err fault
+    unfolding objects_why_text
+    numbers_refuse p fault is m = (λ i. is i >>= λ p. listed_by p (numbers_asked (world_left p) which)) ∙ (λ i. listed_by p (m i))
+
+    objects_are : (p : Posed) (numbers : List ℕ) → posed choice tree_bytes script_bytes ≡ Ok p → numbers_asked (world_left p) which ≡ Ok numbers
+        → objects_why_text choice tree_bytes script_bytes which ≡ Ok (reason_lines p ++ why_lists_of p numbers)
+    unfolding objects_why_text
+    objects_are p numbers is m = (λ i. is i >>= λ p. listed_by p (numbers_asked (world_left p) which)) ∙ (λ i. listed_by p (m i))
+
+    -- the lists that are told are the answer
+    pub objects_told : (p : Posed) (numbers : List ℕ) (r : Result (Unit {0}) ToolFault) (a b : Option (List ℕ)) (n m : ℕ)
+        → posed choice tree_bytes script_bytes ≡ Ok p → numbers_asked (world_left p) which ≡ Ok numbers
+        → Tells (reason_lines p ++ why_lists_of p numbers) r a b n m → Answers (objects_why_text choice tree_bytes script_bytes which) r a b n m
+    objects_told p numbers r a b n m is asked = answers_told (objects_why_text choice tree_bytes script_bytes which) (reason_lines p ++ why_lists_of p numbers) r a b n m (objects_are p numbers is asked)
+
+-- what a line has still to come from a field on: a blank and the field, for each
+abbrev pub fields_left : List (Bor (List ℕ)) → ℕ → List ℕ
+fields_left fields i = flat_map (λ field. 32 ∷ field) (map (λ field. field.now) (drop i fields))
+
+pub field_more : (line : List ℕ) (fields : List (Bor (List ℕ))) (i : ℕ) (d : Bor (List ℕ)) → i < length fields
+    → line ++ fields_left fields i ≡ (line ++ 32 ∷ (get_or fields i d).now) ++ fields_left fields (i + 1)
+field_more line fields i d within =
+    ap (λ fs. line ++ flat_map (λ f. 32 ∷ f) (map (λ f. f.now) fs)) (drop_more fields i d within)
+    ∙ sym (append_assoc line (32 ∷ (get_or fields i d).now) (fields_left fields (i + 1)))
+
+pub fields_done : (line : List ℕ) (fields : List (Bor (List ℕ))) (i : ℕ) → length fields ≤ i → line ++ fields_left fields i ≡ line
+fields_done line fields i past = ap (λ fs. line ++ flat_map (λ f. 32 ∷ f) (map (λ f. f.now) fs)) (drop_of_length-le fields past) ∙ append-nil line

@@ -1,0 +1,94 @@
+-- The texts with reasons, of a run, of what decides one request, and of lists, and what refuses them.
+use Rattle.std.specs.Prelude.{ℕ, List, [], ◌∷◌, ◌++◌, flat_map, Result, Ok, Err, codes, decimal}
+use Rattle.std.specs.Option.{option_map_or}
+use Rattle.pua_tree.specs.Tree.{Tree}
+use Rattle.pua_tree.specs.Listing.{listing}
+use Rattle.pua_tree.specs.Steps.{◌>>=◌}
+use Rattle.pua_policy.specs.Calls.{CallTable}
+use Rattle.pua_policy.specs.History.{History}
+use Rattle.pua_policy.specs.Reasons.{covering}
+use Rattle.pua_policy.specs.declared.reason.Covering.{Covering}
+use Rattle.pua_script.specs.Requests.{Asked}
+use Rattle.pua_script.specs.Scripts.{script, request_of}
+use Rattle.pua_script.specs.Replay.{World, new_world, history_of, world_after}
+use Rattle.pua_script.specs.declared.fault.ScriptFault.{ScriptFault}
+use Rattle.pua_objects.specs.Objects.{Line, Subject, At, Others, line_text, objects}
+use Rattle.pua_why.specs.Texts.{why_lines, chain}
+use Rattle.pua_why.specs.Columns.{columns, covering_in}
+use Rattle.pua_words.specs.declared.command.Processes.{Processes}
+use Rattle.pua_tool.specs.States.{head_lines}
+use Rattle.pua_tool.specs.Texts.{Chosen, as_listing, as_script, ended, table_by}
+use Rattle.pua_tool.specs.ObjectTexts.{numbers_asked}
+use Rattle.pua_tool.specs.declared.fault.ToolFault.{ToolFault}
+use Rattle.pua_tool.specs.declared.fault.ToolFault.TheVariants.{Request}
+
+-- the table of calls, the world before a script, and its requests
+pub record Posed : Type 0 where
+  pub table : CallTable
+  pub world : World
+  pub asks : List Asked
+
+-- a script over a listing, by the table that is chosen, or the first fault: the table's, the listing's, or the script's
+unfoldable pub posed : Chosen → List ℕ → List ℕ → Result Posed ToolFault
+posed choice tree_bytes script_bytes = do
+  table ← table_by choice
+  t ← as_listing (listing tree_bytes)
+  asks ← as_script (script script_bytes)
+  Ok (record { table = table; world = new_world t; asks = asks })
+
+-- the world that the script leaves
+abbrev pub world_left : Posed → World
+world_left p = world_after p.table p.world p.asks
+
+-- a line for each request: its number, its answer, and why and since when it is so
+abbrev pub reason_lines : Posed → List ℕ
+reason_lines p = flat_map ended (why_lines p.table p.world [] 1 p.asks)
+
+abbrev pub run_why_text : Chosen → List ℕ → List ℕ → Result (List ℕ) ToolFault
+run_why_text choice tree_bytes script_bytes = posed choice tree_bytes script_bytes >>= λ p. Ok (reason_lines p)
+
+-- a line of a script, by its process and the fields behind
+abbrev pub request_line : ℕ → List (List ℕ) → List ℕ
+request_line process fields = decimal process ++ flat_map (λ field. 32 ∷ field) fields
+
+abbrev pub as_request : Result Asked ScriptFault → Result Asked ToolFault
+as_request (Ok ask) = Ok ask
+as_request (Err fault) = Err (Request fault)
+
+-- a line for each check that a request passes behind the script, and its answer
+abbrev pub chain_lines : Posed → Asked → List ℕ
+chain_lines p ask = flat_map ended (chain p.table p.world p.asks ask)
+
+-- what decides the request with these fields behind a script over a listing, or the first fault: the table's, the listing's, the script's, or that of the fields
+unfoldable pub why_text : Chosen → List ℕ → List ℕ → ℕ → List (List ℕ) → Result (List ℕ) ToolFault
+why_text choice tree_bytes script_bytes process fields = do
+  p ← posed choice tree_bytes script_bytes
+  ask ← as_request (request_of 1 (request_line process fields))
+  Ok (chain_lines p ask)
+
+-- what covers what a line is about
+abbrev pub covering_on : Tree → History → Subject → Covering
+covering_on t h (At object) = covering t h object
+covering_on t h (Others dir) = covering_in t h dir
+
+abbrev pub why_line : Posed → ℕ → History → Line → List ℕ
+why_line p process h line =
+    ended (line_text (world_left p).tree line ++ columns p.table p.world p.asks process h line.calls (covering_on (world_left p).tree h line.subject))
+
+-- the list of a process with reasons: its heading, its state, and a line for each object on which its history allows a call
+abbrev pub why_list : Posed → ℕ → History → List ℕ
+why_list p process h = head_lines (world_left p).tree (codes "objects") process h ++ flat_map (why_line p process h) (objects (world_left p).tree p.table h)
+
+-- a number that was never made has no list
+abbrev pub why_list_of : Posed → ℕ → List ℕ
+why_list_of p process = option_map_or (why_list p process) (history_of (world_left p) process) []
+
+abbrev pub why_lists_of : Posed → List ℕ → List ℕ
+why_lists_of p numbers = flat_map (why_list_of p) numbers
+
+-- the lists with reasons at the end of a script over a listing, or the first fault: the table's, the listing's, the script's, or a process never made
+unfoldable pub objects_why_text : Chosen → List ℕ → List ℕ → Processes → Result (List ℕ) ToolFault
+objects_why_text choice tree_bytes script_bytes which = do
+  p ← posed choice tree_bytes script_bytes
+  numbers ← numbers_asked (world_left p) which
+  Ok (reason_lines p ++ why_lists_of p numbers)

@@ -1,0 +1,74 @@
+//! A script with the worlds before and after it, for what is asked of the worlds between.
+
+ghost use Rattle.std.specs.Prelude.{◌≡◌, ◌≢◌, Ok, Err, IfOk, IfErr};
+ghost use Rattle.pua_tree.specs.Listing.{listing};
+ghost use Rattle.pua_script.specs.Scripts.{script};
+ghost use Rattle.pua_tool.specs.Texts.{as_listing, chosen};
+ghost use Rattle.pua_tool.specs.PosedScripts.{IsNewOver, IsPosed};
+ghost use Rattle.pua_tool.specs.WhyTexts.{Posed as Asking, posed};
+
+use crate::fault::ToolFault;
+use crate::script::{ProgramTree, read_requests, read_table, read_tree};
+use crate::table::TableChoice;
+use pua_policy::CallTable;
+use pua_script::{Answer, Script, World};
+use std::alloc::Global;
+
+/// A script, what its lines were answered, and the worlds before and after it. A tree has no copy, so
+/// the listing is read for each of the two.
+#[derive(Drop)]
+pub(crate) struct Posed {
+    pub(crate) script: Script,
+    pub(crate) told: Vec<Answer>,
+    pub(crate) before: World<ProgramTree>,
+    pub(crate) after: World<ProgramTree>,
+}
+
+/// Serves a script over the tree of a listing, by the table that is chosen, and keeps the world before
+/// it too; or answers the first fault: the table's, the listing's, or the script's. `OutOfMemory` where
+/// a growth was refused.
+pub(crate) fn pose(
+    alloc: Global,
+    tree_bytes: &[u8],
+    script_bytes: &[u8],
+    choice: TableChoice<'_>,
+) -> Result<Posed, ToolFault>
+    ensures done { IfOk result (λ done. (p : Asking)
+        × (posed (chosen choice.entry) tree_bytes.now script_bytes.now ≡ Ok p)
+        × (script script_bytes.now ≡ Ok p.asks) × IsPosed done p) }
+    ensures refused { IfErr result (λ fault. fault ≢ ToolFault.OutOfMemory →
+        (posed (chosen choice.entry) tree_bytes.now script_bytes.now ≡ Err fault)) }
+    ensures unwritten { IfErr result (λ fault. fault ≢ ToolFault.Write) }
+{
+    let table = read_table(alloc, choice)?;
+    let before = world_of(alloc, tree_bytes, table)?;
+    let script = read_requests(alloc, script_bytes)?;
+    let mut after = world_of(alloc, tree_bytes, table)?;
+    let Ok(told) = after.run(alloc, &script) else {
+        return Err(ToolFault::OutOfMemory);
+    };
+    Ok(Posed {
+        script,
+        told,
+        before,
+        after,
+    })
+}
+
+/// The world before a script, over the tree of a listing.
+fn world_of(
+    alloc: Global,
+    tree_bytes: &[u8],
+    table: CallTable,
+) -> Result<World<ProgramTree>, ToolFault>
+    ensures new { IfOk result (λ world. IsNewOver tree_bytes.now table world) }
+    ensures refused { IfErr result (λ fault. fault ≢ ToolFault.OutOfMemory →
+        (as_listing (listing tree_bytes.now) ≡ Err fault)) }
+    ensures unwritten { IfErr result (λ fault. fault ≢ ToolFault.Write) }
+{
+    let tree = read_tree(alloc, tree_bytes)?;
+    match World::new(alloc, tree, table) {
+        Ok(world) => Ok(world),
+        Err(_) => Err(ToolFault::OutOfMemory),
+    }
+}

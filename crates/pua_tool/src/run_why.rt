@@ -1,0 +1,69 @@
+//! The text of a run with reasons.
+
+ghost use Rattle.std.specs.Prelude.{◌≡◌, ◌≢◌, ℕ, List, Ok, Err, IfErr, IfOk, OnOk, string_bytes};
+ghost use Rattle.pua_script.specs.Scripts.{script};
+ghost use Rattle.pua_tool.specs.Texts.{chosen};
+ghost use Rattle.pua_tool.specs.PosedScripts.{IsPosed};
+ghost use Rattle.pua_tool.specs.WhyTexts.{Posed as Asking, reason_lines, run_why_text};
+ghost use Rattle.pua_io.specs.Sinks.{Adds, AddsFront, HasFailed};
+
+use crate::fault::ToolFault;
+use crate::objects::put_text;
+use crate::posed::{Posed, pose};
+use crate::table::TableChoice;
+use pua_io::Sink;
+use pua_since::reason_text;
+use pua_tree::OutOfMemory;
+use std::alloc::Global;
+
+/// Writes the text of a run with reasons: what [`run_by`](crate::run_by) writes, and in each line whose
+/// answer is not `ok` behind it a blank and the reason, and then ` since line M`, if it was not so from
+/// the start: before line M of the script the same request would have had another reason, after it and
+/// after each later line before this one it would have had this one. A process asked by its parent
+/// before the fork that made it.
+///
+/// The first that holds of `Table`, `Listing` and `Script` is answered before anything is written. So is
+/// `OutOfMemory`, wherever a growth was refused. `Write` is answered only where a put failed in this
+/// call, and a front of the text is then written.
+pub fn run_why_to<S: Sink>(
+    alloc: Global,
+    tree_bytes: &[u8],
+    script_bytes: &[u8],
+    table: TableChoice<'_>,
+    sink: &mut S,
+) -> Result<(), ToolFault>
+    ensures whole { OnOk result ((text : List ℕ)
+        × (run_why_text (chosen table.entry) tree_bytes.now script_bytes.now ≡ Ok text)
+        × Adds text (S.written sink.old) (S.written sink.new)) }
+    ensures unfailed { OnOk result (S.failed sink.new ≡ S.failed sink.old) }
+    ensures write { result ≡ Err ToolFault.Write → (text : List ℕ)
+        × (run_why_text (chosen table.entry) tree_bytes.now script_bytes.now ≡ Ok text)
+        × AddsFront text (S.written sink.old) (S.written sink.new)
+        × HasFailed (S.failed sink.old) (S.failed sink.new) }
+    ensures refused { IfErr result (λ fault. fault ≢ ToolFault.Write →
+        fault ≢ ToolFault.OutOfMemory →
+        (run_why_text (chosen table.entry) tree_bytes.now script_bytes.now ≡ Err fault)) }
+    ensures unwritten { IfErr result (λ fault. fault ≢ ToolFault.Write →
+        S.written sink.new ≡ S.written sink.old) }
+{
+    let posed = pose(alloc, tree_bytes, script_bytes, table)?;
+    let Ok(text) = text_of(alloc, script_bytes, posed) else {
+        return Err(ToolFault::OutOfMemory);
+    };
+    put_text(text.as_str(), sink)
+}
+
+/// The lines of a script that was read from these bytes, with reasons.
+fn text_of(alloc: Global, script_bytes: &[u8], posed: Posed) -> Result<String, OutOfMemory>
+    ensures { IfOk result (λ text. (p : Asking) → script script_bytes.now ≡ Ok p.asks →
+        IsPosed posed p → string_bytes text ≡ reason_lines p) }
+{
+    let Posed {
+        script,
+        told,
+        mut before,
+        ..
+    } = posed;
+    let (requests, told) = (script.requests(), told.as_slice());
+    reason_text(alloc, &mut before, script_bytes, requests, told)
+}

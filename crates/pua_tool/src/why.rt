@@ -1,0 +1,118 @@
+//! The text of what decides one request.
+
+ghost use Rattle.std.specs.Prelude.{◌≡◌, ◌≢◌, ◌++◌, ◌∷◌, ℕ, List, Ok, Err, IfErr, IfOk, OnOk, map, string_bytes};
+ghost use Rattle.pua_script.specs.Scripts.{request_of};
+ghost use Rattle.pua_tool.specs.PosedScripts.{IsPosed};
+ghost use Rattle.pua_tool.specs.Texts.{chosen};
+ghost use Rattle.pua_tool.specs.WhyTexts.{Posed as Asking, as_request, chain_lines, request_line, why_text};
+ghost use Rattle.pua_io.specs.Sinks.{Adds, AddsFront, HasFailed};
+
+use crate::fault::ToolFault;
+use crate::objects::put_text;
+use crate::posed::{Posed, pose};
+use crate::table::TableChoice;
+use pua_io::Sink;
+use pua_script::{Request, ScriptFault, read_request};
+use pua_since::chain_text;
+use pua_tree::OutOfMemory;
+use std::alloc::{AllocError, Global};
+use std::fmt::Write;
+
+/// Writes what decides a request of this process, given by the fields of a script's line behind the
+/// number: a line for each check that it passes where the script has been served, in the order of the
+/// checks, and as the last line its answer, with the reason and since which line, as
+/// [`run_why_to`](crate::run_why_to) would write it of the script's next line.
+///
+/// The first that holds of `Table`, `Listing`, `Script` and `Request` is answered before anything is
+/// written. So is `OutOfMemory`, wherever a growth was refused. `Write` is answered only where a put
+/// failed in this call, and a front of the text is then written.
+pub fn why_to<S: Sink>(
+    alloc: Global,
+    tree_bytes: &[u8],
+    script_bytes: &[u8],
+    table: TableChoice<'_>,
+    process: u32,
+    fields: &[&[u8]],
+    sink: &mut S,
+) -> Result<(), ToolFault>
+    ensures whole { OnOk result ((text : List ℕ)
+        × (why_text (chosen table.entry) tree_bytes.now script_bytes.now process
+        (map (λ field. field.now) fields.now) ≡ Ok text)
+        × Adds text (S.written sink.old) (S.written sink.new)) }
+    ensures unfailed { OnOk result (S.failed sink.new ≡ S.failed sink.old) }
+    ensures write { result ≡ Err ToolFault.Write → (text : List ℕ)
+        × (why_text (chosen table.entry) tree_bytes.now script_bytes.now process
+        (map (λ field. field.now) fields.now) ≡ Ok text)
+        × AddsFront text (S.written sink.old) (S.written sink.new)
+        × HasFailed (S.failed sink.old) (S.failed sink.new) }
+    ensures refused { IfErr result (λ fault. fault ≢ ToolFault.Write →
+        fault ≢ ToolFault.OutOfMemory →
+        (why_text (chosen table.entry) tree_bytes.now script_bytes.now process
+        (map (λ field. field.now) fields.now) ≡ Err fault)) }
+    ensures unwritten { IfErr result (λ fault. fault ≢ ToolFault.Write →
+        S.written sink.new ≡ S.written sink.old) }
+{
+    let posed = pose(alloc, tree_bytes, script_bytes, table)?;
+    let request = read_asked(alloc, process, fields)?;
+    let Ok(text) = text_of(alloc, posed, &request) else {
+        return Err(ToolFault::OutOfMemory);
+    };
+    put_text(text.as_str(), sink)
+}
+
+/// The request of a process, by the fields behind its number.
+fn read_asked(alloc: Global, process: u32, fields: &[&[u8]]) -> Result<Request, ToolFault>
+    ensures read { IfOk result (λ request. as_request (request_of 1 (request_line process
+        (map (λ field. field.now) fields.now))) ≡ Ok request) }
+    ensures refused { IfErr result (λ fault. fault ≢ ToolFault.OutOfMemory →
+        as_request (request_of 1 (request_line process
+        (map (λ field. field.now) fields.now))) ≡ Err fault) }
+    ensures unwritten { IfErr result (λ fault. fault ≢ ToolFault.Write) }
+{
+    let Ok(line) = line_of(alloc, process, fields) else {
+        return Err(ToolFault::OutOfMemory);
+    };
+    match read_request(alloc, 1, line.as_slice()) {
+        Ok(request) => Ok(request),
+        Err(ScriptFault::OutOfMemory) => Err(ToolFault::OutOfMemory),
+        Err(fault) => Err(ToolFault::Request(fault)),
+    }
+}
+
+/// The line of a script with this process and these fields behind it.
+fn line_of(alloc: Global, process: u32, fields: &[&[u8]]) -> Result<Vec<u8>, AllocError>
+    ensures { IfOk result (λ line. line.items ≡ request_line process
+        (map (λ field. field.now) fields.now)) }
+{
+    let mut text = String::new(alloc);
+    write!(text, "{process}")?;
+    let mut line = Vec::new(alloc);
+    line.extend_from_slice(text.as_bytes())?;
+    for field in fields {
+        push_field(&mut line, field)?;
+    }
+    Ok(line)
+}
+
+/// Adds a blank and a field.
+fn push_field(line: &mut Vec<u8>, field: &[u8]) -> Result<(), AllocError>
+    ensures { OnOk result (line.new.items ≡ line.old.items ++ 32 ∷ field.now) }
+{
+    line.push(b' ')?;
+    line.extend_from_slice(field)
+}
+
+/// The lines of what a request passes behind a script, and of its answer.
+fn text_of(alloc: Global, posed: Posed, request: &Request) -> Result<String, OutOfMemory>
+    ensures { IfOk result (λ text. (p : Asking) → IsPosed posed p →
+        string_bytes text ≡ chain_lines p request.now) }
+{
+    let Posed {
+        script,
+        told,
+        mut before,
+        mut after,
+    } = posed;
+    let (requests, told) = (script.requests(), told.as_slice());
+    chain_text(alloc, &mut before, &mut after, requests, told, request)
+}

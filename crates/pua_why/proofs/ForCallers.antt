@@ -1,0 +1,7 @@
+-- What crates above cite of the proofs of this one, beside the definitions and the laws.
+
+-- a reason is what the checks tell, and the answer; and gives the answer
+pub use Rattle.pua_why.proofs.Checking.{checks_tell}
+pub use Rattle.pua_why.proofs.Decisions.{reasons_give_answers}
+-- what a text got where nothing was refused
+pub use Rattle.pua_why.proofs.Adding.{pushed_so}

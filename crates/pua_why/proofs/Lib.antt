@@ -1,0 +1,16 @@
+pub mod Decisions
+pub mod Sincing
+pub mod Lines
+pub mod Chains
+pub mod Steps
+pub mod Faults
+pub mod Truths
+pub mod Unknown
+pub mod Checking
+pub mod Paths
+pub mod Adding
+pub mod Needing
+pub mod Passing
+pub mod Plain
+pub mod Joining
+pub mod ForCallers

@@ -1,0 +1,94 @@
+-- A request that is no fork is granted no further process.
+use Rattle.std.proofs.Common.{◌≡◌, ℕ, Some, None, refl, sym, ap, ◌∙◌, inl, inr, ◌⊎◌, Ok, Err, Option, true≢false}
+use Rattle.std.specs.Prelude.{IsFalse}
+use Rattle.pua_tree.specs.Tree.{Tree, Node, Spot}
+use Rattle.pua_path.specs.Fits.{spot_named, node_named}
+use Rattle.pua_path.specs.declared.found.Found.{Found}
+use Rattle.pua_path.specs.declared.found.Found.TheVariants.{Whole, Slot}
+use Rattle.pua_policy.specs.Calls.{CallTable}
+use Rattle.pua_policy.specs.History.{History}
+use Rattle.pua_policy.specs.declared.call.Call.{Call}
+use Rattle.pua_policy.specs.declared.call.Call.TheVariants as call
+use Rattle.pua_script.specs.Decide.{Change, NoChange, Outcome, placing, cutting, going, shifting, tying, link_node, change_by}
+use Rattle.pua_script.specs.Guards.{IsDecided, IsShift}
+use Rattle.pua_script.specs.Replay.{World}
+use Rattle.pua_script.specs.Worlds.{is_fork}
+use Rattle.pua_script.specs.declared.request.Action.{Action}
+use Rattle.pua_script.specs.declared.request.Action.TheVariants.{OnPath, Symlink, Rename, Link, Pledge, Unveil, Lock, Fork, Exit}
+use Rattle.pua_why.specs.Reasons.{Fault, reasoned}
+use Rattle.pua_why.specs.Laws.{decision_of}
+use Rattle.pua_why.specs.Checked.{process_fault, checks_fault, refused_by}
+use Rattle.pua_why.proofs.Decisions.{reasons_give_decisions}
+use Rattle.pua_script.proofs.ForCallers.{decisions_are_guarded}
+
+module _ (w : World) where
+  -- no further process is made
+  abbrev Plain : Change → Type 0
+  Plain change = process_fault w change ≡ None
+
+  plain_placing : (node : Node) (spot : Option Spot) (x : Option ℕ) → Plain (placing node spot x)
+  plain_placing node None None = refl
+  plain_placing node None (Some x) = refl
+  plain_placing node (Some spot) None = refl
+  plain_placing node (Some spot) (Some x) = refl
+
+  plain_cutting : (spot : Option Spot) (x : Option ℕ) → Plain (cutting spot x)
+  plain_cutting None None = refl
+  plain_cutting None (Some x) = refl
+  plain_cutting (Some spot) None = refl
+  plain_cutting (Some spot) (Some x) = refl
+
+  plain_going : (object : Found) → Plain (going object)
+  plain_going (Whole dir by) = refl
+  plain_going (Slot dir name x) = refl
+
+  plain_shifting : (old new : Option Spot) → Plain (shifting old new)
+  plain_shifting None None = refl
+  plain_shifting None (Some new) = refl
+  plain_shifting (Some old) None = refl
+  plain_shifting (Some old) (Some new) = refl
+
+  plain_tying : (x : ℕ) (spot : Option Spot) → Plain (tying x spot)
+  plain_tying x None = refl
+  plain_tying x (Some spot) = refl
+
+  plain_change : (table : CallTable) (c : Call) (object : Found) → Plain (change_by table c object)
+  plain_change table call.Stat object = refl
+  plain_change table call.Lstat object = refl
+  plain_change table call.Readlink object = refl
+  plain_change table call.OpenRead object = refl
+  plain_change table call.OpenWrite object = refl
+  plain_change table call.OpenBoth object = refl
+  plain_change table call.Create object = plain_placing _ (spot_named object) (node_named object)
+  plain_change table call.Mkdir object = plain_placing _ (spot_named object) (node_named object)
+  plain_change table call.Rmdir object = plain_cutting (spot_named object) (node_named object)
+  plain_change table call.Unlink object = plain_cutting (spot_named object) (node_named object)
+  plain_change table call.Symlink object = refl
+  plain_change table call.Chmod object = refl
+  plain_change table call.Chdir object = plain_going object
+  plain_change table call.Exec object = refl
+
+  is_plain : (change other : Change) → change ≡ other → Plain other → Plain change
+  is_plain change other is plain = ap (process_fault w) is ∙ plain
+
+  plain_decided : (table : CallTable) (t : Tree) (h : History) (action : Action) (change : Change) → IsFalse (is_fork action) → IsDecided table t h action change → Plain change
+  plain_decided table t h (OnPath c path) change other d = is_plain change _ d.2 (plain_change table c d.0)
+  plain_decided table t h (Symlink target path) change other d = is_plain change _ d.3 (plain_placing (link_node target) (spot_named d.0) (node_named d.0))
+  plain_decided table t h (Rename old new) change other d = moved d.moves
+    where
+      moved : ((change ≡ NoChange) ⊎ IsShift t d.old d.new d.node change) → Plain change
+      moved (inl is) = is_plain change NoChange is refl
+      moved (inr shift) = is_plain change _ shift.is (plain_shifting (spot_named d.old) (spot_named d.new))
+  plain_decided table t h (Link old new) change other d = is_plain change _ d.is (plain_tying d.node (spot_named d.new))
+  plain_decided table t h (Pledge p x) change other d = is_plain change _ d.is refl
+  plain_decided table t h (Unveil path perms) change other d = is_plain change _ d.is refl
+  plain_decided table t h Lock change other d = is_plain change _ d.1 refl
+  plain_decided table t h (Fork new) change other d = absurd (true≢false other)
+  plain_decided table t h Exit change other d = is_plain change _ d refl
+
+  pub plain_checks : (table : CallTable) (t : Tree) (h : History) (action : Action) → IsFalse (is_fork action) → checks_fault w (reasoned table t h action) ≡ refused_by (reasoned table t h action)
+  plain_checks table t h action other = by (reasoned table t h action) refl
+    where
+      by : (o : Outcome Fault) → reasoned table t h action ≡ o → checks_fault w o ≡ refused_by o
+      by (Err fault) is = refl
+      by (Ok change) is = plain_decided table t h action change other (decisions_are_guarded table t h action change (sym (reasons_give_decisions table t h action) ∙ ap decision_of is))

@@ -1,0 +1,77 @@
+-- When two reasons are the same: what a path names may be another, but it lacks the same for the same cause.
+use Rattle.std.specs.Prelude.{ℕ, Bool, true, false, List, [], ◌∷◌}
+use Rattle.pua_path.specs.declared.traced.Stop.TheVariants.{NoEntry, NoDirectory, LinkBeyond}
+use Rattle.pua_path.specs.declared.traced.TextFault.{TextFault}
+use Rattle.pua_path.specs.declared.traced.TextFault.TheVariants.{EmptyText, LongText, LongComponent, NulInText}
+use Rattle.pua_path.specs.declared.traced.PathFault.{PathFault}
+use Rattle.pua_path.specs.declared.traced.PathFault.TheVariants.{InText, NoStart, Stops}
+use Rattle.pua_policy.specs.declared.place.Place.{Place}
+use Rattle.pua_policy.specs.declared.place.Place.TheVariants.{Dir, Slot}
+use Rattle.pua_script.specs.Decide.{Side, Sole, Old, New}
+use Rattle.pua_policy.specs.declared.reason.Misfit.{Misfit}
+use Rattle.pua_policy.specs.declared.reason.Misfit.TheVariants.{Missing, Exists, IsDirectory, IsNoFile, IsNoDirectory, IsNoLink, IsNoProgram, IsNotEmpty, ByDot, ByDotDot, ByNothing}
+use Rattle.pua_why.specs.Reasons.{Fault, Ends, LacksPromises, BadTarget, BadPath, Uncovered, LacksLetters, Unfit, Inside, UnknownPromise, AsksPromises, IsLocked, UnknownLetter, AsksLetters, NoPlaceLeft, NumberTaken, NoProcessLeft, NoRoom, Reason, NeverMade, Ended, Refused, Granted}
+
+abbrev pub place_key : Place → List ℕ
+place_key (Dir dir) = 0 ∷ dir ∷ []
+place_key (Slot dir name) = 1 ∷ dir ∷ name
+
+abbrev pub side_key : Side → ℕ
+side_key Sole = 0
+side_key Old = 1
+side_key New = 2
+
+abbrev pub text_key : TextFault → ℕ
+text_key EmptyText = 0
+text_key LongText = 1
+text_key LongComponent = 2
+text_key NulInText = 3
+
+abbrev pub path_key : PathFault → ℕ
+path_key (InText fault) = text_key fault
+path_key NoStart = 4
+path_key (Stops (NoEntry spot)) = 5
+path_key (Stops (NoDirectory spot)) = 6
+path_key (Stops (LinkBeyond spot)) = 7
+
+abbrev pub misfit_key : Misfit → ℕ
+misfit_key Missing = 0
+misfit_key Exists = 1
+misfit_key IsDirectory = 2
+misfit_key IsNoFile = 3
+misfit_key IsNoDirectory = 4
+misfit_key IsNoLink = 5
+misfit_key IsNoProgram = 6
+misfit_key IsNotEmpty = 7
+misfit_key ByDot = 8
+misfit_key ByDotDot = 9
+misfit_key ByNothing = 10
+
+abbrev pub exec_key : Bool → ℕ
+exec_key false = 0
+exec_key true = 1
+
+abbrev pub fault_key : Fault → List ℕ
+fault_key Ends = 0 ∷ []
+fault_key (LacksPromises error sets) = 1 ∷ sets
+fault_key (BadTarget fault) = 2 ∷ text_key fault ∷ []
+fault_key (BadPath side fault) = 3 ∷ side_key side ∷ path_key fault ∷ []
+fault_key (Uncovered side object) = 4 ∷ side_key side ∷ []
+fault_key (LacksLetters side place given lacks) = 5 ∷ side_key side ∷ given ∷ lacks ∷ place_key place
+fault_key (Unfit side object misfit) = 6 ∷ side_key side ∷ misfit_key misfit ∷ []
+fault_key (Inside old new) = 7 ∷ []
+fault_key (UnknownPromise of_exec) = 8 ∷ exec_key of_exec ∷ []
+fault_key (AsksPromises of_exec lacks) = 9 ∷ exec_key of_exec ∷ lacks ∷ []
+fault_key IsLocked = 10 ∷ []
+fault_key UnknownLetter = 11 ∷ []
+fault_key (AsksLetters place given lacks) = 12 ∷ given ∷ lacks ∷ place_key place
+fault_key NoPlaceLeft = 13 ∷ []
+fault_key (NumberTaken n) = 14 ∷ n ∷ []
+fault_key NoProcessLeft = 15 ∷ []
+fault_key NoRoom = 16 ∷ []
+
+abbrev pub reason_key : Reason → List ℕ
+reason_key NeverMade = 0 ∷ []
+reason_key Ended = 1 ∷ []
+reason_key (Refused fault) = 2 ∷ fault_key fault
+reason_key Granted = 3 ∷ []

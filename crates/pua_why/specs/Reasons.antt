@@ -1,0 +1,173 @@
+-- Why a request is answered as it is: what is told of the check at which it is refused, and of the room that its change lacks.
+use Rattle.std.specs.Prelude.{ℕ, Bool, true, false, not, if◌then◌else◌, List, length, nat_le, Option, Some, None, option_map, Result, Ok, Err, is_some, unwrap_or}
+use Rattle.pua_tree.specs.Tree.{Tree}
+use Rattle.pua_path.specs.declared.errno.Errno.TheVariants.{EPERM, ENOENT, E2BIG, EACCES, EAGAIN, EINVAL, ENOSPC, ENOSYS}
+use Rattle.pua_path.specs.declared.found.Found.{Found}
+use Rattle.pua_path.specs.Traces.{text_errno, text_fault, path_errno, trace_of_text}
+use Rattle.pua_path.specs.declared.traced.TextFault.{TextFault}
+use Rattle.pua_path.specs.declared.traced.PathFault.{PathFault}
+use Rattle.pua_policy.specs.Promises.{holds}
+use Rattle.pua_policy.specs.Calls.{CallTable}
+use Rattle.pua_policy.specs.History.{History, pledged, held_for_exec, has_error, is_within, is_ended, is_locked, kept, veils, place_limit}
+use Rattle.pua_policy.specs.Verdict.{or_fault}
+use Rattle.pua_policy.specs.declared.place.Place.{Place}
+use Rattle.pua_policy.specs.declared.answer.Refusal.{Refusal}
+use Rattle.pua_policy.specs.declared.answer.Refusal.TheVariants as refusal
+use Rattle.pua_policy.specs.Promises.{lacking}
+use Rattle.pua_policy.specs.declared.reason.Covering.{Covering}
+use Rattle.pua_policy.specs.declared.reason.Covering.TheVariants.{InView, NoneOver, By}
+use Rattle.pua_policy.specs.Reasons.{Promising, Holds, HasEnded, Lacks, promising, covering}
+use Rattle.pua_script.specs.Limits.{process_limit}
+use Rattle.pua_script.specs.Requests.{Asked}
+use Rattle.pua_script.specs.Decide.{Change, CopyAs, Outcome, Side, Telling, fault_if, decide_by}
+use Rattle.pua_policy.specs.Misfits.{misfit_errno}
+use Rattle.pua_policy.specs.declared.reason.Misfit.{Misfit}
+use Rattle.pua_script.specs.Replay.{World, Effect, Fails, history_of, made}
+use Rattle.pua_script.specs.declared.request.Action.{Action}
+use Rattle.pua_script.specs.declared.answer.Answer.{Answer}
+use Rattle.pua_script.specs.declared.answer.Answer.TheVariants.{Okay, Failed, Killed, Gone}
+
+-- why a living process does not get what it asks for
+pub data Fault : Type 0 where
+  Ends : Fault
+  LacksPromises : Bool → List ℕ → Fault
+  BadTarget : TextFault → Fault
+  BadPath : Side → PathFault → Fault
+  Uncovered : Side → Found → Fault
+  LacksLetters : Side → Place → ℕ → ℕ → Fault
+  Unfit : Side → Found → Misfit → Fault
+  Inside : Found → Found → Fault
+  UnknownPromise : Bool → Fault
+  AsksPromises : Bool → ℕ → Fault
+  IsLocked : Fault
+  UnknownLetter : Fault
+  AsksLetters : Place → ℕ → ℕ → Fault
+  NoPlaceLeft : Fault
+  NumberTaken : ℕ → Fault
+  NoProcessLeft : Fault
+  NoRoom : Fault
+
+-- what becomes of the request for it
+abbrev pub fault_refusal : Fault → Refusal
+fault_refusal Ends = refusal.Killed
+fault_refusal (LacksPromises true sets) = refusal.Failed ENOSYS
+fault_refusal (LacksPromises false sets) = refusal.Killed
+fault_refusal (BadTarget fault) = refusal.Failed (text_errno fault)
+fault_refusal (BadPath side fault) = refusal.Failed (path_errno fault)
+fault_refusal (Uncovered side object) = refusal.Failed ENOENT
+fault_refusal (LacksLetters side place given lacks) = refusal.Failed EACCES
+fault_refusal (Unfit side object misfit) = refusal.Failed (misfit_errno misfit)
+fault_refusal (Inside old new) = refusal.Failed EINVAL
+fault_refusal (UnknownPromise of_exec) = refusal.Failed EINVAL
+fault_refusal (AsksPromises of_exec lacks) = refusal.Failed EPERM
+fault_refusal IsLocked = refusal.Failed EPERM
+fault_refusal UnknownLetter = refusal.Failed EINVAL
+fault_refusal (AsksLetters place given lacks) = refusal.Failed EPERM
+fault_refusal NoPlaceLeft = refusal.Failed E2BIG
+fault_refusal (NumberTaken n) = refusal.Failed EAGAIN
+fault_refusal NoProcessLeft = refusal.Failed EAGAIN
+fault_refusal NoRoom = refusal.Failed ENOSPC
+
+-- promises that are not held
+abbrev pub unpromised : Promising → Option Fault
+unpromised (Holds set) = None
+unpromised HasEnded = Some Ends
+unpromised (Lacks error sets) = Some (LacksPromises error sets)
+
+-- what a path names, or why it names nothing
+abbrev pub told_path : Side → Result Found PathFault → Result Found Fault
+told_path side (Ok object) = Ok object
+told_path side (Err fault) = Err (BadPath side fault)
+
+-- what the veils leave is less than these permissions
+abbrev pub uncovered : Side → Found → ℕ → Covering → Option Fault
+uncovered side object perms InView = None
+uncovered side object perms NoneOver = Some (Uncovered side object)
+uncovered side object perms (By place given) = if holds given perms then None else Some (LacksLetters side place given (lacking given perms))
+
+-- what is asked for beyond what was given
+abbrev pub beyond : Option ℕ → Option ℕ → ℕ
+beyond request given = lacking (unwrap_or given 0) (unwrap_or request 0)
+
+abbrev pub asks_beyond : Bool → Option ℕ → Option ℕ → Option Fault
+asks_beyond of_exec request given = fault_if (not (is_within request given)) (AsksPromises of_exec (beyond request given))
+
+-- a pledge that asks for more: its promises first
+abbrev pub pledge_beyond : History → Option ℕ → Option ℕ → Option Fault
+pledge_beyond h promises execpromises =
+    if has_error h then None else or_fault (asks_beyond false promises (pledged h)) (asks_beyond true execpromises (held_for_exec h))
+
+-- permissions at a place, by what is kept there and by the number of places
+abbrev pub place_beyond : Place → Option ℕ → ℕ → ℕ → Option Fault
+place_beyond place (Some given) places perms = if holds given perms then None else Some (AsksLetters place given (lacking given perms))
+place_beyond place None places perms = if nat_le place_limit places then Some NoPlaceLeft else None
+
+abbrev pub unveil_beyond : History → Place → ℕ → Option Fault
+unveil_beyond h place perms = if is_locked h then Some IsLocked else place_beyond place (kept h place) (length (veils h)) perms
+
+-- a fault is told of each check that fails
+abbrev pub faults : Telling Fault Fault
+faults = record {
+  promises = λ h sets. unpromised (promising h sets);
+  failed = λ fault. fault;
+  target = λ text. option_map BadTarget (text_fault text);
+  path = λ side t from ending text last. told_path side (trace_of_text t from ending text last).outcome;
+  cover = λ side t h object perms. uncovered side object perms (covering t h object);
+  misfit = λ side object wrong. Unfit side object wrong;
+  inside = λ old new. Inside old new;
+  unknown_promise = λ of_exec. UnknownPromise of_exec;
+  beyond = pledge_beyond;
+  locked = IsLocked;
+  unknown_letter = UnknownLetter;
+  place = unveil_beyond;
+}
+
+-- what a living process's request changes, or the fault for which it is refused
+abbrev pub reasoned : CallTable → Tree → History → Action → Outcome Fault
+reasoned table t h action = decide_by faults table t h action
+
+-- of a change, that there is no room for it
+abbrev pub no_room : Effect → Option Fault
+no_room (Fails errno) = Some NoRoom
+no_room _ = None
+
+abbrev pub room_fault : World → History → Change → Option Fault
+room_fault w h (CopyAs new) = or_fault (fault_if (is_some (history_of w new)) (NumberTaken new)) (fault_if (nat_le process_limit (length w.histories)) NoProcessLeft)
+room_fault w h change = no_room (made w h change)
+
+abbrev pub outcome_fault : World → History → Outcome Fault → Option Fault
+outcome_fault w h (Ok change) = room_fault w h change
+outcome_fault w h (Err fault) = Some fault
+
+-- the fault of a living process's request, if it has one
+abbrev pub request_fault : CallTable → World → History → Action → Option Fault
+request_fault table w h action = outcome_fault w h (reasoned table w.tree h action)
+
+-- why a request is answered as it is: the process was never made, or has ended, or it is refused, or granted
+pub data Reason : Type 0 where
+  NeverMade : Reason
+  Ended : Reason
+  Refused : Fault → Reason
+  Granted : Reason
+
+abbrev pub reason_of : Option Fault → Reason
+reason_of None = Granted
+reason_of (Some fault) = Refused fault
+
+abbrev pub reason_by : CallTable → World → Action → Option History → Reason
+reason_by table w action None = NeverMade
+reason_by table w action (Some h) = if is_ended h then Ended else reason_of (request_fault table w h action)
+
+abbrev pub reason : CallTable → World → Asked → Reason
+reason table w ask = reason_by table w ask.action (history_of w ask.process)
+
+-- the answer that a reason gives
+abbrev pub refusal_answer : Refusal → Answer
+refusal_answer (refusal.Failed errno) = Failed errno
+refusal_answer refusal.Killed = Killed
+
+abbrev pub answer_of : Reason → Answer
+answer_of NeverMade = Gone
+answer_of Ended = Gone
+answer_of (Refused fault) = refusal_answer (fault_refusal fault)
+answer_of Granted = Okay

@@ -1,0 +1,146 @@
+-- What a fault of a request says, as a fact about the world of the moment.
+use Rattle.std.specs.Prelude.{◌≡◌, ◌⊎◌, ℕ, true, false, List, [], ◌∷◌, length, nat_le, Option, Some, None, Result, Ok, Err, is_some}
+use Rattle.pua_tree.specs.Tree.{Tree, Spot, WellFormed, is_empty}
+use Rattle.pua_tree.specs.Edits.{is_inside}
+use Rattle.pua_path.specs.Fits.{spot_named, node_named}
+use Rattle.pua_path.specs.declared.errno.Errno.TheVariants.{ENOSPC}
+use Rattle.pua_path.specs.declared.text.Ending.{Ending}
+use Rattle.pua_path.specs.declared.text.Ending.TheVariants as ending
+use Rattle.pua_path.specs.declared.found.Last.TheVariants.{Followed}
+use Rattle.pua_path.specs.declared.found.Way.{Way}
+use Rattle.pua_path.specs.declared.found.Way.TheVariants as way
+use Rattle.pua_path.specs.declared.found.Found.{Found}
+use Rattle.pua_path.specs.declared.found.Found.TheVariants.{Whole}
+use Rattle.pua_path.specs.Traces.{text_fault, trace_of_text}
+use Rattle.pua_path.specs.declared.traced.PathFault.{PathFault}
+use Rattle.pua_policy.specs.Promises.{holds, proc, unveil}
+use Rattle.pua_policy.specs.ReasonLaws.{LackSome}
+use Rattle.pua_policy.specs.Calls.{CallTable, PairRule}
+use Rattle.pua_policy.specs.History.{History, pledged, held_for_exec, has_error, is_within, is_ended, is_locked, kept, veils, working_dir, place_limit}
+use Rattle.pua_policy.specs.declared.call.Call.TheVariants as call
+use Rattle.pua_script.specs.Limits.{process_limit}
+use Rattle.pua_script.specs.Decide.{Change, CopyAs, Side, Sole, Old, New, given_set, is_unknown, is_whole}
+use Rattle.pua_policy.specs.declared.reason.Misfit.{Misfit}
+use Rattle.pua_policy.specs.declared.reason.Misfit.TheVariants.{Missing, Exists, IsDirectory, IsNoFile, IsNoDirectory, IsNotEmpty, ByDot, ByDotDot, ByNothing}
+use Rattle.pua_script.specs.Replay.{World, Fails, history_of, made}
+use Rattle.pua_script.specs.Laws.{LacksRoom}
+use Rattle.pua_script.specs.declared.request.Given.{Given}
+use Rattle.pua_script.specs.declared.request.Action.{Action}
+use Rattle.pua_script.specs.declared.request.Action.TheVariants.{OnPath, Symlink, Rename, Link, Pledge, Unveil, Lock, Fork, Exit}
+use Rattle.pua_policy.specs.Promises.{lacking}
+use Rattle.pua_policy.specs.declared.reason.Covering.TheVariants.{NoneOver, By}
+use Rattle.pua_policy.specs.Reasons.{covering}
+use Rattle.pua_why.specs.Reasons.{Fault, Ends, LacksPromises, BadTarget, BadPath, Uncovered, LacksLetters, Unfit, Inside, UnknownPromise, AsksPromises, IsLocked, UnknownLetter, AsksLetters, NoPlaceLeft, NumberTaken, NoProcessLeft, NoRoom, beyond, reasoned, request_fault}
+use Rattle.pua_why.specs.Facts.{name_trace}
+use Rattle.pua_why.specs.Laws.{CallFaultHolds}
+
+-- the promises that a request other than a call of the table needs
+abbrev pub PromiseFaultHolds : History → List ℕ → Fault → Type 0
+PromiseFaultHolds h sets Ends = is_ended h ≡ true
+PromiseFaultHolds h sets (LacksPromises error lacks) = LackSome h sets lacks
+PromiseFaultHolds h sets _ = ⊥
+
+abbrev pub SymlinkFaultHolds : CallTable → Tree → History → List ℕ → List ℕ → Fault → Type 0
+SymlinkFaultHolds table t h target path (BadTarget fault) = text_fault target ≡ Some fault
+SymlinkFaultHolds table t h target path fault = CallFaultHolds t table h call.Symlink path fault
+
+-- what a side of two paths named, or why it named nothing, and the permissions that it needs
+abbrev pub side_outcome : PairRule → Tree → History → Ending → List ℕ → List ℕ → Side → Result Found PathFault
+side_outcome pair t h ending old new New = (name_trace pair.new t h ending new).outcome
+side_outcome pair t h ending old new _ = (name_trace pair.old t h ending old).outcome
+
+abbrev pub side_perms : PairRule → Side → ℕ
+side_perms pair New = pair.new.needs.perms
+side_perms pair _ = pair.old.needs.perms
+
+-- what is told of an object of two paths is so
+abbrev pub PairMisfitHolds : Tree → Found → Misfit → Type 0
+PairMisfitHolds t object Missing = node_named object ≡ None
+PairMisfitHolds t object Exists = is_some (node_named object) ≡ true
+PairMisfitHolds t object IsDirectory = is_whole object ≡ true
+PairMisfitHolds t object IsNoFile = is_whole object ≡ true
+PairMisfitHolds t object IsNoDirectory = (is_whole object ≡ false) × (is_some (node_named object) ≡ true)
+PairMisfitHolds t object IsNotEmpty = (dir : ℕ) × (by : Way) × (object ≡ Whole dir by) × (is_empty t dir ≡ false)
+PairMisfitHolds t object ByDot = (dir : ℕ) × (object ≡ Whole dir way.Dot)
+PairMisfitHolds t object ByDotDot = (dir : ℕ) × (object ≡ Whole dir way.DotDot)
+PairMisfitHolds t object ByNothing = (dir : ℕ) × (object ≡ Whole dir way.Top)
+PairMisfitHolds t object _ = ⊥
+
+-- the new name is in the directory that the old path named, or beneath it
+pub record IsInside (t : Tree) (old new : Found) : Type 0 where
+  pub node : ℕ
+  pub spot : Spot
+  pub is_node : node_named old ≡ Some node
+  pub is_spot : spot_named new ≡ Some spot
+  pub inside : is_inside t node spot.0 ≡ true
+
+abbrev pub PairFaultHolds : PairRule → Tree → History → Ending → List ℕ → List ℕ → Fault → Type 0
+PairFaultHolds pair t h ending old new Ends = is_ended h ≡ true
+PairFaultHolds pair t h ending old new (LacksPromises error lacks) = LackSome h pair.old.needs.alternatives lacks ⊎ LackSome h pair.new.needs.alternatives lacks
+PairFaultHolds pair t h ending old new (BadPath side fault) = side_outcome pair t h ending old new side ≡ Err fault
+PairFaultHolds pair t h ending old new (Uncovered side object) = (side_outcome pair t h ending old new side ≡ Ok object) × (covering t h object ≡ NoneOver)
+PairFaultHolds pair t h ending old new (LacksLetters side place given lacks) =
+    (object : Found) × (side_outcome pair t h ending old new side ≡ Ok object) × (covering t h object ≡ By place given)
+    × (holds given (side_perms pair side) ≡ false) × (lacks ≡ lacking given (side_perms pair side))
+PairFaultHolds pair t h ending old new (Unfit side object wrong) = (side_outcome pair t h ending old new side ≡ Ok object) × PairMisfitHolds t object wrong
+PairFaultHolds pair t h ending old new (Inside a b) =
+    (side_outcome pair t h ending old new Old ≡ Ok a) × (side_outcome pair t h ending old new New ≡ Ok b) × IsInside t a b
+PairFaultHolds pair t h ending old new _ = ⊥
+
+abbrev pub PledgeFaultHolds : History → Given → Given → Fault → Type 0
+PledgeFaultHolds h promises execpromises (UnknownPromise false) = is_unknown promises ≡ true
+PledgeFaultHolds h promises execpromises (UnknownPromise true) = is_unknown execpromises ≡ true
+PledgeFaultHolds h promises execpromises (AsksPromises false lacks) =
+    (has_error h ≡ false) × (is_within (given_set promises) (pledged h) ≡ false) × (lacks ≡ beyond (given_set promises) (pledged h))
+PledgeFaultHolds h promises execpromises (AsksPromises true lacks) =
+    (has_error h ≡ false) × (is_within (given_set execpromises) (held_for_exec h) ≡ false) × (lacks ≡ beyond (given_set execpromises) (held_for_exec h))
+PledgeFaultHolds h promises execpromises _ = ⊥
+
+abbrev pub UnveilFaultHolds : Tree → History → List ℕ → Option ℕ → Fault → Type 0
+UnveilFaultHolds t h path letters IsLocked = is_locked h ≡ true
+UnveilFaultHolds t h path letters UnknownLetter = letters ≡ None
+UnveilFaultHolds t h path letters (BadPath Sole fault) = (trace_of_text t (working_dir h) ending.Dot path Followed).outcome ≡ Err fault
+UnveilFaultHolds t h path letters (AsksLetters place given lacks) =
+    (perms : ℕ) × (letters ≡ Some perms) × (kept h place ≡ Some given) × (holds given perms ≡ false) × (lacks ≡ lacking given perms)
+UnveilFaultHolds t h path letters NoPlaceLeft = nat_le place_limit (length (veils h)) ≡ true
+UnveilFaultHolds t h path letters fault = PromiseFaultHolds h (unveil ∷ []) fault
+
+-- what a fault of a check says is so
+abbrev pub CheckFaultHolds : CallTable → Tree → History → Action → Fault → Type 0
+CheckFaultHolds table t h (OnPath call path) fault = CallFaultHolds t table h call path fault
+CheckFaultHolds table t h (Symlink target path) fault = SymlinkFaultHolds table t h target path fault
+CheckFaultHolds table t h (Rename old new) fault = PairFaultHolds table.rename t h ending.Dropped old new fault
+CheckFaultHolds table t h (Link old new) fault = PairFaultHolds table.link t h ending.Dot old new fault
+CheckFaultHolds table t h (Pledge promises execpromises) fault = PledgeFaultHolds h promises execpromises fault
+CheckFaultHolds table t h (Unveil path letters) fault = UnveilFaultHolds t h path letters fault
+CheckFaultHolds table t h Lock fault = PromiseFaultHolds h (unveil ∷ []) fault
+CheckFaultHolds table t h (Fork new) fault = PromiseFaultHolds h (proc ∷ []) fault
+CheckFaultHolds table t h Exit fault = ⊥
+
+abbrev pub CheckFaultsHold : Type 0
+CheckFaultsHold = (table : CallTable) (t : Tree) (h : History) (action : Action) (fault : Fault) → reasoned table t h action ≡ Err fault → CheckFaultHolds table t h action fault
+
+-- what a fault of a change says is so
+abbrev pub RoomFaultHolds : World → History → Change → Fault → Type 0
+RoomFaultHolds w h (CopyAs new) (NumberTaken n) = (n ≡ new) × (is_some (history_of w new) ≡ true)
+RoomFaultHolds w h (CopyAs new) NoProcessLeft = nat_le process_limit (length w.histories) ≡ true
+RoomFaultHolds w h (CopyAs new) _ = ⊥
+RoomFaultHolds w h change NoRoom = made w h change ≡ Fails ENOSPC
+RoomFaultHolds w h _ _ = ⊥
+
+-- of a change that was granted
+pub record ChangeFaultHolds (table : CallTable) (w : World) (h : History) (action : Action) (fault : Fault) : Type 0 where
+  pub change : Change
+  pub granted : reasoned table w.tree h action ≡ Ok change
+  pub holds : RoomFaultHolds w h change fault
+
+abbrev pub RequestFaultHolds : CallTable → World → History → Action → Fault → Type 0
+RequestFaultHolds table w h action fault = CheckFaultHolds table w.tree h action fault ⊎ ChangeFaultHolds table w h action fault
+
+-- what a fault says is so, and a request has no other faults than its own
+abbrev pub RequestFaultsHold : Type 0
+RequestFaultsHold = (table : CallTable) (w : World) (h : History) (action : Action) (fault : Fault) → request_fault table w h action ≡ Some fault → RequestFaultHolds table w h action fault
+
+-- a tree that is told to be full lacks the room that the change wants
+abbrev pub FullTreesAreFull : Type 0
+FullTreesAreFull = (table : CallTable) (w : World) (h : History) (action : Action) → WellFormed w.tree → request_fault table w h action ≡ Some NoRoom → LacksRoom table w.tree h action

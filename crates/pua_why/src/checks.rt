@@ -1,0 +1,279 @@
+//! The checks of requests on one path, and of those without one, in their order.
+
+ghost use Rattle.std.specs.Prelude.{◌≡◌, ◌∷◌, [], ℕ, IfOk, Ok, Some, option_map};
+ghost use Rattle.pua_path.specs.Fits.{FoundFits, StandsAsNamed};
+ghost use Rattle.pua_path.specs.Traces.{trace_of_text};
+ghost use Rattle.pua_path.specs.declared.found.Found as founds;
+ghost use Rattle.pua_policy.specs.History.{History, StandsFor};
+ghost use Rattle.pua_policy.specs.Reasons.{covering, promising};
+ghost use Rattle.pua_policy.specs.Verdict.{place_of};
+ghost use Rattle.pua_policy.specs.declared.reason.Covering.TheVariants.{By};
+ghost use Rattle.pua_script.specs.Decide.{Change, call_by, object_by, symlink_by, unveil_by};
+ghost use Rattle.pua_why.specs.Checked.{refused_by};
+ghost use Rattle.pua_why.specs.Reasons.{faults, place_beyond, uncovered, unpromised, unveil_beyond};
+ghost use Rattle.pua_why.specs.Seen.{fault_seen, side_seen};
+
+use crate::told::{Fault, Side};
+use pua_path::{
+    Counted, Ending, Found, Last, Links, PathFault, PathText, Probe, text_fault, trace,
+};
+use pua_policy::judge::misfit;
+use pua_policy::needs::{ending, need};
+use pua_policy::{
+    Call, CallTable, Covering, PLACE_LIMIT, Perms, Place, Process, Promises, Promising,
+};
+use pua_tree::{FileTree, NodeId, OutOfMemory};
+use std::alloc::Global;
+
+/// What a path names from a directory, or why it names nothing. The links that it followed by then
+/// take the place of those that `links` had.
+pub(crate) fn traced<'t, P: Probe<'t>>(
+    probe: &mut P,
+    from: NodeId,
+    path: &[u8],
+    ending: Ending,
+    last: Last,
+    links: &mut Links,
+) -> Result<Found, PathFault>
+    ensures exact { record { links = links.new; outcome = result }
+        ≡ trace_of_text (P.tree probe.old) from ending path.now last }
+    ensures fits { IfOk result (FoundFits (P.tree probe.old)) }
+    ensures named { IfOk result (StandsAsNamed (P.tree probe.old)) }
+    ensures tree { P.tree probe.new ≡ P.tree probe.old }
+{
+    links.clear();
+    if let Some(fault) = text_fault(path) {
+        return Err(PathFault::InText(fault));
+    }
+    match PathText::read(path, ending) {
+        Ok(text) => trace(probe, from, &text, last, links),
+        Err(_) => unreachable!(),
+    }
+}
+
+/// The fault of promises: none of these sets is held.
+pub(crate) fn promises_fault<'s>(process: &Process, sets: &'s [Promises]) -> Option<Fault<'s>>
+    ensures { (h : History) → StandsFor process.now h →
+        option_map fault_seen result ≡ unpromised (promising h sets.now) }
+{
+    match process.promising(sets) {
+        Promising::Holds(_) => None,
+        Promising::HasEnded => Some(Fault::Ends),
+        Promising::Lacks { error, held, sets } => Some(Fault::LacksPromises { error, held, sets }),
+    }
+}
+
+/// The fault of promises: this one set is not held.
+pub(crate) fn promise_fault<'s>(process: &Process, set: Promises) -> Option<Fault<'s>>
+    ensures { (h : History) → StandsFor process.now h →
+        option_map fault_seen result ≡ unpromised (promising h (set ∷ [])) }
+{
+    match process.promising(&[set]) {
+        Promising::Holds(_) => None,
+        Promising::HasEnded => Some(Fault::Ends),
+        Promising::Lacks { error, .. } => Some(Fault::LacksPromise {
+            error,
+            lacks: set.without(process.held()),
+        }),
+    }
+}
+
+/// The fault of the veils: they leave an object less than these permissions.
+pub(crate) fn cover_fault<'s, 't, P: Probe<'t>>(
+    probe: &mut P,
+    process: &Process,
+    side: Side,
+    found: &Found,
+    perms: Perms,
+) -> Option<Fault<'s>>
+    requires { FoundFits (P.tree probe.old) found.now }
+    ensures exact { (h : History) → StandsFor process.now h →
+        option_map fault_seen result
+        ≡ uncovered (side_seen side) found.now perms (covering (P.tree probe.old) h found.now) }
+    ensures tree { P.tree probe.new ≡ P.tree probe.old }
+{
+    let over = process.covering(probe, found);
+    uncovered(side, found, &over, perms)
+}
+
+/// The fault of an object that is covered so, where these permissions are needed.
+fn uncovered<'s>(side: Side, found: &Found, over: &Covering, perms: Perms) -> Option<Fault<'s>>
+    ensures { option_map fault_seen result
+        ≡ uncovered (side_seen side) found.now perms over.now }
+{
+    match over {
+        Covering::InView => None,
+        Covering::NoneOver => Some(Fault::Uncovered(side, *found)),
+        Covering::By(place, given) => lacking(side, place, *given, perms),
+    }
+}
+
+/// The fault of an object whose veil is kept at this place, where these permissions are needed.
+fn lacking<'s>(side: Side, place: &Place, given: Perms, perms: Perms) -> Option<Fault<'s>>
+    ensures { (object : founds.Found) → option_map fault_seen result
+        ≡ uncovered (side_seen side) object perms (By place.now given) }
+{
+    if given.contains(perms) {
+        return None;
+    }
+    Some(Fault::LacksLetters {
+        side,
+        place: *place,
+        given,
+        lacks: perms.without(given),
+    })
+}
+
+/// The fault of a call whose promises are held, by what its path names.
+fn object_fault<'s, T: FileTree>(
+    tree: &T,
+    table: &CallTable,
+    process: &Process,
+    call: Call,
+    path: &[u8],
+    links: &mut Links,
+) -> Option<Fault<'s>>
+    ensures exact { (h : History) → StandsFor process.now h →
+        (change : founds.Found → Change) → option_map fault_seen result
+        ≡ refused_by (object_by faults table.now (T.content tree.now) h call path.now
+        (λ object. Ok (change object))) }
+{
+    let mut probe = Counted::new(tree);
+    let last = need(call).last;
+    let found = match traced(&mut probe, process.dir(), path, ending(call), last, links) {
+        Ok(found) => found,
+        Err(fault) => return Some(Fault::BadPath(Side::Sole, fault)),
+    };
+    let fault = cover_fault(&mut probe, process, Side::Sole, &found, table.perms(call));
+    if fault.is_some() {
+        return fault;
+    }
+    let wrong = misfit(&mut probe, call, &found)?;
+    Some(Fault::Unfit(Side::Sole, found, wrong))
+}
+
+/// The fault of a call on a path: its promises are asked before its path is read.
+pub(crate) fn call_fault<'s, T: FileTree>(
+    tree: &T,
+    table: &'s CallTable,
+    process: &Process,
+    call: Call,
+    path: &[u8],
+    links: &mut Links,
+) -> Option<Fault<'s>>
+    ensures { (h : History) → StandsFor process.now h → option_map fault_seen result
+        ≡ refused_by (call_by faults table.now (T.content tree.now) h call path.now) }
+{
+    let fault = promises_fault(process, table.alternatives(call));
+    if fault.is_some() {
+        return fault;
+    }
+    object_fault(tree, table, process, call, path, links)
+}
+
+/// The fault of a symlink: the promise, then the target's text, then the path.
+pub(crate) fn symlink_fault<'s, T: FileTree>(
+    tree: &T,
+    table: &'s CallTable,
+    process: &Process,
+    target: &[u8],
+    path: &[u8],
+    links: &mut Links,
+) -> Option<Fault<'s>>
+    ensures { (h : History) → StandsFor process.now h → option_map fault_seen result
+        ≡ refused_by (symlink_by faults table.now (T.content tree.now) h target.now path.now) }
+{
+    let fault = promises_fault(process, table.alternatives(Call::Symlink));
+    if fault.is_some() {
+        return fault;
+    }
+    if let Some(fault) = text_fault(target) {
+        return Some(Fault::BadTarget(fault));
+    }
+    object_fault(tree, table, process, Call::Symlink, path, links)
+}
+
+/// The fault of an unveil: the promise, the lock, the letters, the path, and what is kept at the place.
+pub(crate) fn unveil_fault<'s, T: FileTree>(
+    alloc: Global,
+    tree: &T,
+    process: &Process,
+    path: &[u8],
+    perms: Option<Perms>,
+    links: &mut Links,
+) -> Result<Option<Fault<'s>>, OutOfMemory>
+    ensures { IfOk result (λ fault. (h : History) → StandsFor process.now h →
+        option_map fault_seen fault
+        ≡ refused_by (unveil_by faults (T.content tree.now) h path.now perms)) }
+{
+    let fault = promise_fault(process, Promises::UNVEIL);
+    if fault.is_some() {
+        return Ok(fault);
+    }
+    if process.locked() {
+        return Ok(Some(Fault::IsLocked));
+    }
+    let Some(perms) = perms else {
+        return Ok(Some(Fault::UnknownLetter));
+    };
+    let mut probe = Counted::new(tree);
+    match traced(
+        &mut probe,
+        process.dir(),
+        path,
+        Ending::Dot,
+        Last::Followed,
+        links,
+    ) {
+        Ok(found) => place_fault(alloc, process, place_of(&found), perms),
+        Err(fault) => Ok(Some(Fault::BadPath(Side::Sole, fault))),
+    }
+}
+
+/// The fault of a veil on a place: the lock, what is kept there, and how many places have veils.
+fn place_fault<'s>(
+    alloc: Global,
+    process: &Process,
+    place: Place,
+    perms: Perms,
+) -> Result<Option<Fault<'s>>, OutOfMemory>
+    ensures { IfOk result (λ fault. (h : History) → StandsFor process.now h →
+        option_map fault_seen fault ≡ unveil_beyond h place perms) }
+{
+    if process.locked() {
+        return Ok(Some(Fault::IsLocked));
+    }
+    if let Some(given) = process.kept(&place) {
+        return Ok(beyond_kept(place, given, perms));
+    }
+    if process.places(alloc)?.len() < PLACE_LIMIT {
+        Ok(None)
+    } else {
+        Ok(Some(Fault::NoPlaceLeft))
+    }
+}
+
+/// The fault of a veil on a place where these permissions are kept.
+fn beyond_kept<'s>(place: Place, given: Perms, perms: Perms) -> Option<Fault<'s>>
+    ensures { (places : ℕ) → option_map fault_seen result
+        ≡ place_beyond place (Some given) places perms }
+{
+    if given.contains(perms) {
+        return None;
+    }
+    Some(Fault::AsksLetters {
+        place,
+        given,
+        lacks: perms.without(given),
+    })
+}
+
+/// The place of what was found.
+fn place_of(found: &Found) -> Place
+    ensures { result ≡ place_of found.now }
+{
+    match *found {
+        Found::Whole { dir, .. } => Place::Dir(dir),
+        Found::Slot { dir, name, .. } => Place::Slot(dir, name),
+    }
+}

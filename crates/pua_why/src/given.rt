@@ -1,0 +1,120 @@
+//! The checks of pledges, of locks and of forks.
+
+ghost use Rattle.std.specs.Prelude.{◌≡◌, ℕ, IfOk, option_map};
+ghost use Rattle.pua_policy.specs.History.{History, StandsFor};
+ghost use Rattle.pua_script.specs.Decide.{fork_by, given_set, is_unknown, lock_by, pledge_by};
+ghost use Rattle.pua_script.specs.Replay.{World as Replayed};
+ghost use Rattle.pua_script.specs.Worlds.{StandsForWorld};
+ghost use Rattle.pua_why.specs.Checked.{checks_fault, refused_by};
+ghost use Rattle.pua_why.specs.Reasons.{asks_beyond, faults, pledge_beyond};
+ghost use Rattle.pua_why.specs.Seen.{fault_seen};
+
+use crate::checks::promise_fault;
+use crate::told::Fault;
+use pua_policy::{Process, Promises};
+use pua_script::{Given, PROCESS_LIMIT, World};
+use pua_tree::{FileTree, OutOfMemory};
+use std::alloc::Global;
+
+/// The fault of a pledge: an unknown word in either argument, and then what asks for more, the
+/// promises first each time.
+pub(crate) fn pledge_fault<'s>(
+    process: &Process,
+    promises: &Given,
+    execpromises: &Given,
+) -> Option<Fault<'s>>
+    ensures { (h : History) → StandsFor process.now h → option_map fault_seen result
+        ≡ refused_by (pledge_by faults h promises.now execpromises.now) }
+{
+    if is_unknown(promises) {
+        return Some(Fault::UnknownPromise { of_exec: false });
+    }
+    if is_unknown(execpromises) {
+        return Some(Fault::UnknownPromise { of_exec: true });
+    }
+    beyond_given(process, given_set(promises), given_set(execpromises))
+}
+
+/// The fault of a pledge that asks for more than was given, where `error` is not held.
+fn beyond_given<'s>(
+    process: &Process,
+    promises: Option<Promises>,
+    execpromises: Option<Promises>,
+) -> Option<Fault<'s>>
+    ensures { (h : History) → StandsFor process.now h →
+        option_map fault_seen result ≡ pledge_beyond h promises execpromises }
+{
+    if process.held().contains(Promises::ERROR) {
+        return None;
+    }
+    let fault = asks_beyond(false, promises, process.promises());
+    if fault.is_some() {
+        return fault;
+    }
+    asks_beyond(true, execpromises, process.execpromises())
+}
+
+/// The fault of an argument of pledge that asks for more than was given.
+fn asks_beyond<'s>(
+    of_exec: bool,
+    request: Option<Promises>,
+    given: Option<Promises>,
+) -> Option<Fault<'s>>
+    ensures { option_map fault_seen result ≡ asks_beyond of_exec request given }
+{
+    match (request, given) {
+        (Some(request), Some(given)) if !given.contains(request) => Some(Fault::AsksPromises {
+            of_exec,
+            lacks: request.without(given),
+        }),
+        _ => None,
+    }
+}
+
+/// The fault of an unveil with two NULLs.
+pub(crate) fn lock_fault<'s>(process: &Process) -> Option<Fault<'s>>
+    ensures { (h : History) → StandsFor process.now h →
+        option_map fault_seen result ≡ refused_by (lock_by faults h) }
+{
+    promise_fault(process, Promises::UNVEIL)
+}
+
+/// The fault of a fork: the promise, the number, and how many processes were made.
+pub(crate) fn fork_fault<'s, T: FileTree>(
+    alloc: Global,
+    world: &World<T>,
+    process: &Process,
+    new: u32,
+) -> Result<Option<Fault<'s>>, OutOfMemory>
+    ensures { IfOk result (λ fault. (w : Replayed) (h : History) →
+        StandsForWorld world.now w → StandsFor process.now h →
+        option_map fault_seen fault ≡ checks_fault w (fork_by faults h new)) }
+{
+    let fault = promise_fault(process, Promises::PROC);
+    if fault.is_some() {
+        return Ok(fault);
+    }
+    if world.process(new).is_some() {
+        return Ok(Some(Fault::NumberTaken(new)));
+    }
+    if world.numbers(alloc)?.len() < PROCESS_LIMIT {
+        Ok(None)
+    } else {
+        Ok(Some(Fault::NoProcessLeft))
+    }
+}
+
+fn is_unknown(given: &Given) -> bool
+    ensures { result ≡ is_unknown given.now }
+{
+    matches!(given, Given::Unknown)
+}
+
+fn given_set(given: &Given) -> Option<Promises>
+    ensures { result ≡ given_set given.now }
+{
+    match *given {
+        Given::Good(promises) => Some(promises),
+        Given::Null | Given::Unknown => None,
+    }
+}

@@ -1,0 +1,71 @@
+//! Laws and worked examples of reasons, each the contract of a function that does nothing.
+
+ghost use Rattle.pua_why.specs.Examples.{WhyRows};
+ghost use Rattle.pua_why.specs.Laws.{CallFaultsHold, ChainsEnd, GrantsAreTold, PairsAreTold, ReasonsGiveAnswers, ReasonsGiveDecisions, ReasonsGiveVerdicts, ReasonsSince, WhyLinesTellMore};
+ghost use Rattle.pua_why.specs.Checked.{ChecksTell};
+ghost use Rattle.pua_why.specs.Columns.{CoveringsIn};
+ghost use Rattle.pua_why.specs.Since.{SinceHolds};
+ghost use Rattle.pua_why.specs.Truths.{CheckFaultsHold, FullTreesAreFull, RequestFaultsHold};
+ghost use Rattle.pua_why.specs.Unknown.{UnknownsAreTold};
+
+/// Examples of reasons.
+pub fn why_examples()
+    ensures { WhyRows }
+{}
+
+/// A decision is a function of what is reasoned: a reason never contradicts a refusal, nor the
+/// verdict on a call.
+pub fn verdict_law()
+    ensures decisions { ReasonsGiveDecisions }
+    ensures verdicts { ReasonsGiveVerdicts }
+{}
+
+/// Nor the answer of a request.
+pub fn answer_law()
+    ensures { ReasonsGiveAnswers }
+{}
+
+/// A reason is what the checks tell before a request is served, and its answer.
+#[tactic(auto, using(crate::proofs::Checking::checks_tell))]
+pub fn checks_law()
+    ensures { ChecksTell }
+{}
+
+/// What is so at the end was so all the time, or since the line that is told.
+pub fn since_law()
+    ensures tests { SinceHolds }
+    ensures reasons { ReasonsSince }
+{}
+
+/// With reasons each line is the line without them, and more.
+pub fn line_law()
+    ensures { WhyLinesTellMore }
+{}
+
+/// A chain tells on what a call rests, and ends with what is told of the request as a script's
+/// line.
+pub fn chain_law()
+    ensures ends { ChainsEnd }
+    ensures grants { GrantsAreTold }
+    ensures pairs { PairsAreTold }
+    ensures further { CoveringsIn }
+{}
+
+/// What a fault of a call on a path says is so.
+pub fn fault_law()
+    ensures { CallFaultsHold }
+{}
+
+/// What a fault of a request says is so, and a request has no other faults than its own. A tree
+/// that is told to be full lacks the room that the change wants.
+pub fn truth_law()
+    ensures checks { CheckFaultsHold }
+    ensures requests { RequestFaultsHold }
+    ensures full { FullTreesAreFull }
+{}
+
+/// Which word is no promise, and which letter no permission, is told where a request is refused
+/// for it.
+pub fn unknown_law()
+    ensures { UnknownsAreTold }
+{}

@@ -1,0 +1,24 @@
+//! Reasons of answers.
+#![tactic(auto)]
+
+mod checks;
+mod given;
+mod keys;
+mod laws;
+mod pairs;
+mod passed;
+mod reasons;
+mod texts;
+mod told;
+mod tree_paths;
+
+pub use keys::Key;
+pub use laws::{
+    answer_law, chain_law, checks_law, fault_law, line_law, since_law, truth_law, unknown_law,
+    verdict_law, why_examples,
+};
+pub use passed::facts;
+pub use reasons::{checked, reason};
+pub use texts::{push_fact, push_reason, push_since};
+pub use told::{Fact, Fault, Reason, Side};
+pub use tree_paths::TreePaths;

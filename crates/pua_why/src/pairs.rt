@@ -1,0 +1,343 @@
+//! The checks of requests with two paths, in their order.
+
+ghost use Rattle.std.specs.Prelude.{◌≡◌, ◌==◌, ℕ, IfOk, IsTrue, option_map};
+ghost use Rattle.std.specs.List.{list_any};
+ghost use Rattle.pua_tree.specs.Edits.{is_inside, is_same_node};
+ghost use Rattle.pua_tree.specs.Tree.{climb, is_dir};
+ghost use Rattle.pua_path.specs.Fits.{FoundFits, StandsAsNamed, node_named, spot_named};
+ghost use Rattle.pua_path.specs.declared.found.Found as founds;
+ghost use Rattle.pua_path.specs.declared.text.Ending.TheVariants as endings;
+ghost use Rattle.pua_policy.specs.History.{History, StandsFor};
+ghost use Rattle.pua_script.specs.Decide.{New, Outcome, covers_by, dots_by, inside_by, is_whole, kinds_by, link_by, objects_by, pair_by, rename_by, top_by, ways_by};
+ghost use Rattle.pua_why.specs.Checked.{refused_by};
+ghost use Rattle.pua_why.specs.Reasons.{Fault as Meant, faults};
+ghost use Rattle.pua_why.specs.Seen.{fault_seen, on_found, side_seen};
+
+use crate::checks::{cover_fault, promises_fault, traced};
+use crate::told::{Fault, Side};
+use pua_path::{Counted, Ending, Found, Links, Probe, Way};
+use pua_policy::{CallTable, Misfit, PairNeed, Process};
+use pua_tree::{FileTree, Kind, NodeId};
+
+/// What an old path and a new one name.
+#[derive(Clone, Copy)]
+struct Pair {
+    old: Found,
+    new: Found,
+}
+
+/// The fault of a rename: what is wrong with its paths, and then with what both name.
+pub(crate) fn rename_fault<'s, T: FileTree>(
+    tree: &T,
+    table: &'s CallTable,
+    process: &Process,
+    old: &[u8],
+    new: &[u8],
+    links: &mut Links,
+) -> Option<Fault<'s>>
+    ensures { (h : History) → StandsFor process.now h → option_map fault_seen result
+        ≡ refused_by (pair_by faults table.now.rename (T.content tree.now) h endings.Dropped
+        old.now new.now (λ a b. rename_by faults (T.content tree.now) a b (node_named a))) }
+{
+    match judged(
+        tree,
+        table.rename(),
+        process,
+        Ending::Dropped,
+        old,
+        new,
+        links,
+    ) {
+        Ok(pair) => shift_fault(tree, &pair),
+        Err(fault) => Some(fault),
+    }
+}
+
+/// The fault of a link: what is wrong with its paths, and then with what both name.
+pub(crate) fn link_fault<'s, T: FileTree>(
+    tree: &T,
+    table: &'s CallTable,
+    process: &Process,
+    old: &[u8],
+    new: &[u8],
+    links: &mut Links,
+) -> Option<Fault<'s>>
+    ensures { (h : History) → StandsFor process.now h → option_map fault_seen result
+        ≡ refused_by (pair_by faults table.now.link (T.content tree.now) h endings.Dot
+        old.now new.now (λ a b. link_by faults a b (node_named a))) }
+{
+    match judged(tree, table.link(), process, Ending::Dot, old, new, links) {
+        Ok(pair) => tie_fault(&pair),
+        Err(fault) => Some(fault),
+    }
+}
+
+/// What both paths name, or the fault of the promises, of the paths, and of the veils: of the old name
+/// first each time.
+fn judged<'s, T: FileTree>(
+    tree: &T,
+    need: &'s PairNeed,
+    process: &Process,
+    ending: Ending,
+    old: &[u8],
+    new: &[u8],
+    links: &mut Links,
+) -> Result<Pair, Fault<'s>>
+    ensures exact { (h : History) → StandsFor process.now h →
+        (further : founds.Found → founds.Found → Outcome Meant) →
+        pair_by faults need.now (T.content tree.now) h ending old.now new.now further
+        ≡ on_found result (λ pair. further pair.old pair.new) }
+    ensures named { IfOk result (λ pair. StandsAsNamed (T.content tree.now) pair.new) }
+{
+    if let Some(fault) = promises_fault(process, need.old_name().alternatives()) {
+        return Err(fault);
+    }
+    if let Some(fault) = promises_fault(process, need.new_name().alternatives()) {
+        return Err(fault);
+    }
+    objects(tree, need, process, ending, old, new, links)
+}
+
+/// What both paths name, or the fault of the paths, and of the veils.
+fn objects<'s, T: FileTree>(
+    tree: &T,
+    need: &PairNeed,
+    process: &Process,
+    ending: Ending,
+    old: &[u8],
+    new: &[u8],
+    links: &mut Links,
+) -> Result<Pair, Fault<'s>>
+    ensures exact { (h : History) → StandsFor process.now h →
+        (further : founds.Found → founds.Found → Outcome Meant) →
+        objects_by faults need.now (T.content tree.now) h ending old.now new.now further
+        ≡ on_found result (λ pair. further pair.old pair.new) }
+    ensures named { IfOk result (λ pair. StandsAsNamed (T.content tree.now) pair.new) }
+{
+    let mut probe = Counted::new(tree);
+    let dir = process.dir();
+    let old = match traced(&mut probe, dir, old, ending, need.old_name().last(), links) {
+        Ok(found) => found,
+        Err(fault) => return Err(Fault::BadPath(Side::Old, fault)),
+    };
+    let new = match traced(&mut probe, dir, new, ending, need.new_name().last(), links) {
+        Ok(found) => found,
+        Err(fault) => return Err(Fault::BadPath(Side::New, fault)),
+    };
+    match covers_fault(&mut probe, need, process, &old, &new) {
+        Some(fault) => Err(fault),
+        None => Ok(Pair { old, new }),
+    }
+}
+
+/// The fault of the two covers, the old one first.
+fn covers_fault<'s, 't, P: Probe<'t>>(
+    probe: &mut P,
+    need: &PairNeed,
+    process: &Process,
+    old: &Found,
+    new: &Found,
+) -> Option<Fault<'s>>
+    requires old { FoundFits (P.tree probe.old) old.now }
+    requires new { FoundFits (P.tree probe.old) new.now }
+    ensures { (h : History) → StandsFor process.now h → option_map fault_seen result
+        ≡ covers_by faults need.now (P.tree probe.old) h old.now new.now }
+{
+    let fault = cover_fault(probe, process, Side::Old, old, need.old_name().perms());
+    if fault.is_some() {
+        return fault;
+    }
+    cover_fault(probe, process, Side::New, new, need.new_name().perms())
+}
+
+/// What is wrong with a rename of what was named.
+fn shift_fault<'s, T: FileTree>(tree: &T, pair: &Pair) -> Option<Fault<'s>>
+    requires { StandsAsNamed (T.content tree.now) pair.now.new }
+    ensures { option_map fault_seen result
+        ≡ refused_by (rename_by faults (T.content tree.now) pair.now.old pair.now.new
+        (node_named pair.now.old)) }
+{
+    let Some(node) = node_named(&pair.old) else {
+        return Some(Fault::Unfit(Side::Old, pair.old, Misfit::Missing));
+    };
+    let fault = ways_fault(pair);
+    if fault.is_some() {
+        return fault;
+    }
+    if is_node(node, &pair.new) {
+        return None;
+    }
+    let fault = inside_fault(tree, node, pair);
+    if fault.is_some() {
+        return fault;
+    }
+    kinds_fault(tree, pair)
+}
+
+/// What is wrong with the ways in which they were named: `.` or `..` on either side, then the root on
+/// either side.
+fn ways_fault<'s>(pair: &Pair) -> Option<Fault<'s>>
+    ensures { option_map fault_seen result ≡ ways_by faults.misfit pair.now.old pair.now.new }
+{
+    let fault = dots_fault(Side::Old, &pair.old);
+    if fault.is_some() {
+        return fault;
+    }
+    let fault = dots_fault(Side::New, &pair.new);
+    if fault.is_some() {
+        return fault;
+    }
+    let fault = top_fault(Side::Old, &pair.old);
+    if fault.is_some() {
+        return fault;
+    }
+    top_fault(Side::New, &pair.new)
+}
+
+/// What was named by `.` or `..`.
+fn dots_fault<'s>(side: Side, found: &Found) -> Option<Fault<'s>>
+    ensures { option_map fault_seen result
+        ≡ dots_by (faults.misfit (side_seen side) found.now) found.now }
+{
+    match found {
+        Found::Whole { way, .. } => match way {
+            Way::Dot => Some(Fault::Unfit(side, *found, Misfit::ByDot)),
+            Way::DotDot => Some(Fault::Unfit(side, *found, Misfit::ByDotDot)),
+            Way::Named { .. } | Way::Top => None,
+        },
+        Found::Slot { .. } => None,
+    }
+}
+
+/// What was named by no part.
+fn top_fault<'s>(side: Side, found: &Found) -> Option<Fault<'s>>
+    ensures { option_map fault_seen result
+        ≡ top_by (faults.misfit (side_seen side) found.now) found.now }
+{
+    match found {
+        Found::Whole { way, .. } => match way {
+            Way::Top => Some(Fault::Unfit(side, *found, Misfit::ByNothing)),
+            Way::Named { .. } | Way::Dot | Way::DotDot => None,
+        },
+        Found::Slot { .. } => None,
+    }
+}
+
+/// A directory would come to stand in itself or beneath itself.
+fn inside_fault<'s, T: FileTree>(tree: &T, node: NodeId, pair: &Pair) -> Option<Fault<'s>>
+    requires { StandsAsNamed (T.content tree.now) pair.now.new }
+    ensures { option_map fault_seen result
+        ≡ inside_by (faults.inside pair.now.old pair.now.new) (T.content tree.now) node
+        (spot_named pair.now.new) }
+{
+    let dir = dir_named(&pair.new)?;
+    if !is_inside(tree, node, dir) {
+        return None;
+    }
+    Some(Fault::Inside {
+        old: pair.old,
+        new: pair.new,
+    })
+}
+
+/// Whether a node is a directory, and this directory is it, or stands beneath it.
+fn is_inside<T: FileTree>(tree: &T, node: NodeId, dir: NodeId) -> bool
+    requires { IsTrue (is_dir (T.content tree.now) dir) }
+    ensures { result ≡ is_inside (T.content tree.now) node dir }
+{
+    tree.kind(node) == Some(Kind::Dir) && is_within(tree, dir, node)
+}
+
+/// Whether a directory is this node, or stands beneath it.
+fn is_within<T: FileTree>(tree: &T, dir: NodeId, node: NodeId) -> bool
+    requires { IsTrue (is_dir (T.content tree.now) dir) }
+    ensures { result ≡ list_any (λ d. d == node) (climb (T.content tree.now) dir) }
+{
+    tree.known();
+    let mut at = dir;
+    loop {
+        if at == node {
+            return true;
+        }
+        if at == NodeId::ROOT {
+            return false;
+        }
+        let Some(above) = tree.parent(at) else {
+            return false;
+        };
+        at = above;
+    }
+}
+
+/// A directory is not put in the place of anything else, nothing else in the place of a directory,
+/// and nothing in the place of a directory in which something stands.
+fn kinds_fault<'s, T: FileTree>(tree: &T, pair: &Pair) -> Option<Fault<'s>>
+    ensures { option_map fault_seen result
+        ≡ kinds_by (faults.misfit New pair.now.new) (T.content tree.now) pair.now.old pair.now.new }
+{
+    let is_dir = is_whole(&pair.old);
+    let wrong = match pair.new {
+        Found::Whole { .. } if !is_dir => Misfit::IsDirectory,
+        Found::Whole { dir, .. } if !tree.is_empty(dir) => Misfit::IsNotEmpty,
+        Found::Slot { node: Some(_), .. } if is_dir => Misfit::IsNoDirectory,
+        _ => return None,
+    };
+    Some(Fault::Unfit(Side::New, pair.new, wrong))
+}
+
+/// What is wrong with a further name for what was named.
+fn tie_fault<'s>(pair: &Pair) -> Option<Fault<'s>>
+    ensures { option_map fault_seen result
+        ≡ refused_by (link_by faults pair.now.old pair.now.new (node_named pair.now.old)) }
+{
+    if node_named(&pair.old).is_none() {
+        return Some(Fault::Unfit(Side::Old, pair.old, Misfit::Missing));
+    }
+    if is_whole(&pair.old) {
+        return Some(Fault::Unfit(Side::Old, pair.old, Misfit::IsNoFile));
+    }
+    if node_named(&pair.new).is_some() {
+        return Some(Fault::Unfit(Side::New, pair.new, Misfit::Exists));
+    }
+    None
+}
+
+/// The node that was found.
+fn node_named(found: &Found) -> Option<NodeId>
+    ensures { result ≡ node_named found.now }
+{
+    match *found {
+        Found::Whole { dir, .. } => Some(dir),
+        Found::Slot { node, .. } => node,
+    }
+}
+
+/// The directory with the name that was found, if it was found by one.
+fn dir_named(found: &Found) -> Option<NodeId>
+    ensures { result ≡ option_map (λ spot. spot.0) (spot_named found.now) }
+{
+    match *found {
+        Found::Whole { way, .. } => match way {
+            Way::Named { parent, .. } => Some(parent),
+            Way::Dot | Way::DotDot | Way::Top => None,
+        },
+        Found::Slot { dir, .. } => Some(dir),
+    }
+}
+
+/// Whether this node was found.
+fn is_node(node: NodeId, found: &Found) -> bool
+    ensures { result ≡ is_same_node node (node_named found.now) }
+{
+    match node_named(found) {
+        Some(there) => node == there,
+        None => false,
+    }
+}
+
+/// Whether a directory was found.
+fn is_whole(found: &Found) -> bool
+    ensures { result ≡ is_whole found.now }
+{
+    matches!(found, Found::Whole { .. })
+}

@@ -1,0 +1,143 @@
+//! Why a request is answered as it is.
+
+ghost use Rattle.std.specs.Prelude.{◌≡◌, IfOk, IsFalse, option_map};
+ghost use Rattle.pua_policy.specs.History.{History, StandsFor};
+ghost use Rattle.pua_script.specs.Replay.{World as Replayed, apply};
+ghost use Rattle.pua_script.specs.Worlds.{StandsForWorld, is_fork};
+ghost use Rattle.pua_why.specs.Checked.{checked, checks_fault, granted_by, refused_by};
+ghost use Rattle.pua_why.specs.Reasons.{reason, reasoned};
+ghost use Rattle.pua_why.specs.Seen.{fault_seen, reason_seen};
+
+use crate::checks::{call_fault, symlink_fault, unveil_fault};
+use crate::given::{fork_fault, lock_fault, pledge_fault};
+use crate::pairs::{link_fault, rename_fault};
+use crate::told::{Fault, Reason};
+use pua_path::{Errno, Links};
+use pua_policy::{CallTable, Process};
+use pua_script::{Action, Answer, World};
+use pua_tree::{FileTree, OutOfMemory};
+use std::alloc::Global;
+
+/// Why this request would be answered as it would be, if a process of this number asked it now: the
+/// first check that fails, in the order in which they are made. Whether the tree has room for the
+/// change is not asked, so a request that lacks nothing else is `Granted`. The only error is that a
+/// growth was refused.
+pub fn checked<'w, T: FileTree>(
+    alloc: Global,
+    world: &'w World<T>,
+    number: u32,
+    action: &Action,
+) -> Result<Reason<'w>, OutOfMemory>
+    ensures { IfOk result (λ reason. (w : Replayed) → StandsForWorld world.now w →
+        reason_seen reason
+        ≡ checked world.now.table w (record { process = number; action = action.now })) }
+{
+    let Some(process) = world.process(number) else {
+        return Ok(Reason::NeverMade);
+    };
+    if process.ended() {
+        return Ok(Reason::Ended);
+    }
+    match request_fault(alloc, world, process, action) {
+        Ok(Some(fault)) => Ok(Reason::Refused(fault)),
+        Ok(None) => Ok(Reason::Granted),
+        Err(error) => Err(error),
+    }
+}
+
+/// Why a request that a process of this number asks now gets this answer. The only error is that a
+/// growth was refused.
+#[tactic(auto, using(crate::proofs::Checking::checks_tell))]
+pub fn reason<'w, T: FileTree>(
+    alloc: Global,
+    world: &'w World<T>,
+    number: u32,
+    action: &Action,
+    answer: Answer,
+) -> Result<Reason<'w>, OutOfMemory>
+    ensures { IfOk result (λ told. (w : Replayed) → StandsForWorld world.now w →
+        answer ≡ (apply world.now.table w (record { process = number; action = action.now })).0 →
+        reason_seen told
+        ≡ reason world.now.table w (record { process = number; action = action.now })) }
+{
+    match checked(alloc, world, number, action) {
+        Ok(Reason::NeverMade) => Ok(Reason::NeverMade),
+        Ok(Reason::Ended) => Ok(Reason::Ended),
+        Ok(Reason::Refused(fault)) => Ok(Reason::Refused(fault)),
+        Ok(Reason::Granted) => Ok(granted_by(answer)),
+        Err(error) => Err(error),
+    }
+}
+
+/// The reason of an answer to what the checks granted: it lacked room, if the answer says so.
+fn granted_by<'s>(answer: Answer) -> Reason<'s>
+    ensures { reason_seen result ≡ granted_by answer }
+{
+    match answer {
+        Answer::Failed(Errno::ENOSPC) => Reason::Refused(Fault::NoRoom),
+        _ => Reason::Granted,
+    }
+}
+
+/// The check of a living process's request that fails.
+fn request_fault<'w, T: FileTree>(
+    alloc: Global,
+    world: &'w World<T>,
+    process: &Process,
+    action: &Action,
+) -> Result<Option<Fault<'w>>, OutOfMemory>
+    ensures { IfOk result (λ fault. (w : Replayed) (h : History) →
+        StandsForWorld world.now w → StandsFor process.now h → option_map fault_seen fault
+        ≡ checks_fault w (reasoned world.now.table w.tree h action.now)) }
+{
+    match action {
+        Action::Fork(new) => fork_fault(alloc, world, process, *new),
+        _ => fault_of(alloc, world.tree(), world.table(), process, action),
+    }
+}
+
+/// The check that fails of what makes no process.
+fn fault_of<'s, T: FileTree>(
+    alloc: Global,
+    tree: &T,
+    table: &'s CallTable,
+    process: &Process,
+    action: &Action,
+) -> Result<Option<Fault<'s>>, OutOfMemory>
+    requires { IsFalse (is_fork action.now) }
+    ensures { IfOk result (λ fault. (h : History) → StandsFor process.now h →
+        option_map fault_seen fault
+        ≡ refused_by (reasoned table.now (T.content tree.now) h action.now)) }
+{
+    let mut links = Links::new(alloc)?;
+    match action {
+        Action::OnPath(call, path) => {
+            let fault = call_fault(tree, table, process, *call, path.bytes(), &mut links);
+            Ok(fault)
+        }
+        Action::Symlink(target, path) => {
+            let (target, path) = (target.bytes(), path.bytes());
+            let fault = symlink_fault(tree, table, process, target, path, &mut links);
+            Ok(fault)
+        }
+        Action::Rename(old, new) => {
+            let (old, new) = (old.bytes(), new.bytes());
+            let fault = rename_fault(tree, table, process, old, new, &mut links);
+            Ok(fault)
+        }
+        Action::Link(old, new) => {
+            let (old, new) = (old.bytes(), new.bytes());
+            let fault = link_fault(tree, table, process, old, new, &mut links);
+            Ok(fault)
+        }
+        Action::Pledge(promises, execpromises) => {
+            Ok(pledge_fault(process, promises, execpromises))
+        }
+        Action::Unveil(path, perms) => {
+            unveil_fault(alloc, tree, process, path.bytes(), *perms, &mut links)
+        }
+        Action::Lock => Ok(lock_fault(process)),
+        Action::Exit => Ok(None),
+        Action::Fork(_) => unreachable!(),
+    }
+}

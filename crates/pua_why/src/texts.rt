@@ -1,0 +1,587 @@
+//! Reasons and facts as they are written.
+
+ghost use Rattle.std.specs.Prelude.{◌≡◌, ◌++◌, ◌∷◌, [], codes, if◌then◌else◌, IfOk, OnOk, map, string_bytes};
+ghost use Rattle.pua_tree.specs.Tree.{Tree};
+ghost use Rattle.pua_policy.specs.Promises.{lacking};
+ghost use Rattle.pua_path.specs.declared.traced.PathFault.TheVariants as faults;
+ghost use Rattle.pua_script.specs.Decide.{New};
+ghost use Rattle.pua_why.specs.Seen.{fact_seen, fault_seen, reason_seen, side_seen};
+ghost use Rattle.pua_policy.specs.Verdict.{object_of};
+ghost use Rattle.pua_why.specs.Texts.{covering_dated, fact_dated, fault_text, found_text, joined, kind_text, letters_text, misfit_text, of_exec_text, or_equals, path_fault_text, place_text, promises_text, reason_text, side_text, since_text, spot_text, target_text, text_fault_text, veil_text};
+
+use crate::told::{Fact, Fault, Reason, Side};
+use crate::tree_paths::{TreePaths, push_spelled};
+use pua_path::{Found, PathFault, Spot, Stop, TextFault};
+use pua_policy::{Covering, Misfit, Perms, Place, Promises};
+use pua_tree::{FileTree, Kind, NodeId};
+use std::alloc::{AllocError, Global};
+use std::fmt::Write;
+
+/// Adds the words of a reason to a text: what is granted has none. Paths are those of the tree as it
+/// stands where the reason holds. The only error is that a growth was refused.
+pub fn push_reason(
+    alloc: Global,
+    text: &mut String,
+    paths: &mut TreePaths<'_>,
+    reason: &Reason<'_>,
+) -> Result<(), AllocError>
+    ensures text { OnOk result ((t : Tree) → paths.old.rows ≡ t.rows →
+        string_bytes text.new ≡ string_bytes text.old ++ reason_text t (reason_seen reason.now)) }
+    ensures rows { paths.new.rows ≡ paths.old.rows }
+{
+    match reason {
+        Reason::NeverMade => text.push_str("never made"),
+        Reason::Ended => text.push_str("ended"),
+        Reason::Refused(fault) => push_fault(alloc, text, paths, fault),
+        Reason::Granted => Ok(()),
+    }
+}
+
+/// Adds the words of a fault to a text.
+fn push_fault(
+    alloc: Global,
+    text: &mut String,
+    paths: &mut TreePaths<'_>,
+    fault: &Fault<'_>,
+) -> Result<(), AllocError>
+    ensures text { OnOk result ((t : Tree) → paths.old.rows ≡ t.rows →
+        string_bytes text.new ≡ string_bytes text.old ++ fault_text t (fault_seen fault.now)) }
+    ensures rows { paths.new.rows ≡ paths.old.rows }
+{
+    match *fault {
+        Fault::Ends => text.push_str("ended"),
+        Fault::LacksPromises { held, sets, .. } => push_lacks(alloc, text, held, sets),
+        Fault::LacksPromise { lacks, .. } => push_no(alloc, text, lacks),
+        Fault::BadTarget(fault) => push_target(text, fault),
+        Fault::BadPath(side, ref fault) => push_bad_path(text, paths, side, fault),
+        Fault::Uncovered(side, ref found) => push_uncovered(text, paths, side, found),
+        Fault::LacksLetters {
+            side,
+            ref place,
+            given,
+            lacks,
+        } => {
+            text.push_str(side_word(side))?;
+            push_letters(text, paths, place, given, lacks)
+        }
+        Fault::Unfit(side, ref found, ref misfit) => {
+            push_unfit(text, paths, side, found, *misfit)
+        }
+        Fault::Inside { ref old, ref new } => push_inside(text, paths, old, new),
+        Fault::UnknownPromise { of_exec } => push_unknown(text, of_exec),
+        Fault::AsksPromises { of_exec, lacks } => push_asks(alloc, text, of_exec, lacks),
+        Fault::IsLocked => text.push_str("locked"),
+        Fault::UnknownLetter => text.push_str("unknown letter"),
+        Fault::AsksLetters {
+            ref place,
+            given,
+            lacks,
+        } => push_letters(text, paths, place, given, lacks),
+        Fault::NoPlaceLeft => text.push_str("128 places have veils"),
+        Fault::NumberTaken(number) => write!(text, "process {number} exists"),
+        Fault::NoProcessLeft => text.push_str("256 processes were made"),
+        Fault::NoRoom => text.push_str("tree is full"),
+    }
+}
+
+/// The word before what is told of one path of two.
+fn side_word(side: Side) -> &'static str
+    ensures { result.now ≡ side_text (side_seen side) }
+{
+    match side {
+        Side::Sole => "",
+        Side::Old => "old: ",
+        Side::New => "new: ",
+    }
+}
+
+/// Adds what of each of these sets is not held.
+fn push_lacks(
+    alloc: Global,
+    text: &mut String,
+    held: Promises,
+    sets: &[Promises],
+) -> Result<(), AllocError>
+    ensures { OnOk result (string_bytes text.new ≡ string_bytes text.old ++ joined (codes ", ")
+        (map (λ set. codes "no " ++ promises_text set) (map (lacking held) sets.now))) }
+{
+    let mut is_first = true;
+    for set in sets {
+        push_lack(alloc, text, is_first, set.without(held))?;
+        is_first = false;
+    }
+    Ok(())
+}
+
+/// Adds what of a set is not held, with a comma before it unless it is the first.
+fn push_lack(
+    alloc: Global,
+    text: &mut String,
+    is_first: bool,
+    lacks: Promises,
+) -> Result<(), AllocError>
+    ensures { OnOk result (string_bytes text.new ≡ string_bytes text.old
+        ++ ((if is_first then [] else codes ", ") ++ (codes "no " ++ promises_text lacks))) }
+{
+    if !is_first {
+        text.push_str(", ")?;
+    }
+    push_no(alloc, text, lacks)
+}
+
+/// Adds what is not held.
+fn push_no(alloc: Global, text: &mut String, lacks: Promises) -> Result<(), AllocError>
+    ensures { OnOk result (string_bytes text.new
+        ≡ string_bytes text.old ++ (codes "no " ++ promises_text lacks)) }
+{
+    text.push_str("no ")?;
+    push_promises(alloc, text, lacks)
+}
+
+/// Adds the keywords of promises with commas between them, and `=` for none.
+fn push_promises(alloc: Global, text: &mut String, promises: Promises) -> Result<(), AllocError>
+    ensures { OnOk result (string_bytes text.new
+        ≡ string_bytes text.old ++ promises_text promises) }
+{
+    let Ok(names) = promises.names(alloc) else {
+        return Err(AllocError);
+    };
+    let keywords = joined(alloc, names.as_slice())?;
+    text.push_str(shown(keywords.as_str()))
+}
+
+/// Names with commas between them.
+#[tactic(auto, using(crate::proofs::Joining::joined_is))]
+fn joined(alloc: Global, names: &[&str]) -> Result<String, AllocError>
+    ensures { IfOk result (λ text. string_bytes text
+        ≡ joined (codes ",") (map (λ name. name.now) names.now)) }
+{
+    let mut text = String::new(alloc);
+    let mut is_first = true;
+    for name in names {
+        push_next(&mut text, is_first, name)?;
+        is_first = false;
+    }
+    Ok(text)
+}
+
+/// Adds a name, with a comma before it unless it is the first.
+fn push_next(text: &mut String, is_first: bool, name: &str) -> Result<(), AllocError>
+    ensures { OnOk result (string_bytes text.new ≡ string_bytes text.old
+        ++ ((if is_first then [] else codes ",") ++ name.now)) }
+{
+    if !is_first {
+        text.push_str(",")?;
+    }
+    text.push_str(name)
+}
+
+/// The letters of permissions, and `=` for none.
+fn letters(perms: Perms) -> &'static str
+    ensures { result.now ≡ letters_text perms }
+{
+    shown(perms.letters())
+}
+
+/// A text, or `=` where it is empty.
+fn shown(text: &str) -> &str
+    ensures { result.now ≡ or_equals text.now }
+{
+    if text.is_empty() { "=" } else { text }
+}
+
+/// Adds which letters a veil lacks.
+fn push_letters(
+    text: &mut String,
+    paths: &mut TreePaths<'_>,
+    place: &Place,
+    given: Perms,
+    lacks: Perms,
+) -> Result<(), AllocError>
+    ensures text { OnOk result ((t : Tree) → paths.old.rows ≡ t.rows →
+        string_bytes text.new ≡ string_bytes text.old ++ (codes "no " ++ letters_text lacks
+        ++ codes " in " ++ veil_text t place.now given)) }
+    ensures rows { paths.new.rows ≡ paths.old.rows }
+{
+    text.push_str("no ")?;
+    text.push_str(letters(lacks))?;
+    text.push_str(" in ")?;
+    push_veil(text, paths, place, given)
+}
+
+/// Adds a veil: its letters, and where it is kept.
+pub(crate) fn push_veil(
+    text: &mut String,
+    paths: &mut TreePaths<'_>,
+    place: &Place,
+    given: Perms,
+) -> Result<(), AllocError>
+    ensures text { OnOk result ((t : Tree) → paths.old.rows ≡ t.rows →
+        string_bytes text.new ≡ string_bytes text.old ++ veil_text t place.now given) }
+    ensures rows { paths.new.rows ≡ paths.old.rows }
+{
+    text.push_str("veil ")?;
+    text.push_str(letters(given))?;
+    text.push_str(" on ")?;
+    push_place(text, paths, place)
+}
+
+/// Adds where a place is.
+fn push_place(text: &mut String, paths: &mut TreePaths<'_>, place: &Place) -> Result<(), AllocError>
+    ensures text { OnOk result ((t : Tree) → paths.old.rows ≡ t.rows →
+        string_bytes text.new ≡ string_bytes text.old ++ place_text t place.now) }
+    ensures rows { paths.new.rows ≡ paths.old.rows }
+{
+    match place {
+        Place::Dir(dir) => paths.push_dir(text, *dir),
+        Place::Slot(dir, name) => paths.push_spot(text, *dir, name),
+    }
+}
+
+/// Adds where something was found.
+pub(crate) fn push_found(
+    text: &mut String,
+    paths: &mut TreePaths<'_>,
+    found: &Found,
+) -> Result<(), AllocError>
+    ensures text { OnOk result ((t : Tree) → paths.old.rows ≡ t.rows →
+        string_bytes text.new ≡ string_bytes text.old ++ found_text t found.now) }
+    ensures rows { paths.new.rows ≡ paths.old.rows }
+{
+    match found {
+        Found::Whole { dir, .. } => paths.push_dir(text, *dir),
+        Found::Slot { dir, name, .. } => paths.push_spot(text, *dir, name),
+    }
+}
+
+/// The words of a text that is no path.
+fn text_words(fault: TextFault) -> &'static str
+    ensures { result.now ≡ text_fault_text fault }
+{
+    match fault {
+        TextFault::EmptyText => "is empty",
+        TextFault::LongText => "has more than 1023 bytes",
+        TextFault::LongComponent => "has a component of more than 255 bytes",
+        TextFault::NulInText => "has a NUL",
+    }
+}
+
+/// Adds what is wrong with a link's target.
+fn push_target(text: &mut String, fault: TextFault) -> Result<(), AllocError>
+    ensures { OnOk result (string_bytes text.new
+        ≡ string_bytes text.old ++ (codes "target " ++ text_fault_text fault)) }
+{
+    text.push_str("target ")?;
+    text.push_str(text_words(fault))
+}
+
+/// Adds why a path names nothing.
+fn push_bad_path(
+    text: &mut String,
+    paths: &mut TreePaths<'_>,
+    side: Side,
+    fault: &PathFault,
+) -> Result<(), AllocError>
+    ensures text { OnOk result ((t : Tree) → paths.old.rows ≡ t.rows →
+        string_bytes text.new ≡ string_bytes text.old
+        ++ (side_text (side_seen side) ++ path_fault_text t fault.now)) }
+    ensures rows { paths.new.rows ≡ paths.old.rows }
+{
+    text.push_str(side_word(side))?;
+    match fault {
+        PathFault::InText(fault) => push_text_fault(text, *fault),
+        PathFault::NoStart => text.push_str("working directory is removed"),
+        PathFault::Stops(stop) => push_stop(text, paths, stop),
+    }
+}
+
+/// Adds what is wrong with a path's text.
+fn push_text_fault(text: &mut String, fault: TextFault) -> Result<(), AllocError>
+    ensures { OnOk result (string_bytes text.new
+        ≡ string_bytes text.old ++ (codes "path " ++ text_fault_text fault)) }
+{
+    text.push_str("path ")?;
+    text.push_str(text_words(fault))
+}
+
+/// Adds where a path leads no further.
+fn push_stop(text: &mut String, paths: &mut TreePaths<'_>, stop: &Stop) -> Result<(), AllocError>
+    ensures text { OnOk result ((t : Tree) → paths.old.rows ≡ t.rows →
+        string_bytes text.new ≡ string_bytes text.old ++ path_fault_text t (faults.Stops stop.now)) }
+    ensures rows { paths.new.rows ≡ paths.old.rows }
+{
+    match stop {
+        Stop::NoEntry(spot) => push_at(text, paths, spot, " is missing"),
+        Stop::NoDirectory(spot) => push_at(text, paths, spot, " is no directory"),
+        Stop::LinkBeyond(spot) => push_at(text, paths, spot, " is link 33"),
+    }
+}
+
+/// Adds what is so of a name in a directory.
+fn push_at(
+    text: &mut String,
+    paths: &mut TreePaths<'_>,
+    spot: &Spot,
+    words: &str,
+) -> Result<(), AllocError>
+    ensures text { OnOk result ((t : Tree) → paths.old.rows ≡ t.rows →
+        string_bytes text.new ≡ string_bytes text.old ++ (spot_text t spot.now ++ words.now)) }
+    ensures rows { paths.new.rows ≡ paths.old.rows }
+{
+    paths.push_spot(text, spot.0, &spot.1)?;
+    text.push_str(words)
+}
+
+/// Adds that no veil covers what a path named.
+fn push_uncovered(
+    text: &mut String,
+    paths: &mut TreePaths<'_>,
+    side: Side,
+    found: &Found,
+) -> Result<(), AllocError>
+    ensures text { OnOk result ((t : Tree) → paths.old.rows ≡ t.rows →
+        string_bytes text.new ≡ string_bytes text.old ++ (side_text (side_seen side)
+        ++ codes "no veil on " ++ found_text t found.now ++ codes " or above")) }
+    ensures rows { paths.new.rows ≡ paths.old.rows }
+{
+    text.push_str(side_word(side))?;
+    text.push_str("no veil on ")?;
+    push_found(text, paths, found)?;
+    text.push_str(" or above")
+}
+
+/// Adds what is wrong with what a path named.
+fn push_unfit(
+    text: &mut String,
+    paths: &mut TreePaths<'_>,
+    side: Side,
+    found: &Found,
+    misfit: Misfit,
+) -> Result<(), AllocError>
+    ensures text { OnOk result ((t : Tree) → paths.old.rows ≡ t.rows →
+        string_bytes text.new ≡ string_bytes text.old
+        ++ (side_text (side_seen side) ++ misfit_text (found_text t found.now) misfit)) }
+    ensures rows { paths.new.rows ≡ paths.old.rows }
+{
+    text.push_str(side_word(side))?;
+    push_misfit(text, paths, found, misfit)
+}
+
+/// Adds what is wrong with what was found.
+fn push_misfit(
+    text: &mut String,
+    paths: &mut TreePaths<'_>,
+    found: &Found,
+    misfit: Misfit,
+) -> Result<(), AllocError>
+    ensures text { OnOk result ((t : Tree) → paths.old.rows ≡ t.rows →
+        string_bytes text.new
+        ≡ string_bytes text.old ++ misfit_text (found_text t found.now) misfit) }
+    ensures rows { paths.new.rows ≡ paths.old.rows }
+{
+    match misfit {
+        Misfit::Missing => push_so(text, paths, found, " is missing"),
+        Misfit::Exists => push_so(text, paths, found, " exists"),
+        Misfit::IsDirectory => push_so(text, paths, found, " is a directory"),
+        Misfit::IsNoFile => push_so(text, paths, found, " is a directory"),
+        Misfit::IsNoDirectory => push_so(text, paths, found, " is no directory"),
+        Misfit::IsNoLink => push_so(text, paths, found, " is no link"),
+        Misfit::IsNoProgram => push_so(text, paths, found, " is no program"),
+        Misfit::IsNotEmpty => push_so(text, paths, found, " is not empty"),
+        Misfit::ByDot => text.push_str("path ends in ."),
+        Misfit::ByDotDot => text.push_str("path ends in .."),
+        Misfit::ByNothing => text.push_str("path has no component"),
+    }
+}
+
+/// Adds where something was found, and what is so of it.
+fn push_so(
+    text: &mut String,
+    paths: &mut TreePaths<'_>,
+    found: &Found,
+    words: &str,
+) -> Result<(), AllocError>
+    ensures text { OnOk result ((t : Tree) → paths.old.rows ≡ t.rows →
+        string_bytes text.new
+        ≡ string_bytes text.old ++ (found_text t found.now ++ words.now)) }
+    ensures rows { paths.new.rows ≡ paths.old.rows }
+{
+    push_found(text, paths, found)?;
+    text.push_str(words)
+}
+
+/// Adds that the new name is inside of what the old path named.
+fn push_inside(
+    text: &mut String,
+    paths: &mut TreePaths<'_>,
+    old: &Found,
+    new: &Found,
+) -> Result<(), AllocError>
+    ensures text { OnOk result ((t : Tree) → paths.old.rows ≡ t.rows →
+        string_bytes text.new ≡ string_bytes text.old ++ (side_text New
+        ++ found_text t new.now ++ codes " is inside " ++ found_text t old.now)) }
+    ensures rows { paths.new.rows ≡ paths.old.rows }
+{
+    text.push_str("new: ")?;
+    push_found(text, paths, new)?;
+    text.push_str(" is inside ")?;
+    push_found(text, paths, old)
+}
+
+/// Whether something is told of execpromises.
+fn of_exec_words(of_exec: bool) -> &'static str
+    ensures { result.now ≡ of_exec_text of_exec }
+{
+    if of_exec { " in execpromises" } else { "" }
+}
+
+/// Adds that a word is no promise.
+fn push_unknown(text: &mut String, of_exec: bool) -> Result<(), AllocError>
+    ensures { OnOk result (string_bytes text.new
+        ≡ string_bytes text.old ++ (codes "unknown promise" ++ of_exec_text of_exec)) }
+{
+    text.push_str("unknown promise")?;
+    text.push_str(of_exec_words(of_exec))
+}
+
+/// Adds what a pledge asks for beyond what was given.
+fn push_asks(
+    alloc: Global,
+    text: &mut String,
+    of_exec: bool,
+    lacks: Promises,
+) -> Result<(), AllocError>
+    ensures { OnOk result (string_bytes text.new ≡ string_bytes text.old
+        ++ ((codes "no " ++ promises_text lacks) ++ of_exec_text of_exec)) }
+{
+    push_no(alloc, text, lacks)?;
+    text.push_str(of_exec_words(of_exec))
+}
+
+/// Adds a fact to a text, as the tree of the moment has it: of a veil since which line it is on its
+/// place, if that is told. The only error is that a growth was refused.
+pub fn push_fact<T: FileTree>(
+    alloc: Global,
+    text: &mut String,
+    paths: &mut TreePaths<'_>,
+    tree: &T,
+    fact: &Fact,
+    line: Option<usize>,
+) -> Result<(), AllocError>
+    ensures text { OnOk result (paths.old.rows ≡ (T.content tree.now).rows →
+        string_bytes text.new ≡ string_bytes text.old
+        ++ fact_dated (T.content tree.now) line (fact_seen fact.now)) }
+    ensures rows { paths.new.rows ≡ paths.old.rows }
+{
+    match fact {
+        Fact::Needs(set) => push_needs(alloc, text, *set),
+        Fact::Follows(side, spot) => push_link(text, paths, tree, *side, spot),
+        Fact::Names(side, found) => push_named(text, paths, tree, *side, found),
+        Fact::Under(side, over) => push_covering(text, paths, *side, over, line),
+    }
+}
+
+/// Adds since which line something is so, if that is told.
+pub fn push_since(text: &mut String, line: Option<usize>) -> Result<(), AllocError>
+    ensures { OnOk result (string_bytes text.new ≡ string_bytes text.old ++ since_text line) }
+{
+    match line {
+        Some(line) => write!(text, " since line {line}"),
+        None => Ok(()),
+    }
+}
+
+/// Adds which promises are needed.
+fn push_needs(alloc: Global, text: &mut String, set: Promises) -> Result<(), AllocError>
+    ensures { OnOk result (string_bytes text.new
+        ≡ string_bytes text.old ++ (codes "needs " ++ promises_text set)) }
+{
+    text.push_str("needs ")?;
+    push_promises(alloc, text, set)
+}
+
+/// Adds a link, and where it leads.
+fn push_link<T: FileTree>(
+    text: &mut String,
+    paths: &mut TreePaths<'_>,
+    tree: &T,
+    side: Side,
+    spot: &Spot,
+) -> Result<(), AllocError>
+    ensures text { OnOk result (paths.old.rows ≡ (T.content tree.now).rows →
+        string_bytes text.new ≡ string_bytes text.old ++ (side_text (side_seen side)
+        ++ codes "link " ++ spot_text (T.content tree.now) spot.now ++ codes " to "
+        ++ target_text (T.content tree.now) spot.now)) }
+    ensures rows { paths.new.rows ≡ paths.old.rows }
+{
+    let node = tree.look(spot.0, &spot.1).unwrap_or(NodeId::ROOT);
+    text.push_str(side_word(side))?;
+    text.push_str("link ")?;
+    paths.push_spot(text, spot.0, &spot.1)?;
+    text.push_str(" to ")?;
+    match tree.target(node) {
+        Some(target) => push_spelled(text, target),
+        None => Ok(()),
+    }
+}
+
+/// Adds what a path names.
+fn push_named<T: FileTree>(
+    text: &mut String,
+    paths: &mut TreePaths<'_>,
+    tree: &T,
+    side: Side,
+    found: &Found,
+) -> Result<(), AllocError>
+    ensures text { OnOk result (paths.old.rows ≡ (T.content tree.now).rows →
+        string_bytes text.new ≡ string_bytes text.old ++ (side_text (side_seen side)
+        ++ codes "names " ++ kind_text (object_of (T.content tree.now) found.now)
+        ++ 32 ∷ found_text (T.content tree.now) found.now)) }
+    ensures rows { paths.new.rows ≡ paths.old.rows }
+{
+    text.push_str(side_word(side))?;
+    text.push_str("names ")?;
+    text.push_str(kind_word(tree, found))?;
+    text.push_str(" ")?;
+    push_found(text, paths, found)
+}
+
+/// The word of what was found.
+fn kind_word<T: FileTree>(tree: &T, found: &Found) -> &'static str
+    ensures { result.now ≡ kind_text (object_of (T.content tree.now) found.now) }
+{
+    match *found {
+        Found::Whole { .. } => "dir",
+        Found::Slot { node: Some(id), .. } => match tree.kind(id) {
+            Some(Kind::Prog) => "prog",
+            Some(Kind::Link) => "link",
+            Some(Kind::File | Kind::Dir) => "file",
+            None => "missing",
+        },
+        Found::Slot { node: None, .. } => "missing",
+    }
+}
+
+/// Adds what covers an object.
+fn push_covering(
+    text: &mut String,
+    paths: &mut TreePaths<'_>,
+    side: Side,
+    over: &Covering,
+    line: Option<usize>,
+) -> Result<(), AllocError>
+    ensures text { OnOk result ((t : Tree) → paths.old.rows ≡ t.rows →
+        string_bytes text.new ≡ string_bytes text.old
+        ++ (side_text (side_seen side) ++ covering_dated t line over.now)) }
+    ensures rows { paths.new.rows ≡ paths.old.rows }
+{
+    text.push_str(side_word(side))?;
+    match over {
+        Covering::InView => text.push_str("no veils"),
+        Covering::NoneOver => Ok(()),
+        Covering::By(place, given) => {
+            push_veil(text, paths, place, *given)?;
+            push_since(text, line)
+        }
+    }
+}

@@ -1,0 +1,106 @@
+//! What is told of a request: why it is answered as it is.
+
+use pua_path::{Found, PathFault, Spot, TextFault};
+use pua_policy::{Covering, Misfit, Perms, Place, Promises};
+
+/// Of two paths, which one; or the only one.
+#[derive(Clone, Copy, Debug, PartialEq, Eq)]
+pub enum Side {
+    /// The only path.
+    Sole,
+    /// The old path of two.
+    Old,
+    /// The new one.
+    New,
+}
+
+/// Why a living process does not get what it asks for.
+#[derive(Clone, Copy, Debug, PartialEq, Eq)]
+pub enum Fault<'s> {
+    /// It has ended.
+    Ends,
+    /// It holds none of these sets of promises. What it holds has `error` among it, or has not.
+    LacksPromises {
+        error: bool,
+        held: Promises,
+        sets: &'s [Promises],
+    },
+    /// It lacks these of the promises that are needed. What it holds has `error` among it, or has not.
+    LacksPromise {
+        error: bool,
+        lacks: Promises,
+    },
+    /// The target of a link is no path.
+    BadTarget(TextFault),
+    /// A path names nothing.
+    BadPath(Side, PathFault),
+    /// No veil is kept at what a path named, nor at a directory over it.
+    Uncovered(Side, Found),
+    /// The nearest veil of what a path named lacks letters that are needed.
+    LacksLetters {
+        side: Side,
+        place: Place,
+        given: Perms,
+        lacks: Perms,
+    },
+    /// What a path named is wrong for the request.
+    Unfit(Side, Found, Misfit),
+    /// The new name is inside of what the old path named.
+    Inside {
+        old: Found,
+        new: Found,
+    },
+    /// A word is no promise, in the execpromises or in the promises.
+    UnknownPromise {
+        of_exec: bool,
+    },
+    /// A pledge asks for more than was given, in the execpromises or in the promises.
+    AsksPromises {
+        of_exec: bool,
+        lacks: Promises,
+    },
+    /// The veils are locked.
+    IsLocked,
+    /// A letter is no permission.
+    UnknownLetter,
+    /// An unveil asks for more than is kept at the place.
+    AsksLetters {
+        place: Place,
+        given: Perms,
+        lacks: Perms,
+    },
+    /// As many places have veils as may.
+    NoPlaceLeft,
+    /// A process was made with this number before.
+    NumberTaken(u32),
+    /// As many processes were made as may.
+    NoProcessLeft,
+    /// The tree has no room for the change.
+    NoRoom,
+}
+
+/// Why a request is answered as it is.
+#[derive(Clone, Copy, Debug, PartialEq, Eq)]
+pub enum Reason<'s> {
+    /// The process was never made.
+    NeverMade,
+    /// The process has ended.
+    Ended,
+    /// It is refused.
+    Refused(Fault<'s>),
+    /// It is granted.
+    Granted,
+}
+
+/// What a request passed on its way.
+#[derive(Clone, Copy, Debug, PartialEq, Eq)]
+pub enum Fact {
+    /// It needs these promises, and they are held.
+    Needs(Promises),
+    /// A path followed the link at this name of a directory.
+    Follows(Side, Spot),
+    /// A path names this.
+    Names(Side, Found),
+    /// What a path names is covered so.
+    Under(Side, Covering),
+}
