@@ -20,7 +20,8 @@ impl Model for Calls {
     ghost inverse = { λ n. record { bits = n } };
 }
 
-ghost use Rattle.std.specs.Prelude.{◌≡◌, ◌≢◌, ◌↔◌, ◌<◌, ◌^◌, ◌&&◌, ◌||◌, [], find, not, IsTrue};
+ghost use Rattle.std.specs.Prelude.{◌≡◌, ◌≢◌, ◌↔◌, ◌<◌, ◌^◌, [], find};
+ghost use Rattle.std.specs.Prelude.{◌&&◌, ◌||◌, not, IsTrue};
 ghost use Rattle.pua_policy.specs.Calls.{calls};
 ghost use Rattle.pua_policy.specs.CallSets.{has, calls_in, keeps_link};
 

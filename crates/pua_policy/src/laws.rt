@@ -2,8 +2,11 @@
 //! nothing, or that hands out the constants of which it speaks.
 
 ghost use Rattle.std.specs.Prelude.{◌≡◌, [], ◌∷◌, Ok, codes, map};
-ghost use Rattle.pua_policy.specs.Laws.{VeilsAreKept, CoverNeedsUnveil, NearestCounts, KeptPlacesNarrow, CoversDescend, HeldNeverGrows, PledgesNarrow, ProcessesDecide};
-ghost use Rattle.pua_policy.specs.ReasonLaws.{CoveringsHold, LackingsHold, MisfitsHold, PromisingsAnswer, PromisingsHold};
+ghost use Rattle.pua_policy.specs.Laws.{VeilsAreKept, CoverNeedsUnveil, NearestCounts};
+ghost use Rattle.pua_policy.specs.Laws.{KeptPlacesNarrow, CoversDescend, HeldNeverGrows};
+ghost use Rattle.pua_policy.specs.Laws.{PledgesNarrow, ProcessesDecide};
+ghost use Rattle.pua_policy.specs.ReasonLaws.{CoveringsHold, LackingsHold, MisfitsHold};
+ghost use Rattle.pua_policy.specs.ReasonLaws.{PromisingsAnswer, PromisingsHold};
 ghost use Rattle.pua_policy.specs.Calls.{calls};
 ghost use Rattle.pua_policy.specs.Limits.{place_limit};
 ghost use Rattle.pua_policy.specs.Tables.{alternative_limit};
@@ -72,7 +75,6 @@ pub fn cover_examples()
 
 /// Examples of what promises and veils allow, the last check of each call on each kind of object,
 /// sets of calls, and why something is allowed or not.
-#[tactic(auto, using(crate::specs::Examples::verdict_rows, crate::specs::Examples::last_check_rows, crate::specs::Examples::set_rows, crate::specs::Examples::reason_rows))]
 pub fn verdict_examples()
     ensures verdicts { VerdictRows }
     ensures checks { LastCheckRows }
@@ -119,7 +121,6 @@ pub fn standing_law()
 /// What a set is told to lack of another suffices beside it, and whatever suffices has it. Of promises
 /// it is told which set is held, the first one, or what of each lacks; and whether promises allow a
 /// call follows from what is told.
-#[tactic(auto, using(crate::proofs::Lacking::lackings_hold, crate::proofs::Lacking::promisings_hold, crate::proofs::Lacking::promisings_answer))]
 pub fn lacking_law()
     ensures sets { LackingsHold }
     ensures promises { PromisingsHold }

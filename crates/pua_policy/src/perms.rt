@@ -27,7 +27,8 @@ impl Model for Perms {
 }
 
 ghost use Rattle.std.specs.Prelude.{⊤, ◌≡◌, [], ◌∷◌, codes, bit_or};
-ghost use Rattle.pua_policy.specs.Promises.{holds, lacking, perms_of, letter_of, letters_of, reading, writing, executing, creating};
+ghost use Rattle.pua_policy.specs.Promises.{holds, lacking, perms_of, letter_of, letters_of};
+ghost use Rattle.pua_policy.specs.Promises.{reading, writing, executing, creating};
 
 use pua_path::Errno;
 
@@ -55,7 +56,8 @@ impl Flags for Letters {
 
     ghost exact = { ⊤ };
 
-    ghost table = { (codes "r", reading) ∷ (codes "w", writing) ∷ (codes "x", executing) ∷ (codes "c", creating) ∷ [] };
+    ghost table = { (codes "r", reading) ∷ (codes "w", writing)
+        ∷ (codes "x", executing) ∷ (codes "c", creating) ∷ [] };
 
     ghost set_of = { λ a. a.0 };
 

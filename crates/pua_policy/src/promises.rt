@@ -27,7 +27,8 @@ impl Model for Promises {
 }
 
 ghost use Rattle.std.specs.Prelude.{⊤, ◌≡◌, ◌==◌, IfOk, bit_and, bit_or, map, option_map};
-ghost use Rattle.pua_policy.specs.Promises.{holds, lacking, keyword_at, keywords_of, promises_of, promise_of, union_of, keyword_rows};
+ghost use Rattle.pua_policy.specs.Promises.{holds, lacking, keyword_at, keywords_of};
+ghost use Rattle.pua_policy.specs.Promises.{promises_of, promise_of, union_of, keyword_rows};
 ghost use Rattle.std.specs.List.{slice_split};
 
 use pua_path::Errno;

@@ -33,7 +33,8 @@ impl Model for Row {
 
     ghost view = { λ a. record { alternatives = take a.count a.sets; perms = a.perms } };
 
-    ghost invariant = { λ a. (padded (take a.count a.sets) ≡ a.sets) × (length (take a.count a.sets) ≡ a.count) × (a.count ≤ alternative_limit) };
+    ghost invariant = { λ a. (padded (take a.count a.sets) ≡ a.sets)
+        × (length (take a.count a.sets) ≡ a.count) × (a.count ≤ alternative_limit) };
 
     ghost inverse = { λ r. record { sets = padded r.alternatives; count = length r.alternatives; perms = r.perms } };
 
@@ -60,9 +61,19 @@ impl Model for CallTable {
 
     ghost view = { λ a. record { rules = a.rows; rename = a.rename; link = a.link; execpromises = a.execpromises } };
 
-    ghost invariant = { λ a. IsTable (record { rules = a.rows; rename = a.rename; link = a.link; execpromises = a.execpromises }) };
+    ghost invariant = { λ a. IsTable (record {
+      rules = a.rows;
+      rename = a.rename;
+      link = a.link;
+      execpromises = a.execpromises;
+    }) };
 
-    ghost inverse = { λ t. record { rows = t.rules; rename = t.rename; link = t.link; execpromises = t.execpromises } };
+    ghost inverse = { λ t. record {
+      rows = t.rules;
+      rename = t.rename;
+      link = t.link;
+      execpromises = t.execpromises;
+    } };
 }
 
 ghost use Rattle.std.specs.Prelude.{◌≡◌, ◌<◌, [], ◌∷◌, ◌++◌, length};

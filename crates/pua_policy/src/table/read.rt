@@ -1,13 +1,16 @@
 //! A table of calls, read from a TOML text.
 
-ghost use Rattle.std.specs.Prelude.{◌≡◌, ◌≢◌, ◌≤◌, ℕ, Ok, Err, Some, None, IfOk, IfErr, IfSome, IsTrue, length, option_map};
+ghost use Rattle.std.specs.Prelude.{◌≡◌, ◌≢◌, ◌≤◌, ℕ, length, option_map};
+ghost use Rattle.std.specs.Prelude.{Ok, Err, Some, None, IfOk, IfErr, IfSome, IsTrue};
 ghost use Rattle.toml.specs.Data.{get_member};
 ghost use Rattle.toml.specs.Errors.{IsBlank};
 ghost use Rattle.toml.specs.View.{view, items_view, table_view};
 ghost use Rattle.pua_policy.specs.Promises.{promises_of};
 ghost use Rattle.pua_policy.specs.Calls.{Rule, standard_table};
 ghost use Rattle.pua_policy.specs.Tables.{HasPairsOf, NamesNoError, NeedsNoError, alternative_limit};
-ghost use Rattle.pua_policy.specs.TableTexts.{alternative_of, alternatives_of, are_alternatives, are_texts, document_of, keys_ascend, row_of, rule_in, rules_with, table_of, table_over, values_of};
+ghost use Rattle.pua_policy.specs.TableTexts.{alternative_of, alternatives_of, are_alternatives};
+ghost use Rattle.pua_policy.specs.TableTexts.{are_texts, document_of, keys_ascend, row_of, rule_in};
+ghost use Rattle.pua_policy.specs.TableTexts.{rules_with, table_of, table_over, values_of};
 
 use crate::call::Call;
 use crate::perms::Perms;
@@ -54,8 +57,10 @@ impl CallTable {
     pub fn read(alloc: Global, text: &[u8]) -> Result<CallTable, TableFault>
         ensures read { IfOk result (λ table. table_of text.now ≡ Ok table) }
         ensures pairs { IfOk result (HasPairsOf standard_table) }
-        ensures refused { IfErr result (λ fault. fault ≢ TableFault.OutOfMemory → table_of text.now ≡ Err fault) }
-        ensures in_order { result ≢ Err TableFault.OutOfMemory → IfSome (document_of text.now) (λ members. IsTrue (keys_ascend members)) }
+        ensures refused { IfErr result (λ fault.
+            fault ≢ TableFault.OutOfMemory → table_of text.now ≡ Err fault) }
+        ensures in_order { result ≢ Err TableFault.OutOfMemory →
+            IfSome (document_of text.now) (λ members. IsTrue (keys_ascend members)) }
         ensures memory { result ≡ Err TableFault.OutOfMemory → ¬ IsBlank text.now }
     {
         CallTable::standard().read_over(alloc, text)
@@ -67,8 +72,10 @@ impl CallTable {
     pub fn read_over(&self, alloc: Global, text: &[u8]) -> Result<CallTable, TableFault>
         ensures read { IfOk result (λ table. table_over self.now text.now ≡ Ok table) }
         ensures pairs { IfOk result (HasPairsOf self.now) }
-        ensures refused { IfErr result (λ fault. fault ≢ TableFault.OutOfMemory → table_over self.now text.now ≡ Err fault) }
-        ensures in_order { result ≢ Err TableFault.OutOfMemory → IfSome (document_of text.now) (λ members. IsTrue (keys_ascend members)) }
+        ensures refused { IfErr result (λ fault.
+            fault ≢ TableFault.OutOfMemory → table_over self.now text.now ≡ Err fault) }
+        ensures in_order { result ≢ Err TableFault.OutOfMemory →
+            IfSome (document_of text.now) (λ members. IsTrue (keys_ascend members)) }
         ensures memory { result ≡ Err TableFault.OutOfMemory → ¬ IsBlank text.now }
     {
         let document = document(alloc, text)?;
