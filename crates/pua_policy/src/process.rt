@@ -53,8 +53,8 @@ impl Model for Process {
     }) };
 }
 
-ghost use Rattle.std.specs.Prelude.{◌≡◌, ◌≢◌, ◌-◌, [], ◌∷◌, length, map, false, if◌then◌else◌};
-ghost use Rattle.std.specs.Prelude.{Option, Some, None, IfSome, unwrap_or};
+ghost use Rattle.std.specs.Prelude.{◌≡◌, ◌≢◌, ◌-◌, [], ◌∷◌, length, map};
+ghost use Rattle.std.specs.Prelude.{if◌then◌else◌, false, Option, Some, None, IfSome, unwrap_or};
 ghost use Rattle.std.specs.Prelude.{Err, IfOk, OnOk, OnErr, IfErr, MatchResult};
 ghost use Rattle.std.specs.List.{list_any};
 ghost use Rattle.pua_policy.specs.Promises.{holds, all_promises, error};
