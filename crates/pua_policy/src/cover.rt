@@ -22,7 +22,8 @@ impl Process {
     /// probe's tree as it stands. At most as many looks at the tree as it has nodes.
     pub fn cover<'t, P: Probe<'t>>(&self, probe: &mut P, found: &Found) -> Cover
         requires { FoundFits (P.tree probe.old) found.now }
-        ensures exact { (h : History) → StandsFor self.now h → result ≡ cover (P.tree probe.old) h found.now }
+        ensures exact { (h : History) → StandsFor self.now h →
+            result ≡ cover (P.tree probe.old) h found.now }
         ensures tree { P.tree probe.new ≡ P.tree probe.old }
         ensures cost { P.count probe.new ≤ P.count probe.old + length (P.tree probe.old).nodes }
     {

@@ -1,4 +1,4 @@
-use Rattle.std.proofs.Common.{rules, arith, refl, ap, sym, ◌∙◌, List, length}
+use Rattle.std.proofs.Common.{rules, arith, ap, sym, ◌∙◌, List, length}
 use Rattle.std.specs.Prelude.{Ok}
 use Rattle.pua_tree.specs.Tree.{Spot}
 use Rattle.pua_path.specs.Walks.{way_of, walk_trace}
@@ -25,10 +25,9 @@ loop-piece-init g c =
     record {
       tree = c.start_of.ensures.tree;
       ready = rw (c.new-walk.ensures) (c.in-Some.ensures.ready c.of_text.result c.of_text.ensures.depth);
-      so_far = sym (trace_begins t c.args.from text.ending text.bytes c.args.mode c.in-Some.start walk.left t walk.here (way_of walk.way) walk.rest.parts
+      so_far = sym (trace_begins t c.args.from text.ending text.bytes c.args.mode c.in-Some.start walk.left walk.here (way_of walk.way) walk.rest.parts
           (behind spots.items (walk_trace t c.args.mode walk))
           (record {
-            same_tree = refl;
             all_links = ap (λ w. w.left) c.new-walk.ensures;
             at_start = ap (λ w. w.here) c.new-walk.ensures;
             no_way = ap (λ w. way_of w.way) c.new-walk.ensures;
