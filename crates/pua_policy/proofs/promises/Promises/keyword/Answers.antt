@@ -1,8 +1,6 @@
-use Rattle.std.proofs.Common.{◌≡◌, ◌≤◌, ◌∙◌, sym, ap, length, option_map, rules, tests, arith}
+use Rattle.std.proofs.Common.{◌≡◌, ◌≤◌, ◌∙◌, sym, ap, length, option_map, rules, tests}
 use Rattle.std.specs.Prelude.{Some, slice_get}
-use Rattle.std.proofs.lemmas.Bool.Decides.{nat_tests}
 use Rattle.std.proofs.lemmas.Option.{slice_get_read}
-use Rattle.pua_policy.specs.Promises.{holds, keyword_at, keyword_if}
 use Rattle.pua_policy.proofs.Keywords.{keyword_past, keyword_there}
 use Rattle.pua_policy.proofs.promises.Promises.keyword.Goals as goal
 
