@@ -86,9 +86,8 @@ pub(crate) fn cover_fault<'s, 't, P: Probe<'t>>(
     found: &Found,
     perms: Perms,
 ) -> Option<Fault<'s>>
-    requires { FoundFits (P.tree probe.old) found.now }
-    ensures exact { (h : History) → StandsFor process.now h →
-        option_map fault_seen result
+    ensures exact { FoundFits (P.tree probe.old) found.now →
+        (h : History) → StandsFor process.now h → option_map fault_seen result
         ≡ uncovered (side_seen side) found.now perms (covering (P.tree probe.old) h found.now) }
     ensures tree { P.tree probe.new ≡ P.tree probe.old }
 {
