@@ -4,7 +4,8 @@ ghost use Rattle.std.specs.Prelude.{◌≡◌, ◌++◌, ◌∷◌, IfOk, OnOk, 
 ghost use Rattle.pua_path.specs.declared.traced.PathFault.TheVariants as faults;
 ghost use Rattle.pua_tree.specs.Names.{same_bytes};
 ghost use Rattle.pua_policy.specs.Promises.{lacking};
-ghost use Rattle.pua_why.specs.Keys.{exec_key, fault_key, misfit_key, path_key, place_key, reason_key, side_key, text_key};
+ghost use Rattle.pua_why.specs.Keys.{exec_key, fault_key, misfit_key, path_key, place_key};
+ghost use Rattle.pua_why.specs.Keys.{reason_key, side_key, text_key};
 ghost use Rattle.pua_why.specs.Seen.{fault_seen, reason_seen, side_seen};
 
 use crate::told::{Fault, Reason, Side};
