@@ -29,7 +29,10 @@ impl<'t> Model for ProcessHead<'t> {
 
     ghost Value = { HeadState };
 
-    ghost view = { λ a. record { text = string_bytes a.text; veils = map (λ veil. (veil.0.now, veil.1.now)) a.veils.items } };
+    ghost view = { λ a. record {
+      text = string_bytes a.text;
+      veils = map (λ veil. (veil.0.now, veil.1.now)) a.veils.items;
+    } };
 }
 
 impl<'t> ProcessHead<'t> {

@@ -1,6 +1,7 @@
 //! What stands behind an object's line: the promises on which its calls rest, and the veil over it.
 
-ghost use Rattle.std.specs.Prelude.{◌≡◌, ◌++◌, ℕ, List, None, IfOk, OnOk, map, slice_index_or, string_bytes};
+ghost use Rattle.std.specs.Prelude.{◌≡◌, ◌++◌, ℕ, List, None, IfOk, OnOk, map};
+ghost use Rattle.std.specs.Prelude.{slice_index_or, string_bytes};
 ghost use Rattle.pua_policy.specs.Calls.{rule_of};
 ghost use Rattle.pua_policy.specs.CallSets.{calls_in};
 ghost use Rattle.pua_policy.specs.History.{History, StandsFor, veils};
@@ -52,7 +53,11 @@ impl<'t, T: FileTree> Model for Columns<'t, T> {
 
     ghost Value = { ColumnsState };
 
-    ghost view = { λ a. record { tree = T.content a.tree.now; table = a.table; veils = map veil_state a.veils.items } };
+    ghost view = { λ a. record {
+      tree = T.content a.tree.now;
+      table = a.table;
+      veils = map veil_state a.veils.items;
+    } };
 }
 
 impl<'t, T: FileTree> Columns<'t, T> {
@@ -105,8 +110,8 @@ impl<'t, T: FileTree> Columns<'t, T> {
 
     /// The columns of the veil that covers what an item is about.
     pub(crate) fn over(&self, process: &Process, subject: &Subject<'_>) -> &str
-        requires fits { SubjectFits self.now.tree (subject_given self.now.tree subject.now) }
-        ensures { (p : Asking) (number : ℕ) (h : History) → AreColumnsOf p number h self.now →
+        ensures { SubjectFits self.now.tree (subject_given self.now.tree subject.now) →
+            (p : Asking) (number : ℕ) (h : History) → AreColumnsOf p number h self.now →
             StandsFor process.now h → result.now ≡ covering_behind p number
             (covering_on self.now.tree h (subject_given self.now.tree subject.now)) }
     {
@@ -247,10 +252,11 @@ fn text_at<'v>(veils: &'v [VeilColumns], place: &Place) -> &'v str
 
 /// What covers what an item is about. Further names of a directory are covered as it is.
 fn covering_of<T: FileTree>(tree: &T, process: &Process, subject: &Subject<'_>) -> Covering
-    requires { SubjectFits (T.content tree.now) (subject_given (T.content tree.now) subject.now) }
-    ensures covered { (h : History) → StandsFor process.now h → result
-        ≡ covering_on (T.content tree.now) h (subject_given (T.content tree.now) subject.now) }
-    ensures kept { (h : History) → StandsFor process.now h → IsAmongVeils (veils h) result }
+    ensures covered { let about = subject_given (T.content tree.now) subject.now in
+        SubjectFits (T.content tree.now) about → (h : History) → StandsFor process.now h →
+        result ≡ covering_on (T.content tree.now) h about }
+    ensures kept { SubjectFits (T.content tree.now) (subject_given (T.content tree.now) subject.now) →
+        (h : History) → StandsFor process.now h → IsAmongVeils (veils h) result }
 {
     tree.known();
     let mut probe = Counted::new(tree);
