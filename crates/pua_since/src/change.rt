@@ -1,7 +1,8 @@
 //! Whether a request that was served may have changed the world.
 
 ghost use Rattle.std.specs.Prelude.{◌≡◌, IsFalse};
-ghost use Rattle.pua_since.specs.Changes.{LeavesAsIs, action_changes, call_changes, has_changed, has_forked};
+ghost use Rattle.pua_since.specs.Changes.{LeavesAsIs, action_changes, call_changes, has_changed};
+ghost use Rattle.pua_since.specs.Changes.{has_forked};
 
 use pua_policy::Call;
 use pua_script::{Action, Answer};

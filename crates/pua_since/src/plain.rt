@@ -4,7 +4,8 @@ ghost use Rattle.std.specs.Prelude.{◌≡◌, IfOk, IsTrue, false};
 ghost use Rattle.pua_policy.specs.History.{History, StandsFor, working_dir};
 ghost use Rattle.pua_script.specs.Replay.{World as Replayed};
 ghost use Rattle.pua_script.specs.Worlds.{StandsForWorld};
-ghost use Rattle.pua_since.specs.Frames.{ActionFollowsNone, FollowsNoLink, PairFollowsNone, PathFollowsNone, looks_further};
+ghost use Rattle.pua_since.specs.Frames.{ActionFollowsNone, FollowsNoLink, PairFollowsNone};
+ghost use Rattle.pua_since.specs.Frames.{PathFollowsNone, looks_further};
 
 use crate::concerns::looks_further;
 use pua_path::{Counted, Ending, Last, Links, PathText, trace};

@@ -4,7 +4,8 @@ ghost use Rattle.std.specs.Prelude.{◌≡◌, Ok};
 ghost use Rattle.pua_policy.specs.History.{History, StandsFor};
 ghost use Rattle.pua_script.specs.Replay.{World as Replayed};
 ghost use Rattle.pua_script.specs.Worlds.{StandsForWorld};
-ghost use Rattle.pua_since.specs.Concerns.{action_touches, call_touches, row_by, row_from, row_of, touched_by};
+ghost use Rattle.pua_since.specs.Concerns.{action_touches, call_touches, row_by, row_from, row_of};
+ghost use Rattle.pua_since.specs.Concerns.{touched_by};
 
 use crate::marks::mark_of;
 use pua_path::{Counted, Ending, Found, Last, PathText, resolve};

@@ -4,7 +4,8 @@ ghost use Rattle.std.specs.Prelude.{◌≡◌, IfOk, IsTrue, OnOk, max};
 ghost use Rattle.pua_script.specs.Replay.{World as Replayed};
 ghost use Rattle.pua_script.specs.Worlds.{StandsForWorld};
 ghost use Rattle.pua_since.specs.Concerns.{is_concerned, is_named};
-ghost use Rattle.pua_since.specs.Watched.{AreMarked, IsAbout, IsAskedOnce, IsBegunIn, IsPlain, IsSameTopic, IsToldOf, is_same_told, kept_in};
+ghost use Rattle.pua_since.specs.Watched.{AreMarked, IsAbout, IsAskedOnce, IsBegunIn, IsPlain};
+ghost use Rattle.pua_since.specs.Watched.{IsSameTopic, IsToldOf, is_same_told, kept_in};
 
 use crate::concerns::names_part;
 use crate::touched::Touched;

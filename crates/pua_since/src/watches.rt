@@ -7,7 +7,9 @@ ghost use Rattle.pua_script.specs.Requests.{Asked};
 ghost use Rattle.pua_script.specs.Worlds.{StandsForWorld};
 ghost use Rattle.pua_since.specs.Concerns.{TouchesOnly};
 ghost use Rattle.pua_since.specs.declared.watch.Question.{Question as Asking};
-ghost use Rattle.pua_since.specs.Watched.{AreHanded, AreWatched, IsKeptThrough, IsTopicAt, forebear_by, fork_seen, fork_told, forks_done, forks_left, handed_by, line_at, made_by};
+ghost use Rattle.pua_since.specs.Watched.{AreHanded, AreWatched, IsKeptThrough, IsTopicAt};
+ghost use Rattle.pua_since.specs.Watched.{forebear_by, fork_seen, fork_told, forks_done};
+ghost use Rattle.pua_since.specs.Watched.{forks_left, handed_by, line_at, made_by};
 
 use crate::change::{has_changed, has_forked};
 use crate::touched::{Touched, touched_by};
