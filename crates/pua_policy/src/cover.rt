@@ -8,10 +8,10 @@ ghost use Rattle.pua_policy.specs.Reasons.{covering, first_veiled, covering_at};
 ghost use Rattle.pua_policy.specs.Verdict.{FoundFits, cover, nearest};
 
 use crate::answer::Cover;
-use crate::perms::Perms;
 use crate::place::Place;
 use crate::process::Process;
 use crate::reason::Covering;
+use pua_calls::Perms;
 use pua_path::{Found, Probe};
 use pua_tree::NodeId;
 

@@ -3,8 +3,8 @@
 ghost use Rattle.std.specs.Prelude.{◌≡◌, ◌+◌, ◌≤◌, [], ◌∷◌, ℕ, length};
 ghost use Rattle.std.specs.Prelude.{Some, None, is_none, MatchResult};
 ghost use Rattle.pua_tree.specs.Tree.{Tree};
-ghost use Rattle.pua_policy.specs.Calls.{rule_of};
-ghost use Rattle.pua_policy.specs.CallSets.{has};
+ghost use Rattle.pua_calls.specs.Calls.{rule_of};
+ghost use Rattle.pua_calls.specs.CallSets.{has};
 ghost use Rattle.pua_policy.specs.History.{History, StandsFor, may_any};
 ghost use Rattle.pua_policy.specs.Objects.{object_seen};
 ghost use Rattle.pua_policy.specs.Verdict.{FoundFits, FoundsFit, verdict, verdict_of};
@@ -15,14 +15,10 @@ ghost use Rattle.pua_policy.specs.Misfits.{misfit, rmdir_misfit};
 ghost use Rattle.pua_path.specs.declared.found.Way as way;
 
 use crate::answer::{Cover, May, Refusal, Verdict};
-use crate::call::Call;
-use crate::calls::Calls;
 use crate::object::Object;
-use crate::perms::Perms;
 use crate::process::Process;
-use crate::promises::Promises;
 use crate::reason::Misfit;
-use crate::table::CallTable;
+use pua_calls::{Call, CallTable, Calls, Perms, Promises};
 use pua_path::{Errno, Found, Probe, Way};
 use pua_tree::{Kind, NodeId};
 

@@ -1,11 +1,9 @@
 //! A process: what it keeps of what happened to it.
 
 use crate::answer::{May, UnveilFault};
-use crate::perms::Perms;
 use crate::place::Place;
-use crate::promises::Promises;
-use crate::rules::ExecPromises;
 use indexmap::IndexMap;
+use pua_calls::{ExecPromises, Perms, Promises};
 use pua_path::Errno;
 use pua_tree::{NodeId, OutOfMemory};
 use std::alloc::{AllocError, Global};
@@ -57,13 +55,13 @@ ghost use Rattle.std.specs.Prelude.{◌≡◌, ◌≢◌, ◌-◌, [], ◌∷◌
 ghost use Rattle.std.specs.Prelude.{if◌then◌else◌, false, Option, Some, None, IfSome, unwrap_or};
 ghost use Rattle.std.specs.Prelude.{Err, IfOk, OnOk, OnErr, IfErr, MatchResult};
 ghost use Rattle.std.specs.List.{list_any};
-ghost use Rattle.pua_policy.specs.Promises.{holds, all_promises, error};
-ghost use Rattle.pua_policy.specs.declared.rules.ExecPromises.TheVariants.{Unset};
+ghost use Rattle.pua_calls.specs.Promises.{holds, all_promises, error};
+ghost use Rattle.pua_calls.specs.declared.rules.ExecPromises.TheVariants.{Unset};
 ghost use Rattle.pua_policy.specs.History.{History, StandsFor, new_history, HasHistory, after_exec};
 ghost use Rattle.pua_policy.specs.History.{Pledged, Unveiled, Locked, Moved, Ended};
 ghost use Rattle.pua_policy.specs.History.{pledge_fault, unveil_fault, place_fault, is_within};
 ghost use Rattle.pua_policy.specs.History.{narrowed, may_any, is_locked, is_ended, working_dir};
-ghost use Rattle.pua_policy.specs.History.{pledged, held, held_for_exec};
+ghost use Rattle.pua_policy.specs.History.{pledged, held, held_for_exec, left_for_exec};
 ghost use Rattle.pua_policy.specs.History.{kept, veils, veil_at, has_veil};
 
 impl Process {
@@ -239,7 +237,7 @@ impl Process {
             return;
         };
         self.promises = Some(promises);
-        self.execpromises = left.left(promises);
+        self.execpromises = left_for_exec(left, promises);
     }
 
     /// Does nothing: its contract says that some history left what the process keeps, so that
@@ -385,5 +383,15 @@ fn narrowed(given: Option<Promises>, request: Option<Promises>) -> Option<Promis
         (Some(given), Some(request)) => Some(request.intersection(given)),
         (None, request) => request,
         (given, None) => given,
+    }
+}
+
+/// The execpromises of a program that is started with these.
+fn left_for_exec(left: ExecPromises, given: Promises) -> Option<Promises>
+    ensures { result ≡ left_for_exec left given }
+{
+    match left {
+        ExecPromises::Unset => None,
+        ExecPromises::Stay => Some(given),
     }
 }
