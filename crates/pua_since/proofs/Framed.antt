@@ -11,14 +11,14 @@ use Rattle.pua_path.specs.declared.found.Found.{Found}
 use Rattle.pua_path.specs.declared.found.Last.{Last}
 use Rattle.pua_path.specs.declared.found.Last.TheVariants.{Followed}
 use Rattle.pua_path.specs.declared.traced.PathFault.{PathFault}
-use Rattle.pua_policy.specs.Promises.{unveil}
-use Rattle.pua_policy.specs.Calls.{CallTable, PairRule, rule_of, last_of, ending_of}
+use Rattle.pua_calls.specs.Promises.{unveil}
+use Rattle.pua_calls.specs.Calls.{CallTable, PairRule, rule_of, last_of, ending_of}
 use Rattle.pua_policy.specs.History.{History, working_dir, is_ended, is_locked, kept}
 use Rattle.pua_policy.specs.Misfits.{Object, IsDir, IsFile, IsProg, IsLink, IsMissing, misfit}
 use Rattle.pua_policy.specs.Reasons.{promising, covering, first_kept}
 use Rattle.pua_policy.specs.Verdict.{is_unveil, object_of, or_fault}
-use Rattle.pua_policy.specs.declared.call.Call.{Call}
-use Rattle.pua_policy.specs.declared.call.Call.TheVariants as call
+use Rattle.pua_calls.specs.declared.call.Call.{Call}
+use Rattle.pua_calls.specs.declared.call.Call.TheVariants as call
 use Rattle.pua_policy.specs.declared.reason.Covering.TheVariants.{InView}
 use Rattle.pua_script.specs.Decide.{Change, NoChange, AddNode, CutRow, ShiftRow, TieRow, BeginProgram, AddEvent, CopyAs, Outcome, Side, Sole, Old, New, unless_refused, unless_failed, on_named, fault_if, adding, link_node, change_by, object_by, objects_by, link_by, veil_by}
 use Rattle.pua_script.specs.Replay.{World, history_of}

@@ -4,7 +4,7 @@ use Rattle.std.specs.Prelude.{IsTrue, not, ◌&&◌, ◌==◌, nat_le, if◌then
 use Rattle.std.specs.Option.{option_eq, option_map_or}
 use Rattle.std.proofs.lemmas.Bool.{false≢true, or_parts}
 use Rattle.pua_tree.specs.Names.{same_bytes}
-use Rattle.pua_policy.specs.Calls.{CallTable}
+use Rattle.pua_calls.specs.Calls.{CallTable}
 use Rattle.pua_policy.specs.History.{History, is_ended, kept}
 use Rattle.pua_policy.specs.Verdict.{or_fault}
 use Rattle.pua_script.specs.Limits.{process_limit}

@@ -18,12 +18,12 @@ use Rattle.pua_path.specs.declared.text.Ending.TheVariants as ending
 use Rattle.pua_path.specs.declared.found.Last.{Last}
 use Rattle.pua_path.specs.declared.found.Found.{Found}
 use Rattle.pua_path.specs.declared.found.Found.TheVariants.{Whole, Slot}
-use Rattle.pua_policy.specs.Calls.{CallTable, ending_of, last_of}
+use Rattle.pua_calls.specs.Calls.{CallTable, ending_of, last_of}
 use Rattle.pua_policy.specs.History.{History, Ended, working_dir}
 use Rattle.pua_policy.specs.declared.answer.Refusal.{Refusal}
 use Rattle.pua_policy.specs.declared.answer.Refusal.TheVariants as refusals
-use Rattle.pua_policy.specs.declared.call.Call.{Call}
-use Rattle.pua_policy.specs.declared.call.Call.TheVariants as call
+use Rattle.pua_calls.specs.declared.call.Call.{Call}
+use Rattle.pua_calls.specs.declared.call.Call.TheVariants as call
 use Rattle.pua_script.specs.Requests.{Asked}
 use Rattle.pua_script.specs.Decide.{Change, NoChange, adding, removing, tying, going, change_by, link_node, plain_node, decide}
 use Rattle.pua_script.specs.Guards.{IsDecided}

@@ -6,7 +6,7 @@ use Rattle.std.proofs.lemmas.Bool.{eqb-true}
 use Rattle.std.proofs.lemmas.List.{length-append}
 use lib.Pointwise.{bytes_decides}
 use Rattle.pua_tree.specs.Names.{same_bytes}
-use Rattle.pua_policy.specs.Calls.{CallTable}
+use Rattle.pua_calls.specs.Calls.{CallTable}
 use Rattle.pua_script.specs.Requests.{Asked}
 use Rattle.pua_script.specs.Replay.{World, answers, apply, world_after}
 use Rattle.pua_script.specs.Family.{is_okay}

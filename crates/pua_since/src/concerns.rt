@@ -3,7 +3,7 @@
 ghost use Rattle.std.specs.Prelude.{◌≡◌};
 ghost use Rattle.pua_since.specs.Frames.{has_part, looks_further, names_part};
 
-use pua_policy::Call;
+use pua_calls::Call;
 use pua_script::Action;
 use pua_tree::Name;
 

@@ -8,9 +8,10 @@ ghost use Rattle.pua_since.specs.Frames.{ActionFollowsNone, FollowsNoLink, PairF
 ghost use Rattle.pua_since.specs.Frames.{PathFollowsNone, looks_further};
 
 use crate::concerns::looks_further;
+use pua_calls::needs::{ending, need};
+use pua_calls::{Call, CallTable, PairNeed};
 use pua_path::{Counted, Ending, Last, Links, PathText, trace};
-use pua_policy::needs::{ending, need};
-use pua_policy::{Call, CallTable, PairNeed, Process};
+use pua_policy::Process;
 use pua_script::{Action, World};
 use pua_tree::{FileTree, NodeId, OutOfMemory};
 use std::alloc::Global;

@@ -8,9 +8,10 @@ ghost use Rattle.pua_since.specs.Concerns.{action_touches, call_touches, row_by,
 ghost use Rattle.pua_since.specs.Concerns.{touched_by};
 
 use crate::marks::mark_of;
+use pua_calls::Call;
+use pua_calls::needs::{ending, need};
 use pua_path::{Counted, Ending, Found, Last, PathText, resolve};
-use pua_policy::needs::{ending, need};
-use pua_policy::{Call, Process};
+use pua_policy::Process;
 use pua_script::{Action, Answer, Request, World};
 use pua_tree::{FileTree, Name};
 

@@ -10,7 +10,8 @@ ghost use Rattle.pua_since.specs.Watched.{IsSameTopic, IsToldOf, is_same_told, k
 use crate::concerns::names_part;
 use crate::touched::Touched;
 use crate::{marks, plain};
-use pua_policy::{Perms, Place};
+use pua_calls::Perms;
+use pua_policy::Place;
 use pua_script::{Action, World};
 use pua_tree::{FileTree, Name, OutOfMemory};
 use pua_why::{Key, checked};

@@ -1,7 +1,7 @@
 //! The questions of a replay, and the processes that they are about.
 
 ghost use Rattle.std.specs.Prelude.{◌≡◌, ℕ, ◌<◌, ◌+◌, ◌++◌, ◌∷◌, [], List, IfOk, OnOk, length, map};
-ghost use Rattle.pua_policy.specs.Calls.{CallTable};
+ghost use Rattle.pua_calls.specs.Calls.{CallTable};
 ghost use Rattle.pua_script.specs.Replay.{World as Replayed, answers, apply, world_after};
 ghost use Rattle.pua_script.specs.Requests.{Asked};
 ghost use Rattle.pua_script.specs.Worlds.{StandsForWorld};

@@ -12,7 +12,8 @@ ghost use Rattle.pua_why.specs.Seen.{fault_seen};
 
 use crate::checks::promise_fault;
 use crate::told::Fault;
-use pua_policy::{Process, Promises};
+use pua_calls::Promises;
+use pua_policy::Process;
 use pua_script::{Given, PROCESS_LIMIT, World};
 use pua_tree::{FileTree, OutOfMemory};
 use std::alloc::Global;

@@ -17,8 +17,9 @@ ghost use Rattle.pua_why.specs.Seen.{fault_seen, on_found, side_seen};
 
 use crate::checks::{cover_fault, promises_fault, traced};
 use crate::told::{Fault, Side};
+use pua_calls::{CallTable, PairNeed};
 use pua_path::{Counted, Ending, Found, Links, Probe, Way};
-use pua_policy::{CallTable, Misfit, PairNeed, Process};
+use pua_policy::{Misfit, Process};
 use pua_tree::{FileTree, Kind, NodeId};
 
 /// What an old path and a new one name.
