@@ -2,8 +2,8 @@
 
 ghost use Rattle.std.specs.Prelude.{◌≡◌, ◌++◌, ℕ, List, None, IfOk, OnOk, map};
 ghost use Rattle.std.specs.Prelude.{slice_index_or, string_bytes};
-ghost use Rattle.pua_policy.specs.Calls.{rule_of};
-ghost use Rattle.pua_policy.specs.CallSets.{calls_in};
+ghost use Rattle.pua_calls.specs.Calls.{rule_of};
+ghost use Rattle.pua_calls.specs.CallSets.{calls_in};
 ghost use Rattle.pua_policy.specs.History.{History, StandsFor, veils};
 ghost use Rattle.pua_policy.specs.Reasons.{promising};
 ghost use Rattle.pua_policy.specs.declared.place.Place.{Place as Kept};
@@ -19,9 +19,10 @@ ghost use Rattle.pua_tool.specs.WhyLists.{text_at, veil_behind, veil_state, veil
 ghost use Rattle.pua_tool.specs.WhyTexts.{Posed as Asking, covering_on, world_left};
 
 use crate::veil_line::shown_letters;
+use pua_calls::{Call, CallTable, Calls, Perms, Promises};
 use pua_objects::{Item, ObjectLine, Subject, line_of};
 use pua_path::{Counted, Found, Way};
-use pua_policy::{Call, CallTable, Calls, Covering, Perms, Place, Process, Promises, Promising};
+use pua_policy::{Covering, Place, Process, Promising};
 use pua_tree::{FileTree, NodeId, OutOfMemory};
 use pua_why::TreePaths;
 use std::alloc::{AllocError, Global};

@@ -1,8 +1,8 @@
 //! The lines of a list with reasons, added to a block.
 
 ghost use Rattle.std.specs.Prelude.{◌≡◌, ◌++◌, ◌∷◌, [], if◌then◌else◌, ℕ, map};
-ghost use Rattle.pua_policy.specs.Calls.{call_name};
-ghost use Rattle.pua_policy.specs.CallSets.{calls_in};
+ghost use Rattle.pua_calls.specs.Calls.{call_name};
+ghost use Rattle.pua_calls.specs.CallSets.{calls_in};
 ghost use Rattle.pua_policy.specs.History.{History, StandsFor};
 ghost use Rattle.pua_audit.specs.Reach.{printed_path};
 ghost use Rattle.pua_audit.specs.declared.base.Base.TheVariants as base;
@@ -17,9 +17,10 @@ ghost use Rattle.pua_tool.specs.WhyTexts.{Posed as Asking, world_left};
 use crate::block::{Block, MOST_LINE};
 use crate::object_line::{add_calls, add_path, kind_bytes};
 use crate::why_columns::Columns;
+use pua_calls::Promises;
 use pua_io::{PutFault, Sink};
 use pua_objects::{Item, Items, ObjectLine};
-use pua_policy::{Process, Promises};
+use pua_policy::Process;
 use pua_tree::{FileTree, Name};
 
 /// Adds a line for each item that is still to come on which a call is allowed. A block is put where

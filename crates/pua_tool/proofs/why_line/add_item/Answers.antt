@@ -1,6 +1,6 @@
 use Rattle.std.proofs.Common.{◌≡◌, ◌≢◌, [], ◌++◌, List, ℕ, Ok, Err, sym, subst, map}
 use Rattle.std.proofs.lemmas.Result.{err_from_is_err_and}
-use Rattle.pua_policy.specs.CallSets.{calls_in}
+use Rattle.pua_calls.specs.CallSets.{calls_in}
 use Rattle.pua_objects.specs.Items.{subject_given}
 use Rattle.pua_why.specs.Texts.{promises_text}
 use Rattle.pua_tool.specs.Blocks.{Passes}

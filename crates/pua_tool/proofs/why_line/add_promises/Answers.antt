@@ -1,7 +1,7 @@
 use Rattle.std.proofs.Common.{◌≡◌, ◌+◌, ◌++◌, [], List, ℕ, Ok, false, sym, ap, subst, ◌∙◌}
 use Rattle.std.proofs.lemmas.Result.{err_from_is_err_and}
 use Rattle.std.specs.Prelude.{Some, None, option_map, codes, if◌then◌else◌}
-use Rattle.pua_policy.specs.Promises.{keyword_at}
+use Rattle.pua_calls.specs.Promises.{keyword_at}
 use Rattle.pua_why.specs.Texts.{promises_text}
 use Rattle.pua_tool.proofs.Keywords.{comma, text_all, text_done, text_left, text_passed, text_taken}
 use Rattle.pua_tool.proofs.Passing.{Passing, passes_none, passing_none, passing_more, passing_fails, passing_last}
