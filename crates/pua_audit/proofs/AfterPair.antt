@@ -8,11 +8,11 @@ use Rattle.std.specs.List.{AllByRecursion}
 use Rattle.std.specs.Ordering.{nat_cmp, ordering_then, is_lt}
 use Rattle.std.specs.declared.cmp.Ordering.TheVariants.{Less, Equal, Greater}
 use Rattle.pua_tree.specs.Tree.{name_cmp}
-use Rattle.pua_policy.specs.CallSets.{bit_of}
-use Rattle.pua_policy.specs.Calls.{call_number}
-use Rattle.pua_policy.specs.declared.call.Call.{Call}
-use Rattle.pua_policy.specs.declared.call.Call.TheVariants.{Stat, Lstat, Readlink, OpenRead, OpenWrite, OpenBoth, Create, Mkdir, Rmdir, Unlink, Symlink, Chmod, Chdir, Exec}
-use Rattle.pua_policy.proofs.ForCallers.{call_at_bit, bit_of_call_at}
+use Rattle.pua_calls.specs.CallSets.{bit_of}
+use Rattle.pua_calls.specs.Calls.{call_number}
+use Rattle.pua_calls.specs.declared.call.Call.{Call}
+use Rattle.pua_calls.specs.declared.call.Call.TheVariants.{Stat, Lstat, Readlink, OpenRead, OpenWrite, OpenBoth, Create, Mkdir, Rmdir, Unlink, Symlink, Chmod, Chdir, Exec}
+use Rattle.pua_calls.proofs.ForCallers.{call_at_bit, bit_of_call_at}
 use Rattle.pua_audit.specs.Coming.{call_at, pair_at, pairs_at, pairs_after}
 use Rattle.pua_audit.specs.Graphs.{numbered, spelled}
 use Rattle.pua_audit.specs.Laws.{Rises}

@@ -16,13 +16,13 @@ use Rattle.pua_path.specs.declared.found.Part.TheVariants as parts
 use Rattle.pua_path.specs.declared.found.Last.TheVariants.{Followed}
 use Rattle.pua_path.specs.declared.found.Way.TheVariants.{Top}
 use Rattle.pua_path.specs.declared.found.Found.TheVariants.{Whole, Slot}
-use Rattle.pua_policy.specs.Calls.{CallTable, rule_of, last_of, ending_of, calls}
+use Rattle.pua_calls.specs.Calls.{CallTable, rule_of, last_of, ending_of, calls}
 use Rattle.pua_policy.specs.History.{History, may_any, is_ended, working_dir}
 use Rattle.pua_policy.specs.Verdict.{if_promised, verdict_of, verdict_on, object_named, is_allowed}
 use Rattle.pua_policy.specs.declared.answer.May.{May}
 use Rattle.pua_policy.specs.declared.answer.May.TheVariants.{Yes, Enosys, Death}
 use Rattle.pua_policy.specs.declared.answer.Verdict.TheVariants.{Failed}
-use Rattle.pua_policy.specs.declared.call.Call.{Call}
+use Rattle.pua_calls.specs.declared.call.Call.{Call}
 use Rattle.pua_audit.specs.Reach.{Word, Pair, Scope, words, pairs, from_root, path_of, is_reached, reach}
 use Rattle.pua_audit.specs.Judge.{Start, Below, Judge, base_dir, base_way, state_of, judge_of, judge_for, if_some, is_allowed_along, reach_along}
 use Rattle.pua_audit.specs.declared.base.Base.{Base}

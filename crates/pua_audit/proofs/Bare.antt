@@ -16,14 +16,14 @@ use Rattle.pua_path.specs.declared.found.Part.TheVariants as part
 use Rattle.pua_path.specs.declared.found.Way.TheVariants.{Top}
 use Rattle.pua_path.proofs.ForCallers.{missing_follows, file_follows, found_kind, unlinked_alike}
 use Rattle.pua_policy.proofs.ForCallers.{unveiled_within}
-use Rattle.pua_policy.specs.Calls.{CallTable, last_of}
-use Rattle.pua_policy.specs.CallSets.{has}
+use Rattle.pua_calls.specs.Calls.{CallTable, last_of}
+use Rattle.pua_calls.specs.CallSets.{has}
 use Rattle.pua_policy.specs.History.{History, has_veil, veil_at}
 use Rattle.pua_policy.specs.declared.place.Place.{Place}
 use Rattle.pua_policy.specs.History as policy
 use Rattle.pua_policy.specs.declared.place.Place.TheVariants as place
 use Rattle.pua_policy.specs.Verdict.{IsMissing, cover, covered_verdict, object_of_kind, verdict, verdict_of, is_allowed}
-use Rattle.pua_policy.specs.declared.call.Call.{Call}
+use Rattle.pua_calls.specs.declared.call.Call.{Call}
 use Rattle.pua_audit.specs.Entries.{IsEntryAt, allowed_within, allowed_kept, allowed_near, allowed_far}
 use Rattle.pua_audit.specs.Judge.{judge_of}
 use Rattle.pua_audit.specs.Table.{IsLetter}

@@ -10,7 +10,7 @@ use Rattle.pua_tree.specs.Steps.{◌>>=◌}
 use Rattle.pua_tree.specs.Tree.{Tree, Spot, WellFormed, row_fits, is_dir, distinct_names}
 use Rattle.pua_tree.specs.declared.fault.NameFault.{NameFault}
 use Rattle.pua_tree.proofs.ForCallers.{name_read, Err≢Ok, same_Ok}
-use Rattle.pua_policy.specs.Calls.{CallTable}
+use Rattle.pua_calls.specs.Calls.{CallTable}
 use Rattle.pua_policy.specs.History.{History}
 use Rattle.pua_audit.specs.Reach.{Scope, alphabet_of}
 use Rattle.pua_audit.specs.Begin.{Beginning, candidates_from, longest, fault_unless, beginning}

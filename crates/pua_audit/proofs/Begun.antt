@@ -1,7 +1,7 @@
 -- The walk over a table of steps begins with the reach before it.
 use Rattle.std.proofs.Common.{ℕ, zero, suc, [], None, ◌*◌, ◌<◌, ◌≤◌, ◌≡◌, List, Option, Some, refl, ap, arith, ◌∙◌, map, length, get_or}
-use Rattle.pua_policy.specs.CallSets.{bit_of}
-use Rattle.pua_policy.specs.declared.call.Call.{Call}
+use Rattle.pua_calls.specs.CallSets.{bit_of}
+use Rattle.pua_calls.specs.declared.call.Call.{Call}
 use Rattle.std.specs.Prelude.{IsTrue}
 use Rattle.pua_tree.specs.Tree.{is_dir}
 use Rattle.pua_audit.specs.Reach.{Scope}

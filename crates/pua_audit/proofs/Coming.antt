@@ -12,7 +12,7 @@ use Rattle.pua_audit.specs.declared.terms.Terms.{Terms}
 use Rattle.pua_audit.proofs.Moves.{word_of-push}
 use Rattle.pua_audit.proofs.Spelled.{IsSpelled, room_for}
 use Rattle.pua_audit.proofs.WordPaths.{front_stays, take_whole}
-use Rattle.pua_policy.specs.declared.call.Call.{Call}
+use Rattle.pua_calls.specs.declared.call.Call.{Call}
 use Rattle.pua_audit.specs.Coming.{AreReady, IsLine, call_at, pairs_at, word_in}
 use Rattle.pua_audit.specs.declared.pairs.Pairs.{Pairs}
 use Rattle.pua_steps.specs.Graph as graph

@@ -14,9 +14,9 @@ use Rattle.pua_path.specs.declared.found.Way.{Way}
 use Rattle.pua_path.specs.declared.found.Way.TheVariants.{DotDot, Named, Top}
 use Rattle.pua_policy.specs.Descent.{cover_in, own_or}
 use Rattle.pua_policy.specs.History.{History, kept}
-use Rattle.pua_policy.specs.Calls.{CallTable}
+use Rattle.pua_calls.specs.Calls.{CallTable}
 use Rattle.pua_policy.specs.Verdict.{Object, cover, covered_verdict, is_allowed}
-use Rattle.pua_policy.specs.declared.call.Call.{Call}
+use Rattle.pua_calls.specs.declared.call.Call.{Call}
 use Rattle.pua_audit.specs.Entries.{allowed_within, found_of, leads_to}
 use Rattle.pua_policy.specs.declared.answer.Cover.{Cover}
 use Rattle.pua_policy.specs.declared.place.Place.TheVariants as place

@@ -13,13 +13,13 @@ use Rattle.pua_path.specs.declared.found.Last.TheVariants.{Followed, Kept}
 use Rattle.pua_path.specs.declared.found.Found.{Found}
 use Rattle.pua_path.specs.declared.found.Found.TheVariants.{Whole, Slot}
 use Rattle.pua_path.proofs.ForCallers.{follow_decides, kept_follows_none}
-use Rattle.pua_policy.specs.Calls.{CallTable, last_of, rule_of}
+use Rattle.pua_calls.specs.Calls.{CallTable, last_of, rule_of}
 use Rattle.pua_policy.specs.History.{History, may_any}
 use Rattle.pua_policy.specs.Verdict.{verdict_of, is_allowed, if_promised}
 use Rattle.pua_policy.specs.declared.answer.May.{May}
 use Rattle.pua_policy.specs.declared.answer.May.TheVariants.{Yes, Enosys, Death}
 use Rattle.pua_policy.specs.declared.answer.Verdict.TheVariants.{Failed}
-use Rattle.pua_policy.specs.declared.call.Call.{Call}
+use Rattle.pua_calls.specs.declared.call.Call.{Call}
 use Rattle.pua_audit.specs.Judge.{Judge, Place, Below, judge_of, state_of}
 use Rattle.pua_audit.specs.declared.base.Base.{Base}
 use Rattle.pua_audit.specs.Judge.{State}

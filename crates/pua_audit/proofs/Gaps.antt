@@ -4,8 +4,8 @@ use Rattle.std.specs.List.Sorted.{IsStrictlyIncreasing}
 use Rattle.std.proofs.lemmas.Bool.{cases_eq, cases_lt}
 use Rattle.std.specs.Prelude.{IsTrue}
 use Rattle.pua_tree.specs.Tree.{is_dir}
-use Rattle.pua_policy.specs.CallSets.{has}
-use Rattle.pua_policy.specs.declared.call.Call.{Call}
+use Rattle.pua_calls.specs.CallSets.{has}
+use Rattle.pua_calls.specs.declared.call.Call.{Call}
 use Rattle.pua_audit.specs.Entries.{allowed_within}
 use Rattle.pua_policy.specs.Verdict.{IsMissing}
 use Rattle.pua_audit.specs.Judge.{Judge}

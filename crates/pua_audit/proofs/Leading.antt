@@ -3,9 +3,9 @@ use Rattle.std.proofs.Common.{ℕ, zero, suc, ◌≡◌, List, [], ◌∷◌, �
 use Rattle.std.specs.Prelude.{flat_map, option_to_list, IfSome}
 use Rattle.std.specs.List.{range_with_len, cons_option}
 use Rattle.std.proofs.lemmas.Grind.{flat_map-append}
-use Rattle.pua_policy.specs.Calls.{calls}
-use Rattle.pua_policy.specs.CallSets.{bit_of}
-use Rattle.pua_policy.specs.declared.call.Call.{Call}
+use Rattle.pua_calls.specs.Calls.{calls}
+use Rattle.pua_calls.specs.CallSets.{bit_of}
+use Rattle.pua_calls.specs.declared.call.Call.{Call}
 use Rattle.pua_audit.specs.Judge.{Judge, Place, Start, Below}
 use Rattle.pua_audit.specs.Judge as named
 use Rattle.pua_steps.specs.Calls.{has_call, calls_of}

@@ -5,8 +5,8 @@ use Rattle.std.proofs.lemmas.Grind.{flat_map-append}
 use Rattle.std.proofs.lemmas.List.Elements.{filter-append}
 use Rattle.std.specs.Prelude.{flat_map, filter}
 use Rattle.pua_audit.specs.Judge.{Place, Start, Below, Judge}
-use Rattle.pua_policy.specs.Calls.{calls}
-use Rattle.pua_policy.specs.declared.call.Call.{Call}
+use Rattle.pua_calls.specs.Calls.{calls}
+use Rattle.pua_calls.specs.declared.call.Call.{Call}
 use Rattle.pua_audit.specs.Judge.{State}
 use Rattle.pua_audit.specs.Reach.{Word, Pair, words, pairs}
 use Rattle.pua_audit.specs.Judge.{if_some, is_allowed_along, reach_along}

@@ -13,9 +13,9 @@ use Rattle.std.proofs.lemmas.Slice.Eq.{bytes_eq-Decides}
 use Rattle.pua_tree.specs.Names.{same_bytes}
 use Rattle.pua_tree.specs.Spelling.{is_plain, byte_spelling, spelling}
 use Rattle.pua_tree.proofs.ForCallers.{is_byte, spelling_tells, same_Some, None≢Some}
-use Rattle.pua_policy.specs.Calls.{calls, call_name, call_named}
-use Rattle.pua_policy.specs.declared.call.Call.{Call}
-use Rattle.pua_policy.specs.declared.call.Call.TheVariants.{Stat, Lstat, Readlink, OpenRead, OpenWrite, OpenBoth, Create, Mkdir, Rmdir, Unlink, Symlink, Chmod, Chdir, Exec}
+use Rattle.pua_calls.specs.Calls.{calls, call_name, call_named}
+use Rattle.pua_calls.specs.declared.call.Call.{Call}
+use Rattle.pua_calls.specs.declared.call.Call.TheVariants.{Stat, Lstat, Readlink, OpenRead, OpenWrite, OpenBoth, Create, Mkdir, Rmdir, Unlink, Symlink, Chmod, Chdir, Exec}
 use Rattle.pua_audit.specs.Reach.{Word, Pair, Scope, from_root, printed_path}
 use Rattle.pua_audit.specs.Begin.{word_of_pieces, word_of_pieces_between, word_of_path, word_within, resume_pair}
 use Rattle.pua_audit.specs.Judge.{is_letter}

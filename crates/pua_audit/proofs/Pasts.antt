@@ -6,7 +6,7 @@ use Rattle.std.specs.Prelude.{Option, Some, None, ◌||◌, filter_map, unwrap_o
 use Rattle.std.specs.List.{list_any}
 use Rattle.std.specs.Ordering.{is_lt}
 use Rattle.pua_tree.specs.Tree.{Tree}
-use Rattle.pua_policy.specs.Calls.{CallTable}
+use Rattle.pua_calls.specs.Calls.{CallTable}
 use Rattle.pua_policy.specs.History.{Event, History, Pledged, Unveiled, Locked, Moved, Ended, ProcessState, StandsFor, promises_in, execpromises_in, dir_in, common, first, veils, with_veil, same_place, is_lock, is_end}
 use Rattle.pua_policy.specs.Laws.{AllowAlike}
 use Rattle.pua_policy.specs.Verdict.{is_allowed}

@@ -4,8 +4,8 @@ use Rattle.std.proofs.lemmas.List.{map-append}
 use Rattle.std.proofs.lemmas.Bool.{cases_eq, ne_eqb}
 use Rattle.std.specs.Prelude.{flat_map, IfSome}
 use Rattle.std.specs.List.{range_with_len, AllByRecursion}
-use Rattle.pua_policy.specs.CallSets.{bit_of}
-use Rattle.pua_policy.specs.declared.call.Call.{Call}
+use Rattle.pua_calls.specs.CallSets.{bit_of}
+use Rattle.pua_calls.specs.declared.call.Call.{Call}
 use Rattle.pua_audit.specs.Reach.{Word, Pair}
 use Rattle.pua_audit.specs.Judge.{Judge, Place, Start, Below}
 use Rattle.pua_audit.specs.Judge.{allowed_at}

@@ -17,12 +17,12 @@ use Rattle.pua_path.specs.declared.found.Way.{Way}
 use Rattle.pua_path.specs.declared.found.Way.TheVariants as way
 use Rattle.pua_path.specs.declared.found.Found.{Found}
 use Rattle.pua_path.specs.declared.found.Found.TheVariants.{Whole, Slot}
-use Rattle.pua_policy.specs.Calls.{CallTable, rule_of, ending_of, last_of}
+use Rattle.pua_calls.specs.Calls.{CallTable, rule_of, ending_of, last_of}
 use Rattle.pua_policy.specs.History.{History, kept, may_any, working_dir}
 use Rattle.pua_policy.specs.Verdict.{Object, IsDir, IsFile, IsProg, IsLink, IsMissing, object_fault, object_of, cover, cover_fault, or_fault, nearest, is_unveil, place_of, directories_over, allowed_unless, if_promised, verdict_of, verdict_on, object_named, is_allowed}
 use Rattle.pua_policy.specs.declared.answer.Cover.TheVariants.{All}
-use Rattle.pua_policy.specs.declared.call.Call.{Call}
-use Rattle.pua_policy.specs.declared.call.Call.TheVariants.{Stat, Lstat, Readlink, OpenRead, OpenWrite, OpenBoth, Create, Mkdir, Rmdir, Unlink, Symlink, Chmod, Chdir, Exec}
+use Rattle.pua_calls.specs.declared.call.Call.{Call}
+use Rattle.pua_calls.specs.declared.call.Call.TheVariants.{Stat, Lstat, Readlink, OpenRead, OpenWrite, OpenBoth, Create, Mkdir, Rmdir, Unlink, Symlink, Chmod, Chdir, Exec}
 use Rattle.pua_policy.specs.declared.place.Place.TheVariants.{Dir}
 use Rattle.pua_audit.specs.Reach.{Scope, is_reached, pairs, reach, path_of}
 use Rattle.pua_audit.specs.Renumbering.{ReachNeedsRows}

@@ -4,7 +4,7 @@ use Rattle.std.specs.Prelude.{IfSome}
 use Rattle.std.specs.List.{AllByRecursion}
 use Rattle.std.proofs.lemmas.Bool.{cases_eq, eq-eqb, ne_eqb}
 use Rattle.pua_path.specs.Limits.{link_limit}
-use Rattle.pua_policy.specs.CallSets.{bit_of}
+use Rattle.pua_calls.specs.CallSets.{bit_of}
 use Rattle.pua_audit.specs.Judge.{Judge}
 use Rattle.pua_audit.specs.Rows.{IsGrown, IsEntryFor, IsRow}
 use Rattle.pua_audit.specs.Table.{IsLetter, IsTold, entry_of}

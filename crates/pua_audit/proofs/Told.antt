@@ -13,11 +13,11 @@ use Rattle.pua_path.specs.declared.found.Last.{Last}
 use Rattle.pua_path.specs.declared.found.Last.TheVariants.{Followed, Kept}
 use Rattle.pua_path.specs.declared.found.Part.{Part}
 use Rattle.pua_path.proofs.ForCallers.{unlinked_alike}
-use Rattle.pua_policy.specs.Calls.{CallTable}
-use Rattle.pua_policy.specs.CallSets.{bit_of, has, is_kept, keeps_link}
+use Rattle.pua_calls.specs.Calls.{CallTable}
+use Rattle.pua_calls.specs.CallSets.{bit_of, has, is_kept, keeps_link}
 use Rattle.pua_policy.specs.History.{History}
-use Rattle.pua_policy.specs.declared.call.Call.{Call}
-use Rattle.pua_policy.specs.declared.call.Call.TheVariants.{Stat, Lstat, Readlink, OpenRead, OpenWrite, OpenBoth, Create, Mkdir, Rmdir, Unlink, Symlink, Chmod, Chdir, Exec}
+use Rattle.pua_calls.specs.declared.call.Call.{Call}
+use Rattle.pua_calls.specs.declared.call.Call.TheVariants.{Stat, Lstat, Readlink, OpenRead, OpenWrite, OpenBoth, Create, Mkdir, Rmdir, Unlink, Symlink, Chmod, Chdir, Exec}
 use Rattle.pua_audit.specs.Judge.{judge_of}
 use Rattle.pua_audit.specs.Entries.{links_of, found_of, leads_to, allowed_near, allowed_far}
 use Rattle.pua_audit.specs.Table.{IsLetter}

@@ -7,7 +7,7 @@ use Rattle.pua_tree.specs.Tree.{Tree}
 use Rattle.pua_tree.specs.Spelling.{spelling, name_of}
 use Rattle.pua_tree.specs.Steps.{◌>>=◌}
 use Rattle.pua_tree.specs.Listing.{only_if}
-use Rattle.pua_policy.specs.Calls.{CallTable, call_named}
+use Rattle.pua_calls.specs.Calls.{CallTable, call_named}
 use Rattle.pua_policy.specs.History.{History}
 use Rattle.pua_audit.specs.Limits.{letter_limit, candidate_limit, path_limit}
 use Rattle.pua_audit.specs.Reach.{Word, Pair, Scope, alphabet_of, rest_after}

@@ -1,10 +1,10 @@
 -- The pairs that a walk over a table of steps gives.
 use Rattle.std.specs.Prelude.{◌≡◌, ◌≤◌, ◌<◌, ℕ, suc, ◌*◌, List, [], ◌∷◌, map, length, get_or, Option, Some, None, MatchOption, vec_capacity}
 use Rattle.std.specs.List.{AllByRecursion}
-use Rattle.pua_policy.specs.CallSets.{bit_of}
-use Rattle.pua_policy.specs.Calls.{calls}
-use Rattle.pua_policy.specs.declared.call.Call.{Call}
-use Rattle.pua_policy.specs.declared.call.Call.TheVariants.{Stat}
+use Rattle.pua_calls.specs.CallSets.{bit_of}
+use Rattle.pua_calls.specs.Calls.{calls}
+use Rattle.pua_calls.specs.declared.call.Call.{Call}
+use Rattle.pua_calls.specs.declared.call.Call.TheVariants.{Stat}
 use Rattle.pua_audit.specs.Reach.{Word, Pair}
 use Rattle.pua_audit.specs.Begin.{longest}
 use Rattle.pua_audit.specs.Ready.{letters_of, word_of, IsSound}

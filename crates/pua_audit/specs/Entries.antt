@@ -9,11 +9,11 @@ use Rattle.pua_path.specs.declared.found.Last.TheVariants.{Followed, Kept}
 use Rattle.pua_path.specs.declared.found.Way.TheVariants.{Top}
 use Rattle.pua_path.specs.declared.found.Found.{Found}
 use Rattle.pua_path.specs.declared.found.Found.TheVariants.{Whole, Slot}
-use Rattle.pua_policy.specs.Calls.{CallTable, last_of}
-use Rattle.pua_policy.specs.CallSets.{has}
+use Rattle.pua_calls.specs.Calls.{CallTable, last_of}
+use Rattle.pua_calls.specs.CallSets.{has}
 use Rattle.pua_policy.specs.History.{History}
 use Rattle.pua_policy.specs.Verdict.{Object, IsMissing, IsFile, IsProg, cover, covered_verdict, verdict_of, is_allowed}
-use Rattle.pua_policy.specs.declared.call.Call.{Call}
+use Rattle.pua_calls.specs.declared.call.Call.{Call}
 use Rattle.pua_audit.specs.Judge.{Below, judge_of}
 use Rattle.pua_audit.specs.declared.base.Base.{Base}
 use Rattle.pua_audit.specs.declared.table.within.Within.{Within}

@@ -3,10 +3,10 @@ use Rattle.std.specs.Prelude.{◌≡◌, ℕ, List, [], ◌∷◌, ◌++◌, map
 use Rattle.pua_tree.specs.Tree.{Tree, empty_tree}
 use Rattle.pua_tree.specs.Examples.{example_tree}
 use Rattle.pua_tree.specs.declared.node.Kind.TheVariants.{Dir, File, Link}
-use Rattle.pua_policy.specs.Promises.{cpath, fattr, reading, writing, executing, creating}
-use Rattle.pua_policy.specs.Calls.{CallTable, standard_table, call_name}
-use Rattle.pua_policy.specs.TableTexts.{with_rule}
-use Rattle.pua_policy.specs.declared.call.Call.TheVariants.{Stat}
+use Rattle.pua_calls.specs.Promises.{cpath, fattr, reading, writing, executing, creating}
+use Rattle.pua_calls.specs.Calls.{CallTable, standard_table, call_name}
+use Rattle.pua_calls.specs.TableTexts.{with_rule}
+use Rattle.pua_calls.specs.declared.call.Call.TheVariants.{Stat}
 use Rattle.pua_policy.specs.History.{History, Pledged, Unveiled, Locked, Moved, Ended, new_history}
 use Rattle.pua_audit.specs.Reach.{Pair, printed_path}
 use Rattle.pua_audit.specs.Begin.{Beginning, beginning, still_to_come}

@@ -2,9 +2,9 @@
 use Rattle.std.specs.Prelude.{filter, ◌≡◌, ◌<◌, ◌≤◌, ◌==◌, ℕ, suc, Bool, true, false, cond, List, [], ◌∷◌, map, length, get_or, Option, None, option_map, IfSome, IsTrue, ⊤}
 use Rattle.std.specs.List.{AllByRecursion}
 use Rattle.pua_path.specs.Limits.{link_limit}
-use Rattle.pua_policy.specs.Calls.{calls}
-use Rattle.pua_policy.specs.CallSets.{bit_of}
-use Rattle.pua_policy.specs.declared.call.Call.{Call}
+use Rattle.pua_calls.specs.Calls.{calls}
+use Rattle.pua_calls.specs.CallSets.{bit_of}
+use Rattle.pua_calls.specs.declared.call.Call.{Call}
 use Rattle.pua_tree.specs.Tree.{is_dir}
 use Rattle.pua_audit.specs.Reach.{Word, Pair, Scope}
 use Rattle.pua_audit.specs.Judge.{Judge, Start, Below, base_dir, is_open, judge_for, reach_along}

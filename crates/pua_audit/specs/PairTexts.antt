@@ -2,7 +2,7 @@
 use Rattle.std.specs.Prelude.{◌≡◌, ◌↔◌, ◌≤◌, ℕ, Bool, List, ◌∷◌, ◌++◌, length, Some, IsTrue}
 use Rattle.std.specs.List.{AllByRecursion, list_all, list_any}
 use Rattle.pua_tree.specs.Names.{same_bytes}
-use Rattle.pua_policy.specs.Calls.{call_name}
+use Rattle.pua_calls.specs.Calls.{call_name}
 use Rattle.pua_audit.specs.Reach.{Word, Pair, Scope, printed_path}
 use Rattle.pua_audit.specs.Begin.{resume_pair}
 use Rattle.pua_audit.specs.Judge.{is_letter}

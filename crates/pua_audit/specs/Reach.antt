@@ -5,10 +5,10 @@ use Rattle.std.specs.Ordering.{nat_cmp, ordering_then, is_lt}
 use Rattle.std.specs.Cmp.Lexicographic.{slice_cmp}
 use Rattle.pua_tree.specs.Tree.{Tree, name_cmp, distinct_names}
 use Rattle.pua_tree.specs.Spelling.{spelling}
-use Rattle.pua_policy.specs.Calls.{CallTable, calls, call_number}
+use Rattle.pua_calls.specs.Calls.{CallTable, calls, call_number}
 use Rattle.pua_policy.specs.History.{History}
 use Rattle.pua_policy.specs.Verdict.{verdict_on, is_allowed}
-use Rattle.pua_policy.specs.declared.call.Call.{Call}
+use Rattle.pua_calls.specs.declared.call.Call.{Call}
 use Rattle.pua_audit.specs.declared.base.Base.{Base}
 use Rattle.pua_audit.specs.declared.base.Base.TheVariants.{Root, Cwd}
 

@@ -1,8 +1,8 @@
 -- What the rows of a table of steps say of the directories of a tree.
 use Rattle.std.specs.Prelude.{◌≡◌, ◌<◌, ◌≤◌, ◌+◌, ◌==◌, ℕ, cond, nat_le, List, [], ◌∷◌, length, get_or, Option, Some, None, option_map}
 use Rattle.pua_path.specs.Limits.{link_limit}
-use Rattle.pua_policy.specs.CallSets.{bit_of}
-use Rattle.pua_policy.specs.declared.call.Call.{Call}
+use Rattle.pua_calls.specs.CallSets.{bit_of}
+use Rattle.pua_calls.specs.declared.call.Call.{Call}
 use Rattle.pua_audit.specs.Judge.{Judge, Below}
 use Rattle.pua_audit.specs.Graphs.{IsKnown, StandsIn}
 use Rattle.pua_steps.specs.Calls.{has_call}

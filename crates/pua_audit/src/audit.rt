@@ -19,8 +19,9 @@ use crate::line::Line;
 use crate::pairs::Pairs;
 use crate::path::lent_path;
 use crate::terms::Terms;
+use pua_calls::CallTable;
 use pua_path::Probe;
-use pua_policy::{CallTable, Process};
+use pua_policy::Process;
 use std::alloc::Global;
 use std::marker::Model;
 

@@ -3,7 +3,7 @@
 ghost use Rattle.std.specs.Prelude.{◌≡◌, ◌≢◌, ℕ, List, Option, Ok, Err, None, IfOk, IfErr, length, map, option_map};
 ghost use Rattle.pua_tree.specs.LentRows.{lent_entry};
 ghost use Rattle.pua_tree.specs.Tree.{WellFormed};
-ghost use Rattle.pua_policy.specs.Calls.{CallTable};
+ghost use Rattle.pua_calls.specs.Calls.{CallTable};
 ghost use Rattle.pua_policy.specs.History.{History};
 ghost use Rattle.pua_audit.specs.Bounds.{letter_count};
 ghost use Rattle.pua_audit.specs.Begin.{beginning};

@@ -1,6 +1,6 @@
 //! A line of the reach.
 
-use pua_policy::Call;
+use pua_calls::Call;
 
 /// A pair of the reach: a path in plain bytes, and a call that the process is allowed on it.
 #[derive(Clone, Copy)]

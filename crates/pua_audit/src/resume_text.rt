@@ -16,7 +16,7 @@ use crate::alphabet::place_of;
 use crate::base::Base;
 use crate::component::Component;
 use crate::fault::AuditFault;
-use pua_policy::Call;
+use pua_calls::Call;
 use pua_tree::Name;
 use std::alloc::Global;
 

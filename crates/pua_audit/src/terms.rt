@@ -14,8 +14,9 @@ use crate::alphabet::longest;
 use crate::base::Base;
 use crate::component::Component;
 use crate::content::Content;
+use pua_calls::CallTable;
 use pua_path::{Probe, Way};
-use pua_policy::{CallTable, Process};
+use pua_policy::Process;
 use pua_tree::{Kind, NodeId, OutOfMemory};
 use std::alloc::Global;
 

@@ -7,11 +7,11 @@ use Rattle.pua_path.specs.Fits.{is_link_kind}
 use Rattle.pua_path.specs.declared.found.Found.{Found}
 use Rattle.pua_path.specs.declared.found.Found.TheVariants.{Whole, Slot}
 use Rattle.pua_path.specs.declared.found.Way.TheVariants.{Top}
-use Rattle.pua_policy.specs.Calls.{CallTable}
-use Rattle.pua_policy.specs.CallSets.{is_kept}
+use Rattle.pua_calls.specs.Calls.{CallTable}
+use Rattle.pua_calls.specs.CallSets.{is_kept}
 use Rattle.pua_policy.specs.History.{History, may_any}
 use Rattle.pua_policy.specs.Verdict.{IsMissing, cover, cover_fault, covered_verdict, is_allowed}
-use Rattle.pua_policy.specs.declared.call.Call.TheVariants as call
+use Rattle.pua_calls.specs.declared.call.Call.TheVariants as call
 use Rattle.pua_script.specs.Requests.{Asked}
 use Rattle.pua_script.specs.Replay.{World, apply, world_after}
 use Rattle.pua_script.specs.Family.{is_member, is_exec, is_done, none_done, members_alone, family_then}

@@ -2,7 +2,7 @@
 use Rattle.std.proofs.Common.{◌≡◌, ◌⊎◌, ℕ, List, [], ◌∷◌, Bool, true, false, refl, ap, inl, inr}
 use Rattle.pua_tree.specs.Tree.{Tree}
 use Rattle.pua_path.specs.Resolution.{resolution_of_text}
-use Rattle.pua_policy.specs.Calls.{CallTable, ending_of, last_of}
+use Rattle.pua_calls.specs.Calls.{CallTable, ending_of, last_of}
 use Rattle.pua_policy.specs.History.{History}
 use Rattle.pua_policy.specs.Verdict.{verdict_of, is_allowed}
 use Rattle.pua_objects.proofs.ForCallers.{allowed_is}

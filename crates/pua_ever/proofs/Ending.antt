@@ -20,12 +20,12 @@ use Rattle.pua_path.specs.declared.found.Way.TheVariants.{Named, Top, Dot, DotDo
 use Rattle.pua_path.specs.declared.found.Found.{Found}
 use Rattle.pua_path.specs.declared.found.Found.TheVariants.{Whole, Slot}
 use Rattle.pua_path.proofs.ForCallers.{resolutions_fit}
-use Rattle.pua_policy.specs.Calls.{CallTable, calls, rule_of, ending_of, last_of}
-use Rattle.pua_policy.specs.CallSets.{keeps_link, is_kept}
+use Rattle.pua_calls.specs.Calls.{CallTable, calls, rule_of, ending_of, last_of}
+use Rattle.pua_calls.specs.CallSets.{keeps_link, is_kept}
 use Rattle.pua_policy.specs.History.{History, kept, veils, may_any}
 use Rattle.pua_policy.specs.Verdict.{Object, IsDir, IsFile, IsLink, IsMissing, object_of_kind, object_fault, rmdir_fault, cover, cover_fault, or_fault, allowed_unless, if_promised, covered_verdict, verdict, verdict_of, is_allowed}
-use Rattle.pua_policy.specs.declared.call.Call.{Call}
-use Rattle.pua_policy.specs.declared.call.Call.TheVariants as call
+use Rattle.pua_calls.specs.declared.call.Call.{Call}
+use Rattle.pua_calls.specs.declared.call.Call.TheVariants as call
 use Rattle.pua_policy.specs.declared.place.Place.TheVariants as place
 use Rattle.pua_policy.specs.declared.answer.Cover.{Cover}
 use Rattle.pua_policy.specs.declared.answer.May.{May}

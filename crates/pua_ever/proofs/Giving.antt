@@ -3,11 +3,11 @@ use Rattle.std.proofs.Common.{◌≡◌, ◌≤◌, ◌-◌, ℕ, List, [], ◌�
 use Rattle.std.specs.Prelude.{Option, Some, None, MatchOption, ◌&&◌, filter, flat_map}
 use Rattle.pua_tree.specs.Tree.{Tree, WellFormed, Spot}
 use Rattle.pua_tree.proofs.ForCallers.{None≢Some}
-use Rattle.pua_policy.specs.Calls.{CallTable}
-use Rattle.pua_policy.specs.CallSets.{has}
+use Rattle.pua_calls.specs.Calls.{CallTable}
+use Rattle.pua_calls.specs.CallSets.{has}
 use Rattle.pua_policy.specs.History.{History, ProcessState, StandsFor}
-use Rattle.pua_policy.specs.declared.call.Call.{Call}
-use Rattle.pua_policy.specs.declared.calls.Calls.{Calls}
+use Rattle.pua_calls.specs.declared.call.Call.{Call}
+use Rattle.pua_calls.specs.declared.calls.Calls.{Calls}
 use Rattle.pua_audit.specs.Reach.{Word}
 use Rattle.pua_objects.specs.Items.{subject_given, SubjectFits, IsItemOn, IsFirst, IsNear}
 use Rattle.pua_objects.proofs.ForCallers.{less_same}

@@ -15,13 +15,13 @@ use Rattle.pua_path.specs.declared.text.Ending.TheVariants.{Dot, Dropped}
 use Rattle.pua_path.specs.declared.found.Found.{Found}
 use Rattle.pua_path.specs.declared.found.Found.TheVariants.{Whole, Slot}
 use Rattle.pua_path.specs.declared.found.Way.TheVariants as way
-use Rattle.pua_policy.specs.Promises.{holds, creating}
-use Rattle.pua_policy.specs.Calls.{CallTable, rule_of}
-use Rattle.pua_policy.specs.CallSets.{is_kept}
+use Rattle.pua_calls.specs.Promises.{holds, creating}
+use Rattle.pua_calls.specs.Calls.{CallTable, rule_of}
+use Rattle.pua_calls.specs.CallSets.{is_kept}
 use Rattle.pua_policy.specs.History.{History, may_any, working_dir}
 use Rattle.pua_policy.specs.Verdict.{IsMissing, cover, cover_fault, covered_verdict, or_fault, object_fault, allowed_unless, if_promised, is_allowed}
-use Rattle.pua_policy.specs.declared.call.Call.{Call}
-use Rattle.pua_policy.specs.declared.call.Call.TheVariants as call
+use Rattle.pua_calls.specs.declared.call.Call.{Call}
+use Rattle.pua_calls.specs.declared.call.Call.TheVariants as call
 use Rattle.pua_policy.specs.declared.answer.May.TheVariants as may
 use Rattle.pua_script.specs.Requests.{Asked}
 use Rattle.pua_script.specs.Judged.{NameFits}

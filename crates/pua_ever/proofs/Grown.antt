@@ -12,7 +12,7 @@ use Rattle.pua_tree.specs.declared.node.Kind.TheVariants as kind
 use Rattle.pua_tree.specs.declared.fault.TreeFault.TheVariants.{Missing, Taken, NotDir, NotEmpty, Inside, Full, IsDir}
 use Rattle.pua_tree.proofs.ForCallers.{spots_total, exact_spots, same_or_other, put_here, put_elsewhere, without_here, without_elsewhere, Some≢None, same_Some}
 use Rattle.pua_path.specs.declared.found.Found.TheVariants.{Slot}
-use Rattle.pua_policy.specs.Calls.{CallTable}
+use Rattle.pua_calls.specs.Calls.{CallTable}
 use Rattle.pua_policy.specs.History.{History}
 use Rattle.pua_policy.specs.Verdict.{IsMissing, cover, covered_verdict, is_allowed}
 use Rattle.pua_policy.specs.declared.answer.Cover.{Cover}

@@ -5,10 +5,10 @@ use Rattle.std.proofs.lemmas.Bool.{lt-ltb}
 use Rattle.std.proofs.lemmas.List.Elements.{filter-append}
 use Rattle.pua_tree.specs.Tree.{Tree, Spot}
 use Rattle.pua_path.specs.declared.found.Found.TheVariants.{Slot}
-use Rattle.pua_policy.specs.Calls.{CallTable, calls}
-use Rattle.pua_policy.specs.CallSets.{has, calls_in}
+use Rattle.pua_calls.specs.Calls.{CallTable, calls}
+use Rattle.pua_calls.specs.CallSets.{has, calls_in}
 use Rattle.pua_policy.specs.History.{History, ProcessState, StandsFor, veils}
-use Rattle.pua_policy.specs.declared.call.Call.{Call}
+use Rattle.pua_calls.specs.declared.call.Call.{Call}
 use Rattle.pua_audit.specs.Reach.{Word}
 use Rattle.pua_objects.specs.Objects.{Subject, At, Item, items}
 use Rattle.pua_ever.specs.Ever.{New, Thing, Stands, Comes, EverLine, may_edit, can_make, own_spot, can_be_freed, freed_at, names_to_free, subjects_of, is_ever_allowed, is_new_allowed, all_new, ever_line, new_line, has_calls, ever}

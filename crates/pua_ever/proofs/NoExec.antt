@@ -3,10 +3,10 @@ use Rattle.std.proofs.Common.{◌≡◌, ◌⊎◌, ℕ, List, [], ◌∷◌, Bo
 use Rattle.std.specs.Prelude.{Some, Ok, not}
 use Rattle.std.proofs.lemmas.Bool.{false≢true, and_parts, and_from}
 use Rattle.pua_tree.specs.Tree.{Tree, WellFormed}
-use Rattle.pua_policy.specs.Calls.{CallTable}
+use Rattle.pua_calls.specs.Calls.{CallTable}
 use Rattle.pua_policy.specs.History.{History, working_dir}
 use Rattle.pua_policy.specs.Verdict.{verdict_of, is_allowed, object_named, if_promised, allowed_unless, or_fault}
-use Rattle.pua_policy.specs.declared.call.Call.TheVariants as call
+use Rattle.pua_calls.specs.declared.call.Call.TheVariants as call
 use Rattle.pua_policy.specs.declared.answer.Verdict.TheVariants as verdicts
 use Rattle.pua_objects.proofs.ForCallers.{allowed_is}
 use Rattle.pua_script.specs.Requests.{Asked}

@@ -6,7 +6,7 @@ use Rattle.std.proofs.lemmas.Bool.{false≢true, and_parts, not-true, or_right}
 use Rattle.pua_tree.specs.Tree.{Tree, WellFormed, Spot, spot_cmp, is_dir, is_living, look, node_at, kind_at, above, is_empty, has_no_row}
 use Rattle.pua_tree.proofs.ForCallers.{Sound, Reaches, sound_from, row_says, row_of, above_dir, same_Some, Some≢None, spots_total, exact_spots}
 use Rattle.pua_tree.proofs.ForCallers.{none_found, all_from_found}
-use Rattle.pua_policy.specs.Calls.{CallTable}
+use Rattle.pua_calls.specs.Calls.{CallTable}
 use Rattle.pua_policy.specs.History.{History, kept}
 use Rattle.pua_policy.specs.declared.place.Place.TheVariants as place
 use Rattle.pua_policy.specs.declared.answer.Cover.TheVariants.{Only}

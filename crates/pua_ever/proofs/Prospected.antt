@@ -10,13 +10,13 @@ use Rattle.pua_policy.specs.declared.reason.Misfit.TheVariants.{IsNotEmpty}
 use Rattle.pua_path.specs.declared.found.Way.{Way}
 use Rattle.pua_path.specs.declared.found.Way.TheVariants.{Named, Top, Dot, DotDot}
 use Rattle.pua_path.specs.declared.found.Found.TheVariants.{Whole}
-use Rattle.pua_policy.specs.Calls.{CallTable, rule_of}
-use Rattle.pua_policy.specs.CallSets.{has, keeps_link}
+use Rattle.pua_calls.specs.Calls.{CallTable, rule_of}
+use Rattle.pua_calls.specs.CallSets.{has, keeps_link}
 use Rattle.pua_policy.specs.History.{History, kept, may_any}
 use Rattle.pua_policy.specs.Objects.{object_seen}
 use Rattle.pua_policy.specs.Verdict.{Object, IsDir, object_fault, cover_fault, or_fault, allowed_unless, if_promised, covered_verdict, is_allowed}
-use Rattle.pua_policy.specs.declared.call.Call.{Call}
-use Rattle.pua_policy.specs.declared.call.Call.TheVariants as call
+use Rattle.pua_calls.specs.declared.call.Call.{Call}
+use Rattle.pua_calls.specs.declared.call.Call.TheVariants as call
 use Rattle.pua_policy.specs.declared.place.Place.TheVariants as place
 use Rattle.pua_policy.specs.declared.answer.Cover.{Cover}
 use Rattle.pua_policy.specs.declared.answer.May.{May}

@@ -7,7 +7,7 @@ use Rattle.pua_tree.specs.Tree.{Tree, WellFormed, Spot, spot_cmp, is_dir, is_liv
 use Rattle.pua_tree.proofs.ForCallers.{Reaches, sound_from, row_says, row_of, above_is, spots_total, exact_spots}
 use Rattle.pua_tree.proofs.ForCallers.{none_found}
 use Rattle.pua_policy.proofs.ForCallers.{climb_step, climb_root}
-use Rattle.pua_policy.specs.Calls.{CallTable}
+use Rattle.pua_calls.specs.Calls.{CallTable}
 use Rattle.pua_policy.specs.History.{History, kept}
 use Rattle.pua_policy.specs.declared.place.Place.TheVariants as place
 use Rattle.pua_policy.specs.declared.answer.Cover.TheVariants.{Only}

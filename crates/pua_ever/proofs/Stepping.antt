@@ -4,7 +4,7 @@ use Rattle.std.specs.Prelude.{Option, Some, None, ◌==◌, is_some, option_map}
 use Rattle.std.proofs.lemmas.Bool.{false≢true, and_parts, eqb-true}
 use Rattle.pua_tree.specs.Tree.{Tree, WellFormed, Spot, is_dir, is_living, look, node_at, is_empty, has_no_row, empty_tree}
 use Rattle.pua_tree.proofs.ForCallers.{sound_from, row_says}
-use Rattle.pua_policy.specs.Calls.{CallTable}
+use Rattle.pua_calls.specs.Calls.{CallTable}
 use Rattle.pua_policy.specs.History.{History, kept}
 use Rattle.pua_policy.specs.Verdict.{IsMissing, covered_verdict, is_allowed}
 use Rattle.pua_policy.specs.declared.place.Place.TheVariants as place

@@ -6,10 +6,10 @@ use Rattle.std.proofs.lemmas.Bool.{false≢true, and_parts, or_left, or_right}
 use Rattle.pua_path.specs.declared.errno.Errno.TheVariants.{EAGAIN}
 use Rattle.pua_path.specs.declared.found.Found.{Found}
 use Rattle.pua_policy.specs.History.{History, may_any}
-use Rattle.pua_policy.specs.Calls.{CallTable, rule_of}
-use Rattle.pua_policy.specs.Tables.{NamesNoError, NoCallNeedsError}
-use Rattle.pua_policy.specs.declared.call.Call.{Call}
-use Rattle.pua_policy.specs.declared.call.Call.TheVariants as call
+use Rattle.pua_calls.specs.Calls.{CallTable, rule_of}
+use Rattle.pua_calls.specs.Tables.{NamesNoError, NoCallNeedsError}
+use Rattle.pua_calls.specs.declared.call.Call.{Call}
+use Rattle.pua_calls.specs.declared.call.Call.TheVariants as call
 use Rattle.pua_policy.specs.declared.answer.May.{May}
 use Rattle.pua_policy.specs.declared.answer.May.TheVariants.{Yes, Enosys, Death}
 use Rattle.pua_script.specs.Limits.{process_limit}

@@ -11,16 +11,16 @@ use Rattle.pua_path.specs.Fits.{is_link_kind}
 use Rattle.pua_path.specs.declared.found.Found.TheVariants.{Whole, Slot}
 use Rattle.pua_path.specs.declared.found.Way.{Way}
 use Rattle.pua_path.specs.declared.found.Way.TheVariants.{Named, Top}
-use Rattle.pua_policy.specs.Calls.{CallTable, rule_of, calls, call_name}
-use Rattle.pua_policy.specs.CallSets.{keeps_link, is_kept}
+use Rattle.pua_calls.specs.Calls.{CallTable, rule_of, calls, call_name}
+use Rattle.pua_calls.specs.CallSets.{keeps_link, is_kept}
 use Rattle.pua_policy.specs.History.{History, kept, veils, may_any}
 use Rattle.pua_policy.specs.declared.answer.May.{May}
 use Rattle.pua_policy.specs.declared.answer.May.TheVariants.{Yes}
 use Rattle.pua_policy.specs.Verdict.{Object, IsDir, IsFile, IsLink, IsMissing, object_of, cover, cover_fault, covered_verdict, is_allowed}
 use Rattle.pua_policy.specs.declared.answer.Cover.{Cover}
 use Rattle.pua_policy.specs.declared.answer.Cover.TheVariants.{Only}
-use Rattle.pua_policy.specs.declared.call.Call.{Call}
-use Rattle.pua_policy.specs.declared.call.Call.TheVariants as call
+use Rattle.pua_calls.specs.declared.call.Call.{Call}
+use Rattle.pua_calls.specs.declared.call.Call.TheVariants as call
 use Rattle.pua_policy.specs.declared.place.Place.{Place}
 use Rattle.pua_policy.specs.declared.place.Place.TheVariants as place
 use Rattle.pua_script.specs.Confinement.{object_in, has_c}

@@ -1,8 +1,8 @@
 -- The lines of the code beside those of the definition, one after another.
 use Rattle.std.specs.Prelude.{◌≡◌, List, [], ◌∷◌, map, filter, flat_map, Option, MatchOption}
 use Rattle.pua_tree.specs.Tree.{Tree}
-use Rattle.pua_policy.specs.Calls.{CallTable}
-use Rattle.pua_policy.specs.CallSets.{calls_in}
+use Rattle.pua_calls.specs.Calls.{CallTable}
+use Rattle.pua_calls.specs.CallSets.{calls_in}
 use Rattle.pua_policy.specs.History.{History, ProcessState, StandsFor}
 use Rattle.pua_audit.specs.Reach.{Word}
 use Rattle.pua_objects.specs.Objects.{subject_word}

@@ -1,7 +1,7 @@
 -- What contracts see of a list for ever that is being given.
 use Rattle.std.specs.Prelude.{ℕ, List, length}
 use Rattle.pua_tree.specs.Tree.{Tree}
-use Rattle.pua_policy.specs.Calls.{CallTable}
+use Rattle.pua_calls.specs.Calls.{CallTable}
 use Rattle.pua_policy.specs.History.{ProcessState}
 use Rattle.pua_audit.specs.Reach.{Word}
 use Rattle.pua_objects.specs.Objects.{Item}

@@ -8,14 +8,14 @@ use Rattle.pua_path.specs.declared.errno.Errno.{Errno}
 use Rattle.pua_path.specs.declared.found.Way.{Way}
 use Rattle.pua_path.specs.declared.found.Found.{Found}
 use Rattle.pua_path.specs.declared.found.Found.TheVariants.{Whole, Slot}
-use Rattle.pua_policy.specs.Promises.{holds, creating}
-use Rattle.pua_policy.specs.Calls.{CallTable, table_by_rules, rule_of, ending_of, last_of}
-use Rattle.pua_policy.specs.declared.rules.Rules.{Rules}
+use Rattle.pua_calls.specs.Promises.{holds, creating}
+use Rattle.pua_calls.specs.Calls.{CallTable, table_by_rules, rule_of, ending_of, last_of}
+use Rattle.pua_calls.specs.declared.rules.Rules.{Rules}
 use Rattle.pua_policy.specs.History.{History, kept, is_ended}
 use Rattle.pua_policy.specs.Verdict.{verdict_of}
 use Rattle.pua_policy.specs.declared.answer.Verdict.TheVariants.{Allowed}
-use Rattle.pua_policy.specs.declared.call.Call.{Call}
-use Rattle.pua_policy.specs.declared.call.Call.TheVariants as call
+use Rattle.pua_calls.specs.declared.call.Call.{Call}
+use Rattle.pua_calls.specs.declared.call.Call.TheVariants as call
 use Rattle.pua_policy.specs.declared.place.Place.{Place}
 use Rattle.pua_policy.specs.declared.place.Place.TheVariants as place
 use Rattle.pua_script.specs.Requests.{Asked}

@@ -1,11 +1,11 @@
 -- The calls that can ever be allowed on what can be moved or made.
 use Rattle.std.specs.Prelude.{◌≡◌, ◌++◌}
 use Rattle.pua_tree.specs.Tree.{Tree}
-use Rattle.pua_policy.specs.Calls.{CallTable}
-use Rattle.pua_policy.specs.CallSets.{has}
+use Rattle.pua_calls.specs.Calls.{CallTable}
+use Rattle.pua_calls.specs.CallSets.{has}
 use Rattle.pua_policy.specs.History.{History}
 use Rattle.pua_policy.specs.Verdict.{IsFile, IsProg, IsLink, IsMissing}
-use Rattle.pua_policy.specs.declared.call.Call.{Call}
+use Rattle.pua_calls.specs.declared.call.Call.{Call}
 use Rattle.pua_ever.specs.Ever.{dir_covers, name_covers, file_covers, is_allowed_under, lasting_dir, removable_dir}
 use Rattle.pua_ever.specs.declared.movable.Movable.{Movable}
 

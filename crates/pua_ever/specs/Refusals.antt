@@ -1,10 +1,10 @@
 -- Why there is no list of what a process can ever touch.
 use Rattle.std.specs.Prelude.{Bool, not, ◌&&◌, if◌then◌else◌, List, [], ◌∷◌, Option, Some, None, find}
-use Rattle.pua_policy.specs.Promises.{holds, creating, unveil}
-use Rattle.pua_policy.specs.Calls.{CallTable, PairRule, rule_of}
+use Rattle.pua_calls.specs.Promises.{holds, creating, unveil}
+use Rattle.pua_calls.specs.Calls.{CallTable, PairRule, rule_of}
 use Rattle.pua_policy.specs.History.{History, is_locked, may_any}
-use Rattle.pua_policy.specs.declared.call.Call.{Call}
-use Rattle.pua_policy.specs.declared.call.Call.TheVariants as call
+use Rattle.pua_calls.specs.declared.call.Call.{Call}
+use Rattle.pua_calls.specs.declared.call.Call.TheVariants as call
 use Rattle.pua_ever.specs.Ever.{is_yes}
 use Rattle.pua_ever.specs.declared.fault.EverFault.{EverFault}
 use Rattle.pua_ever.specs.declared.fault.EverFault.TheVariants.{Refused, OutOfMemory}

@@ -1,7 +1,7 @@
 //! A line of the list for ever.
 
+use pua_calls::Calls;
 use pua_objects::ObjectKind;
-use pua_policy::Calls;
 
 /// What a line is about.
 #[derive(Clone, Copy, Debug, PartialEq, Eq)]

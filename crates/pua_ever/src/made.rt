@@ -7,8 +7,8 @@ ghost use Rattle.pua_ever.specs.Ever.{maker as maker_of, new_word};
 ghost use Rattle.pua_ever.specs.EverReady.{new_of, made_left, word_in};
 ghost use Rattle.pua_ever.specs.EverState as left;
 
+use pua_calls::Call;
 use pua_objects::ObjectKind;
-use pua_policy::Call;
 
 /// What can be made.
 #[derive(Clone, Copy, Debug, PartialEq, Eq)]

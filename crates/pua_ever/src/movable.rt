@@ -3,9 +3,9 @@
 ghost use Rattle.std.specs.Prelude.{◌≡◌, Some, ◌++◌, [], IfOk, length, nat_lt, if◌then◌else◌};
 ghost use Rattle.pua_tree.specs.Tree.{Tree, empty_tree};
 ghost use Rattle.pua_tree.specs.declared.node.Kind.{Kind};
-ghost use Rattle.pua_policy.specs.Calls.{CallTable as Table};
-ghost use Rattle.pua_policy.specs.CallSets.{has};
-ghost use Rattle.pua_policy.specs.declared.call.Call.{Call};
+ghost use Rattle.pua_calls.specs.Calls.{CallTable as Table};
+ghost use Rattle.pua_calls.specs.CallSets.{has};
+ghost use Rattle.pua_calls.specs.declared.call.Call.{Call};
 ghost use Rattle.pua_policy.specs.History.{History, StandsFor};
 ghost use Rattle.pua_policy.specs.Objects.{object_seen};
 ghost use Rattle.pua_policy.specs.Verdict.{Object as Judged, IsMissing, object_of_kind};
@@ -15,7 +15,8 @@ ghost use Rattle.pua_ever.specs.Movable.{IsMovable};
 ghost use Rattle.pua_ever.specs.Openings.{HaveSame};
 
 use crate::openings::{Openings, find_openings};
-use pua_policy::{CallTable, Calls, Cover, Object, Process, judge};
+use pua_calls::{CallTable, Calls};
+use pua_policy::{Cover, Object, Process, judge};
 use pua_tree::{FileTree, OutOfMemory};
 use std::alloc::Global;
 

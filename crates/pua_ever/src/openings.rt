@@ -19,8 +19,9 @@ ghost use Rattle.pua_ever.specs.Openings.{entrance as entrance_of, can_give_way 
 ghost use Rattle.pua_ever.specs.Openings.{is_outside as stands_outside, depth as depth_of};
 ghost use Rattle.pua_ever.specs.Openings.{HaveSame};
 
+use pua_calls::Perms;
 use pua_path::{Counted, Found, Way};
-use pua_policy::{Cover, Perms, Place, Process};
+use pua_policy::{Cover, Place, Process};
 use pua_tree::{FileTree, Kind, Name, NodeId, OutOfMemory};
 use std::alloc::{AllocError, Global};
 

@@ -7,9 +7,9 @@ ghost use Rattle.pua_tree.specs.Tree.{Tree, WellFormed, empty_tree, is_dir as li
 ghost use Rattle.pua_tree.specs.declared.node.Kind.{Kind};
 ghost use Rattle.pua_path.specs.declared.found.Way.{Way};
 ghost use Rattle.pua_path.specs.declared.found.Found.TheVariants.{Whole};
-ghost use Rattle.pua_policy.specs.Calls.{CallTable as Table, rule_of};
-ghost use Rattle.pua_policy.specs.CallSets.{has};
-ghost use Rattle.pua_policy.specs.declared.call.Call.{Call as AnyCall};
+ghost use Rattle.pua_calls.specs.Calls.{CallTable as Table, rule_of};
+ghost use Rattle.pua_calls.specs.CallSets.{has};
+ghost use Rattle.pua_calls.specs.declared.call.Call.{Call as AnyCall};
 ghost use Rattle.pua_policy.specs.History.{History, StandsFor, kept, may_any as may_any_of};
 ghost use Rattle.pua_policy.specs.Objects.{object_seen};
 ghost use Rattle.pua_policy.specs.Verdict.{IsDir, object_of_kind};
@@ -29,9 +29,10 @@ ghost use Rattle.pua_ever.specs.Laws.{EditsNeedC};
 use crate::made::Made;
 use crate::movable::{Movable, calls_by_object};
 use crate::openings::{find_openings, has_c};
+use pua_calls::{Call, CallTable, Calls, Promises};
 use pua_objects::{Item, Subject};
 use pua_path::Last;
-use pua_policy::{Call, CallTable, Calls, Cover, May, Object, Place, Process, Promises, judge};
+use pua_policy::{Cover, May, Object, Place, Process, judge};
 use pua_tree::{FileTree, Name, NodeId, OutOfMemory};
 use std::alloc::Global;
 

@@ -8,7 +8,8 @@ ghost use Rattle.pua_ever.specs.Refusals.{lacks_c, changing_calls};
 ghost use Rattle.pua_ever.specs.Refusals.{both_need_c as pair_needs_c, new_needs_c as makes_by_c};
 ghost use Rattle.pua_ever.specs.Refusals.{refusal as refusal_of};
 
-use pua_policy::{Call, CallTable, May, PairNeed, Perms, Process, Promises};
+use pua_calls::{Call, CallTable, PairNeed, Perms, Promises};
+use pua_policy::{May, Process};
 
 /// Why there is no list of what a process can ever touch.
 #[derive(Clone, Copy, Debug, PartialEq, Eq)]

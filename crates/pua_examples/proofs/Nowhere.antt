@@ -1,10 +1,10 @@
 -- Where no object has a line, no call is allowed on any path.
 use Rattle.std.proofs.Common.{◌≡◌, ◌≢◌, ℕ, List, [], length, ap, arith}
 use Rattle.pua_tree.specs.Tree.{Tree, WellFormed}
-use Rattle.pua_policy.specs.Calls.{CallTable}
+use Rattle.pua_calls.specs.Calls.{CallTable}
 use Rattle.pua_policy.specs.History.{History, working_dir}
 use Rattle.pua_policy.specs.Verdict.{verdict_on}
-use Rattle.pua_policy.specs.declared.call.Call.{Call}
+use Rattle.pua_calls.specs.declared.call.Call.{Call}
 use Rattle.pua_policy.specs.declared.answer.Verdict.TheVariants.{Allowed}
 use Rattle.pua_objects.specs.Objects.{objects}
 use Rattle.pua_objects.specs.Laws.{Complete}

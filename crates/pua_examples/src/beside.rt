@@ -16,7 +16,7 @@ use crate::told::say_unless;
 use crate::worlds::{process_of, world_of};
 use crate::written::Files;
 use anyhow::{Result, bail};
-use pua_policy::{CallTable, Rules};
+use pua_calls::{CallTable, Rules};
 use pua_script::World;
 use pua_tool::{AuditWords, Command, Processes, Text};
 use pua_tree::ListTree;

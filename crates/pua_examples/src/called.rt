@@ -3,8 +3,9 @@
 use crate::calling::{Served, ask, can_touch, is_reached, list, read, replay};
 use crate::told::tell;
 use anyhow::Result;
+use pua_calls::Call;
 use pua_path::Errno;
-use pua_policy::{Call, Process, Verdict};
+use pua_policy::{Process, Verdict};
 use pua_script::Answer;
 use pua_tool::{Processes, ToolFault};
 use std::alloc::Global;

@@ -3,10 +3,11 @@
 use crate::beside::subjects::{Subject, subject_at};
 use anyhow::{Result, bail};
 use pua_audit::{Audit, Base};
+use pua_calls::{Call, CallTable, Calls};
 use pua_ever::{Ever, EverFault, EverThing, Refusal};
 use pua_objects::{ObjectKind, Objects};
 use pua_path::Counted;
-use pua_policy::{Call, CallTable, Calls, Process};
+use pua_policy::Process;
 use pua_tool::ToolFault;
 use pua_tree::{FileTree, Name, byte_spelling};
 use std::alloc::{AllocError, Global};

@@ -3,8 +3,8 @@
 
 use crate::worlds::{run_over, script_of};
 use anyhow::Result;
+use pua_calls::CallTable;
 use pua_path::Errno;
-use pua_policy::CallTable;
 use pua_script::Answer;
 use pua_tree::{
     FileTree, Kind, ListTree, Name, NodeId, TreeFault, read_listing, read_listing_slab,

@@ -2,7 +2,8 @@
 
 use crate::written::Files;
 use anyhow::Result;
-use pua_policy::{CallTable, Process};
+use pua_calls::CallTable;
+use pua_policy::Process;
 use pua_script::{Answer, Request, Script, World, read_script};
 use pua_tool::ToolFault;
 use pua_tree::{FileTree, ListTree, ListingFault, SlabTree, read_listing, read_listing_slab};

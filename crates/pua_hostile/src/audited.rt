@@ -4,8 +4,9 @@ ghost use Rattle.std.specs.Prelude.{◌≡◌};
 
 use anyhow::Result;
 use pua_audit::{Audit, AuditFault, Base};
+use pua_calls::{Call, CallTable};
 use pua_path::{Counted, Probe};
-use pua_policy::{Call, CallTable, Process};
+use pua_policy::Process;
 use pua_tree::FileTree;
 use std::alloc::Global;
 

@@ -13,12 +13,12 @@ use Rattle.pua_path.specs.declared.found.Way.{Way}
 use Rattle.pua_path.specs.declared.found.Way.TheVariants.{Named, Dot, DotDot, Top}
 use Rattle.pua_path.specs.declared.found.Found.{Found}
 use Rattle.pua_path.specs.declared.found.Found.TheVariants.{Whole, Slot}
-use Rattle.pua_policy.specs.Calls.{CallTable, rule_of, last_of}
-use Rattle.pua_policy.specs.CallSets.{is_kept}
+use Rattle.pua_calls.specs.Calls.{CallTable, rule_of, last_of}
+use Rattle.pua_calls.specs.CallSets.{is_kept}
 use Rattle.pua_policy.specs.History.{History, kept, may_any}
 use Rattle.pua_policy.specs.Verdict.{IsMissing, object_fault, or_fault, cover, cover_fault, nearest, is_unveil, if_promised, allowed_unless, verdict, is_allowed, is_link}
-use Rattle.pua_policy.specs.declared.call.Call.{Call}
-use Rattle.pua_policy.specs.declared.call.Call.TheVariants.{Stat, Lstat, Readlink, OpenRead, OpenWrite, OpenBoth, Create, Mkdir, Rmdir, Unlink, Symlink, Chmod, Chdir, Exec}
+use Rattle.pua_calls.specs.declared.call.Call.{Call}
+use Rattle.pua_calls.specs.declared.call.Call.TheVariants.{Stat, Lstat, Readlink, OpenRead, OpenWrite, OpenBoth, Create, Mkdir, Rmdir, Unlink, Symlink, Chmod, Chdir, Exec}
 use Rattle.pua_policy.specs.declared.answer.May.{May}
 use Rattle.pua_policy.specs.declared.answer.May.TheVariants as may
 use Rattle.pua_policy.specs.declared.answer.Cover.{Cover}

@@ -6,12 +6,12 @@ use Rattle.pua_tree.specs.declared.node.Kind.{Kind}
 use Rattle.pua_tree.specs.declared.node.Kind.TheVariants as kinds
 use Rattle.pua_path.specs.declared.found.Found.{Found}
 use Rattle.pua_path.specs.declared.found.Found.TheVariants.{Whole, Slot}
-use Rattle.pua_policy.specs.Calls.{CallTable}
-use Rattle.pua_policy.specs.CallSets.{has, keeps_link}
+use Rattle.pua_calls.specs.Calls.{CallTable}
+use Rattle.pua_calls.specs.CallSets.{has, keeps_link}
 use Rattle.pua_policy.specs.History.{History}
 use Rattle.pua_policy.specs.Objects.{object_seen}
 use Rattle.pua_policy.specs.Verdict.{cover, object_of, object_of_kind, rmdir_fault, is_link, is_link_kind, verdict, is_allowed}
-use Rattle.pua_policy.specs.declared.call.Call.{Call}
+use Rattle.pua_calls.specs.declared.call.Call.{Call}
 use Rattle.pua_policy.specs.declared.object.Object as seen
 use Rattle.pua_policy.specs.declared.object.Object.TheVariants as see
 use Rattle.pua_objects.specs.Objects.{Subject, At, Others, cover_in, object_word}

@@ -3,10 +3,10 @@ use Rattle.std.proofs.Common.{◌≡◌, ◌≢◌, List, [], ◌∷◌, Bool, t
 use Rattle.std.specs.Prelude.{filter, nat_lt, IsTrue, ◌↔◌}
 use Rattle.std.proofs.lemmas.Bool.{lt-ltb}
 use Rattle.pua_tree.specs.Tree.{Tree}
-use Rattle.pua_policy.specs.Calls.{CallTable, calls}
-use Rattle.pua_policy.specs.CallSets.{calls_in}
+use Rattle.pua_calls.specs.Calls.{CallTable, calls}
+use Rattle.pua_calls.specs.CallSets.{calls_in}
 use Rattle.pua_policy.specs.History.{History, ProcessState, StandsFor}
-use Rattle.pua_policy.specs.declared.call.Call.{Call}
+use Rattle.pua_calls.specs.declared.call.Call.{Call}
 use Rattle.pua_audit.specs.Reach.{Word}
 use Rattle.pua_objects.specs.Objects.{Subject, Item, Line, line_of, has_calls, calls_on}
 use Rattle.pua_objects.specs.Items.{IsItemOn}

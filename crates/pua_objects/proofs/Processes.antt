@@ -3,11 +3,11 @@ use Rattle.std.proofs.Common.{◌≡◌, ℕ, map, sym, ap, ◌∙◌}
 use Rattle.std.specs.Prelude.{filter, ◌&&◌, if◌then◌else◌}
 use Rattle.std.specs.List.{list_any}
 use Rattle.pua_tree.specs.Tree.{Tree, climb}
-use Rattle.pua_policy.specs.Calls.{CallTable, calls, rule_of}
+use Rattle.pua_calls.specs.Calls.{CallTable, calls, rule_of}
 use Rattle.pua_policy.specs.History.{History, kept, veils, veil_at, has_veil}
 use Rattle.pua_policy.specs.Verdict.{object_of, object_fault, or_fault, cover_fault, IsMissing, if_promised, allowed_unless, nearest, is_unveil, is_allowed}
 use Rattle.pua_policy.specs.Laws.{AllowAlike}
-use Rattle.pua_policy.specs.declared.call.Call.{Call}
+use Rattle.pua_calls.specs.declared.call.Call.{Call}
 use Rattle.pua_policy.specs.declared.place.Place.{Place}
 use Rattle.pua_policy.specs.declared.place.Place.TheVariants as place
 use Rattle.pua_policy.specs.declared.answer.Cover.TheVariants.{All}

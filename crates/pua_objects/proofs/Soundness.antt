@@ -16,11 +16,11 @@ use Rattle.pua_path.specs.declared.found.Way.{Way}
 use Rattle.pua_path.specs.declared.found.Way.TheVariants.{Top}
 use Rattle.pua_path.specs.declared.found.Found.{Found}
 use Rattle.pua_path.specs.declared.found.Found.TheVariants.{Whole, Slot}
-use Rattle.pua_policy.specs.CallSets.{is_kept}
-use Rattle.pua_policy.specs.Calls.{CallTable, calls, last_of, ending_of}
+use Rattle.pua_calls.specs.CallSets.{is_kept}
+use Rattle.pua_calls.specs.Calls.{CallTable, calls, last_of, ending_of}
 use Rattle.pua_policy.specs.History.{History, veils, working_dir}
 use Rattle.pua_policy.specs.Verdict.{is_link, is_link_kind, verdict, verdict_of, object_named, is_allowed}
-use Rattle.pua_policy.specs.declared.call.Call.{Call}
+use Rattle.pua_calls.specs.declared.call.Call.{Call}
 use Rattle.pua_policy.specs.declared.answer.Verdict.TheVariants.{Allowed}
 use Rattle.pua_audit.specs.Reach.{Word}
 use Rattle.pua_objects.specs.Objects.{Subject, At, Others, Line, line_of, has_calls, items, is_named_by, subject_verdict}

@@ -12,7 +12,8 @@ ghost use Rattle.pua_objects.specs.Lines.{IsLineOn, kind_seen};
 
 use crate::item::{Item, Subject};
 use crate::kind::ObjectKind;
-use pua_policy::{CallTable, Calls, Cover, Object, Process, judge};
+use pua_calls::{CallTable, Calls};
+use pua_policy::{Cover, Object, Process, judge};
 
 /// A line of the list, but for the names that lead there.
 #[derive(Clone, Copy, Debug, PartialEq, Eq)]

@@ -8,7 +8,8 @@ ghost use Rattle.pua_objects.specs.Ready.{lines_of, IsNextListed};
 
 use crate::items::Items;
 use crate::line::{ObjectLine, line_of};
-use pua_policy::{CallTable, Process};
+use pua_calls::CallTable;
+use pua_policy::Process;
 use pua_tree::{FileTree, Name, OutOfMemory};
 use std::alloc::Global;
 use std::marker::Model;

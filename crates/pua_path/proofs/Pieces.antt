@@ -366,5 +366,8 @@ piece_is_name piece h one two =
     let b = and_parts (nat_le (length piece) 255) (list_all is_name_byte piece) a.1 in
     rw (a.0, b.0, b.1, one, two) refl
 
+-- how a piece is seen to be one part or another
+pub ruleset pieces = (piece_dot, piece_dots, piece_named, piece_is_name)
+
 pub text_readable : (target text : List ℕ) → is_readable target ≡ true → text ≡ after_slashes target → is_readable text ≡ true
 text_readable target text r e = ap is_readable e ∙ is_readable-after_slashes target ∙ r

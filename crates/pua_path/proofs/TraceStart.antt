@@ -22,19 +22,18 @@ begins t from text mode start most ps trace false s e =
     let same : start ≡ start_of text from = cc in ap (λ d. as_path_trace (trace_parts most t mode d Top ps)) (sym same) ∙ ap as_path_trace (sym e)
 
 -- a walk that was begun with these
-pub record IsBegun (t : Tree) (ending : Ending) (text : List ℕ) (start : ℕ) (most : ℕ) (u : Tree) (here : ℕ) (way : Way) (ps : List Part) : Type 0 where
-  pub same_tree : u ≡ t
+pub record IsBegun (ending : Ending) (text : List ℕ) (start : ℕ) (most : ℕ) (here : ℕ) (way : Way) (ps : List Part) : Type 0 where
   pub all_links : most ≡ link_limit
   pub at_start : here ≡ start
   pub no_way : way ≡ Top
   pub all_parts : ps ≡ parts_of ending text
 
-pub trace_begins : (t : Tree) (from : ℕ) (ending : Ending) (text : List ℕ) (mode : Last) (start most : ℕ) (u : Tree) (here : ℕ) (way : Way) (ps : List Part) (trace : Trace) →
-    IsBegun t ending text start most u here way ps → Some start ≡ (if not (is_absolute text) && not (is_dir t from) then None else Some (start_of text from)) →
-    trace ≡ trace_parts most u mode here way ps → trace_from t from ending text mode ≡ as_path_trace trace
+pub trace_begins : (t : Tree) (from : ℕ) (ending : Ending) (text : List ℕ) (mode : Last) (start most : ℕ) (here : ℕ) (way : Way) (ps : List Part) (trace : Trace) →
+    IsBegun ending text start most here way ps → Some start ≡ (if not (is_absolute text) && not (is_dir t from) then None else Some (start_of text from)) →
+    trace ≡ trace_parts most t mode here way ps → trace_from t from ending text mode ≡ as_path_trace trace
 unfolding trace_from
-trace_begins t from ending text mode start most u here way ps trace is s e =
-    let same : trace ≡ trace_parts most t mode start Top ps = e ∙ (λ i. trace_parts most (is.same_tree i) mode (is.at_start i) (is.no_way i) ps) in
+trace_begins t from ending text mode start most here way ps trace is s e =
+    let same : trace ≡ trace_parts most t mode start Top ps = e ∙ (λ i. trace_parts most t mode (is.at_start i) (is.no_way i) ps) in
     let begun = begins t from text mode start most ps trace (not (is_absolute text) && not (is_dir t from)) s same in
     (λ i. if not (is_absolute text) && not (is_dir t from) then fails_in NoStart
     else as_path_trace (trace_parts (sym is.all_links i) t mode (start_of text from) Top (sym is.all_parts i))) ∙ begun

@@ -1,16 +1,18 @@
 -- A resolution on its way: what stands at a name, and how one part leads on to the next.
-use Rattle.std.specs.Prelude.{ℕ, ◌+◌, ◌*◌, ◌≤◌, Bool, if◌then◌else◌, List, [], ◌∷◌, length, Option, Some, None, Result, Ok, Err, IsTrue}
+use Rattle.std.specs.Prelude.{◌≡◌, nat_lt, ℕ, ◌+◌, ◌*◌, ◌≤◌, Bool, if◌then◌else◌, List, [], ◌∷◌, length, Option, Some, None, Result, Ok, Err, IsTrue}
 use Rattle.pua_tree.specs.Names.{is_name}
 use Rattle.pua_tree.specs.Tree.{Tree, Spot, WellFormed, is_dir}
 use Rattle.pua_path.specs.Limits.{link_limit}
 use Rattle.pua_path.specs.Paths.{parts_of}
 use Rattle.pua_path.specs.Remaining.{Remaining, is_readable}
-use Rattle.pua_path.specs.Resolution.{Resolved, Standing, Directory, Linked, Plain, Nothing}
+use Rattle.pua_path.specs.Resolution.{Resolved, Standing, Directory, Linked, Plain, Nothing, resolve_parts}
 use Rattle.pua_path.specs.Bounds.{most_parts}
-use Rattle.pua_path.specs.Traces.{Trace, at_once, behind}
+use Rattle.pua_path.specs.Traces.{Trace, at_once, behind, trace_parts}
 use Rattle.pua_path.specs.declared.errno.Errno.{Errno}
 use Rattle.pua_path.specs.declared.errno.Errno.TheVariants.{ENOENT, ENOTDIR}
 use Rattle.pua_path.specs.declared.text.Ending.TheVariants.{Dot}
+use Rattle.pua_path.specs.declared.found.Part.{Part}
+use Rattle.pua_path.specs.declared.found.Last.{Last}
 use Rattle.pua_path.specs.declared.found.Found.{Found}
 use Rattle.pua_path.specs.declared.found.Found.TheVariants.{Whole, Slot}
 use Rattle.pua_path.specs.declared.found.Way.{Way}
@@ -19,6 +21,7 @@ use Rattle.pua_path.specs.declared.resolver.LentFound.{LentFound}
 use Rattle.pua_path.specs.declared.resolver.LentFound.TheVariants as lent
 use Rattle.pua_path.specs.declared.resolver.Nameless.{Nameless}
 use Rattle.pua_path.specs.declared.resolver.Nameless.TheVariants as nameless
+use Rattle.pua_path.specs.declared.resolver.Walk.{Walk}
 use Rattle.pua_path.specs.declared.resolver.Standing as seen
 use Rattle.pua_path.specs.declared.resolver.Standing.TheVariants as see
 use Rattle.pua_path.specs.declared.traced.Stop.{Stop}
@@ -84,19 +87,40 @@ traced_on spot linked (Ok None) left further = behind (if linked then spot ∷ [
 traced_on spot linked (Ok (Some found)) left further = at_once (Ok (found, left))
 traced_on spot linked (Err errno) left further = at_once (Err (stop_at spot errno))
 
--- what a trace answers, and the links left then
-abbrev pub told : Result Found Stop → ℕ → Result (Found × ℕ) Stop
-told (Ok found) left = Ok (found, left)
-told (Err stop) left = Err stop
-
 -- what a resolution answers, and the links left then
 abbrev pub ended : Result Found Errno → ℕ → Resolved
 ended (Ok found) left = Ok (found, left)
 ended (Err errno) left = Err errno
 
+-- where a resolution on its way comes to: by the parts that it has left, and with one more before them
+abbrev pub walk_end : Tree → Last → Walk → Resolved
+walk_end t mode walk = resolve_parts walk.left t mode walk.here (way_of walk.way) walk.rest.parts
+
+abbrev pub walk_end_by : Part → Tree → Last → Walk → Resolved
+walk_end_by part t mode walk = resolve_parts walk.left t mode walk.here (way_of walk.way) (part ∷ walk.rest.parts)
+
+-- the same of its trace
+abbrev pub walk_trace : Tree → Last → Walk → Trace
+walk_trace t mode walk = trace_parts walk.left t mode walk.here (way_of walk.way) walk.rest.parts
+
+abbrev pub walk_trace_by : Part → Tree → Last → Walk → Trace
+walk_trace_by part t mode walk = trace_parts walk.left t mode walk.here (way_of walk.way) (part ∷ walk.rest.parts)
+
+-- one part leads from a walk to an answer, or to the walk that is left
+abbrev pub LeadsOn : Tree → Last → Part → Walk → Result (Option LentFound) Errno → Walk → Type 0
+LeadsOn t mode part old answer new = walk_end_by part t mode old ≡ goes_on (all_found answer) new.left (walk_end t mode new)
+
+-- and its trace so, where these bytes are the part's name
+abbrev pub TracesOn : Tree → Last → Part → List ℕ → Walk → Result (Option LentFound) Errno → Walk → Type 0
+TracesOn t mode part name old answer new =
+    walk_trace_by part t mode old ≡ traced_on (old.here, name) (nat_lt new.left old.left) (all_found answer) new.left (walk_trace t mode new)
+
 -- the parts that are left, and those that links can still add
 abbrev pub potential : Tree → ℕ → Remaining → ℕ
 potential t left rest = length rest.parts + most_parts t * left
+
+abbrev pub potential_of : Tree → Walk → ℕ
+potential_of t walk = potential t walk.left walk.rest
 
 -- a resolution that can go on: from a living directory, with room for the targets that may come
 pub record CanGoOn (t : Tree) (here left : ℕ) (rest : Remaining) : Type 0 where

@@ -3,14 +3,15 @@
 ghost use Rattle.std.specs.Prelude.{◌≡◌};
 ghost use Rattle.pua_path.specs.Limits.{link_limit, path_limit};
 ghost use Rattle.pua_path.specs.Examples.{ResolutionRows, StepRows, TraceRows};
-ghost use Rattle.pua_path.specs.Laws.{FollowDecides, KeptFollowsNone, LastsFollow, LinksDecide, ResolutionComposes, ResolutionsFit, StepsCompose, StepsFollow};
+ghost use Rattle.pua_path.specs.Laws.{FollowDecides, KeptFollowsNone, LastsFollow, LinksDecide};
+ghost use Rattle.pua_path.specs.Laws.{ResolutionComposes, ResolutionsFit};
+ghost use Rattle.pua_path.specs.Laws.{StepsCompose, StepsFollow};
 ghost use Rattle.pua_path.specs.Goes.{ComingResolves, TracesArrive};
 ghost use Rattle.pua_path.specs.TraceLaws.{TextTracesAnswer, TracesAnswer, TracesHold};
 
 use crate::limits::{LINK_LIMIT, PATH_LIMIT};
 
 /// Examples of what texts and parts name, and of how texts go.
-#[tactic(auto, using(crate::specs::Examples::resolution_rows, crate::specs::Examples::step_rows, crate::specs::Examples::trace_rows))]
 pub fn resolution_examples()
     ensures texts { ResolutionRows }
     ensures steps { StepRows }

@@ -9,7 +9,8 @@ use std::marker::Model;
 pub trait Probe<'t> {
     ghost use Rattle.std.specs.Prelude.{◌≡◌, ℕ, IfOk, IfErr, map, option_copied};
     ghost use Rattle.pua_tree.specs.LentRows.{lent_entry};
-    ghost use Rattle.pua_tree.specs.Tree.{Tree, WellFormed, kind_at, look, found_at, parent, target_at, is_empty, names};
+    ghost use Rattle.pua_tree.specs.Tree.{Tree, WellFormed, kind_at, look, found_at, parent};
+    ghost use Rattle.pua_tree.specs.Tree.{target_at, is_empty, names};
     ghost use Rattle.pua_path.specs.Counts.{one_more};
 
     /// The tree that answers.

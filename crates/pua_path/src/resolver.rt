@@ -2,14 +2,19 @@
 
 mod tracing;
 
-ghost use Rattle.std.specs.Prelude.{nat_lt, ◌≡◌, ◌≤◌, ◌<◌, ◌+◌, ◌-◌, ◌*◌, ◌∷◌, ◌++◌, IsTrue, IfOk, IfErr, IfSome, OnOk, is_some, not, false, ◌&&◌, ◌==◌, Ok, Err, Some, None, [], if◌then◌else◌};
+ghost use Rattle.std.specs.Prelude.{◌≡◌, ◌≤◌, ◌<◌, ◌+◌, ◌-◌, ◌*◌};
+ghost use Rattle.std.specs.Prelude.{[], ◌∷◌, ◌++◌, Some, None, Ok, Err, is_some};
+ghost use Rattle.std.specs.Prelude.{IsTrue, IfSome, IfOk, IfErr, OnOk};
+ghost use Rattle.std.specs.Prelude.{not, false, ◌&&◌, ◌==◌, if◌then◌else◌};
 ghost use Rattle.pua_tree.specs.Names.{is_name};
 ghost use Rattle.pua_tree.specs.Tree.{above, is_dir};
-ghost use Rattle.pua_path.specs.Resolution.{resolution, resolve_parts, standing_at, is_followed, start_of, step, last, follow};
+ghost use Rattle.pua_path.specs.Resolution.{resolution, resolve_parts, step, last, follow};
+ghost use Rattle.pua_path.specs.Resolution.{standing_at, is_followed, start_of};
 ghost use Rattle.pua_path.specs.Limits.{link_limit};
 ghost use Rattle.pua_path.specs.Paths.{is_absolute, part_of, parts_of};
-ghost use Rattle.pua_path.specs.Walks.{way_of, lent_name, found_of, all_found, IsNamed, AreNamed, standing_seen, StandsIn, CanGoOn, goes_on, traced_on, ended, potential};
-ghost use Rattle.pua_path.specs.Traces.{trace_parts};
+ghost use Rattle.pua_path.specs.Walks.{way_of, lent_name, found_of, all_found, standing_seen};
+ghost use Rattle.pua_path.specs.Walks.{IsNamed, AreNamed, StandsIn, CanGoOn, LeadsOn, TracesOn};
+ghost use Rattle.pua_path.specs.Walks.{ended, walk_end, potential_of};
 ghost use Rattle.pua_path.specs.Bounds.{part_cost};
 ghost use Rattle.pua_path.specs.Fits.{FoundFits, FoundsFit, StandsAsNamed};
 ghost use Rattle.pua_path.specs.Remaining.{Remaining, is_done, is_piece, is_readable};
@@ -165,8 +170,11 @@ fn resolve_part<'t, P: Probe<'t>>(
 
 /// Where a path starts; None where that is no living directory.
 fn start_of<'t, P: Probe<'t>>(probe: &mut P, from: NodeId, text: &[u8]) -> Option<NodeId>
-    ensures start { result ≡ (if not (is_absolute text.now) && not (is_dir (P.tree probe.old) from) then None else Some (start_of text.now from)) }
-    ensures ready { IfSome result (λ start. (rest : Remaining) → rest.depth ≡ 0 → CanGoOn (P.tree probe.old) start link_limit rest) }
+    ensures start { result ≡
+        (if not (is_absolute text.now) && not (is_dir (P.tree probe.old) from) then None
+        else Some (start_of text.now from)) }
+    ensures ready { IfSome result (λ start.
+        (rest : Remaining) → rest.depth ≡ 0 → CanGoOn (P.tree probe.old) start link_limit rest) }
     ensures tree { P.tree probe.new ≡ P.tree probe.old }
 {
     probe.known();
@@ -307,10 +315,11 @@ impl<'a> Walk<'a> {
     /// Resolves the parts that are left.
     fn finish<'t: 'a, P: Probe<'t>>(&mut self, probe: &mut P, mode: Last) -> Result<Found, Errno>
         requires ready { CanGoOn (P.tree probe.old) self.old.here self.old.left self.old.rest }
-        ensures exact { ended result self.new.left ≡ resolve_parts self.old.left (P.tree probe.old) mode self.old.here (way_of self.old.way) self.old.rest.parts }
+        ensures exact { ended result self.new.left ≡ walk_end (P.tree probe.old) mode self.old }
         ensures left { self.new.left ≤ self.old.left }
         ensures tree { P.tree probe.new ≡ P.tree probe.old }
-        ensures count { P.count probe.new ≤ P.count probe.old + 3 * potential (P.tree probe.old) self.old.left self.old.rest }
+        ensures count { P.count probe.new
+            ≤ P.count probe.old + 3 * potential_of (P.tree probe.old) self.old }
     {
         while let Some(piece) = self.rest.next() {
             match self.enter_piece(probe, piece, mode) {
@@ -332,10 +341,11 @@ impl<'a> Walk<'a> {
         mode: Last,
     ) -> Result<(Found, u8), Errno>
         requires ready { CanGoOn (P.tree probe.old) self.old.here self.old.left self.old.rest }
-        ensures exact { result ≡ resolve_parts self.old.left (P.tree probe.old) mode self.old.here (way_of self.old.way) self.old.rest.parts }
+        ensures exact { result ≡ walk_end (P.tree probe.old) mode self.old }
         ensures left { IfOk result (λ found. found.1 ≤ self.old.left) }
         ensures tree { P.tree probe.new ≡ P.tree probe.old }
-        ensures count { P.count probe.new ≤ P.count probe.old + 3 * potential (P.tree probe.old) self.old.left self.old.rest }
+        ensures count { P.count probe.new
+            ≤ P.count probe.old + 3 * potential_of (P.tree probe.old) self.old }
     {
         match self.finish(probe, mode) {
             Ok(found) => Ok((found, self.left)),
@@ -344,7 +354,7 @@ impl<'a> Walk<'a> {
     }
 
     /// Resolves the part that a piece is, as `enter` does.
-    #[tactic(auto, using(crate::proofs::Pieces::piece_dot, crate::proofs::Pieces::piece_dots, crate::proofs::Pieces::piece_named, crate::proofs::Pieces::piece_is_name))]
+    #[tactic(auto, using(crate::proofs::Pieces::pieces))]
     fn enter_piece<'n, 't: 'a, P: Probe<'t>>(
         &mut self,
         probe: &mut P,
@@ -353,18 +363,16 @@ impl<'a> Walk<'a> {
     ) -> Result<Option<LentFound<'n>>, Errno>
         requires piece { IsTrue (is_piece piece.now) }
         requires ready { CanGoOn (P.tree probe.old) self.old.here self.old.left self.old.rest }
-        ensures exact { let t = P.tree probe.old in
-            resolve_parts self.old.left t mode self.old.here (way_of self.old.way) (part_of piece.now ∷ self.old.rest.parts)
-            ≡ goes_on (all_found result) self.new.left (resolve_parts self.new.left t mode self.new.here (way_of self.new.way) self.new.rest.parts) }
-        ensures traced { let t = P.tree probe.old in
-            trace_parts self.old.left t mode self.old.here (way_of self.old.way) (part_of piece.now ∷ self.old.rest.parts)
-            ≡ traced_on (self.old.here, piece.now) (nat_lt self.new.left self.old.left) (all_found result) self.new.left
-            (trace_parts self.new.left t mode self.new.here (way_of self.new.way) self.new.rest.parts) }
+        ensures exact { let part = part_of piece.now in
+            LeadsOn (P.tree probe.old) mode part self.old result self.new }
+        ensures traced { let part = part_of piece.now in
+            TracesOn (P.tree probe.old) mode part piece.now self.old result self.new }
         ensures stopped { IfErr result (λ _. IsTrue (is_name piece.now)) }
         ensures linked { self.new.left < self.old.left → IsTrue (is_name piece.now) }
         ensures ready { CanGoOn (P.tree probe.old) self.new.here self.new.left self.new.rest }
         ensures left { self.new.left ≤ self.old.left }
-        ensures potential { potential (P.tree probe.old) self.new.left self.new.rest ≤ potential (P.tree probe.old) self.old.left self.old.rest }
+        ensures potential { let t = P.tree probe.old in
+            potential_of t self.new ≤ potential_of t self.old }
         ensures tree { P.tree probe.new ≡ P.tree probe.old }
         ensures count { P.count probe.new ≤ P.count probe.old + 3 }
         ensures named { IfOk result AreNamed }
@@ -388,12 +396,11 @@ impl<'a> Walk<'a> {
         mode: Last,
     ) -> Result<Option<LentFound<'n>>, Errno>
         requires ready { CanGoOn (P.tree probe.old) self.old.here self.old.left self.old.rest }
-        ensures exact { let t = P.tree probe.old in
-            resolve_parts self.old.left t mode self.old.here (way_of self.old.way) (part.now ∷ self.old.rest.parts)
-            ≡ goes_on (all_found result) self.new.left (resolve_parts self.new.left t mode self.new.here (way_of self.new.way) self.new.rest.parts) }
+        ensures exact { LeadsOn (P.tree probe.old) mode part.now self.old result self.new }
         ensures ready { CanGoOn (P.tree probe.old) self.new.here self.new.left self.new.rest }
         ensures left { self.new.left ≤ self.old.left }
-        ensures potential { potential (P.tree probe.old) self.new.left self.new.rest ≤ potential (P.tree probe.old) self.old.left self.old.rest }
+        ensures potential { let t = P.tree probe.old in
+            potential_of t self.new ≤ potential_of t self.old }
         ensures tree { P.tree probe.new ≡ P.tree probe.old }
         ensures count { P.count probe.new ≤ P.count probe.old + 3 }
         ensures named { IfOk result AreNamed }
@@ -435,16 +442,14 @@ impl<'a> Walk<'a> {
     ) -> Result<Option<LentFound<'n>>, Errno>
         requires name { IsTrue (is_name name.now) }
         requires ready { CanGoOn (P.tree probe.old) self.old.here self.old.left self.old.rest }
-        ensures exact { let t = P.tree probe.old in
-            resolve_parts self.old.left t mode self.old.here (way_of self.old.way) (parts.Name name.now ∷ self.old.rest.parts)
-            ≡ goes_on (all_found result) self.new.left (resolve_parts self.new.left t mode self.new.here (way_of self.new.way) self.new.rest.parts) }
-        ensures traced { let t = P.tree probe.old in
-            trace_parts self.old.left t mode self.old.here (way_of self.old.way) (parts.Name name.now ∷ self.old.rest.parts)
-            ≡ traced_on (self.old.here, name.now) (nat_lt self.new.left self.old.left) (all_found result) self.new.left
-            (trace_parts self.new.left t mode self.new.here (way_of self.new.way) self.new.rest.parts) }
+        ensures exact { let part = parts.Name name.now in
+            LeadsOn (P.tree probe.old) mode part self.old result self.new }
+        ensures traced { let part = parts.Name name.now in
+            TracesOn (P.tree probe.old) mode part name.now self.old result self.new }
         ensures ready { CanGoOn (P.tree probe.old) self.new.here self.new.left self.new.rest }
         ensures left { self.new.left ≤ self.old.left }
-        ensures potential { potential (P.tree probe.old) self.new.left self.new.rest ≤ potential (P.tree probe.old) self.old.left self.old.rest }
+        ensures potential { let t = P.tree probe.old in
+            potential_of t self.new ≤ potential_of t self.old }
         ensures tree { P.tree probe.new ≡ P.tree probe.old }
         ensures count { P.count probe.new ≤ P.count probe.old + 3 }
         ensures named { IfOk result AreNamed }
@@ -495,7 +500,9 @@ impl<'a> Walk<'a> {
         errno: Errno,
     ) -> Result<Option<LentFound<'n>>, Errno>
         requires { IsTrue (is_name name.now) }
-        ensures exact { all_found result ≡ (if is_done self.now.rest.parts then Ok (Some (Slot self.now.here name.now node)) else Err errno) }
+        ensures exact { all_found result ≡
+            (if is_done self.now.rest.parts then Ok (Some (Slot self.now.here name.now node))
+            else Err errno) }
         ensures named { IfOk result AreNamed }
     {
         if !self.rest.is_done() {
@@ -518,7 +525,8 @@ impl<'a> Walk<'a> {
         ensures unchanged { self.old.left ≡ 0 → self.new ≡ self.old }
         ensures here { 0 < self.old.left → self.new.here ≡ start_of target.now self.old.here }
         ensures way { 0 < self.old.left → self.new.way ≡ nameless.Top }
-        ensures parts { 0 < self.old.left → self.new.rest.parts ≡ parts_of ending.Dot target.now ++ self.old.rest.parts }
+        ensures parts { 0 < self.old.left →
+            self.new.rest.parts ≡ parts_of ending.Dot target.now ++ self.old.rest.parts }
         ensures room { self.new.rest.depth + self.new.left ≤ link_limit }
     {
         if self.left == 0 {

@@ -30,7 +30,8 @@ impl<'a> Model for Rest<'a> {
     ghost invariant = { λ a. (a.depth ≤ link_limit) × IsTrue (is_stack a.top.now (take a.depth a.below)) };
 }
 
-ghost use Rattle.std.specs.Prelude.{◌≡◌, ◌≤◌, ◌<◌, ◌+◌, ◌∷◌, ◌++◌, [], IsTrue, IfSome, MatchOption};
+ghost use Rattle.std.specs.Prelude.{◌≡◌, ◌≤◌, ◌<◌, ◌+◌, [], ◌∷◌, ◌++◌};
+ghost use Rattle.std.specs.Prelude.{IsTrue, IfSome, MatchOption};
 ghost use Rattle.pua_path.specs.Limits.{link_limit};
 ghost use Rattle.pua_path.specs.Paths.{part_of, parts_of};
 ghost use Rattle.pua_path.specs.Remaining.{is_done, is_piece, is_readable, rest_parts};
@@ -81,7 +82,9 @@ impl<'a> Rest<'a> {
 
     /// Takes the first part off, and answers the piece that it is; None where no part is left.
     pub(crate) fn next(&mut self) -> Option<&'a [u8]>
-        ensures parts { MatchOption result ((self.old.parts ≡ []) × (self.new.parts ≡ [])) (λ piece. self.old.parts ≡ part_of piece.now ∷ self.new.parts) }
+        ensures parts { MatchOption result
+            ((self.old.parts ≡ []) × (self.new.parts ≡ []))
+            (λ piece. self.old.parts ≡ part_of piece.now ∷ self.new.parts) }
         ensures piece { IfSome result (λ piece. IsTrue (is_piece piece.now)) }
         ensures depth { self.new.depth ≤ self.old.depth }
     {

@@ -2,7 +2,7 @@
 use Rattle.std.proofs.Common.{◌≡◌, ℕ, zero, suc, ◌+◌, ◌≤◌, ◌≢◌, add-one, List, [], ◌∷◌, length, Bool, true, false, map, refl, sym, ap, ◌∙◌, arith}
 use Rattle.std.proofs.lemmas.Bool.{false≢true, eqb-true}
 use Rattle.std.specs.Ordering.{nat_cmp}
-use Rattle.std.specs.FinMap.{nat_cmp-IsAntisymmetric}
+use Rattle.std.specs.FinMap.{nat_cmp-IsAntisymmetric, find as find_key}
 use Rattle.std.specs.List.{list_any}
 use Rattle.std.specs.Prelude.{Option, Some, None, option_map, ◌||◌, ◌==◌, nat_lt}
 use Rattle.pua_tree.specs.Tree.{Tree, Node, WellFormed, is_dir, is_dir_kind, above, climb, climb_within, node_at, node_fits, rows_fit_kind, rows_of, target_fits}
@@ -70,7 +70,24 @@ module _ (t : Tree) where
   pub climb-some : (d : ℕ) → 1 ≤ length (climb t d)
   climb-some = some_within (length t.nodes)
 
+  more_within : (n d : ℕ) → d ≢ 0 → 1 ≤ n → 2 ≤ length (climb_within n t d)
+  more_within zero d other some = absurd (omega arith)
+  more_within (suc n) zero other some = absurd (other refl)
+  more_within (suc n) (suc d) other some = omega (arith, some_within n (above t (suc d)))
+
   module _ (fits : WellFormed t) where
+    -- the root is a node
+    some_nodes : 1 ≤ length t.nodes
+    some_nodes = by t.nodes fits.root
+      where
+        by : (nodes : List (ℕ × Node)) → is_dir_kind (option_map (λ node. node.kind) (find_key nat_cmp 0 nodes)) ≡ true → 1 ≤ length nodes
+        by [] is = cc
+        by (node ∷ nodes) is = omega arith
+
+    -- from elsewhere a climb has one directory more
+    pub climb-more : (d : ℕ) → d ≢ 0 → 2 ≤ length (climb t d)
+    climb-more d other = more_within (length t.nodes) d other some_nodes
+
     -- what is above a directory is one
     pub is_dir_above : (d : ℕ) → is_dir t (above t d) ≡ true
     is_dir_above d = above_lives t d fits

@@ -1,6 +1,7 @@
 -- What the veils of a process leave, by where it looks.
 use Rattle.std.proofs.Common.{◌≡◌, ℕ, List, ◌∷◌, map, true, false, ap, ◌∙◌}
 use Rattle.std.specs.Prelude.{Option, Some, None}
+use Rattle.std.proofs.lemmas.Bool.{and_parts}
 use Rattle.pua_tree.specs.Tree.{Tree, WellFormed, is_dir, climb}
 use Rattle.pua_path.specs.declared.found.Way.{Way}
 use Rattle.pua_path.specs.declared.found.Found.{Found}
@@ -8,9 +9,14 @@ use Rattle.pua_path.specs.declared.found.Found.TheVariants.{Whole, Slot}
 use Rattle.pua_policy.specs.declared.place.Place.TheVariants as place
 use Rattle.pua_policy.specs.declared.answer.Cover.TheVariants.{All, Only}
 use Rattle.pua_policy.specs.History.{History, ProcessState, StandsFor, veil_at, has_veil}
-use Rattle.pua_policy.specs.Verdict.{cover, nearest}
+use Rattle.pua_policy.specs.Verdict.{FoundFits, cover, nearest}
 use Rattle.pua_policy.proofs.Climbs.{nearest_whole}
 use Rattle.pua_policy.proofs.Standing.{cover_of, cover_by_veils}
+
+-- a name that was found stands in a directory
+pub slot_lives : (t : Tree) (dir : ℕ) (name : List ℕ) (node : Option ℕ) → FoundFits t (Slot dir name node) → is_dir t dir ≡ true
+slot_lives t dir name None fits = (and_parts (is_dir t dir) _ fits).0
+slot_lives t dir name (Some x) fits = (and_parts (is_dir t dir) _ fits).0
 
 module _ (p : ProcessState) (h : History) (s : StandsFor p h) (t : Tree) where
   by_veil : (found : Found) (veiled : _) → has_veil p.veils ≡ veiled → cover t h found ≡ cover_of veiled (veil_at p.veils) t found

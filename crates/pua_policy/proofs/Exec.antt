@@ -3,8 +3,8 @@ use Rattle.std.proofs.Common.{◌≡◌, ℕ, [], ◌∷◌, false, refl, sym, a
 use Rattle.std.specs.Prelude.{Some, None, not, filter, filter_map}
 use Rattle.pua_policy.specs.History.{History, ProcessState, StandsFor, Pledged, Unveiled, Locked, Moved, Ended, promises_in, execpromises_in, common, meet, is_pledge, held_for_exec, left_for_exec, after_exec, veils, with_veil, is_locked, is_ended, dir_in, first}
 use Rattle.std.specs.Prelude.{unwrap_or}
-use Rattle.pua_policy.specs.declared.rules.ExecPromises.{ExecPromises}
-use Rattle.pua_policy.specs.declared.rules.ExecPromises.TheVariants.{Unset, Stay}
+use Rattle.pua_calls.specs.declared.rules.ExecPromises.{ExecPromises}
+use Rattle.pua_calls.specs.declared.rules.ExecPromises.TheVariants.{Unset, Stay}
 
 -- the events that are no pledges
 abbrev pub others : History → History

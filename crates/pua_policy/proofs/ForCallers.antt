@@ -12,8 +12,6 @@ pub use Rattle.pua_policy.proofs.Narrowing.{second_holds}
 pub use Rattle.pua_policy.proofs.Exec.{others, no_promises, no_execpromises, same_veils, same_lock, same_dirs, same_end}
 -- names without a veil of their own are covered as their directory is, and get one verdict where nothing stands
 pub use Rattle.pua_policy.proofs.Unveiled.{unveiled_alike, unveiled_within, missing_alike}
--- the bit of each call in a set of calls
-pub use Rattle.pua_policy.proofs.CallBits.{bit_below, call_at_bit, bit_of_call_at, same_bit}
 -- covers, one directory after another
 pub use Rattle.pua_policy.proofs.Climbs.{climb_root, nearest_here, nearest_above, nearest_root, nearest_whole}
 -- covers go down from directory to directory
@@ -21,8 +19,6 @@ pub use Rattle.pua_policy.proofs.Descending.{covers_descend}
 -- the veils that are kept, places that test alike, and whether there is any veil
 pub use Rattle.pua_policy.proofs.Veils.{veils_are_kept, same_place_is}
 pub use Rattle.pua_policy.proofs.Standing.{any_veil}
--- no table of calls that a text gives needs `error`, if the one doesn't over which it is read, and rename and link need what they need by that one
-pub use Rattle.pua_policy.proofs.SoundTexts.{texts_need_no_error, texts_keep_pairs}
 -- what is told of promises, of veils and of objects
 pub use Rattle.pua_policy.proofs.Lacking.{suffices, least, lackings_hold, promisings_hold, promisings_answer}
 pub use Rattle.pua_policy.proofs.Coverings.{coverings_cover}

@@ -1,8 +1,8 @@
 -- What is left by a history stays so: each event that changes a process lengthens its history.
 use Rattle.std.proofs.Common.{◌≡◌, ℕ, [], ◌∷◌, true, false, refl, ap}
 use Rattle.std.specs.Prelude.{Option, Some, None}
-use Rattle.pua_policy.specs.declared.rules.ExecPromises.{ExecPromises}
-use Rattle.pua_policy.specs.declared.rules.ExecPromises.TheVariants.{Unset}
+use Rattle.pua_calls.specs.declared.rules.ExecPromises.{ExecPromises}
+use Rattle.pua_calls.specs.declared.rules.ExecPromises.TheVariants.{Unset}
 use Rattle.pua_policy.specs.declared.place.Place.{Place}
 use Rattle.pua_policy.specs.History.{History, ProcessState, HasHistory, Pledged, Unveiled, Locked, Moved, Ended, narrowed, meet, pledged, held_for_exec, with_veil, left_for_exec, after_exec}
 use Rattle.pua_policy.proofs.Exec.{stands_given, stands_alone}

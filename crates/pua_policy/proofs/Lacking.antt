@@ -5,7 +5,7 @@ use Rattle.std.specs.List.{list_any}
 use Rattle.std.specs.Int.{bit_at}
 use Rattle.std.proofs.lemmas.Bool.{eqb-true, eq-eqb}
 use Rattle.std.proofs.lemmas.Nat.Bits.{bit_at_and, bit_at_or, bit_at_xor, bit_at-lt, same_from_bits}
-use Rattle.pua_policy.specs.Promises.{holds, lacking}
+use Rattle.pua_calls.specs.Promises.{holds, lacking}
 use Rattle.pua_policy.specs.History.{History, held, has_error, is_ended}
 use Rattle.pua_policy.specs.Reasons.{HasEnded, Lacks, holds_or, may_of}
 use Rattle.pua_policy.specs.ReasonLaws.{LackingsHold, LackSome, PromisingHolds, PromisingsHold, PromisingsAnswer}

@@ -1,10 +1,4 @@
-pub mod Sets
-pub mod CallBits
-pub mod Rows
-pub mod TableTexts
-pub mod TableExamples
 pub mod Refusals
-pub mod Keywords
 pub mod Climbs
 pub mod Veils
 pub mod Places
@@ -15,7 +9,6 @@ pub mod Covers
 pub mod Unveiled
 pub mod Descending
 pub mod Histories
-pub mod SoundTexts
 pub mod Lacking
 pub mod Veiled
 pub mod Coverings

@@ -4,7 +4,7 @@ use Rattle.std.specs.Prelude.{if◌then◌else◌, IfSome}
 use Rattle.pua_tree.specs.Tree.{is_empty}
 use Rattle.pua_path.specs.declared.found.Way.TheVariants as way
 use Rattle.pua_policy.specs.Misfits.{IsDir, IsFile, IsProg, IsLink, IsMissing}
-use Rattle.pua_policy.specs.declared.call.Call.TheVariants as call
+use Rattle.pua_calls.specs.declared.call.Call.TheVariants as call
 use Rattle.pua_policy.specs.declared.reason.Misfit.TheVariants.{IsNotEmpty}
 use Rattle.pua_policy.specs.ReasonLaws.{MisfitHolds, MisfitsHold}
 

@@ -7,7 +7,7 @@ use Rattle.pua_tree.specs.Tree.{Tree}
 use Rattle.pua_path.specs.declared.errno.Errno.{Errno}
 use Rattle.pua_path.specs.declared.errno.Errno.TheVariants.{EACCES}
 use Rattle.pua_path.specs.declared.found.Found.{Found}
-use Rattle.pua_policy.specs.Promises.{holds}
+use Rattle.pua_calls.specs.Promises.{holds}
 use Rattle.pua_policy.specs.History.{History, Unveiled, kept, same_place}
 use Rattle.pua_policy.specs.Laws.{places_over}
 use Rattle.pua_policy.specs.Verdict.{cover, cover_fault, is_unveil}

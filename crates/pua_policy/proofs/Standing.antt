@@ -9,12 +9,12 @@ use Rattle.pua_policy.specs.declared.place.Place.TheVariants.{Dir}
 use Rattle.pua_policy.specs.History.{History, Pledged, Unveiled, Locked, Moved, Ended, kept, veils, with_veil, veil_at, has_veil, same_place, pledged, held_for_exec, is_locked, is_ended, working_dir}
 use Rattle.pua_policy.specs.History.{is_within, place_fault, may_any, unveil_fault, ProcessState, StandsFor}
 use Rattle.pua_policy.specs.Verdict.{is_unveil, cover, nearest, place_of, directories_over, cover_fault, or_fault, object_fault, object_of, allowed_unless, if_promised, verdict_of}
-use Rattle.pua_policy.specs.Promises.{holds, all_promises, error}
-use Rattle.pua_policy.specs.Calls.{CallTable, rule_of, ending_of, last_of}
+use Rattle.pua_calls.specs.Promises.{holds, all_promises, error}
+use Rattle.pua_calls.specs.Calls.{CallTable, rule_of, ending_of, last_of}
 use Rattle.pua_path.specs.Resolution.{resolution_of_text}
 use Rattle.pua_path.specs.declared.errno.Errno.{Errno}
 use Rattle.pua_path.specs.declared.errno.Errno.TheVariants.{EPERM}
-use Rattle.pua_policy.specs.declared.call.Call.{Call}
+use Rattle.pua_calls.specs.declared.call.Call.{Call}
 use Rattle.pua_policy.specs.declared.answer.Verdict.TheVariants.{Failed}
 use Rattle.pua_policy.specs.declared.answer.Cover.{Cover}
 use Rattle.pua_policy.specs.declared.answer.Cover.TheVariants.{All}

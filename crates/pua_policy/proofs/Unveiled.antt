@@ -5,10 +5,10 @@ use Rattle.std.specs.List.{list_any}
 use Rattle.pua_tree.specs.Tree.{Tree, WellFormed, is_dir, climb}
 use Rattle.pua_path.specs.declared.found.Way.{Way}
 use Rattle.pua_path.specs.declared.found.Found.TheVariants.{Whole, Slot}
-use Rattle.pua_policy.specs.Calls.{CallTable, rule_of}
+use Rattle.pua_calls.specs.Calls.{CallTable, rule_of}
 use Rattle.pua_policy.specs.History.{History, kept, may_any}
 use Rattle.pua_policy.specs.Verdict.{cover, cover_fault, nearest, is_unveil, object_fault, IsMissing, or_fault, allowed_unless, if_promised, verdict}
-use Rattle.pua_policy.specs.declared.call.Call.{Call}
+use Rattle.pua_calls.specs.declared.call.Call.{Call}
 use Rattle.pua_policy.specs.declared.place.Place.TheVariants as place
 use Rattle.pua_policy.specs.declared.answer.Cover.{Cover}
 use Rattle.pua_policy.specs.declared.answer.Cover.TheVariants.{All}

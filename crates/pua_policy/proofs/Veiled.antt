@@ -1,7 +1,7 @@
 -- The first directory with a veil, on the way up.
-use Rattle.std.proofs.Common.{◌≡◌, ℕ, zero, suc, ◌≢◌, List, [], ◌∷◌, map, true, refl, sym, ap, ◌∙◌}
+use Rattle.std.proofs.Common.{◌≡◌, ℕ, zero, suc, ◌≢◌, List, [], ◌∷◌, length, map, true, refl, sym, ap, ◌∙◌}
 use Rattle.std.specs.Prelude.{Option, Some, None}
-use Rattle.pua_tree.specs.Tree.{Tree, WellFormed, is_dir, above, climb}
+use Rattle.pua_tree.specs.Tree.{Tree, WellFormed, is_dir, above, climb, climb_within}
 use Rattle.pua_policy.specs.Verdict.{nearest}
 use Rattle.pua_policy.specs.Reasons.{or_farther, first_veiled, covering_at, cover_of}
 use Rattle.pua_policy.proofs.Climbs.{climb_root, climb_step}
@@ -15,14 +15,18 @@ veiled_covers f (d ∷ ds) = by (f d) (veiled_covers f ds)
     by (Some perms) e = refl
     by None e = e
 
-module _ (t : Tree) (fits : WellFormed t) (f : ℕ → Option ℕ) where
+module _ (t : Tree) (f : ℕ → Option ℕ) where
   -- a directory that has one is the first on its own way up
-  pub veiled_here : (d perms : ℕ) → is_dir t d ≡ true → f d ≡ Some perms → first_veiled f (climb t d) ≡ Some (d, perms)
-  veiled_here zero perms e here = ap (first_veiled f) (climb_root t) ∙ ap (λ o. or_farther 0 o None) here
-  veiled_here (suc d) perms e here =
-      ap (first_veiled f) (climb_step t fits (suc d) (λ is. cc) e) ∙ ap (λ o. or_farther (suc d) o (first_veiled f (climb t (above t (suc d))))) here
+  pub veiled_here : (d perms : ℕ) → f d ≡ Some perms → first_veiled f (climb t d) ≡ Some (d, perms)
+  veiled_here = within (length t.nodes)
+    where
+      within : (n d perms : ℕ) → f d ≡ Some perms → first_veiled f (climb_within n t d) ≡ Some (d, perms)
+      within zero d perms here = ap (λ o. or_farther d o None) here
+      within (suc n) zero perms here = ap (λ o. or_farther 0 o None) here
+      within (suc n) (suc d) perms here = ap (λ o. or_farther (suc d) o (first_veiled f (climb_within n t (above t (suc d))))) here
 
-  -- and where it has none, the first above it is
+module _ (t : Tree) (fits : WellFormed t) (f : ℕ → Option ℕ) where
+  -- where a directory has none, the first above it is
   pub veiled_above : (d : ℕ) → d ≢ 0 → is_dir t d ≡ true → f d ≡ None → first_veiled f (climb t d) ≡ first_veiled f (climb t (above t d))
   veiled_above d other e nothing =
       ap (first_veiled f) (climb_step t fits d other e) ∙ ap (λ o. or_farther d o (first_veiled f (climb t (above t d)))) nothing

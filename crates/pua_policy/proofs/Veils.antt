@@ -20,7 +20,7 @@ use Rattle.pua_path.specs.declared.errno.Errno.{Errno}
 use Rattle.pua_path.specs.declared.errno.Errno.TheVariants.{EACCES}
 use Rattle.pua_policy.specs.declared.answer.Cover.TheVariants.{All, Only}
 use Rattle.pua_policy.specs.declared.answer.UnveilFault.TheVariants.{NotPermitted}
-use Rattle.pua_policy.specs.Promises.{holds}
+use Rattle.pua_calls.specs.Promises.{holds}
 use Rattle.pua_policy.specs.Verdict.{cover, cover_fault, nearest, place_of, directories_over, is_unveil}
 use Rattle.pua_policy.proofs.Narrowing.{second_holds}
 use Rattle.pua_policy.specs.Laws.{VeilsAreKept, CoverNeedsUnveil, NearestCounts, KeptPlacesNarrow, places_over}

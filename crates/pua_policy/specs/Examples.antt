@@ -2,18 +2,18 @@
 use Rattle.std.specs.Prelude.{◌≡◌, ◌+◌, ◌-◌, ◌^◌, true, false, [], ◌∷◌, Some, None, Ok, Err, codes, map, filter, refl}
 use Rattle.pua_tree.specs.Tree.{empty_tree}
 use Rattle.pua_tree.specs.Examples.{example_tree}
-use Rattle.pua_policy.specs.Promises.{promises_of, perms_of, lacking, reading, writing, rpath, wpath, error}
-use Rattle.pua_policy.specs.Calls.{calls, standard_table}
-use Rattle.pua_policy.specs.CallSets.{calls_in, keeps_link}
+use Rattle.pua_calls.specs.Promises.{promises_of, perms_of, lacking, reading, writing, rpath, wpath, error, cpath, fattr}
+use Rattle.pua_calls.specs.Calls.{calls, standard_table, openbsd_table}
+use Rattle.pua_calls.specs.CallSets.{calls_in, keeps_link}
 use Rattle.pua_policy.specs.Objects.{object_seen}
-use Rattle.pua_policy.specs.History.{History, Pledged, Unveiled, Locked, Ended, new_history, held, held_for_exec, pledge_fault, unveil_fault, veils, may_any}
+use Rattle.pua_policy.specs.History.{History, Pledged, Unveiled, Locked, Ended, new_history, held, held_for_exec, pledge_fault, unveil_fault, veils, may_any, pledged, after_exec}
 use Rattle.pua_policy.specs.Misfits.{misfit}
 use Rattle.pua_policy.specs.Reasons.{Holds, HasEnded, Lacks, promising, covering}
 use Rattle.pua_policy.specs.Verdict.{cover, verdict_on, object_fault, rmdir_fault, IsDir, IsFile, IsProg, IsLink, IsMissing}
 use Rattle.pua_path.specs.declared.errno.Errno.TheVariants.{EACCES, EPERM, EINVAL, ENOENT, EBUSY, EEXIST, ENOTDIR, EISDIR, ENOTEMPTY}
 use Rattle.pua_path.specs.declared.found.Way.TheVariants as way
 use Rattle.pua_path.specs.declared.found.Found.TheVariants as found
-use Rattle.pua_policy.specs.declared.call.Call.TheVariants.{Stat, Lstat, Readlink, Mkdir, Rmdir, Unlink, Symlink, Exec}
+use Rattle.pua_calls.specs.declared.call.Call.TheVariants.{Stat, Lstat, Readlink, Mkdir, Rmdir, Unlink, Symlink, Exec, Chmod}
 use Rattle.pua_policy.specs.declared.object.Object.TheVariants as see
 use Rattle.pua_policy.specs.declared.place.Place.TheVariants.{Dir, Slot}
 use Rattle.pua_policy.specs.declared.reason.Covering.TheVariants.{InView, NoneOver, By}
@@ -21,7 +21,7 @@ use Rattle.pua_policy.specs.declared.reason.Misfit.TheVariants.{Exists, IsDirect
 use Rattle.pua_policy.specs.declared.answer.UnveilFault.TheVariants.{NotPermitted}
 use Rattle.pua_policy.specs.declared.answer.Cover.TheVariants.{Only}
 use Rattle.pua_policy.specs.declared.answer.May.TheVariants as may
-use Rattle.pua_policy.specs.declared.answer.Verdict.TheVariants.{Allowed, Failed}
+use Rattle.pua_policy.specs.declared.answer.Verdict.TheVariants.{Allowed, Failed, Death}
 
 -- veils on the root, on a directory in it and on a file
 abbrev pub three_veils : History
@@ -163,4 +163,32 @@ reason_rows = record {
   none_over = refl;
   directory = refl;
   file = refl;
+}
+
+abbrev pub fattr_alone : History
+fattr_alone = Pledged (Some fattr) None ∷ new_history
+
+abbrev pub both_for_exec : History
+both_for_exec = Pledged None (Some (rpath + cpath)) ∷ new_history
+
+-- where OpenBSD's rules answer otherwise than the standard ones
+pub record RuleRows : Type 0 where
+  pub chmod : verdict_on example_tree openbsd_table fattr_alone Chmod (codes "/etc") ≡ Death
+  pub standard_chmod : verdict_on example_tree standard_table fattr_alone Chmod (codes "/etc") ≡ Allowed
+  -- execpromises stay after an exec, for the next one
+  pub exec_promises : pledged (after_exec openbsd_table.execpromises both_for_exec) ≡ Some (rpath + cpath)
+  pub exec_stay : held_for_exec (after_exec openbsd_table.execpromises both_for_exec) ≡ Some (rpath + cpath)
+  pub standard_exec_promises : pledged (after_exec standard_table.execpromises both_for_exec) ≡ Some (rpath + cpath)
+  pub standard_exec_unset : held_for_exec (after_exec standard_table.execpromises both_for_exec) ≡ None
+  pub none_given : after_exec openbsd_table.execpromises new_history ≡ new_history
+
+pub rule_rows : RuleRows
+rule_rows = record {
+  chmod = refl;
+  standard_chmod = refl;
+  exec_promises = refl;
+  exec_stay = refl;
+  standard_exec_promises = refl;
+  standard_exec_unset = refl;
+  none_given = refl;
 }

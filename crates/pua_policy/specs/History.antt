@@ -3,11 +3,11 @@ use Rattle.std.specs.Prelude.{◌≡◌, ℕ, ◌-◌, Bool, true, false, not, �
 use Rattle.std.specs.List.{list_any}
 use Rattle.pua_tree.specs.Names.{same_bytes}
 pub use Rattle.pua_policy.specs.Limits.{place_limit}
-use Rattle.pua_policy.specs.Promises.{holds, all_promises, error}
+use Rattle.pua_calls.specs.Promises.{holds, all_promises, error}
 use Rattle.pua_path.specs.declared.errno.Errno.{Errno}
 use Rattle.pua_path.specs.declared.errno.Errno.TheVariants.{EPERM}
-use Rattle.pua_policy.specs.declared.rules.ExecPromises.{ExecPromises}
-use Rattle.pua_policy.specs.declared.rules.ExecPromises.TheVariants.{Unset, Stay}
+use Rattle.pua_calls.specs.declared.rules.ExecPromises.{ExecPromises}
+use Rattle.pua_calls.specs.declared.rules.ExecPromises.TheVariants.{Unset, Stay}
 use Rattle.pua_policy.specs.declared.place.Place.{Place}
 use Rattle.pua_policy.specs.declared.place.Place.TheVariants.{Dir, Slot}
 use Rattle.pua_policy.specs.declared.answer.UnveilFault.{UnveilFault}

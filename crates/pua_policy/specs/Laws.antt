@@ -10,13 +10,13 @@ use Rattle.pua_policy.specs.declared.place.Place.{Place}
 use Rattle.pua_policy.specs.declared.place.Place.TheVariants.{Dir, Slot}
 use Rattle.pua_policy.specs.declared.answer.Cover.TheVariants.{All, Nothing, Only}
 use Rattle.pua_policy.specs.declared.answer.Verdict.TheVariants.{Allowed}
-use Rattle.pua_policy.specs.Promises.{holds, error}
+use Rattle.pua_calls.specs.Promises.{holds, error}
 use Rattle.pua_policy.specs.History.{History, Event, Pledged, Unveiled, kept, veils, held, veil_at, pledge_fault, unveil_fault, may_any, ProcessState, StandsFor}
 use Rattle.pua_policy.specs.Verdict.{place_of, directories_over, cover, cover_fault, is_unveil, verdict, verdict_on}
 use Rattle.pua_policy.specs.Descent.{cover_in, own_or}
-use Rattle.pua_policy.specs.Calls.{CallTable}
-use Rattle.pua_policy.specs.Tables.{NoCallNeedsError}
-use Rattle.pua_policy.specs.declared.call.Call.{Call}
+use Rattle.pua_calls.specs.Calls.{CallTable}
+use Rattle.pua_calls.specs.Tables.{NoCallNeedsError}
+use Rattle.pua_calls.specs.declared.call.Call.{Call}
 
 -- the veils are exactly the places kept with their permissions
 abbrev pub VeilsAreKept : Type 0

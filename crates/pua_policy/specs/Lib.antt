@@ -1,11 +1,3 @@
--- The claim, in reading order: what a reader has to believe of promises, calls and what they need.
-pub mod Promises
-pub mod Calls
-pub mod CallSets
-pub mod Tables
-pub mod TableTexts
--- Worked rows on these, which hold by computation.
-pub mod TableExamples
 -- The claim, in reading order: what a reader has to believe of processes, and of what each call is answered.
 pub mod Limits
 pub mod History

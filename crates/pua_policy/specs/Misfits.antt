@@ -5,8 +5,8 @@ use Rattle.pua_path.specs.declared.errno.Errno.{Errno}
 use Rattle.pua_path.specs.declared.errno.Errno.TheVariants.{EPERM, ENOENT, EACCES, EBUSY, EEXIST, ENOTDIR, EISDIR, EINVAL, ENOTEMPTY}
 use Rattle.pua_path.specs.declared.found.Way.{Way}
 use Rattle.pua_path.specs.declared.found.Way.TheVariants as way
-use Rattle.pua_policy.specs.declared.call.Call.{Call}
-use Rattle.pua_policy.specs.declared.call.Call.TheVariants.{Readlink, OpenWrite, OpenBoth, Create, Mkdir, Rmdir, Unlink, Symlink, Chdir, Exec}
+use Rattle.pua_calls.specs.declared.call.Call.{Call}
+use Rattle.pua_calls.specs.declared.call.Call.TheVariants.{Readlink, OpenWrite, OpenBoth, Create, Mkdir, Rmdir, Unlink, Symlink, Chdir, Exec}
 use Rattle.pua_policy.specs.declared.reason.Misfit.{Misfit}
 use Rattle.pua_policy.specs.declared.reason.Misfit.TheVariants.{Missing, Exists, IsDirectory, IsNoFile, IsNoDirectory, IsNoLink, IsNoProgram, IsNotEmpty, ByDot, ByDotDot, ByNothing}
 

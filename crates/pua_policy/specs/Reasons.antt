@@ -3,7 +3,7 @@ use Rattle.std.specs.Prelude.{ℕ, Bool, true, false, if◌then◌else◌, List,
 use Rattle.std.specs.List.{list_any}
 use Rattle.pua_tree.specs.Tree.{Tree}
 use Rattle.pua_path.specs.declared.found.Found.{Found}
-use Rattle.pua_policy.specs.Promises.{holds, lacking}
+use Rattle.pua_calls.specs.Promises.{holds, lacking}
 use Rattle.pua_policy.specs.History.{History, held, has_error, is_ended, kept}
 use Rattle.pua_policy.specs.Laws.{places_over}
 use Rattle.pua_policy.specs.Verdict.{is_unveil}

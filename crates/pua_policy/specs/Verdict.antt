@@ -6,8 +6,8 @@ use Rattle.pua_path.specs.Resolution.{resolution_of_text}
 pub use Rattle.pua_path.specs.Fits.{found_fits, FoundFits, FoundsFit, is_link_kind, is_link}
 pub use Rattle.pua_policy.specs.Misfits.{Object, IsDir, IsFile, IsProg, IsLink, IsMissing}
 use Rattle.pua_policy.specs.Misfits.{rmdir_misfit, misfit, misfit_errno}
-use Rattle.pua_policy.specs.Promises.{holds}
-use Rattle.pua_policy.specs.Calls.{CallTable, rule_of, last_of, ending_of}
+use Rattle.pua_calls.specs.Promises.{holds}
+use Rattle.pua_calls.specs.Calls.{CallTable, rule_of, last_of, ending_of}
 use Rattle.pua_policy.specs.History.{History, Event, Unveiled, kept, may_any, working_dir}
 use Rattle.pua_tree.specs.declared.node.Kind.{Kind}
 use Rattle.pua_tree.specs.declared.node.Kind.TheVariants as kind
@@ -16,7 +16,7 @@ use Rattle.pua_path.specs.declared.errno.Errno.TheVariants.{ENOENT, EACCES, ENOS
 use Rattle.pua_path.specs.declared.found.Way.{Way}
 use Rattle.pua_path.specs.declared.found.Found.{Found}
 use Rattle.pua_path.specs.declared.found.Found.TheVariants as found
-use Rattle.pua_policy.specs.declared.call.Call.{Call}
+use Rattle.pua_calls.specs.declared.call.Call.{Call}
 use Rattle.pua_policy.specs.declared.place.Place.{Place}
 use Rattle.pua_policy.specs.declared.place.Place.TheVariants.{Dir, Slot}
 use Rattle.pua_policy.specs.declared.answer.Cover.{Cover}

@@ -3,7 +3,7 @@
 ghost use Rattle.std.specs.Prelude.{◌≡◌};
 ghost use Rattle.pua_policy.specs.Verdict.{refused};
 
-use crate::perms::Perms;
+use pua_calls::Perms;
 use pua_path::Errno;
 use thiserror::Error;
 

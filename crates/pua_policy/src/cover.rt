@@ -1,17 +1,17 @@
 //! What the veils of a process leave of an object.
 
 ghost use Rattle.std.specs.Prelude.{◌≡◌, ◌+◌, ◌≤◌, length, map, IsTrue};
-ghost use Rattle.pua_tree.specs.Tree.{WellFormed, is_dir, climb};
+ghost use Rattle.pua_tree.specs.Tree.{is_dir, climb};
 ghost use Rattle.pua_policy.specs.Descent.{own_or};
 ghost use Rattle.pua_policy.specs.History.{History, StandsFor, kept, veil_at};
 ghost use Rattle.pua_policy.specs.Reasons.{covering, first_veiled, covering_at};
 ghost use Rattle.pua_policy.specs.Verdict.{FoundFits, cover, nearest};
 
 use crate::answer::Cover;
-use crate::perms::Perms;
 use crate::place::Place;
 use crate::process::Process;
 use crate::reason::Covering;
+use pua_calls::Perms;
 use pua_path::{Found, Probe};
 use pua_tree::NodeId;
 
@@ -22,7 +22,8 @@ impl Process {
     /// probe's tree as it stands. At most as many looks at the tree as it has nodes.
     pub fn cover<'t, P: Probe<'t>>(&self, probe: &mut P, found: &Found) -> Cover
         requires { FoundFits (P.tree probe.old) found.now }
-        ensures exact { (h : History) → StandsFor self.now h → result ≡ cover (P.tree probe.old) h found.now }
+        ensures exact { (h : History) → StandsFor self.now h →
+            result ≡ cover (P.tree probe.old) h found.now }
         ensures tree { P.tree probe.new ≡ P.tree probe.old }
         ensures cost { P.count probe.new ≤ P.count probe.old + length (P.tree probe.old).nodes }
     {
@@ -40,11 +41,12 @@ impl Process {
     }
 
     /// Which veil covers an object, by the rules of `cover`: where it is kept, and its permissions.
-    /// What was found is of the probe's tree as it stands. At most as many looks at the tree as it has
-    /// nodes.
+    /// That is said of what was found in the probe's tree as it stands. Whatever the object is, it
+    /// takes at most as many looks at the tree as that has nodes.
     pub fn covering<'t, P: Probe<'t>>(&self, probe: &mut P, found: &Found) -> Covering
-        requires { FoundFits (P.tree probe.old) found.now }
-        ensures exact { (h : History) → StandsFor self.now h → result ≡ covering (P.tree probe.old) h found.now }
+        ensures exact { FoundFits (P.tree probe.old) found.now →
+            (h : History) → StandsFor self.now h →
+            result ≡ covering (P.tree probe.old) h found.now }
         ensures tree { P.tree probe.new ≡ P.tree probe.old }
         ensures cost { P.count probe.new ≤ P.count probe.old + length (P.tree probe.old).nodes }
     {
@@ -77,9 +79,9 @@ impl Process {
 
     /// The permissions of the first directory that has a veil, from this one up to the root.
     fn cover_from<'t, P: Probe<'t>>(&self, probe: &mut P, from: NodeId) -> Cover
-        requires tree { WellFormed (P.tree probe.old) }
-        requires living { IsTrue (is_dir (P.tree probe.old) from) }
-        ensures exact { result ≡ nearest (map (λ dir. veil_at self.now.veils (Place.Dir dir)) (climb (P.tree probe.old) from)) }
+        ensures exact { IsTrue (is_dir (P.tree probe.old) from) →
+            result ≡ nearest (map (λ dir. veil_at self.now.veils (Place.Dir dir))
+            (climb (P.tree probe.old) from)) }
         ensures tree { P.tree probe.new ≡ P.tree probe.old }
         ensures cost { P.count probe.new ≤ P.count probe.old + length (P.tree probe.old).nodes }
     {
@@ -91,9 +93,9 @@ impl Process {
 
     /// The veil of the first directory that has one, from this one up to the root.
     fn covering_from<'t, P: Probe<'t>>(&self, probe: &mut P, from: NodeId) -> Covering
-        requires tree { WellFormed (P.tree probe.old) }
-        requires living { IsTrue (is_dir (P.tree probe.old) from) }
-        ensures exact { result ≡ covering_at (first_veiled (λ dir. veil_at self.now.veils (Place.Dir dir)) (climb (P.tree probe.old) from)) }
+        ensures exact { IsTrue (is_dir (P.tree probe.old) from) →
+            result ≡ covering_at (first_veiled (λ dir. veil_at self.now.veils (Place.Dir dir))
+            (climb (P.tree probe.old) from)) }
         ensures tree { P.tree probe.new ≡ P.tree probe.old }
         ensures cost { P.count probe.new ≤ P.count probe.old + length (P.tree probe.old).nodes }
     {
@@ -105,12 +107,13 @@ impl Process {
 
     /// The first directory that has a veil, from this one up to the root, and its permissions.
     fn nearest<'t, P: Probe<'t>>(&self, probe: &mut P, from: NodeId) -> Option<(NodeId, Perms)>
-        requires tree { WellFormed (P.tree probe.old) }
-        requires living { IsTrue (is_dir (P.tree probe.old) from) }
-        ensures exact { result ≡ first_veiled (λ dir. veil_at self.now.veils (Place.Dir dir)) (climb (P.tree probe.old) from) }
+        ensures exact { IsTrue (is_dir (P.tree probe.old) from) →
+            result ≡ first_veiled (λ dir. veil_at self.now.veils (Place.Dir dir))
+            (climb (P.tree probe.old) from) }
         ensures tree { P.tree probe.new ≡ P.tree probe.old }
         ensures cost { P.count probe.new ≤ P.count probe.old + length (P.tree probe.old).nodes }
     {
+        probe.known();
         let mut dir = from;
         loop {
             if let Some(perms) = self.kept(&Place::Dir(dir)) {

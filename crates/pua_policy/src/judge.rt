@@ -1,24 +1,24 @@
 //! The verdict on a call.
 
-ghost use Rattle.std.specs.Prelude.{◌≡◌, ◌+◌, ◌≤◌, [], ◌∷◌, ℕ, length, Some, None, is_none, MatchResult};
+ghost use Rattle.std.specs.Prelude.{◌≡◌, ◌+◌, ◌≤◌, [], ◌∷◌, ℕ, length};
+ghost use Rattle.std.specs.Prelude.{Some, None, is_none, MatchResult};
 ghost use Rattle.pua_tree.specs.Tree.{Tree};
-ghost use Rattle.pua_policy.specs.Calls.{rule_of};
-ghost use Rattle.pua_policy.specs.CallSets.{has};
+ghost use Rattle.pua_calls.specs.Calls.{rule_of};
+ghost use Rattle.pua_calls.specs.CallSets.{has};
 ghost use Rattle.pua_policy.specs.History.{History, StandsFor, may_any};
 ghost use Rattle.pua_policy.specs.Objects.{object_seen};
-ghost use Rattle.pua_policy.specs.Verdict.{FoundFits, FoundsFit, verdict, verdict_of, covered_verdict, is_allowed, refusal_of, found_fault, cover_fault, object_fault, Object as Judged, object_of, object_of_kind, IsDir};
+ghost use Rattle.pua_policy.specs.Verdict.{FoundFits, FoundsFit, verdict, verdict_of};
+ghost use Rattle.pua_policy.specs.Verdict.{covered_verdict, is_allowed, refusal_of, found_fault};
+ghost use Rattle.pua_policy.specs.Verdict.{cover_fault, object_fault, object_of, object_of_kind};
+ghost use Rattle.pua_policy.specs.Verdict.{Object as Judged, IsDir};
 ghost use Rattle.pua_policy.specs.Misfits.{misfit, rmdir_misfit};
 ghost use Rattle.pua_path.specs.declared.found.Way as way;
 
 use crate::answer::{Cover, May, Refusal, Verdict};
-use crate::call::Call;
-use crate::calls::Calls;
 use crate::object::Object;
-use crate::perms::Perms;
 use crate::process::Process;
-use crate::promises::Promises;
 use crate::reason::Misfit;
-use crate::table::CallTable;
+use pua_calls::{Call, CallTable, Calls, Perms, Promises};
 use pua_path::{Errno, Found, Probe, Way};
 use pua_tree::{Kind, NodeId};
 
@@ -70,7 +70,8 @@ pub fn verdict<'t, P: Probe<'t>>(
     found: &Found,
 ) -> Verdict
     requires { FoundFits (P.tree probe.old) found.now }
-    ensures exact { (h : History) → StandsFor process.now h → result ≡ verdict (P.tree probe.old) table.now h call found.now }
+    ensures exact { (h : History) → StandsFor process.now h →
+        result ≡ verdict (P.tree probe.old) table.now h call found.now }
     ensures tree { P.tree probe.new ≡ P.tree probe.old }
     ensures cost { P.count probe.new ≤ P.count probe.old + length (P.tree probe.old).nodes + 4 }
 {
@@ -93,7 +94,8 @@ pub fn verdict_of<'t, P: Probe<'t>>(
     found: Result<Found, Errno>,
 ) -> Verdict
     requires { FoundsFit (P.tree probe.old) found }
-    ensures exact { (h : History) → StandsFor process.now h → result ≡ verdict_of (P.tree probe.old) table.now h call found }
+    ensures exact { (h : History) → StandsFor process.now h →
+        result ≡ verdict_of (P.tree probe.old) table.now h call found }
     ensures tree { P.tree probe.new ≡ P.tree probe.old }
     ensures cost { P.count probe.new ≤ P.count probe.old + length (P.tree probe.old).nodes + 4 }
 {
@@ -140,8 +142,9 @@ pub fn object_verdict<'t, P: Probe<'t>>(
 /// which the verdict is `Verdict::Allowed`, wherever such an object stands that has this cover. The
 /// tree is not asked. `Process::cover` answers the cover, and `object` what the object is.
 pub fn allowed(process: &Process, table: &CallTable, cover: Cover, object: Object) -> Calls
-    ensures { (t : Tree) (h : History) (judged : Judged) → StandsFor process.now h → object ≡ object_seen t judged →
-        (call : Call) → has result call ≡ is_allowed (covered_verdict t table.now h call cover judged) }
+    ensures { (t : Tree) (h : History) (judged : Judged) →
+        StandsFor process.now h → object ≡ object_seen t judged → (call : Call) →
+        has result call ≡ is_allowed (covered_verdict t table.now h call cover judged) }
 {
     let mut calls = Calls::NONE;
     for call in Call::ALL {
@@ -154,7 +157,8 @@ pub fn allowed(process: &Process, table: &CallTable, cover: Cover, object: Objec
 
 /// Whether a call is allowed on an object that has this cover.
 fn allows(process: &Process, table: &CallTable, call: Call, cover: &Cover, object: Object) -> bool
-    ensures { (t : Tree) (h : History) (judged : Judged) → StandsFor process.now h → object ≡ object_seen t judged →
+    ensures { (t : Tree) (h : History) (judged : Judged) →
+        StandsFor process.now h → object ≡ object_seen t judged →
         result ≡ is_allowed (covered_verdict t table.now h call cover.now judged) }
 {
     promised_for(process, table, call).is_ok()
@@ -224,7 +228,8 @@ pub fn misfit<'t, P: Probe<'t>>(probe: &mut P, call: Call, found: &Found) -> Opt
 
 /// Whether a call is on such an object, the veils aside.
 fn suits(call: Call, object: Object) -> bool
-    ensures { (t : Tree) (judged : Judged) → object ≡ object_seen t judged → result ≡ is_none (object_fault t call judged) }
+    ensures { (t : Tree) (judged : Judged) → object ≡ object_seen t judged →
+        result ≡ is_none (object_fault t call judged) }
 {
     let misfit = match object {
         Object::Missing => slot_misfit(call, None),
@@ -239,7 +244,9 @@ fn suits(call: Call, object: Object) -> bool
 
 /// What is wrong with a directory, which may be removed if the call is rmdir.
 fn directory_misfit(call: Call) -> Option<Misfit>
-    ensures { (t : Tree) (dir : ℕ) (how : way.Way) → (call ≡ Call.Rmdir → rmdir_misfit t dir how ≡ None) → result ≡ misfit t call (IsDir dir how) }
+    ensures { (t : Tree) (dir : ℕ) (how : way.Way) →
+        (call ≡ Call.Rmdir → rmdir_misfit t dir how ≡ None) →
+        result ≡ misfit t call (IsDir dir how) }
 {
     match call {
         Call::Stat | Call::Lstat | Call::OpenRead | Call::Rmdir | Call::Chmod | Call::Chdir => None,

@@ -1,11 +1,9 @@
 //! A process: what it keeps of what happened to it.
 
 use crate::answer::{May, UnveilFault};
-use crate::perms::Perms;
 use crate::place::Place;
-use crate::promises::Promises;
-use crate::rules::ExecPromises;
 use indexmap::IndexMap;
+use pua_calls::{ExecPromises, Perms, Promises};
 use pua_path::Errno;
 use pua_tree::{NodeId, OutOfMemory};
 use std::alloc::{AllocError, Global};
@@ -34,16 +32,37 @@ impl Model for Process {
 
     ghost Value = { ProcessState };
 
-    ghost view = { λ a. record { promises = a.promises; execpromises = a.execpromises; veils = a.veils.entries; locked = a.locked; dir = a.dir; ended = a.ended } };
+    ghost view = { λ a. record {
+      promises = a.promises;
+      execpromises = a.execpromises;
+      veils = a.veils.entries;
+      locked = a.locked;
+      dir = a.dir;
+      ended = a.ended;
+    } };
 
-    ghost invariant = { λ a. HasHistory (record { promises = a.promises; execpromises = a.execpromises; veils = a.veils.entries; locked = a.locked; dir = a.dir; ended = a.ended }) };
+    ghost invariant = { λ a. HasHistory (record {
+      promises = a.promises;
+      execpromises = a.execpromises;
+      veils = a.veils.entries;
+      locked = a.locked;
+      dir = a.dir;
+      ended = a.ended;
+    }) };
 }
 
-ghost use Rattle.std.specs.Prelude.{◌≡◌, ◌≢◌, ◌-◌, [], ◌∷◌, length, map, Option, Some, None, Err, IfOk, OnOk, OnErr, IfErr, IfSome, if◌then◌else◌, false, MatchResult, unwrap_or};
+ghost use Rattle.std.specs.Prelude.{◌≡◌, ◌≢◌, ◌-◌, [], ◌∷◌, length, map};
+ghost use Rattle.std.specs.Prelude.{if◌then◌else◌, false, Option, Some, None, IfSome, unwrap_or};
+ghost use Rattle.std.specs.Prelude.{Err, IfOk, OnOk, OnErr, IfErr, MatchResult};
 ghost use Rattle.std.specs.List.{list_any};
-ghost use Rattle.pua_policy.specs.Promises.{holds, all_promises, error};
-ghost use Rattle.pua_policy.specs.declared.rules.ExecPromises.TheVariants.{Unset};
-ghost use Rattle.pua_policy.specs.History.{History, StandsFor, Pledged, Unveiled, Locked, Moved, Ended, new_history, HasHistory, after_exec, pledge_fault, unveil_fault, place_fault, is_within, narrowed, may_any, is_locked, is_ended, working_dir, pledged, held, held_for_exec, kept, veils, veil_at, has_veil};
+ghost use Rattle.pua_calls.specs.Promises.{holds, all_promises, error};
+ghost use Rattle.pua_calls.specs.declared.rules.ExecPromises.TheVariants.{Unset};
+ghost use Rattle.pua_policy.specs.History.{History, StandsFor, new_history, HasHistory, after_exec};
+ghost use Rattle.pua_policy.specs.History.{Pledged, Unveiled, Locked, Moved, Ended};
+ghost use Rattle.pua_policy.specs.History.{pledge_fault, unveil_fault, place_fault, is_within};
+ghost use Rattle.pua_policy.specs.History.{narrowed, may_any, is_locked, is_ended, working_dir};
+ghost use Rattle.pua_policy.specs.History.{pledged, held, held_for_exec, left_for_exec};
+ghost use Rattle.pua_policy.specs.History.{kept, veils, veil_at, has_veil};
 
 impl Process {
     /// A new process, in the root: it holds every promise but `error`, and has no veil (this
@@ -74,7 +93,8 @@ impl Process {
         execpromises: Option<Promises>,
     ) -> Result<(), Errno>
         ensures exact { (h : History) → StandsFor self.old h → MatchResult result
-            (λ _. (pledge_fault h promises execpromises ≡ None) × StandsFor self.new (Pledged promises execpromises ∷ h))
+            (λ _. (pledge_fault h promises execpromises ≡ None)
+            × StandsFor self.new (Pledged promises execpromises ∷ h))
             (λ errno. pledge_fault h promises execpromises ≡ Some errno) }
         ensures unchanged { OnErr result (self.new ≡ self.old) }
     {
@@ -217,7 +237,7 @@ impl Process {
             return;
         };
         self.promises = Some(promises);
-        self.execpromises = left.left(promises);
+        self.execpromises = left_for_exec(left, promises);
     }
 
     /// Does nothing: its contract says that some history left what the process keeps, so that
@@ -284,7 +304,8 @@ impl Process {
     /// Lends the places with veils, in the order in which they were first kept. The only error is
     /// that the memory for the list is refused.
     pub fn places(&self, alloc: Global) -> Result<Vec<&Place>, OutOfMemory>
-        ensures { IfOk result (λ places. map (λ place. place.now) places.items ≡ map (λ veil. veil.0) self.now.veils) }
+        ensures { IfOk result (λ places.
+            map (λ place. place.now) places.items ≡ map (λ veil. veil.0) self.now.veils) }
     {
         lent_places(alloc, &self.veils).map_err(|_| OutOfMemory)
     }
@@ -292,8 +313,10 @@ impl Process {
     /// Lends the places with veils, in the order in which they were first kept, each with the
     /// permissions that are kept there now. The only error is that the memory for the list is refused.
     pub fn veils(&self, alloc: Global) -> Result<Vec<(&Place, &Perms)>, OutOfMemory>
-        ensures state { IfOk result (λ lent. map (λ veil. (veil.0.now, veil.1.now)) lent.items ≡ self.now.veils) }
-        ensures history { IfOk result (λ lent. (h : History) → StandsFor self.now h → map (λ veil. (veil.0.now, veil.1.now)) lent.items ≡ veils h) }
+        ensures state { IfOk result (λ lent.
+            map (λ veil. (veil.0.now, veil.1.now)) lent.items ≡ self.now.veils) }
+        ensures history { IfOk result (λ lent. (h : History) → StandsFor self.now h →
+            map (λ veil. (veil.0.now, veil.1.now)) lent.items ≡ veils h) }
     {
         lent_veils(alloc, &self.veils).map_err(|_| OutOfMemory)
     }
@@ -317,7 +340,8 @@ impl Process {
 
 /// The places of veils, in the order in which they were first kept.
 fn lent_places(alloc: Global, veils: &IndexMap<Place, Perms>) -> Result<Vec<&Place>, AllocError>
-    ensures { IfOk result (λ places. map (λ place. place.now) places.items ≡ map (λ veil. veil.0) veils.now.entries) }
+    ensures { IfOk result (λ places.
+        map (λ place. place.now) places.items ≡ map (λ veil. veil.0) veils.now.entries) }
 {
     veils.keys().collect(alloc)
 }
@@ -327,7 +351,8 @@ fn lent_veils(
     alloc: Global,
     veils: &IndexMap<Place, Perms>,
 ) -> Result<Vec<(&Place, &Perms)>, AllocError>
-    ensures { IfOk result (λ lent. map (λ veil. (veil.0.now, veil.1.now)) lent.items ≡ veils.now.entries) }
+    ensures { IfOk result (λ lent.
+        map (λ veil. (veil.0.now, veil.1.now)) lent.items ≡ veils.now.entries) }
 {
     veils.iter().collect(alloc)
 }
@@ -358,5 +383,15 @@ fn narrowed(given: Option<Promises>, request: Option<Promises>) -> Option<Promis
         (Some(given), Some(request)) => Some(request.intersection(given)),
         (None, request) => request,
         (given, None) => given,
+    }
+}
+
+/// The execpromises of a program that is started with these.
+fn left_for_exec(left: ExecPromises, given: Promises) -> Option<Promises>
+    ensures { result ≡ left_for_exec left given }
+{
+    match left {
+        ExecPromises::Unset => None,
+        ExecPromises::Stay => Some(given),
     }
 }

@@ -2,12 +2,12 @@
 
 ghost use Rattle.std.specs.Prelude.{◌≡◌, find};
 ghost use Rattle.pua_policy.specs.History.{History, StandsFor};
-ghost use Rattle.pua_policy.specs.Promises.{holds};
+ghost use Rattle.pua_calls.specs.Promises.{holds};
 ghost use Rattle.pua_policy.specs.Reasons.{promising, promising_seen};
 
 use crate::process::Process;
-use crate::promises::Promises;
 use crate::reason::Promising;
+use pua_calls::Promises;
 
 impl Process {
     /// By which of these sets it may do what needs all promises of one of them, the first that it

@@ -3,9 +3,8 @@
 ghost use Rattle.std.specs.Prelude.{◌≡◌};
 ghost use Rattle.pua_policy.specs.Misfits.{misfit_errno};
 
-use crate::perms::Perms;
 use crate::place::Place;
-use crate::promises::Promises;
+use pua_calls::{Perms, Promises};
 use pua_path::Errno;
 
 /// By what a process may do what needs one of some sets of promises, or why it may not.

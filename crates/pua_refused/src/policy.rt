@@ -1,4 +1,4 @@
-//! Wrong bodies of `pua_policy`.
+//! Wrong bodies of `pua_calls` and of `pua_policy`.
 
 mod calls;
 mod execs;

@@ -5,8 +5,8 @@ ghost use Rattle.pua_tree.specs.Listing.{listing};
 ghost use Rattle.pua_script.specs.Scripts.{script};
 ghost use Rattle.pua_script.specs.Examples.{answers_over};
 
+use pua_calls::CallTable;
 use pua_path::Errno;
-use pua_policy::CallTable;
 use pua_script::{Answer, Request, World, read_script};
 use pua_tree::{FileTree, ListTree, Name, NodeId, read_listing};
 use std::alloc::Global;

@@ -1,6 +1,6 @@
 //! Wrong bodies of `pua_tool`.
 
-use pua_policy::Rules;
+use pua_calls::Rules;
 use pua_tool::{
     Command, DONE, MemoryInputs, MemorySink, ReadSource, Sink, Text, command, perform, put_all,
     read_bytes,

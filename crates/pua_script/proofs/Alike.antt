@@ -16,14 +16,14 @@ use Rattle.pua_path.specs.declared.text.Ending.{Ending}
 use Rattle.pua_path.specs.declared.text.Ending.TheVariants as ending
 use Rattle.pua_path.specs.declared.found.Found.{Found}
 use Rattle.pua_path.specs.declared.found.Last.TheVariants.{Followed}
-use Rattle.pua_policy.specs.Promises.{proc, unveil}
-use Rattle.pua_policy.specs.Calls.{CallTable, PairRule, rule_of, ending_of, last_of}
+use Rattle.pua_calls.specs.Promises.{proc, unveil}
+use Rattle.pua_calls.specs.Calls.{CallTable, PairRule, rule_of, ending_of, last_of}
 use Rattle.pua_policy.specs.History.{History, Pledged, Unveiled, Locked, Ended, ProcessState, is_ended}
 use Rattle.pua_policy.specs.Verdict.{place_of, cover_fault, or_fault, object_fault, object_of, object_named}
 use Rattle.pua_policy.specs.Laws.{AllowAlike}
 use Rattle.pua_policy.proofs.ForCallers.{processes_decide}
-use Rattle.pua_policy.specs.declared.call.Call.{Call}
-use Rattle.pua_policy.specs.declared.call.Call.TheVariants as call
+use Rattle.pua_calls.specs.declared.call.Call.{Call}
+use Rattle.pua_calls.specs.declared.call.Call.TheVariants as call
 use Rattle.pua_script.specs.Requests.{Asked}
 use Rattle.pua_script.specs.declared.answer.Answer.{Answer}
 use Rattle.pua_script.specs.declared.answer.Answer.TheVariants.{Gone}

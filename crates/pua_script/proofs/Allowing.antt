@@ -12,11 +12,11 @@ use Rattle.pua_path.specs.declared.text.Ending.{Ending}
 use Rattle.pua_path.specs.declared.found.Last.{Last}
 use Rattle.pua_path.specs.declared.found.Way.TheVariants.{Top}
 use Rattle.pua_path.specs.declared.found.Found.{Found}
-use Rattle.pua_policy.specs.Promises.{holds}
-use Rattle.pua_policy.specs.Calls.{CallTable, rule_of, ending_of, last_of}
+use Rattle.pua_calls.specs.Promises.{holds}
+use Rattle.pua_calls.specs.Calls.{CallTable, rule_of, ending_of, last_of}
 use Rattle.pua_policy.specs.History.{History, Pledged, Unveiled, Locked, Moved, Ended, kept, held, has_error, is_ended, may_any, working_dir, same_place}
 use Rattle.pua_policy.specs.Verdict.{cover, nearest, is_unveil, place_of, directories_over, cover_fault, or_fault, object_fault, object_of, allowed_unless, if_promised, verdict_of, is_allowed, found_fault, object_named}
-use Rattle.pua_policy.specs.declared.call.Call.{Call}
+use Rattle.pua_calls.specs.declared.call.Call.{Call}
 use Rattle.pua_policy.specs.declared.place.Place.{Place}
 use Rattle.pua_policy.specs.declared.place.Place.TheVariants.{Dir}
 use Rattle.pua_policy.specs.declared.answer.Cover.TheVariants.{All}

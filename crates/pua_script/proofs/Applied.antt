@@ -1,7 +1,7 @@
 -- A request was not served, or decided upon.
 use Rattle.std.proofs.Common.{◌≡◌, Bool, true, false, cond, refl, sym, subst, ◌∙◌, ℕ}
 use Rattle.std.specs.Prelude.{Option, Some, None, Ok, Err}
-use Rattle.pua_policy.specs.Calls.{CallTable}
+use Rattle.pua_calls.specs.Calls.{CallTable}
 use Rattle.pua_policy.specs.History.{History, is_ended}
 use Rattle.pua_script.specs.Requests.{Asked}
 use Rattle.pua_script.specs.Decide.{Change, Decision, decide}

@@ -3,8 +3,8 @@ use Rattle.std.proofs.Common.{◌≡◌, ℕ, List, [], ◌∷◌, Bool, true, f
 use Rattle.std.specs.Prelude.{not, filter}
 use Rattle.std.proofs.lemmas.Bool.{false≢true, and_parts}
 use Rattle.pua_tree.specs.Tree.{Tree, WellFormed}
-use Rattle.pua_policy.specs.Promises.{holds, cpath}
-use Rattle.pua_policy.specs.Calls.{CallTable}
+use Rattle.pua_calls.specs.Promises.{holds, cpath}
+use Rattle.pua_calls.specs.Calls.{CallTable}
 use Rattle.pua_policy.specs.History.{History, held}
 use Rattle.pua_policy.specs.Verdict.{is_unveil}
 use Rattle.pua_script.specs.Requests.{Asked}

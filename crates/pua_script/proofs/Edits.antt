@@ -15,10 +15,10 @@ use Rattle.pua_path.specs.declared.found.Way.TheVariants as ways
 use Rattle.pua_path.specs.declared.found.Found.{Found}
 use Rattle.pua_path.specs.declared.found.Found.TheVariants.{Whole, Slot}
 use Rattle.pua_policy.specs.Verdict.{object_of_kind, object_fault}
-use Rattle.pua_policy.specs.declared.call.Call.TheVariants as calls
+use Rattle.pua_calls.specs.declared.call.Call.TheVariants as calls
 use Rattle.pua_path.specs.Fits.{spot_named}
 use Rattle.pua_policy.specs.Verdict.{object_of}
-use Rattle.pua_policy.specs.declared.call.Call.{Call}
+use Rattle.pua_calls.specs.declared.call.Call.{Call}
 use Rattle.pua_script.specs.Judged.{NameFits}
 
 -- what was found is of the tree, and nothing is wrong with it for a call

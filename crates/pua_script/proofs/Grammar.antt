@@ -14,10 +14,10 @@ use Rattle.pua_tree.specs.Steps.{◌>>=◌}
 use Rattle.pua_tree.specs.Listing.{only_if}
 use Rattle.pua_tree.proofs.ForCallers.{same_Some, None≢Some, guarded, Err≢Ok, same_Ok, unspelled-spelling, spelling-unspelled, bytes_unspelled, decimal_within, number_read}
 use Rattle.pua_path.specs.declared.errno.Errno.{Errno}
-use Rattle.pua_policy.specs.Promises.{promises_of, perms_of}
-use Rattle.pua_policy.specs.Calls.{calls, call_name, call_named}
-use Rattle.pua_policy.specs.declared.call.Call.{Call}
-use Rattle.pua_policy.specs.declared.call.Call.TheVariants as call
+use Rattle.pua_calls.specs.Promises.{promises_of, perms_of}
+use Rattle.pua_calls.specs.Calls.{calls, call_name, call_named}
+use Rattle.pua_calls.specs.declared.call.Call.{Call}
+use Rattle.pua_calls.specs.declared.call.Call.TheVariants as call
 use Rattle.pua_script.specs.Requests.{Asked, is_symlink, has_no_nul, is_askable}
 use Rattle.pua_script.specs.declared.request.Given.{Given}
 use Rattle.pua_script.specs.declared.request.Given.TheVariants.{Null, Good}

@@ -2,8 +2,8 @@
 use Rattle.std.proofs.Common.{◌≡◌, ℕ, [], ◌∷◌, refl, sym, ap, subst, ◌∙◌}
 use Rattle.std.specs.Prelude.{Option, Some, None, unwrap_or}
 use Rattle.pua_policy.specs.History.{History, Event, Pledged, Unveiled, Locked, Moved, Ended, ProcessState, StandsFor, pledged, held_for_exec, veils, with_veil, is_locked, is_ended, working_dir, meet, common, left_for_exec, after_exec, first}
-use Rattle.pua_policy.specs.declared.rules.ExecPromises.{ExecPromises}
-use Rattle.pua_policy.specs.declared.rules.ExecPromises.TheVariants.{Unset, Stay}
+use Rattle.pua_calls.specs.declared.rules.ExecPromises.{ExecPromises}
+use Rattle.pua_calls.specs.declared.rules.ExecPromises.TheVariants.{Unset, Stay}
 use Rattle.pua_policy.proofs.ForCallers.{others, no_promises, no_execpromises, same_veils, same_lock, same_dirs, same_end}
 
 -- what a process that stands for a history keeps

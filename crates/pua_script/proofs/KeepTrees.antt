@@ -19,7 +19,7 @@ use Rattle.pua_path.specs.declared.text.Ending.TheVariants.{Dot, Dropped}
 use Rattle.pua_path.specs.declared.found.Found.{Found}
 use Rattle.pua_path.specs.declared.found.Found.TheVariants.{Whole, Slot}
 use Rattle.pua_path.specs.declared.found.Way.TheVariants as way
-use Rattle.pua_policy.specs.Calls.{CallTable, ending_of, last_of}
+use Rattle.pua_calls.specs.Calls.{CallTable, ending_of, last_of}
 use Rattle.pua_policy.specs.History.{History, working_dir}
 use Rattle.pua_script.specs.Limits.{process_limit}
 use Rattle.pua_script.specs.Bytes.{is_bytes, is_in_bytes, are_in_bytes, IsByteTree, RequestsKeepTrees, ReplaysKeepTrees}

@@ -8,9 +8,9 @@ use Rattle.pua_tree.proofs.ForCallers.{put_here, put_elsewhere}
 use Rattle.pua_tree.specs.Tree.{Tree}
 use Rattle.pua_tree.specs.declared.fault.TreeFault.{TreeFault}
 use Rattle.pua_path.specs.declared.errno.Errno.TheVariants.{EAGAIN}
-use Rattle.pua_policy.specs.Calls.{CallTable}
+use Rattle.pua_calls.specs.Calls.{CallTable}
 use Rattle.pua_policy.specs.History.{History, may_any}
-use Rattle.pua_policy.specs.Promises.{proc}
+use Rattle.pua_calls.specs.Promises.{proc}
 use Rattle.pua_policy.specs.declared.answer.May.{May}
 use Rattle.pua_policy.specs.declared.answer.May.TheVariants as may
 use Rattle.pua_policy.specs.declared.answer.Refusal.TheVariants.{Failed, Killed}

@@ -18,10 +18,10 @@ use Rattle.pua_path.specs.declared.found.Last.{Last}
 use Rattle.pua_path.specs.declared.found.Found.{Found}
 use Rattle.pua_path.specs.declared.found.Found.TheVariants.{Whole, Slot}
 use Rattle.pua_path.proofs.ForCallers.{resolutions_fit}
-use Rattle.pua_policy.specs.Calls.{CallTable, ending_of, last_of}
+use Rattle.pua_calls.specs.Calls.{CallTable, ending_of, last_of}
 use Rattle.pua_policy.specs.History.{History, working_dir}
-use Rattle.pua_policy.specs.declared.call.Call.{Call}
-use Rattle.pua_policy.specs.declared.call.Call.TheVariants as call
+use Rattle.pua_calls.specs.declared.call.Call.{Call}
+use Rattle.pua_calls.specs.declared.call.Call.TheVariants as call
 use Rattle.pua_script.specs.Decide.{Change, AddNode, CutRow, ShiftRow, TieRow, is_whole, fault_if, kinds_fault, inside_fault, decide}
 use Rattle.pua_script.specs.Guards.{IsPossible}
 use Rattle.pua_script.specs.Judged.{NameFits, CanBeDone, decision_by}

@@ -4,7 +4,7 @@ use Rattle.std.specs.Prelude.{Ok, Err, IsTrue}
 use Rattle.pua_tree.specs.Tree.{Tree, WellFormed}
 use Rattle.pua_path.specs.declared.errno.Errno.{Errno}
 use Rattle.pua_path.specs.declared.errno.Errno.TheVariants.{ENOSPC}
-use Rattle.pua_policy.specs.Calls.{CallTable}
+use Rattle.pua_calls.specs.Calls.{CallTable}
 use Rattle.pua_policy.specs.History.{History}
 use Rattle.pua_policy.specs.declared.answer.Refusal.TheVariants.{Failed, Killed}
 use Rattle.pua_script.specs.declared.request.Action.{Action}

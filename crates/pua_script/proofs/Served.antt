@@ -3,13 +3,13 @@ use Rattle.std.proofs.Common.{◌≡◌, ℕ, ◌+◌, ◌<◌, List, [], ◌∷
 use Rattle.std.proofs.Math.Seq.{take-suc}
 use Rattle.std.specs.Prelude.{Option, Some, None, Result, Ok, Err, IfOk, OnErr, MatchResult}
 use Rattle.pua_tree.specs.Tree.{WellFormed}
-use Rattle.pua_policy.proofs.ForCallers.{texts_need_no_error, texts_keep_pairs}
-use Rattle.pua_policy.specs.Calls.{PairRule, CallTable, standard_table, openbsd_table, rule_of}
-use Rattle.pua_policy.specs.Tables.{NeedsNoError}
-use Rattle.pua_policy.specs.declared.rules.Rules.TheVariants.{Profile, Openbsd}
-use Rattle.pua_policy.specs.declared.call.Call.{Call}
+use Rattle.pua_calls.proofs.ForCallers.{texts_need_no_error, texts_keep_pairs}
+use Rattle.pua_calls.specs.Calls.{PairRule, CallTable, standard_table, openbsd_table, rule_of}
+use Rattle.pua_calls.specs.Tables.{NeedsNoError}
+use Rattle.pua_calls.specs.declared.rules.Rules.TheVariants.{Profile, Openbsd}
+use Rattle.pua_calls.specs.declared.call.Call.{Call}
 use Rattle.pua_policy.specs.History.{History, ProcessState}
-use Rattle.pua_policy.specs.declared.call.Call.TheVariants.{Stat, Lstat, Readlink, OpenRead, OpenWrite, OpenBoth, Create, Mkdir, Rmdir, Unlink, Symlink, Chmod, Chdir, Exec}
+use Rattle.pua_calls.specs.declared.call.Call.TheVariants.{Stat, Lstat, Readlink, OpenRead, OpenWrite, OpenBoth, Create, Mkdir, Rmdir, Unlink, Symlink, Chmod, Chdir, Exec}
 use Rattle.pua_script.specs.Requests.{Asked}
 use Rattle.pua_script.specs.Replay.{World, apply, world_after}
 use Rattle.pua_script.specs.Worlds.{WorldState, StandsAt, StandsForWorld, IsServed, AreServed, process_at}

@@ -5,8 +5,8 @@ use Rattle.std.specs.Prelude.{nat_le}
 use Rattle.std.specs.Map.{lookup, set_value}
 use Rattle.std.proofs.lemmas.Map.Steps.{set_value_same}
 use Rattle.pua_tree.specs.Tree.{Tree}
-use Rattle.pua_policy.specs.Calls.{CallTable}
-use Rattle.pua_policy.specs.Promises.{proc}
+use Rattle.pua_calls.specs.Calls.{CallTable}
+use Rattle.pua_calls.specs.Promises.{proc}
 use Rattle.pua_policy.specs.History.{History, ProcessState, StandsFor, Ended, is_ended, may_any}
 use Rattle.pua_policy.specs.declared.answer.May.TheVariants as may
 use Rattle.pua_path.specs.declared.errno.Errno.TheVariants.{EAGAIN}

@@ -10,13 +10,13 @@ use Rattle.pua_path.specs.declared.text.Ending.TheVariants.{Dropped}
 use Rattle.pua_path.specs.declared.found.Found.{Found}
 use Rattle.pua_path.specs.declared.found.Found.TheVariants.{Whole, Slot}
 use Rattle.pua_path.specs.declared.found.Way.TheVariants as way
-use Rattle.pua_policy.specs.Promises.{holds, creating}
-use Rattle.pua_policy.specs.Calls.{CallTable, rule_of, ending_of, last_of}
+use Rattle.pua_calls.specs.Promises.{holds, creating}
+use Rattle.pua_calls.specs.Calls.{CallTable, rule_of, ending_of, last_of}
 use Rattle.pua_policy.specs.History.{History, working_dir}
 use Rattle.pua_policy.specs.Verdict.{cover, cover_fault}
 use Rattle.pua_policy.proofs.ForCallers.{second_holds}
-use Rattle.pua_policy.specs.declared.call.Call.{Call}
-use Rattle.pua_policy.specs.declared.call.Call.TheVariants as call
+use Rattle.pua_calls.specs.declared.call.Call.{Call}
+use Rattle.pua_calls.specs.declared.call.Call.TheVariants as call
 use Rattle.pua_policy.specs.declared.answer.Cover.{Cover}
 use Rattle.pua_policy.specs.declared.answer.Cover.TheVariants.{All, Nothing, Only}
 use Rattle.pua_script.specs.Requests.{Asked}

@@ -12,7 +12,7 @@ use Rattle.std.specs.FinMap.{put, find as find_key, is_sorted}
 use Rattle.std.specs.FinMap.Entries.{find-put, is_sorted-put, length-put}
 use Rattle.std.specs.Map.{lookup}
 use Rattle.pua_tree.specs.Tree.{Tree}
-use Rattle.pua_policy.specs.Calls.{CallTable}
+use Rattle.pua_calls.specs.Calls.{CallTable}
 use Rattle.pua_policy.specs.History.{History, ProcessState, StandsFor, new_history}
 use Rattle.pua_script.specs.Replay.{World, history_of, new_world}
 use Rattle.pua_script.specs.Worlds.{WorldState, StandsAt, StandsForWorld, process_at}

@@ -6,11 +6,11 @@ use Rattle.std.proofs.lemmas.Bool.{false≢true, eqb-true}
 use Rattle.std.proofs.lemmas.Nat.{and_comm}
 use Rattle.pua_tree.specs.Tree.{Tree}
 use Rattle.pua_path.specs.declared.errno.Errno.TheVariants.{EAGAIN}
-use Rattle.pua_policy.specs.Promises.{holds, cpath}
+use Rattle.pua_calls.specs.Promises.{holds, cpath}
 use Rattle.pua_policy.specs.History.{History, held, has_error, is_ended, may_any}
-use Rattle.pua_policy.specs.Calls.{Rule, CallTable, rule_of}
-use Rattle.pua_policy.specs.declared.call.Call.{Call}
-use Rattle.pua_policy.specs.declared.call.Call.TheVariants as call
+use Rattle.pua_calls.specs.Calls.{Rule, CallTable, rule_of}
+use Rattle.pua_calls.specs.declared.call.Call.{Call}
+use Rattle.pua_calls.specs.declared.call.Call.TheVariants as call
 use Rattle.pua_policy.specs.declared.answer.May.TheVariants.{Yes, Enosys, Death}
 use Rattle.pua_policy.proofs.ForCallers.{second_holds}
 use Rattle.pua_script.specs.Limits.{process_limit}

@@ -3,7 +3,7 @@ use Rattle.std.specs.Prelude.{◌≡◌, ℕ, Bool, true, ◌&&◌, List, nat_lt
 use Rattle.std.specs.List.{list_all}
 use Rattle.pua_tree.specs.Tree.{Tree, WellFormed, target_at}
 use Rattle.pua_tree.specs.Listing.{listing}
-use Rattle.pua_policy.specs.Calls.{CallTable}
+use Rattle.pua_calls.specs.Calls.{CallTable}
 use Rattle.pua_script.specs.Requests.{Asked}
 use Rattle.pua_script.specs.Scripts.{script}
 use Rattle.pua_script.specs.Replay.{World, apply, world_after}

@@ -5,13 +5,13 @@ use Rattle.pua_tree.specs.Tree.{Tree, WellFormed, Spot, is_dir, look, node_at}
 use Rattle.pua_path.specs.declared.found.Found.{Found}
 use Rattle.pua_path.specs.declared.found.Found.TheVariants.{Whole, Slot}
 use Rattle.pua_path.specs.declared.found.Way.TheVariants.{Named}
-use Rattle.pua_policy.specs.Promises.{holds, cpath, creating}
-use Rattle.pua_policy.specs.Calls.{Rule, CallTable, rule_of}
+use Rattle.pua_calls.specs.Promises.{holds, cpath, creating}
+use Rattle.pua_calls.specs.Calls.{Rule, CallTable, rule_of}
 use Rattle.pua_policy.specs.History.{History, held}
 use Rattle.pua_policy.specs.Verdict.{cover}
 use Rattle.pua_policy.specs.declared.answer.Cover.{Cover}
 use Rattle.pua_policy.specs.declared.answer.Cover.TheVariants.{All, Nothing, Only}
-use Rattle.pua_policy.specs.declared.call.Call.TheVariants as call
+use Rattle.pua_calls.specs.declared.call.Call.TheVariants as call
 use Rattle.pua_script.specs.Requests.{Asked}
 use Rattle.pua_script.specs.Replay.{World, history_of, apply, world_after}
 use Rattle.pua_script.specs.Laws.{IsConfined}

@@ -1,12 +1,12 @@
 -- Why no call of a table may need `error`: it is the one promise that a locked process can still take.
 use Rattle.std.specs.Prelude.{◌≡◌, [], ◌∷◌, Some, None, codes, refl}
 use Rattle.pua_tree.specs.Tree.{empty_tree}
-use Rattle.pua_policy.specs.Promises.{error}
-use Rattle.pua_policy.specs.Calls.{CallTable, standard_table}
-use Rattle.pua_policy.specs.TableTexts.{with_rule}
+use Rattle.pua_calls.specs.Promises.{error}
+use Rattle.pua_calls.specs.Calls.{CallTable, standard_table}
+use Rattle.pua_calls.specs.TableTexts.{with_rule}
 use Rattle.pua_policy.specs.History.{History, Pledged, Locked, new_history}
 use Rattle.pua_policy.specs.Verdict.{verdict_on, is_allowed}
-use Rattle.pua_policy.specs.declared.call.Call.TheVariants.{Stat}
+use Rattle.pua_calls.specs.declared.call.Call.TheVariants.{Stat}
 use Rattle.std.specs.Prelude.{true, false}
 use Rattle.pua_script.specs.Replay.{world_after, history_of}
 use Rattle.pua_script.specs.declared.request.Action.TheVariants.{Pledge}

@@ -1,14 +1,14 @@
 -- What a world's requests leave of its processes and of its tree, whichever world of the replay it stands for.
 use Rattle.std.specs.Prelude.{◌≡◌, ℕ, List, [], ◌∷◌, Some, Ok, take, IsTrue, IsFalse}
-use Rattle.pua_policy.specs.Calls.{CallTable, table_by_rules, rule_of}
-use Rattle.pua_policy.specs.TableTexts.{table_over}
-use Rattle.pua_policy.specs.declared.rules.Rules.{Rules}
-use Rattle.pua_policy.specs.Promises.{holds, cpath}
+use Rattle.pua_calls.specs.Calls.{CallTable, table_by_rules, rule_of}
+use Rattle.pua_calls.specs.TableTexts.{table_over}
+use Rattle.pua_calls.specs.declared.rules.Rules.{Rules}
+use Rattle.pua_calls.specs.Promises.{holds, cpath}
 use Rattle.pua_policy.specs.History.{History, ProcessState, StandsFor, held}
 use Rattle.pua_script.specs.Requests.{Asked}
 use Rattle.pua_script.specs.Replay.{World, history_of, world_after}
 use Rattle.pua_script.specs.Tightening.{NoCallNeedsError, IsNarrowedBy, EndsWithin}
-use Rattle.pua_policy.specs.declared.call.Call.TheVariants.{Create, Mkdir, Rmdir, Unlink, Symlink}
+use Rattle.pua_calls.specs.declared.call.Call.TheVariants.{Create, Mkdir, Rmdir, Unlink, Symlink}
 use Rattle.pua_script.specs.Confinement.{NeedsC, NamesCpath, TakingNeedsC, ChangingNeedsCpath, UncoveredStay, TreesAlong}
 use Rattle.pua_script.specs.Family.{is_exec, is_done, none_done, members_alone, family, is_member}
 use Rattle.pua_script.specs.Laws.{IsConfined}

@@ -5,8 +5,8 @@ use Rattle.pua_tree.specs.Edits.{is_same_node, cut, shift}
 use Rattle.pua_path.specs.Paths.{path_fault}
 use Rattle.pua_path.specs.Resolution.{resolution_of_text}
 use Rattle.pua_path.specs.Fits.{spot_named, node_named}
-use Rattle.pua_policy.specs.Promises.{proc, unveil}
-use Rattle.pua_policy.specs.Calls.{CallTable, PairRule, rule_of}
+use Rattle.pua_calls.specs.Promises.{proc, unveil}
+use Rattle.pua_calls.specs.Calls.{CallTable, PairRule, rule_of}
 use Rattle.pua_policy.specs.History.{History, Pledged, Unveiled, Locked, Ended, working_dir, is_locked, pledge_fault, unveil_fault, may_any}
 use Rattle.pua_policy.specs.Verdict.{place_of, cover, cover_fault, object_named, object_fault, object_of}
 use Rattle.pua_script.specs.Decide.{link_node, is_whole, kinds_fault, inside_fault, unveil_errno, given_set, is_unknown, Change, NoChange, AddNode, CutRow, ShiftRow, TieRow, AddEvent, CopyAs, adding, change_by, shifting, tying, ways_fault, named_by, decide}
@@ -14,8 +14,8 @@ use Rattle.pua_path.specs.declared.text.Ending.{Ending}
 use Rattle.pua_path.specs.declared.text.Ending.TheVariants as ending
 use Rattle.pua_path.specs.declared.found.Last.TheVariants.{Followed}
 use Rattle.pua_path.specs.declared.found.Found.{Found}
-use Rattle.pua_policy.specs.declared.call.Call.{Call}
-use Rattle.pua_policy.specs.declared.call.Call.TheVariants as call
+use Rattle.pua_calls.specs.declared.call.Call.{Call}
+use Rattle.pua_calls.specs.declared.call.Call.TheVariants as call
 use Rattle.pua_policy.specs.declared.answer.May.TheVariants as may
 use Rattle.pua_script.specs.declared.request.Given.{Given}
 use Rattle.pua_script.specs.declared.request.Action.{Action}

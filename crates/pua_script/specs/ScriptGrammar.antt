@@ -3,10 +3,10 @@ use Rattle.std.specs.Prelude.{◌≡◌, ◌≢◌, ℕ, ◌≤◌, List, [], �
 use Rattle.std.specs.List.{list_all}
 use Rattle.std.specs.Str.Lines.{lines}
 use Rattle.pua_tree.specs.Spelling.{spelling, fields, is_field}
-use Rattle.pua_policy.specs.Promises.{promises_of, perms_of}
-use Rattle.pua_policy.specs.Calls.{call_name}
+use Rattle.pua_calls.specs.Promises.{promises_of, perms_of}
+use Rattle.pua_calls.specs.Calls.{call_name}
 use Rattle.pua_path.specs.declared.errno.Errno.{Errno}
-use Rattle.pua_policy.specs.declared.call.Call.{Call}
+use Rattle.pua_calls.specs.declared.call.Call.{Call}
 use Rattle.pua_script.specs.Limits.{line_limit, number_limit}
 use Rattle.pua_script.specs.Requests.{Asked, is_symlink, has_no_nul}
 use Rattle.pua_script.specs.Scripts.{has_empty_word, script}

@@ -7,12 +7,12 @@ use Rattle.pua_tree.specs.Names.{same_bytes}
 use Rattle.pua_tree.specs.Spelling.{unspelled, fields, is_field, number_within}
 use Rattle.pua_tree.specs.Steps.{◌>>=◌}
 use Rattle.pua_tree.specs.Listing.{only_if}
-use Rattle.pua_policy.specs.Promises.{promises_of, perms_of}
-use Rattle.pua_policy.specs.Calls.{call_named}
+use Rattle.pua_calls.specs.Promises.{promises_of, perms_of}
+use Rattle.pua_calls.specs.Calls.{call_named}
 use Rattle.pua_script.specs.Limits.{line_limit, number_limit}
 use Rattle.pua_script.specs.Requests.{Asked, is_symlink, has_no_nul}
 use Rattle.pua_path.specs.declared.errno.Errno.{Errno}
-use Rattle.pua_policy.specs.declared.call.Call.{Call}
+use Rattle.pua_calls.specs.declared.call.Call.{Call}
 use Rattle.pua_script.specs.declared.request.Given.{Given}
 use Rattle.pua_script.specs.declared.request.Given.TheVariants.{Null, Good, Unknown}
 use Rattle.pua_script.specs.declared.request.Action.{Action}

@@ -3,12 +3,12 @@ use Rattle.std.specs.Prelude.{◌≡◌, ℕ, List, [], ◌∷◌, Some, IsTrue,
 use Rattle.std.specs.List.{AllByRecursion}
 use Rattle.pua_tree.specs.Tree.{Tree}
 use Rattle.pua_path.specs.Paths.{is_absolute}
-use Rattle.pua_policy.specs.Promises.{holds}
-use Rattle.pua_policy.specs.Calls.{CallTable}
-pub use Rattle.pua_policy.specs.Tables.{NamesNoError, NoCallNeedsError}
+use Rattle.pua_calls.specs.Promises.{holds}
+use Rattle.pua_calls.specs.Calls.{CallTable}
+pub use Rattle.pua_calls.specs.Tables.{NamesNoError, NoCallNeedsError}
 use Rattle.pua_policy.specs.History.{History, held, working_dir}
 use Rattle.pua_policy.specs.Verdict.{is_unveil, verdict_on, is_allowed}
-use Rattle.pua_policy.specs.declared.call.Call.{Call}
+use Rattle.pua_calls.specs.declared.call.Call.{Call}
 use Rattle.pua_script.specs.Requests.{Asked}
 use Rattle.pua_script.specs.Replay.{World, history_of, apply, world_after}
 use Rattle.pua_script.specs.Laws.{IsConfined}

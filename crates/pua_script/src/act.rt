@@ -16,7 +16,8 @@ use crate::link::{grant_link, judge_link};
 use crate::process::{decide_lock, decide_pledge, refuse};
 use crate::rename::{grant_rename, judge_rename};
 use crate::request::Action;
-use pua_policy::{CallTable, Process, Refusal};
+use pua_calls::CallTable;
+use pua_policy::{Process, Refusal};
 use pua_tree::FileTree;
 
 /// Does what a living process asks for, where it is no fork. All checks come first, in their order;

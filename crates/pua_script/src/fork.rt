@@ -3,7 +3,7 @@
 ghost use Rattle.std.specs.Prelude.{◌≡◌, ◌||◌, IfOk, OnErr, is_some, length, nat_eq, nat_le};
 ghost use Rattle.std.specs.Map.{lookup};
 ghost use Rattle.pua_tree.specs.Tree.{Tree};
-ghost use Rattle.pua_policy.specs.Calls.{CallTable};
+ghost use Rattle.pua_calls.specs.Calls.{CallTable};
 ghost use Rattle.pua_script.specs.Limits.{process_limit};
 ghost use Rattle.pua_script.specs.Worlds.{IsServed, IsOkay};
 ghost use Rattle.pua_script.specs.declared.request.Action.TheVariants as actions;
@@ -13,9 +13,10 @@ use crate::fault::WorldFault;
 use crate::limits::PROCESS_LIMIT;
 use crate::process::refuse;
 use indexmap::IndexMap;
+use pua_calls::Promises;
 use pua_path::Errno;
+use pua_policy::Process;
 use pua_policy::judge::promised;
-use pua_policy::{Process, Promises};
 use std::alloc::Global;
 
 /// Serves a fork: the new process is a copy of the one that asks. A refused growth leaves all

@@ -12,8 +12,9 @@ ghost use Rattle.pua_script.specs.Worlds.{Attempts, AttemptsEdit, Does, Edits};
 
 use crate::answer::Answer;
 use crate::fault::WorldFault;
+use pua_calls::{ExecPromises, Perms, Promises};
 use pua_path::{Errno, Found};
-use pua_policy::{ExecPromises, Perms, Place, Process, Promises, UnveilFault};
+use pua_policy::{Place, Process, UnveilFault};
 use pua_tree::{FileTree, Kind, Name, NodeId, TreeFault};
 
 /// What a request changes that is granted. Names are lent by what the request's paths named, so that

@@ -10,10 +10,11 @@ ghost use Rattle.pua_script.specs.Judged.{NameFits, decided, decision_by, on_jud
 
 use crate::granted::Granted;
 use crate::pair::{node_named, spot_named};
+use pua_calls::needs::{ending, need};
+use pua_calls::{Call, CallTable, Perms, Promises};
 use pua_path::{Counted, Ending, Errno, Found, Last, PathText, Probe, resolve};
 use pua_policy::judge::{object_verdict, promised, promised_for};
-use pua_policy::needs::{ending, need};
-use pua_policy::{Call, CallTable, Perms, Process, Promises, Refusal};
+use pua_policy::{Process, Refusal};
 use pua_tree::{FileTree, Kind, NodeId};
 
 /// What a path names from a directory.

@@ -7,7 +7,7 @@ ghost use Rattle.pua_script.specs.declared.fault.ScriptFault.TheVariants.{BadCal
 use crate::fault::ScriptFault;
 use crate::limits::NUMBER_LIMIT;
 use crate::request::{Action, Given, PathBytes, Request};
-use pua_policy::{Call, Perms, Promises};
+use pua_calls::{Call, Perms, Promises};
 use pua_tree::{Fields, number_within, unspelled};
 use std::alloc::Global;
 

@@ -10,8 +10,9 @@ ghost use Rattle.pua_script.specs.Judged.{decided, decision_by, on_judged};
 
 use crate::granted::Granted;
 use crate::pair::{Pair, is_whole, judge_pair, node_named, spot_named};
+use pua_calls::CallTable;
 use pua_path::{Ending, Errno, Found};
-use pua_policy::{CallTable, Process, Refusal};
+use pua_policy::{Process, Refusal};
 use pua_tree::{FileTree, NodeId};
 
 /// What both paths of a link name: the promises of both names, what is wrong with the old path and

@@ -9,9 +9,10 @@ ghost use Rattle.pua_script.specs.Decide.{Decision, covers_fault, decide_objects
 ghost use Rattle.pua_script.specs.Judged.{NameFits, on_judged, spot_now};
 
 use crate::judged::named;
+use pua_calls::PairNeed;
 use pua_path::{Counted, Ending, Errno, Found, Probe, Way};
 use pua_policy::judge::{cover_fault, promised_any};
-use pua_policy::{PairNeed, Process, Refusal};
+use pua_policy::{Process, Refusal};
 use pua_tree::{FileTree, Name, NodeId};
 
 /// What an old path and a new one name.

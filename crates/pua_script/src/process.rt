@@ -11,9 +11,10 @@ ghost use Rattle.pua_script.specs.Worlds.{Does};
 use crate::answer::Answer;
 use crate::granted::Granted;
 use crate::request::Given;
+use pua_calls::Promises;
 use pua_path::Errno;
 use pua_policy::judge::promised;
-use pua_policy::{Process, Promises, Refusal};
+use pua_policy::{Process, Refusal};
 
 /// What a process is answered that does not get what it asks for. It ends where it did what it did not
 /// promise, and else lives on as it was.

@@ -14,8 +14,9 @@ ghost use Rattle.pua_script.specs.Judged.{NameFits, decided, decision_by, on_jud
 
 use crate::granted::Granted;
 use crate::pair::{Pair, is_whole, judge_pair, node_named, spot_named};
+use pua_calls::CallTable;
 use pua_path::{Ending, Errno, Found, Way};
-use pua_policy::{CallTable, Process, Refusal};
+use pua_policy::{Process, Refusal};
 use pua_tree::{FileTree, Kind, NodeId};
 
 /// What both paths of a rename name: the promises of both names, what is wrong with the old path and

@@ -1,6 +1,6 @@
 //! What lines of scripts ask for.
 
-use pua_policy::{Call, Perms, Promises};
+use pua_calls::{Call, Perms, Promises};
 use std::marker::Model;
 
 /// The bytes of a path or of a link's target, as a script spells them.

@@ -7,7 +7,8 @@ use crate::fork::fork;
 use crate::request::{Action, Request};
 use crate::script::Script;
 use indexmap::IndexMap;
-use pua_policy::{CallTable, Process};
+use pua_calls::CallTable;
+use pua_policy::Process;
 use pua_tree::{FileTree, OutOfMemory};
 use std::alloc::{AllocError, Global};
 use std::marker::Model;
@@ -37,8 +38,8 @@ impl<T: FileTree> Model for World<T> {
 
 ghost use Rattle.std.specs.Prelude.{◌≡◌, IfOk, OnErr, MatchResult, IsFalse, option_copied};
 ghost use Rattle.pua_tree.specs.Tree.{Tree, WellFormed};
-ghost use Rattle.pua_policy.specs.Calls.{CallTable as Calls};
-ghost use Rattle.pua_policy.specs.Tables.{NoCallNeedsError};
+ghost use Rattle.pua_calls.specs.Calls.{CallTable as Calls};
+ghost use Rattle.pua_calls.specs.Tables.{NoCallNeedsError};
 ghost use Rattle.pua_script.specs.Futures.{AreDone, AreDoneInPart, AreHeld, AreServedInPart, IsNarrowing, IsSparing};
 ghost use Rattle.pua_script.specs.Replay.{new_world};
 ghost use Rattle.pua_script.specs.Worlds.{AreNumbersOf, HasReplay, StandsForWorld, IsProcessOf, IsOkay, IsServed, AreServed, is_fork, process_at};

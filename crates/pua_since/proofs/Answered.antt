@@ -1,7 +1,7 @@
 -- What is written of an answer with its reason.
 use Rattle.std.proofs.Common.{◌≡◌, ◌++◌, List, ℕ, refl, sym, ap, ◌∙◌, append_assoc, Option}
 use Rattle.std.specs.Prelude.{codes}
-use Rattle.pua_policy.specs.Calls.{CallTable}
+use Rattle.pua_calls.specs.Calls.{CallTable}
 use Rattle.pua_policy.specs.declared.answer.Refusal.{Refusal}
 use Rattle.pua_policy.specs.declared.answer.Refusal.TheVariants as refusal
 use Rattle.pua_script.specs.AnswerTexts.{answer_text}

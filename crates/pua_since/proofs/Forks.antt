@@ -1,6 +1,6 @@
 -- Who a process was, by the forks that were done.
 use Rattle.std.proofs.Common.{◌≡◌, ℕ, zero, suc, min, List, [], ◌∷◌, length, drop, refl, ap, ◌∙◌, arith}
-use Rattle.pua_policy.specs.Calls.{CallTable}
+use Rattle.pua_calls.specs.Calls.{CallTable}
 use Rattle.pua_script.specs.Requests.{Asked}
 use Rattle.pua_script.specs.Replay.{World, answers, apply}
 use Rattle.pua_script.specs.Family.{is_okay}

@@ -1,13 +1,14 @@
 -- What is kept of all questions holds behind a further request too.
 use Rattle.std.proofs.Common.{◌≡◌, ℕ, zero, suc, ◌<◌, ◌↔◌, List, [], ◌∷◌, ◌++◌, map, length, true, false, Some, None, Option, refl, sym, ap, subst, ◌∙◌, arith}
-use Rattle.std.specs.Prelude.{IsTrue, IsSome}
+use Rattle.std.specs.Prelude.{All, IsTrue, IsSome, max, slice_get, slice_set}
 use Rattle.std.specs.Option.{option_to_list}
 use Rattle.std.specs.Ordering.{nat_cmp}
 use Rattle.std.specs.FinMap.{is_sorted}
 use Rattle.std.proofs.lemmas.Bool.{false≢true}
 use Rattle.std.proofs.lemmas.List.{reverse-append}
-use Rattle.std.proofs.lemmas.List.Elements.{All-map, All-push, All-same, All-weaker}
-use Rattle.pua_policy.specs.Calls.{CallTable}
+use Rattle.std.proofs.lemmas.List.Elements.{All-map, All-push, All-same, All-set, All-weaker, AllWithin-from_all}
+use Rattle.std.proofs.lemmas.Option.{get_or_from_slice_get, slice_get_within}
+use Rattle.pua_calls.specs.Calls.{CallTable}
 use Rattle.pua_script.specs.Requests.{Asked}
 use Rattle.pua_script.specs.Replay.{World, answers, apply, world_after}
 use Rattle.pua_script.specs.declared.answer.Answer.{Answer}
@@ -143,6 +144,23 @@ one_added table w left s after process asker question last watch watched is abou
       (begun table w left process asker question last watch
       (is ∙ ap (λ made. forebear_by made process) watched.forks ∙ forebears_tell table w left process) about at_first));
 }
+
+-- the answer to a question is wanted longer at the start
+pub wanted_by_set : (table : CallTable) (w : World) (left : List Asked) (watches : List Watch) (i : ℕ) (old new : Watch) (last : ℕ) →
+    slice_get watches i ≡ Some old → new ≡ record old { last = max old.last last } → All (IsWatched table w [] left) watches →
+    All (IsWatched table w [] left) (slice_set watches i new)
+wanted_by_set table w left watches i old new last here is each =
+    let within : i < length watches = slice_get_within watches i old here in
+    let was : IsWatched table w [] left old = subst (IsWatched table w [] left) (get_or_from_slice_get watches i old old here)
+    (AllWithin-from_all (IsWatched table w [] left) watches each i old (omega arith) within) in
+    let longer : IsWatched table w [] left (record old { last = max old.last last }) = record {
+      asker = was.asker;
+      told = λ wanted. was.told (omega arith);
+      line = λ wanted. was.line (omega arith);
+      plain = λ wanted. was.plain (omega arith);
+      marks = was.marks;
+    } in
+    All-set (IsWatched table w [] left) watches i new (subst (IsWatched table w [] left) (sym is) longer) each
 
 -- the same by what is known of an answer
 pub told_stay : (action : Action) (answer : Answer) → LeavesAsIs action answer → has_changed action answer ≡ false →

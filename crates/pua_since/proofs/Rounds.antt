@@ -7,19 +7,21 @@ use Rattle.std.proofs.lemmas.Option.{slice_get_read}
 use Rattle.pua_script.specs.Requests.{Asked}
 use Rattle.pua_script.specs.Replay.{World, answers, apply, world_after}
 use Rattle.pua_script.specs.Worlds.{WorldState, StandsForWorld}
+use Rattle.pua_since.specs.Concerns.{TouchesOnly}
 use Rattle.pua_since.specs.Watched.{AreHanded, AreWatched, forks_done, made_by, IsAskedOnce, IsHanded, IsKeptThrough, IsSameTopic, IsWatched}
+use Rattle.pua_since.specs.declared.touched.Touched.{Touched}
 use Rattle.pua_since.specs.declared.watch.Watch.{Watch}
 use Rattle.pua_since.specs.declared.watches.Watches.{Watches}
 use Rattle.pua_since.proofs.Topics.{kept_on, kept_by_set}
 use Rattle.pua_since.proofs.Sincing.{one_more}
-use Rattle.pua_since.proofs.Watching.{asked_again}
+use Rattle.pua_since.proofs.Watching.{asked_or_spared}
 
--- the first n were asked again, and the others not yet
-pub record AreAsked (s : WorldState) (line n : ℕ) (start : Watches) (watches : List Watch) : Type 0 where
+-- the first n were asked again where that may concern them, and the others not yet
+pub record AreAsked (s : WorldState) (touched : Touched) (line n : ℕ) (start : Watches) (watches : List Watch) : Type 0 where
   pub kept : IsKeptThrough start.watches.items watches
   pub each : (w : World) (done : List Asked) (ask : Asked) (left : List Asked) →
-      StandsForWorld s (apply s.table (world_after s.table w done) ask).1 → line ≡ length done + 1 →
-      AreHanded s.table w done ask left start →
+      StandsForWorld s (apply s.table (world_after s.table w done) ask).1 → TouchesOnly s.table (world_after s.table w done) ask touched →
+      line ≡ length done + 1 → AreHanded s.table w done ask left start →
       AllWithin (IsWatched s.table w (done ++ ask ∷ []) left) watches 0 n
       × AllWithin (IsHanded s.table w done ask left) watches n (length watches)
 
@@ -30,23 +32,24 @@ others P watches n new each k d low high =
     let past : k ≢ n = omega (arith, low) in
     subst P (sym (get_or-set_other watches n k new d past)) (each k d (omega (arith, low)) (omega (arith, high, length-set watches n new)))
 
-module _ (s : WorldState) (line n : ℕ) (start : Watches) (watches : List Watch) (so_far : AreAsked s line n start watches)
+module _ (s : WorldState) (touched : Touched) (line n : ℕ) (start : Watches) (watches : List Watch)
+    (so_far : AreAsked s touched line n start watches)
     (within : n < length watches)
     (old new : Watch) (here : old ≡ get_or watches n old) (same : IsSameTopic old new) where
   pub kept_more : IsKeptThrough start.watches.items (set watches n new)
   kept_more = kept_on start.watches.items watches (set watches n new) so_far.kept
       (kept_by_set watches n old new (slice_get_read watches (length watches) n old refl within here) same)
 
-  pub one_asked : ((w : World) → StandsForWorld s w → IsAskedOnce s.table w line old new) →
-      AreAsked s line (n + 1) start (set watches n new)
+  pub one_asked : ((w : World) → StandsForWorld s w → IsAskedOnce s.table w touched line old new) →
+      AreAsked s touched line (n + 1) start (set watches n new)
   one_asked asked = record {
     kept = kept_more;
-    each = λ w done ask left stands number handed.
-        let now = so_far.each w done ask left stands number handed in
+    each = λ w done ask left stands only number handed.
+        let now = so_far.each w done ask left stands only number handed in
         let was : IsHanded s.table w done ask left old =
         subst (IsHanded s.table w done ask left) (sym here) (now.1 n old (omega arith) within) in
         let is : IsWatched s.table w (done ++ ask ∷ []) left new =
-        asked_again s.table w done ask left old new line number was
+        asked_or_spared s.table w done ask left touched only old new line number was
         (asked (apply s.table (world_after s.table w done) ask).1 stands) in (
           AllWithin-more_set watches n new within (IsWatched s.table w (done ++ ask ∷ []) left) now.0 is,
           others (IsHanded s.table w done ask left) watches n new now.1,
@@ -54,14 +57,15 @@ module _ (s : WorldState) (line n : ℕ) (start : Watches) (watches : List Watch
   }
 
 -- all were asked again
-pub all_asked : (s : WorldState) (line n : ℕ) (start after : Watches) (watches : List Watch) → after.forks ≡ start.forks →
-    after.watches.items ≡ watches → AreAsked s line n start watches → length watches ≤ n →
+pub all_asked : (s : WorldState) (touched : Touched) (line n : ℕ) (start after : Watches) (watches : List Watch) →
+    after.forks ≡ start.forks →
+    after.watches.items ≡ watches → AreAsked s touched line n start watches → length watches ≤ n →
     (w : World) (done : List Asked) (ask : Asked) (left : List Asked) →
-    StandsForWorld s (apply s.table (world_after s.table w done) ask).1 → line ≡ length done + 1 →
-    AreHanded s.table w done ask left start →
+    StandsForWorld s (apply s.table (world_after s.table w done) ask).1 → TouchesOnly s.table (world_after s.table w done) ask touched →
+    line ≡ length done + 1 → AreHanded s.table w done ask left start →
     AreWatched s.table w (done ++ ask ∷ []) left after
-all_asked s line n start after watches forks is asked all w done ask left stands number handed =
-    let now = asked.each w done ask left stands number handed in
+all_asked s touched line n start after watches forks is asked all w done ask left stands only number handed =
+    let now = asked.each w done ask left stands only number handed in
     record {
       forks = ap (λ made. made_by made.items) forks ∙ handed.forks
           ∙ ap (λ v. forks_done left (answers s.table v left)) (sym (one_more s.table w done ask));

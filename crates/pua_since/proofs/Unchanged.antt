@@ -8,10 +8,10 @@ use Rattle.std.specs.Cmp.{nat_cmp_total}
 use Rattle.std.specs.FinMap.{put, find as find_key, is_sorted, nat_cmp-IsAntisymmetric}
 use Rattle.std.specs.FinMap.Entries.{find-put, find_tied, is_sorted-put, same_entries}
 use Rattle.pua_path.specs.declared.found.Found.{Found}
-use Rattle.pua_policy.specs.Calls.{CallTable}
+use Rattle.pua_calls.specs.Calls.{CallTable}
 use Rattle.pua_policy.specs.History.{History}
-use Rattle.pua_policy.specs.declared.call.Call.{Call}
-use Rattle.pua_policy.specs.declared.call.Call.TheVariants as call
+use Rattle.pua_calls.specs.declared.call.Call.{Call}
+use Rattle.pua_calls.specs.declared.call.Call.TheVariants as call
 use Rattle.pua_policy.specs.declared.answer.Refusal.{Refusal}
 use Rattle.pua_policy.specs.declared.answer.Refusal.TheVariants.{Failed, Killed}
 use Rattle.pua_script.specs.Requests.{Asked}
@@ -23,11 +23,11 @@ use Rattle.pua_script.specs.declared.request.Action.TheVariants.{OnPath, Symlink
 use Rattle.pua_script.proofs.ForCallers.{by_request, by_decision, decisions_are_guarded}
 use Rattle.pua_since.specs.Changes.{call_changes, action_changes, has_changed, LeavesAsIs}
 
-ordered : (b : Bool) → b ≡ true → T b
+pub ordered : (b : Bool) → b ≡ true → T b
 ordered b e = subst T (sym e) tt
 
 -- putting what is there
-put_there : (process : ℕ) (h : History) (made : List (ℕ × History)) → IsTrue (is_sorted nat_cmp made) →
+pub put_there : (process : ℕ) (h : History) (made : List (ℕ × History)) → IsTrue (is_sorted nat_cmp made) →
     find_key nat_cmp process made ≡ Some h → put nat_cmp process h made ≡ made
 put_there process h made sorted here =
     let in_order : T (is_sorted nat_cmp made) = ordered _ sorted in

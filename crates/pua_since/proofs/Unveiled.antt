@@ -10,13 +10,13 @@ use Rattle.pua_path.specs.declared.found.Last.TheVariants.{Followed}
 use Rattle.pua_path.specs.declared.found.Found.{Found}
 use Rattle.pua_path.specs.declared.traced.PathFault.{PathFault}
 use Rattle.pua_path.specs.Traces.{PathTrace, trace_of_text}
-use Rattle.pua_policy.specs.Promises.{proc, unveil}
-use Rattle.pua_policy.specs.Calls.{CallTable, PairRule, rule_of}
+use Rattle.pua_calls.specs.Promises.{proc, unveil}
+use Rattle.pua_calls.specs.Calls.{CallTable, PairRule, rule_of}
 use Rattle.pua_policy.specs.History.{History, is_locked, kept, working_dir}
 use Rattle.pua_policy.specs.Reasons.{Promising, Holds, HasEnded, Lacks, promising, covering}
 use Rattle.pua_policy.specs.ReasonLaws.{CoveringHolds}
-use Rattle.pua_policy.specs.declared.call.Call.{Call}
-use Rattle.pua_policy.specs.declared.call.Call.TheVariants as call
+use Rattle.pua_calls.specs.declared.call.Call.{Call}
+use Rattle.pua_calls.specs.declared.call.Call.TheVariants as call
 use Rattle.pua_policy.specs.declared.reason.Covering.{Covering}
 use Rattle.pua_policy.specs.declared.reason.Covering.TheVariants.{InView, NoneOver, By}
 use Rattle.pua_policy.proofs.ForCallers.{coverings_hold}

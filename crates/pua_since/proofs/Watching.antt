@@ -6,7 +6,7 @@ use Rattle.std.proofs.lemmas.Bool.{eqb-true}
 use Rattle.std.proofs.lemmas.List.{length-append}
 use lib.Pointwise.{bytes_decides}
 use Rattle.pua_tree.specs.Names.{same_bytes}
-use Rattle.pua_policy.specs.Calls.{CallTable}
+use Rattle.pua_calls.specs.Calls.{CallTable}
 use Rattle.pua_script.specs.Requests.{Asked}
 use Rattle.pua_script.specs.Replay.{World, answers, apply, world_after}
 use Rattle.pua_script.specs.Family.{is_okay}
@@ -16,7 +16,9 @@ use Rattle.pua_script.specs.declared.request.Action.{Action}
 use Rattle.pua_script.specs.declared.request.Action.TheVariants.{OnPath, Symlink, Rename, Link, Pledge, Unveil, Lock, Fork, Exit}
 use Rattle.pua_why.specs.Since.{Test, parent_by, came_from, forebear, since}
 use Rattle.pua_since.specs.Changes.{has_changed, has_forked}
-use Rattle.pua_since.specs.Watched.{IsToldOf, is_same_told, is_told, IsAbout, IsAskedOnce, IsBegunIn, IsWatched, IsHanded, forks_done, forebear_by, handed_by}
+use Rattle.pua_since.specs.Concerns.{TouchesOnly, is_concerned}
+use Rattle.pua_since.specs.Watched.{IsPlain, IsToldOf, is_same_told, is_told, IsAbout, IsAskedOnce, IsBegunIn, IsWatched, IsHanded, forks_done, forebear_by, handed_by}
+use Rattle.pua_since.specs.declared.touched.Touched.{Touched}
 use Rattle.pua_since.specs.declared.watch.Question.{Question}
 use Rattle.pua_since.specs.declared.watch.Question.TheVariants as asks
 use Rattle.pua_since.specs.declared.watch.Told.{Told}
@@ -24,6 +26,7 @@ use Rattle.pua_since.specs.declared.watch.Told.TheVariants as tells
 use Rattle.pua_since.specs.declared.watch.Watch.{Watch}
 use Rattle.pua_since.proofs.Sincing.{one_more, turns, turned_or, since_more}
 use Rattle.pua_since.proofs.Forks.{forebears_tell}
+use Rattle.pua_since.proofs.Sparing.{IsSparedIn, is_bounded_by, spared}
 
 both_ways : (a b : Bool) → (a ≡ true → b ≡ true) → (b ≡ true → a ≡ true) → a ≡ b
 both_ways true b there back = sym (there refl)
@@ -130,6 +133,9 @@ module _ (table : CallTable) (w : World) (done : List Asked) (ask : Asked) (left
         line = λ wanted. h.line (omega (arith, wanted_there watch.last wanted))
             ∙ sym (since_more test table w 1 done ask watch.asker
             ∙ (λ i. turned_or (flat test i) (1 + length done) (since test table w 1 done (itself watch.asker i))));
+        plain = λ wanted is. subst (λ v. IsPlain table v watch.asker watch.question) (sym (behind_is ∙ same))
+            (h.plain (omega (arith, wanted_there watch.last wanted)) is);
+        marks = h.marks;
       }
     where
       flat : (test : Test) → turns test table Before ask watch.asker ≡ false
@@ -142,6 +148,8 @@ module _ (table : CallTable) (w : World) (done : List Asked) (ask : Asked) (left
     asker = h.asker ∙ itself (forebear table Next left watch.process);
     told = λ wanted. subst (λ process. IsToldOf table Before process watch.question watch.told) (sym (itself watch.asker)) (h.told wanted);
     line = λ wanted. h.line wanted ∙ ap (since (is_told table watch.question watch.told) table w 1 done) (sym (itself watch.asker));
+    plain = λ wanted is. subst (λ process. IsPlain table Before process watch.question) (sym (itself watch.asker)) (h.plain wanted is);
+    marks = h.marks;
   }
 
   -- where it made one
@@ -156,17 +164,47 @@ module _ (table : CallTable) (w : World) (done : List Asked) (ask : Asked) (left
         asker = asker;
         told = λ wanted. subst (λ process. IsToldOf table Before process watch.question watch.told) (sym came) (h.told wanted);
         line = λ wanted. h.line wanted ∙ ap (since (is_told table watch.question watch.told) table w 1 done) (sym came);
+        plain = λ wanted is. subst (λ process. IsPlain table Before process watch.question) (sym came) (h.plain wanted is);
+        marks = h.marks;
       }
 
+  -- where it was spared
+  stays_spared : (watch : Watch) → ((process : ℕ) → came_from table Before ask process ≡ process) →
+      (length done ≤ watch.last → IsSparedIn table Before Next watch) → IsHanded table w done ask left watch →
+      IsWatched table w (done ++ ask ∷ []) left watch
+  stays_spared watch itself spares h = record {
+    asker = h.asker ∙ ap (λ v. forebear table v left watch.process) (sym behind_is);
+    told = λ wanted. subst (λ v. IsToldOf table v watch.asker watch.question watch.told) (sym behind_is)
+        ((spares (past wanted)).same.told
+        (subst (λ process. IsToldOf table Before process watch.question watch.told) (itself watch.asker) (h.told (past wanted))));
+    line = λ wanted. h.line (past wanted)
+        ∙ sym (since_more Tells table w 1 done ask watch.asker
+        ∙ ap (λ b. turned_or b (1 + length done) (since Tells table w 1 done (came_from table Before ask watch.asker))) (flat wanted));
+    plain = λ wanted is. subst (λ v. IsPlain table v watch.asker watch.question) (sym behind_is) ((spares (past wanted)).plain is);
+    marks = h.marks;
+  }
+    where
+      Tells : Test
+      Tells = is_told table watch.question watch.told
+
+      past : length (done ++ ask ∷ []) ≤ watch.last → length done ≤ watch.last
+      past wanted = omega (arith, wanted_there watch.last wanted)
+
+      flat : length (done ++ ask ∷ []) ≤ watch.last → turns Tells table Before ask watch.asker ≡ false
+      flat wanted =
+          (λ i. not (Tells Before (itself watch.asker i)) && (spares (past wanted)).same.test i) ∙ not_true (Tells Before watch.asker)
+
   -- where it was asked again
-  pub asked_again : (old new : Watch) (line : ℕ) → line ≡ length done + 1 → IsHanded table w done ask left old →
-      IsAskedOnce table Next line old new → IsWatched table w (done ++ ask ∷ []) left new
-  asked_again old new line number h a = subst (IsWatched table w (done ++ ask ∷ []) left) (sym same) record {
+  asked_again : (touched : Touched) (old new : Watch) (line : ℕ) → line ≡ length done + 1 → is_concerned touched old ≡ true →
+      IsHanded table w done ask left old → IsAskedOnce table Next touched line old new → IsWatched table w (done ++ ask ∷ []) left new
+  asked_again touched old new line number concerned h a = subst (IsWatched table w (done ++ ask ∷ []) left) (sym same) record {
     asker = h.asker ∙ ap (λ v. forebear table v left old.process) (sym behind_is);
-    told = λ wanted. subst (λ v. IsToldOf table v old.asker old.question new.told) (sym behind_is) (a.told (here wanted));
-    line = λ wanted. a.turned (here wanted)
-        ∙ by (h.told (past wanted)) (h.line (past wanted)) (a.told (here wanted)) (is_same_told new.told old.told) refl
+    told = λ wanted. subst (λ v. IsToldOf table v old.asker old.question new.told) (sym behind_is) (a.told (here wanted) concerned);
+    line = λ wanted. a.turned (here wanted) concerned
+        ∙ by (h.told (past wanted)) (h.line (past wanted)) (a.told (here wanted) concerned) (is_same_told new.told old.told) refl
         ∙ sym (since_more Tells table w 1 done ask old.asker);
+    plain = λ wanted is. subst (λ v. IsPlain table v old.asker old.question) (sym behind_is) (a.plain (here wanted) concerned is);
+    marks = h.marks;
   }
     where
       Tells : Test
@@ -175,7 +213,7 @@ module _ (table : CallTable) (w : World) (done : List Asked) (ask : Asked) (left
       Came : ℕ
       Came = came_from table Before ask old.asker
 
-      same : new ≡ record old { told = new.told; line = new.line }
+      same : new ≡ record old { told = new.told; line = new.line; plain = new.plain }
       same i = record {
         process = a.process_kept i;
         asker = a.asker_kept i;
@@ -183,6 +221,8 @@ module _ (table : CallTable) (w : World) (done : List Asked) (ask : Asked) (left
         last = a.last_kept i;
         told = new.told;
         line = new.line;
+        plain = new.plain;
+        marks = a.marks_kept i;
       }
 
       here : length (done ++ ask ∷ []) ≤ old.last → line ≤ old.last
@@ -207,6 +247,22 @@ module _ (table : CallTable) (w : World) (done : List Asked) (ask : Asked) (left
           let number_is : line ≡ 1 + length done = omega (arith, number) in
           ap Some number_is ∙ (λ i. turned_or (not (sym before i) && sym after i) (1 + length done) (since Tells table w 1 done Came))
 
+  -- where it was asked again if what was touched may concern it
+  pub asked_or_spared : (touched : Touched) → TouchesOnly table Before ask touched → (old new : Watch) (line : ℕ) → line ≡ length done + 1 →
+      IsHanded table w done ask left old → IsAskedOnce table Next touched line old new → IsWatched table w (done ++ ask ∷ []) left new
+  asked_or_spared touched only old new line number h a = by (is_concerned touched old) refl
+    where
+      by : (b : Bool) → is_concerned touched old ≡ b → IsWatched table w (done ++ ask ∷ []) left new
+      by true concerned = asked_again touched old new line number concerned h a
+      by false free =
+          let itself : (process : ℕ) → came_from table Before ask process ≡ process = only.makes_none (is_bounded_by touched old free) in
+          subst (IsWatched table w (done ++ ask ∷ []) left) (sym (a.spared free))
+          (stays_spared old itself
+          (λ wanted. spared table Before Next old
+          (λ is. subst (λ process. IsPlain table Before process old.question) (itself old.asker)
+          (h.plain wanted is)) h.marks touched only.changes free)
+          h)
+
 -- a question that is asked from the start
 pub begun : (table : CallTable) (w : World) (left : List Asked) (process asker : ℕ) (question : Question) (last : ℕ) (watch : Watch) →
     asker ≡ forebear table w left process → IsAbout process asker question last watch → IsBegunIn table w asker watch →
@@ -215,4 +271,6 @@ begun table w left process asker question last watch is about b = record {
   asker = about.asker_kept ∙ is ∙ ap (forebear table w left) (sym about.process_kept);
   told = λ wanted. subst (λ p. IsToldOf table w p watch.question watch.told) (sym about.asker_kept) b.told;
   line = λ wanted. b.line;
+  plain = λ wanted is. subst (λ p. IsPlain table w p watch.question) (sym about.asker_kept) (b.plain is);
+  marks = b.marks;
 }

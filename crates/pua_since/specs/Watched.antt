@@ -1,8 +1,8 @@
 -- Questions that are asked of each world of a replay, as the code keeps them.
-use Rattle.std.specs.Prelude.{◌≡◌, ◌≤◌, ℕ, Bool, false, ◌==◌, if◌then◌else◌, List, [], ◌∷◌, length, map, reverse, slice_get, Option, Some, None, All}
+use Rattle.std.specs.Prelude.{◌≡◌, ◌≤◌, ⊤, ℕ, Bool, true, false, IsTrue, ◌==◌, if◌then◌else◌, List, [], ◌∷◌, length, map, reverse, slice_get, Option, Some, None, All}
 use Rattle.std.specs.Option.{option_eq, option_map_or}
 use Rattle.pua_tree.specs.Names.{same_bytes}
-use Rattle.pua_policy.specs.Calls.{CallTable}
+use Rattle.pua_calls.specs.Calls.{CallTable}
 use Rattle.pua_policy.specs.History.{kept}
 use Rattle.pua_policy.specs.declared.place.Place.{Place}
 use Rattle.pua_script.specs.Requests.{Asked}
@@ -14,6 +14,9 @@ use Rattle.pua_script.specs.declared.request.Action.TheVariants.{Fork}
 use Rattle.pua_why.specs.Checked.{checked}
 use Rattle.pua_why.specs.Keys.{reason_key}
 use Rattle.pua_why.specs.Since.{Test, came_from, forebear, since}
+use Rattle.pua_since.specs.Frames.{FollowsNoLink, looks_further}
+use Rattle.pua_since.specs.Concerns.{is_concerned, is_marked, is_named, mark_of}
+use Rattle.pua_since.specs.declared.touched.Touched.{Touched}
 use Rattle.pua_since.specs.declared.watch.Question.{Question}
 use Rattle.pua_since.specs.declared.watch.Question.TheVariants as asks
 use Rattle.pua_since.specs.declared.watch.Told.{Told}
@@ -32,6 +35,15 @@ IsToldOf table w process (asks.Request action) (tells.Reason key) =
     key ≡ reason_key (checked table w (record { process = process; action = action.now }))
 IsToldOf table w process (asks.Veil place) (tells.Veil perms) = perms ≡ kept_in w process place.now
 IsToldOf table w process _ _ = ⊥
+
+-- the paths of a question follow no link, and its checks look at no more than they lead through
+abbrev pub IsPlain : CallTable → World → ℕ → Question → Type 0
+IsPlain table w process (asks.Request action) = FollowsNoLink table w process action.now × (looks_further action.now ≡ false)
+IsPlain table w process (asks.Veil place) = ⊤
+
+-- the names in the paths of a question have their marks
+abbrev pub AreMarked : ℕ → Question → Type 0
+AreMarked marks question = (name : List ℕ) → is_named name question ≡ true → is_marked marks (mark_of name) ≡ true
 
 -- both tell the same
 abbrev pub is_same_told : Told → Told → Bool
@@ -57,6 +69,8 @@ pub record IsAbout (process asker : ℕ) (question : Question) (last : ℕ) (wat
 pub record IsBegunIn (table : CallTable) (w : World) (asker : ℕ) (watch : Watch) : Type 0 where
   pub told : IsToldOf table w asker watch.question watch.told
   pub line : watch.line ≡ None
+  pub plain : IsTrue watch.plain → IsPlain table w asker watch.question
+  pub marks : AreMarked watch.marks watch.question
 
 -- the same question about the same process, whose answer is wanted at least as long
 pub record IsSameTopic (old new : Watch) : Type 0 where
@@ -64,20 +78,27 @@ pub record IsSameTopic (old new : Watch) : Type 0 where
   pub question : new.question ≡ old.question
   pub wanted : old.last ≤ new.last
 
--- a question that was asked again behind this line, if its answer is still wanted there
-pub record IsAskedOnce (table : CallTable) (w : World) (line : ℕ) (old new : Watch) : Type 0 where
+-- a question that was asked again behind this line, if its answer is still wanted there and what was touched concerns it
+pub record IsAskedOnce (table : CallTable) (w : World) (touched : Touched) (line : ℕ) (old new : Watch) : Type 0 where
   pub process_kept : new.process ≡ old.process
   pub asker_kept : new.asker ≡ old.asker
   pub question_kept : new.question ≡ old.question
   pub last_kept : new.last ≡ old.last
-  pub told : line ≤ old.last → IsToldOf table w old.asker old.question new.told
-  pub turned : line ≤ old.last → new.line ≡ (if is_same_told new.told old.told then old.line else Some line)
+  pub marks_kept : new.marks ≡ old.marks
+  pub spared : is_concerned touched old ≡ false → new ≡ old
+  pub told : line ≤ old.last → is_concerned touched old ≡ true → IsToldOf table w old.asker old.question new.told
+  pub turned : line ≤ old.last → is_concerned touched old ≡ true →
+      new.line ≡ (if is_same_told new.told old.told then old.line else Some line)
+  pub plain : line ≤ old.last → is_concerned touched old ≡ true → IsTrue new.plain → IsPlain table w old.asker old.question
 
--- a question, where some requests were served and others are not yet: who asks, and while its answer is wanted, what is told and since when
+-- a question, where some requests were served and others are not yet: who asks, and while its answer is wanted, what is told,
+-- since when, and whether that is plain
 pub record IsWatched (table : CallTable) (w : World) (done left : List Asked) (watch : Watch) : Type 0 where
   pub asker : watch.asker ≡ forebear table (world_after table w done) left watch.process
   pub told : length done ≤ watch.last → IsToldOf table (world_after table w done) watch.asker watch.question watch.told
   pub line : length done ≤ watch.last → watch.line ≡ since (is_told table watch.question watch.told) table w 1 done watch.asker
+  pub plain : length done ≤ watch.last → IsTrue watch.plain → IsPlain table (world_after table w done) watch.asker watch.question
+  pub marks : AreMarked watch.marks watch.question
 
 -- the same behind a further request, as long as it was not asked again: what is told is what was told before the request
 pub record IsHanded (table : CallTable) (w : World) (done : List Asked) (ask : Asked) (left : List Asked) (watch : Watch) : Type 0 where
@@ -87,6 +108,9 @@ pub record IsHanded (table : CallTable) (w : World) (done : List Asked) (ask : A
   pub line : length done ≤ watch.last →
       watch.line ≡ since (is_told table watch.question watch.told) table w 1 done
       (came_from table (world_after table w done) ask watch.asker)
+  pub plain : length done ≤ watch.last → IsTrue watch.plain →
+      IsPlain table (world_after table w done) (came_from table (world_after table w done) ask watch.asker) watch.question
+  pub marks : AreMarked watch.marks watch.question
 
 -- the forks that were done
 abbrev pub fork_by : Asked → Action → List (ℕ × ℕ) → List (ℕ × ℕ)

@@ -1,6 +1,7 @@
 //! What decides one request behind a script.
 
-ghost use Rattle.std.specs.Prelude.{◌≡◌, ◌++◌, ◌∷◌, [], List, IfOk, OnOk, flat_map, map, option_map, string_bytes};
+ghost use Rattle.std.specs.Prelude.{◌≡◌, ◌++◌, ◌∷◌, [], List, IfOk, OnOk, flat_map, map};
+ghost use Rattle.std.specs.Prelude.{option_map, string_bytes};
 ghost use Rattle.pua_script.specs.AnswerTexts.{ended};
 ghost use Rattle.pua_script.specs.Replay.{World as Replayed, answers, apply, world_after};
 ghost use Rattle.pua_script.specs.Requests.{Asked};
@@ -20,9 +21,10 @@ use pua_tree::{FileTree, OutOfMemory};
 use pua_why::{Fact, TreePaths, facts, push_fact};
 use std::alloc::{AllocError, Global};
 
-/// What decides a request behind a script: a line for each check that it passes, in the order of the
-/// checks, and as the last line its answer, with the reason and since which line, as
-/// [`reason_text`](crate::reason_text) would tell it of the script's next line.
+/// What decides a request behind a script: a line for the promises that let it through, for each link
+/// that its paths follow, for what they name and for the veil that covers that, in the order of the
+/// checks and as far as it passes them; and as the last line its answer, with the reason and since which
+/// line, as [`reason_text`](crate::reason_text) would tell it of the script's next line.
 ///
 /// The script's requests were answered so in a world as `before`, which serves them; `after` is the
 /// world that they left, and serves the request. The only error is that a growth was refused.

@@ -1,9 +1,10 @@
 //! Whether a request that was served may have changed the world.
 
 ghost use Rattle.std.specs.Prelude.{◌≡◌, IsFalse};
-ghost use Rattle.pua_since.specs.Changes.{LeavesAsIs, action_changes, call_changes, has_changed, has_forked};
+ghost use Rattle.pua_since.specs.Changes.{LeavesAsIs, action_changes, call_changes, has_changed};
+ghost use Rattle.pua_since.specs.Changes.{has_forked};
 
-use pua_policy::Call;
+use pua_calls::Call;
 use pua_script::{Action, Answer};
 
 /// Whether a request that was answered so may have changed anything. One that failed changed

@@ -2,13 +2,17 @@
 //! their reasons, and the chain of what decides one request.
 //!
 //! A script is served once more, and each question is asked again behind each line that may have
-//! changed the world.
+//! changed what it is told.
 #![tactic(auto)]
 
 mod chain;
 mod change;
+mod concerns;
+mod marks;
+mod plain;
 mod reason_line;
 mod reason_lines;
+mod touched;
 mod veils;
 mod watch;
 mod watches;

@@ -1,6 +1,7 @@
 //! The lines of a run with reasons.
 
-ghost use Rattle.std.specs.Prelude.{◌≡◌, ◌++◌, ◌∷◌, [], ℕ, List, Ok, IfOk, OnOk, decimal, flat_map, string_bytes};
+ghost use Rattle.std.specs.Prelude.{◌≡◌, ◌++◌, ◌∷◌, [], ℕ, List, Ok, IfOk, OnOk, decimal, flat_map};
+ghost use Rattle.std.specs.Prelude.{string_bytes};
 ghost use Rattle.pua_script.specs.AnswerTexts.{ended};
 ghost use Rattle.pua_script.specs.Replay.{World as Replayed, answers, apply, world_after};
 ghost use Rattle.pua_script.specs.Requests.{Asked};

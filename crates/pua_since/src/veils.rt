@@ -1,6 +1,7 @@
 //! Since which lines the veils of processes have their letters, beside the text of a run.
 
-ghost use Rattle.std.specs.Prelude.{◌≡◌, ◌++◌, [], List, Ok, IfOk, OnOk, flat_map, map, string_bytes};
+ghost use Rattle.std.specs.Prelude.{◌≡◌, ◌++◌, [], List, Ok, IfOk, OnOk, flat_map, map};
+ghost use Rattle.std.specs.Prelude.{string_bytes};
 ghost use Rattle.pua_script.specs.AnswerTexts.{ended};
 ghost use Rattle.pua_script.specs.Replay.{World as Replayed, answers};
 ghost use Rattle.pua_script.specs.Requests.{Asked};

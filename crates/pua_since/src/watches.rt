@@ -1,14 +1,18 @@
 //! The questions of a replay, and the processes that they are about.
 
 ghost use Rattle.std.specs.Prelude.{◌≡◌, ℕ, ◌<◌, ◌+◌, ◌++◌, ◌∷◌, [], List, IfOk, OnOk, length, map};
-ghost use Rattle.pua_policy.specs.Calls.{CallTable};
+ghost use Rattle.pua_calls.specs.Calls.{CallTable};
 ghost use Rattle.pua_script.specs.Replay.{World as Replayed, answers, apply, world_after};
 ghost use Rattle.pua_script.specs.Requests.{Asked};
 ghost use Rattle.pua_script.specs.Worlds.{StandsForWorld};
+ghost use Rattle.pua_since.specs.Concerns.{TouchesOnly};
 ghost use Rattle.pua_since.specs.declared.watch.Question.{Question as Asking};
-ghost use Rattle.pua_since.specs.Watched.{AreHanded, AreWatched, IsKeptThrough, IsTopicAt, forebear_by, fork_seen, fork_told, forks_done, forks_left, handed_by, line_at, made_by};
+ghost use Rattle.pua_since.specs.Watched.{AreHanded, AreWatched, IsKeptThrough, IsTopicAt};
+ghost use Rattle.pua_since.specs.Watched.{forebear_by, fork_seen, fork_told, forks_done};
+ghost use Rattle.pua_since.specs.Watched.{forks_left, handed_by, line_at, made_by};
 
 use crate::change::{has_changed, has_forked};
+use crate::touched::{Touched, touched_by};
 use crate::watch::{Question, Watch};
 use pua_script::{Action, Answer, Request, World};
 use pua_tree::{FileTree, OutOfMemory};
@@ -96,7 +100,7 @@ impl<'a> Watches<'a> {
     }
 
     /// Serves the next request of the replay, on this line, which was answered so, and asks each
-    /// question again, if the request may have changed anything.
+    /// question again that may be told something else behind it.
     pub(crate) fn serve<T: FileTree>(
         &mut self,
         alloc: Global,
@@ -117,6 +121,8 @@ impl<'a> Watches<'a> {
             × (world.new.table ≡ world.old.table)) }
         ensures kept { IsKeptThrough self.old.watches.items self.new.watches.items }
     {
+        world.tree().known();
+        let touched = touched_by(world, request, answer);
         let Ok(_) = world.apply(request) else {
             return Err(OutOfMemory);
         };
@@ -124,7 +130,7 @@ impl<'a> Watches<'a> {
             return Ok(());
         }
         self.hand_on(request.action(), answer);
-        self.ask_again(alloc, world, line)
+        self.ask_again(alloc, world, &touched, line)
     }
 
     /// Serves all requests of the replay, which were answered so.
@@ -177,23 +183,26 @@ impl<'a> Watches<'a> {
         }
     }
 
-    /// Asks each question again whose answer is wanted behind this line.
+    /// Asks each question again that what was touched may concern, and whose answer is wanted behind
+    /// this line.
     fn ask_again<T: FileTree>(
         &mut self,
         alloc: Global,
         world: &World<T>,
+        touched: &Touched,
         line: usize,
     ) -> Result<(), OutOfMemory>
         ensures asked { OnOk result ((w : Replayed) (done : List Asked) (ask : Asked)
             (left : List Asked) →
             StandsForWorld world.now
             (apply world.now.table (world_after world.now.table w done) ask).1 →
+            TouchesOnly world.now.table (world_after world.now.table w done) ask touched.now →
             line ≡ length done + 1 → AreHanded world.now.table w done ask left self.old →
             AreWatched world.now.table w (done ++ ask ∷ []) left self.new) }
         ensures kept { IsKeptThrough self.old.watches.items self.new.watches.items }
     {
         for watch in self.watches.iter_mut() {
-            watch.ask(alloc, world, line)?;
+            watch.ask(alloc, world, touched, line)?;
         }
         Ok(())
     }

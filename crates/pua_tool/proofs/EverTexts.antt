@@ -4,8 +4,8 @@ use Rattle.std.specs.Prelude.{◌≢◌, Option, Some, None, Result, Ok, Err, If
 use Rattle.std.specs.Borrow.{Bor}
 use Rattle.pua_tree.specs.Tree.{Tree}
 use Rattle.pua_tree.specs.Steps.{◌>>=◌}
-use Rattle.pua_policy.specs.Calls.{CallTable, call_name}
-use Rattle.pua_policy.specs.CallSets.{calls_in}
+use Rattle.pua_calls.specs.Calls.{CallTable, call_name}
+use Rattle.pua_calls.specs.CallSets.{calls_in}
 use Rattle.pua_policy.specs.History.{History, ProcessState, StandsFor}
 use Rattle.pua_script.specs.Replay.{history_of}
 use Rattle.pua_audit.specs.Reach.{Word, printed_path}

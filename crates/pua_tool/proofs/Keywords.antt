@@ -1,13 +1,13 @@
 -- The keywords of a set of promises, one after another.
-use Rattle.std.proofs.Common.{◌≡◌, ℕ, ◌+◌, ◌*◌, ◌<◌, ◌≤◌, List, [], ◌∷◌, ◌++◌, Bool, true, false, cond, map, drop, length, get_or, refl, sym, ap, ◌∙◌, append_assoc, append-nil, arith}
-use Rattle.std.specs.Prelude.{Option, Some, None, filter, codes, slice_get, ◌&&◌, nat_le, if◌then◌else◌}
+use Rattle.std.proofs.Common.{◌≡◌, ℕ, ◌+◌, ◌<◌, ◌≤◌, List, [], ◌∷◌, ◌++◌, Bool, true, false, cond, map, drop, length, get_or, refl, sym, ap, ◌∙◌, append_assoc, append-nil, arith}
+use Rattle.std.specs.Prelude.{Option, Some, None, filter, codes, slice_get, nat_le, if◌then◌else◌}
 use Rattle.std.specs.List.{list_all}
-use Rattle.std.proofs.lemmas.Bool.{and_parts, leb-true}
-use Rattle.std.proofs.lemmas.List.{drop_more, length-append}
+use Rattle.std.proofs.lemmas.Bool.{leb-true}
+use Rattle.std.proofs.lemmas.List.{drop_more}
 use Rattle.std.proofs.lemmas.List.Folds.{list_all_at}
 use Rattle.std.proofs.lemmas.Option.{slice_get-get_or, slice_get_within, get_or_from_slice_get}
 use Rattle.std.proofs.Math.ListN.{drop_of_length-le}
-use Rattle.pua_policy.specs.Promises.{holds, keyword_at, keyword_if, keyword_rows, keywords_of}
+use Rattle.pua_calls.specs.Promises.{holds, keyword_at, keyword_if, keyword_rows, keywords_of}
 use Rattle.pua_why.specs.Texts.{or_equals, promises_text, joined as joined_by}
 use Rattle.pua_tool.proofs.ObjectTexts.{joined}
 
@@ -22,7 +22,7 @@ abbrev held_rows : ℕ → List Row → List Row
 held_rows set rows = filter (λ row. holds set row.1) rows
 
 -- what the keywords of a set have still to come from a row on
-abbrev pub words_left : List (List ℕ × ℕ) → ℕ → List ℕ → ℕ → List ℕ
+abbrev words_left : List (List ℕ × ℕ) → ℕ → List ℕ → ℕ → List ℕ
 words_left rows set before i = joined before (names_of (held_rows set (drop i rows)))
 
 row_at : (rows : List Row) (i : ℕ) (row : Row) → slice_get rows i ≡ Some row → drop i rows ≡ row ∷ drop (i + 1) rows
@@ -36,7 +36,7 @@ module _ (set : ℕ) where
   held_or_not before row more false is = ap (λ b. joined before (names_of (cond b (row ∷ held_rows set more) (held_rows set more)))) is
 
   -- a keyword of the set comes next
-  pub word_taken : (rows : List (List ℕ × ℕ)) (before : List ℕ) (i : ℕ) (name : List ℕ) → keyword_if set (slice_get rows i) ≡ Some name
+  word_taken : (rows : List (List ℕ × ℕ)) (before : List ℕ) (i : ℕ) (name : List ℕ) → keyword_if set (slice_get rows i) ≡ Some name
       → words_left rows set before i ≡ (before ++ name) ++ words_left rows set (44 ∷ []) (i + 1)
   word_taken rows before i name is = by (slice_get rows i) refl is
     where
@@ -53,7 +53,7 @@ module _ (set : ℕ) where
       by None found is = cc
 
   -- another one adds nothing
-  pub word_passed : (rows : List (List ℕ × ℕ)) (before : List ℕ) (i : ℕ) → i < length rows → keyword_if set (slice_get rows i) ≡ None
+  word_passed : (rows : List (List ℕ × ℕ)) (before : List ℕ) (i : ℕ) → i < length rows → keyword_if set (slice_get rows i) ≡ None
       → words_left rows set before i ≡ words_left rows set before (i + 1)
   word_passed rows before i within is =
       let row : Row = get_or rows i ([], 0) in
@@ -66,40 +66,36 @@ module _ (set : ℕ) where
       by row found false own is =
           ap (λ rs. joined before (names_of (held_rows set rs))) (row_at rows i row found) ∙ held_or_not before row (drop (i + 1) rows) false own
 
-  pub words_done : (rows : List (List ℕ × ℕ)) (before : List ℕ) (i : ℕ) → length rows ≤ i → words_left rows set before i ≡ []
+  words_done : (rows : List (List ℕ × ℕ)) (before : List ℕ) (i : ℕ) → length rows ≤ i → words_left rows set before i ≡ []
   words_done rows before i past = ap (λ rs. joined before (names_of (held_rows set rs))) (drop_of_length-le rows past)
 
--- a keyword has a byte at least, and nine at most
-abbrev is_short : Row → Bool
-is_short row = nat_le 1 (length row.0) && nat_le (length row.0) 9
+-- a keyword has a byte at least
+abbrev has_bytes : Row → Bool
+has_bytes row = nat_le 1 (length row.0)
 
-all_short : list_all is_short keyword_rows ≡ true
-all_short = refl
+all_have_bytes : list_all has_bytes keyword_rows ≡ true
+all_have_bytes = refl
 
-short_at : (rows : List Row) (i : ℕ) (row : Row) → list_all is_short rows ≡ true → slice_get rows i ≡ Some row → is_short row ≡ true
-short_at rows i row all found = by (is_short (get_or rows i row)) refl
+bytes_at : (rows : List Row) (i : ℕ) (row : Row) → list_all has_bytes rows ≡ true → slice_get rows i ≡ Some row → has_bytes row ≡ true
+bytes_at rows i row all found = by (has_bytes (get_or rows i row)) refl
   where
     same : get_or rows i row ≡ row
     same = get_or_from_slice_get rows i row row found
 
-    by : (b : Bool) → is_short (get_or rows i row) ≡ b → is_short row ≡ true
-    by true is = ap is_short (sym same) ∙ is
-    by false is = let none = list_all_at is_short rows i row (slice_get_within rows i row found) is in cc
+    by : (b : Bool) → has_bytes (get_or rows i row) ≡ b → has_bytes row ≡ true
+    by true is = ap has_bytes (sym same) ∙ is
+    by false is = let none = list_all_at has_bytes rows i row (slice_get_within rows i row found) is in cc
 
-abbrev HasWord : List ℕ → Type 0
-HasWord name = (1 ≤ length name) × (length name ≤ 9)
-
-pub keyword_sizes : (set i : ℕ) (name : List ℕ) → keyword_at set i ≡ Some name → (1 ≤ length name) × (length name ≤ 9)
-keyword_sizes set i name is = by (slice_get keyword_rows i) refl is
+keyword_has_bytes : (set i : ℕ) (name : List ℕ) → keyword_at set i ≡ Some name → 1 ≤ length name
+keyword_has_bytes set i name is = by (slice_get keyword_rows i) refl is
   where
-    by_bit : (row : Row) → slice_get keyword_rows i ≡ Some row → (own : Bool) → (if own then Some row.0 else None) ≡ Some name → HasWord name
+    by_bit : (row : Row) → slice_get keyword_rows i ≡ Some row → (own : Bool) → (if own then Some row.0 else None) ≡ Some name → 1 ≤ length name
     by_bit row found true is =
         let same : row.0 ≡ name = cc in
-        let parts = and_parts (nat_le 1 (length row.0)) (nat_le (length row.0) 9) (short_at keyword_rows i row all_short found) in
-        (omega (arith, leb-true 1 (length row.0) parts.0, ap length same), omega (arith, leb-true (length row.0) 9 parts.1, ap length same))
+        omega (arith, leb-true 1 (length row.0) (bytes_at keyword_rows i row all_have_bytes found), ap length same)
     by_bit row found false is = cc
 
-    by : (o : Option Row) → slice_get keyword_rows i ≡ o → keyword_if set o ≡ Some name → HasWord name
+    by : (o : Option Row) → slice_get keyword_rows i ≡ o → keyword_if set o ≡ Some name → 1 ≤ length name
     by (Some row) found is = by_bit row found (holds set row.1) is
     by None found is = cc
 
@@ -112,51 +108,32 @@ joined_alike (name ∷ more) = after name more
     after name [] = sym (append-nil name)
     after name (other ∷ more) = append_assoc name (44 ∷ []) (joined_by (codes ",") (other ∷ more)) ∙ ap (λ t. name ++ 44 ∷ t) (after other more)
 
--- what is added is empty where nothing was, and then `=` is told
-no_words : (old block words : List ℕ) → block ≡ old ++ words → block ≡ old → or_equals words ≡ codes "="
-no_words old block [] is same = refl
-no_words old block (b ∷ words) is same =
-    let long = ap length (sym is ∙ same) ∙ refl in
-    absurd (omega (arith, length-append old (b ∷ words), long))
-
-some_words : (old block words : List ℕ) → block ≡ old ++ words → length old < length block → or_equals words ≡ words
-some_words old block [] is longer = absurd (omega (arith, length-append old [], ap length is, longer))
-some_words old block (b ∷ words) is longer = refl
-
-module _ (set : ℕ) (old block : List ℕ) (is : block ≡ old ++ words_left keyword_rows set [] 0) where
-  -- the keywords were added, and there is none
-  pub told_none : block ≡ old → block ++ codes "=" ≡ old ++ promises_text set
-  unfolding promises_text
-  told_none same =
-      (λ i. same i ++ codes "=")
-      ∙ ap (λ t. old ++ t) (sym (no_words old block (words_left keyword_rows set [] 0) is same) ∙ ap or_equals (sym (joined_alike (keywords_of set))))
-
-  -- or there is one
-  pub told_some : length old < length block → block ≡ old ++ promises_text set
-  unfolding promises_text
-  told_some longer =
-      is ∙ ap (λ t. old ++ t) (sym (some_words old block (words_left keyword_rows set [] 0) is longer) ∙ ap or_equals (sym (joined_alike (keywords_of set))))
-
 -- what stands before a word: a comma, unless it is the first
 abbrev pub comma : Bool → List ℕ
 comma first = if first then [] else 44 ∷ []
 
-comma_short : (first : Bool) → length (comma first) ≤ 1
-comma_short true = omega arith
-comma_short false = omega arith
+-- what is still to come of the text of promises: `=` if there is none at all
+abbrev pub text_left : ℕ → Bool → ℕ → List ℕ
+text_left set true i = or_equals (words_left keyword_rows set [] i)
+text_left set false i = words_left keyword_rows set (44 ∷ []) i
 
-module _ (first : Bool) (old block new name : List ℕ) (is : new ≡ block ++ (comma first ++ name)) where
-  many : length new ≡ length block + (length (comma first) + length name)
-  many = ap length is ∙ length-append block (comma first ++ name) ∙ ap (λ n. length block + n) (length-append (comma first) name)
+module _ (set : ℕ) where
+  pub text_all : promises_text set ≡ text_left set true 0
+  unfolding promises_text
+  text_all = ap or_equals (joined_alike (keywords_of set))
 
-  -- a further keyword takes ten bytes at most
-  pub still_short : (i : ℕ) → length name ≤ 9 → length block ≤ length old + 10 * i → length new ≤ length old + 10 * (i + 1)
-  still_short i short so_far = omega (arith, many, comma_short first, short, so_far)
-
-  -- and one at least
-  pub grown : 1 ≤ length name → (first ≡ true → block ≡ old) → (first ≡ false → length old < length block) → length old < length new
-  grown some none more = by first refl
+  pub text_taken : (first : Bool) (i : ℕ) (name : List ℕ) → keyword_at set i ≡ Some name → text_left set first i ≡ (comma first ++ name) ++ text_left set false (i + 1)
+  text_taken false i name is = word_taken set keyword_rows (44 ∷ []) i name is
+  text_taken true i name is = ap or_equals (word_taken set keyword_rows [] i name is) ∙ some_word name (keyword_has_bytes set i name is)
     where
-      by : (b : Bool) → first ≡ b → length old < length new
-      by true e = omega (arith, many, ap length (none e), some)
-      by false e = omega (arith, many, more e)
+      some_word : (name : List ℕ) → 1 ≤ length name → or_equals (name ++ text_left set false (i + 1)) ≡ name ++ text_left set false (i + 1)
+      some_word [] some = absurd (omega (arith, some))
+      some_word (b ∷ name) some = refl
+
+  pub text_passed : (first : Bool) (i : ℕ) → i < length keyword_rows → keyword_at set i ≡ None → text_left set first i ≡ text_left set first (i + 1)
+  text_passed true i within none = ap or_equals (word_passed set keyword_rows [] i within none)
+  text_passed false i within none = word_passed set keyword_rows (44 ∷ []) i within none
+
+  pub text_done : (first : Bool) (i : ℕ) → length keyword_rows ≤ i → text_left set first i ≡ (if first then codes "=" else [])
+  text_done true i past = ap or_equals (words_done set keyword_rows [] i past)
+  text_done false i past = words_done set keyword_rows (44 ∷ []) i past

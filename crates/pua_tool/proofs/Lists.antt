@@ -3,7 +3,7 @@ use Rattle.std.proofs.Common.{◌≡◌, ℕ, List, [], ◌∷◌, ◌++◌, ref
 use Rattle.std.specs.Prelude.{Option, Some, None, Ok, Err, flat_map}
 use Rattle.std.specs.Option.{option_map_or}
 use Rattle.pua_tree.specs.Tree.{Tree}
-use Rattle.pua_policy.specs.Calls.{CallTable}
+use Rattle.pua_calls.specs.Calls.{CallTable}
 use Rattle.pua_policy.specs.History.{History}
 use Rattle.pua_tool.specs.Lists.{ListState, IsListOf, BeginsBy, AreListsBy}
 use Rattle.pua_tool.specs.Blocks.{Passes}

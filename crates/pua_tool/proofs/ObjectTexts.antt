@@ -7,10 +7,10 @@ use Rattle.std.proofs.lemmas.List.{drop_more}
 use Rattle.std.proofs.Math.ListN.{drop_of_length-le}
 use Rattle.pua_tree.specs.Steps.{◌>>=◌}
 use Rattle.pua_tree.specs.Spelling.{byte_spelling, spelling}
-use Rattle.pua_policy.specs.Calls.{CallTable, call_name, calls}
-use Rattle.pua_policy.specs.CallSets.{has, calls_in}
-use Rattle.pua_policy.specs.declared.call.Call.{Call}
-use Rattle.pua_policy.specs.declared.call.Call.TheVariants.{Stat}
+use Rattle.pua_calls.specs.Calls.{CallTable, call_name, calls}
+use Rattle.pua_calls.specs.CallSets.{has, calls_in}
+use Rattle.pua_calls.specs.declared.call.Call.{Call}
+use Rattle.pua_calls.specs.declared.call.Call.TheVariants.{Stat}
 use Rattle.pua_policy.specs.History.{History, ProcessState, StandsFor}
 use Rattle.pua_tree.specs.Tree.{Tree}
 use Rattle.pua_script.specs.Replay.{World}

@@ -5,7 +5,7 @@ use Rattle.std.proofs.lemmas.List.{drop_more}
 use Rattle.std.proofs.Math.ListN.{drop_of_length-le}
 use Rattle.std.specs.Borrow.{Bor}
 use Rattle.pua_tree.specs.Tree.{Tree, is_dir}
-use Rattle.pua_policy.specs.Promises.{holds, unveil, letters_of}
+use Rattle.pua_calls.specs.Promises.{holds, unveil, letters_of}
 use Rattle.pua_policy.specs.History.{held, is_locked}
 use Rattle.pua_policy.specs.declared.place.Place.{Place}
 use Rattle.pua_audit.specs.Reach.{Word}

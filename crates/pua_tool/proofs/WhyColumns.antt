@@ -13,14 +13,14 @@ use Rattle.pua_path.specs.Fits.{FoundFits}
 use Rattle.pua_path.specs.declared.found.Way.TheVariants.{Top}
 use Rattle.pua_path.specs.declared.found.Found.{Found}
 use Rattle.pua_path.specs.declared.found.Found.TheVariants.{Whole}
-use Rattle.pua_policy.specs.Calls.{CallTable, calls, rule_of}
-use Rattle.pua_policy.specs.CallSets.{has}
+use Rattle.pua_calls.specs.Calls.{CallTable, calls, rule_of}
+use Rattle.pua_calls.specs.CallSets.{has}
 use Rattle.pua_policy.specs.History.{History, kept, same_place, veil_at, veils}
 use Rattle.pua_policy.specs.Laws.{places_over}
 use Rattle.pua_policy.specs.Reasons.{covering, first_kept, kept_or, promising}
 use Rattle.pua_policy.specs.Verdict.{is_unveil}
-use Rattle.pua_policy.specs.declared.call.Call.{Call}
-use Rattle.pua_policy.specs.declared.call.Call.TheVariants.{Stat}
+use Rattle.pua_calls.specs.declared.call.Call.{Call}
+use Rattle.pua_calls.specs.declared.call.Call.TheVariants.{Stat}
 use Rattle.pua_policy.specs.declared.place.Place.{Place}
 use Rattle.pua_policy.specs.declared.place.Place.TheVariants.{Dir}
 use Rattle.pua_policy.specs.declared.reason.Covering.{Covering}

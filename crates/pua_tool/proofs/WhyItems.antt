@@ -3,10 +3,10 @@ use Rattle.std.proofs.Common.{◌≡◌, ◌≢◌, ℕ, List, [], ◌∷◌, �
 use Rattle.std.specs.Prelude.{filter, flat_map, nat_lt, IsTrue, ◌↔◌}
 use Rattle.std.proofs.lemmas.Bool.{lt-ltb}
 use Rattle.pua_tree.specs.Tree.{Tree}
-use Rattle.pua_policy.specs.Calls.{CallTable, call_name, calls}
-use Rattle.pua_policy.specs.CallSets.{calls_in}
+use Rattle.pua_calls.specs.Calls.{CallTable, call_name, calls}
+use Rattle.pua_calls.specs.CallSets.{calls_in}
 use Rattle.pua_policy.specs.History.{History, ProcessState, StandsFor}
-use Rattle.pua_policy.specs.declared.call.Call.{Call}
+use Rattle.pua_calls.specs.declared.call.Call.{Call}
 use Rattle.pua_audit.specs.Reach.{Word, printed_path}
 use Rattle.pua_audit.specs.declared.base.Base.TheVariants.{Root}
 use Rattle.pua_objects.specs.Objects.{Subject, Item, Line, line_of, has_calls, calls_on, with_commas}

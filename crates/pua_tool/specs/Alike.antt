@@ -1,7 +1,7 @@
 -- What is served and audited over a tree, as the contracts of worlds and audits have it: only the tree's content matters.
 use Rattle.std.specs.Prelude.{◌≡◌, List, Some, Ok}
 use Rattle.pua_tree.specs.Tree.{Tree}
-use Rattle.pua_policy.specs.Calls.{CallTable}
+use Rattle.pua_calls.specs.Calls.{CallTable}
 use Rattle.pua_policy.specs.History.{History, ProcessState, StandsFor}
 use Rattle.pua_script.specs.Requests.{Asked}
 use Rattle.pua_script.specs.Replay.{new_world}

@@ -1,7 +1,7 @@
 -- A list for ever that the code has begun, as the definitions see it.
 use Rattle.std.specs.Prelude.{◌≡◌, ℕ, List, None, Err, codes}
 use Rattle.pua_tree.specs.Tree.{Tree}
-use Rattle.pua_policy.specs.Calls.{CallTable}
+use Rattle.pua_calls.specs.Calls.{CallTable}
 use Rattle.pua_policy.specs.History.{History, ProcessState, StandsFor}
 use Rattle.pua_ever.specs.Ever.{ever}
 use Rattle.pua_ever.specs.EverLines.{lines_of}

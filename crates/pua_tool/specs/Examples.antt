@@ -3,7 +3,7 @@ use Rattle.std.specs.Prelude.{◌≡◌, ℕ, List, [], ◌∷◌, None, Some, O
 use Rattle.std.specs.Fmt.{digits}
 use Rattle.pua_tree.specs.Examples.{text_of_lines}
 use Rattle.pua_tree.specs.declared.fault.ListingFault.TheVariants.{BadLine}
-use Rattle.pua_policy.specs.declared.rules.Rules.TheVariants.{Openbsd}
+use Rattle.pua_calls.specs.declared.rules.Rules.TheVariants.{Openbsd}
 use Rattle.pua_script.specs.declared.fault.ScriptFault.TheVariants.{BadCall}
 use Rattle.pua_audit.specs.declared.base.Base.TheVariants.{Root, Cwd}
 use Rattle.pua_audit.specs.declared.fault.AuditFault.TheVariants.{BadResume}

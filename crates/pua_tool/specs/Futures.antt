@@ -2,8 +2,8 @@
 use Rattle.std.specs.Prelude.{◌≡◌, ℕ, Bool, List, [], ◌∷◌, ◌++◌, Some, Ok, IsTrue, IsFalse}
 use Rattle.pua_tree.specs.Tree.{Tree}
 use Rattle.pua_tree.specs.Listing.{listing}
-use Rattle.pua_policy.specs.Promises.{holds, cpath}
-use Rattle.pua_policy.specs.Calls.{CallTable}
+use Rattle.pua_calls.specs.Promises.{holds, cpath}
+use Rattle.pua_calls.specs.Calls.{CallTable}
 use Rattle.pua_policy.specs.History.{History, held}
 use Rattle.pua_script.specs.Requests.{Asked}
 use Rattle.pua_script.specs.Scripts.{script}

@@ -2,7 +2,7 @@
 use Rattle.std.specs.Prelude.{◌≡◌, ℕ, List, map, Option, Ok}
 use Rattle.pua_tree.specs.Tree.{Tree}
 use Rattle.pua_tree.specs.Listing.{listing}
-use Rattle.pua_policy.specs.Calls.{CallTable}
+use Rattle.pua_calls.specs.Calls.{CallTable}
 use Rattle.pua_policy.specs.declared.place.Place.{Place}
 use Rattle.pua_script.specs.Replay.{new_world, answers}
 use Rattle.pua_script.specs.Worlds.{WorldState, StandsForWorld}

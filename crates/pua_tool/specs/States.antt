@@ -2,7 +2,7 @@
 use Rattle.std.specs.Prelude.{◌↔◌, ◌⊎◌, ◌≡◌, ℕ, zero, suc, Bool, if◌then◌else◌, List, [], ◌∷◌, ◌++◌, flat_map, length, reverse, Option, Some, None, codes, decimal}
 use Rattle.std.specs.Option.{option_map_or}
 use Rattle.pua_tree.specs.Tree.{Tree, is_dir, spot_of}
-use Rattle.pua_policy.specs.Promises.{holds, unveil, keywords_of, letters_of}
+use Rattle.pua_calls.specs.Promises.{holds, unveil, keywords_of, letters_of}
 use Rattle.pua_policy.specs.History.{History, held, held_for_exec, is_ended, is_locked, pledged, veils}
 use Rattle.pua_policy.specs.declared.place.Place.{Place}
 use Rattle.pua_policy.specs.declared.place.Place.TheVariants.{Dir, Slot}

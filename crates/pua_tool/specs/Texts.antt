@@ -5,11 +5,11 @@ use Rattle.pua_tree.specs.Listing.{listing}
 use Rattle.pua_tree.specs.Steps.{◌>>=◌}
 use Rattle.pua_tree.specs.declared.fault.ListingFault.{ListingFault}
 use Rattle.std.specs.Borrow.{Bor}
-use Rattle.pua_policy.specs.Calls.{CallTable, call_name, table_by_rules}
-use Rattle.pua_policy.specs.TableTexts.{table_over}
-use Rattle.pua_policy.specs.declared.rules.Rules.{Rules}
-use Rattle.pua_policy.specs.declared.rules.Rules.TheVariants.{Profile}
-use Rattle.pua_policy.specs.declared.table.read.TableFault.{TableFault}
+use Rattle.pua_calls.specs.Calls.{CallTable, call_name, table_by_rules}
+use Rattle.pua_calls.specs.TableTexts.{table_over}
+use Rattle.pua_calls.specs.declared.rules.Rules.{Rules}
+use Rattle.pua_calls.specs.declared.rules.Rules.TheVariants.{Profile}
+use Rattle.pua_calls.specs.declared.table.read.TableFault.{TableFault}
 use Rattle.pua_script.specs.Requests.{Asked}
 use Rattle.pua_script.specs.Scripts.{script}
 use Rattle.pua_script.specs.Replay.{World, new_world, history_of, answers, world_after}

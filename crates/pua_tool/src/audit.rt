@@ -2,7 +2,7 @@
 
 ghost use Rattle.std.specs.Prelude.{◌≡◌, ◌≢◌, ◌++◌, ℕ, List, [], Ok, Err, IfOk, IfErr, OnOk};
 ghost use Rattle.pua_tool.specs.Texts.{Begun, by_job, wanted, begun, audit_text, pair_lines};
-ghost use Rattle.pua_policy.specs.declared.rules.Rules.TheVariants as rule;
+ghost use Rattle.pua_calls.specs.declared.rules.Rules.TheVariants as rule;
 ghost use Rattle.pua_tool.specs.Begun.{IsBegun, text_left};
 ghost use Rattle.pua_io.specs.Sinks.{Adds, AddsFront, HasFailed, WritesTo};
 
@@ -14,9 +14,9 @@ use crate::line::add_pairs;
 use crate::script::{ProgramTree, Replay, replay_script};
 use crate::table::TableChoice;
 use pua_audit::{Audit, AuditFault};
+use pua_calls::Rules;
 use pua_io::{PutFault, Sink};
 use pua_path::{Counted, Probe};
-use pua_policy::Rules;
 use pua_script::{Answer, World};
 use std::alloc::Global;
 

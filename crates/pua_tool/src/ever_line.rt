@@ -1,8 +1,8 @@
 //! The lines of a list for ever, added to a block.
 
 ghost use Rattle.std.specs.Prelude.{◌++◌, ◌∷◌, codes, map};
-ghost use Rattle.pua_policy.specs.Calls.{call_name};
-ghost use Rattle.pua_policy.specs.CallSets.{calls_in};
+ghost use Rattle.pua_calls.specs.Calls.{call_name};
+ghost use Rattle.pua_calls.specs.CallSets.{calls_in};
 ghost use Rattle.pua_policy.specs.History.{History, StandsFor};
 ghost use Rattle.pua_ever.specs.EverLines.{lines_of};
 ghost use Rattle.pua_objects.specs.Lines.{kind_word};
@@ -15,10 +15,10 @@ ghost use Rattle.pua_tool.specs.Texts.{ended};
 use crate::block::Block;
 use crate::kept_path::KeptPath;
 use crate::object_line::{add_calls, add_line, kind_bytes};
+use pua_calls::Calls;
 use pua_ever::{Ever, EverLine, EverThing};
 use pua_io::{PutFault, Sink};
 use pua_objects::{ObjectKind, ObjectLine};
-use pua_policy::Calls;
 use pua_tree::{FileTree, Name};
 
 /// Adds a line for each thing that a list for ever has still to give. A block is put where the next

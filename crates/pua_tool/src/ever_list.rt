@@ -1,7 +1,7 @@
 //! The list for ever of a process: its heading, its state, and what it can ever touch.
 
 ghost use Rattle.std.specs.Prelude.{◌≡◌, ◌≢◌, ℕ, List, Err, IfErr, IfOk};
-ghost use Rattle.pua_policy.specs.Calls.{CallTable as Rules};
+ghost use Rattle.pua_calls.specs.Calls.{CallTable as Rules};
 ghost use Rattle.pua_policy.specs.History.{History, StandsFor};
 ghost use Rattle.pua_ever.specs.Refusals.{refusal_in};
 ghost use Rattle.pua_tool.specs.Blocks.{PassesOn};
@@ -14,9 +14,10 @@ use crate::fault::ToolFault;
 use crate::kept_path::KeptPath;
 use crate::places::Places;
 use crate::process_head::ProcessHead;
+use pua_calls::CallTable;
 use pua_ever::{Ever, EverFault, Refusal};
 use pua_io::{PutFault, Sink};
-use pua_policy::{CallTable, Process};
+use pua_policy::Process;
 use pua_tree::FileTree;
 use std::alloc::Global;
 use std::marker::Model;

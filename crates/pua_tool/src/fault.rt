@@ -5,7 +5,7 @@ ghost use Rattle.pua_tool.specs.Statuses.{status_of};
 
 use crate::status::{DEVICE, MEMORY, REFUSED};
 use pua_audit::AuditFault;
-use pua_policy::{Call, TableFault};
+use pua_calls::{Call, TableFault};
 use pua_script::ScriptFault;
 use pua_tree::ListingFault;
 use thiserror::Error;

@@ -1,6 +1,7 @@
 //! The path of a line as it is printed, kept from line to line.
 
-ghost use Rattle.std.specs.Prelude.{◌≡◌, ◌<◌, ◌≤◌, ◌+◌, ◌++◌, ◌∷◌, [], true, IfOk, length, map, take};
+ghost use Rattle.std.specs.Prelude.{◌≡◌, ◌<◌, ◌≤◌, ◌+◌, ◌++◌, ◌∷◌, [], true, IfOk, length, map};
+ghost use Rattle.std.specs.Prelude.{take};
 ghost use Rattle.pua_tree.specs.Spelling.{spelling};
 ghost use Rattle.pua_audit.specs.Reach.{Word};
 ghost use Rattle.pua_tool.specs.KeptPaths.{IsKept};

@@ -1,5 +1,5 @@
-//! Texts of runs, of audits and of lists of objects, of now and for ever, where they are written, and the whole program as a
-//! function over its inputs.
+//! Texts of runs, of audits and of lists of objects, of now and for ever, where they are written,
+//! and the whole program as a function over its inputs.
 #![tactic(auto)]
 
 mod answers;

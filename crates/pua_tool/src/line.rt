@@ -3,15 +3,15 @@
 ghost use Rattle.std.specs.Prelude.{◌≡◌, ◌≤◌, ◌+◌, ◌*◌, ◌++◌, ◌∷◌, length, IsTrue, take};
 ghost use Rattle.pua_tree.specs.Spelling.{spelling};
 ghost use Rattle.pua_path.specs.Limits.{path_limit};
-ghost use Rattle.pua_policy.specs.Calls.{call_name};
+ghost use Rattle.pua_calls.specs.Calls.{call_name};
 ghost use Rattle.pua_tool.specs.Texts.{ended, pair_lines};
 ghost use Rattle.pua_tool.specs.Blocks.{PassesOn};
 
 use crate::block::{BLOCK, Block, MOST_END, MOST_LINE};
 use pua_audit::Audit;
+use pua_calls::Call;
 use pua_io::{PutFault, Sink};
 use pua_path::Probe;
-use pua_policy::Call;
 use pua_tree::{are_plain, byte_spelling};
 
 /// How many bytes the name of a call has at most.

@@ -1,8 +1,8 @@
 //! The lines of the objects of a list, added to a block.
 
 ghost use Rattle.std.specs.Prelude.{◌≡◌, ◌<◌, ◌≤◌, ◌+◌, ◌++◌, ◌∷◌, [], if◌then◌else◌, length, map};
-ghost use Rattle.pua_policy.specs.Calls.{call_name};
-ghost use Rattle.pua_policy.specs.CallSets.{calls_in};
+ghost use Rattle.pua_calls.specs.Calls.{call_name};
+ghost use Rattle.pua_calls.specs.CallSets.{calls_in};
 ghost use Rattle.pua_policy.specs.History.{History, StandsFor};
 ghost use Rattle.pua_audit.specs.Reach.{from_root, printed_path};
 ghost use Rattle.pua_audit.specs.declared.base.Base.TheVariants as base;
@@ -18,9 +18,9 @@ ghost use Rattle.pua_tool.specs.Texts.{ended};
 use crate::block::{BLOCK, Block, MOST_LINE};
 use crate::kept_path::KeptPath;
 use crate::line::{MOST_NAME, add_call, add_printed};
+use pua_calls::{Call, Calls};
 use pua_io::{PutFault, Sink};
 use pua_objects::{ObjectKind, ObjectLine, Objects};
-use pua_policy::{Call, Calls};
 use pua_tree::{FileTree, Name};
 
 /// Adds a line for each object that a list has still to give. A block is put where the next part of a

@@ -1,6 +1,7 @@
 //! The text of the lists of processes with reasons.
 
-ghost use Rattle.std.specs.Prelude.{◌≡◌, ◌≢◌, ◌++◌, ◌∷◌, [], ℕ, List, Ok, Err, IfErr, IfOk, OnOk, flat_map, map};
+ghost use Rattle.std.specs.Prelude.{◌≡◌, ◌≢◌, ◌++◌, ◌∷◌, [], ℕ, List, Ok, Err, IfErr, IfOk, OnOk};
+ghost use Rattle.std.specs.Prelude.{flat_map, map};
 ghost use Rattle.pua_script.specs.Scripts.{script};
 ghost use Rattle.pua_script.specs.Worlds.{StandsForWorld};
 ghost use Rattle.pua_tool.specs.Blocks.{PassesOn};
@@ -9,7 +10,8 @@ ghost use Rattle.pua_tool.specs.Texts.{chosen};
 ghost use Rattle.pua_since.specs.Dates.{veil_date, veils_at};
 ghost use Rattle.pua_tool.specs.PosedScripts.{IsPosed};
 ghost use Rattle.pua_tool.specs.WhyLists.{AreWhyListsOf};
-ghost use Rattle.pua_tool.specs.WhyTexts.{Posed as Asking, objects_why_text, reason_lines, why_lists_of, world_left};
+ghost use Rattle.pua_tool.specs.WhyTexts.{Posed as Asking, objects_why_text, reason_lines};
+ghost use Rattle.pua_tool.specs.WhyTexts.{why_lists_of, world_left};
 ghost use Rattle.pua_io.specs.Sinks.{Adds, AddsFront, HasFailed, WritesTo};
 
 use crate::block::Block;
@@ -31,7 +33,7 @@ use std::collections::VecDeque;
 /// answers as [`run_why_to`](crate::run_why_to) has them, and behind each object's line
 /// `PROMISES PLACE LETTERS LINE`: the promises on which its calls rest, of each call the first set that
 /// is held, `=` for none; and of the veil that covers it where it is, its letters, `=` for none, and
-/// since which line it has them there; three times `-` where no veil was put.
+/// since which line it has them there; three times `-` where the process has no veils.
 ///
 /// The first that holds of `Table`, `Listing`, `Script` and `NoProcess` is answered before anything is
 /// written. So is `OutOfMemory`, wherever a growth was refused. `Write` is answered only where a put

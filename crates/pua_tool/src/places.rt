@@ -27,9 +27,13 @@ impl<'t, T: FileTree> Model for Places<'t, T> {
 
     ghost Value = { PlacesState };
 
-    ghost view = { λ a. record { tree = T.content a.tree.now; names = map (λ name. name.now) a.names.items } };
+    ghost view = { λ a. record {
+      tree = T.content a.tree.now;
+      names = map (λ name. name.now) a.names.items;
+    } };
 
-    ghost invariant = { λ a. (map lent_entry a.rows.items ≡ (T.content a.tree.now).rows) × (length a.rows.items + 1 ≤ vec_capacity a.names) };
+    ghost invariant = { λ a. (map lent_entry a.rows.items ≡ (T.content a.tree.now).rows)
+        × (length a.rows.items + 1 ≤ vec_capacity a.names) };
 }
 
 impl<'t, T: FileTree> Places<'t, T> {

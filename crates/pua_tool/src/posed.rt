@@ -10,7 +10,7 @@ ghost use Rattle.pua_tool.specs.WhyTexts.{Posed as Asking, posed};
 use crate::fault::ToolFault;
 use crate::script::{ProgramTree, read_requests, read_table, read_tree};
 use crate::table::TableChoice;
-use pua_policy::CallTable;
+use pua_calls::CallTable;
 use pua_script::{Answer, Script, World};
 use std::alloc::Global;
 

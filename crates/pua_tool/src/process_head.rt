@@ -10,8 +10,9 @@ use crate::block::Block;
 use crate::places::Places;
 use crate::state::head_text;
 use crate::veil_line::add_veils;
+use pua_calls::Perms;
 use pua_io::{PutFault, Sink};
-use pua_policy::{Perms, Place, Process};
+use pua_policy::{Place, Process};
 use pua_tree::{FileTree, OutOfMemory};
 use std::alloc::Global;
 use std::marker::Model;
@@ -29,7 +30,10 @@ impl<'t> Model for ProcessHead<'t> {
 
     ghost Value = { HeadState };
 
-    ghost view = { λ a. record { text = string_bytes a.text; veils = map (λ veil. (veil.0.now, veil.1.now)) a.veils.items } };
+    ghost view = { λ a. record {
+      text = string_bytes a.text;
+      veils = map (λ veil. (veil.0.now, veil.1.now)) a.veils.items;
+    } };
 }
 
 impl<'t> ProcessHead<'t> {

@@ -1,7 +1,7 @@
 //! The list of a process: its heading, its state, and its objects.
 
 ghost use Rattle.std.specs.Prelude.{◌≡◌, ℕ, IfOk};
-ghost use Rattle.pua_policy.specs.Calls.{CallTable as Rules};
+ghost use Rattle.pua_calls.specs.Calls.{CallTable as Rules};
 ghost use Rattle.pua_policy.specs.History.{History, StandsFor};
 ghost use Rattle.pua_tool.specs.Blocks.{PassesOn};
 ghost use Rattle.pua_tool.specs.Lists.{IsListOf};
@@ -12,9 +12,10 @@ use crate::kept_path::KeptPath;
 use crate::object_line::add_objects;
 use crate::places::Places;
 use crate::process_head::ProcessHead;
+use pua_calls::CallTable;
 use pua_io::{PutFault, Sink};
 use pua_objects::Objects;
-use pua_policy::{CallTable, Process};
+use pua_policy::Process;
 use pua_tree::{FileTree, OutOfMemory};
 use std::alloc::Global;
 use std::marker::Model;

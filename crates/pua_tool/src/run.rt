@@ -8,8 +8,8 @@ use crate::answers::answer_text;
 use crate::fault::ToolFault;
 use crate::script::replay_script;
 use crate::table::TableChoice;
+use pua_calls::Rules;
 use pua_io::{Sink, put_all};
-use pua_policy::Rules;
 use std::alloc::Global;
 
 /// Writes the text of a run by the rules of the profile, where a text with rows may stand in the place

@@ -8,7 +8,7 @@ ghost use Rattle.pua_tool.specs.Begun.{IsReplay};
 
 use crate::fault::ToolFault;
 use crate::table::TableChoice;
-use pua_policy::{CallTable, TableFault};
+use pua_calls::{CallTable, TableFault};
 use pua_script::{Answer, Script, ScriptFault, World, read_script};
 use pua_tree::{ListingFault, SlabTree, read_listing_slab};
 use std::alloc::Global;

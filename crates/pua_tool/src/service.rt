@@ -24,8 +24,8 @@ use crate::run_why::run_why_to;
 use crate::status::{DEVICE, DONE, MEMORY, REFUSED, USAGE};
 use crate::table::TableChoice;
 use crate::why::why_to;
+use pua_calls::Rules;
 use pua_io::{InputFault, Inputs, Sink};
-use pua_policy::Rules;
 use pua_words::{Command, Text};
 use std::alloc::Global;
 

@@ -8,7 +8,8 @@ ghost use Rattle.pua_tool.specs.States.{heading_line, living_lines, or_equals, o
 ghost use Rattle.pua_tool.specs.States.{promises_text, unveil_word};
 ghost use Rattle.pua_tool.specs.Texts.{ended};
 
-use pua_policy::{Process, Promises};
+use pua_calls::Promises;
+use pua_policy::Process;
 use std::alloc::{AllocError, Global};
 use std::fmt::Write;
 

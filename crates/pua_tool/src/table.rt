@@ -1,6 +1,6 @@
 //! Which table of calls is gone by.
 
-use pua_policy::Rules;
+use pua_calls::Rules;
 
 /// Which table of calls is gone by: whose rules, and a text with rows that stand in the place of
 /// theirs.

@@ -1,15 +1,16 @@
 //! The lines of veils, written in blocks.
 
 ghost use Rattle.std.specs.Prelude.{◌≡◌, ◌≤◌, ◌++◌, ◌∷◌, [], codes, length, map};
-ghost use Rattle.pua_policy.specs.Promises.{letters_of};
+ghost use Rattle.pua_calls.specs.Promises.{letters_of};
 ghost use Rattle.pua_tool.specs.Blocks.{PassesOn};
 ghost use Rattle.pua_tool.specs.States.{or_equals, path_or_hyphen, veil_lines};
 
 use crate::block::Block;
 use crate::object_line::add_path;
 use crate::places::Places;
+use pua_calls::Perms;
 use pua_io::{PutFault, Sink};
-use pua_policy::{Perms, Place};
+use pua_policy::Place;
 use pua_tree::{FileTree, Name};
 
 /// Adds a line for each veil.

@@ -1,10 +1,12 @@
 //! The text of what decides one request.
 
-ghost use Rattle.std.specs.Prelude.{◌≡◌, ◌≢◌, ◌++◌, ◌∷◌, ℕ, List, Ok, Err, IfErr, IfOk, OnOk, map, string_bytes};
+ghost use Rattle.std.specs.Prelude.{◌≡◌, ◌≢◌, ◌++◌, ◌∷◌, ℕ, List, Ok, Err, IfErr, IfOk, OnOk, map};
+ghost use Rattle.std.specs.Prelude.{string_bytes};
 ghost use Rattle.pua_script.specs.Scripts.{request_of};
 ghost use Rattle.pua_tool.specs.PosedScripts.{IsPosed};
 ghost use Rattle.pua_tool.specs.Texts.{chosen};
-ghost use Rattle.pua_tool.specs.WhyTexts.{Posed as Asking, as_request, chain_lines, request_line, why_text};
+ghost use Rattle.pua_tool.specs.WhyTexts.{Posed as Asking, as_request, chain_lines, request_line};
+ghost use Rattle.pua_tool.specs.WhyTexts.{why_text};
 ghost use Rattle.pua_io.specs.Sinks.{Adds, AddsFront, HasFailed};
 
 use crate::fault::ToolFault;
@@ -19,9 +21,10 @@ use std::alloc::{AllocError, Global};
 use std::fmt::Write;
 
 /// Writes what decides a request of this process, given by the fields of a script's line behind the
-/// number: a line for each check that it passes where the script has been served, in the order of the
-/// checks, and as the last line its answer, with the reason and since which line, as
-/// [`run_why_to`](crate::run_why_to) would write it of the script's next line.
+/// number, where the script has been served: a line for the promises that let it through, for each link
+/// that its paths follow, for what they name and for the veil that covers that, in the order of the
+/// checks and as far as it passes them; and as the last line its answer, with the reason and since which
+/// line, as [`run_why_to`](crate::run_why_to) would write it of the script's next line.
 ///
 /// The first that holds of `Table`, `Listing`, `Script` and `Request` is answered before anything is
 /// written. So is `OutOfMemory`, wherever a growth was refused. `Write` is answered only where a put

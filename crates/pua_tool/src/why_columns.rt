@@ -1,8 +1,9 @@
 //! What stands behind an object's line: the promises on which its calls rest, and the veil over it.
 
-ghost use Rattle.std.specs.Prelude.{◌≡◌, ◌++◌, ℕ, List, None, IfOk, OnOk, map, slice_index_or, string_bytes};
-ghost use Rattle.pua_policy.specs.Calls.{rule_of};
-ghost use Rattle.pua_policy.specs.CallSets.{calls_in};
+ghost use Rattle.std.specs.Prelude.{◌≡◌, ◌++◌, ℕ, List, None, IfOk, OnOk, map};
+ghost use Rattle.std.specs.Prelude.{slice_index_or, string_bytes};
+ghost use Rattle.pua_calls.specs.Calls.{rule_of};
+ghost use Rattle.pua_calls.specs.CallSets.{calls_in};
 ghost use Rattle.pua_policy.specs.History.{History, StandsFor, veils};
 ghost use Rattle.pua_policy.specs.Reasons.{promising};
 ghost use Rattle.pua_policy.specs.declared.place.Place.{Place as Kept};
@@ -18,9 +19,10 @@ ghost use Rattle.pua_tool.specs.WhyLists.{text_at, veil_behind, veil_state, veil
 ghost use Rattle.pua_tool.specs.WhyTexts.{Posed as Asking, covering_on, world_left};
 
 use crate::veil_line::shown_letters;
+use pua_calls::{Call, CallTable, Calls, Perms, Promises};
 use pua_objects::{Item, ObjectLine, Subject, line_of};
 use pua_path::{Counted, Found, Way};
-use pua_policy::{Call, CallTable, Calls, Covering, Perms, Place, Process, Promises, Promising};
+use pua_policy::{Covering, Place, Process, Promising};
 use pua_tree::{FileTree, NodeId, OutOfMemory};
 use pua_why::TreePaths;
 use std::alloc::{AllocError, Global};
@@ -52,7 +54,11 @@ impl<'t, T: FileTree> Model for Columns<'t, T> {
 
     ghost Value = { ColumnsState };
 
-    ghost view = { λ a. record { tree = T.content a.tree.now; table = a.table; veils = map veil_state a.veils.items } };
+    ghost view = { λ a. record {
+      tree = T.content a.tree.now;
+      table = a.table;
+      veils = map veil_state a.veils.items;
+    } };
 }
 
 impl<'t, T: FileTree> Columns<'t, T> {
@@ -105,8 +111,8 @@ impl<'t, T: FileTree> Columns<'t, T> {
 
     /// The columns of the veil that covers what an item is about.
     pub(crate) fn over(&self, process: &Process, subject: &Subject<'_>) -> &str
-        requires fits { SubjectFits self.now.tree (subject_given self.now.tree subject.now) }
-        ensures { (p : Asking) (number : ℕ) (h : History) → AreColumnsOf p number h self.now →
+        ensures { SubjectFits self.now.tree (subject_given self.now.tree subject.now) →
+            (p : Asking) (number : ℕ) (h : History) → AreColumnsOf p number h self.now →
             StandsFor process.now h → result.now ≡ covering_behind p number
             (covering_on self.now.tree h (subject_given self.now.tree subject.now)) }
     {
@@ -247,10 +253,11 @@ fn text_at<'v>(veils: &'v [VeilColumns], place: &Place) -> &'v str
 
 /// What covers what an item is about. Further names of a directory are covered as it is.
 fn covering_of<T: FileTree>(tree: &T, process: &Process, subject: &Subject<'_>) -> Covering
-    requires { SubjectFits (T.content tree.now) (subject_given (T.content tree.now) subject.now) }
-    ensures covered { (h : History) → StandsFor process.now h → result
-        ≡ covering_on (T.content tree.now) h (subject_given (T.content tree.now) subject.now) }
-    ensures kept { (h : History) → StandsFor process.now h → IsAmongVeils (veils h) result }
+    ensures covered { let about = subject_given (T.content tree.now) subject.now in
+        SubjectFits (T.content tree.now) about → (h : History) → StandsFor process.now h →
+        result ≡ covering_on (T.content tree.now) h about }
+    ensures kept { SubjectFits (T.content tree.now) (subject_given (T.content tree.now) subject.now) →
+        (h : History) → StandsFor process.now h → IsAmongVeils (veils h) result }
 {
     tree.known();
     let mut probe = Counted::new(tree);

@@ -1,8 +1,8 @@
 //! The lines of a list with reasons, added to a block.
 
-ghost use Rattle.std.specs.Prelude.{◌≡◌, ◌≤◌, ◌+◌, ◌++◌, ◌∷◌, [], if◌then◌else◌, ℕ, length, map};
-ghost use Rattle.pua_policy.specs.Calls.{call_name};
-ghost use Rattle.pua_policy.specs.CallSets.{calls_in};
+ghost use Rattle.std.specs.Prelude.{◌≡◌, ◌++◌, ◌∷◌, [], if◌then◌else◌, ℕ, map};
+ghost use Rattle.pua_calls.specs.Calls.{call_name};
+ghost use Rattle.pua_calls.specs.CallSets.{calls_in};
 ghost use Rattle.pua_policy.specs.History.{History, StandsFor};
 ghost use Rattle.pua_audit.specs.Reach.{printed_path};
 ghost use Rattle.pua_audit.specs.declared.base.Base.TheVariants as base;
@@ -14,16 +14,14 @@ ghost use Rattle.pua_tool.specs.Blocks.{PassesOn};
 ghost use Rattle.pua_tool.specs.WhyLists.{AreColumnsOf, item_at, why_items};
 ghost use Rattle.pua_tool.specs.WhyTexts.{Posed as Asking, world_left};
 
-use crate::block::{BLOCK, Block, MOST_LINE};
+use crate::block::{Block, MOST_LINE};
 use crate::object_line::{add_calls, add_path, kind_bytes};
 use crate::why_columns::Columns;
+use pua_calls::Promises;
 use pua_io::{PutFault, Sink};
 use pua_objects::{Item, Items, ObjectLine};
-use pua_policy::{Process, Promises};
+use pua_policy::Process;
 use pua_tree::{FileTree, Name};
-
-/// How many bytes a keyword has at most.
-const MOST_KEYWORD: usize = 9;
 
 /// Adds a line for each item that is still to come on which a call is allowed. A block is put where
 /// the next part of a line might not fit, and its memory is used again.
@@ -33,8 +31,8 @@ pub(crate) fn add_items<T: FileTree, S: Sink>(
     columns: &Columns<'_, T>,
     sink: &mut S,
 ) -> Result<(), PutFault>
-    requires tree { columns.now.tree ≡ items.old.tree }
-    ensures lines { (p : Asking) (number : ℕ) (h : History) → AreColumnsOf p number h columns.now →
+    ensures lines { columns.now.tree ≡ items.old.tree →
+        (p : Asking) (number : ℕ) (h : History) → AreColumnsOf p number h columns.now →
         StandsFor items.old.process h →
         PassesOn S.written S.failed
         (why_items p number h items.old.left)
@@ -42,7 +40,6 @@ pub(crate) fn add_items<T: FileTree, S: Sink>(
     ensures tree { items.new.tree ≡ items.old.tree }
 {
     let process = items.process();
-    process.known();
     while let Some(item) = items.next_item() {
         add_item(block, process, columns, items.word(), &item, sink)?;
     }
@@ -58,8 +55,8 @@ fn add_item<T: FileTree, S: Sink>(
     item: &Item<'_>,
     sink: &mut S,
 ) -> Result<(), PutFault>
-    requires fits { SubjectFits columns.now.tree (subject_given columns.now.tree item.now.subject) }
-    ensures { (p : Asking) (number : ℕ) (h : History) → AreColumnsOf p number h columns.now →
+    ensures { SubjectFits columns.now.tree (subject_given columns.now.tree item.now.subject) →
+        (p : Asking) (number : ℕ) (h : History) → AreColumnsOf p number h columns.now →
         StandsFor process.now h →
         IsItemOn columns.now.tree h (subject_given columns.now.tree item.now.subject) item.now →
         PassesOn S.written S.failed
@@ -107,12 +104,11 @@ fn add_columns<S: Sink>(
         (promises_text resting ++ veil.now)
         result block.old block.new sink.old sink.new }
 {
-    block.make_room(sink)?;
-    push_promises(block, resting);
+    add_promises(block, resting, sink)?;
     add_behind(block, veil.as_bytes(), sink)
 }
 
-/// Adds the columns of a veil, which few places make longer than a line.
+/// Adds what stands behind the front of a line, which few places make longer than a line.
 fn add_behind<S: Sink>(block: &mut Block, text: &[u8], sink: &mut S) -> Result<(), PutFault>
     ensures { PassesOn S.written S.failed
         text.now
@@ -124,31 +120,43 @@ fn add_behind<S: Sink>(block: &mut Block, text: &[u8], sink: &mut S) -> Result<(
     block.add_text(text, sink)
 }
 
-/// Adds the keywords of promises with commas between them, and `=` for none, to a block that has room
-/// for a line.
-fn push_promises(block: &mut Block, promises: Promises)
-    requires { length block.old + MOST_LINE ≤ BLOCK }
-    ensures { block.new ≡ block.old ++ promises_text promises }
+/// Adds the keywords of promises with commas between them, and `=` for none.
+fn add_promises<S: Sink>(
+    block: &mut Block,
+    promises: Promises,
+    sink: &mut S,
+) -> Result<(), PutFault>
+    ensures { PassesOn S.written S.failed
+        (promises_text promises)
+        result block.old block.new sink.old sink.new }
 {
     let mut is_first = true;
     for index in 0..Promises::KEYWORDS {
         if let Some(name) = promises.keyword(index) {
-            push_keyword(block, is_first, name);
+            add_keyword(block, is_first, name, sink)?;
             is_first = false;
         }
     }
     if is_first {
-        block.push(b"=");
+        return block.add(b"=", sink);
     }
+    Ok(())
 }
 
 /// Adds a keyword, with a comma before it unless it is the first.
-fn push_keyword(block: &mut Block, is_first: bool, name: &str)
-    requires { length block.old + length name.now + 1 ≤ BLOCK }
-    ensures { block.new ≡ block.old ++ ((if is_first then [] else 44 ∷ []) ++ name.now) }
+fn add_keyword<S: Sink>(
+    block: &mut Block,
+    is_first: bool,
+    name: &str,
+    sink: &mut S,
+) -> Result<(), PutFault>
+    ensures { PassesOn S.written S.failed
+        ((if is_first then [] else 44 ∷ []) ++ name.now)
+        result block.old block.new sink.old sink.new }
 {
-    if !is_first {
-        block.push(b",");
+    if is_first {
+        return add_behind(block, name.as_bytes(), sink);
     }
-    block.push(name.as_bytes());
+    block.add(b",", sink)?;
+    add_behind(block, name.as_bytes(), sink)
 }

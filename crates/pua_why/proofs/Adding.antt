@@ -1,7 +1,7 @@
 -- What is added to a list, one piece after another.
 use Rattle.std.proofs.Common.{◌≡◌, ℕ, List, ◌++◌, Result, Ok, Err, ap, ◌∙◌, append_assoc}
 use Rattle.std.specs.Prelude.{if◌then◌else◌, is_ok, codes, OnOk}
-use Rattle.pua_policy.specs.Promises.{keywords_of}
+use Rattle.pua_calls.specs.Promises.{keywords_of}
 use Rattle.pua_why.specs.Texts.{joined, or_equals, promises_text}
 
 pub then_more : {A : Type 0} (old one final first more : List A) → one ≡ old ++ first → final ≡ one ++ more → final ≡ old ++ (first ++ more)

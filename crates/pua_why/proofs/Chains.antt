@@ -8,10 +8,10 @@ use Rattle.pua_path.specs.declared.text.Ending.{Ending}
 use Rattle.pua_path.specs.declared.text.Ending.TheVariants as ending
 use Rattle.pua_path.specs.Traces.{PathTrace}
 use Rattle.pua_path.specs.declared.traced.PathFault.{PathFault}
-use Rattle.pua_policy.specs.Calls.{CallTable, PairRule, rule_of}
+use Rattle.pua_calls.specs.Calls.{CallTable, PairRule, rule_of}
 use Rattle.pua_policy.specs.History.{History, kept}
 use Rattle.pua_policy.specs.Verdict.{is_unveil, nearest, object_of, or_fault}
-use Rattle.pua_policy.specs.declared.call.Call.{Call}
+use Rattle.pua_calls.specs.declared.call.Call.{Call}
 use Rattle.pua_policy.specs.declared.place.Place.TheVariants.{Dir}
 use Rattle.pua_policy.specs.declared.answer.Cover.TheVariants.{All}
 use Rattle.pua_script.specs.Decide.{Change, Outcome, Side, Sole, Old, New, unless_refused, unless_failed, on_named, change_by, pair_by}

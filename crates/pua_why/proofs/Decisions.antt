@@ -19,13 +19,13 @@ use Rattle.pua_path.specs.Traces.{text_errno, text_fault, object_or_errno, trace
 use Rattle.pua_path.specs.declared.traced.TextFault.{TextFault}
 use Rattle.pua_path.specs.declared.traced.PathFault.{PathFault}
 use Rattle.pua_path.proofs.ForCallers.{text_traces_answer}
-use Rattle.pua_policy.specs.Promises.{holds, proc, unveil}
-use Rattle.pua_policy.specs.Calls.{CallTable, PairRule, rule_of, last_of, ending_of}
+use Rattle.pua_calls.specs.Promises.{holds, proc, unveil}
+use Rattle.pua_calls.specs.Calls.{CallTable, PairRule, rule_of, last_of, ending_of}
 use Rattle.pua_policy.specs.History.{History, pledged, held_for_exec, has_error, is_within, is_ended, is_locked, kept, veils, working_dir, place_fault, place_limit, unveil_fault, pledge_fault, may_any}
 use Rattle.pua_policy.specs.Verdict.{place_of, object_of, object_fault, object_named, cover, cover_fault, or_fault, found_fault, allowed_unless, if_promised, refusal_of, refused, verdict_of}
 use Rattle.pua_policy.specs.declared.place.Place.{Place}
-use Rattle.pua_policy.specs.declared.call.Call.{Call}
-use Rattle.pua_policy.specs.declared.call.Call.TheVariants as call
+use Rattle.pua_calls.specs.declared.call.Call.{Call}
+use Rattle.pua_calls.specs.declared.call.Call.TheVariants as call
 use Rattle.pua_policy.specs.declared.answer.May.{May}
 use Rattle.pua_policy.specs.declared.answer.May.TheVariants as may
 use Rattle.pua_policy.specs.declared.answer.UnveilFault.TheVariants.{NotPermitted, TooManyPlaces}
@@ -43,7 +43,7 @@ use Rattle.pua_script.specs.Replay.{World, history_of, made, come_of, edited, ed
 use Rattle.pua_script.specs.declared.request.Action.TheVariants.{OnPath, Symlink, Rename, Link, Pledge, Unveil, Lock, Fork, Exit}
 use Rattle.pua_script.specs.declared.answer.Answer.{Answer}
 use Rattle.pua_script.specs.declared.answer.Answer.TheVariants.{Gone}
-use Rattle.pua_policy.specs.Promises.{lacking}
+use Rattle.pua_calls.specs.Promises.{lacking}
 use Rattle.pua_policy.specs.Misfits.{misfit}
 use Rattle.pua_policy.specs.declared.reason.Covering.{Covering}
 use Rattle.pua_policy.specs.declared.reason.Covering.TheVariants.{InView, NoneOver, By}

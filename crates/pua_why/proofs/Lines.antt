@@ -1,7 +1,7 @@
 -- With reasons each line is the line without them, and more.
 use Rattle.std.proofs.Common.{◌≡◌, ℕ, suc, List, [], ◌∷◌, ◌++◌, Some, None, refl, sym, ap, ◌∙◌, append_assoc, Option, subst}
 use Rattle.std.specs.Prelude.{decimal}
-use Rattle.pua_policy.specs.Calls.{CallTable}
+use Rattle.pua_calls.specs.Calls.{CallTable}
 use Rattle.pua_script.specs.AnswerTexts.{answer_text}
 use Rattle.pua_script.specs.Requests.{Asked}
 use Rattle.pua_script.specs.Replay.{World, apply, answers, world_after}

@@ -72,15 +72,12 @@ map-reverse f (x ∷ xs) =
     map_append f (x ∷ xs) ys = ap (λ zs. f x ∷ zs) (map_append f xs ys)
 
 -- the names that were found and turned are those that lead there
-pub found_names : (t : Tree) (rows lent : List LentRow) (over new : List (Bor (List ℕ))) (dir : ℕ) → lent ≡ rows → map lent_entry rows ≡ t.rows
-    → ((u : Tree) → map lent_entry lent ≡ u.rows → reverse (map (λ name. name.now) over) ≡ names_to (length lent) u dir) → new ≡ reverse over
-    → map (λ name. name.now) new ≡ dir_names t dir
-found_names t rows lent over new dir same all climbed turned =
-    let counted : length lent ≡ length t.rows = ap length same ∙ sym (length-map rows lent_entry) ∙ ap length all in
-    ap (map (λ name. name.now)) turned
-    ∙ map-reverse (λ name. name.now) over
-    ∙ climbed t (ap (map lent_entry) same ∙ all)
-    ∙ ap (λ n. names_to n t dir) counted
+pub found_names : (over new : List (Bor (List ℕ))) (to : List (List ℕ)) → reverse (map (λ name. name.now) over) ≡ to → new ≡ reverse over → map (λ name. name.now) new ≡ to
+found_names over new to climbed turned = ap (map (λ name. name.now)) turned ∙ map-reverse (λ name. name.now) over ∙ climbed
+
+-- there are as many rows as are lent
+pub all_names : (t : Tree) (rows : List LentRow) (dir : ℕ) → map lent_entry rows ≡ t.rows → names_to (length rows) t dir ≡ dir_names t dir
+all_names t rows dir all = ap (λ n. names_to n t dir) (sym (length-map rows lent_entry) ∙ ap length all)
 
 -- the path of a spot: the names of its directory, and then its own
 pub spot_is : (t : Tree) (dir : ℕ) (name : List ℕ) → spot_text t (dir, name) ≡ slashed (dir_names t dir) ++ (47 ∷ spelling name)

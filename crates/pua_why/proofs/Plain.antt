@@ -5,10 +5,10 @@ use Rattle.pua_tree.specs.Tree.{Tree, Node, Spot}
 use Rattle.pua_path.specs.Fits.{spot_named, node_named}
 use Rattle.pua_path.specs.declared.found.Found.{Found}
 use Rattle.pua_path.specs.declared.found.Found.TheVariants.{Whole, Slot}
-use Rattle.pua_policy.specs.Calls.{CallTable}
+use Rattle.pua_calls.specs.Calls.{CallTable}
 use Rattle.pua_policy.specs.History.{History}
-use Rattle.pua_policy.specs.declared.call.Call.{Call}
-use Rattle.pua_policy.specs.declared.call.Call.TheVariants as call
+use Rattle.pua_calls.specs.declared.call.Call.{Call}
+use Rattle.pua_calls.specs.declared.call.Call.TheVariants as call
 use Rattle.pua_script.specs.Decide.{Change, NoChange, Outcome, placing, cutting, going, shifting, tying, link_node, change_by}
 use Rattle.pua_script.specs.Guards.{IsDecided, IsShift}
 use Rattle.pua_script.specs.Replay.{World}

@@ -3,12 +3,12 @@ use Rattle.std.proofs.Common.{◌≡◌, ℕ, Bool, true, false, List, Some, Non
 use Rattle.std.specs.Prelude.{if◌then◌else◌}
 use Rattle.pua_path.specs.declared.found.Found.{Found}
 use Rattle.pua_path.specs.declared.traced.PathFault.{PathFault}
-use Rattle.pua_policy.specs.Promises.{holds}
+use Rattle.pua_calls.specs.Promises.{holds}
 use Rattle.pua_policy.specs.History.{History, is_ended}
 use Rattle.pua_policy.specs.Verdict.{or_fault}
 use Rattle.pua_policy.specs.declared.place.Place.{Place}
 use Rattle.pua_script.specs.Decide.{Outcome, Side, unless_refused, unless_failed, on_named, fault_if}
-use Rattle.pua_policy.specs.Promises.{lacking}
+use Rattle.pua_calls.specs.Promises.{lacking}
 use Rattle.pua_policy.specs.declared.reason.Covering.{Covering}
 use Rattle.pua_policy.specs.declared.reason.Covering.TheVariants.{InView, NoneOver, By}
 use Rattle.pua_policy.specs.Reasons.{Promising, Holds, HasEnded, Lacks, promising}

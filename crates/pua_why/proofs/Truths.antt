@@ -14,12 +14,12 @@ use Rattle.pua_path.specs.declared.found.Found.{Found}
 use Rattle.pua_path.specs.declared.found.Found.TheVariants.{Whole, Slot}
 use Rattle.pua_path.specs.Traces.{text_fault, trace_of_text}
 use Rattle.pua_path.specs.declared.traced.TextFault.{TextFault}
-use Rattle.pua_policy.specs.Promises.{holds, proc, unveil}
-use Rattle.pua_policy.specs.Calls.{CallTable, PairRule, rule_of}
+use Rattle.pua_calls.specs.Promises.{holds, proc, unveil}
+use Rattle.pua_calls.specs.Calls.{CallTable, PairRule, rule_of}
 use Rattle.pua_policy.specs.History.{History, pledged, held_for_exec, has_error, is_within, is_locked, kept, veils, working_dir, place_limit}
 use Rattle.pua_policy.specs.Verdict.{place_of, or_fault}
 use Rattle.pua_policy.specs.declared.place.Place.{Place}
-use Rattle.pua_policy.specs.declared.call.Call.TheVariants as call
+use Rattle.pua_calls.specs.declared.call.Call.TheVariants as call
 use Rattle.pua_script.specs.Limits.{process_limit}
 use Rattle.pua_script.specs.Decide.{Change, NoChange, AddNode, CutRow, ShiftRow, TieRow, BeginProgram, AddEvent, CopyAs, Outcome, Side, Sole, Old, New, unless_refused, unless_failed, dots_by, top_by, kinds_by, inside_by, is_whole, given_set, is_unknown, adding, link_node, shifting, rename_by, link_by, pair_by, veil_by}
 use Rattle.pua_policy.specs.declared.reason.Misfit.TheVariants.{Missing, Exists, IsDirectory, IsNoFile, IsNoDirectory, IsNotEmpty, ByDot, ByDotDot, ByNothing}
@@ -27,7 +27,7 @@ use Rattle.pua_script.specs.Replay.{World, Fails, history_of, made, effect, come
 use Rattle.pua_script.specs.declared.request.Given.{Given}
 use Rattle.pua_script.specs.declared.request.Action.{Action}
 use Rattle.pua_script.specs.declared.request.Action.TheVariants.{OnPath, Symlink, Rename, Link, Pledge, Unveil, Lock, Fork, Exit}
-use Rattle.pua_policy.specs.Promises.{lacking}
+use Rattle.pua_calls.specs.Promises.{lacking}
 use Rattle.pua_policy.specs.declared.reason.Covering.TheVariants.{By}
 use Rattle.pua_policy.specs.Reasons.{promising, covering}
 use Rattle.pua_why.specs.Reasons.{Fault, Ends, LacksPromises, BadTarget, BadPath, Uncovered, LacksLetters, Unfit, Inside, UnknownPromise, AsksPromises, IsLocked, UnknownLetter, AsksLetters, NoPlaceLeft, NumberTaken, NoProcessLeft, NoRoom, unpromised, beyond, asks_beyond, place_beyond, unveil_beyond, faults, reasoned, no_room, room_fault, outcome_fault}

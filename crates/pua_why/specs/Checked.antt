@@ -1,7 +1,7 @@
 -- What the checks of a request tell, before its change is made: all but whether the tree has room for it.
 use Rattle.std.specs.Prelude.{◌≡◌, if◌then◌else◌, length, nat_le, Option, Some, None, Ok, Err, is_some}
 use Rattle.pua_path.specs.declared.errno.Errno.TheVariants.{ENOSPC}
-use Rattle.pua_policy.specs.Calls.{CallTable}
+use Rattle.pua_calls.specs.Calls.{CallTable}
 use Rattle.pua_policy.specs.History.{History, is_ended}
 use Rattle.pua_policy.specs.Verdict.{or_fault}
 use Rattle.pua_script.specs.Limits.{process_limit}

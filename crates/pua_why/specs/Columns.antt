@@ -2,10 +2,10 @@
 use Rattle.std.specs.Prelude.{◌≡◌, ℕ, if◌then◌else◌, List, [], ◌∷◌, ◌++◌, map, bit_or, decimal, unwrap_or, codes}
 use Rattle.std.specs.List.{list_any}
 use Rattle.pua_tree.specs.Tree.{Tree, climb}
-use Rattle.pua_policy.specs.Calls.{CallTable, rule_of}
+use Rattle.pua_calls.specs.Calls.{CallTable, rule_of}
 use Rattle.pua_policy.specs.History.{History, kept}
 use Rattle.pua_policy.specs.Verdict.{is_unveil, nearest}
-use Rattle.pua_policy.specs.declared.call.Call.{Call}
+use Rattle.pua_calls.specs.declared.call.Call.{Call}
 use Rattle.pua_policy.specs.declared.place.Place.TheVariants.{Dir}
 use Rattle.pua_policy.specs.declared.answer.Cover.TheVariants.{All}
 use Rattle.pua_script.specs.Requests.{Asked}

@@ -4,17 +4,17 @@ use Rattle.pua_tree.specs.Tree.{Tree}
 use Rattle.pua_path.specs.declared.text.Ending.{Ending}
 use Rattle.pua_path.specs.declared.text.Ending.TheVariants as ending
 use Rattle.pua_path.specs.declared.found.Found.{Found}
-use Rattle.pua_policy.specs.Promises.{holds}
-use Rattle.pua_policy.specs.Calls.{CallTable, PairRule, rule_of}
+use Rattle.pua_calls.specs.Promises.{holds}
+use Rattle.pua_calls.specs.Calls.{CallTable, PairRule, rule_of}
 use Rattle.pua_policy.specs.History.{History, is_ended}
 use Rattle.pua_policy.specs.Verdict.{object_of, verdict_on}
 use Rattle.pua_policy.specs.ReasonLaws.{LackSome, MisfitHolds}
-use Rattle.pua_policy.specs.declared.call.Call.{Call}
+use Rattle.pua_calls.specs.declared.call.Call.{Call}
 use Rattle.pua_script.specs.Requests.{Asked}
 use Rattle.pua_script.specs.AnswerTexts.{answer_text}
 use Rattle.pua_script.specs.Replay.{World, apply, answers, world_after}
 use Rattle.pua_script.specs.declared.answer.Answer.{Answer}
-use Rattle.pua_policy.specs.Promises.{lacking}
+use Rattle.pua_calls.specs.Promises.{lacking}
 use Rattle.pua_policy.specs.Misfits.{misfit}
 use Rattle.pua_policy.specs.declared.reason.Covering.{Covering}
 use Rattle.pua_policy.specs.declared.reason.Covering.TheVariants.{NoneOver, By}

@@ -1,6 +1,6 @@
 -- Reasons and facts as the code tells them.
 use Rattle.std.specs.Prelude.{map, List, [], ◌∷◌, Option, Some, None, Result, Ok, Err}
-use Rattle.pua_policy.specs.Promises.{lacking}
+use Rattle.pua_calls.specs.Promises.{lacking}
 use Rattle.pua_script.specs.Decide as decide
 use Rattle.pua_script.specs.Decide.{Outcome}
 use Rattle.pua_why.specs.declared.told.Side.{Side}

@@ -11,8 +11,8 @@ use Rattle.pua_path.specs.declared.traced.TextFault.{TextFault}
 use Rattle.pua_path.specs.declared.traced.TextFault.TheVariants.{EmptyText, LongText, LongComponent, NulInText}
 use Rattle.pua_path.specs.declared.traced.PathFault.{PathFault}
 use Rattle.pua_path.specs.declared.traced.PathFault.TheVariants.{InText, NoStart, Stops}
-use Rattle.pua_policy.specs.Promises.{keywords_of, letters_of}
-use Rattle.pua_policy.specs.Calls.{CallTable}
+use Rattle.pua_calls.specs.Promises.{keywords_of, letters_of}
+use Rattle.pua_calls.specs.Calls.{CallTable}
 use Rattle.pua_policy.specs.History.{History, kept}
 use Rattle.pua_policy.specs.Verdict.{Object, IsDir, IsFile, IsProg, IsLink, IsMissing, object_of}
 use Rattle.pua_policy.specs.declared.place.Place.{Place}

@@ -13,11 +13,11 @@ use Rattle.pua_path.specs.declared.found.Found.{Found}
 use Rattle.pua_path.specs.declared.found.Found.TheVariants.{Whole}
 use Rattle.pua_path.specs.Traces.{text_fault, trace_of_text}
 use Rattle.pua_path.specs.declared.traced.PathFault.{PathFault}
-use Rattle.pua_policy.specs.Promises.{holds, proc, unveil}
+use Rattle.pua_calls.specs.Promises.{holds, proc, unveil}
 use Rattle.pua_policy.specs.ReasonLaws.{LackSome}
-use Rattle.pua_policy.specs.Calls.{CallTable, PairRule}
+use Rattle.pua_calls.specs.Calls.{CallTable, PairRule}
 use Rattle.pua_policy.specs.History.{History, pledged, held_for_exec, has_error, is_within, is_ended, is_locked, kept, veils, working_dir, place_limit}
-use Rattle.pua_policy.specs.declared.call.Call.TheVariants as call
+use Rattle.pua_calls.specs.declared.call.Call.TheVariants as call
 use Rattle.pua_script.specs.Limits.{process_limit}
 use Rattle.pua_script.specs.Decide.{Change, CopyAs, Side, Sole, Old, New, given_set, is_unknown, is_whole}
 use Rattle.pua_policy.specs.declared.reason.Misfit.{Misfit}
@@ -27,7 +27,7 @@ use Rattle.pua_script.specs.Laws.{LacksRoom}
 use Rattle.pua_script.specs.declared.request.Given.{Given}
 use Rattle.pua_script.specs.declared.request.Action.{Action}
 use Rattle.pua_script.specs.declared.request.Action.TheVariants.{OnPath, Symlink, Rename, Link, Pledge, Unveil, Lock, Fork, Exit}
-use Rattle.pua_policy.specs.Promises.{lacking}
+use Rattle.pua_calls.specs.Promises.{lacking}
 use Rattle.pua_policy.specs.declared.reason.Covering.TheVariants.{NoneOver, By}
 use Rattle.pua_policy.specs.Reasons.{covering}
 use Rattle.pua_why.specs.Reasons.{Fault, Ends, LacksPromises, BadTarget, BadPath, Uncovered, LacksLetters, Unfit, Inside, UnknownPromise, AsksPromises, IsLocked, UnknownLetter, AsksLetters, NoPlaceLeft, NumberTaken, NoProcessLeft, NoRoom, beyond, reasoned, request_fault}

@@ -1,7 +1,7 @@
 -- Which word of an argument is no promise, and which letter no permission: what the line's text says beyond its request.
 use Rattle.std.specs.Prelude.{◌≡◌, ℕ, List, [], ◌∷◌, ◌==◌, Option, None, find, is_none, is_some, is_ok, not}
 use Rattle.std.specs.List.{slice_split}
-use Rattle.pua_policy.specs.Promises.{promise_of, promises_of, letter_of, perms_of}
+use Rattle.pua_calls.specs.Promises.{promise_of, promises_of, letter_of, perms_of}
 
 -- the first word between commas that is no keyword
 abbrev pub unknown_word : List ℕ → Option (List ℕ)

@@ -14,14 +14,13 @@ ghost use Rattle.pua_why.specs.Reasons.{faults, place_beyond, uncovered, unpromi
 ghost use Rattle.pua_why.specs.Seen.{fault_seen, side_seen};
 
 use crate::told::{Fault, Side};
+use pua_calls::needs::{ending, need};
+use pua_calls::{Call, CallTable, Perms, Promises};
 use pua_path::{
     Counted, Ending, Found, Last, Links, PathFault, PathText, Probe, text_fault, trace,
 };
 use pua_policy::judge::misfit;
-use pua_policy::needs::{ending, need};
-use pua_policy::{
-    Call, CallTable, Covering, PLACE_LIMIT, Perms, Place, Process, Promises, Promising,
-};
+use pua_policy::{Covering, PLACE_LIMIT, Place, Process, Promising};
 use pua_tree::{FileTree, NodeId, OutOfMemory};
 use std::alloc::Global;
 
@@ -86,9 +85,8 @@ pub(crate) fn cover_fault<'s, 't, P: Probe<'t>>(
     found: &Found,
     perms: Perms,
 ) -> Option<Fault<'s>>
-    requires { FoundFits (P.tree probe.old) found.now }
-    ensures exact { (h : History) → StandsFor process.now h →
-        option_map fault_seen result
+    ensures exact { FoundFits (P.tree probe.old) found.now →
+        (h : History) → StandsFor process.now h → option_map fault_seen result
         ≡ uncovered (side_seen side) found.now perms (covering (P.tree probe.old) h found.now) }
     ensures tree { P.tree probe.new ≡ P.tree probe.old }
 {

@@ -1,17 +1,19 @@
-//! The checks of pledges, of locks and of forks.
+//! The checks of pledges and of locks, and of a further process.
 
 ghost use Rattle.std.specs.Prelude.{◌≡◌, ℕ, IfOk, option_map};
 ghost use Rattle.pua_policy.specs.History.{History, StandsFor};
-ghost use Rattle.pua_script.specs.Decide.{fork_by, given_set, is_unknown, lock_by, pledge_by};
+ghost use Rattle.pua_script.specs.Decide.{CopyAs, fork_by, given_set, is_unknown};
+ghost use Rattle.pua_script.specs.Decide.{lock_by, pledge_by};
 ghost use Rattle.pua_script.specs.Replay.{World as Replayed};
 ghost use Rattle.pua_script.specs.Worlds.{StandsForWorld};
-ghost use Rattle.pua_why.specs.Checked.{checks_fault, refused_by};
+ghost use Rattle.pua_why.specs.Checked.{process_fault, refused_by};
 ghost use Rattle.pua_why.specs.Reasons.{asks_beyond, faults, pledge_beyond};
 ghost use Rattle.pua_why.specs.Seen.{fault_seen};
 
 use crate::checks::promise_fault;
 use crate::told::Fault;
-use pua_policy::{Process, Promises};
+use pua_calls::Promises;
+use pua_policy::Process;
 use pua_script::{Given, PROCESS_LIMIT, World};
 use pua_tree::{FileTree, OutOfMemory};
 use std::alloc::Global;
@@ -79,21 +81,23 @@ pub(crate) fn lock_fault<'s>(process: &Process) -> Option<Fault<'s>>
     promise_fault(process, Promises::UNVEIL)
 }
 
-/// The fault of a fork: the promise, the number, and how many processes were made.
-pub(crate) fn fork_fault<'s, T: FileTree>(
+/// The fault of a fork: the promise.
+pub(crate) fn fork_fault<'s>(process: &Process) -> Option<Fault<'s>>
+    ensures { (h : History) (new : ℕ) → StandsFor process.now h →
+        option_map fault_seen result ≡ refused_by (fork_by faults h new) }
+{
+    promise_fault(process, Promises::PROC)
+}
+
+/// The fault of a further process: its number, and how many processes were made.
+pub(crate) fn process_fault<'s, T: FileTree>(
     alloc: Global,
     world: &World<T>,
-    process: &Process,
     new: u32,
 ) -> Result<Option<Fault<'s>>, OutOfMemory>
-    ensures { IfOk result (λ fault. (w : Replayed) (h : History) →
-        StandsForWorld world.now w → StandsFor process.now h →
-        option_map fault_seen fault ≡ checks_fault w (fork_by faults h new)) }
+    ensures { IfOk result (λ fault. (w : Replayed) → StandsForWorld world.now w →
+        option_map fault_seen fault ≡ process_fault w (CopyAs new)) }
 {
-    let fault = promise_fault(process, Promises::PROC);
-    if fault.is_some() {
-        return Ok(fault);
-    }
     if world.process(new).is_some() {
         return Ok(Some(Fault::NumberTaken(new)));
     }

@@ -3,13 +3,15 @@
 ghost use Rattle.std.specs.Prelude.{◌≡◌, ◌++◌, ◌∷◌, IfOk, OnOk, map};
 ghost use Rattle.pua_path.specs.declared.traced.PathFault.TheVariants as faults;
 ghost use Rattle.pua_tree.specs.Names.{same_bytes};
-ghost use Rattle.pua_policy.specs.Promises.{lacking};
-ghost use Rattle.pua_why.specs.Keys.{exec_key, fault_key, misfit_key, path_key, place_key, reason_key, side_key, text_key};
+ghost use Rattle.pua_calls.specs.Promises.{lacking};
+ghost use Rattle.pua_why.specs.Keys.{exec_key, fault_key, misfit_key, path_key, place_key};
+ghost use Rattle.pua_why.specs.Keys.{reason_key, side_key, text_key};
 ghost use Rattle.pua_why.specs.Seen.{fault_seen, reason_seen, side_seen};
 
 use crate::told::{Fault, Reason, Side};
+use pua_calls::{Perms, Promises};
 use pua_path::{PathFault, Stop, TextFault};
-use pua_policy::{Misfit, Perms, Place, Promises};
+use pua_policy::{Misfit, Place};
 use pua_tree::OutOfMemory;
 use std::alloc::Global;
 use std::marker::Model;

@@ -1,7 +1,9 @@
 //! Laws and worked examples of reasons, each the contract of a function that does nothing.
 
 ghost use Rattle.pua_why.specs.Examples.{WhyRows};
-ghost use Rattle.pua_why.specs.Laws.{CallFaultsHold, ChainsEnd, GrantsAreTold, PairsAreTold, ReasonsGiveAnswers, ReasonsGiveDecisions, ReasonsGiveVerdicts, ReasonsSince, WhyLinesTellMore};
+ghost use Rattle.pua_why.specs.Laws.{CallFaultsHold, ChainsEnd, GrantsAreTold, PairsAreTold};
+ghost use Rattle.pua_why.specs.Laws.{ReasonsGiveAnswers, ReasonsGiveDecisions};
+ghost use Rattle.pua_why.specs.Laws.{ReasonsGiveVerdicts, ReasonsSince, WhyLinesTellMore};
 ghost use Rattle.pua_why.specs.Checked.{ChecksTell};
 ghost use Rattle.pua_why.specs.Columns.{CoveringsIn};
 ghost use Rattle.pua_why.specs.Since.{SinceHolds};

@@ -8,15 +8,18 @@ ghost use Rattle.pua_path.specs.Fits.{FoundFits, StandsAsNamed, node_named, spot
 ghost use Rattle.pua_path.specs.declared.found.Found as founds;
 ghost use Rattle.pua_path.specs.declared.text.Ending.TheVariants as endings;
 ghost use Rattle.pua_policy.specs.History.{History, StandsFor};
-ghost use Rattle.pua_script.specs.Decide.{New, Outcome, covers_by, dots_by, inside_by, is_whole, kinds_by, link_by, objects_by, pair_by, rename_by, top_by, ways_by};
+ghost use Rattle.pua_script.specs.Decide.{New, Outcome, covers_by, dots_by, inside_by, is_whole};
+ghost use Rattle.pua_script.specs.Decide.{kinds_by, link_by, objects_by, pair_by, rename_by};
+ghost use Rattle.pua_script.specs.Decide.{top_by, ways_by};
 ghost use Rattle.pua_why.specs.Checked.{refused_by};
 ghost use Rattle.pua_why.specs.Reasons.{Fault as Meant, faults};
 ghost use Rattle.pua_why.specs.Seen.{fault_seen, on_found, side_seen};
 
 use crate::checks::{cover_fault, promises_fault, traced};
 use crate::told::{Fault, Side};
+use pua_calls::{CallTable, PairNeed};
 use pua_path::{Counted, Ending, Found, Links, Probe, Way};
-use pua_policy::{CallTable, Misfit, PairNeed, Process};
+use pua_policy::{Misfit, Process};
 use pua_tree::{FileTree, Kind, NodeId};
 
 /// What an old path and a new one name.
@@ -138,9 +141,8 @@ fn covers_fault<'s, 't, P: Probe<'t>>(
     old: &Found,
     new: &Found,
 ) -> Option<Fault<'s>>
-    requires old { FoundFits (P.tree probe.old) old.now }
-    requires new { FoundFits (P.tree probe.old) new.now }
-    ensures { (h : History) → StandsFor process.now h → option_map fault_seen result
+    ensures { FoundFits (P.tree probe.old) old.now → FoundFits (P.tree probe.old) new.now →
+        (h : History) → StandsFor process.now h → option_map fault_seen result
         ≡ covers_by faults need.now (P.tree probe.old) h old.now new.now }
 {
     let fault = cover_fault(probe, process, Side::Old, old, need.old_name().perms());
@@ -152,8 +154,7 @@ fn covers_fault<'s, 't, P: Probe<'t>>(
 
 /// What is wrong with a rename of what was named.
 fn shift_fault<'s, T: FileTree>(tree: &T, pair: &Pair) -> Option<Fault<'s>>
-    requires { StandsAsNamed (T.content tree.now) pair.now.new }
-    ensures { option_map fault_seen result
+    ensures { StandsAsNamed (T.content tree.now) pair.now.new → option_map fault_seen result
         ≡ refused_by (rename_by faults (T.content tree.now) pair.now.old pair.now.new
         (node_named pair.now.old)) }
 {
@@ -225,8 +226,7 @@ fn top_fault<'s>(side: Side, found: &Found) -> Option<Fault<'s>>
 
 /// A directory would come to stand in itself or beneath itself.
 fn inside_fault<'s, T: FileTree>(tree: &T, node: NodeId, pair: &Pair) -> Option<Fault<'s>>
-    requires { StandsAsNamed (T.content tree.now) pair.now.new }
-    ensures { option_map fault_seen result
+    ensures { StandsAsNamed (T.content tree.now) pair.now.new → option_map fault_seen result
         ≡ inside_by (faults.inside pair.now.old pair.now.new) (T.content tree.now) node
         (spot_named pair.now.new) }
 {
@@ -242,16 +242,16 @@ fn inside_fault<'s, T: FileTree>(tree: &T, node: NodeId, pair: &Pair) -> Option<
 
 /// Whether a node is a directory, and this directory is it, or stands beneath it.
 fn is_inside<T: FileTree>(tree: &T, node: NodeId, dir: NodeId) -> bool
-    requires { IsTrue (is_dir (T.content tree.now) dir) }
-    ensures { result ≡ is_inside (T.content tree.now) node dir }
+    ensures { IsTrue (is_dir (T.content tree.now) dir) →
+        result ≡ is_inside (T.content tree.now) node dir }
 {
     tree.kind(node) == Some(Kind::Dir) && is_within(tree, dir, node)
 }
 
 /// Whether a directory is this node, or stands beneath it.
 fn is_within<T: FileTree>(tree: &T, dir: NodeId, node: NodeId) -> bool
-    requires { IsTrue (is_dir (T.content tree.now) dir) }
-    ensures { result ≡ list_any (λ d. d == node) (climb (T.content tree.now) dir) }
+    ensures { IsTrue (is_dir (T.content tree.now) dir) →
+        result ≡ list_any (λ d. d == node) (climb (T.content tree.now) dir) }
 {
     tree.known();
     let mut at = dir;

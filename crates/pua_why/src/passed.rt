@@ -1,24 +1,28 @@
 //! What a request passed, one check after another.
 
-ghost use Rattle.std.specs.Prelude.{◌≡◌, ◌++◌, ◌∷◌, [], if◌then◌else◌, List, IfOk, IfSome, OnOk, is_none, map};
+ghost use Rattle.std.specs.Prelude.{◌≡◌, ◌++◌, ◌∷◌, [], if◌then◌else◌, List};
+ghost use Rattle.std.specs.Prelude.{IfOk, IfSome, OnOk, is_none, map};
 ghost use Rattle.pua_path.specs.Fits.{FoundFits};
 ghost use Rattle.pua_path.specs.Traces.{trace_of_text};
 ghost use Rattle.pua_path.specs.declared.found.Found as founds;
-ghost use Rattle.pua_policy.specs.Calls.{rule_of};
+ghost use Rattle.pua_calls.specs.Calls.{rule_of};
 ghost use Rattle.pua_policy.specs.History.{History, StandsFor};
 ghost use Rattle.pua_policy.specs.Reasons.{promising};
 ghost use Rattle.pua_script.specs.Decide.{New, Old, Side as Seen, Sole};
 ghost use Rattle.pua_script.specs.Replay.{World as Replayed};
 ghost use Rattle.pua_script.specs.Worlds.{StandsForWorld};
-ghost use Rattle.pua_why.specs.Facts.{Fact as Meant, Follows, call_facts, call_trace, facts, facts_named, facts_of, facts_promised, facts_under, names_facts, pair_facts, unveil_facts};
+ghost use Rattle.pua_why.specs.Facts.{Fact as Meant, Follows, call_facts, call_trace, facts};
+ghost use Rattle.pua_why.specs.Facts.{facts_named, facts_of, facts_promised, facts_under};
+ghost use Rattle.pua_why.specs.Facts.{names_facts, pair_facts, unveil_facts};
 ghost use Rattle.pua_why.specs.Reasons.{uncovered};
 ghost use Rattle.pua_why.specs.Seen.{fact_seen, on_named_fact, side_seen};
 
 use crate::checks::traced;
 use crate::told::{Fact, Side};
+use pua_calls::needs::{ending, need};
+use pua_calls::{Call, CallTable, PairNeed, Perms, Promises};
 use pua_path::{Counted, Ending, Found, Last, Links, Probe, Spot, Way};
-use pua_policy::needs::{ending, need};
-use pua_policy::{Call, CallTable, Covering, PairNeed, Perms, Place, Process, Promises, Promising};
+use pua_policy::{Covering, Place, Process, Promising};
 use pua_script::{Action, World};
 use pua_tree::{FileTree, NodeId, OutOfMemory};
 use std::alloc::Global;
@@ -208,9 +212,9 @@ impl Passed {
         old: &Found,
         new: &Found,
     ) -> Result<(), OutOfMemory>
-        requires old { FoundFits (P.tree probe.old) old.now }
-        requires new { FoundFits (P.tree probe.old) new.now }
-        ensures { OnOk result ((h : History) → StandsFor process.now h → self.new ≡ self.old
+        ensures { OnOk result (FoundFits (P.tree probe.old) old.now →
+            FoundFits (P.tree probe.old) new.now →
+            (h : History) → StandsFor process.now h → self.new ≡ self.old
             ++ facts_under Old (P.tree probe.old) h old.now need.now.old.needs.perms
             (facts_under New (P.tree probe.old) h new.now need.now.new.needs.perms [])) }
     {
@@ -290,8 +294,8 @@ impl Passed {
         found: &Found,
         perms: Perms,
     ) -> Result<(), OutOfMemory>
-        requires { FoundFits (P.tree probe.old) found.now }
-        ensures { OnOk result ((h : History) → StandsFor process.now h → self.new ≡ self.old
+        ensures { OnOk result (FoundFits (P.tree probe.old) found.now →
+            (h : History) → StandsFor process.now h → self.new ≡ self.old
             ++ facts_under (side_seen side) (P.tree probe.old) h found.now perms []) }
     {
         self.add_cover(probe, process, side, found, perms)?;
@@ -307,9 +311,9 @@ impl Passed {
         found: &Found,
         perms: Perms,
     ) -> Result<bool, OutOfMemory>
-        requires { FoundFits (P.tree probe.old) found.now }
-        ensures exact { IfOk result (λ covered. (h : History) → StandsFor process.now h →
-            (more : List Meant) → self.new ++ (if covered then more else []) ≡ self.old
+        ensures exact { IfOk result (λ covered. FoundFits (P.tree probe.old) found.now →
+            (h : History) → StandsFor process.now h → (more : List Meant) →
+            self.new ++ (if covered then more else []) ≡ self.old
             ++ facts_under (side_seen side) (P.tree probe.old) h found.now perms more) }
         ensures tree { P.tree probe.new ≡ P.tree probe.old }
     {

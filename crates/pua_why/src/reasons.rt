@@ -1,19 +1,20 @@
 //! Why a request is answered as it is.
 
-ghost use Rattle.std.specs.Prelude.{◌≡◌, IfOk, IsFalse, option_map};
+ghost use Rattle.std.specs.Prelude.{◌≡◌, IfOk, None, option_map};
 ghost use Rattle.pua_policy.specs.History.{History, StandsFor};
 ghost use Rattle.pua_script.specs.Replay.{World as Replayed, apply};
-ghost use Rattle.pua_script.specs.Worlds.{StandsForWorld, is_fork};
+ghost use Rattle.pua_script.specs.Worlds.{StandsForWorld};
 ghost use Rattle.pua_why.specs.Checked.{checked, checks_fault, granted_by, refused_by};
 ghost use Rattle.pua_why.specs.Reasons.{reason, reasoned};
 ghost use Rattle.pua_why.specs.Seen.{fault_seen, reason_seen};
 
 use crate::checks::{call_fault, symlink_fault, unveil_fault};
-use crate::given::{fork_fault, lock_fault, pledge_fault};
+use crate::given::{fork_fault, lock_fault, pledge_fault, process_fault};
 use crate::pairs::{link_fault, rename_fault};
 use crate::told::{Fault, Reason};
+use pua_calls::CallTable;
 use pua_path::{Errno, Links};
-use pua_policy::{CallTable, Process};
+use pua_policy::Process;
 use pua_script::{Action, Answer, World};
 use pua_tree::{FileTree, OutOfMemory};
 use std::alloc::Global;
@@ -90,13 +91,32 @@ fn request_fault<'w, T: FileTree>(
         StandsForWorld world.now w → StandsFor process.now h → option_map fault_seen fault
         ≡ checks_fault w (reasoned world.now.table w.tree h action.now)) }
 {
-    match action {
-        Action::Fork(new) => fork_fault(alloc, world, process, *new),
-        _ => fault_of(alloc, world.tree(), world.table(), process, action),
+    match fault_of(alloc, world.tree(), world.table(), process, action) {
+        Ok(None) => further_fault(alloc, world, action),
+        Ok(Some(fault)) => Ok(Some(fault)),
+        Err(error) => Err(error),
     }
 }
 
-/// The check that fails of what makes no process.
+/// The check that fails of what no other check refused: whether a further process may be made, if
+/// the request makes one.
+fn further_fault<'s, T: FileTree>(
+    alloc: Global,
+    world: &World<T>,
+    action: &Action,
+) -> Result<Option<Fault<'s>>, OutOfMemory>
+    ensures { IfOk result (λ fault. (w : Replayed) (h : History) → StandsForWorld world.now w →
+        None ≡ refused_by (reasoned world.now.table w.tree h action.now) →
+        option_map fault_seen fault
+        ≡ checks_fault w (reasoned world.now.table w.tree h action.now)) }
+{
+    match action {
+        Action::Fork(new) => process_fault(alloc, world, *new),
+        _ => Ok(None),
+    }
+}
+
+/// The check that fails, before it is asked whether a further process may be made.
 fn fault_of<'s, T: FileTree>(
     alloc: Global,
     tree: &T,
@@ -104,7 +124,6 @@ fn fault_of<'s, T: FileTree>(
     process: &Process,
     action: &Action,
 ) -> Result<Option<Fault<'s>>, OutOfMemory>
-    requires { IsFalse (is_fork action.now) }
     ensures { IfOk result (λ fault. (h : History) → StandsFor process.now h →
         option_map fault_seen fault
         ≡ refused_by (reasoned table.now (T.content tree.now) h action.now)) }
@@ -138,6 +157,6 @@ fn fault_of<'s, T: FileTree>(
         }
         Action::Lock => Ok(lock_fault(process)),
         Action::Exit => Ok(None),
-        Action::Fork(_) => unreachable!(),
+        Action::Fork(_) => Ok(fork_fault(process)),
     }
 }

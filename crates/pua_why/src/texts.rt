@@ -1,18 +1,24 @@
 //! Reasons and facts as they are written.
 
-ghost use Rattle.std.specs.Prelude.{◌≡◌, ◌++◌, ◌∷◌, [], codes, if◌then◌else◌, IfOk, OnOk, map, string_bytes};
+ghost use Rattle.std.specs.Prelude.{◌≡◌, ◌++◌, ◌∷◌, [], codes, if◌then◌else◌, IfOk, OnOk, map};
+ghost use Rattle.std.specs.Prelude.{string_bytes};
 ghost use Rattle.pua_tree.specs.Tree.{Tree};
-ghost use Rattle.pua_policy.specs.Promises.{lacking};
+ghost use Rattle.pua_calls.specs.Promises.{lacking};
 ghost use Rattle.pua_path.specs.declared.traced.PathFault.TheVariants as faults;
 ghost use Rattle.pua_script.specs.Decide.{New};
 ghost use Rattle.pua_why.specs.Seen.{fact_seen, fault_seen, reason_seen, side_seen};
 ghost use Rattle.pua_policy.specs.Verdict.{object_of};
-ghost use Rattle.pua_why.specs.Texts.{covering_dated, fact_dated, fault_text, found_text, joined, kind_text, letters_text, misfit_text, of_exec_text, or_equals, path_fault_text, place_text, promises_text, reason_text, side_text, since_text, spot_text, target_text, text_fault_text, veil_text};
+ghost use Rattle.pua_why.specs.Texts.{covering_dated, fact_dated, fault_text, found_text, joined};
+ghost use Rattle.pua_why.specs.Texts.{kind_text, letters_text, misfit_text, of_exec_text};
+ghost use Rattle.pua_why.specs.Texts.{or_equals, path_fault_text, place_text, promises_text};
+ghost use Rattle.pua_why.specs.Texts.{reason_text, side_text, since_text, spot_text, target_text};
+ghost use Rattle.pua_why.specs.Texts.{text_fault_text, veil_text};
 
 use crate::told::{Fact, Fault, Reason, Side};
 use crate::tree_paths::{TreePaths, push_spelled};
+use pua_calls::{Perms, Promises};
 use pua_path::{Found, PathFault, Spot, Stop, TextFault};
-use pua_policy::{Covering, Misfit, Perms, Place, Promises};
+use pua_policy::{Covering, Misfit, Place};
 use pua_tree::{FileTree, Kind, NodeId};
 use std::alloc::{AllocError, Global};
 use std::fmt::Write;

@@ -1,7 +1,8 @@
 //! What is told of a request: why it is answered as it is.
 
+use pua_calls::{Perms, Promises};
 use pua_path::{Found, PathFault, Spot, TextFault};
-use pua_policy::{Covering, Misfit, Perms, Place, Promises};
+use pua_policy::{Covering, Misfit, Place};
 
 /// Of two paths, which one; or the only one.
 #[derive(Clone, Copy, Debug, PartialEq, Eq)]

@@ -1,10 +1,11 @@
 //! Where things stand in a tree, as paths are written.
 
-ghost use Rattle.std.specs.Prelude.{◌≡◌, ◌≤◌, ◌++◌, ◌∷◌, [], length, IfOk, OnOk, map, option_map, reverse, string_bytes, vec_capacity};
+ghost use Rattle.std.specs.Prelude.{◌≡◌, ◌++◌, ◌∷◌, IfOk, OnOk};
+ghost use Rattle.std.specs.Prelude.{map, option_map, reverse, string_bytes};
 ghost use Rattle.pua_tree.specs.LentRows.{lent_entry};
 ghost use Rattle.pua_tree.specs.Spelling.{byte_spelling, spelling};
 ghost use Rattle.pua_tree.specs.Tree.{Tree, spot_of};
-ghost use Rattle.pua_why.specs.Texts.{dir_names, dir_text, names_to, slashed, spot_text};
+ghost use Rattle.pua_why.specs.Texts.{dir_names, dir_text, slashed, spot_text};
 
 use pua_tree::{FileTree, LentRow, Name, NodeId, OutOfMemory};
 use std::alloc::{AllocError, Global};
@@ -25,7 +26,10 @@ impl<'t> Model for TreePaths<'t> {
 
     ghost Value = { PathsState };
 
-    ghost view = { λ a. record { rows = map lent_entry a.rows.items; names = map (λ name. name.now) a.names.items } };
+    ghost view = { λ a. record {
+      rows = map lent_entry a.rows.items;
+      names = map (λ name. name.now) a.names.items;
+    } };
 
     ghost invariant = { λ a. length a.rows.items ≤ vec_capacity a.names };
 }
@@ -77,30 +81,28 @@ impl<'t> TreePaths<'t> {
         ensures names { (t : Tree) → self.old.rows ≡ t.rows → self.new.names ≡ dir_names t dir }
         ensures rows { self.new.rows ≡ self.old.rows }
     {
-        self.names.clear();
-        add_names_over(self.rows.as_slice(), dir, &mut self.names);
+        self.climb(dir);
         self.names.reverse();
     }
-}
 
-/// Adds the names of a directory and of those above it, up to the root.
-fn add_names_over<'t>(rows: &[LentRow<'t>], dir: NodeId, names: &mut Vec<&'t Name>)
-    requires none { names.old.items ≡ [] }
-    requires room { length rows.now ≤ vec_capacity names.old }
-    ensures names { (t : Tree) → map lent_entry rows.now ≡ t.rows →
-        reverse (map (λ name. name.now) names.new.items) ≡ names_to (length rows.now) t dir }
-    ensures room { vec_capacity names.new ≡ vec_capacity names.old }
-{
-    let mut at = dir;
-    for _ in 0..rows.len() {
-        if at == NodeId::ROOT {
-            return;
+    /// Keeps the names of a directory and of those above it, up to the root.
+    fn climb(&mut self, dir: NodeId)
+        ensures names { (t : Tree) → self.old.rows ≡ t.rows →
+            reverse self.new.names ≡ dir_names t dir }
+        ensures rows { self.new.rows ≡ self.old.rows }
+    {
+        self.names.clear();
+        let mut at = dir;
+        for _ in 0..self.rows.len() {
+            if at == NodeId::ROOT {
+                return;
+            }
+            let Some(row) = row_of(self.rows.as_slice(), at) else {
+                return;
+            };
+            self.names.push_reserved(row.name);
+            at = row.dir;
         }
-        let Some(row) = row_of(rows, at) else {
-            return;
-        };
-        names.push_reserved(row.name);
-        at = row.dir;
     }
 }
 

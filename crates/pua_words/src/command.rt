@@ -1,7 +1,7 @@
 //! What the program is asked for.
 
 use pua_audit::Base;
-use pua_policy::Rules;
+use pua_calls::Rules;
 
 /// A command: a text that is asked for, and the names of the inputs that it is made of.
 #[derive(Debug, Drop)]

@@ -153,7 +153,7 @@ pua(1) lists all reasons.",
 pub(crate) const WHY_OUTPUT: &str = with_calls_and_faults!(
     "\
 Serves `P CALL ARG...` behind the last line of SCRIPT, and prints a line for
-each check that it passes, and then its answer as `pua run --why` has it:
+each of these that it passes, and then its answer as `pua run --why` has it:
   needs PROMISES       those by which it is let through, all of them held
   link PATH to TARGET  a link that its path follows
   names KIND PATH      what its path names: dir, file, prog, link or missing

@@ -11,7 +11,7 @@ use crate::version::VERSION;
 use clap::error::ErrorKind;
 use clap::{Arg, ArgAction, ArgMatches, Error, value_parser};
 use pua_audit::Base;
-use pua_policy::Rules;
+use pua_calls::Rules;
 use std::alloc::{AllocError, Global};
 
 /// The greatest number that a process has.

@@ -10,8 +10,8 @@ ghost use Rattle.pua_path.specs.declared.found.Last.TheVariants.{Kept};
 ghost use Rattle.pua_path.specs.declared.found.Part.TheVariants.{Name};
 ghost use Rattle.pua_policy.specs.declared.place.Place.TheVariants.{Slot};
 ghost use Rattle.pua_policy.specs.History.{kept};
-ghost use Rattle.pua_policy.specs.CallSets.{has, keeps_link};
-ghost use Rattle.pua_policy.specs.declared.call.Call.{Call};
+ghost use Rattle.pua_calls.specs.CallSets.{has, keeps_link};
+ghost use Rattle.pua_calls.specs.declared.call.Call.{Call};
 ghost use Rattle.pua_policy.specs.Descent.{cover_in};
 ghost use Rattle.pua_policy.specs.Verdict.{FoundsFit, cover, verdict_of, is_allowed};
 ghost use Rattle.pua_audit.specs.Bounds.{letter_cost, object_cost};
@@ -26,8 +26,9 @@ use crate::component::Component;
 use crate::table::directories::Directories;
 use crate::table::within::Within;
 use crate::terms::Terms;
+use pua_calls::Calls;
 use pua_path::{Errno, Found, Last, Part, Probe};
-use pua_policy::{Calls, Cover, Place, judge};
+use pua_policy::{Cover, Place, judge};
 use pua_tree::NodeId;
 
 /// A letter in a directory, for any number of links that were followed before it.

@@ -2,10 +2,10 @@
 
 ghost use Rattle.std.specs.Prelude.{◌≡◌, ◌<◌, ◌≤◌, ◌+◌, ◌&&◌, ℕ, List, [], length, get_or, option_map, Option, None, IfOk, IfSome, IsTrue};
 ghost use Rattle.pua_tree.specs.Tree.{Tree, is_dir};
-ghost use Rattle.pua_policy.specs.CallSets.{has, keeps_link};
+ghost use Rattle.pua_calls.specs.CallSets.{has, keeps_link};
 ghost use Rattle.pua_policy.specs.Descent.{cover_in};
 ghost use Rattle.pua_policy.specs.History.{History};
-ghost use Rattle.pua_policy.specs.declared.call.Call.{Call};
+ghost use Rattle.pua_calls.specs.declared.call.Call.{Call};
 ghost use Rattle.pua_audit.specs.Bounds.{row_cost};
 ghost use Rattle.pua_audit.specs.Covers.{AreCovered};
 ghost use Rattle.pua_audit.specs.Judge.{Judge};
@@ -20,8 +20,9 @@ use crate::table::directories::Directories;
 use crate::table::letter::Letter;
 use crate::table::spots::Spots;
 use crate::terms::Terms;
+use pua_calls::Calls;
 use pua_path::Probe;
-use pua_policy::{Calls, Cover};
+use pua_policy::Cover;
 use pua_steps::{Entry, Row};
 use pua_tree::{NodeId, OutOfMemory};
 use std::alloc::Global;

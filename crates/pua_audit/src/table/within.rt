@@ -3,20 +3,21 @@
 ghost use Rattle.std.specs.Prelude.{◌≡◌, ℕ, true, false, Some, IfSome, IfNone, IsTrue};
 ghost use Rattle.pua_tree.specs.Tree.{Tree, is_dir};
 ghost use Rattle.pua_path.specs.Kinds.{is_file};
-ghost use Rattle.pua_policy.specs.CallSets.{has};
-ghost use Rattle.pua_policy.specs.Calls.{CallTable};
+ghost use Rattle.pua_calls.specs.CallSets.{has};
+ghost use Rattle.pua_calls.specs.Calls.{CallTable};
 ghost use Rattle.pua_policy.specs.Descent.{cover_in};
 ghost use Rattle.pua_policy.specs.History.{History};
 ghost use Rattle.pua_policy.specs.Objects.{object_seen};
 ghost use Rattle.pua_policy.specs.Verdict as judged;
 ghost use Rattle.pua_policy.specs.Verdict.{covered_verdict, is_allowed, object_of_kind};
-ghost use Rattle.pua_policy.specs.declared.call.Call.{Call};
+ghost use Rattle.pua_calls.specs.declared.call.Call.{Call};
 ghost use Rattle.pua_audit.specs.Entries.{AreWithin, allowed_within};
 ghost use Rattle.pua_audit.specs.Past.{history_of};
 ghost use Rattle.pua_audit.specs.Ready.{IsSound};
 
 use crate::terms::Terms;
-use pua_policy::{Calls, Cover, Object, judge};
+use pua_calls::Calls;
+use pua_policy::{Cover, Object, judge};
 use pua_tree::Kind;
 
 /// The calls that are allowed in a directory on names without a veil of their own, by what stands

@@ -3,9 +3,10 @@
 ghost use Rattle.std.specs.Prelude.{IfSome};
 ghost use Rattle.pua_path.specs.Fits.{FoundFits};
 
+use pua_calls::{Call, needs};
 use pua_objects::ObjectKind;
 use pua_path::{Counted, Ending, Found, Last, PathText, resolve};
-use pua_policy::{Call, Place, Process, needs};
+use pua_policy::{Place, Process};
 use pua_tree::{FileTree, Kind, Name, NodeId};
 
 /// What a line is about: a directory, a name in a directory and what stands there, a name with a veil of

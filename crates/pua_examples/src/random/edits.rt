@@ -5,7 +5,7 @@ use crate::random::generator::{NAMES, Random};
 use crate::told::tell;
 use crate::worlds::{run_over, script_of};
 use anyhow::Result;
-use pua_policy::CallTable;
+use pua_calls::CallTable;
 use pua_script::Answer;
 use pua_tree::{FileTree, Kind, Name, NodeId, TreeFault, read_listing, read_listing_slab};
 use std::alloc::Global;

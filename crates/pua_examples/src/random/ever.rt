@@ -10,7 +10,7 @@ use crate::told::say;
 use crate::worlds::{answer, process_of, script_of, world_of};
 use crate::written::Files;
 use anyhow::Result;
-use pua_policy::{Call, CallTable, Calls};
+use pua_calls::{Call, CallTable, Calls};
 use pua_script::{Answer, World};
 use pua_tree::ListTree;
 use std::alloc::{AllocError, Global};

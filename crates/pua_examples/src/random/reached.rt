@@ -4,7 +4,8 @@ use crate::lists::{Asked, pairs};
 use crate::rows::trees::add_pairs;
 use anyhow::Result;
 use pua_audit::Base;
-use pua_policy::{CallTable, Process};
+use pua_calls::CallTable;
+use pua_policy::Process;
 use pua_tree::ListTree;
 use std::alloc::Global;
 

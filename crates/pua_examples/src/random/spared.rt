@@ -1,8 +1,9 @@
 //! The names of a tree on which the veils of a process give it no `c`, and whether they stay.
 
 use anyhow::{Result, bail};
+use pua_calls::Perms;
 use pua_path::{Counted, Ending, Last, PathText, resolve};
-use pua_policy::{Cover, Perms, Process};
+use pua_policy::{Cover, Process};
 use pua_tree::{FileTree, Kind, LentRow, ListTree, Name, NodeId};
 use std::alloc::{AllocError, Global};
 

@@ -2,7 +2,8 @@
 
 use crate::worlds::{Readable, tree_of};
 use anyhow::Result;
-use pua_policy::{CallTable, Perms, Place};
+use pua_calls::{CallTable, Perms};
+use pua_policy::Place;
 use pua_script::{Action, Answer, Request, World};
 use pua_tree::FileTree;
 use pua_why::{Key, checked};

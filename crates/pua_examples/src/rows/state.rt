@@ -4,7 +4,8 @@
 use crate::lists::{path_of, spell};
 use crate::told::add;
 use anyhow::Result;
-use pua_policy::{Call, Perms, Place, Process, Promises};
+use pua_calls::{Call, Perms, Promises};
+use pua_policy::{Place, Process};
 use pua_script::{Action, Given};
 use pua_tree::{FileTree, LentRow, Name, NodeId};
 use std::alloc::{AllocError, Global};

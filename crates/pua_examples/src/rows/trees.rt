@@ -10,7 +10,7 @@ use crate::told::add;
 use crate::worlds::{Readable, process_of, run_over, script_of, tree_of};
 use crate::written::{Files, Wanted};
 use anyhow::{Error, Result, bail};
-use pua_policy::CallTable;
+use pua_calls::CallTable;
 use pua_script::{Answer, World};
 use pua_tool::{AuditWords, Command, Processes, Text, ToolFault};
 use pua_tree::{FileTree, ListTree, SlabTree};

@@ -7,9 +7,10 @@ use crate::growth::objects::{set_of, spooler};
 use crate::growth::readings::tree_read;
 use crate::trees::ListedTree;
 use anyhow::{Result, bail};
+use pua_calls::{Call, CallTable};
 use pua_ever::{Ever, EverFault, EverLine, EverThing};
 use pua_objects::ObjectKind;
-use pua_policy::{Call, CallTable, Process};
+use pua_policy::Process;
 use pua_tree::FileTree;
 use std::alloc::Global;
 

@@ -8,7 +8,8 @@ use crate::growth::readings::tree_read;
 use crate::trees::ListedTree;
 use anyhow::Result;
 use pua_audit::AuditFault;
-use pua_policy::{Call, CallTable, Perms, Place, Process};
+use pua_calls::{Call, CallTable, Perms};
+use pua_policy::{Place, Process};
 use pua_tree::{FileTree, Name, NodeId};
 use std::alloc::Global;
 

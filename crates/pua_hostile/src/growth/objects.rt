@@ -6,8 +6,9 @@ use crate::growth::is_refused;
 use crate::growth::readings::tree_read;
 use crate::trees::ListedTree;
 use anyhow::Result;
+use pua_calls::{Call, CallTable, Calls, Perms};
 use pua_objects::{ObjectKind, ObjectLine, Objects};
-use pua_policy::{Call, CallTable, Calls, Perms, Place, Process};
+use pua_policy::{Place, Process};
 use pua_tree::{FileTree, Name, NodeId, OutOfMemory};
 use std::alloc::Global;
 

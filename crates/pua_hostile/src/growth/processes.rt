@@ -5,7 +5,8 @@ use crate::growth::is_refused;
 use crate::growth::readings::tree_read;
 use crate::growth::seen::process_seen;
 use anyhow::{Result, bail};
-use pua_policy::{Perms, Place, Process, Promises, UnveilFault};
+use pua_calls::{Perms, Promises};
+use pua_policy::{Place, Process, UnveilFault};
 use pua_tree::{ListTree, NodeId, OutOfMemory};
 use std::alloc::Global;
 

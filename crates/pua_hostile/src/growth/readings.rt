@@ -8,7 +8,7 @@ use crate::inputs::TABLE;
 use crate::listed::listing_of;
 use crate::trees::ListedTree;
 use anyhow::Result;
-use pua_policy::{Call, CallTable, Perms, TableFault};
+use pua_calls::{Call, CallTable, Perms, TableFault};
 use pua_script::{Script, ScriptFault, read_script};
 use pua_tool::{InputFault, Inputs, MemoryInputs, ReadSource, read_bytes};
 use pua_tree::{FileTree, LentRow, ListingFault, Name, OutOfMemory, TreeFault};

@@ -3,7 +3,8 @@
 use crate::audited::TreeAudit;
 use crate::listed::listing_of;
 use anyhow::Result;
-use pua_policy::{CallTable, Process};
+use pua_calls::CallTable;
+use pua_policy::Process;
 use pua_script::World;
 use pua_tree::FileTree;
 use std::alloc::Global;

@@ -9,7 +9,7 @@ use crate::called::{
 use crate::growth::is_refused;
 use anyhow::Result;
 use pua_audit::Base;
-use pua_policy::Rules;
+use pua_calls::Rules;
 use pua_tool::{
     DONE, Job, MEMORY, MemoryInputs, MemorySink, Processes, Sink, TableChoice, ToolFault,
 };

@@ -3,8 +3,9 @@
 ghost use Rattle.pua_policy.specs.Verdict.{FoundFits};
 
 use anyhow::Result;
+use pua_calls::Perms;
 use pua_path::{Counted, Ending, Found, Last, PathText, Probe, resolve};
-use pua_policy::{Perms, Place, Process};
+use pua_policy::{Place, Process};
 use pua_tree::{NodeId, SlabTree};
 use std::alloc::Global;
 

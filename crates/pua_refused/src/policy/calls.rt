@@ -1,6 +1,6 @@
 //! Calls and sets of calls.
 
-use pua_policy::{Call, Calls};
+use pua_calls::{Call, Calls};
 
 /// A set has its calls, and no other.
 fn contains_of_none(call: Call) {

@@ -1,6 +1,7 @@
 //! What an exec and a fork keep of a process.
 
-use pua_policy::{ExecPromises, May, Perms, Place, Process, Promises};
+use pua_calls::{ExecPromises, Perms, Promises};
+use pua_policy::{May, Place, Process};
 use pua_tree::NodeId;
 use std::alloc::Global;
 

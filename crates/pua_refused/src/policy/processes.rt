@@ -1,6 +1,7 @@
 //! What processes keep of what happened to them.
 
-use pua_policy::{May, PLACE_LIMIT, Perms, Place, Process, Promises, UnveilFault};
+use pua_calls::{Perms, Promises};
+use pua_policy::{May, PLACE_LIMIT, Place, Process, UnveilFault};
 use pua_tree::NodeId;
 use std::alloc::Global;
 

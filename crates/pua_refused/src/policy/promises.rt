@@ -1,7 +1,7 @@
 //! Promises, and how they are read.
 
+use pua_calls::Promises;
 use pua_path::Errno;
-use pua_policy::Promises;
 
 /// A word without bytes is no keyword.
 fn empty_word_accepted() {

@@ -1,7 +1,7 @@
 //! Tables of calls, and how they are read. The texts are those of the library's worked examples,
 //! which are its contract's word on what a text gives.
 
-use pua_policy::{Call, CallTable, Perms, TableFault, table_examples};
+use pua_calls::{Call, CallTable, Perms, TableFault, table_examples};
 use std::alloc::Global;
 
 /// Calls that a text doesn't name need what the standard table says.

@@ -1,8 +1,9 @@
 //! Verdicts, and the calls that are allowed.
 
+use pua_calls::{Call, CallTable, Perms, Promises};
 use pua_path::{Found, Probe, Way};
 use pua_policy::judge::{allowed, promised, promised_for, verdict};
-use pua_policy::{Call, CallTable, Cover, Object, Perms, Process, Promises, Verdict};
+use pua_policy::{Cover, Object, Process, Verdict};
 use pua_tree::NodeId;
 use std::alloc::Global;
 

@@ -1,10 +1,10 @@
 use Rattle.std.proofs.Common.{◌≡◌, take}
 use Rattle.pua_tree.specs.Tree.{empty_tree}
-use Rattle.pua_policy.specs.CallSets.{has}
+use Rattle.pua_calls.specs.CallSets.{has}
 use Rattle.pua_policy.specs.History.{History, StandsFor}
 use Rattle.pua_policy.specs.Objects.{object_seen}
 use Rattle.pua_policy.specs.Verdict.{Object}
-use Rattle.pua_policy.specs.declared.call.Call.{Call}
+use Rattle.pua_calls.specs.declared.call.Call.{Call}
 use Rattle.pua_ever.specs.Ever.{is_allowed_under}
 use Rattle.pua_ever.proofs.movable.under.Given as goal
 

@@ -1,6 +1,6 @@
 use Rattle.std.proofs.Common.{◌≡◌, nat_eq, length}
 use Rattle.std.specs.List.{list_any}
-use Rattle.pua_policy.specs.Calls.{call_number}
+use Rattle.pua_calls.specs.Calls.{call_number}
 use Rattle.pua_examples.proofs.calling.is_lent.Given as goal
 
 -- the audit stays one of the probe's tree, and no pair that was lent has the call

@@ -1,6 +1,6 @@
 use Rattle.std.proofs.Common.{◌≡◌, ◌∙◌, [], None, Ok, ap, subst, nat_eq}
 use Rattle.std.specs.List.{list_any}
-use Rattle.pua_policy.specs.Calls.{call_number}
+use Rattle.pua_calls.specs.Calls.{call_number}
 use Rattle.pua_audit.specs.Begin.{beginning}
 use Rattle.pua_audit.specs.declared.base.Base.TheVariants.{Root}
 use Rattle.pua_examples.proofs.calling.is_reached.Goals as goal

@@ -1,9 +1,9 @@
 use Rattle.std.proofs.Common.{◌≡◌, ℕ, Bool, get_or, sym, ◌∙◌}
-use Rattle.pua_policy.specs.Calls.{calls}
+use Rattle.pua_calls.specs.Calls.{calls}
 use Rattle.pua_policy.specs.Verdict.{covered_verdict, is_allowed}
-use Rattle.pua_policy.specs.declared.call.Call.{Call}
-use Rattle.pua_policy.specs.declared.call.Call.TheVariants.{Stat}
-use Rattle.pua_policy.proofs.CallBits.{bit_of_call_at, Decides, decides_none, decides_taken, decides_left, decides_all}
+use Rattle.pua_calls.specs.declared.call.Call.{Call}
+use Rattle.pua_calls.specs.declared.call.Call.TheVariants.{Stat}
+use Rattle.pua_calls.proofs.ForCallers.{bit_of_call_at, Decides, decides_none, decides_taken, decides_left, decides_all}
 use Rattle.pua_policy.proofs.judge.allowed.Goals.{then-allows, else-allows}
 use Rattle.pua_policy.proofs.judge.allowed.Goals as goal
 

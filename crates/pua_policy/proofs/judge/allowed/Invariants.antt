@@ -3,7 +3,7 @@ use Rattle.pua_tree.specs.Tree.{Tree}
 use Rattle.pua_policy.specs.History.{History, StandsFor}
 use Rattle.pua_policy.specs.Objects.{object_seen}
 use Rattle.pua_policy.specs.Verdict.{Object, covered_verdict, is_allowed}
-use Rattle.pua_policy.proofs.CallBits.{Decides}
+use Rattle.pua_calls.proofs.ForCallers.{Decides}
 use Rattle.pua_policy.proofs.judge.allowed.Given as goal
 
 -- of the calls so far those that are allowed are in the set

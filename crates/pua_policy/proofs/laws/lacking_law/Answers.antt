@@ -1,5 +1,5 @@
-use Rattle.pua_policy.proofs.Lacking.{lackings_hold}
+use Rattle.pua_policy.proofs.Lacking.{lackings_hold, promisings_hold, promisings_answer}
 use Rattle.pua_policy.proofs.laws.lacking_law.Goals as goal
 
-pub returns-clause-sets : goal.returns-clause-sets
-returns-clause-sets c = lackings_hold
+pub returns : goal.returns
+returns c = record { sets = lackings_hold; promises = promisings_hold; answers = promisings_answer }

@@ -1,7 +1,7 @@
 use Rattle.std.proofs.Common.{◌∷◌, [], sym, ap, ◌∙◌, is_some, refl}
 use Rattle.std.specs.Prelude.{Ok}
 use Rattle.pua_policy.specs.History.{may_any}
-use Rattle.pua_policy.specs.Promises.{proc}
+use Rattle.pua_calls.specs.Promises.{proc}
 use Rattle.pua_script.specs.Decide.{CopyAs}
 use Rattle.pua_script.specs.Replay.{come_of}
 use Rattle.pua_script.specs.Worlds.{WorldState}

@@ -1,5 +1,5 @@
 use Rattle.std.proofs.Common.{◌≡◌, ◌∙◌, sym, ap, map, flat_map, subst}
-use Rattle.pua_policy.specs.Calls.{CallTable}
+use Rattle.pua_calls.specs.Calls.{CallTable}
 use Rattle.pua_script.specs.AnswerTexts.{ended}
 use Rattle.pua_script.specs.Replay.{World as Replayed, apply, world_after}
 use Rattle.pua_script.specs.Worlds.{StandsForWorld}

@@ -1,5 +1,5 @@
 use Rattle.std.proofs.Common.{◌≡◌, ◌∙◌, ap, map, length, [], subst}
-use Rattle.pua_policy.specs.Calls.{CallTable}
+use Rattle.pua_calls.specs.Calls.{CallTable}
 use Rattle.pua_script.specs.Replay.{world_after}
 use Rattle.pua_why.specs.Reasons.{reason}
 use Rattle.pua_why.specs.Seen.{fact_seen}

@@ -1,7 +1,7 @@
 use Rattle.std.proofs.Common.{◌≡◌, ◌≢◌, ℕ, List, ◌++◌, Ok, Err, ap, subst, ◌∙◌}
 use Rattle.std.proofs.lemmas.Result.{err_from_is_err_and}
 use Rattle.pua_tree.specs.Tree.{Tree}
-use Rattle.pua_policy.specs.Calls.{CallTable}
+use Rattle.pua_calls.specs.Calls.{CallTable}
 use Rattle.pua_script.specs.Replay.{history_of}
 use Rattle.pua_ever.specs.Refusals.{refusal}
 use Rattle.pua_tool.specs.EverLists.{IsEverListOf}

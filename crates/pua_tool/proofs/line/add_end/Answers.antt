@@ -1,5 +1,5 @@
 use Rattle.std.proofs.Common.{◌≡◌, ℕ, ◌+◌, List, [], ◌∷◌, length, take, ap, ◌∙◌, arith, length-append}
-use Rattle.pua_policy.specs.Calls.{call_name}
+use Rattle.pua_calls.specs.Calls.{call_name}
 use Rattle.pua_tool.specs.Texts.{ended}
 use Rattle.pua_tool.proofs.Pairs.{name_kept}
 use Rattle.pua_tool.proofs.line.add_end.Goals as goal

@@ -2,7 +2,7 @@ use Rattle.std.proofs.Common.{List, ℕ, ◌∷◌, ◌++◌, [], Ok, refl, sym,
 use Rattle.std.proofs.lemmas.Result.{err_from_is_err_and}
 use Rattle.std.specs.Prelude.{Option}
 use Rattle.pua_tree.specs.Spelling.{spelling}
-use Rattle.pua_policy.specs.Calls.{call_name}
+use Rattle.pua_calls.specs.Calls.{call_name}
 use Rattle.pua_audit.specs.Reach.{path_of}
 use Rattle.pua_audit.specs.Lent.{IsNextLine}
 use Rattle.pua_audit.specs.declared.line.Line.{Line}

@@ -1,7 +1,7 @@
 use Rattle.std.proofs.Common.{◌++◌, ◌∷◌, ◌∙◌, [], ap, append_assoc, map}
 use Rattle.std.proofs.lemmas.Result.{err_from_is_err_and}
-use Rattle.pua_policy.specs.Calls.{call_name}
-use Rattle.pua_policy.specs.CallSets.{calls_in}
+use Rattle.pua_calls.specs.Calls.{call_name}
+use Rattle.pua_calls.specs.CallSets.{calls_in}
 use Rattle.pua_objects.specs.Objects.{with_commas}
 use Rattle.pua_tool.proofs.Passing.{passes_room, passes_unput}
 use Rattle.pua_tool.proofs.object_line.add_calls.Goals as goal

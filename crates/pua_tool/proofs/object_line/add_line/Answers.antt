@@ -1,7 +1,7 @@
 use Rattle.std.proofs.Common.{List, ℕ, ◌∷◌, ◌++◌, [], Ok, Err, map, subst}
 use Rattle.std.proofs.lemmas.Result.{err_from_is_err_and}
-use Rattle.pua_policy.specs.Calls.{call_name}
-use Rattle.pua_policy.specs.CallSets.{calls_in}
+use Rattle.pua_calls.specs.Calls.{call_name}
+use Rattle.pua_calls.specs.CallSets.{calls_in}
 use Rattle.pua_audit.specs.Reach.{printed_path}
 use Rattle.pua_audit.specs.declared.base.Base.TheVariants as base
 use Rattle.pua_objects.specs.Lines.{kind_word}

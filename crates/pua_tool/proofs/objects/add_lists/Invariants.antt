@@ -1,5 +1,5 @@
 use Rattle.std.proofs.Common.{◌≡◌, List, ℕ, length}
-use Rattle.pua_policy.specs.Calls.{CallTable}
+use Rattle.pua_calls.specs.Calls.{CallTable}
 use Rattle.pua_script.specs.Replay.{World, history_of}
 use Rattle.pua_tool.specs.Lists.{AreListsOf, IsListOf}
 use Rattle.pua_tool.specs.ObjectTexts.{lists_of, process_list}

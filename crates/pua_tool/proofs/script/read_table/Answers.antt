@@ -1,5 +1,5 @@
 use Rattle.std.proofs.Common.{Ok, ap, refl, rules, sym, ◌∙◌}
-use Rattle.pua_policy.specs.Calls.{CallTable, table_by_rules}
+use Rattle.pua_calls.specs.Calls.{CallTable, table_by_rules}
 use Rattle.pua_tool.specs.Texts.{given, with_rows}
 use Rattle.pua_tool.proofs.script.read_table.Goals as goal
 

@@ -1,7 +1,7 @@
 use Rattle.std.proofs.Common.{◌≡◌, ◌≢◌, Ok, Err, ap, ◌∙◌, rules}
 use Rattle.pua_tree.specs.Tree.{Tree}
 use Rattle.pua_tree.specs.Listing.{listing}
-use Rattle.pua_policy.specs.Calls.{CallTable}
+use Rattle.pua_calls.specs.Calls.{CallTable}
 use Rattle.pua_script.specs.Replay.{new_world, answers, world_after}
 use Rattle.pua_tool.specs.Texts.{as_listing, chosen, replayed, table_by}
 use Rattle.pua_tool.specs.declared.fault.ToolFault.TheVariants.{OutOfMemory}

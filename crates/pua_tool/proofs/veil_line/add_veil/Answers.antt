@@ -1,7 +1,7 @@
 use Rattle.std.proofs.Common.{List, ℕ, ◌∷◌, ◌++◌, [], Err, map}
 use Rattle.std.specs.Prelude.{codes}
 use Rattle.std.proofs.lemmas.Result.{err_from_is_err_and}
-use Rattle.pua_policy.specs.Promises.{letters_of}
+use Rattle.pua_calls.specs.Promises.{letters_of}
 use Rattle.pua_tool.specs.States.{or_equals, path_or_hyphen}
 use Rattle.pua_tool.proofs.Passing.{passes_then, passes_front}
 use Rattle.pua_tool.proofs.veil_line.add_veil.Goals as goal

@@ -2,7 +2,7 @@ use Rattle.std.proofs.Common.{[], ◌++◌, ◌∷◌, ◌+◌, Ok, map, drop, �
 use Rattle.std.specs.Prelude.{codes, reverse}
 use Rattle.std.proofs.lemmas.Result.{err_from_is_err_and}
 use Rattle.pua_tree.specs.Tree.{is_dir}
-use Rattle.pua_policy.specs.Promises.{letters_of}
+use Rattle.pua_calls.specs.Promises.{letters_of}
 use Rattle.pua_tool.specs.States.{or_equals, path_or_hyphen, place_dir, place_names, veil_lines}
 use Rattle.pua_tool.proofs.States.{shown, veil_next, veils_done}
 use Rattle.pua_tool.proofs.Passing.{passes_none, passing_none, passing_more, passing_fails, passing_last}

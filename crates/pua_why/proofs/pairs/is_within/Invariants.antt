@@ -3,11 +3,12 @@ use Rattle.std.specs.List.{list_any}
 use Rattle.pua_tree.specs.Tree.{is_dir, climb}
 use Rattle.pua_why.proofs.pairs.is_within.Given as goal
 
--- the rest of the climb decides
+-- the rest of the climb decides, if it began at a directory
 abbrev pub invariant-loop-node : goal.invariant-loop-node
 invariant-loop-node g l = record {
-  living : IsTrue (is_dir (g.T.FileTree.content l.fn.tree) l.at);
-  same : list_any (λ d. d == l.fn.node) (climb (g.T.FileTree.content l.fn.tree) l.at) ≡ list_any (λ d. d == l.fn.node) (climb (g.T.FileTree.content l.fn.tree) l.fn.dir);
+  living : IsTrue (is_dir (g.T.FileTree.content l.fn.tree) l.fn.dir) → IsTrue (is_dir (g.T.FileTree.content l.fn.tree) l.at);
+  same : IsTrue (is_dir (g.T.FileTree.content l.fn.tree) l.fn.dir) →
+      list_any (λ d. d == l.fn.node) (climb (g.T.FileTree.content l.fn.tree) l.at) ≡ list_any (λ d. d == l.fn.node) (climb (g.T.FileTree.content l.fn.tree) l.fn.dir);
 }
 
 abbrev pub decreases-loop-node : goal.decreases-loop-node

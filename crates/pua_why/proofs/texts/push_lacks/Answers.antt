@@ -1,6 +1,6 @@
 use Rattle.std.proofs.Common.{false, ◌++◌, ◌+◌, [], ap, sym, ◌∙◌, drop, string_bytes, arith}
 use Rattle.std.specs.Prelude.{codes, if◌then◌else◌}
-use Rattle.pua_policy.specs.Promises.{lacking}
+use Rattle.pua_calls.specs.Promises.{lacking}
 use Rattle.pua_why.specs.Texts.{promises_text}
 use Rattle.pua_why.proofs.Joining.{rest, joined_is, lack_next, lack_words, lacks_done}
 use Rattle.pua_why.proofs.texts.push_lacks.Goals as goal

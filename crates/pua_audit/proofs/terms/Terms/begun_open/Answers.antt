@@ -2,12 +2,12 @@ use Rattle.std.proofs.Common.{◌≡◌, ◌<◌, ◌∙◌, ℕ, List, Option, 
 use Rattle.std.specs.List.{AllByRecursion}
 use Rattle.pua_tree.specs.Tree.{Tree, is_dir}
 use Rattle.pua_path.specs.declared.found.Found.{Found}
-use Rattle.pua_policy.specs.CallSets.{has}
+use Rattle.pua_calls.specs.CallSets.{has}
 use Rattle.pua_policy.specs.Descent.{cover_in}
 use Rattle.pua_policy.specs.History.{History}
 use Rattle.pua_policy.specs.Verdict.{cover, verdict, is_allowed}
 use Rattle.pua_policy.proofs.ForCallers.{covers_descend}
-use Rattle.pua_policy.specs.declared.call.Call.{Call}
+use Rattle.pua_calls.specs.declared.call.Call.{Call}
 use Rattle.pua_audit.specs.Coming.{pairs_after, pairs_at}
 use Rattle.pua_audit.specs.Graphs.{numbered, spelled}
 use Rattle.pua_audit.specs.Judge.{base_dir, base_way}

@@ -1,6 +1,6 @@
 use Rattle.std.proofs.Common.{◌≡◌, ◌≢◌, [], ◌++◌, sym, ap, subst, ◌∙◌, arith, length, take}
 use Rattle.pua_tree.specs.Tree.{Tree}
-use Rattle.pua_policy.specs.CallSets.{calls_in}
+use Rattle.pua_calls.specs.CallSets.{calls_in}
 use Rattle.pua_objects.proofs.ForCallers.{stays_shared}
 use Rattle.pua_ever.specs.EverLines.{lines_of, IsThing}
 use Rattle.pua_ever.specs.EverState.{EverState}

@@ -2,7 +2,7 @@ use Rattle.std.proofs.Common.{◌≡◌, true, false, sym, ap, ◌∙◌}
 use Rattle.std.specs.Prelude.{◌&&◌, ◌==◌, not, is_none, if◌then◌else◌}
 use Rattle.std.specs.List.{list_any}
 use Rattle.pua_tree.specs.Tree.{empty_tree}
-use Rattle.pua_policy.specs.CallSets.{has}
+use Rattle.pua_calls.specs.CallSets.{has}
 use Rattle.pua_policy.specs.History.{kept}
 use Rattle.pua_policy.specs.Verdict.{covered_verdict, is_allowed}
 use Rattle.pua_policy.specs.declared.object.Object.TheVariants as see

@@ -1,6 +1,6 @@
 use Rattle.std.proofs.Common.{◌∙◌, sym, ap}
 use Rattle.pua_policy.specs.Verdict.{cover}
-use Rattle.pua_policy.proofs.Covers.{cover-unveiled, cover-whole, cover-own, cover-beneath}
+use Rattle.pua_policy.proofs.Covers.{cover-unveiled, cover-whole, cover-own, cover-beneath, slot_lives}
 use Rattle.pua_policy.proofs.process.Process.cover.Goals as goal
 
 pub returns-then-not-is_veiled-clause-exact : goal.returns-then-not-is_veiled-clause-exact
@@ -11,7 +11,7 @@ pub returns-in-Whole-clause-exact : goal.returns-in-Whole-clause-exact
 returns-in-Whole-clause-exact g c = λ h s.
     let t = g.P.Probe.tree c.args.probe.now in
     let living = rw c.in-Whole.is at c.requires in
-    c.cover_from.ensures.exact
+    c.cover_from.ensures.exact living
     ∙ sym (cover-whole c.args.self.now h s t (sym c.is_veiled.ensures ∙ c.if-not-is_veiled.false) c.known.ensures c.in-Whole.dir c.in-Whole.way living)
     ∙ ap (cover t h) (sym c.in-Whole.is)
 
@@ -24,6 +24,7 @@ returns-in-Some-clause-exact g c = λ h s.
 pub returns-in-None-clause-exact : goal.returns-in-None-clause-exact
 returns-in-None-clause-exact g c = λ h s.
     let t = g.P.Probe.tree c.args.probe.now in
-    c.cover_from-in-None.ensures.exact
+    let living = slot_lives t c.in-Slot.dir c.in-Slot.name c.in-Slot.node (rw c.in-Slot.is at c.requires) in
+    c.cover_from-in-None.ensures.exact living
     ∙ sym (cover-beneath c.args.self.now h s t (sym c.is_veiled.ensures ∙ c.if-not-is_veiled.false) c.in-Slot.dir c.in-Slot.name c.in-Slot.node (sym c.kept.ensures.state ∙ c.in-None.is))
     ∙ ap (cover t h) (sym c.in-Slot.is)

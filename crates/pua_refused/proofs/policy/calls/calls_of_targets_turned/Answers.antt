@@ -1,7 +1,7 @@
 use Rattle.std.proofs.Common.{◌≡◌, false, sym, ◌∙◌}
 use Rattle.std.proofs.Math.Bool.{and-false}
 use Rattle.std.proofs.lemmas.Bool.{false≢true}
-use Rattle.pua_policy.specs.declared.call.Call.TheVariants.{Unlink}
+use Rattle.pua_calls.specs.declared.call.Call.TheVariants.{Unlink}
 use Rattle.pua_refused.proofs.policy.calls.calls_of_targets_turned.Goals as goal
 
 pub unreachable-requires : goal.unreachable-requires

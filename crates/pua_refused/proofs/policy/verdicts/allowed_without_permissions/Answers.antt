@@ -4,7 +4,7 @@ use Rattle.pua_tree.specs.Tree.{empty_tree}
 use Rattle.pua_policy.specs.History.{new_history}
 use Rattle.pua_policy.specs.Verdict.{IsFile, covered_verdict, is_allowed}
 use Rattle.pua_policy.specs.declared.answer.Cover.TheVariants.{Only}
-use Rattle.pua_policy.specs.declared.call.Call.TheVariants.{Stat}
+use Rattle.pua_calls.specs.declared.call.Call.TheVariants.{Stat}
 use Rattle.pua_refused.proofs.policy.verdicts.allowed_without_permissions.Goals as goal
 
 pub unreachable-requires : goal.unreachable-requires

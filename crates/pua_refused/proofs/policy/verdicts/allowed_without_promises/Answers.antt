@@ -3,7 +3,7 @@ use Rattle.std.proofs.lemmas.Bool.{false≢true}
 use Rattle.pua_tree.specs.Tree.{empty_tree}
 use Rattle.pua_policy.specs.History.{new_history, Ended}
 use Rattle.pua_policy.specs.Verdict.{IsFile}
-use Rattle.pua_policy.specs.declared.call.Call.TheVariants.{Stat}
+use Rattle.pua_calls.specs.declared.call.Call.TheVariants.{Stat}
 use Rattle.pua_refused.proofs.policy.verdicts.allowed_without_promises.Goals as goal
 
 pub unreachable-requires : goal.unreachable-requires

@@ -5,7 +5,7 @@ use Rattle.pua_path.specs.declared.found.Way.TheVariants.{Top}
 use Rattle.pua_policy.specs.History.{new_history}
 use Rattle.pua_policy.specs.Verdict.{IsDir, covered_verdict, is_allowed}
 use Rattle.pua_policy.specs.declared.answer.Cover.TheVariants.{All}
-use Rattle.pua_policy.specs.declared.call.Call.TheVariants.{Rmdir}
+use Rattle.pua_calls.specs.declared.call.Call.TheVariants.{Rmdir}
 use Rattle.pua_refused.proofs.policy.verdicts.full_directory_removed.Goals as goal
 
 pub unreachable-requires : goal.unreachable-requires

@@ -13,7 +13,7 @@ loop-watch-preserved g c =
     let place = c.loop-watch.watch-index in
     let watch : Watch = get_or items place c.watch-item.result in
     let within : place < length items = omega (arith, c.loop-watch-test.true, c.loop-watch.auto.watch-items) in
-    one_asked c.args.world.now c.args.line place c.args.self.now items c.loop-watch.invariant within watch c.ask.new.self
+    one_asked c.args.world.now c.args.touched.now c.args.line place c.args.self.now items c.loop-watch.invariant within watch c.ask.new.self
     (ap (get_or items place) c.watch-item.is) c.ask.ensures.topic c.in_ok-ask.ensures.asked
 
 pub returns-clause-asked : goal.returns-clause-asked
@@ -24,7 +24,8 @@ returns-clause-asked g c =
     let same : length items ≡ old.len =
     omega (arith, c.loop-watch.auto.watch-items, ap length c.deref_mut-watch-items.ensures.value, old.ok.0) in
     let all : length items ≤ c.loop-watch.watch-index = omega (arith, c.loop-watch-test.false, c.loop-watch.auto.watch-items) in
-    all_asked c.args.world.now c.args.line c.loop-watch.watch-index c.args.self.now after items refl (with_items_is old items same)
+    all_asked c.args.world.now c.args.touched.now c.args.line c.loop-watch.watch-index c.args.self.now after items refl
+    (with_items_is old items same)
     c.loop-watch.invariant all
 
 pub returns-in_err-ask-clause-kept : goal.returns-in_err-ask-clause-kept
@@ -44,5 +45,5 @@ returns-in_err-ask-clause-kept g c =
       old.ok.0,
     ) in
     subst (IsKeptThrough old.items) (sym (with_items_is old after same))
-    (kept_more c.args.world.now c.args.line place c.args.self.now items c.loop-watch.invariant within watch c.ask.new.self
+    (kept_more c.args.world.now c.args.touched.now c.args.line place c.args.self.now items c.loop-watch.invariant within watch c.ask.new.self
     (ap (get_or items place) c.watch-item.is) c.ask.ensures.topic)

@@ -1,8 +1,9 @@
-use Rattle.std.proofs.Common.{◌≡◌, ◌<◌, true, false, Some, refl, ap, length, arith, rules}
+use Rattle.std.proofs.Common.{◌≡◌, ◌<◌, true, false, Some, ap, length, arith, rules}
 use Rattle.std.specs.Prelude.{slice_get}
 use Rattle.std.proofs.lemmas.Option.{slice_get_read, slice_get_within}
 use Rattle.pua_since.specs.Watched.{IsSameTopic}
 use Rattle.pua_since.proofs.Topics.{kept_by_set, topic_by_set}
+use Rattle.pua_since.proofs.Handing.{wanted_by_set}
 use Rattle.pua_since.proofs.watches.Watches.extend.Goals as goal
 
 pub returns-in-Some-clause-place : goal.returns-in-Some-clause-place
@@ -16,6 +17,17 @@ returns-in-Some-clause-place c =
     } in
     λ process question before topic. topic_by_set items c.args.place c.in-Some.watch.now c.extend.new.self here same process question
     before c.args.last (omega (arith, ap (λ watch. watch.last) c.extend.ensures)) topic
+
+-- what is watched stays so where it is wanted longer
+pub returns-in-Some-clause-watched : goal.returns-in-Some-clause-watched
+returns-in-Some-clause-watched c = λ table w left watched.
+    let items = c.args.self.now.watches.items in
+    let here : slice_get items c.args.place ≡ Some c.in-Some.watch.now = search (rules, slice_get_read) in
+    record {
+      forks = watched.forks;
+      each = wanted_by_set table w left items c.args.place c.in-Some.watch.now c.extend.new.self c.args.last here c.extend.ensures
+          watched.each;
+    }
 
 pub returns-in-Some-clause-kept : goal.returns-in-Some-clause-kept
 returns-in-Some-clause-kept c =

@@ -1,5 +1,8 @@
-use Rattle.std.proofs.Common.{◌∙◌, sym}
+use Rattle.std.proofs.Common.{◌∙◌, sym, subst}
+use Rattle.std.proofs.lemmas.Result.{on_ok_weaker}
+use Rattle.pua_tree.specs.Tree.{WellFormed}
 use Rattle.pua_since.proofs.Handing.{told_stay}
+use Rattle.pua_since.proofs.Serving.{served_watched}
 use Rattle.pua_since.proofs.watches.Watches.serve.Goals as goal
 
 pub returns-then-not-has_changed-clause-watched : goal.returns-then-not-has_changed-clause-watched
@@ -7,3 +10,13 @@ returns-then-not-has_changed-clause-watched g c = λ w done left stands told num
     told_stay c.action.result.now c.args.answer (c.has_changed.ensures.stays c.if-not-has_changed.true)
     (sym c.has_changed.ensures.exact ∙ c.if-not-has_changed.true)
     c.args.world.now.table w done c.args.request.now left c.args.self.now c.action.ensures.action stands.in_order told watched
+
+pub returns-clause-watched : goal.returns-clause-watched
+returns-clause-watched g c =
+    on_ok_weaker c.ask_again.result
+    (served_watched c.args.world.now c.apply.new.self c.args.self.now c.hand_on.new.self c.ask_again.new.self c.args.request.now c.args.answer
+    c.in-Ok.field-0 c.touched_by-touched.result c.args.line c.touched_by-touched.ensures (subst WellFormed c.tree.ensures c.known.ensures)
+    c.in-Ok.ensures.tree c.in-Ok.ensures.served
+    (λ table w done left told watched. c.hand_on.ensures.handed table w done c.args.request.now left
+    (sym c.action-2.ensures.action) told watched))
+    c.ask_again.ensures.asked

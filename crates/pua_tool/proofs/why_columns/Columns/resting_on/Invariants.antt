@@ -1,7 +1,7 @@
 use Rattle.std.proofs.Common.{◌≡◌, drop}
 use Rattle.std.specs.Prelude.{bit_or, filter}
-use Rattle.pua_policy.specs.Calls.{calls}
-use Rattle.pua_policy.specs.CallSets.{calls_in, has}
+use Rattle.pua_calls.specs.Calls.{calls}
+use Rattle.pua_calls.specs.CallSets.{calls_in, has}
 use Rattle.pua_policy.specs.History.{History, StandsFor}
 use Rattle.pua_why.specs.Columns.{resting_on}
 use Rattle.pua_tool.proofs.why_columns.Columns.resting_on.Given as goal

@@ -34,4 +34,4 @@ returns-clause-list g c =
     (subst (λ (u : Tree). Passes (head_lines u (codes "objects") process h) (Ok tt) old c.add_to.new.block (g.S.Sink.written c.args.sink.now) (g.S.Sink.written c.add_to.new.sink) (g.S.Sink.failed c.args.sink.now) (g.S.Sink.failed c.add_to.new.sink)) same
     (c.in_ok-add_to.ensures.head (codes "objects") process h own.head))
     (subst (λ (text : List ℕ). Passes text c.add_items.result c.add_to.new.block c.add_items.new.block (g.S.Sink.written c.add_to.new.sink) (g.S.Sink.written c.add_items.new.sink) (g.S.Sink.failed c.add_to.new.sink) (g.S.Sink.failed c.add_items.new.sink)) (ap (why_items p process h) own.left)
-    (c.add_items.ensures.lines p process h own.columns own.stands))
+    (c.add_items.ensures.lines c.self.invariant p process h own.columns own.stands))

@@ -43,4 +43,4 @@ returns-in-Ok-clause-exact g c = λ es h count.
     (e, read, subst (λ (u : tree.Tree). Gathers c.args.self.now.hard u e.number (es ++ e ∷ [])) (sym c.in-Ok.ensures.grown) (gathered_more c.args.self.now.hard t c.args.self.now.greatest es e h fits))
 
 pub returns-then-is_some-clause-room : goal.returns-then-is_some-clause-room
-returns-then-is_some-clause-room g c = search rules
+returns-then-is_some-clause-room g c = tt

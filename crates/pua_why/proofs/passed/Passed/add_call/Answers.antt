@@ -1,6 +1,6 @@
 use Rattle.std.proofs.Common.{[], ap, ◌∙◌}
 use Rattle.std.proofs.lemmas.Result.{on_ok_weaker}
-use Rattle.pua_policy.specs.Calls.{rule_of}
+use Rattle.pua_calls.specs.Calls.{rule_of}
 use Rattle.pua_policy.specs.Reasons.{promising}
 use Rattle.pua_script.specs.Decide.{Sole}
 use Rattle.pua_why.specs.Facts.{call_trace, facts_under}

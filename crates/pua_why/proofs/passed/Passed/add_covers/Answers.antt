@@ -1,5 +1,7 @@
-use Rattle.std.proofs.Common.{◌++◌, ap, ◌∙◌, []}
+use Rattle.std.proofs.Common.{◌++◌, ap, sym, subst, ◌∙◌, []}
 use Rattle.std.proofs.lemmas.Result.{on_ok_weaker}
+use Rattle.pua_tree.specs.Tree.{Tree}
+use Rattle.pua_path.specs.Fits.{FoundFits}
 use Rattle.pua_script.specs.Decide.{Old, New}
 use Rattle.pua_why.specs.Facts.{facts_under}
 use Rattle.pua_why.proofs.Passing.{covers_told}
@@ -11,8 +13,11 @@ returns-then-branch g c =
     let need = c.args.need.now in
     let letters = c.perms.ensures ∙ ap (λ name. name.needs.perms) c.old_name.ensures in
     let letters_new = c.perms-then-branch.ensures ∙ ap (λ name. name.needs.perms) c.new_name.ensures in
-    on_ok_weaker c.add_last_cover.result (λ so h stands.
-    covers_told c.args.self.now c.add_cover.new.self _ (facts_under New t h c.args.new.now need.new.needs.perms []) c.in_ok-add_cover.field-0
+    let same = sym c.in_ok-add_cover.ensures.tree in
+    on_ok_weaker c.add_last_cover.result (λ so fits fits_new h stands.
+    covers_told c.args.self.now c.add_cover.new.self _
+    (facts_under New t h c.args.new.now need.new.needs.perms []) c.in_ok-add_cover.field-0
     (λ more. facts_under Old t h c.args.old.now need.old.needs.perms more) c.if-branch.true
-    (λ more. c.in_ok-add_cover.ensures.exact h stands more ∙ ap (λ perms. c.args.self.now ++ facts_under Old t h c.args.old.now perms more) letters)
-    (so h stands ∙ (λ i. c.add_cover.new.self ++ facts_under New (c.in_ok-add_cover.ensures.tree i) h c.args.new.now (letters_new i) []))) c.add_last_cover.ensures
+    (λ more. c.in_ok-add_cover.ensures.exact fits h stands more ∙ ap (λ perms. c.args.self.now ++ facts_under Old t h c.args.old.now perms more) letters)
+    (so (subst (λ (u : Tree). FoundFits u c.args.new.now) same fits_new) h stands
+    ∙ (λ i. c.add_cover.new.self ++ facts_under New (c.in_ok-add_cover.ensures.tree i) h c.args.new.now (letters_new i) []))) c.add_last_cover.ensures

@@ -3,7 +3,7 @@ use Rattle.pua_path.specs.declared.found.Last.TheVariants.{Followed}
 use Rattle.pua_path.specs.declared.text.Ending.TheVariants.{Dot}
 use Rattle.pua_path.specs.Traces.{trace_of_text}
 use Rattle.pua_policy.specs.History.{is_locked, working_dir}
-use Rattle.pua_policy.specs.Promises.{unveil}
+use Rattle.pua_calls.specs.Promises.{unveil}
 use Rattle.pua_policy.specs.Reasons.{promising}
 use Rattle.pua_script.specs.Decide.{Sole}
 use Rattle.pua_why.specs.Facts.{facts_named}

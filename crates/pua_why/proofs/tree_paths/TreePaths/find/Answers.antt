@@ -1,8 +1,11 @@
 use Rattle.std.proofs.Common.{ap, ◌∙◌}
+use Rattle.pua_why.specs.Texts.{dir_names}
+use Rattle.pua_why.specs.TreePaths.{PathsState}
+use Rattle.std.specs.Prelude.{reverse}
 use Rattle.pua_why.proofs.Paths.{found_names}
 use Rattle.pua_why.proofs.tree_paths.TreePaths.find.Goals as goal
 
 pub returns-clause-names : goal.returns-clause-names
 returns-clause-names c = λ t is.
-    found_names t c.self.inside.rows.items c.as_slice.result.now c.add_names_over.new.names.items c.reverse.new.self.items c.args.dir
-    c.as_slice.ensures.value (ap (λ s. s.rows) c.self.view_is ∙ is) c.add_names_over.ensures.names c.reverse.ensures.items
+    let climbed = ap (λ (s : PathsState). reverse s.names) c.self.view_is ∙ c.climb.ensures.names t is in
+    found_names c.self.inside.names.items c.reverse.new.self.items (dir_names t c.args.dir) climbed c.reverse.ensures.items

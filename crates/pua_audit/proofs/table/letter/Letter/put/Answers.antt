@@ -1,5 +1,5 @@
 use Rattle.std.proofs.Common.{◌≡◌, ◌∙◌, ◌+◌, ℕ, List, [], Option, ◌&&◌, length, get_or, option_map, refl, sym, ap, subst, arith}
-use Rattle.pua_policy.specs.CallSets.{has, keeps_link}
+use Rattle.pua_calls.specs.CallSets.{has, keeps_link}
 use Rattle.pua_audit.specs.Rows.{IsEntryFor, IsRow}
 use Rattle.pua_audit.specs.Table.{IsLetter}
 use Rattle.pua_audit.proofs.Rowed.{row_grown, row_skipped, row_added}

@@ -1,0 +1,49 @@
+-- The worked examples of tables, by computing each text.
+use Rattle.std.proofs.Common.{refl, lit<}
+use Rattle.std.specs.Str.{chars, is_utf8}
+use Rattle.toml.proofs.OnLiterals.{toml_on_literals}
+use Rattle.pua_calls.specs.TableExamples.{TableRows, OpenbsdRows}
+
+pub table_rows : TableRows
+unfolding toml_on_literals chars is_utf8
+table_rows = record {
+  no_text = refl;
+  two_alternatives = refl;
+  needs_nothing = refl;
+  eight_alternatives = refl;
+  nine_alternatives = refl;
+  no_alternatives = refl;
+  unknown_call = refl;
+  call_of_scripts = refl;
+  one_key = refl;
+  third_key = refl;
+  unknown_promise = refl;
+  error_promise = refl;
+  unknown_letter = refl;
+  promises_before_veil = refl;
+  first_key = refl;
+  first_row = refl;
+  quoted = refl;
+  dotted = refl;
+  inline = refl;
+  other_order = refl;
+  array_of_tables = refl;
+  named_twice = refl;
+  open_bracket = refl;
+  no_utf8 = refl;
+}
+
+pub openbsd_rows : OpenbsdRows
+unfolding toml_on_literals chars is_utf8
+openbsd_rows = record {
+  kept = record {
+    fourteen = refl;
+    rules = (((lit< tt, refl), tt), (((lit< tt, refl), tt), (((lit< tt, refl), tt), (((lit< tt, refl), tt), (((lit< tt, refl), tt), (((lit< tt, refl), tt), (((lit< tt, refl), tt), (((lit< tt, refl), tt), (((lit< tt, refl), tt), (((lit< tt, refl), tt), (((lit< tt, refl), tt), (((lit< tt, refl), tt), (((lit< tt, refl), tt), (((lit< tt, refl), tt), tt))))))))))))));
+    rename = (((lit< tt, refl), tt), ((lit< tt, refl), tt));
+    link = (((lit< tt, refl), tt), ((lit< tt, refl), tt));
+  };
+  other_call = refl;
+  no_text = refl;
+  row_over = refl;
+  no_rename = refl;
+}

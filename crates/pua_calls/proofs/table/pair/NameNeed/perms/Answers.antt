@@ -1,0 +1,5 @@
+use Rattle.std.proofs.Common.{rules}
+use Rattle.pua_calls.proofs.table.pair.NameNeed.perms.Goals as goal
+
+pub returns : goal.returns
+returns c = search rules

@@ -1,0 +1,43 @@
+-- What is true of each table of calls that is kept.
+use Rattle.std.specs.Prelude.{◌≡◌, ℕ, ◌-◌, ◌<◌, ◌^◌, List, ◌++◌, length, replicate, bit_and}
+use Rattle.std.specs.List.{AllByRecursion}
+use Rattle.pua_calls.specs.Promises.{error}
+use Rattle.pua_calls.specs.Calls.{Rule, PairRule, CallTable, rule_of}
+use Rattle.pua_calls.specs.declared.call.Call.{Call}
+
+-- at most so many alternatives have a call
+abbrev pub alternative_limit : ℕ
+alternative_limit = 8
+
+-- alternatives as they are kept, with empty sets after them
+abbrev pub padded : List ℕ → List ℕ
+padded sets = sets ++ replicate (alternative_limit - length sets) 0
+
+-- a set of keywords without `error`, which a process can gain
+abbrev pub NamesNoError : ℕ → Type 0
+NamesNoError set = (set < 2 ^ 36) × (bit_and set error ≡ 0)
+
+abbrev pub NeedsNoError : Rule → Type 0
+NeedsNoError rule = AllByRecursion NamesNoError rule.alternatives
+
+abbrev pub PairNeedsNoError : PairRule → Type 0
+PairNeedsNoError pair = NeedsNoError pair.old.needs × NeedsNoError pair.new.needs
+
+-- no alternative of any call names `error`, nor of a name of rename and link
+pub record NoCallNeedsError (table : CallTable) : Type 0 where
+  pub calls : (call : Call) → NeedsNoError (rule_of table call)
+  pub rename : PairNeedsNoError table.rename
+  pub link : PairNeedsNoError table.link
+
+-- a table has from another what no text gives: what rename and link need, and what an exec leaves of execpromises
+pub record HasPairsOf (base table : CallTable) : Type 0 where
+  pub rename : table.rename ≡ base.rename
+  pub link : table.link ≡ base.link
+  pub execpromises : table.execpromises ≡ base.execpromises
+
+-- a rule for each of the fourteen calls, and none of these names `error`, nor one of rename and link
+pub record IsTable (table : CallTable) : Type 0 where
+  pub fourteen : length table.rules ≡ 14
+  pub rules : AllByRecursion NeedsNoError table.rules
+  pub rename : PairNeedsNoError table.rename
+  pub link : PairNeedsNoError table.link

@@ -1,0 +1,109 @@
+//! The fourteen calls with one path.
+
+use crate::perms::Perms;
+use crate::promises::Promises;
+use pua_path::Last;
+
+/// A call with one path, in the order of the calls' numbers.
+#[derive(Clone, Copy, Debug, PartialEq, Eq, PartialOrd, Ord, Hash)]
+pub enum Call {
+    /// stat(2).
+    Stat,
+    /// lstat(2).
+    Lstat,
+    /// readlink(2).
+    Readlink,
+    /// open(2) with `O_RDONLY`.
+    OpenRead,
+    /// open(2) with `O_WRONLY`.
+    OpenWrite,
+    /// open(2) with `O_RDWR`.
+    OpenBoth,
+    /// open(2) with `O_WRONLY | O_CREAT`.
+    Create,
+    /// mkdir(2).
+    Mkdir,
+    /// rmdir(2).
+    Rmdir,
+    /// unlink(2).
+    Unlink,
+    /// symlink(2), of which the path is that of the link.
+    Symlink,
+    /// chmod(2).
+    Chmod,
+    /// chdir(2).
+    Chdir,
+    /// execve(2).
+    Exec,
+}
+
+/// What a call needs: all of these promises, all of these permissions, and whether its path's last
+/// part is followed if it is a link (this profile).
+#[derive(Clone, Copy, Debug, PartialEq, Eq)]
+pub struct Need {
+    pub promises: Promises,
+    pub perms: Perms,
+    pub last: Last,
+}
+
+impl Call {
+    ghost use Rattle.std.specs.Prelude.{◌≡◌};
+    ghost use Rattle.pua_calls.specs.Calls.{call_number, call_name, call_named};
+
+    /// Every call, in the order of their numbers.
+    pub const ALL: [Call; 14] = [
+        Call::Stat,
+        Call::Lstat,
+        Call::Readlink,
+        Call::OpenRead,
+        Call::OpenWrite,
+        Call::OpenBoth,
+        Call::Create,
+        Call::Mkdir,
+        Call::Rmdir,
+        Call::Unlink,
+        Call::Symlink,
+        Call::Chmod,
+        Call::Chdir,
+        Call::Exec,
+    ];
+
+    /// Its number, from 1 to 14.
+    pub fn number(self) -> u8
+        ensures { result ≡ call_number self }
+    {
+        self as u8 + 1
+    }
+
+    /// Its name in scripts and in what is printed.
+    pub fn name(self) -> &'static str
+        ensures { result.now ≡ call_name self }
+    {
+        match self {
+            Call::Stat => "stat",
+            Call::Lstat => "lstat",
+            Call::Readlink => "readlink",
+            Call::OpenRead => "open-r",
+            Call::OpenWrite => "open-w",
+            Call::OpenBoth => "open-rw",
+            Call::Create => "create",
+            Call::Mkdir => "mkdir",
+            Call::Rmdir => "rmdir",
+            Call::Unlink => "unlink",
+            Call::Symlink => "symlink",
+            Call::Chmod => "chmod",
+            Call::Chdir => "chdir",
+            Call::Exec => "exec",
+        }
+    }
+
+    /// The call of this name, if there is one.
+    pub fn read(word: &[u8]) -> Option<Call>
+        ensures { result ≡ call_named word.now }
+    {
+        Call::ALL
+            .iter()
+            .find(|call| call.name().as_bytes() == word)
+            .copied()
+    }
+}

@@ -1,0 +1,112 @@
+//! Sets of calls.
+
+use std::marker::Model;
+
+/// A set of calls. Contracts see a number with a bit for each call, the first at bit 0.
+#[derive(Clone, Copy, Debug, PartialEq, Eq, Hash)]
+pub struct Calls {
+    bits: u16,
+}
+
+impl Model for Calls {
+    ghost use Rattle.std.specs.Prelude.{ℕ, ◌<◌, ◌^◌};
+
+    ghost Value = { ℕ };
+
+    ghost view = { λ a. a.bits };
+
+    ghost invariant = { λ a. a.bits < 2 ^ 14 };
+
+    ghost inverse = { λ n. record { bits = n } };
+}
+
+ghost use Rattle.std.specs.Prelude.{◌≡◌, ◌≢◌, ◌↔◌, ◌<◌, ◌^◌, [], find};
+ghost use Rattle.std.specs.Prelude.{◌&&◌, ◌||◌, not, IsTrue};
+ghost use Rattle.pua_calls.specs.Calls.{calls};
+ghost use Rattle.pua_calls.specs.CallSets.{has, calls_in, keeps_link};
+
+use crate::call::Call;
+
+impl Calls {
+    /// No call.
+    pub const NONE: Calls = Calls { bits: 0 };
+
+    /// Lstat, readlink, mkdir, rmdir, unlink and symlink: the calls on a link itself.
+    const KEEPING: Calls = Calls {
+        bits: 0b00_0111_1000_0110,
+    };
+
+    /// The calls on what a link leads to.
+    const FOLLOWING: Calls = Calls {
+        bits: 0b11_1000_0111_1001,
+    };
+
+    /// Whether it has a call.
+    pub fn contains(self, call: Call) -> bool
+        ensures { result ≡ has self call }
+    {
+        self.bits >> (call.number() - 1) & 1 == 1
+    }
+
+    /// Whether it has no call.
+    pub fn is_empty(self) -> bool
+        ensures { IsTrue result ↔ (calls_in self ≡ []) }
+    {
+        self.bits == 0
+    }
+
+    /// Its first call, in the order of the calls' numbers; None where it is empty.
+    pub fn first(self) -> Option<Call>
+        ensures { result ≡ find (has self) calls }
+    {
+        Call::ALL.iter().find(|call| self.contains(**call)).copied()
+    }
+
+    /// Its number: a bit for each call, that of the call with number n at bit n - 1.
+    pub fn bits(self) -> u16
+        ensures number { result ≡ self }
+        ensures calls { result < 2 ^ 14 }
+    {
+        self.bits
+    }
+
+    /// Its calls and one more, which it may have already.
+    pub fn with(self, call: Call) -> Calls
+        ensures here { IsTrue (has result call) }
+        ensures others { (other : Call) → other ≢ call → has result other ≡ has self other }
+    {
+        Calls {
+            bits: self.bits | 1 << (call.number() - 1),
+        }
+    }
+
+    /// Its calls and the others.
+    #[tactic(auto, using(crate::proofs::CallBits::has_or, crate::proofs::CallBits::or_below))]
+    pub fn union(self, others: Calls) -> Calls
+        ensures { (call : Call) → has result call ≡ (has self call || has others call) }
+    {
+        Calls {
+            bits: self.bits | others.bits,
+        }
+    }
+
+    /// Its calls that are on a link itself, where their path's last part names one.
+    #[tactic(auto, using(crate::proofs::CallBits::kept_of))]
+    pub fn keeping(self) -> Calls
+        ensures { (call : Call) → has result call ≡ (has self call && keeps_link call) }
+    {
+        Calls {
+            bits: self.bits & Calls::KEEPING.bits,
+        }
+    }
+
+    /// Its calls that are on what a link leads to, where their path's last part names one.
+    #[tactic(auto, using(crate::proofs::CallBits::followed_of))]
+    pub fn following(self) -> Calls
+        ensures { (call : Call) → has result call ≡ (has self call && not (keeps_link call)) }
+    {
+        Calls {
+            bits: self.bits & Calls::FOLLOWING.bits,
+        }
+    }
+}

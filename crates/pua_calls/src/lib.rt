@@ -1,0 +1,21 @@
+//! Promises, permissions, the fourteen calls with one path, and tables of what they need.
+#![tactic(auto)]
+
+mod call;
+mod calls;
+mod laws;
+pub mod needs;
+mod perms;
+mod promises;
+mod rules;
+mod table;
+
+pub use call::{Call, Need};
+pub use calls::Calls;
+pub use laws::{
+    limits_law, permission_constants, promise_bounds, promise_constants, table_examples,
+};
+pub use perms::Perms;
+pub use promises::Promises;
+pub use rules::{ExecPromises, Rules};
+pub use table::{ALTERNATIVE_LIMIT, CallTable, NameNeed, PairNeed, TableFault};

@@ -1,0 +1,54 @@
+//! What each call needs.
+
+ghost use Rattle.std.specs.Prelude.{◌≡◌, [], ◌∷◌};
+ghost use Rattle.pua_calls.specs.Calls.{rule_of, standard_table, last_of, ending_of};
+
+use crate::call::{Call, Need};
+use crate::perms::Perms;
+use crate::promises::Promises;
+use pua_path::{Ending, Last};
+
+/// What a call needs, by the standard table (this profile).
+pub fn need(call: Call) -> Need
+    ensures promises { (rule_of standard_table call).alternatives ≡ result.promises ∷ [] }
+    ensures perms { (rule_of standard_table call).perms ≡ result.perms }
+    ensures last { result.last ≡ last_of call }
+{
+    let (promises, perms, last) = match call {
+        Call::Stat | Call::OpenRead | Call::Chdir => {
+            (Promises::RPATH, Perms::READ, Last::Followed)
+        }
+        Call::Lstat | Call::Readlink => (Promises::RPATH, Perms::READ, Last::Kept),
+        Call::OpenWrite => (Promises::WPATH, Perms::WRITE, Last::Followed),
+        Call::OpenBoth => (
+            Promises::RPATH.union(Promises::WPATH),
+            Perms::READ.union(Perms::WRITE),
+            Last::Followed,
+        ),
+        Call::Create => (
+            Promises::WPATH.union(Promises::CPATH),
+            Perms::WRITE.union(Perms::CREATE),
+            Last::Followed,
+        ),
+        Call::Mkdir | Call::Rmdir | Call::Unlink | Call::Symlink => {
+            (Promises::CPATH, Perms::CREATE, Last::Kept)
+        }
+        Call::Chmod => (Promises::FATTR, Perms::WRITE, Last::Followed),
+        Call::Exec => (Promises::EXEC, Perms::EXEC, Last::Followed),
+    };
+    Need {
+        promises,
+        perms,
+        last,
+    }
+}
+
+/// What a slash at the end of the call's path adds (this profile).
+pub fn ending(call: Call) -> Ending
+    ensures { result ≡ ending_of call }
+{
+    match call {
+        Call::Mkdir | Call::Rmdir => Ending::Dropped,
+        _ => Ending::Dot,
+    }
+}

@@ -1,0 +1,227 @@
+//! The table of calls: what each of them needs, as a value.
+
+mod pair;
+mod read;
+
+use crate::call::Call;
+use crate::needs;
+use crate::perms::Perms;
+use crate::promises::Promises;
+use crate::rules::{ExecPromises, Rules};
+pub use pair::{NameNeed, PairNeed};
+pub use read::TableFault;
+use std::marker::Model;
+
+/// A call has at most so many sets of promises of which it needs one (this profile).
+pub const ALTERNATIVE_LIMIT: usize = 8;
+
+/// What one call needs: one of these sets of promises, and each of these permissions. After the
+/// sets stand empty ones. Contracts see the sets as a list.
+#[derive(Clone, Copy)]
+struct Row {
+    sets: [Promises; ALTERNATIVE_LIMIT],
+    count: u8,
+    perms: Perms,
+}
+
+impl Model for Row {
+    ghost use Rattle.std.specs.Prelude.{◌≡◌, ◌≤◌, length, take};
+    ghost use Rattle.pua_calls.specs.Calls.{Rule};
+    ghost use Rattle.pua_calls.specs.Tables.{alternative_limit, padded};
+
+    ghost Value = { Rule };
+
+    ghost view = { λ a. record { alternatives = take a.count a.sets; perms = a.perms } };
+
+    ghost invariant = { λ a. (padded (take a.count a.sets) ≡ a.sets)
+        × (length (take a.count a.sets) ≡ a.count) × (a.count ≤ alternative_limit) };
+
+    ghost inverse = { λ r. record { sets = padded r.alternatives; count = length r.alternatives; perms = r.perms } };
+
+    ghost inverse_ok = { λ a h i. record { sets = h.0 i; count = h.1 i; perms = a.perms } };
+}
+
+/// What each of the fourteen calls needs, what rename and link need, which have two paths, and what
+/// an exec leaves of execpromises. It is kept inline, so that a copy takes no memory. Contracts see a
+/// list of fourteen rules, in the order of the calls' numbers, those of rename and link, and that of
+/// execpromises. No alternative names `error`: a process can gain that promise, and no other.
+#[derive(Clone, Copy)]
+pub struct CallTable {
+    rows: [Row; 14],
+    rename: PairNeed,
+    link: PairNeed,
+    execpromises: ExecPromises,
+}
+
+impl Model for CallTable {
+    ghost use Rattle.pua_calls.specs.Calls.{CallTable as Table};
+    ghost use Rattle.pua_calls.specs.Tables.{IsTable};
+
+    ghost Value = { Table };
+
+    ghost view = { λ a. record { rules = a.rows; rename = a.rename; link = a.link; execpromises = a.execpromises } };
+
+    ghost invariant = { λ a. IsTable (record {
+      rules = a.rows;
+      rename = a.rename;
+      link = a.link;
+      execpromises = a.execpromises;
+    }) };
+
+    ghost inverse = { λ t. record {
+      rows = t.rules;
+      rename = t.rename;
+      link = t.link;
+      execpromises = t.execpromises;
+    } };
+}
+
+ghost use Rattle.std.specs.Prelude.{◌≡◌, ◌<◌, [], ◌∷◌, ◌++◌, length};
+ghost use Rattle.pua_calls.specs.Calls.{standard_rule, standard_table, openbsd_table, table_by_rules, rule_of};
+ghost use Rattle.pua_calls.specs.Tables.{NeedsNoError, NoCallNeedsError, alternative_limit};
+ghost use Rattle.pua_calls.specs.TableTexts.{with_rule};
+
+impl Row {
+    /// A row without alternatives, and without permissions.
+    const NONE: Row = Row {
+        sets: [Promises::NONE; ALTERNATIVE_LIMIT],
+        count: 0,
+        perms: Perms::NONE,
+    };
+
+    /// Adds a set to the alternatives, after the others.
+    fn add(&mut self, set: Promises)
+        requires { length self.old.alternatives < alternative_limit }
+        ensures { self.new ≡ record self.old { alternatives = self.old.alternatives ++ set ∷ [] } }
+    {
+        self.sets[self.count as usize] = set;
+        self.count += 1;
+    }
+
+    /// A row with one alternative.
+    fn one(promises: Promises, perms: Perms) -> Row
+        ensures { result ≡ record { alternatives = promises ∷ []; perms = perms } }
+    {
+        let mut sets = [Promises::NONE; ALTERNATIVE_LIMIT];
+        sets[0] = promises;
+        Row {
+            sets,
+            count: 1,
+            perms,
+        }
+    }
+
+    /// The sets of promises of which one is needed.
+    fn alternatives(&self) -> &[Promises]
+        ensures { result.now ≡ self.now.alternatives }
+    {
+        &self.sets[..self.count as usize]
+    }
+
+    /// What a call needs by this project's own table.
+    fn standard(call: Call) -> Row
+        ensures { result ≡ standard_rule call }
+    {
+        let need = needs::need(call);
+        Row::one(need.promises, need.perms)
+    }
+}
+
+impl CallTable {
+    /// This project's own table: each call needs what `needs::need` answers, both names of rename
+    /// and of link need cpath and `c`, of a link itself, and an exec unsets execpromises (this
+    /// profile).
+    pub fn standard() -> CallTable
+        ensures { result ≡ standard_table }
+    {
+        CallTable {
+            rows: Call::ALL.map(Row::standard),
+            rename: PairNeed::standard(),
+            link: PairNeed::standard(),
+            execpromises: ExecPromises::Unset,
+        }
+    }
+
+    /// The rules of OpenBSD's kernel, as its manual pages and its sources are known; no kernel was
+    /// tried. They are the standard ones but for these. chmod needs rpath beside fattr. The old name
+    /// of rename needs rpath and cpath, `r` and `c`; that of link rpath and `r` alone, of what a
+    /// link leads to. Execpromises stay after an exec.
+    pub fn openbsd() -> CallTable
+        ensures { result ≡ openbsd_table }
+    {
+        let mut table = CallTable::standard();
+        table.set(
+            Call::Chmod,
+            Row::one(Promises::RPATH.union(Promises::FATTR), Perms::WRITE),
+        );
+        CallTable {
+            rename: PairNeed::openbsd_rename(),
+            link: PairNeed::openbsd_link(),
+            execpromises: ExecPromises::Stay,
+            ..table
+        }
+    }
+
+    /// The table of these rules.
+    pub fn of(rules: Rules) -> CallTable
+        ensures { result ≡ table_by_rules rules }
+    {
+        match rules {
+            Rules::Profile => CallTable::standard(),
+            Rules::Openbsd => CallTable::openbsd(),
+        }
+    }
+
+    /// Puts a row in the place of a call's.
+    fn set(&mut self, call: Call, row: Row)
+        requires { NeedsNoError row }
+        ensures { self.new ≡ with_rule self.old call row }
+    {
+        self.rows[call.number() as usize - 1] = row;
+    }
+
+    /// The sets of promises of which a call needs one, each promise in it. At most 8.
+    pub fn alternatives(&self, call: Call) -> &[Promises]
+        ensures { result.now ≡ (rule_of self.now call).alternatives }
+    {
+        self.rows[call.number() as usize - 1].alternatives()
+    }
+
+    /// The permissions that a call needs, each of them.
+    pub fn perms(&self, call: Call) -> Perms
+        ensures { result ≡ (rule_of self.now call).perms }
+    {
+        let row = &self.rows[call.number() as usize - 1];
+        row.perms
+    }
+
+    /// What rename needs of its old name and of its new one.
+    pub fn rename(&self) -> &PairNeed
+        ensures { result.now ≡ self.now.rename }
+    {
+        &self.rename
+    }
+
+    /// What link needs of its old name and of its new one.
+    pub fn link(&self) -> &PairNeed
+        ensures { result.now ≡ self.now.link }
+    {
+        &self.link
+    }
+
+    /// What an exec leaves of execpromises that were given.
+    pub fn execpromises(&self) -> ExecPromises
+        ensures { result ≡ self.now.execpromises }
+    {
+        self.execpromises
+    }
+
+    /// Does nothing. A caller learns from it what is true of each table.
+    pub fn known(&self)
+        ensures fourteen { length self.now.rules ≡ 14 }
+        ensures no_error { NoCallNeedsError self.now }
+    {
+        // The prover knows the invariant of a value that is read.
+        let _rows = &self.rows;
+    }
+}

@@ -1,0 +1,20 @@
+use Rattle.std.proofs.Common.{◌≡◌, ◌≤◌, ◌+◌, vec_len, vec_capacity}
+use Rattle.pua_path.specs.Limits.{link_limit}
+use Rattle.pua_path.specs.Traces.{behind, as_path_trace, trace_from}
+use Rattle.pua_path.specs.Walks.{CanGoOn, potential_of, walk_trace}
+use Rattle.pua_path.proofs.resolver.tracing.trace.Given as goal
+
+abbrev pub invariant-loop-piece : goal.invariant-loop-piece
+invariant-loop-piece g l =
+    let t = g.P.Probe.tree l.fn.probe in
+    record {
+      tree : g.P.Probe.tree l.probe ≡ t;
+      ready : CanGoOn t l.walk.here l.walk.left l.walk.rest;
+      so_far : as_path_trace (behind l.links-inside.spots.items (walk_trace t l.fn.mode l.walk))
+          ≡ trace_from t l.fn.from l.fn.text.ending l.fn.text.bytes l.fn.mode;
+      room : vec_len l.links-inside.spots + l.walk.left ≤ vec_capacity l.links-inside.spots;
+      all_room : link_limit ≤ vec_capacity l.links-inside.spots;
+    }
+
+abbrev pub decreases-loop-piece : goal.decreases-loop-piece
+decreases-loop-piece g l = potential_of (g.P.Probe.tree l.fn.probe) l.walk

@@ -1,5 +1,0 @@
-use Rattle.std.proofs.Common.{rules}
-use Rattle.pua_policy.proofs.calls.Calls.bits.Goals as goal
-
-pub returns-clause-number : goal.returns-clause-number
-returns-clause-number c = search rules

@@ -1,5 +1,0 @@
-use Rattle.std.proofs.Common.{rules}
-use Rattle.pua_policy.proofs.needs.ending.Goals as goal
-
-pub returns-in-Mkdir : goal.returns-in-Mkdir
-returns-in-Mkdir c = search rules

@@ -1,6 +1,0 @@
-use Rattle.std.proofs.Common.{◌∙◌, ap}
-use Rattle.pua_policy.specs.Promises.{keywords_of}
-use Rattle.pua_policy.proofs.promises.Promises.names.Goals as goal
-
-pub returns-in-Ok : goal.returns-in-Ok
-returns-in-Ok c = c.in-Ok.ensures ∙ ap keywords_of c.self.view_is

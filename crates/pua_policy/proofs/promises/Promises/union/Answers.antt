@@ -1,5 +1,0 @@
-use Rattle.std.proofs.lemmas.Nat.{or_lt}
-use Rattle.pua_policy.proofs.promises.Promises.union.Goals as goal
-
-pub invariant_of-result : goal.invariant_of-result
-invariant_of-result c = rw (c.union.ensures tt) (or_lt 36 _ _ c.self.invariant c.others.invariant)

@@ -1,5 +1,0 @@
-use Rattle.std.proofs.Common.{rules}
-use Rattle.pua_policy.proofs.table.CallTable.of.Goals as goal
-
-pub returns-in-Openbsd : goal.returns-in-Openbsd
-returns-in-Openbsd c = search rules

@@ -1,5 +1,0 @@
-use Rattle.std.proofs.Common.{rules}
-use Rattle.pua_policy.proofs.table.CallTable.read_over.Goals as goal
-
-pub returns-clause-read : goal.returns-clause-read
-returns-clause-read c = search rules

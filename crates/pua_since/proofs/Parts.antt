@@ -1,0 +1,19 @@
+-- The components of a path by its pieces between slashes.
+use Rattle.std.proofs.Common.{◌≡◌, ◌==◌, ℕ, Bool, true, List, length, nat_lt, ap, ◌∙◌}
+use Rattle.std.specs.List.{list_any, slice_split}
+use Rattle.std.proofs.lemmas.Bool.{and_parts}
+use Rattle.std.proofs.lemmas.Map.Views.{any-filter_same}
+use Rattle.pua_tree.specs.Names.{same_bytes, is_name}
+use lib.Pointwise.{bytes_decides}
+use Rattle.pua_since.specs.Frames.{has_part}
+
+abbrev pub is_piece : List ℕ → List ℕ → Bool
+is_piece name piece = same_bytes piece name
+
+-- a name is no empty piece
+pub part_by_pieces : (name path : List ℕ) → is_name name ≡ true →
+    has_part name path ≡ list_any (is_piece name) (slice_split (λ b. b == 47) path)
+part_by_pieces name path is =
+    any-filter_same (is_piece name) (λ piece. nat_lt 0 (length piece)) true
+    (λ piece same. ap (λ bytes. nat_lt 0 (length bytes)) ((bytes_decides piece name).0 same) ∙ (and_parts (nat_lt 0 (length name)) _ is).0)
+    (slice_split (λ b. b == 47) path)

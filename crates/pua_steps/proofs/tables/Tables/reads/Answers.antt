@@ -1,0 +1,5 @@
+use Rattle.std.proofs.Common.{rules}
+use Rattle.pua_steps.proofs.tables.Tables.reads.Goals as goal
+
+pub returns : goal.returns
+returns c = search rules
