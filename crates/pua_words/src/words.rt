@@ -18,7 +18,7 @@ use std::alloc::{AllocError, Global};
 pub(crate) const MOST_PROCESS: u32 = 999_999;
 
 /// Why there is nothing to do.
-#[derive(Debug, Drop)]
+#[derive(Drop)]
 pub enum Stop {
     /// The words are not those of any command. This line tells how they could be.
     Usage(UsageLine),

@@ -85,7 +85,7 @@ fn add_words<T: FileTree>(
 /// Whether a reason is that the tree is full: since when it is, is not told.
 fn is_full(reason: &Reason<'_>) -> bool {
     match reason {
-        Reason::Refused(fault) => *fault == Fault::NoRoom,
+        Reason::Refused(Fault::NoRoom) => true,
         _ => false,
     }
 }
