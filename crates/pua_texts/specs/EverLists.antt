@@ -1,15 +1,13 @@
 -- A list for ever that the code has begun, as the definitions see it.
-use Rattle.std.specs.Prelude.{◌≡◌, ℕ, List, None, Err, codes}
+use Rattle.std.specs.Prelude.{◌≡◌, ℕ, None, codes}
 use Rattle.pua_tree.specs.Tree.{Tree}
 use Rattle.pua_calls.specs.Calls.{CallTable}
-use Rattle.pua_policy.specs.History.{History, ProcessState, StandsFor}
+use Rattle.pua_policy.specs.History.{History, StandsFor}
 use Rattle.pua_ever.specs.Ever.{ever}
 use Rattle.pua_ever.specs.EverLines.{lines_of}
 use Rattle.pua_ever.specs.EverState.{EverState}
 use Rattle.pua_ever.specs.Refusals.{refusal}
-use Rattle.pua_tool.specs.EverTexts.{unless_refused}
-use Rattle.pua_tool.specs.Lists.{HeadState, IsHeadOf}
-use Rattle.pua_tool.specs.declared.fault.ToolFault.{ToolFault}
+use Rattle.pua_texts.specs.Lists.{HeadState, IsHeadOf}
 
 -- what stands before the list's lines, and what is still to come of it
 pub record EverListState : Type 0 where
@@ -24,8 +22,3 @@ pub record IsEverListOf (table : CallTable) (t : Tree) (process : ℕ) (h : Hist
   pub rules : list.ever.table ≡ table
   pub stands : StandsFor list.ever.process h
   pub left : lines_of t table h list.ever.left ≡ ever t table h
-
--- there is no list of a process with this number, and this fault says why
-abbrev pub IsUnlisted : CallTable → ProcessState → ℕ → ToolFault → Type 0
-IsUnlisted table process number fault =
-    (h : History) (text : List ℕ) → StandsFor process h → unless_refused number (refusal table h) text ≡ Err fault

@@ -9,7 +9,7 @@ use Rattle.pua_audit.specs.Reach.{Word}
 use Rattle.pua_objects.specs.Objects.{objects}
 use Rattle.pua_objects.specs.ObjectsState.{ObjectsState}
 use Rattle.pua_objects.specs.Ready.{lines_of}
-use Rattle.pua_tool.specs.States.{heading_line, own_lines, living_veils}
+use Rattle.pua_texts.specs.States.{heading_line, own_lines, living_veils}
 
 -- the tree in which places are looked for, and the names that lead to the one that was found last
 pub record PlacesState : Type 0 where

@@ -10,7 +10,7 @@ use Rattle.pua_script.specs.Laws.{IsConfined}
 use Rattle.pua_audit.specs.Reach.{Word, printed_path}
 use Rattle.pua_audit.specs.declared.base.Base.TheVariants.{Root}
 use Rattle.pua_objects.specs.Objects.{with_commas}
-use Rattle.pua_tool.specs.Texts.{ended}
+use Rattle.pua_texts.specs.Lines.{ended}
 
 -- a text, or `=` where it is empty
 abbrev pub or_equals : List ℕ → List ℕ

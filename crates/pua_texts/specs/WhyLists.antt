@@ -17,9 +17,9 @@ use Rattle.pua_objects.specs.Ready.{lines_of}
 use Rattle.pua_why.specs.Columns.{veil_columns}
 use Rattle.pua_why.specs.Since.{since}
 use Rattle.pua_why.specs.Texts.{has_veil, letters_text, place_text}
-use Rattle.pua_tool.specs.Lists.{AreListsBy, HeadState, IsHeadOf}
-use Rattle.pua_tool.specs.WhyTexts.{Posed, why_line, world_left}
-use Rattle.pua_tool.specs.declared.why_columns.VeilColumns.{VeilColumns}
+use Rattle.pua_texts.specs.Lists.{AreListsBy, HeadState, IsHeadOf}
+use Rattle.pua_texts.specs.WhyLines.{Posed, why_line, world_left}
+use Rattle.pua_texts.specs.declared.why_columns.VeilColumns.{VeilColumns}
 
 -- the columns of a veil: its place, and what stands behind the lines that it covers
 pub record VeilState : Type 0 where

@@ -2,7 +2,7 @@
 
 ghost use Rattle.std.specs.Prelude.{◌≡◌, ◌++◌, ◌∷◌, IfOk, OnOk, string_bytes, option_map};
 ghost use Rattle.pua_script.specs.AnswerTexts.{answer_text as answer_word};
-ghost use Rattle.pua_tool.specs.Texts.{answer_lines, ended, front_of};
+ghost use Rattle.pua_texts.specs.Lines.{answer_lines, ended, front_of};
 
 use itoa::Buffer;
 use pua_script::Answer;
@@ -10,7 +10,7 @@ use std::alloc::{AllocError, Global};
 use std::fmt::Write;
 
 /// A line for each answer, with the number of its line in the script, counted from 1.
-pub(crate) fn answer_text(alloc: Global, told: &[Answer]) -> Result<String, AllocError>
+pub fn answer_text(alloc: Global, told: &[Answer]) -> Result<String, AllocError>
     ensures { IfOk result (λ text. string_bytes text ≡ answer_lines 1 told.now) }
 {
     let mut text = String::new(alloc);
@@ -44,7 +44,7 @@ fn push_word(text: &mut String, answer: Answer) -> Result<(), AllocError>
 
 /// What stands before the lines of the pairs: the answers and the heading, except in an audit that is
 /// resumed, which doesn't write them again.
-pub(crate) fn front_text(
+pub fn front_text(
     alloc: Global,
     told: &[Answer],
     process: u32,

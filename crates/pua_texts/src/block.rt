@@ -1,7 +1,7 @@
 //! Blocks of bytes on the way to a sink.
 
 ghost use Rattle.std.specs.Prelude.{◌≡◌, ◌≤◌, ◌+◌, ◌*◌, ◌++◌, [], IfOk, OnOk, OnErr, length, take};
-ghost use Rattle.pua_tool.specs.Blocks.{HandsOn, PassesOn};
+ghost use Rattle.pua_texts.specs.Blocks.{HandsOn, PassesOn};
 ghost use Rattle.pua_io.specs.Sinks.{AddsFront, HasFailed, WritesTo};
 
 use pua_io::{PutFault, Sink, put_all};
@@ -24,7 +24,7 @@ pub(crate) const BLOCK: usize = 65_536;
 /// Bytes that are still to be put into a sink, many at one time. Its room is reserved when it is made,
 /// so nothing that is added takes memory. Contracts see the bytes.
 #[derive(Drop)]
-pub(crate) struct Block {
+pub struct Block {
     bytes: Vec<u8>,
 }
 
@@ -40,7 +40,7 @@ impl Model for Block {
 
 impl Block {
     /// An empty block. The only error is that its room was refused.
-    pub(crate) fn new(alloc: Global) -> Result<Block, OutOfMemory>
+    pub fn new(alloc: Global) -> Result<Block, OutOfMemory>
         ensures { IfOk result (λ block. block ≡ []) }
     {
         match Vec::with_capacity(alloc, BLOCK) {

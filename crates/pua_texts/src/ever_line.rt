@@ -7,10 +7,10 @@ ghost use Rattle.pua_policy.specs.History.{History, StandsFor};
 ghost use Rattle.pua_ever.specs.EverLines.{lines_of};
 ghost use Rattle.pua_objects.specs.Lines.{kind_word};
 ghost use Rattle.pua_objects.specs.Objects.{with_commas};
-ghost use Rattle.pua_tool.specs.Blocks.{PassesOn};
-ghost use Rattle.pua_tool.specs.KeptPaths.{IsKept};
-ghost use Rattle.pua_tool.specs.EverTexts.{ever_lines, kind_of, path_or_new};
-ghost use Rattle.pua_tool.specs.Texts.{ended};
+ghost use Rattle.pua_texts.specs.Blocks.{PassesOn};
+ghost use Rattle.pua_texts.specs.KeptPaths.{IsKept};
+ghost use Rattle.pua_texts.specs.EverLines.{ever_lines, kind_of, path_or_new};
+ghost use Rattle.pua_texts.specs.Lines.{ended};
 
 use crate::block::Block;
 use crate::kept_path::KeptPath;

@@ -1,36 +1,32 @@
 //! The list for ever of a process: its heading, its state, and what it can ever touch.
 
-ghost use Rattle.std.specs.Prelude.{◌≡◌, ◌≢◌, ℕ, List, Err, IfErr, IfOk};
+ghost use Rattle.std.specs.Prelude.{◌≡◌, ℕ, ◌++◌};
 ghost use Rattle.pua_calls.specs.Calls.{CallTable as Rules};
-ghost use Rattle.pua_policy.specs.History.{History, StandsFor};
-ghost use Rattle.pua_ever.specs.Refusals.{refusal_in};
-ghost use Rattle.pua_tool.specs.Blocks.{PassesOn};
-ghost use Rattle.pua_tool.specs.EverLists.{IsEverListOf, IsUnlisted};
-ghost use Rattle.pua_tool.specs.EverTexts.{ever_fault, ever_list, unless_refused};
+ghost use Rattle.pua_policy.specs.History.{History};
+ghost use Rattle.pua_texts.specs.Blocks.{PassesOn};
+ghost use Rattle.pua_texts.specs.EverLists.{IsEverListOf};
+ghost use Rattle.pua_texts.specs.EverLines.{ever_list};
+ghost use Rattle.pua_io.specs.Sinks.{WritesTo};
 
 use crate::block::Block;
 use crate::ever_line::add_ever;
-use crate::fault::ToolFault;
 use crate::kept_path::KeptPath;
 use crate::places::Places;
 use crate::process_head::ProcessHead;
-use pua_calls::CallTable;
-use pua_ever::{Ever, EverFault, Refusal};
+use pua_ever::Ever;
 use pua_io::{PutFault, Sink};
-use pua_policy::Process;
 use pua_tree::FileTree;
-use std::alloc::Global;
 use std::marker::Model;
 
 /// The list for ever of a process, with all memory that writing it takes.
 #[derive(Drop)]
-pub(crate) struct EverList<'t, T: FileTree> {
+pub struct EverList<'t, T: FileTree> {
     head: ProcessHead<'t>,
     ever: Ever<'t, T>,
 }
 
 impl<'t, T: FileTree> Model for EverList<'t, T> {
-    ghost use Rattle.pua_tool.specs.EverLists.{EverListState};
+    ghost use Rattle.pua_texts.specs.EverLists.{EverListState};
 
     ghost Value = { EverListState };
 
@@ -38,29 +34,11 @@ impl<'t, T: FileTree> Model for EverList<'t, T> {
 }
 
 impl<'t, T: FileTree> EverList<'t, T> {
-    /// Begins the list for ever of a process with this number, by a table of what calls need, or answers
-    /// why there is none: `CanUnveil`, `LacksC`, `RenameLacksC` or `LinkLacksC`. The only other fault is
-    /// `OutOfMemory`, where a growth was refused.
-    pub(crate) fn begin(
-        alloc: Global,
-        tree: &'t T,
-        table: &CallTable,
-        number: u32,
-        process: &'t Process,
-    ) -> Result<EverList<'t, T>, ToolFault>
-        ensures begun { IfOk result (λ list. (h : History) → StandsFor process.now h →
-            IsEverListOf table.now (T.content tree.now) number h list) }
-        ensures refused { IfErr result (λ fault. fault ≢ ToolFault.OutOfMemory →
-            IsUnlisted table.now process.now number fault) }
-        ensures unwritten { IfErr result (λ fault. fault ≢ ToolFault.Write) }
+    /// The list with this heading and these lines.
+    pub fn new(head: ProcessHead<'t>, ever: Ever<'t, T>) -> EverList<'t, T>
+        ensures { result ≡ record { head = head.entry; ever = ever.entry } }
     {
-        let Ok(head) = ProcessHead::begin(alloc, "ever", number, process) else {
-            return Err(ToolFault::OutOfMemory);
-        };
-        match Ever::begin(alloc, tree, process, table) {
-            Ok(ever) => Ok(EverList { head, ever }),
-            Err(fault) => Err(fault_of(number, fault)),
-        }
+        EverList { head, ever }
     }
 
     /// Adds the list to a block, and takes its lines.
@@ -82,27 +60,23 @@ impl<'t, T: FileTree> EverList<'t, T> {
     }
 }
 
-/// Why the list for ever of the process with this number was not begun, as the tool reports it.
-fn fault_of(number: u32, fault: EverFault) -> ToolFault
-    ensures told { (text : List ℕ) → result ≢ ToolFault.OutOfMemory →
-        unless_refused number (refusal_in fault) text ≡ Err result }
-    ensures unwritten { result ≢ ToolFault.Write }
+/// Writes what a block holds, then the front of a text, and then a list: the front before any line of
+/// it, and many lines in the block.
+pub fn write_ever<'t, T: FileTree, S: Sink>(
+    front: &str,
+    list: &mut EverList<'t, T>,
+    places: &mut Places<'t, T>,
+    path: &mut KeptPath,
+    block: &mut Block,
+    sink: &mut S,
+) -> Result<(), PutFault>
+    ensures { (table : Rules) (process : ℕ) (h : History) →
+        IsEverListOf table places.old.tree process h list.old →
+        WritesTo S.written S.failed
+        (block.old ++ (front.now ++ ever_list table places.old.tree process h))
+        result sink.old sink.new }
 {
-    match fault {
-        EverFault::Refused(reason) => reason_of(number, reason),
-        EverFault::OutOfMemory => ToolFault::OutOfMemory,
-    }
-}
-
-/// Why there is no list for ever of the process with this number, as the tool reports it.
-fn reason_of(number: u32, reason: Refusal) -> ToolFault
-    ensures told { result ≡ ever_fault number reason }
-    ensures unwritten { result ≢ ToolFault.Write }
-{
-    match reason {
-        Refusal::CanUnveil => ToolFault::CanUnveil(number),
-        Refusal::LacksC(call) => ToolFault::LacksC(call),
-        Refusal::RenameLacksC => ToolFault::RenameLacksC,
-        Refusal::LinkLacksC => ToolFault::LinkLacksC,
-    }
+    block.add_text(front.as_bytes(), sink)?;
+    list.add_to(block, places, path, sink)?;
+    block.put(sink)
 }

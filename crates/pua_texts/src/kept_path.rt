@@ -4,7 +4,7 @@ ghost use Rattle.std.specs.Prelude.{◌≡◌, ◌<◌, ◌≤◌, ◌+◌, ◌+
 ghost use Rattle.std.specs.Prelude.{take};
 ghost use Rattle.pua_tree.specs.Spelling.{spelling};
 ghost use Rattle.pua_audit.specs.Reach.{Word};
-ghost use Rattle.pua_tool.specs.KeptPaths.{IsKept};
+ghost use Rattle.pua_texts.specs.KeptPaths.{IsKept};
 
 use crate::block::{BLOCK, Block, MOST_LINE};
 use crate::line::add_printed;
@@ -19,14 +19,14 @@ const MOST_NAMES: usize = 8_192;
 /// again. Its room is reserved when it is made, so a path with more names than have room is kept in
 /// part. Contracts see the text, and how long it is before each name.
 #[derive(Drop)]
-pub(crate) struct KeptPath {
+pub struct KeptPath {
     text: Block,
     starts: Vec<usize>,
 }
 
 impl Model for KeptPath {
     ghost use Rattle.std.specs.Prelude.{◌≤◌, length, vec_capacity};
-    ghost use Rattle.pua_tool.specs.KeptPaths.{KeptPathState};
+    ghost use Rattle.pua_texts.specs.KeptPaths.{KeptPathState};
 
     ghost Value = { KeptPathState };
 
@@ -37,7 +37,7 @@ impl Model for KeptPath {
 
 impl KeptPath {
     /// A path of which nothing is kept. The only error is that its room was refused.
-    pub(crate) fn new(alloc: Global) -> Result<KeptPath, OutOfMemory>
+    pub fn new(alloc: Global) -> Result<KeptPath, OutOfMemory>
         ensures { IfOk result (λ path. path ≡ record { text = []; starts = [] }) }
     {
         let text = Block::new(alloc)?;

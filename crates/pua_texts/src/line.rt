@@ -4,8 +4,8 @@ ghost use Rattle.std.specs.Prelude.{◌≡◌, ◌≤◌, ◌+◌, ◌*◌, ◌+
 ghost use Rattle.pua_tree.specs.Spelling.{spelling};
 ghost use Rattle.pua_path.specs.Limits.{path_limit};
 ghost use Rattle.pua_calls.specs.Calls.{call_name};
-ghost use Rattle.pua_tool.specs.Texts.{ended, pair_lines};
-ghost use Rattle.pua_tool.specs.Blocks.{PassesOn};
+ghost use Rattle.pua_texts.specs.Lines.{ended, pair_lines};
+ghost use Rattle.pua_texts.specs.Blocks.{PassesOn};
 
 use crate::block::{BLOCK, Block, MOST_END, MOST_LINE};
 use pua_audit::Audit;

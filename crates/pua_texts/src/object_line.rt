@@ -10,10 +10,10 @@ ghost use Rattle.pua_objects.specs.Lines.{kind_word};
 ghost use Rattle.pua_objects.specs.Objects.{with_commas};
 ghost use Rattle.pua_objects.specs.Ready.{lines_of};
 ghost use Rattle.pua_tree.specs.Spelling.{spelling};
-ghost use Rattle.pua_tool.specs.Blocks.{PassesOn};
-ghost use Rattle.pua_tool.specs.KeptPaths.{IsKept};
-ghost use Rattle.pua_tool.specs.ObjectTexts.{object_lines};
-ghost use Rattle.pua_tool.specs.Texts.{ended};
+ghost use Rattle.pua_texts.specs.Blocks.{PassesOn};
+ghost use Rattle.pua_texts.specs.KeptPaths.{IsKept};
+ghost use Rattle.pua_texts.specs.ObjectLines.{object_lines};
+ghost use Rattle.pua_texts.specs.Lines.{ended};
 
 use crate::block::{BLOCK, Block, MOST_LINE};
 use crate::kept_path::KeptPath;

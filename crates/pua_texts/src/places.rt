@@ -4,7 +4,7 @@ ghost use Rattle.std.specs.Prelude.{◌≡◌, ◌<◌, ◌≤◌, ◌+◌, ◌+
 ghost use Rattle.std.specs.Prelude.{reverse, vec_capacity, vec_len};
 ghost use Rattle.pua_tree.specs.LentRows.{lent_entry};
 ghost use Rattle.pua_tree.specs.Tree.{Tree, is_dir, spot_of};
-ghost use Rattle.pua_tool.specs.States.{names_up, own_name, place_dir, place_names};
+ghost use Rattle.pua_texts.specs.States.{names_up, own_name, place_dir, place_names};
 
 use pua_policy::Place;
 use pua_tree::{FileTree, Kind, LentRow, Name, NodeId, OutOfMemory};
@@ -14,7 +14,7 @@ use std::marker::Model;
 /// A tree with its rows, and room for the names of the deepest place. Contracts see the tree and the
 /// names that lead to the place that was found last.
 #[derive(Drop)]
-pub(crate) struct Places<'t, T: FileTree> {
+pub struct Places<'t, T: FileTree> {
     tree: &'t T,
     rows: Vec<LentRow<'t>>,
     names: Vec<&'t Name>,
@@ -23,7 +23,7 @@ pub(crate) struct Places<'t, T: FileTree> {
 impl<'t, T: FileTree> Model for Places<'t, T> {
     ghost use Rattle.std.specs.Prelude.{◌≡◌, ◌≤◌, ◌+◌, length, map, vec_capacity};
     ghost use Rattle.pua_tree.specs.LentRows.{lent_entry};
-    ghost use Rattle.pua_tool.specs.Lists.{PlacesState};
+    ghost use Rattle.pua_texts.specs.Lists.{PlacesState};
 
     ghost Value = { PlacesState };
 
@@ -39,7 +39,7 @@ impl<'t, T: FileTree> Model for Places<'t, T> {
 impl<'t, T: FileTree> Places<'t, T> {
     /// The places in this tree. The only error is that a growth was refused: later calls take no
     /// memory.
-    pub(crate) fn new(alloc: Global, tree: &'t T) -> Result<Places<'t, T>, OutOfMemory>
+    pub fn new(alloc: Global, tree: &'t T) -> Result<Places<'t, T>, OutOfMemory>
         ensures { IfOk result (λ places. places.tree ≡ T.content tree.now) }
     {
         let rows = tree.rows(alloc)?;

@@ -2,9 +2,9 @@
 
 ghost use Rattle.std.specs.Prelude.{◌≡◌, ◌++◌, [], ℕ, List, IfOk, map};
 ghost use Rattle.pua_policy.specs.History.{History, StandsFor};
-ghost use Rattle.pua_tool.specs.Blocks.{PassesOn};
-ghost use Rattle.pua_tool.specs.Lists.{IsHeadOf};
-ghost use Rattle.pua_tool.specs.States.{head_lines, living_veils};
+ghost use Rattle.pua_texts.specs.Blocks.{PassesOn};
+ghost use Rattle.pua_texts.specs.Lists.{IsHeadOf};
+ghost use Rattle.pua_texts.specs.States.{head_lines, living_veils};
 
 use crate::block::Block;
 use crate::places::Places;
@@ -19,14 +19,14 @@ use std::marker::Model;
 
 /// The heading of a list and the state of its process, with all memory that writing them takes.
 #[derive(Drop)]
-pub(crate) struct ProcessHead<'t> {
+pub struct ProcessHead<'t> {
     text: String,
     veils: Vec<(&'t Place, &'t Perms)>,
 }
 
 impl<'t> Model for ProcessHead<'t> {
     ghost use Rattle.std.specs.Prelude.{map, string_bytes};
-    ghost use Rattle.pua_tool.specs.Lists.{HeadState};
+    ghost use Rattle.pua_texts.specs.Lists.{HeadState};
 
     ghost Value = { HeadState };
 
@@ -39,7 +39,7 @@ impl<'t> Model for ProcessHead<'t> {
 impl<'t> ProcessHead<'t> {
     /// What stands before the lines of a list with this title, of the process with this number. The
     /// only error is that a growth was refused.
-    pub(crate) fn begin(
+    pub fn begin(
         alloc: Global,
         title: &str,
         number: u32,

@@ -3,9 +3,9 @@
 ghost use Rattle.std.specs.Prelude.{◌≡◌, ℕ, IfOk};
 ghost use Rattle.pua_calls.specs.Calls.{CallTable as Rules};
 ghost use Rattle.pua_policy.specs.History.{History, StandsFor};
-ghost use Rattle.pua_tool.specs.Blocks.{PassesOn};
-ghost use Rattle.pua_tool.specs.Lists.{IsListOf};
-ghost use Rattle.pua_tool.specs.ObjectTexts.{process_list};
+ghost use Rattle.pua_texts.specs.Blocks.{PassesOn};
+ghost use Rattle.pua_texts.specs.Lists.{IsListOf};
+ghost use Rattle.pua_texts.specs.ObjectLines.{process_list};
 
 use crate::block::Block;
 use crate::kept_path::KeptPath;
@@ -22,13 +22,13 @@ use std::marker::Model;
 
 /// The list of a process, with all memory that writing it takes.
 #[derive(Drop)]
-pub(crate) struct ProcessList<'t, T: FileTree> {
+pub struct ProcessList<'t, T: FileTree> {
     head: ProcessHead<'t>,
     objects: Objects<'t, T>,
 }
 
 impl<'t, T: FileTree> Model for ProcessList<'t, T> {
-    ghost use Rattle.pua_tool.specs.Lists.{ListState};
+    ghost use Rattle.pua_texts.specs.Lists.{ListState};
 
     ghost Value = { ListState };
 

@@ -4,9 +4,9 @@ ghost use Rattle.std.specs.Prelude.{◌≡◌, ◌++◌, ◌∷◌, [], if◌the
 ghost use Rattle.std.specs.Prelude.{string_bytes};
 ghost use Rattle.pua_policy.specs.History.{History, StandsFor};
 ghost use Rattle.pua_objects.specs.Objects.{with_commas};
-ghost use Rattle.pua_tool.specs.States.{heading_line, living_lines, or_equals, own_lines};
-ghost use Rattle.pua_tool.specs.States.{promises_text, unveil_word};
-ghost use Rattle.pua_tool.specs.Texts.{ended};
+ghost use Rattle.pua_texts.specs.States.{heading_line, living_lines, or_equals, own_lines};
+ghost use Rattle.pua_texts.specs.States.{promises_text, unveil_word};
+ghost use Rattle.pua_texts.specs.Lines.{ended};
 
 use pua_calls::Promises;
 use pua_policy::Process;
@@ -106,7 +106,7 @@ fn shown(text: &str) -> &str
 }
 
 /// Names with commas between them.
-#[tactic(auto, using(crate::proofs::ObjectTexts::joined_is))]
+#[tactic(auto, using(crate::proofs::ObjectLines::joined_is))]
 fn joined(alloc: Global, names: &[&str]) -> Result<String, AllocError>
     ensures { IfOk result (λ text. string_bytes text
         ≡ with_commas (map (λ name. name.now) names.now)) }

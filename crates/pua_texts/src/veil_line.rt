@@ -2,8 +2,8 @@
 
 ghost use Rattle.std.specs.Prelude.{◌≡◌, ◌≤◌, ◌++◌, ◌∷◌, [], codes, length, map};
 ghost use Rattle.pua_calls.specs.Promises.{letters_of};
-ghost use Rattle.pua_tool.specs.Blocks.{PassesOn};
-ghost use Rattle.pua_tool.specs.States.{or_equals, path_or_hyphen, veil_lines};
+ghost use Rattle.pua_texts.specs.Blocks.{PassesOn};
+ghost use Rattle.pua_texts.specs.States.{or_equals, path_or_hyphen, veil_lines};
 
 use crate::block::Block;
 use crate::object_line::add_path;

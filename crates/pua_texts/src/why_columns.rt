@@ -13,10 +13,10 @@ ghost use Rattle.pua_objects.specs.Lines.{IsLineOn};
 ghost use Rattle.pua_objects.specs.Objects.{Subject as About};
 ghost use Rattle.pua_why.specs.Columns.{let_by, resting_on};
 ghost use Rattle.pua_why.specs.Texts.{place_text};
-ghost use Rattle.pua_tool.specs.PosedScripts.{veil_dates};
-ghost use Rattle.pua_tool.specs.WhyLists.{AreColumnsOf, IsAmongVeils, covering_behind, found_on};
-ghost use Rattle.pua_tool.specs.WhyLists.{text_at, veil_behind, veil_state, veils_behind};
-ghost use Rattle.pua_tool.specs.WhyTexts.{Posed as Asking, covering_on, world_left};
+ghost use Rattle.pua_texts.specs.VeilDates.{veil_dates};
+ghost use Rattle.pua_texts.specs.WhyLists.{AreColumnsOf, IsAmongVeils, covering_behind, found_on};
+ghost use Rattle.pua_texts.specs.WhyLists.{text_at, veil_behind, veil_state, veils_behind};
+ghost use Rattle.pua_texts.specs.WhyLines.{Posed as Asking, covering_on, world_left};
 
 use crate::veil_line::shown_letters;
 use pua_calls::{Call, CallTable, Calls, Perms, Promises};
@@ -50,7 +50,7 @@ pub(crate) struct Columns<'t, T: FileTree> {
 
 impl<'t, T: FileTree> Model for Columns<'t, T> {
     ghost use Rattle.std.specs.Prelude.{map};
-    ghost use Rattle.pua_tool.specs.WhyLists.{ColumnsState, veil_state};
+    ghost use Rattle.pua_texts.specs.WhyLists.{ColumnsState, veil_state};
 
     ghost Value = { ColumnsState };
 

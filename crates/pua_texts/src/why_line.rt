@@ -10,9 +10,9 @@ ghost use Rattle.pua_objects.specs.Items.{IsItemOn, SubjectFits, subject_given};
 ghost use Rattle.pua_objects.specs.Lines.{kind_word};
 ghost use Rattle.pua_objects.specs.Objects.{with_commas};
 ghost use Rattle.pua_why.specs.Texts.{promises_text};
-ghost use Rattle.pua_tool.specs.Blocks.{PassesOn};
-ghost use Rattle.pua_tool.specs.WhyLists.{AreColumnsOf, item_at, why_items};
-ghost use Rattle.pua_tool.specs.WhyTexts.{Posed as Asking, world_left};
+ghost use Rattle.pua_texts.specs.Blocks.{PassesOn};
+ghost use Rattle.pua_texts.specs.WhyLists.{AreColumnsOf, item_at, why_items};
+ghost use Rattle.pua_texts.specs.WhyLines.{Posed as Asking, world_left};
 
 use crate::block::{Block, MOST_LINE};
 use crate::object_line::{add_calls, add_path, kind_bytes};

@@ -2,10 +2,10 @@
 
 ghost use Rattle.std.specs.Prelude.{◌≡◌, ℕ, IfOk};
 ghost use Rattle.pua_policy.specs.History.{History, StandsFor};
-ghost use Rattle.pua_tool.specs.Blocks.{PassesOn};
-ghost use Rattle.pua_tool.specs.PosedScripts.{veil_dates};
-ghost use Rattle.pua_tool.specs.WhyLists.{IsWhyListOf};
-ghost use Rattle.pua_tool.specs.WhyTexts.{Posed as Asking, why_list, world_left};
+ghost use Rattle.pua_texts.specs.Blocks.{PassesOn};
+ghost use Rattle.pua_texts.specs.VeilDates.{veil_dates};
+ghost use Rattle.pua_texts.specs.WhyLists.{IsWhyListOf};
+ghost use Rattle.pua_texts.specs.WhyLines.{Posed as Asking, why_list, world_left};
 
 use crate::block::Block;
 use crate::places::Places;
@@ -22,7 +22,7 @@ use std::marker::Model;
 
 /// The list of a process with reasons, with all memory that writing it takes.
 #[derive(Drop)]
-pub(crate) struct WhyList<'t, T: FileTree> {
+pub struct WhyList<'t, T: FileTree> {
     head: ProcessHead<'t>,
     items: Items<'t, T>,
     columns: Columns<'t, T>,
@@ -30,7 +30,7 @@ pub(crate) struct WhyList<'t, T: FileTree> {
 
 impl<'t, T: FileTree> Model for WhyList<'t, T> {
     ghost use Rattle.std.specs.Prelude.{◌≡◌};
-    ghost use Rattle.pua_tool.specs.WhyLists.{WhyListState};
+    ghost use Rattle.pua_texts.specs.WhyLists.{WhyListState};
 
     ghost Value = { WhyListState };
 
