@@ -8,7 +8,7 @@ use Rattle.std.specs.Borrow.{Bor}
 use Rattle.pua_tree.specs.Tree.{Tree, spot_of}
 use Rattle.pua_tree.specs.LentRows.{lent_entry}
 use Rattle.pua_tree.specs.declared.tree.LentRow.{LentRow}
-use Rattle.pua_tool.specs.States.{names_up, own_name, place_dir, place_names}
+use Rattle.pua_texts.specs.States.{names_up, own_name, place_dir, place_names}
 
 -- finding after a map is a map after finding
 find-map : {X Y : Type 0} (f : X → Y) (p : Y → Bool) (xs : List X) → find p (map f xs) ≡ option_map f (find (λ x. p (f x)) xs)

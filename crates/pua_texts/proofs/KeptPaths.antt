@@ -6,8 +6,8 @@ use Rattle.std.proofs.lemmas.Bool.{cases_order}
 use Rattle.pua_tree.specs.Spelling.{spelling}
 use Rattle.pua_audit.specs.Reach.{Word, from_root}
 use Rattle.pua_objects.proofs.ForCallers.{less_same, take_less}
-use Rattle.pua_tool.specs.KeptPaths.{KeptPathState, IsKept, printed_front}
-use Rattle.pua_tool.proofs.ObjectTexts.{name_next}
+use Rattle.pua_texts.specs.KeptPaths.{KeptPathState, IsKept, printed_front}
+use Rattle.pua_texts.proofs.ObjectLines.{name_next}
 
 abbrev printed : Word → List ℕ
 printed word = spelling (from_root word)

@@ -5,10 +5,10 @@ use Rattle.std.specs.Option.{option_map_or}
 use Rattle.pua_tree.specs.Tree.{Tree}
 use Rattle.pua_calls.specs.Calls.{CallTable}
 use Rattle.pua_policy.specs.History.{History}
-use Rattle.pua_tool.specs.Lists.{ListState, IsListOf, BeginsBy, AreListsBy}
-use Rattle.pua_tool.specs.Blocks.{Passes}
+use Rattle.pua_texts.specs.Lists.{ListState, IsListOf, BeginsBy, AreListsBy}
+use Rattle.pua_texts.specs.Blocks.{Passes}
 use Rattle.pua_io.specs.declared.sink.PutFault.{PutFault}
-use Rattle.pua_tool.proofs.Passing.{Passing, passes_none, passing_none, passing_more, passing_fails, passing_last}
+use Rattle.pua_texts.proofs.Passing.{Passing, passes_none, passing_none, passing_more, passing_fails, passing_last}
 
 -- the same list by other names
 pub same_list : (rules table : CallTable) (t u : Tree) (process : ℕ) (h : History) (list : ListState) → rules ≡ table → t ≡ u → IsListOf rules t process h list → IsListOf table u process h list

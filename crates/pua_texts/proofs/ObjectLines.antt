@@ -1,11 +1,10 @@
--- The text of lists, step by step.
+-- The lines of lists, step by step.
 use Rattle.std.proofs.Common.{◌≡◌, ℕ, ◌+◌, List, [], ◌∷◌, ◌++◌, ◌<◌, ◌≤◌, ◌∙◌, slice_index_or, get_or, subst, refl, sym, ap, map, drop, length, append_assoc, append-nil, Bool, true, false, cond}
-use Rattle.std.specs.Prelude.{Option, Result, Ok, Err, filter, ◌==◌, ◌≢◌, OnOk, IfErr}
+use Rattle.std.specs.Prelude.{filter, ◌==◌}
 use Rattle.std.proofs.lemmas.Grind.{flat_map-append}
 use Rattle.std.proofs.lemmas.Bool.{true≢false}
 use Rattle.std.proofs.lemmas.List.{drop_more}
 use Rattle.std.proofs.Math.ListN.{drop_of_length-le}
-use Rattle.pua_tree.specs.Steps.{◌>>=◌}
 use Rattle.pua_tree.specs.Spelling.{byte_spelling, spelling}
 use Rattle.pua_calls.specs.Calls.{CallTable, call_name, calls}
 use Rattle.pua_calls.specs.CallSets.{has, calls_in}
@@ -13,8 +12,6 @@ use Rattle.pua_calls.specs.declared.call.Call.{Call}
 use Rattle.pua_calls.specs.declared.call.Call.TheVariants.{Stat}
 use Rattle.pua_policy.specs.History.{History, ProcessState, StandsFor}
 use Rattle.pua_tree.specs.Tree.{Tree}
-use Rattle.pua_script.specs.Replay.{World}
-use Rattle.pua_words.specs.declared.command.Processes.{Processes}
 use Rattle.pua_audit.specs.Reach.{Word, from_root, printed_path}
 use Rattle.pua_audit.specs.declared.base.Base.TheVariants.{Root}
 use Rattle.pua_objects.specs.Lines.{kind_word}
@@ -22,30 +19,8 @@ use Rattle.pua_objects.specs.Objects.{Item, with_commas}
 use Rattle.pua_objects.specs.Ready.{IsListed, HasNoLine, lines_of}
 use Rattle.pua_objects.specs.declared.line.ObjectLine.{ObjectLine}
 use Rattle.std.specs.Borrow.{Bor}
-use Rattle.pua_tool.specs.Texts.{Chosen, Replayed, replayed, ended}
-use Rattle.pua_io.specs.Sinks.{Adds, AddsFront, HasFailed}
-use Rattle.pua_tool.specs.ObjectTexts.{object_lines, lists_of, numbers_asked, objects_after, objects_text, Tells}
-use Rattle.pua_tool.specs.declared.fault.ToolFault.{ToolFault}
-use Rattle.pua_tool.specs.declared.fault.ToolFault.TheVariants.{Listing, Script, Request, NoProcess, Audit, Write, OutOfMemory, Table, CanUnveil, LacksC, RenameLacksC, LinkLacksC}
-
-module _ (choice : Chosen) (tree_bytes script_bytes : List ℕ) (which : Processes) where
-  abbrev listed_by : Replayed → Result (List ℕ) ToolFault → Result (List ℕ) ToolFault
-  listed_by done asked = asked >>= λ numbers. Ok (objects_after done.table done.told done.world numbers)
-
-  pub objects_are : (done : Replayed) (numbers : List ℕ) → replayed choice tree_bytes script_bytes ≡ Ok done → numbers_asked done.world which ≡ Ok numbers
-      → objects_text choice tree_bytes script_bytes which ≡ Ok (objects_after done.table done.told done.world numbers)
-  unfolding objects_text
-  objects_are done numbers r m = (λ i. r i >>= λ done. listed_by done (numbers_asked done.world which)) ∙ (λ i. listed_by done (m i))
-
-  -- what refuses the replay comes first
-  pub replay_refuses : (fault : ToolFault) → replayed choice tree_bytes script_bytes ≡ Err fault → objects_text choice tree_bytes script_bytes which ≡ Err fault
-  unfolding objects_text
-  replay_refuses fault r = λ i. r i >>= λ done. listed_by done (numbers_asked done.world which)
-
-  -- what refuses the numbers comes where the replay is not refused
-  pub asked_refuses : (done : Replayed) (fault : ToolFault) → replayed choice tree_bytes script_bytes ≡ Ok done → numbers_asked done.world which ≡ Err fault → objects_text choice tree_bytes script_bytes which ≡ Err fault
-  unfolding objects_text
-  asked_refuses done fault r m = (λ i. r i >>= λ done. listed_by done (numbers_asked done.world which)) ∙ (λ i. listed_by done (m i))
+use Rattle.pua_texts.specs.Lines.{ended}
+use Rattle.pua_texts.specs.ObjectLines.{object_lines}
 
 -- a path from the root goes on with a slash and a spelled name
 pub name_next : (name : List ℕ) (word : Word) → spelling (from_root (name ∷ word)) ≡ (47 ∷ spelling name) ++ spelling (from_root word)
@@ -141,53 +116,3 @@ no_line t u a b p q h left same equal alike stands none =
     subst (λ (v : Tree). object_lines v (lines_of v b h left) ≡ []) same
     (subst (λ (c : CallTable). object_lines t (lines_of t c h left) ≡ []) equal
     (ap (object_lines t) (none h (subst (λ (r : ProcessState). StandsFor r h) (sym alike) stands))))
-
--- the same text by other names
-pub told_as : (front told : List ℕ) (table rules : CallTable) (w : World) (lent numbers : List ℕ) (r : Result (Unit {0}) ToolFault) (a b : Option (List ℕ)) (n m : ℕ) → front ≡ told → table ≡ rules → lent ≡ numbers
-    → Tells (front ++ lists_of table w lent) r a b n m → Tells (told ++ lists_of rules w numbers) r a b n m
-told_as front told table rules w lent numbers r a b n m same ruled alike tells = subst (λ (text : List ℕ). Tells text r a b n m) (λ i. same i ++ lists_of (ruled i) w (alike i)) tells
-
--- what the telling of a text leaves, where that text is the answer
-module _ (answer : Result (List ℕ) ToolFault) (text : List ℕ) (a b : Option (List ℕ)) (n m : ℕ) (is : answer ≡ Ok text) where
-  pub tells_whole : (r : Result (Unit {0}) ToolFault) → Tells text r a b n m → OnOk r ((t : List ℕ) × (answer ≡ Ok t) × Adds t a b)
-  tells_whole (Ok done) told = (text, is, told.0)
-  tells_whole (Err fault) told = tt
-
-  pub tells_unfailed : (r : Result (Unit {0}) ToolFault) → Tells text r a b n m → OnOk r (m ≡ n)
-  tells_unfailed (Ok done) told = told.1
-  tells_unfailed (Err fault) told = tt
-
-  pub tells_write : (r : Result (Unit {0}) ToolFault) → Tells text r a b n m → r ≡ Err Write → (t : List ℕ) × (answer ≡ Ok t) × AddsFront t a b × HasFailed n m
-  tells_write r told cut =
-      let short = subst (λ (s : Result (Unit {0}) ToolFault). Tells text s a b n m) cut told in
-      (text, is, short.0, short.1)
-
-  pub tells_refused : (r : Result (Unit {0}) ToolFault) → Tells text r a b n m → IfErr r (λ fault. fault ≢ Write → fault ≢ OutOfMemory → answer ≡ Err fault)
-  tells_refused (Ok done) told = tt
-  tells_refused (Err Write) told = λ written room. absurd (written refl)
-  tells_refused (Err OutOfMemory) told = λ written room. absurd (room refl)
-  tells_refused (Err (Listing fault)) told = absurd told
-  tells_refused (Err (Script fault)) told = absurd told
-  tells_refused (Err (Request fault)) told = absurd told
-  tells_refused (Err NoProcess) told = absurd told
-  tells_refused (Err (Audit fault)) told = absurd told
-  tells_refused (Err (Table fault)) told = absurd told
-  tells_refused (Err (CanUnveil process)) told = absurd told
-  tells_refused (Err (LacksC call)) told = absurd told
-  tells_refused (Err RenameLacksC) told = absurd told
-  tells_refused (Err LinkLacksC) told = absurd told
-
-  pub tells_unwritten : (r : Result (Unit {0}) ToolFault) → Tells text r a b n m → IfErr r (λ fault. fault ≢ Write → b ≡ a)
-  tells_unwritten (Ok done) told = tt
-  tells_unwritten (Err Write) told = λ written. absurd (written refl)
-  tells_unwritten (Err OutOfMemory) told = λ written. told
-  tells_unwritten (Err (Listing fault)) told = absurd told
-  tells_unwritten (Err (Script fault)) told = absurd told
-  tells_unwritten (Err (Request fault)) told = absurd told
-  tells_unwritten (Err NoProcess) told = absurd told
-  tells_unwritten (Err (Audit fault)) told = absurd told
-  tells_unwritten (Err (Table fault)) told = absurd told
-  tells_unwritten (Err (CanUnveil process)) told = absurd told
-  tells_unwritten (Err (LacksC call)) told = absurd told
-  tells_unwritten (Err RenameLacksC) told = absurd told
-  tells_unwritten (Err LinkLacksC) told = absurd told

@@ -9,7 +9,7 @@ use Rattle.pua_calls.specs.Calls.{call_name}
 use Rattle.pua_calls.specs.declared.call.Call.{Call}
 use Rattle.pua_audit.specs.Reach.{Word, Pair, path_of}
 use Rattle.pua_audit.specs.declared.base.Base.{Base}
-use Rattle.pua_tool.specs.Texts.{ended, pair_lines}
+use Rattle.pua_texts.specs.Lines.{ended, pair_lines}
 
 -- the first pair's line stands before those of the others
 pub first_line : (base : Base) (word : Word) (call : Call) (path : List ℕ) (left more : List Pair) → path ≡ path_of base word → left ≡ (word, call) ∷ more

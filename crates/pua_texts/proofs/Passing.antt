@@ -3,7 +3,7 @@ use Rattle.std.proofs.Common.{◌≡◌, ℕ, List, [], ◌++◌, Option, Result
 use Rattle.std.specs.Prelude.{OnOk, OnErr}
 use Rattle.std.proofs.KnownBytes.{Appends-nil, Appends-trans}
 use Rattle.pua_io.specs.Sinks.{Adds, AddsFront, HasFailed, Writes}
-use Rattle.pua_tool.specs.Blocks.{HandsOn, Passes}
+use Rattle.pua_texts.specs.Blocks.{HandsOn, Passes}
 use Rattle.pua_io.specs.declared.sink.PutFault.{PutFault}
 use Rattle.pua_io.proofs.ForCallers.{writes_then, writes_front}
 

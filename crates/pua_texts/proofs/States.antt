@@ -9,8 +9,8 @@ use Rattle.pua_calls.specs.Promises.{holds, unveil, letters_of}
 use Rattle.pua_policy.specs.History.{held, is_locked}
 use Rattle.pua_policy.specs.declared.place.Place.{Place}
 use Rattle.pua_audit.specs.Reach.{Word}
-use Rattle.pua_tool.specs.States.{ConfinedIsPrinted, or_equals, path_or_hyphen, place_dir, place_names, place_text, veil_lines}
-use Rattle.pua_tool.proofs.ObjectTexts.{joined, line_parts}
+use Rattle.pua_texts.specs.States.{ConfinedIsPrinted, or_equals, path_or_hyphen, place_dir, place_names, place_text, veil_lines}
+use Rattle.pua_texts.proofs.ObjectLines.{joined, line_parts}
 
 -- the word by whether the process is locked and holds `unveil`
 abbrev word_by : Bool → Bool → List ℕ

@@ -17,8 +17,8 @@ use Rattle.pua_why.specs.Since.{since}
 use Rattle.pua_why.specs.Texts.{has_veil}
 use Rattle.pua_since.specs.Dates.{letters_date, veil_date, veils_at, veils_of}
 use Rattle.pua_since.specs.Watched.{kept_in}
-use Rattle.pua_tool.specs.PosedScripts.{veil_dates}
-use Rattle.pua_tool.specs.WhyTexts.{Posed, world_left}
+use Rattle.pua_texts.specs.VeilDates.{veil_dates}
+use Rattle.pua_texts.specs.WhyLines.{Posed, world_left}
 
 -- a place tests as itself
 same_as_itself : (a : Place) → same_place a a ≡ true

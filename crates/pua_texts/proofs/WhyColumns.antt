@@ -29,13 +29,13 @@ use Rattle.pua_policy.proofs.ForCallers.{climb_root, climb_step, same_place_is, 
 use Rattle.pua_objects.specs.Objects.{Subject, At, Others}
 use Rattle.pua_objects.specs.Items.{SubjectFits}
 use Rattle.pua_why.specs.Columns.{covering_in, let_by, resting_on}
-use Rattle.pua_tool.specs.WhyLists.{IsAmongVeils, VeilState, covering_behind, found_on, text_at, veil_behind, veil_kept, veils_behind}
-use Rattle.pua_tool.specs.WhyTexts.{Posed, covering_on, world_left}
-use Rattle.pua_tool.specs.PosedScripts.{veil_dates}
+use Rattle.pua_texts.specs.WhyLists.{IsAmongVeils, VeilState, covering_behind, found_on, text_at, veil_behind, veil_kept, veils_behind}
+use Rattle.pua_texts.specs.WhyLines.{Posed, covering_on, world_left}
+use Rattle.pua_texts.specs.VeilDates.{veil_dates}
 use Rattle.pua_why.specs.Since.{since}
 use Rattle.pua_why.specs.Texts.{has_veil}
-use Rattle.pua_tool.proofs.States.{shown}
-use Rattle.pua_tool.proofs.VeilDates.{same_turned}
+use Rattle.pua_texts.proofs.States.{shown}
+use Rattle.pua_texts.proofs.VeilDates.{same_turned}
 
 -- the first of some places with a veil has one that is kept
 first_among : (h : History) (places : List Place) → IsAmongVeils (veils h) (first_kept (kept h) places)

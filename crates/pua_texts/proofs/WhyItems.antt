@@ -17,9 +17,9 @@ use Rattle.pua_objects.specs.declared.item.Item as given
 use Rattle.pua_objects.specs.declared.line.ObjectLine.{ObjectLine}
 use Rattle.pua_why.specs.Columns.{resting_on, veil_columns}
 use Rattle.pua_why.specs.Texts.{promises_text}
-use Rattle.pua_tool.specs.WhyLists.{covering_behind, item_at, why_items}
-use Rattle.pua_tool.specs.WhyTexts.{Posed, covering_on, why_line, world_left}
-use Rattle.pua_tool.proofs.ObjectTexts.{parts_before}
+use Rattle.pua_texts.specs.WhyLists.{covering_behind, item_at, why_items}
+use Rattle.pua_texts.specs.WhyLines.{Posed, covering_on, why_line, world_left}
+use Rattle.pua_texts.proofs.ObjectLines.{parts_before}
 
 -- the line of an item, where the code has its calls
 module _ (t : Tree) (table : CallTable) (h : History) (word : Word) (subject : Subject) (given : ObjectLine) (on : IsLineOn t table h subject given) where

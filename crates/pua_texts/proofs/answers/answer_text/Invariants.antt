@@ -1,6 +1,6 @@
 use Rattle.std.proofs.Common.{◌≡◌, ◌++◌, suc, drop, string_bytes}
-use Rattle.pua_tool.specs.Texts.{answer_lines}
-use Rattle.pua_tool.proofs.answers.answer_text.Given as goal
+use Rattle.pua_texts.specs.Lines.{answer_lines}
+use Rattle.pua_texts.proofs.answers.answer_text.Given as goal
 
 -- the lines so far stand in front of those that are still to come
 abbrev pub invariant-loop-place : goal.invariant-loop-place

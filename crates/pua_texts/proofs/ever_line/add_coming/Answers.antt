@@ -4,10 +4,10 @@ use Rattle.pua_calls.specs.Calls.{call_name}
 use Rattle.pua_calls.specs.CallSets.{calls_in}
 use Rattle.pua_objects.specs.Lines.{kind_word}
 use Rattle.pua_objects.specs.Objects.{with_commas}
-use Rattle.pua_tool.specs.Blocks.{Passes}
-use Rattle.pua_tool.proofs.Passing.{passes_then, passes_front}
-use Rattle.pua_tool.proofs.ObjectTexts.{line_parts}
-use Rattle.pua_tool.proofs.ever_line.add_coming.Goals as goal
+use Rattle.pua_texts.specs.Blocks.{Passes}
+use Rattle.pua_texts.proofs.Passing.{passes_then, passes_front}
+use Rattle.pua_texts.proofs.ObjectLines.{line_parts}
+use Rattle.pua_texts.proofs.ever_line.add_coming.Goals as goal
 
 pub returns-in_err-add : goal.returns-in_err-add
 returns-in_err-add g c =

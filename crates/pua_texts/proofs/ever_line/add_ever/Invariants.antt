@@ -1,10 +1,10 @@
 use Rattle.std.proofs.Common.{◌≡◌, length}
 use Rattle.pua_policy.specs.History.{History, StandsFor}
 use Rattle.pua_ever.specs.EverLines.{lines_of}
-use Rattle.pua_tool.specs.EverTexts.{ever_lines}
-use Rattle.pua_tool.specs.KeptPaths.{IsKept}
-use Rattle.pua_tool.proofs.Passing.{Passing}
-use Rattle.pua_tool.proofs.ever_line.add_ever.Given as goal
+use Rattle.pua_texts.specs.EverLines.{ever_lines}
+use Rattle.pua_texts.specs.KeptPaths.{IsKept}
+use Rattle.pua_texts.proofs.Passing.{Passing}
+use Rattle.pua_texts.proofs.ever_line.add_ever.Given as goal
 
 -- the lines that were given are added, and the others are still to come
 abbrev pub invariant-loop-line : goal.invariant-loop-line

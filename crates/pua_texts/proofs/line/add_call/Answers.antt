@@ -1,7 +1,7 @@
 use Rattle.std.proofs.Common.{ℕ, List, length, take, ap, ◌∙◌, arith}
 use Rattle.pua_calls.specs.Calls.{call_name}
-use Rattle.pua_tool.proofs.Pairs.{name_kept}
-use Rattle.pua_tool.proofs.line.add_call.Goals as goal
+use Rattle.pua_texts.proofs.Pairs.{name_kept}
+use Rattle.pua_texts.proofs.line.add_call.Goals as goal
 
 pub returns-clause-name : goal.returns-clause-name
 returns-clause-name c =

@@ -1,8 +1,8 @@
 use Rattle.std.proofs.Common.{◌≡◌, ℕ, ◌+◌, List, [], ◌∷◌, length, take, ap, ◌∙◌, arith, length-append}
 use Rattle.pua_calls.specs.Calls.{call_name}
-use Rattle.pua_tool.specs.Texts.{ended}
-use Rattle.pua_tool.proofs.Pairs.{name_kept}
-use Rattle.pua_tool.proofs.line.add_end.Goals as goal
+use Rattle.pua_texts.specs.Lines.{ended}
+use Rattle.pua_texts.proofs.Pairs.{name_kept}
+use Rattle.pua_texts.proofs.line.add_end.Goals as goal
 
 pub returns : goal.returns
 returns c =

@@ -6,10 +6,10 @@ use Rattle.pua_calls.specs.Calls.{call_name}
 use Rattle.pua_audit.specs.Reach.{path_of}
 use Rattle.pua_audit.specs.Lent.{IsNextLine}
 use Rattle.pua_audit.specs.declared.line.Line.{Line}
-use Rattle.pua_tool.specs.Texts.{ended, pair_lines}
-use Rattle.pua_tool.proofs.Passing.{passes_none, passes_room, passes_unput, passing_none, passing_more, passing_fails, passing_last}
-use Rattle.pua_tool.proofs.Pairs.{first_line, spelling_plain}
-use Rattle.pua_tool.proofs.line.add_pairs.Goals as goal
+use Rattle.pua_texts.specs.Lines.{ended, pair_lines}
+use Rattle.pua_texts.proofs.Passing.{passes_none, passes_room, passes_unput, passing_none, passing_more, passing_fails, passing_last}
+use Rattle.pua_texts.proofs.Pairs.{first_line, spelling_plain}
+use Rattle.pua_texts.proofs.line.add_pairs.Goals as goal
 
 pub add_line-requires-clause-plain : goal.add_line-requires-clause-plain
 add_line-requires-clause-plain g c = λ is. spelling_plain c.in-Some.pair.path.now (sym c.in-Some.ensures.plain ∙ is)

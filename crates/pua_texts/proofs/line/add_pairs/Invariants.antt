@@ -1,7 +1,7 @@
 use Rattle.std.proofs.Common.{◌≡◌, length}
-use Rattle.pua_tool.specs.Texts.{pair_lines}
-use Rattle.pua_tool.proofs.Passing.{Passing}
-use Rattle.pua_tool.proofs.line.add_pairs.Given as goal
+use Rattle.pua_texts.specs.Lines.{pair_lines}
+use Rattle.pua_texts.proofs.Passing.{Passing}
+use Rattle.pua_texts.proofs.line.add_pairs.Given as goal
 
 -- the lines of the pairs that were given are added, and the others are still to come
 abbrev pub invariant-loop-pair : goal.invariant-loop-pair

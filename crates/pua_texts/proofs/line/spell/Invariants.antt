@@ -1,6 +1,6 @@
 use Rattle.std.proofs.Common.{◌≡◌, ◌+◌, ◌*◌, ◌≤◌, ◌++◌, take, length}
 use Rattle.pua_tree.specs.Spelling.{spelling}
-use Rattle.pua_tool.proofs.line.spell.Given as goal
+use Rattle.pua_texts.proofs.line.spell.Given as goal
 
 abbrev pub invariant-loop-byte : goal.invariant-loop-byte
 invariant-loop-byte l = record {

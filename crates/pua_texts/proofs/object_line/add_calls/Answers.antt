@@ -3,8 +3,8 @@ use Rattle.std.proofs.lemmas.Result.{err_from_is_err_and}
 use Rattle.pua_calls.specs.Calls.{call_name}
 use Rattle.pua_calls.specs.CallSets.{calls_in}
 use Rattle.pua_objects.specs.Objects.{with_commas}
-use Rattle.pua_tool.proofs.Passing.{passes_room, passes_unput}
-use Rattle.pua_tool.proofs.object_line.add_calls.Goals as goal
+use Rattle.pua_texts.proofs.Passing.{passes_room, passes_unput}
+use Rattle.pua_texts.proofs.object_line.add_calls.Goals as goal
 
 pub returns-in_err-make_room : goal.returns-in_err-make_room
 returns-in_err-make_room g c =

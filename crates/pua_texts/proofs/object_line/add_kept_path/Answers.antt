@@ -4,11 +4,11 @@ use Rattle.std.specs.List.{drop-map}
 use Rattle.pua_tree.specs.Spelling.{spelling}
 use Rattle.pua_audit.specs.Reach.{from_root, printed_path}
 use Rattle.pua_audit.specs.declared.base.Base.TheVariants as base
-use Rattle.pua_tool.specs.Blocks.{Passes}
-use Rattle.pua_tool.proofs.Passing.{passes_then, passes_front}
-use Rattle.pua_tool.proofs.KeptPaths.{kept_parts}
-use Rattle.pua_tool.proofs.ObjectTexts.{path_printed}
-use Rattle.pua_tool.proofs.object_line.add_kept_path.Goals as goal
+use Rattle.pua_texts.specs.Blocks.{Passes}
+use Rattle.pua_texts.proofs.Passing.{passes_then, passes_front}
+use Rattle.pua_texts.proofs.KeptPaths.{kept_parts}
+use Rattle.pua_texts.proofs.ObjectLines.{path_printed}
+use Rattle.pua_texts.proofs.object_line.add_kept_path.Goals as goal
 
 pub returns-in_err-add_all : goal.returns-in_err-add_all
 returns-in_err-add_all g c =

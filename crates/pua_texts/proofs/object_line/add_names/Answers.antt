@@ -2,9 +2,9 @@ use Rattle.std.proofs.Common.{◌≤◌, ◌+◌, ◌++◌, ◌∷◌, [], ℕ, 
 use Rattle.std.specs.Prelude.{if◌then◌else◌}
 use Rattle.pua_calls.specs.Calls.{call_name, calls}
 use Rattle.pua_calls.specs.declared.call.Call.TheVariants.{Stat}
-use Rattle.pua_tool.proofs.ObjectTexts.{calls_left, calls_all, call_taken, call_left, calls_done}
-use Rattle.pua_tool.proofs.object_line.add_names.Goals.{then-contains, else-contains}
-use Rattle.pua_tool.proofs.object_line.add_names.Goals as goal
+use Rattle.pua_texts.proofs.ObjectLines.{calls_left, calls_all, call_taken, call_left, calls_done}
+use Rattle.pua_texts.proofs.object_line.add_names.Goals.{then-contains, else-contains}
+use Rattle.pua_texts.proofs.object_line.add_names.Goals as goal
 
 pub loop-call-preserved : goal.loop-call-preserved
 loop-call-preserved c =

@@ -1,7 +1,7 @@
 use Rattle.std.proofs.Common.{◌≡◌, ◌≤◌, ◌+◌, ◌*◌, ◌++◌, ◌∷◌, [], length}
 use Rattle.std.specs.Prelude.{if◌then◌else◌}
-use Rattle.pua_tool.proofs.ObjectTexts.{calls_left}
-use Rattle.pua_tool.proofs.object_line.add_names.Given as goal
+use Rattle.pua_texts.proofs.ObjectLines.{calls_left}
+use Rattle.pua_texts.proofs.object_line.add_names.Given as goal
 
 -- the names of the calls that were asked for are added, and those of the others are still to come
 abbrev pub invariant-loop-call : goal.invariant-loop-call

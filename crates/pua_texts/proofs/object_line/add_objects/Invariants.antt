@@ -1,10 +1,10 @@
 use Rattle.std.proofs.Common.{◌≡◌, length}
 use Rattle.pua_policy.specs.History.{History, StandsFor}
 use Rattle.pua_objects.specs.Ready.{lines_of}
-use Rattle.pua_tool.specs.ObjectTexts.{object_lines}
-use Rattle.pua_tool.specs.KeptPaths.{IsKept}
-use Rattle.pua_tool.proofs.Passing.{Passing}
-use Rattle.pua_tool.proofs.object_line.add_objects.Given as goal
+use Rattle.pua_texts.specs.ObjectLines.{object_lines}
+use Rattle.pua_texts.specs.KeptPaths.{IsKept}
+use Rattle.pua_texts.proofs.Passing.{Passing}
+use Rattle.pua_texts.proofs.object_line.add_objects.Given as goal
 
 -- the lines that were given are added, and the others are still to come
 abbrev pub invariant-loop-line : goal.invariant-loop-line

@@ -1,7 +1,7 @@
 use Rattle.std.proofs.Common.{List, ℕ, sym, subst, ◌∙◌}
-use Rattle.pua_tool.specs.Blocks.{Passes}
-use Rattle.pua_tool.proofs.ObjectTexts.{path_printed}
-use Rattle.pua_tool.proofs.object_line.add_path.Goals as goal
+use Rattle.pua_texts.specs.Blocks.{Passes}
+use Rattle.pua_texts.proofs.ObjectLines.{path_printed}
+use Rattle.pua_texts.proofs.object_line.add_path.Goals as goal
 
 pub returns : goal.returns
 returns g c =

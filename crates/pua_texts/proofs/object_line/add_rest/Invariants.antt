@@ -1,6 +1,6 @@
-use Rattle.pua_tool.proofs.Passing.{Passing}
-use Rattle.pua_tool.proofs.ObjectTexts.{path_left}
-use Rattle.pua_tool.proofs.object_line.add_rest.Given as goal
+use Rattle.pua_texts.proofs.Passing.{Passing}
+use Rattle.pua_texts.proofs.ObjectLines.{path_left}
+use Rattle.pua_texts.proofs.object_line.add_rest.Given as goal
 
 -- the names so far are added, and the others are still to come
 abbrev pub invariant-loop-name : goal.invariant-loop-name

@@ -3,11 +3,11 @@ use Rattle.std.proofs.lemmas.List.{nil_from_length}
 use Rattle.std.proofs.lemmas.Result.{err_from_is_err_and}
 use Rattle.pua_tree.specs.Tree.{Tree}
 use Rattle.pua_script.specs.Replay.{history_of}
-use Rattle.pua_tool.specs.Blocks.{Passes}
-use Rattle.pua_tool.specs.Lists.{IsListOf, ListState}
-use Rattle.pua_tool.specs.ObjectTexts.{lists_of, process_list}
-use Rattle.pua_tool.proofs.Lists.{Left, all_left, left_more, left_fails, left_none}
-use Rattle.pua_tool.proofs.objects.add_lists.Goals as goal
+use Rattle.pua_texts.specs.Blocks.{Passes}
+use Rattle.pua_texts.specs.Lists.{IsListOf, ListState}
+use Rattle.pua_texts.specs.ObjectLines.{lists_of, process_list}
+use Rattle.pua_texts.proofs.Lists.{Left, all_left, left_more, left_fails, left_none}
+use Rattle.pua_texts.proofs.object_lists.add_lists.Goals as goal
 
 pub loop-list-init : goal.loop-list-init
 loop-list-init g c = record {

@@ -1,10 +1,10 @@
 use Rattle.std.proofs.Common.{◌≡◌, List, ℕ, length}
 use Rattle.pua_calls.specs.Calls.{CallTable}
 use Rattle.pua_script.specs.Replay.{World, history_of}
-use Rattle.pua_tool.specs.Lists.{AreListsOf, IsListOf}
-use Rattle.pua_tool.specs.ObjectTexts.{lists_of, process_list}
-use Rattle.pua_tool.proofs.Lists.{Left}
-use Rattle.pua_tool.proofs.objects.add_lists.Given as goal
+use Rattle.pua_texts.specs.Lists.{AreListsOf, IsListOf}
+use Rattle.pua_texts.specs.ObjectLines.{lists_of, process_list}
+use Rattle.pua_texts.proofs.Lists.{Left}
+use Rattle.pua_texts.proofs.object_lists.add_lists.Given as goal
 
 -- the lists so far are added, and the others are still to come
 abbrev pub invariant-loop-list : goal.invariant-loop-list

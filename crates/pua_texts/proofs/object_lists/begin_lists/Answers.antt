@@ -1,10 +1,10 @@
 use Rattle.std.proofs.Common.{List, ℕ, ◌+◌, ◌++◌, ◌∷◌, [], take, sym, subst, ◌∙◌, arith, take_all}
 use Rattle.std.proofs.lemmas.List.{take_more}
 use Rattle.pua_script.specs.Replay.{history_of}
-use Rattle.pua_tool.specs.Lists.{AreListsOf, IsListOf, ListState}
-use Rattle.pua_tool.proofs.Replays.{is_made, none_made}
-use Rattle.pua_tool.proofs.Lists.{one_more, none_more, same_list}
-use Rattle.pua_tool.proofs.objects.begin_lists.Goals as goal
+use Rattle.pua_texts.specs.Lists.{AreListsOf, IsListOf, ListState}
+use Rattle.pua_texts.proofs.Made.{is_made, none_made}
+use Rattle.pua_texts.proofs.Lists.{one_more, none_more, same_list}
+use Rattle.pua_texts.proofs.object_lists.begin_lists.Goals as goal
 
 pub loop-number-preserved-in_default : goal.loop-number-preserved-in_default
 loop-number-preserved-in_default g c = λ w stands.

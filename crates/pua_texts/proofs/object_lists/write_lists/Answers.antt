@@ -1,9 +1,9 @@
 use Rattle.std.proofs.Common.{List, ℕ, ◌++◌, [], Ok, Err, subst}
 use Rattle.std.proofs.lemmas.Result.{err_from_is_err_and}
-use Rattle.pua_tool.specs.Blocks.{Passes}
-use Rattle.pua_tool.specs.ObjectTexts.{lists_of}
-use Rattle.pua_tool.proofs.Passing.{passes_then, passes_front, passes_written}
-use Rattle.pua_tool.proofs.objects.write_text.Goals as goal
+use Rattle.pua_texts.specs.Blocks.{Passes}
+use Rattle.pua_texts.specs.ObjectLines.{lists_of}
+use Rattle.pua_texts.proofs.Passing.{passes_then, passes_front, passes_written}
+use Rattle.pua_texts.proofs.object_lists.write_lists.Goals as goal
 
 pub returns-in_err-add_text : goal.returns-in_err-add_text
 returns-in_err-add_text g c =

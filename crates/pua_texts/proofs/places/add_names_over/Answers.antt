@@ -1,8 +1,8 @@
 use Rattle.std.proofs.Common.{◌+◌, ◌-◌, ◌++◌, ◌∷◌, [], ℕ, length, map, sym, ap, ◌∙◌, arith}
 use Rattle.std.proofs.lemmas.List.{map-append}
-use Rattle.pua_tool.specs.States.{names_up}
-use Rattle.pua_tool.proofs.Climbing.{names_more, names_none, names_done}
-use Rattle.pua_tool.proofs.places.add_names_over.Goals as goal
+use Rattle.pua_texts.specs.States.{names_up}
+use Rattle.pua_texts.proofs.Climbing.{names_more, names_none, names_done}
+use Rattle.pua_texts.proofs.places.add_names_over.Goals as goal
 
 pub loop-preserved : goal.loop-preserved
 loop-preserved c =

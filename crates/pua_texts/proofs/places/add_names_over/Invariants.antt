@@ -1,8 +1,8 @@
 use Rattle.std.proofs.Common.{◌≡◌, ◌+◌, ◌-◌, ◌++◌, length, map, vec_capacity, vec_len}
 use Rattle.pua_tree.specs.LentRows.{lent_entry}
 use Rattle.pua_tree.specs.Tree.{Tree}
-use Rattle.pua_tool.specs.States.{names_up}
-use Rattle.pua_tool.proofs.places.add_names_over.Given as goal
+use Rattle.pua_texts.specs.States.{names_up}
+use Rattle.pua_texts.proofs.places.add_names_over.Given as goal
 
 -- the names so far are added, and those above are still to come
 abbrev pub invariant-loop : goal.invariant-loop

@@ -1,8 +1,8 @@
 use Rattle.std.proofs.Common.{◌++◌, ◌∷◌, ◌+◌, [], ap, sym, ◌∙◌, map, drop, string_bytes, arith}
 use Rattle.std.specs.Prelude.{if◌then◌else◌}
-use Rattle.pua_tool.proofs.ObjectTexts.{joined}
-use Rattle.pua_tool.proofs.States.{joined_next, joined_done}
-use Rattle.pua_tool.proofs.state.joined.Goals as goal
+use Rattle.pua_texts.proofs.ObjectLines.{joined}
+use Rattle.pua_texts.proofs.States.{joined_next, joined_done}
+use Rattle.pua_texts.proofs.state.joined.Goals as goal
 
 pub loop-name-preserved : goal.loop-name-preserved
 loop-name-preserved c =

@@ -1,8 +1,8 @@
 use Rattle.std.proofs.Common.{◌≡◌, ◌++◌, ◌∷◌, [], drop, map, string_bytes}
 use Rattle.std.specs.Prelude.{if◌then◌else◌}
 use Rattle.pua_objects.specs.Objects.{with_commas}
-use Rattle.pua_tool.proofs.ObjectTexts.{joined}
-use Rattle.pua_tool.proofs.state.joined.Given as goal
+use Rattle.pua_texts.proofs.ObjectLines.{joined}
+use Rattle.pua_texts.proofs.state.joined.Given as goal
 
 -- the names so far stand in front of those that are still to come
 abbrev pub invariant-loop-name : goal.invariant-loop-name

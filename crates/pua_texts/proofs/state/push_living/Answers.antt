@@ -1,11 +1,11 @@
 use Rattle.std.proofs.Common.{◌++◌, ap, ◌∙◌, string_bytes}
 use Rattle.std.specs.Prelude.{codes}
 use Rattle.pua_policy.specs.History.{held_for_exec, pledged}
-use Rattle.pua_tool.specs.States.{promises_text, unveil_word}
-use Rattle.pua_tool.specs.Texts.{ended}
-use Rattle.pua_tool.proofs.Replays.{on_ok}
-use Rattle.pua_tool.proofs.States.{four_lines}
-use Rattle.pua_tool.proofs.state.push_living.Goals as goal
+use Rattle.pua_texts.specs.States.{promises_text, unveil_word}
+use Rattle.pua_texts.specs.Lines.{ended}
+use Rattle.pua_texts.proofs.Outcomes.{on_ok}
+use Rattle.pua_texts.proofs.States.{four_lines}
+use Rattle.pua_texts.proofs.state.push_living.Goals as goal
 
 pub returns : goal.returns
 returns c = on_ok c.push_line-4.result (λ fourth h stands.

@@ -1,9 +1,9 @@
 use Rattle.std.proofs.Common.{◌++◌, ap, sym, ◌∙◌, string_bytes}
 use Rattle.std.specs.Prelude.{codes, if◌then◌else◌}
-use Rattle.pua_tool.specs.States.{living_lines}
-use Rattle.pua_tool.specs.Texts.{ended}
-use Rattle.pua_tool.proofs.Replays.{on_ok}
-use Rattle.pua_tool.proofs.state.push_own.Goals as goal
+use Rattle.pua_texts.specs.States.{living_lines}
+use Rattle.pua_texts.specs.Lines.{ended}
+use Rattle.pua_texts.proofs.Outcomes.{on_ok}
+use Rattle.pua_texts.proofs.state.push_own.Goals as goal
 
 pub returns-then-ended : goal.returns-then-ended
 returns-then-ended c = on_ok c.push_line.result (λ line h stands.

@@ -1,7 +1,7 @@
 use Rattle.std.proofs.Common.{◌≡◌, IfOk, ap, sym, subst, ◌∙◌, map, string_bytes}
 use Rattle.pua_objects.specs.Objects.{with_commas}
-use Rattle.pua_tool.specs.States.{or_equals, promises_text}
-use Rattle.pua_tool.proofs.state.spelled_promises.Goals as goal
+use Rattle.pua_texts.specs.States.{or_equals, promises_text}
+use Rattle.pua_texts.proofs.state.spelled_promises.Goals as goal
 
 pub returns : goal.returns
 returns c =

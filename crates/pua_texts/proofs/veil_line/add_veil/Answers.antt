@@ -2,9 +2,9 @@ use Rattle.std.proofs.Common.{List, ℕ, ◌∷◌, ◌++◌, [], Err, map}
 use Rattle.std.specs.Prelude.{codes}
 use Rattle.std.proofs.lemmas.Result.{err_from_is_err_and}
 use Rattle.pua_calls.specs.Promises.{letters_of}
-use Rattle.pua_tool.specs.States.{or_equals, path_or_hyphen}
-use Rattle.pua_tool.proofs.Passing.{passes_then, passes_front}
-use Rattle.pua_tool.proofs.veil_line.add_veil.Goals as goal
+use Rattle.pua_texts.specs.States.{or_equals, path_or_hyphen}
+use Rattle.pua_texts.proofs.Passing.{passes_then, passes_front}
+use Rattle.pua_texts.proofs.veil_line.add_veil.Goals as goal
 
 pub returns-in_err-add : goal.returns-in_err-add
 returns-in_err-add g c =

@@ -3,10 +3,10 @@ use Rattle.std.specs.Prelude.{codes, reverse}
 use Rattle.std.proofs.lemmas.Result.{err_from_is_err_and}
 use Rattle.pua_tree.specs.Tree.{is_dir}
 use Rattle.pua_calls.specs.Promises.{letters_of}
-use Rattle.pua_tool.specs.States.{or_equals, path_or_hyphen, place_dir, place_names, veil_lines}
-use Rattle.pua_tool.proofs.States.{shown, veil_next, veils_done}
-use Rattle.pua_tool.proofs.Passing.{passes_none, passing_none, passing_more, passing_fails, passing_last}
-use Rattle.pua_tool.proofs.veil_line.add_veils.Goals as goal
+use Rattle.pua_texts.specs.States.{or_equals, path_or_hyphen, place_dir, place_names, veil_lines}
+use Rattle.pua_texts.proofs.States.{shown, veil_next, veils_done}
+use Rattle.pua_texts.proofs.Passing.{passes_none, passing_none, passing_more, passing_fails, passing_last}
+use Rattle.pua_texts.proofs.veil_line.add_veils.Goals as goal
 
 pub loop-veil-init : goal.loop-veil-init
 loop-veil-init g c = record {

@@ -1,7 +1,7 @@
 use Rattle.std.proofs.Common.{◌≡◌, drop, map}
-use Rattle.pua_tool.specs.States.{veil_lines}
-use Rattle.pua_tool.proofs.Passing.{Passing}
-use Rattle.pua_tool.proofs.veil_line.add_veils.Given as goal
+use Rattle.pua_texts.specs.States.{veil_lines}
+use Rattle.pua_texts.proofs.Passing.{Passing}
+use Rattle.pua_texts.proofs.veil_line.add_veils.Given as goal
 
 -- the lines so far are added, and the others are still to come
 abbrev pub invariant-loop-veil : goal.invariant-loop-veil

@@ -1,11 +1,11 @@
 use Rattle.std.proofs.Common.{◌+◌, ◌∷◌, [], ap, ◌∙◌, get_or, map, take_all, arith}
 use Rattle.std.specs.Prelude.{None}
 use Rattle.std.proofs.lemmas.List.{map-append}
-use Rattle.pua_tool.specs.WhyLists.{veil_state, veils_behind}
-use Rattle.pua_tool.specs.WhyTexts.{world_left}
-use Rattle.pua_tool.proofs.States.{shown}
-use Rattle.pua_tool.proofs.WhyColumns.{column_next}
-use Rattle.pua_tool.proofs.why_columns.columns_of.Goals as goal
+use Rattle.pua_texts.specs.WhyLists.{veil_state, veils_behind}
+use Rattle.pua_texts.specs.WhyLines.{world_left}
+use Rattle.pua_texts.proofs.States.{shown}
+use Rattle.pua_texts.proofs.WhyColumns.{column_next}
+use Rattle.pua_texts.proofs.why_columns.columns_of.Goals as goal
 
 pub loop-veil-preserved : goal.loop-veil-preserved
 loop-veil-preserved c =

@@ -1,10 +1,10 @@
 use Rattle.std.proofs.Common.{◌≡◌, ℕ, map, take}
 use Rattle.std.specs.Prelude.{vec_len}
-use Rattle.pua_tool.specs.PosedScripts.{veil_dates}
-use Rattle.pua_tool.specs.WhyLists.{veil_state, veils_behind}
-use Rattle.pua_tool.specs.WhyTexts.{Posed, world_left}
-use Rattle.pua_tool.proofs.States.{shown}
-use Rattle.pua_tool.proofs.why_columns.columns_of.Given as goal
+use Rattle.pua_texts.specs.VeilDates.{veil_dates}
+use Rattle.pua_texts.specs.WhyLists.{veil_state, veils_behind}
+use Rattle.pua_texts.specs.WhyLines.{Posed, world_left}
+use Rattle.pua_texts.proofs.States.{shown}
+use Rattle.pua_texts.proofs.why_columns.columns_of.Given as goal
 
 -- the columns so far are those of the veils so far
 abbrev pub invariant-loop-veil : goal.invariant-loop-veil

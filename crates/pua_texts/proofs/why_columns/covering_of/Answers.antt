@@ -6,9 +6,9 @@ use Rattle.pua_policy.specs.History.{veils}
 use Rattle.pua_policy.specs.Reasons.{covering}
 use Rattle.pua_policy.specs.declared.reason.Covering.{Covering}
 use Rattle.pua_objects.specs.Items.{subject_given}
-use Rattle.pua_tool.specs.WhyLists.{IsAmongVeils, found_on}
-use Rattle.pua_tool.proofs.WhyColumns.{covering_among, found_covered, found_fits}
-use Rattle.pua_tool.proofs.why_columns.covering_of.Goals as goal
+use Rattle.pua_texts.specs.WhyLists.{IsAmongVeils, found_on}
+use Rattle.pua_texts.proofs.WhyColumns.{covering_among, found_covered, found_fits}
+use Rattle.pua_texts.proofs.why_columns.covering_of.Goals as goal
 
 pub returns-clause-covered : goal.returns-clause-covered
 returns-clause-covered g c = λ fits h stands.

@@ -1,8 +1,8 @@
 use Rattle.std.proofs.Common.{ap, sym, subst, ◌∙◌}
 use Rattle.pua_policy.specs.declared.reason.Covering.{Covering}
-use Rattle.pua_tool.specs.WhyLists.{IsAmongVeils, covering_behind, text_at}
-use Rattle.pua_tool.proofs.WhyColumns.{text_kept}
-use Rattle.pua_tool.proofs.why_columns.covering_text.Goals as goal
+use Rattle.pua_texts.specs.WhyLists.{IsAmongVeils, covering_behind, text_at}
+use Rattle.pua_texts.proofs.WhyColumns.{text_kept}
+use Rattle.pua_texts.proofs.why_columns.covering_text.Goals as goal
 
 pub returns-in-By : goal.returns-in-By
 returns-in-By c = λ p number vs are among.

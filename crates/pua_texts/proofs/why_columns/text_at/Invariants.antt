@@ -1,6 +1,6 @@
 use Rattle.std.proofs.Common.{◌≡◌, drop, map}
-use Rattle.pua_tool.specs.WhyLists.{text_at, veil_state}
-use Rattle.pua_tool.proofs.why_columns.text_at.Given as goal
+use Rattle.pua_texts.specs.WhyLists.{text_at, veil_state}
+use Rattle.pua_texts.proofs.why_columns.text_at.Given as goal
 
 -- the veil is none of those so far
 abbrev pub invariant-loop-veil : goal.invariant-loop-veil

@@ -1,10 +1,10 @@
 use Rattle.std.proofs.Common.{ap, sym, ◌∙◌, map}
 use Rattle.pua_tree.specs.Tree.{Tree}
-use Rattle.pua_tool.specs.PosedScripts.{veil_dates}
-use Rattle.pua_tool.specs.WhyLists.{veils_behind}
-use Rattle.pua_tool.proofs.Replays.{if_ok}
-use Rattle.pua_tool.proofs.States.{shown}
-use Rattle.pua_tool.proofs.why_columns.veil_columns.Goals as goal
+use Rattle.pua_texts.specs.VeilDates.{veil_dates}
+use Rattle.pua_texts.specs.WhyLists.{veils_behind}
+use Rattle.pua_texts.proofs.Outcomes.{if_ok}
+use Rattle.pua_texts.proofs.States.{shown}
+use Rattle.pua_texts.proofs.why_columns.veil_columns.Goals as goal
 
 pub returns : goal.returns
 returns g c = if_ok c.columns_of.result (λ columns told p number same dated.

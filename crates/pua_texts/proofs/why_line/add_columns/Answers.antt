@@ -1,9 +1,9 @@
 use Rattle.std.proofs.Common.{List, [], ℕ, subst}
 use Rattle.std.proofs.lemmas.Result.{err_from_is_err_and}
 use Rattle.pua_why.specs.Texts.{promises_text}
-use Rattle.pua_tool.specs.Blocks.{Passes}
-use Rattle.pua_tool.proofs.Passing.{passes_front, passes_then}
-use Rattle.pua_tool.proofs.why_line.add_columns.Goals as goal
+use Rattle.pua_texts.specs.Blocks.{Passes}
+use Rattle.pua_texts.proofs.Passing.{passes_front, passes_then}
+use Rattle.pua_texts.proofs.why_line.add_columns.Goals as goal
 
 pub returns-in_err-add_promises : goal.returns-in_err-add_promises
 returns-in_err-add_promises g c =

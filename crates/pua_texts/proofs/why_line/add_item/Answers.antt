@@ -3,10 +3,10 @@ use Rattle.std.proofs.lemmas.Result.{err_from_is_err_and}
 use Rattle.pua_calls.specs.CallSets.{calls_in}
 use Rattle.pua_objects.specs.Items.{subject_given}
 use Rattle.pua_why.specs.Texts.{promises_text}
-use Rattle.pua_tool.specs.Blocks.{Passes}
-use Rattle.pua_tool.proofs.Passing.{passes_none, passes_then, passes_front}
-use Rattle.pua_tool.proofs.WhyItems.{front_given, is_not_so, item_listed, item_unlisted}
-use Rattle.pua_tool.proofs.why_line.add_item.Goals as goal
+use Rattle.pua_texts.specs.Blocks.{Passes}
+use Rattle.pua_texts.proofs.Passing.{passes_none, passes_then, passes_front}
+use Rattle.pua_texts.proofs.WhyItems.{front_given, is_not_so, item_listed, item_unlisted}
+use Rattle.pua_texts.proofs.why_line.add_item.Goals as goal
 
 pub returns-then-is_empty : goal.returns-then-is_empty
 returns-then-is_empty g c = λ fits p number h are stands on.

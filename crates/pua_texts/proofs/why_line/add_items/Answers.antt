@@ -2,10 +2,10 @@ use Rattle.std.proofs.Common.{[], ◌∷◌, Ok, refl, sym, ap, subst, ◌∙◌
 use Rattle.std.proofs.lemmas.Result.{err_from_is_err_and}
 use Rattle.pua_policy.specs.History.{ProcessState, StandsFor}
 use Rattle.pua_objects.specs.Items.{subject_given}
-use Rattle.pua_tool.specs.WhyLists.{item_at, why_items}
-use Rattle.pua_tool.proofs.Passing.{passes_none, passing_none, passing_more, passing_fails, passing_last}
-use Rattle.pua_tool.proofs.WhyItems.{on_item, item_fits, first_told}
-use Rattle.pua_tool.proofs.why_line.add_items.Goals as goal
+use Rattle.pua_texts.specs.WhyLists.{item_at, why_items}
+use Rattle.pua_texts.proofs.Passing.{passes_none, passing_none, passing_more, passing_fails, passing_last}
+use Rattle.pua_texts.proofs.WhyItems.{on_item, item_fits, first_told}
+use Rattle.pua_texts.proofs.why_line.add_items.Goals as goal
 
 pub loop-item-init : goal.loop-item-init
 loop-item-init g c = record {

@@ -1,9 +1,9 @@
 use Rattle.std.proofs.Common.{◌≡◌, ℕ, length}
 use Rattle.pua_policy.specs.History.{History, StandsFor}
-use Rattle.pua_tool.specs.WhyLists.{AreColumnsOf, why_items}
-use Rattle.pua_tool.specs.WhyTexts.{Posed}
-use Rattle.pua_tool.proofs.Passing.{Passing}
-use Rattle.pua_tool.proofs.why_line.add_items.Given as goal
+use Rattle.pua_texts.specs.WhyLists.{AreColumnsOf, why_items}
+use Rattle.pua_texts.specs.WhyLines.{Posed}
+use Rattle.pua_texts.proofs.Passing.{Passing}
+use Rattle.pua_texts.proofs.why_line.add_items.Given as goal
 
 -- the lines of the items that were given are added, and those of the others are still to come
 abbrev pub invariant-loop-item : goal.invariant-loop-item

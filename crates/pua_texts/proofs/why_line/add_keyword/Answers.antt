@@ -1,8 +1,8 @@
 use Rattle.std.proofs.Common.{List, [], ◌∷◌, ℕ, subst}
 use Rattle.std.proofs.lemmas.Result.{err_from_is_err_and}
-use Rattle.pua_tool.specs.Blocks.{Passes}
-use Rattle.pua_tool.proofs.Passing.{passes_front, passes_then}
-use Rattle.pua_tool.proofs.why_line.add_keyword.Goals as goal
+use Rattle.pua_texts.specs.Blocks.{Passes}
+use Rattle.pua_texts.proofs.Passing.{passes_front, passes_then}
+use Rattle.pua_texts.proofs.why_line.add_keyword.Goals as goal
 
 pub returns-then-is_first : goal.returns-then-is_first
 returns-then-is_first g c =

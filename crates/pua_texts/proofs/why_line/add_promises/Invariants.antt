@@ -1,7 +1,7 @@
 use Rattle.pua_why.specs.Texts.{promises_text}
-use Rattle.pua_tool.proofs.Keywords.{text_left}
-use Rattle.pua_tool.proofs.Passing.{Passing}
-use Rattle.pua_tool.proofs.why_line.add_promises.Given as goal
+use Rattle.pua_texts.proofs.Keywords.{text_left}
+use Rattle.pua_texts.proofs.Passing.{Passing}
+use Rattle.pua_texts.proofs.why_line.add_promises.Given as goal
 
 -- the keywords so far are added, and the others are still to come
 abbrev pub invariant-loop-index : goal.invariant-loop-index

@@ -2,10 +2,10 @@ use Rattle.std.proofs.Common.{List, [], refl, sym, subst, ◌∙◌}
 use Rattle.std.proofs.lemmas.List.{nil_from_length}
 use Rattle.std.proofs.lemmas.Result.{err_from_is_err_and}
 use Rattle.pua_script.specs.Replay.{history_of}
-use Rattle.pua_tool.specs.WhyLists.{IsWhyListOf, WhyListState}
-use Rattle.pua_tool.specs.WhyTexts.{why_list, why_lists_of, world_left}
-use Rattle.pua_tool.proofs.Lists.{Left, all_left, left_more, left_fails, left_none}
-use Rattle.pua_tool.proofs.objects_why.add_lists.Goals as goal
+use Rattle.pua_texts.specs.WhyLists.{IsWhyListOf, WhyListState}
+use Rattle.pua_texts.specs.WhyLines.{why_list, why_lists_of, world_left}
+use Rattle.pua_texts.proofs.Lists.{Left, all_left, left_more, left_fails, left_none}
+use Rattle.pua_texts.proofs.why_lists.add_lists.Goals as goal
 
 pub loop-list-init : goal.loop-list-init
 loop-list-init g c = record {

@@ -1,9 +1,9 @@
 use Rattle.std.proofs.Common.{◌≡◌, List, ℕ, length}
 use Rattle.pua_script.specs.Replay.{history_of}
-use Rattle.pua_tool.specs.WhyLists.{AreWhyListsOf, IsWhyListOf}
-use Rattle.pua_tool.specs.WhyTexts.{Posed, why_list, why_lists_of, world_left}
-use Rattle.pua_tool.proofs.Lists.{Left}
-use Rattle.pua_tool.proofs.objects_why.add_lists.Given as goal
+use Rattle.pua_texts.specs.WhyLists.{AreWhyListsOf, IsWhyListOf}
+use Rattle.pua_texts.specs.WhyLines.{Posed, why_list, why_lists_of, world_left}
+use Rattle.pua_texts.proofs.Lists.{Left}
+use Rattle.pua_texts.proofs.why_lists.add_lists.Given as goal
 
 -- the lists so far are added, and the others are still to come
 abbrev pub invariant-loop-list : goal.invariant-loop-list

@@ -3,13 +3,13 @@ use Rattle.std.specs.Prelude.{flat_map}
 use Rattle.std.proofs.lemmas.List.{length-map, take_more}
 use Rattle.pua_script.specs.Replay.{history_of}
 use Rattle.pua_since.specs.Dates.{veil_date, veils_at}
-use Rattle.pua_tool.specs.PosedScripts.{veil_dates}
-use Rattle.pua_tool.specs.WhyLists.{AreWhyListsOf, IsWhyListOf, WhyListState}
-use Rattle.pua_tool.specs.WhyTexts.{world_left}
-use Rattle.pua_tool.proofs.Replays.{is_made, none_made}
-use Rattle.pua_tool.proofs.Lists.{one_more, none_more}
-use Rattle.pua_tool.proofs.VeilDates.{length_dates, none_dated, own_taken, rest_dropped, some_dated}
-use Rattle.pua_tool.proofs.objects_why.begin_lists.Goals as goal
+use Rattle.pua_texts.specs.VeilDates.{veil_dates}
+use Rattle.pua_texts.specs.WhyLists.{AreWhyListsOf, IsWhyListOf, WhyListState}
+use Rattle.pua_texts.specs.WhyLines.{world_left}
+use Rattle.pua_texts.proofs.Made.{is_made, none_made}
+use Rattle.pua_texts.proofs.Lists.{one_more, none_more}
+use Rattle.pua_texts.proofs.VeilDates.{length_dates, none_dated, own_taken, rest_dropped, some_dated}
+use Rattle.pua_texts.proofs.why_lists.begin_why_lists.Goals as goal
 
 pub loop-number-preserved-in_default : goal.loop-number-preserved-in_default
 loop-number-preserved-in_default g c = λ p stands ruled dated.

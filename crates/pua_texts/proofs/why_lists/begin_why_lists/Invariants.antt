@@ -2,9 +2,9 @@ use Rattle.std.proofs.Common.{◌≡◌, drop, map, take}
 use Rattle.std.specs.Prelude.{flat_map}
 use Rattle.pua_script.specs.Worlds.{StandsForWorld}
 use Rattle.pua_since.specs.Dates.{veil_date, veils_at}
-use Rattle.pua_tool.specs.WhyLists.{AreWhyListsOf}
-use Rattle.pua_tool.specs.WhyTexts.{Posed, world_left}
-use Rattle.pua_tool.proofs.objects_why.begin_lists.Given as goal
+use Rattle.pua_texts.specs.WhyLists.{AreWhyListsOf}
+use Rattle.pua_texts.specs.WhyLines.{Posed, world_left}
+use Rattle.pua_texts.proofs.why_lists.begin_why_lists.Given as goal
 
 -- the lists so far are those of the numbers so far, and the lines that are left are those of the others
 abbrev pub invariant-loop-number : goal.invariant-loop-number

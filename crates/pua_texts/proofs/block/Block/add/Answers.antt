@@ -1,7 +1,7 @@
 use Rattle.std.proofs.Common.{[]}
 use Rattle.std.proofs.lemmas.Result.{err_from_is_err_and}
-use Rattle.pua_tool.proofs.Passing.{passes_room, passes_unput}
-use Rattle.pua_tool.proofs.block.Block.add.Goals as goal
+use Rattle.pua_texts.proofs.Passing.{passes_room, passes_unput}
+use Rattle.pua_texts.proofs.block.Block.add.Goals as goal
 
 pub returns-in_err-make_room : goal.returns-in_err-make_room
 returns-in_err-make_room g c =

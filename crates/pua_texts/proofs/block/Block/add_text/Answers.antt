@@ -1,5 +1,5 @@
-use Rattle.pua_tool.proofs.Passing.{passes_put}
-use Rattle.pua_tool.proofs.block.Block.add_text.Goals as goal
+use Rattle.pua_texts.proofs.Passing.{passes_put}
+use Rattle.pua_texts.proofs.block.Block.add_text.Goals as goal
 
 pub returns : goal.returns
 returns g c =

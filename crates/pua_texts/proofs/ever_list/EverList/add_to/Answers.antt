@@ -3,12 +3,12 @@ use Rattle.std.specs.Prelude.{codes}
 use Rattle.std.proofs.lemmas.Result.{err_from_is_err_and}
 use Rattle.pua_ever.specs.Ever.{ever}
 use Rattle.pua_ever.specs.EverLines.{lines_of}
-use Rattle.pua_tool.specs.Blocks.{Passes}
-use Rattle.pua_tool.specs.EverLists.{IsEverListOf}
-use Rattle.pua_tool.specs.EverTexts.{ever_lines}
-use Rattle.pua_tool.specs.States.{head_lines}
-use Rattle.pua_tool.proofs.Passing.{passes_then, passes_front}
-use Rattle.pua_tool.proofs.ever_list.EverList.add_to.Goals as goal
+use Rattle.pua_texts.specs.Blocks.{Passes}
+use Rattle.pua_texts.specs.EverLists.{IsEverListOf}
+use Rattle.pua_texts.specs.EverLines.{ever_lines}
+use Rattle.pua_texts.specs.States.{head_lines}
+use Rattle.pua_texts.proofs.Passing.{passes_then, passes_front}
+use Rattle.pua_texts.proofs.ever_list.EverList.add_to.Goals as goal
 
 pub returns-in_err-add_to : goal.returns-in_err-add_to
 returns-in_err-add_to g c =

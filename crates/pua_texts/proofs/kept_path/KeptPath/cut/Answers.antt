@@ -1,8 +1,8 @@
 use Rattle.std.proofs.Common.{◌≡◌, ◌<◌, sym, subst, ap, ◌∙◌, length, take, get_or, arith}
 use Rattle.std.proofs.lemmas.List.{get_or_default}
-use Rattle.pua_tool.specs.KeptPaths.{KeptPathState, IsKept}
-use Rattle.pua_tool.proofs.KeptPaths.{all_kept, cut_kept}
-use Rattle.pua_tool.proofs.kept_path.KeptPath.cut.Goals as goal
+use Rattle.pua_texts.specs.KeptPaths.{KeptPathState, IsKept}
+use Rattle.pua_texts.proofs.KeptPaths.{all_kept, cut_kept}
+use Rattle.pua_texts.proofs.kept_path.KeptPath.cut.Goals as goal
 
 pub returns-then-count-len : goal.returns-then-count-len
 returns-then-count-len c = λ old new kept short same.

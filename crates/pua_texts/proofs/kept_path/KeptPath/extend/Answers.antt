@@ -1,8 +1,8 @@
 use Rattle.std.proofs.Common.{◌<◌, [], map, length, get_or, subst, sym, ap, ◌∙◌, arith}
 use Rattle.std.proofs.lemmas.List.{get_or-map, length-map}
-use Rattle.pua_tool.specs.KeptPaths.{KeptPathState, IsKept}
-use Rattle.pua_tool.proofs.KeptPaths.{push_kept}
-use Rattle.pua_tool.proofs.kept_path.KeptPath.extend.Goals as goal
+use Rattle.pua_texts.specs.KeptPaths.{KeptPathState, IsKept}
+use Rattle.pua_texts.proofs.KeptPaths.{push_kept}
+use Rattle.pua_texts.proofs.kept_path.KeptPath.extend.Goals as goal
 
 pub loop-self-preserved : goal.loop-self-preserved
 loop-self-preserved c =

@@ -1,6 +1,6 @@
 use Rattle.std.proofs.Common.{map, ◌-◌, length}
-use Rattle.pua_tool.specs.KeptPaths.{IsKept}
-use Rattle.pua_tool.proofs.kept_path.KeptPath.extend.Given as goal
+use Rattle.pua_texts.specs.KeptPaths.{IsKept}
+use Rattle.pua_texts.proofs.kept_path.KeptPath.extend.Given as goal
 
 abbrev pub invariant-loop-self : goal.invariant-loop-self
 invariant-loop-self l = record {

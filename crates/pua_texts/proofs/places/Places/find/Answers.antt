@@ -1,8 +1,8 @@
 use Rattle.std.proofs.Common.{◌++◌, map, ap, ◌∙◌, rules}
-use Rattle.pua_tool.specs.States.{own_name, place_names}
+use Rattle.pua_texts.specs.States.{own_name, place_names}
 use Rattle.std.specs.Prelude.{reverse}
-use Rattle.pua_tool.proofs.Climbing.{found_names}
-use Rattle.pua_tool.proofs.places.Places.find.Goals as goal
+use Rattle.pua_texts.proofs.Climbing.{found_names}
+use Rattle.pua_texts.proofs.places.Places.find.Goals as goal
 
 pub returns-clause-names : goal.returns-clause-names
 returns-clause-names g c =

@@ -1,11 +1,11 @@
 use Rattle.std.proofs.Common.{List, ℕ, ◌++◌, [], Ok, Err, map, ap, sym, subst, ◌∙◌}
 use Rattle.std.proofs.lemmas.Result.{err_from_is_err_and}
-use Rattle.pua_tool.specs.Blocks.{Passes}
-use Rattle.pua_tool.specs.Lists.{IsHeadOf}
-use Rattle.pua_tool.specs.States.{heading_line, living_veils, own_lines, veil_lines}
-use Rattle.pua_tool.proofs.Passing.{passes_then, passes_front}
-use Rattle.pua_tool.proofs.States.{shown}
-use Rattle.pua_tool.proofs.process_head.ProcessHead.add_to.Goals as goal
+use Rattle.pua_texts.specs.Blocks.{Passes}
+use Rattle.pua_texts.specs.Lists.{IsHeadOf}
+use Rattle.pua_texts.specs.States.{heading_line, living_veils, own_lines, veil_lines}
+use Rattle.pua_texts.proofs.Passing.{passes_then, passes_front}
+use Rattle.pua_texts.proofs.States.{shown}
+use Rattle.pua_texts.proofs.process_head.ProcessHead.add_to.Goals as goal
 
 pub returns-in_err-add_text-clause-head : goal.returns-in_err-add_text-clause-head
 returns-in_err-add_text-clause-head g c =

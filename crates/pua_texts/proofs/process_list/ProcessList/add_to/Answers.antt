@@ -3,12 +3,12 @@ use Rattle.std.specs.Prelude.{codes}
 use Rattle.std.proofs.lemmas.Result.{err_from_is_err_and}
 use Rattle.pua_objects.specs.Objects.{objects}
 use Rattle.pua_objects.specs.Ready.{lines_of}
-use Rattle.pua_tool.specs.Blocks.{Passes}
-use Rattle.pua_tool.specs.Lists.{IsListOf}
-use Rattle.pua_tool.specs.ObjectTexts.{object_lines}
-use Rattle.pua_tool.specs.States.{head_lines}
-use Rattle.pua_tool.proofs.Passing.{passes_then, passes_front}
-use Rattle.pua_tool.proofs.process_list.ProcessList.add_to.Goals as goal
+use Rattle.pua_texts.specs.Blocks.{Passes}
+use Rattle.pua_texts.specs.Lists.{IsListOf}
+use Rattle.pua_texts.specs.ObjectLines.{object_lines}
+use Rattle.pua_texts.specs.States.{head_lines}
+use Rattle.pua_texts.proofs.Passing.{passes_then, passes_front}
+use Rattle.pua_texts.proofs.process_list.ProcessList.add_to.Goals as goal
 
 pub returns-in_err-add_to-clause-list : goal.returns-in_err-add_to-clause-list
 returns-in_err-add_to-clause-list g c =

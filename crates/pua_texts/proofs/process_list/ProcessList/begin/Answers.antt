@@ -1,6 +1,6 @@
 use Rattle.std.proofs.Common.{sym, subst}
 use Rattle.pua_policy.specs.History.{ProcessState, StandsFor}
-use Rattle.pua_tool.proofs.process_list.ProcessList.begin.Goals as goal
+use Rattle.pua_texts.proofs.process_list.ProcessList.begin.Goals as goal
 
 pub returns : goal.returns
 returns g c = λ h stands. record {

@@ -1,9 +1,9 @@
 use Rattle.std.proofs.Common.{ap, map, sym, subst, ◌∙◌}
 use Rattle.pua_policy.specs.History.{veils}
 use Rattle.pua_objects.specs.Items.{SubjectFits, subject_given}
-use Rattle.pua_tool.specs.WhyLists.{ColumnsState, covering_behind, veil_state}
-use Rattle.pua_tool.specs.WhyTexts.{covering_on}
-use Rattle.pua_tool.proofs.why_columns.Columns.over.Goals as goal
+use Rattle.pua_texts.specs.WhyLists.{ColumnsState, covering_behind, veil_state}
+use Rattle.pua_texts.specs.WhyLines.{covering_on}
+use Rattle.pua_texts.proofs.why_columns.Columns.over.Goals as goal
 
 pub returns : goal.returns
 returns g c = λ fits p number h are stands.

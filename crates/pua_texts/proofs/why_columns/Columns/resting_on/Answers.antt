@@ -7,10 +7,10 @@ use Rattle.pua_policy.specs.Reasons.{promising}
 use Rattle.pua_calls.specs.declared.call.Call.{Call}
 use Rattle.pua_calls.specs.declared.call.Call.TheVariants.{Stat}
 use Rattle.pua_why.specs.Columns.{let_by, resting_on}
-use Rattle.pua_tool.specs.WhyLists.{ColumnsState}
-use Rattle.pua_tool.proofs.WhyColumns.{rest_done, rest_passed, rest_taken}
-use Rattle.pua_tool.proofs.why_columns.Columns.resting_on.Goals.{then-contains, else-contains}
-use Rattle.pua_tool.proofs.why_columns.Columns.resting_on.Goals as goal
+use Rattle.pua_texts.specs.WhyLists.{ColumnsState}
+use Rattle.pua_texts.proofs.WhyColumns.{rest_done, rest_passed, rest_taken}
+use Rattle.pua_texts.proofs.why_columns.Columns.resting_on.Goals.{then-contains, else-contains}
+use Rattle.pua_texts.proofs.why_columns.Columns.resting_on.Goals as goal
 
 pub loop-call-preserved : goal.loop-call-preserved
 loop-call-preserved g c =

@@ -4,7 +4,7 @@ use Rattle.pua_calls.specs.Calls.{calls}
 use Rattle.pua_calls.specs.CallSets.{calls_in, has}
 use Rattle.pua_policy.specs.History.{History, StandsFor}
 use Rattle.pua_why.specs.Columns.{resting_on}
-use Rattle.pua_tool.proofs.why_columns.Columns.resting_on.Given as goal
+use Rattle.pua_texts.proofs.why_columns.Columns.resting_on.Given as goal
 
 -- what the calls so far rest on, with what the others do
 abbrev pub invariant-loop-call : goal.invariant-loop-call

@@ -4,12 +4,12 @@ use Rattle.std.proofs.lemmas.Result.{err_from_is_err_and}
 use Rattle.pua_tree.specs.Tree.{Tree}
 use Rattle.pua_policy.specs.History.{veils}
 use Rattle.pua_objects.specs.Objects.{items}
-use Rattle.pua_tool.specs.Blocks.{Passes}
-use Rattle.pua_tool.specs.States.{head_lines}
-use Rattle.pua_tool.specs.WhyLists.{IsWhyListOf, why_items}
-use Rattle.pua_tool.specs.WhyTexts.{world_left}
-use Rattle.pua_tool.proofs.Passing.{passes_then, passes_front}
-use Rattle.pua_tool.proofs.why_list.WhyList.add_to.Goals as goal
+use Rattle.pua_texts.specs.Blocks.{Passes}
+use Rattle.pua_texts.specs.States.{head_lines}
+use Rattle.pua_texts.specs.WhyLists.{IsWhyListOf, why_items}
+use Rattle.pua_texts.specs.WhyLines.{world_left}
+use Rattle.pua_texts.proofs.Passing.{passes_then, passes_front}
+use Rattle.pua_texts.proofs.why_list.WhyList.add_to.Goals as goal
 
 pub returns-in_err-add_to-clause-list : goal.returns-in_err-add_to-clause-list
 returns-in_err-add_to-clause-list g c =

@@ -1,7 +1,7 @@
 use Rattle.std.proofs.Common.{sym, subst, ◌∙◌}
 use Rattle.pua_policy.specs.History.{ProcessState, StandsFor}
 use Rattle.pua_objects.specs.Objects.{items}
-use Rattle.pua_tool.proofs.why_list.WhyList.begin.Goals as goal
+use Rattle.pua_texts.proofs.why_list.WhyList.begin.Goals as goal
 
 pub returns : goal.returns
 returns g c = λ p h same ruled stands dated. record {
