@@ -2,7 +2,8 @@
 use Rattle.std.specs.Prelude.{◌≡◌, ◌++◌, ℕ, List}
 use Rattle.pua_script.specs.Worlds.{StandsForWorld}
 use Rattle.pua_audit.specs.Begin.{still_to_come}
-use Rattle.pua_tool.specs.Texts.{Replayed, Begun, Wanted, front_of, pair_lines}
+use Rattle.pua_tool.specs.Texts.{Replayed, Begun, Wanted}
+use Rattle.pua_texts.specs.Lines.{front_of, pair_lines}
 use Rattle.pua_tool.specs.declared.script.Replay.{Replay}
 use Rattle.pua_tool.specs.declared.audit.Audited.{Audited}
 

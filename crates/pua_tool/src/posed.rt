@@ -5,7 +5,8 @@ ghost use Rattle.pua_tree.specs.Listing.{listing};
 ghost use Rattle.pua_script.specs.Scripts.{script};
 ghost use Rattle.pua_tool.specs.Texts.{as_listing, chosen};
 ghost use Rattle.pua_tool.specs.PosedScripts.{IsNewOver, IsPosed};
-ghost use Rattle.pua_tool.specs.WhyTexts.{Posed as Asking, posed};
+ghost use Rattle.pua_texts.specs.WhyLines.{Posed as Asking};
+ghost use Rattle.pua_tool.specs.WhyTexts.{posed};
 
 use crate::fault::ToolFault;
 use crate::script::{ProgramTree, read_requests, read_table, read_tree};

@@ -4,12 +4,12 @@ ghost use Rattle.std.specs.Prelude.{◌≡◌, ◌≢◌, ℕ, List, Ok, Err, If
 ghost use Rattle.pua_tool.specs.Texts.{by_profile, chosen, given, run_text};
 ghost use Rattle.pua_io.specs.Sinks.{Adds, AddsFront, HasFailed};
 
-use crate::answers::answer_text;
 use crate::fault::ToolFault;
 use crate::script::replay_script;
 use crate::table::TableChoice;
 use pua_calls::Rules;
 use pua_io::{Sink, put_all};
+use pua_texts::answer_text;
 use std::alloc::Global;
 
 /// Writes the text of a run by the rules of the profile, where a text with rows may stand in the place

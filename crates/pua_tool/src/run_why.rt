@@ -4,7 +4,8 @@ ghost use Rattle.std.specs.Prelude.{◌≡◌, ◌≢◌, ℕ, List, Ok, Err, If
 ghost use Rattle.pua_script.specs.Scripts.{script};
 ghost use Rattle.pua_tool.specs.Texts.{chosen};
 ghost use Rattle.pua_tool.specs.PosedScripts.{IsPosed};
-ghost use Rattle.pua_tool.specs.WhyTexts.{Posed as Asking, reason_lines, run_why_text};
+ghost use Rattle.pua_texts.specs.WhyLines.{Posed as Asking};
+ghost use Rattle.pua_tool.specs.WhyTexts.{reason_lines, run_why_text};
 ghost use Rattle.pua_io.specs.Sinks.{Adds, AddsFront, HasFailed};
 
 use crate::fault::ToolFault;

@@ -5,7 +5,8 @@ ghost use Rattle.std.specs.Prelude.{string_bytes};
 ghost use Rattle.pua_script.specs.Scripts.{request_of};
 ghost use Rattle.pua_tool.specs.PosedScripts.{IsPosed};
 ghost use Rattle.pua_tool.specs.Texts.{chosen};
-ghost use Rattle.pua_tool.specs.WhyTexts.{Posed as Asking, as_request, chain_lines, request_line};
+ghost use Rattle.pua_texts.specs.WhyLines.{Posed as Asking};
+ghost use Rattle.pua_tool.specs.WhyTexts.{as_request, chain_lines, request_line};
 ghost use Rattle.pua_tool.specs.WhyTexts.{why_text};
 ghost use Rattle.pua_io.specs.Sinks.{Adds, AddsFront, HasFailed};
 
