@@ -16,7 +16,8 @@ use Rattle.pua_words.specs.declared.command.Processes.{Processes}
 use Rattle.pua_tool.specs.EverTexts.{Answers}
 use Rattle.pua_tool.specs.ObjectTexts.{Tells, numbers_asked}
 use Rattle.pua_tool.specs.Texts.{Chosen, as_listing, as_script, table_by}
-use Rattle.pua_tool.specs.WhyTexts.{Posed, as_request, chain_lines, objects_why_text, posed, reason_lines, request_line, run_why_text, why_lists_of, why_text, world_left}
+use Rattle.pua_texts.specs.WhyLines.{Posed, why_lists_of, world_left}
+use Rattle.pua_tool.specs.WhyTexts.{as_request, chain_lines, objects_why_text, posed, reason_lines, request_line, run_why_text, why_text}
 use Rattle.pua_tool.specs.declared.fault.ToolFault.{ToolFault}
 use Rattle.pua_tool.proofs.EverTexts.{answers_told}
 

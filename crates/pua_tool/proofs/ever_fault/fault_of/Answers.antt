@@ -1,7 +1,7 @@
 use Rattle.std.proofs.Common.{Err, ap, sym, ◌∙◌}
 use Rattle.pua_ever.specs.Refusals.{refusal_in}
 use Rattle.pua_tool.specs.EverTexts.{unless_refused}
-use Rattle.pua_tool.proofs.ever_list.fault_of.Goals as goal
+use Rattle.pua_tool.proofs.ever_fault.fault_of.Goals as goal
 
 pub returns-in-Refused-clause-told : goal.returns-in-Refused-clause-told
 returns-in-Refused-clause-told c = λ text other.

@@ -1,6 +1,6 @@
 use Rattle.std.proofs.Common.{ap, sym}
 use Rattle.pua_tool.specs.EverTexts.{ever_fault}
-use Rattle.pua_tool.proofs.ever_list.reason_of.Goals as goal
+use Rattle.pua_tool.proofs.ever_fault.reason_of.Goals as goal
 
 pub returns-in-CanUnveil-clause-told : goal.returns-in-CanUnveil-clause-told
 returns-in-CanUnveil-clause-told c = sym (ap (ever_fault c.args.number) c.in-CanUnveil.is)

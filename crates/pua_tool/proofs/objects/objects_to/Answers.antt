@@ -1,6 +1,7 @@
 use Rattle.std.proofs.Common.{◌≡◌, ◌≢◌, List, ℕ, ap, ◌∙◌, Ok, Err}
 use Rattle.std.proofs.lemmas.Result.{err_from_is_err_and}
-use Rattle.pua_tool.specs.Texts.{answer_lines, chosen}
+use Rattle.pua_texts.specs.Lines.{answer_lines}
+use Rattle.pua_tool.specs.Texts.{chosen}
 use Rattle.pua_tool.specs.ObjectTexts.{objects_text, objects_after, Tells}
 use Rattle.pua_tool.specs.declared.fault.ToolFault.TheVariants.{OutOfMemory, Write}
 use Rattle.pua_tool.proofs.ObjectTexts.{objects_are, replay_refuses, asked_refuses, told_as, tells_whole, tells_unfailed, tells_write, tells_refused, tells_unwritten}

@@ -2,7 +2,8 @@ use Rattle.std.proofs.Common.{◌≡◌, ◌≢◌, ◌++◌, Err, List, ℕ, su
 use Rattle.std.proofs.lemmas.Result.{err_from_is_err_and}
 use Rattle.pua_tool.specs.ObjectTexts.{Tells}
 use Rattle.pua_tool.specs.Texts.{chosen}
-use Rattle.pua_tool.specs.WhyTexts.{objects_why_text, reason_lines, why_lists_of, world_left}
+use Rattle.pua_tool.specs.WhyTexts.{objects_why_text, reason_lines}
+use Rattle.pua_texts.specs.WhyLines.{why_lists_of, world_left}
 use Rattle.pua_tool.specs.declared.fault.ToolFault.TheVariants.{OutOfMemory, Write}
 use Rattle.pua_tool.proofs.EverTexts.{answers_whole, answers_unfailed, answers_write, answers_fault, answers_unwritten}
 use Rattle.pua_tool.proofs.WhyTexts.{objects_refuse, numbers_refuse, objects_told}

@@ -4,8 +4,9 @@ use Rattle.pua_script.specs.Replay.{answers, world_after}
 use Rattle.pua_script.specs.Requests.{Asked}
 use Rattle.pua_script.specs.Worlds.{StandsForWorld}
 use Rattle.pua_why.specs.Texts.{chain}
-use Rattle.pua_tool.specs.Texts.{ended}
-use Rattle.pua_tool.proofs.Replays.{if_ok, left_by_same}
+use Rattle.pua_texts.specs.Lines.{ended}
+use Rattle.pua_texts.proofs.ForCallers.{if_ok}
+use Rattle.pua_tool.proofs.Replays.{left_by_same}
 use Rattle.pua_tool.proofs.why.text_of.Goals as goal
 
 pub returns : goal.returns
