@@ -1,4 +1,5 @@
 pub mod Made
+pub mod AnswerLines
 pub mod Outcomes
 pub mod Pairs
 pub mod Passing

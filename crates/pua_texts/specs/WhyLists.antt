@@ -95,3 +95,9 @@ pub record IsWhyListOf (p : Posed) (process : ℕ) (h : History) (list : WhyList
 -- the lists that were begun are those of these numbers
 abbrev pub AreWhyListsOf : Posed → List ℕ → List WhyListState → Type 0
 AreWhyListsOf p = AreListsBy (history_of (world_left p)) (IsWhyListOf p)
+
+-- the list with reasons of a process with this number and history was added behind others
+pub record IsPushed (p : Posed) (process : ℕ) (h : History) (old new : List WhyListState) : Type 0 where
+  pub list : WhyListState
+  pub items : new ≡ old ++ list ∷ []
+  pub is : IsWhyListOf p process h list

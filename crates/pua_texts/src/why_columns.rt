@@ -1,7 +1,7 @@
 //! What stands behind an object's line: the promises on which its calls rest, and the veil over it.
 
-ghost use Rattle.std.specs.Prelude.{◌≡◌, ◌++◌, ℕ, List, None, IfOk, OnOk, map};
-ghost use Rattle.std.specs.Prelude.{slice_index_or, string_bytes};
+ghost use Rattle.std.specs.Prelude.{◌≡◌, ◌++◌, ◌∷◌, [], ℕ, List, None, IfOk, OnOk, decimal, map};
+ghost use Rattle.std.specs.Prelude.{slice_index_or, string_bytes, unwrap_or};
 ghost use Rattle.pua_calls.specs.Calls.{rule_of};
 ghost use Rattle.pua_calls.specs.CallSets.{calls_in};
 ghost use Rattle.pua_policy.specs.History.{History, StandsFor, veils};
@@ -12,7 +12,7 @@ ghost use Rattle.pua_objects.specs.Items.{IsItemOn, SubjectFits, subject_given};
 ghost use Rattle.pua_objects.specs.Lines.{IsLineOn};
 ghost use Rattle.pua_objects.specs.Objects.{Subject as About};
 ghost use Rattle.pua_why.specs.Columns.{let_by, resting_on};
-ghost use Rattle.pua_why.specs.Texts.{place_text};
+ghost use Rattle.pua_why.specs.Texts.{letters_text, place_text};
 ghost use Rattle.pua_texts.specs.VeilDates.{veil_dates};
 ghost use Rattle.pua_texts.specs.WhyLists.{AreColumnsOf, IsAmongVeils, covering_behind, found_on};
 ghost use Rattle.pua_texts.specs.WhyLists.{text_at, veil_behind, veil_state, veils_behind};
@@ -133,9 +133,25 @@ fn veil_columns<T: FileTree>(
         lines.now ≡ veil_dates p number process.now.veils →
         map veil_state columns.items ≡ veils_behind p number process.now.veils) }
 {
-    let mut paths = TreePaths::new(alloc, tree)?;
     let veils = process.veils(alloc)?;
-    columns_of(alloc, &mut paths, veils.as_slice(), lines)
+    columns_in(alloc, tree, veils.as_slice(), lines)
+}
+
+/// The columns of these veils in a tree, in their order, which are so since these lines.
+fn columns_in<T: FileTree>(
+    alloc: Global,
+    tree: &T,
+    veils: &[(&Place, &Perms)],
+    lines: &[Option<usize>],
+) -> Result<Vec<VeilColumns>, OutOfMemory>
+    ensures { IfOk result (λ columns. (p : Asking) (number : ℕ) →
+        T.content tree.now ≡ (world_left p).tree →
+        lines.now ≡ veil_dates p number (map (λ veil. (veil.0.now, veil.1.now)) veils.now) →
+        map veil_state columns.items
+        ≡ veils_behind p number (map (λ veil. (veil.0.now, veil.1.now)) veils.now)) }
+{
+    let mut paths = TreePaths::new(alloc, tree)?;
+    columns_of(alloc, &mut paths, veils, lines)
 }
 
 /// The columns of these veils, in their order, which are so since these lines.
@@ -209,10 +225,18 @@ fn veil_text(
 {
     let mut text = String::from_str(alloc, " ")?;
     push_place(&mut text, paths, place)?;
+    push_letters(&mut text, perms, line)?;
+    Ok(text)
+}
+
+/// Adds the letters of a veil, since which line it has them, and LF to a text.
+fn push_letters(text: &mut String, perms: Perms, line: Option<usize>) -> Result<(), AllocError>
+    ensures { OnOk result (string_bytes text.new ≡ string_bytes text.old ++ 32 ∷ letters_text perms
+        ++ 32 ∷ decimal (unwrap_or line 0) ++ 10 ∷ []) }
+{
     let letters = shown_letters(perms);
     let line = line.unwrap_or(0);
-    writeln!(text, " {letters} {line}")?;
-    Ok(text)
+    writeln!(text, " {letters} {line}")
 }
 
 /// Adds where a place is to a text.

@@ -1,8 +1,10 @@
 //! The list of a process with reasons: its heading, its state, and its objects.
 
-ghost use Rattle.std.specs.Prelude.{◌≡◌, ℕ, IfOk};
-ghost use Rattle.pua_policy.specs.History.{History, StandsFor};
+ghost use Rattle.std.specs.Prelude.{◌≡◌, ℕ, IfOk, codes};
+ghost use Rattle.pua_policy.specs.History.{History, StandsFor, veils};
+ghost use Rattle.pua_objects.specs.Objects.{items as items_of};
 ghost use Rattle.pua_texts.specs.Blocks.{PassesOn};
+ghost use Rattle.pua_texts.specs.Lists.{IsHeadOf};
 ghost use Rattle.pua_texts.specs.VeilDates.{veil_dates};
 ghost use Rattle.pua_texts.specs.WhyLists.{IsWhyListOf};
 ghost use Rattle.pua_texts.specs.WhyLines.{Posed as Asking, why_list, world_left};
@@ -56,8 +58,7 @@ impl<'t, T: FileTree> WhyList<'t, T> {
             lines.now ≡ veil_dates p number process.now.veils →
             IsWhyListOf p number h list) }
     {
-        let head = ProcessHead::begin(alloc, "objects", number, process)?;
-        let items = Items::begin(alloc, tree, process)?;
+        let (head, items) = begin_items(alloc, tree, number, process)?;
         let columns = Columns::begin(alloc, tree, table, process, lines)?;
         Ok(WhyList {
             head,
@@ -82,4 +83,22 @@ impl<'t, T: FileTree> WhyList<'t, T> {
         self.head.add_to(block, places, sink)?;
         add_items(block, &mut self.items, &self.columns, sink)
     }
+}
+
+/// Begins what stands before the lines of the list of a process with this number, and its items. The
+/// only error is that a growth was refused.
+fn begin_items<'t, T: FileTree>(
+    alloc: Global,
+    tree: &'t T,
+    number: u32,
+    process: &'t Process,
+) -> Result<(ProcessHead<'t>, Items<'t, T>), OutOfMemory>
+    ensures tree { IfOk result (λ begun. begun.1.tree ≡ T.content tree.now) }
+    ensures of { IfOk result (λ begun. (h : History) → StandsFor process.now h →
+        IsHeadOf (codes "objects") number h begun.0 × StandsFor begun.1.process h
+        × (begun.1.left ≡ items_of (T.content tree.now) (veils h))) }
+{
+    let head = ProcessHead::begin(alloc, "objects", number, process)?;
+    let items = Items::begin(alloc, tree, process)?;
+    Ok((head, items))
 }

@@ -1,11 +1,13 @@
 //! The lists of processes with reasons, begun, and written one after another.
 
-ghost use Rattle.std.specs.Prelude.{◌≡◌, ◌++◌, ℕ, List, IfOk};
-ghost use Rattle.std.specs.Prelude.{flat_map, map};
+ghost use Rattle.std.specs.Prelude.{◌≡◌, ◌++◌, ℕ, List, Option, IfOk, OnOk};
+ghost use Rattle.std.specs.Prelude.{flat_map, length, map};
+ghost use Rattle.pua_policy.specs.History.{History, StandsFor};
 ghost use Rattle.pua_script.specs.Worlds.{StandsForWorld};
 ghost use Rattle.pua_texts.specs.Blocks.{PassesOn};
 ghost use Rattle.pua_since.specs.Dates.{veil_date, veils_at};
-ghost use Rattle.pua_texts.specs.WhyLists.{AreWhyListsOf};
+ghost use Rattle.pua_texts.specs.VeilDates.{veil_dates};
+ghost use Rattle.pua_texts.specs.WhyLists.{AreWhyListsOf, IsPushed};
 ghost use Rattle.pua_texts.specs.WhyLines.{Posed as Asking, why_lists_of, world_left};
 ghost use Rattle.pua_io.specs.Sinks.{WritesTo};
 
@@ -13,6 +15,7 @@ use crate::block::Block;
 use crate::places::Places;
 use crate::why_list::WhyList;
 use pua_io::{PutFault, Sink};
+use pua_policy::Process;
 use pua_script::World;
 use pua_tree::{FileTree, OutOfMemory};
 use std::alloc::Global;
@@ -37,16 +40,48 @@ pub fn begin_why_lists<'t, T: FileTree>(
         let Some(process) = world.process(*number) else {
             continue;
         };
-        let count = process.places(alloc)?.len().min(left.len());
-        let (own, more) = left.split_at(count);
+        let (own, more) = split_lines(alloc, process, left)?;
+        push_list(alloc, world, *number, process, own, &mut lists)?;
         left = more;
-        let (tree, table) = (world.tree(), world.table());
-        let list = WhyList::begin(alloc, tree, table, *number, process, own)?;
-        let Ok(()) = lists.push_back(list) else {
-            return Err(OutOfMemory);
-        };
     }
     Ok(lists)
+}
+
+/// Splits the lines that are left behind those of the veils of a process. The only error is that a
+/// growth was refused.
+fn split_lines<'l>(
+    alloc: Global,
+    process: &Process,
+    left: &'l [Option<usize>],
+) -> Result<(&'l [Option<usize>], &'l [Option<usize>]), OutOfMemory>
+    ensures { IfOk result (λ parts. (own rest : List (Option ℕ)) →
+        length own ≡ length process.now.veils → left.now ≡ own ++ rest →
+        (parts.0.now ≡ own) × (parts.1.now ≡ rest)) }
+{
+    let places = process.places(alloc)?;
+    Ok(left.split_at(places.len().min(left.len())))
+}
+
+/// Begins the list of a process with this number, whose veils are so since these lines, behind other
+/// lists. The only error is that a growth was refused.
+fn push_list<'t, T: FileTree>(
+    alloc: Global,
+    world: &'t World<T>,
+    number: u32,
+    process: &'t Process,
+    lines: &[Option<usize>],
+    lists: &mut VecDeque<WhyList<'t, T>>,
+) -> Result<(), OutOfMemory>
+    ensures { OnOk result ((p : Asking) (h : History) → StandsForWorld world.now (world_left p) →
+        world.now.table ≡ p.table → StandsFor process.now h →
+        lines.now ≡ veil_dates p number process.now.veils →
+        IsPushed p number h lists.old.items lists.new.items) }
+{
+    let list = WhyList::begin(alloc, world.tree(), world.table(), number, process, lines)?;
+    let Ok(()) = lists.push_back(list) else {
+        return Err(OutOfMemory);
+    };
+    Ok(())
 }
 
 /// Writes what a block holds, then the front of a text, and then lists, one after another: the front

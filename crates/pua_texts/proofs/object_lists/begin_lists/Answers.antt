@@ -22,7 +22,7 @@ loop-number-preserved g c = λ w stands.
     let made = is_made c.in-Some.process.now (history_of w _) (c.in-Some.ensures.history w stands) in
     let at = c.tree.ensures ∙ stands.tree in
     let listed = same_list _ _ _ _ _ made.history c.in_ok-list.list c.table.ensures at (c.in_ok-list.ensures made.history made.stands) in
-    subst (λ (lists : List ListState). AreListsOf table w (take (i + 1) numbers) lists) (sym c.in-Ok.ensures.items)
+    subst (λ (lists : List ListState). AreListsOf table w (take (i + 1) numbers) lists) (sym {A = List ListState} c.in-Ok.ensures.items)
     (subst (λ (ns : List ℕ). AreListsOf table w ns (c.loop-number.lists.items ++ c.in_ok-list.list ∷ [])) (sym (take_more numbers i _ c.loop-number-test.true))
     (one_more (history_of w) (IsListOf table w.tree) (take i numbers) c.loop-number.lists.items _ made.history c.in_ok-list.list (c.loop-number.invariant w stands) made.is listed))
 

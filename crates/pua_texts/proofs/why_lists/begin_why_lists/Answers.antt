@@ -1,6 +1,6 @@
-use Rattle.std.proofs.Common.{◌≡◌, List, ℕ, ◌+◌, ◌++◌, ◌∷◌, [], Option, ap, drop, get_or, length, map, min, sym, subst, take, take_all, ◌∙◌, arith}
+use Rattle.std.proofs.Common.{◌≡◌, List, ℕ, ◌+◌, ◌++◌, ◌∷◌, [], Option, drop, get_or, map, sym, subst, take, take_all, arith}
 use Rattle.std.specs.Prelude.{flat_map}
-use Rattle.std.proofs.lemmas.List.{length-map, take_more}
+use Rattle.std.proofs.lemmas.List.{take_more}
 use Rattle.pua_script.specs.Replay.{history_of}
 use Rattle.pua_since.specs.Dates.{veil_date, veils_at}
 use Rattle.pua_texts.specs.VeilDates.{veil_dates}
@@ -8,7 +8,7 @@ use Rattle.pua_texts.specs.WhyLists.{AreWhyListsOf, IsWhyListOf, WhyListState}
 use Rattle.pua_texts.specs.WhyLines.{world_left}
 use Rattle.pua_texts.proofs.Made.{is_made, none_made}
 use Rattle.pua_texts.proofs.Lists.{one_more, none_more}
-use Rattle.pua_texts.proofs.VeilDates.{length_dates, none_dated, own_taken, rest_dropped, some_dated}
+use Rattle.pua_texts.proofs.VeilDates.{length_dates, none_dated, some_dated}
 use Rattle.pua_texts.proofs.why_lists.begin_why_lists.Goals as goal
 
 pub loop-number-preserved-in_default : goal.loop-number-preserved-in_default
@@ -33,13 +33,12 @@ loop-number-preserved g c = λ p stands ruled dated.
     let own : List (Option ℕ) = veil_dates p number process.veils in
     let rest = map (veil_date p.table p.world p.asks) (flat_map (veils_at c.args.world.now) (drop (i + 1) numbers)) in
     let is : left ≡ own ++ rest = some_dated p c.args.world.now numbers i _ c.loop-number-test.true left process made.history (sym c.in-Some.ensures.state) made.is made.stands now.0 in
-    let many : c.min-count.result ≡ min (length own) (length left) =
-    omega (arith, c.min-count.ensures, c.len.ensures, ap length c.in_ok-places.ensures, length-map c.in_ok-places.field-0.items (λ place. place.now), length-map process.veils (λ veil. veil.0), length_dates p number process.veils) in
-    let listed = c.in_ok-list.ensures p made.history (c.tree-tree.ensures ∙ stands.tree) (c.table-table.ensures ∙ ruled) made.stands (c.split_at.ensures.front ∙ own_taken left own rest c.min-count.result is many) in (
-      c.split_at.ensures.back ∙ rest_dropped left own rest c.min-count.result is many,
-      subst (λ (lists : List WhyListState). AreWhyListsOf p (take (i + 1) numbers) lists) (sym c.in-Ok.ensures.items)
-          (subst (λ (ns : List ℕ). AreWhyListsOf p ns (c.loop-number.lists.items ++ c.in_ok-list.list ∷ [])) (sym (take_more numbers i _ c.loop-number-test.true))
-          (one_more (history_of (world_left p)) (IsWhyListOf p) (take i numbers) c.loop-number.lists.items _ made.history c.in_ok-list.list now.1 made.is listed)),
+    let split = c.in_ok-own.ensures own rest (length_dates p number process.veils) is in
+    let pushed = c.in_ok-push_list.ensures p made.history stands ruled made.stands split.0 in (
+      split.1,
+      subst (λ (lists : List WhyListState). AreWhyListsOf p (take (i + 1) numbers) lists) (sym pushed.items)
+          (subst (λ (ns : List ℕ). AreWhyListsOf p ns (c.loop-number.lists.items ++ pushed.list ∷ [])) (sym (take_more numbers i _ c.loop-number-test.true))
+          (one_more (history_of (world_left p)) (IsWhyListOf p) (take i numbers) c.loop-number.lists.items _ made.history pushed.list now.1 made.is pushed.is)),
     )
 
 pub returns : goal.returns
