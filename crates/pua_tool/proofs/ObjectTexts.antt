@@ -1,5 +1,5 @@
 -- The text of lists, step by step.
-use Rattle.std.proofs.Common.{◌≡◌, ℕ, List, ◌++◌, ◌∙◌, subst, refl}
+use Rattle.std.proofs.Common.{◌≡◌, ℕ, ◌+◌, List, ◌++◌, subst, refl}
 use Rattle.std.specs.Prelude.{Option, Result, Ok, Err, ◌≢◌, OnOk, IfErr}
 use Rattle.pua_tree.specs.Steps.{◌>>=◌}
 use Rattle.pua_calls.specs.Calls.{CallTable}
@@ -8,28 +8,20 @@ use Rattle.pua_words.specs.declared.command.Processes.{Processes}
 use Rattle.pua_tool.specs.Texts.{Chosen, Replayed, replayed}
 use Rattle.pua_io.specs.Sinks.{Adds, AddsFront, HasFailed}
 use Rattle.pua_texts.specs.ObjectLines.{lists_of}
-use Rattle.pua_tool.specs.ObjectTexts.{numbers_asked, objects_after, objects_text, Tells}
+use Rattle.pua_tool.specs.ObjectTexts.{lists_asked, objects_text, Tells}
 use Rattle.pua_tool.specs.declared.fault.ToolFault.{ToolFault}
 use Rattle.pua_tool.specs.declared.fault.ToolFault.TheVariants.{Listing, Script, Request, NoProcess, Audit, Write, OutOfMemory, Table, CanUnveil, LacksC, RenameLacksC, LinkLacksC}
 
 module _ (choice : Chosen) (tree_bytes script_bytes : List ℕ) (which : Processes) where
-  abbrev listed_by : Replayed → Result (List ℕ) ToolFault → Result (List ℕ) ToolFault
-  listed_by done asked = asked >>= λ numbers. Ok (objects_after done.table done.told done.world numbers)
-
-  pub objects_are : (done : Replayed) (numbers : List ℕ) → replayed choice tree_bytes script_bytes ≡ Ok done → numbers_asked done.world which ≡ Ok numbers
-      → objects_text choice tree_bytes script_bytes which ≡ Ok (objects_after done.table done.told done.world numbers)
+  -- the lists that are asked for where the replay ends are the answer
+  pub objects_are : (done : Replayed) → replayed choice tree_bytes script_bytes ≡ Ok done → objects_text choice tree_bytes script_bytes which ≡ lists_asked done which
   unfolding objects_text
-  objects_are done numbers r m = (λ i. r i >>= λ done. listed_by done (numbers_asked done.world which)) ∙ (λ i. listed_by done (m i))
+  objects_are done r = λ i. r i >>= λ done. lists_asked done which
 
   -- what refuses the replay comes first
   pub replay_refuses : (fault : ToolFault) → replayed choice tree_bytes script_bytes ≡ Err fault → objects_text choice tree_bytes script_bytes which ≡ Err fault
   unfolding objects_text
-  replay_refuses fault r = λ i. r i >>= λ done. listed_by done (numbers_asked done.world which)
-
-  -- what refuses the numbers comes where the replay is not refused
-  pub asked_refuses : (done : Replayed) (fault : ToolFault) → replayed choice tree_bytes script_bytes ≡ Ok done → numbers_asked done.world which ≡ Err fault → objects_text choice tree_bytes script_bytes which ≡ Err fault
-  unfolding objects_text
-  asked_refuses done fault r m = (λ i. r i >>= λ done. listed_by done (numbers_asked done.world which)) ∙ (λ i. listed_by done (m i))
+  replay_refuses fault r = λ i. r i >>= λ done. lists_asked done which
 
 -- the same text by other names
 pub told_as : (front told : List ℕ) (table rules : CallTable) (w : World) (lent numbers : List ℕ) (r : Result (Unit {0}) ToolFault) (a b : Option (List ℕ)) (n m : ℕ) → front ≡ told → table ≡ rules → lent ≡ numbers

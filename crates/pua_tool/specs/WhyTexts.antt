@@ -49,6 +49,10 @@ why_text choice tree_bytes script_bytes process fields = do
   ask ← as_request (request_of 1 (request_line process fields))
   Ok (chain_lines p ask)
 
+-- the lines of a script with reasons, and the lists of the processes that are asked for, or why there are none
+abbrev pub why_lists_asked : Posed → Processes → Result (List ℕ) ToolFault
+why_lists_asked p which = numbers_asked (world_left p) which >>= λ numbers. Ok (reason_lines p ++ why_lists_of p numbers)
+
 -- the lists with reasons at the end of a script over a listing, or the first fault: the table's, the listing's, the script's, or a process never made
 unfoldable pub objects_why_text : Chosen → List ℕ → List ℕ → Processes → Result (List ℕ) ToolFault
 objects_why_text choice tree_bytes script_bytes which = do

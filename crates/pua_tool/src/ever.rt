@@ -59,7 +59,9 @@ pub fn ever_to<S: Sink>(
         S.written sink.new ≡ S.written sink.old) }
 {
     let replay = replay_script(alloc, tree_bytes, script_bytes, table)?;
-    list_to(alloc, &replay, process, sink)
+    let written = list_to(alloc, &replay, process, sink);
+    replay.release();
+    written
 }
 
 /// Writes the answers of a script, and then the list for ever of the process with this number where

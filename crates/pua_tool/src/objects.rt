@@ -5,9 +5,11 @@ ghost use Rattle.std.specs.Prelude.{OnOk};
 ghost use Rattle.pua_script.specs.Replay.{World as Replayed};
 ghost use Rattle.pua_script.specs.Worlds.{StandsForWorld};
 ghost use Rattle.pua_words.specs.declared.command.Processes.TheVariants as which;
-ghost use Rattle.pua_tool.specs.ObjectTexts.{Tells, TellsTo, numbers_asked, objects_text};
+ghost use Rattle.pua_tool.specs.ObjectTexts.{Tells, TellsTo, lists_asked, numbers_asked, objects_text};
 ghost use Rattle.pua_texts.specs.ObjectLines.{lists_of};
-ghost use Rattle.pua_tool.specs.Texts.{chosen};
+ghost use Rattle.pua_tool.specs.Begun.{IsReplay};
+ghost use Rattle.pua_tool.specs.EverTexts.{AnswersTo};
+ghost use Rattle.pua_tool.specs.Texts.{Replayed as Served, chosen};
 ghost use Rattle.pua_io.specs.Sinks.{Adds, AddsFront, HasFailed, Writes};
 
 use crate::fault::ToolFault;
@@ -60,12 +62,34 @@ pub fn objects_to<S: Sink>(
     ensures unwritten { IfErr result (λ fault. fault ≢ ToolFault.Write →
         S.written sink.new ≡ S.written sink.old) }
 {
-    let Replay { world, told } = replay_script(alloc, tree_bytes, script_bytes, table)?;
-    let numbers = numbers_of(alloc, &world, processes)?;
-    let Ok(front) = answer_text(alloc, told.as_slice()) else {
+    let replay = replay_script(alloc, tree_bytes, script_bytes, table)?;
+    let written = asked_to(alloc, &replay, processes, sink);
+    replay.release();
+    written
+}
+
+/// Writes the answers of a script, and then the lists of the processes that are asked for, where the
+/// script ends. Every fault but `Write` is answered before anything is written.
+fn asked_to<S: Sink>(
+    alloc: Global,
+    replay: &Replay,
+    processes: Processes,
+    sink: &mut S,
+) -> Result<(), ToolFault>
+    ensures { (done : Served) → IsReplay replay.now done →
+        AnswersTo S.written S.failed (lists_asked done processes) result sink.old sink.new }
+{
+    let numbers = numbers_of(alloc, &replay.world, processes)?;
+    let Ok(front) = answer_text(alloc, replay.told.as_slice()) else {
         return Err(ToolFault::OutOfMemory);
     };
-    lists_to(alloc, &world, numbers.as_slice(), front.as_str(), sink)
+    lists_to(
+        alloc,
+        &replay.world,
+        numbers.as_slice(),
+        front.as_str(),
+        sink,
+    )
 }
 
 /// The numbers of the processes that are asked for: `NoProcess` where the one that is named was never

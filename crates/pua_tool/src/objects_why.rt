@@ -9,7 +9,8 @@ ghost use Rattle.pua_tool.specs.Texts.{chosen};
 ghost use Rattle.pua_since.specs.Dates.{veil_date, veils_at};
 ghost use Rattle.pua_tool.specs.PosedScripts.{IsPosed};
 ghost use Rattle.pua_texts.specs.WhyLines.{Posed as Asking, why_lists_of, world_left};
-ghost use Rattle.pua_tool.specs.WhyTexts.{objects_why_text, reason_lines};
+ghost use Rattle.pua_tool.specs.EverTexts.{AnswersTo};
+ghost use Rattle.pua_tool.specs.WhyTexts.{objects_why_text, reason_lines, why_lists_asked};
 ghost use Rattle.pua_io.specs.Sinks.{Adds, AddsFront, HasFailed};
 
 use crate::fault::ToolFault;
@@ -57,7 +58,24 @@ pub fn objects_why_to<S: Sink>(
     ensures unwritten { IfErr result (λ fault. fault ≢ ToolFault.Write →
         S.written sink.new ≡ S.written sink.old) }
 {
-    let posed = pose(alloc, tree_bytes, script_bytes, table)?;
+    let mut posed = pose(alloc, tree_bytes, script_bytes, table)?;
+    let written = write_asked(alloc, script_bytes, &mut posed, processes, sink);
+    posed.release();
+    written
+}
+
+/// Writes the lines of a script with reasons, and then the lists of the processes that are asked for.
+/// Every fault but `Write` is answered before anything is written.
+fn write_asked<S: Sink>(
+    alloc: Global,
+    script_bytes: &[u8],
+    posed: &mut Posed,
+    processes: Processes,
+    sink: &mut S,
+) -> Result<(), ToolFault>
+    ensures { (p : Asking) → script script_bytes.now ≡ Ok p.asks → IsPosed posed.old p →
+        AnswersTo S.written S.failed (why_lists_asked p processes) result sink.old sink.new }
+{
     let numbers = numbers_of(alloc, &posed.after, processes)?;
     write_all(alloc, script_bytes, posed, numbers.as_slice(), sink)
 }
@@ -66,31 +84,32 @@ pub fn objects_why_to<S: Sink>(
 fn write_all<S: Sink>(
     alloc: Global,
     script_bytes: &[u8],
-    posed: Posed,
+    posed: &mut Posed,
     numbers: &[u32],
     sink: &mut S,
 ) -> Result<(), ToolFault>
-    ensures { (p : Asking) → script script_bytes.now ≡ Ok p.asks → IsPosed posed p →
+    ensures { (p : Asking) → script script_bytes.now ≡ Ok p.asks → IsPosed posed.old p →
         TellsTo S.written S.failed (reason_lines p ++ why_lists_of p numbers.now)
         result sink.old sink.new }
 {
-    let Posed {
-        script,
-        told,
-        mut before,
-        after,
-    } = posed;
-    let (requests, told) = (script.requests(), told.as_slice());
-    let Ok(veils) = veils_of(alloc, &after, numbers) else {
+    let (requests, told) = (posed.script.requests(), posed.told.as_slice());
+    let Ok(veils) = veils_of(alloc, &posed.after, numbers) else {
         return Err(ToolFault::OutOfMemory);
     };
     let veils = veils.as_slice();
-    let dated = dated_text(alloc, &mut before, script_bytes, requests, told, veils);
+    let dated = dated_text(
+        alloc,
+        &mut posed.before,
+        script_bytes,
+        requests,
+        told,
+        veils,
+    );
     let Ok((front, lines)) = dated else {
         return Err(ToolFault::OutOfMemory);
     };
     let (front, lines) = (front.as_str(), lines.as_slice());
-    lists_to(alloc, &after, numbers, front, lines, sink)
+    lists_to(alloc, &posed.after, numbers, front, lines, sink)
 }
 
 /// Writes the front of a text, and then the lists of these processes, of which those are left out that
