@@ -1,7 +1,7 @@
 //! Edits of a tree in slots and of a tree of two sorted lists, side by side: a row of edits by which
 //! slots are used again, and then many at random. After each edit both trees answer the same.
 
-use crate::random::generator::{NAMES, Random};
+use crate::random::Random;
 use crate::told::tell;
 use crate::worlds::{run_over, script_of};
 use anyhow::Result;
@@ -12,6 +12,9 @@ use std::alloc::Global;
 
 /// How many edits are made at random.
 const EDITS: u32 = 1_000;
+
+/// The names in the trees.
+const NAMES: [&str; 5] = ["a", "b", "c", "d", "e"];
 
 /// A root in which nothing stands.
 const ROOT: &[u8] = b"tree 1\n0 dir\n";
