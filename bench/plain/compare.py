@@ -1,24 +1,20 @@
 #!/usr/bin/env python3
-"""Compares what a program writes with what `pua` has to write: python3 compare.py PROGRAM [--no-tables | PLAIN]
+"""Compares what a program writes with what `pua` has to write: python3 compare.py PROGRAM [--no-tables]
 
 It runs each story of `examples/` and each row of `examples/rows.toml`, and prints a line for each whose standard
 output, fault line or status is another than expected; an audit that a row has whole is also resumed after each of its
 lines. Then it prints how many there were. PROGRAM can be `pua` itself, or with --no-tables the plain one, which knows the
 standard table of calls alone, and no reasons: commands with the option --table, --rules or --why and the command why are left
-out then. Where PLAIN, the plain one, is given, the
-lists of all processes of random worlds are compared too: what it writes of them is expected."""
+out then."""
 import pathlib
 import subprocess
 import sys
 import tempfile
 import tomllib
-from worlds import Random
 
 DATA = pathlib.Path(__file__).resolve().parents[2] / "examples"
 PROGRAM = str(pathlib.Path(sys.argv[1]).resolve())
 HAS_TABLES = "--no-tables" not in sys.argv[2:]
-PLAIN = [str(pathlib.Path(word).resolve()) for word in sys.argv[2:] if word != "--no-tables"]
-WORLDS = 500
 counts = {"runs": 0, "differ": 0}
 
 
@@ -95,12 +91,6 @@ def main():
         for row in table["row"]:
             put(table["tree"][row["tree"]]["listing"], row.get("script", ""), row.get("table"))
             run_row(row, folder)
-        random = Random()
-        for number in range(1, WORLDS + 1 if PLAIN else 1):
-            put(random.listing(), random.state_script(), None)
-            words = ["objects", "--process", "all", "TREE", "SCRIPT"]
-            expected = subprocess.run([*PLAIN, *words], cwd=folder, capture_output=True, check=True)
-            run(f"world {number}", words, folder, expected.stdout.decode())
     print(f"{counts['runs']} runs, {counts['differ']} differ")
     sys.exit(counts["differ"] != 0)
 

@@ -1,7 +1,7 @@
 //! Where the paths of an audit begin.
 
 /// Where the paths of an audit begin.
-#[derive(Clone, Copy, Debug, PartialEq, Eq)]
+#[derive(Clone, Copy, PartialEq, Eq)]
 pub enum Base {
     /// At the root: paths are absolute.
     Root,

@@ -39,7 +39,7 @@ pub enum Call {
 
 /// What a call needs: all of these promises, all of these permissions, and whether its path's last
 /// part is followed if it is a link (this profile).
-#[derive(Clone, Copy, Debug, PartialEq, Eq)]
+#[derive(Clone, Copy)]
 pub struct Need {
     pub promises: Promises,
     pub perms: Perms,

@@ -3,7 +3,7 @@
 use std::marker::Model;
 
 /// A set of calls. Contracts see a number with a bit for each call, the first at bit 0.
-#[derive(Clone, Copy, Debug, PartialEq, Eq, Hash)]
+#[derive(Clone, Copy, PartialEq, Eq, Hash)]
 pub struct Calls {
     bits: u16,
 }

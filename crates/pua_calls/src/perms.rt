@@ -4,12 +4,12 @@ use bitflags::{Flag, Flags};
 use std::marker::Model;
 
 /// A set of letters, a bit for each.
-#[derive(Clone, Copy, Debug, PartialEq, Eq, Hash)]
+#[derive(Clone, Copy, PartialEq, Eq, Hash)]
 struct Letters(u8);
 
 /// A set of the permissions r, w, x and c: to read, to write, to execute, and to create and remove
 /// (unveil(2)). Contracts see a number with a bit for each, r at bit 0.
-#[derive(Clone, Copy, Debug, PartialEq, Eq, Hash)]
+#[derive(Clone, Copy, PartialEq, Eq, Hash)]
 pub struct Perms {
     letters: Letters,
 }

@@ -4,12 +4,12 @@ use bitflags::{Flag, Flags};
 use std::marker::Model;
 
 /// A set of keywords, a bit for each.
-#[derive(Clone, Copy, Debug, PartialEq, Eq, Hash)]
+#[derive(Clone, Copy, PartialEq, Eq, Hash)]
 struct Keywords(u64);
 
 /// A set of promises (pledge(2); the list of keywords is this profile's). Contracts see a number
 /// with a bit for each of the 36 keywords, the first at bit 0.
-#[derive(Clone, Copy, Debug, PartialEq, Eq, Hash)]
+#[derive(Clone, Copy, PartialEq, Eq, Hash)]
 pub struct Promises {
     keywords: Keywords,
 }

@@ -1,7 +1,7 @@
 //! Whose rules are asked, and what an exec leaves of execpromises by them.
 
 /// Whose rules a command goes by: what calls need, and what an exec leaves of execpromises.
-#[derive(Clone, Copy, Debug, PartialEq, Eq)]
+#[derive(Clone, Copy, PartialEq, Eq)]
 pub enum Rules {
     /// This project's own profile, which is the default everywhere.
     Profile,
@@ -11,7 +11,7 @@ pub enum Rules {
 
 /// What an exec leaves of execpromises that were given: they become the promises of the program
 /// either way. Where none were given, none are left.
-#[derive(Clone, Copy, Debug, PartialEq, Eq)]
+#[derive(Clone, Copy, PartialEq, Eq)]
 pub enum ExecPromises {
     /// They are unset, so that the program's own exec drops everything (this profile).
     Unset,

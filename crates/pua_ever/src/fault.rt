@@ -3,7 +3,7 @@
 use crate::refusal::Refusal;
 
 /// Why a list for ever is not begun.
-#[derive(Clone, Copy, Debug, PartialEq, Eq)]
+#[derive(Clone, Copy, PartialEq, Eq)]
 pub enum EverFault {
     /// There is none for this process and this table.
     Refused(Refusal),

@@ -4,7 +4,7 @@ use pua_calls::Calls;
 use pua_objects::ObjectKind;
 
 /// What a line is about.
-#[derive(Clone, Copy, Debug, PartialEq, Eq)]
+#[derive(Clone, Copy, PartialEq, Eq)]
 pub enum EverThing {
     /// Something that stands or could stand in the tree now.
     Stands(ObjectKind),
@@ -13,7 +13,7 @@ pub enum EverThing {
 }
 
 /// A line of the list, but for the names that lead there.
-#[derive(Clone, Copy, Debug, PartialEq, Eq)]
+#[derive(Clone, Copy, PartialEq, Eq)]
 pub struct EverLine {
     /// What it is about.
     pub thing: EverThing,

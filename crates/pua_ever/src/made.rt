@@ -11,7 +11,7 @@ use pua_calls::Call;
 use pua_objects::ObjectKind;
 
 /// What can be made.
-#[derive(Clone, Copy, Debug, PartialEq, Eq)]
+#[derive(Clone, Copy)]
 pub(crate) enum Made {
     Dir,
     /// The further names of such a directory.

@@ -24,7 +24,7 @@ use std::alloc::Global;
 /// and on what is made, by what it is: the calls that are allowed under some cover that it can come
 /// to have. So they are on a file, program or link that link can give a further name, beside those
 /// that its own cover allows.
-#[derive(Clone, Copy, Debug, PartialEq, Eq)]
+#[derive(Clone, Copy)]
 pub struct Movable {
     /// On a directory, rmdir aside.
     pub dir: Calls,

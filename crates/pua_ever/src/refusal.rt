@@ -12,7 +12,7 @@ use pua_calls::{Call, CallTable, PairNeed, Perms, Promises};
 use pua_policy::{May, Process};
 
 /// Why there is no list of what a process can ever touch.
-#[derive(Clone, Copy, Debug, PartialEq, Eq)]
+#[derive(Clone, Copy, PartialEq, Eq)]
 pub enum Refusal {
     /// The process can still put veils, so nothing is for ever: it is not locked, and holds
     /// `unveil`.

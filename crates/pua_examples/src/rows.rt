@@ -1,20 +1,13 @@
-//! The table of rows: what commands over small listings, scripts and tables of calls write. Each command whose inputs
-//! are there is also done by calls of the libraries, over each kind of tree. Each audit that a row has
-//! whole is also cut after each of its lines and resumed there.
+//! The table of rows: what commands over small listings, scripts and tables of calls write. Each audit that
+//! a row has whole is also cut after each of its lines and resumed there.
 
-pub(crate) mod listed;
-mod reasons;
-mod since;
-pub(crate) mod state;
 pub(crate) mod table;
-pub(crate) mod trees;
 
 use crate::rows::table::{Entry, ended, table};
-use crate::rows::trees::are_alike;
 use crate::told::{pair_of, say_unless};
 use crate::written::{Files, Wanted};
 use anyhow::Result;
-use pua_tool::{DEVICE, REFUSED, USAGE};
+use pua_tool::{REFUSED, USAGE};
 use std::alloc::Global;
 use toml::Value;
 
@@ -47,9 +40,8 @@ const NO_LISTING: &str = "tree 0";
 /// The script beside a listing or a table with a fault: it has one too.
 const NO_SCRIPT: &str = "0";
 
-/// Prints a line for each part of the table that is not as expected, over either kind of tree, or
-/// whose audit goes on in another way where it is resumed; then how many there are, and after how many
-/// lines an audit was resumed.
+/// Prints a line for each part of the table that is not as expected, or whose audit goes on in another way
+/// where it is resumed; then how many there are, and after how many lines an audit was resumed.
 pub(crate) fn run(rt: &HostRuntime) -> Result<()> {
     let table = table(rt, "rows.toml")?;
     let table = Entry::new(&table);
@@ -129,14 +121,14 @@ fn is_refused(alloc: Global, refused: Entry<'_>) -> Result<bool> {
     Ok(is_refused)
 }
 
-/// Whether a command over these files reports a fault, over either kind of tree.
+/// Whether a command over these files reports a fault.
 fn is_reported(alloc: Global, words: &[&str], files: &Files<'_>, fault: &[u8]) -> Result<bool> {
     let wanted = Wanted {
         status: REFUSED,
         out: b"",
         err: fault,
     };
-    is_so(alloc, words, files, &wanted)
+    files.write(alloc, words, &wanted)
 }
 
 /// The files of which the one that is given has a fault. So have those that are judged after it.
@@ -150,18 +142,8 @@ fn refused_files(refused: Entry<'_>) -> Files<'_> {
     }
 }
 
-/// Whether a command over these files writes this, over either kind of tree. One whose input can't be read has no
-/// tree.
-fn is_so(alloc: Global, words: &[&str], files: &Files<'_>, wanted: &Wanted<'_>) -> Result<bool> {
-    Ok(
-        files.write(alloc, words, wanted)?
-            && (wanted.status == DEVICE || are_alike(alloc, words, files, wanted)?),
-    )
-}
-
 /// After how many lines a row's audit was resumed: none where the row has no whole audit. None
-/// where the row's command wrote something else, over either kind of tree, or the audit went on in
-/// another way.
+/// where the row's command wrote something else, or the audit went on in another way.
 fn judged(alloc: Global, row: Entry<'_>, files: &Files<'_>) -> Result<Option<usize>> {
     let words = row.words(alloc)?;
     let output = row.output(alloc)?;
@@ -171,7 +153,7 @@ fn judged(alloc: Global, row: Entry<'_>, files: &Files<'_>) -> Result<Option<usi
         out: output.as_bytes(),
         err: fault.as_bytes(),
     };
-    if !is_so(alloc, words.as_slice(), files, &wanted)? {
+    if !files.write(alloc, words.as_slice(), &wanted)? {
         return Ok(None);
     }
     if row.number("reach").is_none() {

@@ -12,7 +12,7 @@ use std::alloc::{AllocError, Global};
 use std::fs;
 
 /// The folders of the stories.
-pub(crate) const STORIES: [&str; 17] = [
+const STORIES: [&str; 17] = [
     "first-run",
     "links",
     "wide-veil",
@@ -152,13 +152,13 @@ fn is_with(
 }
 
 /// What a file of a story has.
-pub(crate) fn file(rt: &HostRuntime, story: &str, name: &str) -> Result<String> {
+fn file(rt: &HostRuntime, story: &str, name: &str) -> Result<String> {
     let path = [story, "/", name].concat(rt.alloc())?;
     Ok(fs::read_to_string(rt, path.as_str())?)
 }
 
 /// The words of a line after the program's name.
-pub(crate) fn words_of(alloc: Global, line: &str) -> Result<Vec<&str>, AllocError> {
+fn words_of(alloc: Global, line: &str) -> Result<Vec<&str>, AllocError> {
     line.split_whitespace().skip(1).collect(alloc)
 }
 

@@ -26,8 +26,8 @@ const ENTRIES: [(&str, &[u8]); 2] = [("T", b"tree 1\n0 dir\n"), ("S", b"1 stat /
 /// How many outputs fail for each of them.
 const OUTPUTS: usize = 3;
 
-/// Files that can't be read: one that isn't there, a directory, and one that has no end.
-const UNREADABLE: [&str; 4] = ["missing", ".", "/dev/zero", "listing-fronts/missing"];
+/// Files that can't be read: one that isn't there, a directory, one that has no end, and one below a file.
+const UNREADABLE: [&str; 4] = ["missing", ".", "/dev/zero", "seven-bytes/missing"];
 
 /// A pipe whose reader goes after the first write.
 #[derive(Drop)]
@@ -150,8 +150,8 @@ fn full_device(rt: &HostRuntime) -> Result<File> {
 
 /// Both, with a file that is open for reading alone.
 fn is_closed_told(rt: &HostRuntime, words: &[&str]) -> Result<bool> {
-    let is_direct = is_told(rt.alloc(), words, fs::open(rt, "listing-fronts")?)?;
-    Ok(is_direct && is_flush_told(rt.alloc(), words, fs::open(rt, "listing-fronts")?)?)
+    let is_direct = is_told(rt.alloc(), words, fs::open(rt, "seven-bytes")?)?;
+    Ok(is_direct && is_flush_told(rt.alloc(), words, fs::open(rt, "seven-bytes")?)?)
 }
 
 /// Both, with pipes whose readers are gone.

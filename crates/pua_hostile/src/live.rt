@@ -3,8 +3,6 @@
 use self::Found::{First, Whole};
 use crate::LISTING;
 use crate::audited::TreeAudit;
-use crate::dead::{DEEP, WIDE};
-use crate::nets::CHAINS;
 use crate::told::{count, wrong_unless};
 use crate::trees::ListedTree;
 use anyhow::Result;
@@ -35,6 +33,17 @@ enum Found {
     Whole(usize, usize),
     First(&'static [u8]),
 }
+
+/// A file with the listing of a directory with 20 links to it, and in it a file with 13 links to it: each link
+/// leads to the one before.
+const CHAINS: &str = "chains";
+
+/// A file with the listing of a root with a hundred directories, ..
+const WIDE: &str = "wide";
+
+/// .. and one with the same, and in the root a chain: nine directories named `a`, one in another, and a file in
+/// the last one.
+const DEEP: &str = "deep";
 
 /// A root in which nothing stands.
 const ROOT: &[u8] = b"tree 1\n0 dir\n";

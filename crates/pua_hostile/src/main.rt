@@ -1,30 +1,23 @@
 //! Runs the libraries in hostile surroundings: sinks that take a byte at a time and break, readers
 //! that give a byte at a time and fail, the machine's own outputs and files where they fail, files as
-//! long as may be, inputs that are cut anywhere or hold a wrong byte, links that lead to one another,
-//! and trees in which nearly nothing is reached. A line is printed for each case that is not as it has
-//! to be, and for each table how many cases it has. With the word `growth` it makes only the calls to
-//! which growths may be refused, with `list` it only lists a reach, and with `measure` it only measures
-//! how long something takes.
+//! long as may be, and audits whose looks at the tree are counted. A line is printed for each case that
+//! is not as it has to be, and for each table how many cases it has. With the word `growth` it makes only
+//! the calls to which growths may be refused, with `list` it only lists a reach, and with `measure` it
+//! only measures how long something takes.
 #![tactic(auto)]
 
 mod audited;
 mod broken;
 mod called;
-mod cuts;
-mod dead;
 mod devices;
 mod dripping;
 mod growth;
-mod inputs;
 mod listed;
 mod live;
 mod measured;
-mod nets;
 mod reports;
-mod rows;
 mod told;
 mod trees;
-mod variants;
 
 use anyhow::Result;
 use std::env;
@@ -32,10 +25,6 @@ use std::env;
 /// A tree of directories, a file, a program, and links: to a directory, up and down again, to itself.
 const LISTING: &[u8] =
     b"tree 1\n0 dir\n1 dir 0 etc\n2 file 1 passwd\n3 dir 0 tmp\n4 link 0 t tmp\n5 link 3 up ../etc\n6 link 3 self self\n7 prog 3 sh\n";
-
-/// A script of one process that puts veils over this tree.
-const SCRIPT: &[u8] =
-    b"1 unveil /etc r\n1 unveil /etc rw\n1 unveil /etc/passwd rw\n1 unveil /etc q\n1 unveil /no/x r\n1 unveil - -\n1 unveil /tmp r\n1 unveil - -\n";
 
 fn main(rt: HostRuntime) -> Result<()> {
     let words: Vec<String> = env::args(&rt)?.collect(rt.alloc())?;
@@ -51,12 +40,8 @@ fn main(rt: HostRuntime) -> Result<()> {
 fn run_all(rt: &HostRuntime) -> Result<()> {
     broken::run(rt)?;
     reports::run(rt)?;
-    cuts::run(rt)?;
-    nets::run(rt)?;
-    dead::run(rt)?;
     live::run(rt)?;
     devices::run(rt)?;
-    variants::run(rt)?;
     growth::run(rt)?;
     growth::list(rt)
 }

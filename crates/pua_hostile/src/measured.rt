@@ -4,7 +4,6 @@
 mod covers;
 mod filled;
 
-use crate::rows::number;
 use crate::told::tell;
 use anyhow::Result;
 use pua_path::{Counted, Ending, Last, PathText, Probe, resolve};
@@ -27,6 +26,11 @@ pub(crate) fn run(rt: &HostRuntime, words: &[&str]) -> Result<()> {
         ["fill", turns] => fill(rt, number(turns)?),
         _ => tell(rt, "measure", USAGE),
     }
+}
+
+/// The number that a word stands for.
+fn number(word: &str) -> Result<u32> {
+    Ok(word.parse()?)
 }
 
 /// The tree of a listing.

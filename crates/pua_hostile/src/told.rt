@@ -2,8 +2,6 @@
 //! hands it texts. Whether there is a line is chosen here too, since a choice is long to prove inside a loop.
 
 use anyhow::Result;
-use std::alloc::Global;
-use std::fmt::Display;
 
 /// Prints what became of something.
 pub(crate) fn tell(rt: &HostRuntime, what: &str, word: &str) -> Result<()> {
@@ -29,9 +27,4 @@ pub(crate) fn wrong_unless(rt: &HostRuntime, holds: bool, what: &str, number: us
         return Ok(());
     }
     Ok(println!(rt; "{what} {number}: wrong")?)
-}
-
-/// Whether a fault is told in these words.
-pub(crate) fn is_fault<F: Display>(alloc: Global, fault: &F, words: &str) -> Result<bool> {
-    Ok(format!(in alloc; "{fault}")?.as_str() == words)
 }

@@ -12,7 +12,7 @@ use std::io::{BufWriter, Write};
 use std::marker::Model;
 
 /// A put failed, and added nothing.
-#[derive(Clone, Copy, Debug, PartialEq, Eq)]
+#[derive(Clone, Copy, PartialEq, Eq)]
 pub struct PutFault;
 
 /// Where a text is written, a piece at a time.

@@ -12,7 +12,7 @@ use std::io::Read;
 use std::marker::Model;
 
 /// A read failed, and took nothing.
-#[derive(Clone, Copy, Debug, PartialEq, Eq)]
+#[derive(Clone, Copy, PartialEq, Eq)]
 pub struct ReadFault;
 
 /// A reader that counts how often it was read, and how often that failed, which

@@ -1,7 +1,7 @@
 //! What a line of the list is about.
 
 /// What a line is about.
-#[derive(Clone, Copy, Debug, PartialEq, Eq, Hash)]
+#[derive(Clone, Copy, PartialEq, Eq, Hash)]
 pub enum ObjectKind {
     /// A directory.
     Dir,

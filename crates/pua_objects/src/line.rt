@@ -16,7 +16,7 @@ use pua_calls::{CallTable, Calls};
 use pua_policy::{Cover, Object, Process, judge};
 
 /// A line of the list, but for the names that lead there.
-#[derive(Clone, Copy, Debug, PartialEq, Eq)]
+#[derive(Clone, Copy, PartialEq, Eq)]
 pub struct ObjectLine {
     /// What it is about.
     pub kind: ObjectKind,

@@ -14,7 +14,7 @@ pub(crate) struct OpenDir {
 }
 
 /// What the innermost directory still has.
-#[derive(Clone, Copy, PartialEq, Eq)]
+#[derive(Clone, Copy)]
 pub(crate) enum Coming {
     /// The root's own line, that of its further names, and its names.
     Root,

@@ -76,6 +76,18 @@ stack_pushed top text depth below h n l r e =
 pub stack_on_empty : (top text : List ℕ) (waiting : List (Bor (List ℕ))) → is_stack top waiting ≡ true → is_readable text ≡ true → nat_lt 0 (length text) ≡ true → is_stack text waiting ≡ true
 stack_on_empty top text waiting h r e = stack_of text waiting r (stack_facts top waiting h).waits (rw e refl)
 
+-- the text on top is read to its end, and the one below it is on top
+pub stack_popped : (top : List ℕ) (depth : ℕ) (below : List (Bor (List ℕ))) (text : Bor (List ℕ)) → is_stack top (take depth below) ≡ true → 0 < depth → depth ≤ length below →
+    is_stack (get_or below (depth - 1) text).now (take (depth - 1) below) ≡ true
+stack_popped top zero below text h p l = absurd (omega (arith, p))
+stack_popped top (suc depth) below text h p l =
+    let lt : depth < length below = omega arith in
+    let next = get_or below depth text in
+    let waits = rw (take-suc below depth text lt, list_all-append) at (stack_facts top (take (suc depth) below) h).waits in
+    let two = and_parts (list_all can_wait (take depth below)) (can_wait next && true) waits in
+    let can = and_parts (nat_lt 0 (length next.now)) (is_readable next.now) (and_parts (can_wait next) true two.1).0 in
+    rw sub-one (stack_of next.now (take depth below) can.1 two.0 (rw can.0 refl))
+
 -- a target's parts come before those of the text that was on top
 pub parts_pushed : (target text : List ℕ) (top : Bor (List ℕ)) (depth : ℕ) (below : List (Bor (List ℕ))) → text ≡ after_slashes target → depth < length below →
     rest_parts text ++ pending (take (depth + 1) (set below depth top)) ≡ parts_of ending.Dot target ++ (rest_parts top.now ++ pending (take depth below))

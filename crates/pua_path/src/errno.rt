@@ -3,7 +3,7 @@
 use std::fmt;
 
 /// Why a call failed, by the name that errno(2) gives it.
-#[derive(Clone, Copy, Debug, PartialEq, Eq)]
+#[derive(Clone, Copy, PartialEq, Eq)]
 pub enum Errno {
     EPERM,
     ENOENT,

@@ -3,7 +3,7 @@
 use pua_tree::{Name, NodeId};
 
 /// A part of a path.
-#[derive(Clone, Copy, Debug, PartialEq, Eq)]
+#[derive(Clone, Copy, PartialEq, Eq)]
 pub enum Part {
     /// The directory itself.
     Dot,
@@ -14,7 +14,7 @@ pub enum Part {
 }
 
 /// What becomes of a link that the last part names.
-#[derive(Clone, Copy, Debug, PartialEq, Eq)]
+#[derive(Clone, Copy, PartialEq, Eq)]
 pub enum Last {
     /// It is followed, as any link before the last part is.
     Followed,
@@ -23,7 +23,7 @@ pub enum Last {
 }
 
 /// How a directory was named: by the last part resolved, in a link's target too.
-#[derive(Clone, Copy, Debug, PartialEq, Eq)]
+#[derive(Clone, Copy, PartialEq, Eq)]
 pub enum Way {
     /// By a name in its parent.
     Named { parent: NodeId, name: Name },
@@ -36,7 +36,7 @@ pub enum Way {
 }
 
 /// What a path names.
-#[derive(Clone, Copy, Debug, PartialEq, Eq)]
+#[derive(Clone, Copy, PartialEq, Eq)]
 pub enum Found {
     /// A directory, and how it was named.
     Whole {

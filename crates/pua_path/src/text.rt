@@ -7,7 +7,7 @@ use pua_tree::has_short_components;
 use std::marker::Model;
 
 /// What a slash at the end of a path adds (this profile).
-#[derive(Clone, Copy, Debug, PartialEq, Eq)]
+#[derive(Clone, Copy)]
 pub enum Ending {
     /// A final part `.`, where the text has a part.
     Dot,

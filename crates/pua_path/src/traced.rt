@@ -58,7 +58,7 @@ impl Links {
 }
 
 /// Where a path leads no further: at which name of which directory.
-#[derive(Clone, Copy, Debug, PartialEq, Eq)]
+#[derive(Clone, Copy)]
 pub enum Stop {
     /// Nothing has the name, and a part is left behind it.
     NoEntry(Spot),
@@ -69,7 +69,7 @@ pub enum Stop {
 }
 
 /// What is wrong with a text that is no path.
-#[derive(Clone, Copy, Debug, PartialEq, Eq)]
+#[derive(Clone, Copy)]
 pub enum TextFault {
     /// It is empty.
     EmptyText,
@@ -82,7 +82,7 @@ pub enum TextFault {
 }
 
 /// Why a path names nothing.
-#[derive(Clone, Copy, Debug, PartialEq, Eq)]
+#[derive(Clone, Copy)]
 pub enum PathFault {
     /// Its text is no path.
     InText(TextFault),

@@ -8,7 +8,7 @@ use pua_path::Errno;
 use thiserror::Error;
 
 /// Whether promises allow a call.
-#[derive(Clone, Copy, Debug, PartialEq, Eq)]
+#[derive(Clone, Copy, PartialEq, Eq)]
 pub enum May {
     /// They are held.
     Yes,
@@ -19,7 +19,7 @@ pub enum May {
 }
 
 /// What the veils leave of an object.
-#[derive(Clone, Copy, Debug, PartialEq, Eq)]
+#[derive(Clone, Copy, PartialEq, Eq)]
 pub enum Cover {
     /// Everything: no veil is kept.
     All,
@@ -30,7 +30,7 @@ pub enum Cover {
 }
 
 /// What becomes of a call.
-#[derive(Clone, Copy, Debug, PartialEq, Eq)]
+#[derive(Clone, Copy, PartialEq, Eq)]
 pub enum Verdict {
     /// It is allowed.
     Allowed,
@@ -41,7 +41,7 @@ pub enum Verdict {
 }
 
 /// Why a process does not get what it asks for.
-#[derive(Clone, Copy, Debug, PartialEq, Eq)]
+#[derive(Clone, Copy, PartialEq, Eq)]
 pub enum Refusal {
     /// The call fails with this error, and the process lives.
     Failed(Errno),

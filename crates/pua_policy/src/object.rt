@@ -1,7 +1,7 @@
 //! What a call is on.
 
 /// What a path named, as far as it decides which calls are allowed on it, the veils aside.
-#[derive(Clone, Copy, Debug, PartialEq, Eq, Hash)]
+#[derive(Clone, Copy, PartialEq, Eq, Hash)]
 pub enum Object {
     /// A name where nothing stands.
     Missing,

@@ -8,7 +8,7 @@ use pua_calls::{Perms, Promises};
 use pua_path::Errno;
 
 /// By what a process may do what needs one of some sets of promises, or why it may not.
-#[derive(Clone, Copy, Debug, PartialEq, Eq)]
+#[derive(Clone, Copy)]
 pub enum Promising<'s> {
     /// It holds this set, the first of them that it holds.
     Holds(Promises),
@@ -23,7 +23,7 @@ pub enum Promising<'s> {
 }
 
 /// What covers an object: the nearest veil, or none.
-#[derive(Clone, Copy, Debug, PartialEq, Eq)]
+#[derive(Clone, Copy)]
 pub enum Covering {
     /// No veil is kept, so everything is in view.
     InView,
@@ -34,7 +34,7 @@ pub enum Covering {
 }
 
 /// What is wrong with what a path named, for a call.
-#[derive(Clone, Copy, Debug, PartialEq, Eq)]
+#[derive(Clone, Copy)]
 pub enum Misfit {
     /// Nothing has the name.
     Missing,

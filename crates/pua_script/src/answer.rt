@@ -4,7 +4,7 @@ use pua_path::Errno;
 use std::fmt;
 
 /// What a request is answered. It is displayed as `ok`, the errno's name, `killed` or `gone`.
-#[derive(Clone, Copy, Debug, PartialEq, Eq)]
+#[derive(Clone, Copy, PartialEq, Eq)]
 pub enum Answer {
     /// It was done.
     Okay,

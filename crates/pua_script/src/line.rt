@@ -1,7 +1,9 @@
 //! One line of a script.
 
 ghost use Rattle.std.specs.Prelude.{◌≡◌, ◌∷◌, [], map, ok_or};
-ghost use Rattle.pua_script.specs.Scripts.{IsReadAs, is_dash, is_equals, has_empty_word, path_in, given_in, perms_in, unveil_of, action_in, request_of, request_of_fields};
+ghost use Rattle.pua_script.specs.Scripts.{IsReadAs, is_dash, is_equals, has_empty_word, path_in, given_in, perms_in, unveil_of, with_paths, action_in, action_of, request_of, request_of_fields};
+ghost use Rattle.pua_script.specs.Scripts.Form.{PledgeForm};
+ghost use Rattle.pua_script.specs.declared.request.Action.TheVariants.{Symlink, Rename, Link};
 ghost use Rattle.pua_script.specs.declared.fault.ScriptFault.TheVariants.{BadCall, BadList, BadPath};
 
 use crate::fault::ScriptFault;
@@ -87,22 +89,55 @@ fn read_two(
     ensures { IsReadAs (action_in number (word.now ∷ a.now ∷ b.now ∷ [])) result }
 {
     if word == b"symlink".as_slice() {
-        let target = read_path(alloc, number, a)?;
-        Ok(Action::Symlink(target, read_path(alloc, number, b)?))
+        read_symlink(alloc, number, a, b)
     } else if word == b"rename".as_slice() {
-        let old = read_path(alloc, number, a)?;
-        Ok(Action::Rename(old, read_path(alloc, number, b)?))
+        read_rename(alloc, number, a, b)
     } else if word == b"link".as_slice() {
-        let old = read_path(alloc, number, a)?;
-        Ok(Action::Link(old, read_path(alloc, number, b)?))
+        read_link(alloc, number, a, b)
     } else if word == b"pledge".as_slice() {
-        let promises = read_given(number, a)?;
-        Ok(Action::Pledge(promises, read_given(number, b)?))
+        read_pledge(number, a, b)
     } else if word == b"unveil".as_slice() {
         read_unveil(alloc, number, a, b)
     } else {
         Err(ScriptFault::BadCall(number))
     }
+}
+
+/// A symlink: its target, and then its path.
+fn read_symlink(
+    alloc: Global,
+    number: u32,
+    target: &[u8],
+    path: &[u8],
+) -> Result<Action, ScriptFault>
+    ensures { IsReadAs (with_paths number Symlink target.now path.now) result }
+{
+    let target = read_path(alloc, number, target)?;
+    Ok(Action::Symlink(target, read_path(alloc, number, path)?))
+}
+
+/// A rename: the old path, and then the new one.
+fn read_rename(alloc: Global, number: u32, old: &[u8], new: &[u8]) -> Result<Action, ScriptFault>
+    ensures { IsReadAs (with_paths number Rename old.now new.now) result }
+{
+    let old = read_path(alloc, number, old)?;
+    Ok(Action::Rename(old, read_path(alloc, number, new)?))
+}
+
+/// A link: the path of a node, and then that of its further name.
+fn read_link(alloc: Global, number: u32, old: &[u8], new: &[u8]) -> Result<Action, ScriptFault>
+    ensures { IsReadAs (with_paths number Link old.now new.now) result }
+{
+    let old = read_path(alloc, number, old)?;
+    Ok(Action::Link(old, read_path(alloc, number, new)?))
+}
+
+/// A pledge: its promises, and then its execpromises.
+fn read_pledge(number: u32, promises: &[u8], execpromises: &[u8]) -> Result<Action, ScriptFault>
+    ensures { result ≡ action_of number (PledgeForm promises.now execpromises.now) }
+{
+    let promises = read_given(number, promises)?;
+    Ok(Action::Pledge(promises, read_given(number, execpromises)?))
 }
 
 /// An unveil, which has two NULLs or none.

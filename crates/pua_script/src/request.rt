@@ -18,7 +18,7 @@ impl Model for PathBytes {
 }
 
 /// An argument of pledge.
-#[derive(Clone, Copy, Debug, PartialEq, Eq)]
+#[derive(Clone, Copy)]
 pub enum Given {
     /// It leaves what was given before.
     Null,

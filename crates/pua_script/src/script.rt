@@ -23,8 +23,9 @@ impl Model for Script {
     ghost view = { λ a. a.requests.items };
 }
 
-ghost use Rattle.std.specs.Prelude.{◌≡◌, ◌≢◌, MatchResult, Ok, Err};
-ghost use Rattle.pua_script.specs.Scripts.{script};
+ghost use Rattle.std.specs.Prelude.{◌≡◌, ◌≢◌, ◌∷◌, ◌++◌, [], MatchResult, Ok, Err};
+ghost use Rattle.pua_script.specs.Requests.{Asked};
+ghost use Rattle.pua_script.specs.Scripts.{script, request_of};
 
 impl Script {
     /// The requests, the first line's first.
@@ -52,10 +53,26 @@ pub fn read_script(alloc: Global, bytes: &[u8]) -> Result<Script, ScriptFault>
             return Err(ScriptFault::TooMany);
         }
         number += 1;
-        let request = read_request(alloc, number, line)?;
-        let Ok(()) = requests.push(request) else {
-            return Err(ScriptFault::OutOfMemory);
-        };
+        add_request(alloc, &mut requests, number, line)?;
     }
     Ok(Script { requests })
+}
+
+/// Adds what the line of this number asks for.
+fn add_request(
+    alloc: Global,
+    requests: &mut Vec<Request>,
+    number: u32,
+    line: &[u8],
+) -> Result<(), ScriptFault>
+    ensures { MatchResult result (λ _. (request : Asked)
+        × (request_of number line.now ≡ Ok request)
+        × (requests.new.items ≡ requests.old.items ++ request ∷ []))
+        (λ fault. fault ≢ ScriptFault.OutOfMemory → request_of number line.now ≡ Err fault) }
+{
+    let request = read_request(alloc, number, line)?;
+    let Ok(()) = requests.push(request) else {
+        return Err(ScriptFault::OutOfMemory);
+    };
+    Ok(())
 }

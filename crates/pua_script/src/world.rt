@@ -53,11 +53,7 @@ impl<T: FileTree> World<T> {
         ensures replay { IfOk result (λ world. StandsForWorld world (new_world (T.content tree))) }
         ensures table { IfOk result (λ world. world.table ≡ table) }
     {
-        let process = Process::new(alloc)?;
-        let mut processes = IndexMap::new(alloc);
-        let Ok(_) = processes.insert(FIRST_PROCESS, process) else {
-            return Err(OutOfMemory);
-        };
+        let processes = first_process(alloc)?;
         Ok(World {
             tree,
             table,
@@ -191,6 +187,19 @@ impl<T: FileTree> World<T> {
         }
         Ok(told)
     }
+}
+
+/// Process 1 alone, which is new.
+fn first_process(alloc: Global) -> Result<IndexMap<u32, Process>, OutOfMemory>
+    ensures { IfOk result (λ processes. (t : Tree) (rules : Calls) →
+        StandsForWorld (record { tree = t; table = rules; processes = processes.entries }) (new_world t)) }
+{
+    let process = Process::new(alloc)?;
+    let mut processes = IndexMap::new(alloc);
+    let Ok(_) = processes.insert(FIRST_PROCESS, process) else {
+        return Err(OutOfMemory);
+    };
+    Ok(processes)
 }
 
 /// The keys of processes, in ascending order.

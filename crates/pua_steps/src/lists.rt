@@ -16,7 +16,7 @@ use crate::steps::{Entry, Steps};
 use std::alloc::{AllocError, Global};
 
 /// Where a list stands among the entries of all lists: from `place` on, and before `end`.
-#[derive(Clone, Copy, Debug, PartialEq, Eq)]
+#[derive(Clone, Copy)]
 pub(crate) struct Span {
     pub(crate) place: usize,
     pub(crate) end: usize,

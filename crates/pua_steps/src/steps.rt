@@ -16,7 +16,7 @@ use crate::visit::Visit;
 /// followed, `kept` those where they may not, so that its final link is kept: a bit for each, and
 /// `kept` is empty where `all` is. `links` are the links that it follows, at most `MOST_LINKS`, and
 /// `to` is the place of the directory to which it leads, if it leads to one.
-#[derive(Clone, Copy, Debug, PartialEq, Eq)]
+#[derive(Clone, Copy)]
 pub struct Entry {
     pub letter: usize,
     pub all: u16,

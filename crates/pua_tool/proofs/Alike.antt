@@ -12,8 +12,10 @@ use Rattle.pua_audit.specs.Reach.{Pair}
 use Rattle.pua_audit.specs.Begin.{Beginning, beginning, still_to_come}
 use Rattle.pua_audit.specs.declared.fault.AuditFault.{AuditFault}
 use Rattle.pua_tool.specs.Alike.{IsAuditedOver, AnswersAlike, LinesAlike}
-use Rattle.pua_tool.specs.Texts.{Wanted, pair_lines}
-use Rattle.pua_tool.proofs.Replays.{is_made, left_by_same}
+use Rattle.pua_tool.specs.Texts.{Wanted}
+use Rattle.pua_texts.specs.Lines.{pair_lines}
+use Rattle.pua_texts.proofs.ForCallers.{is_made}
+use Rattle.pua_tool.proofs.Replays.{left_by_same}
 
 answers_over : (t : Tree) → AnswersAlike t t
 answers_over t rules asks told said after left run other =

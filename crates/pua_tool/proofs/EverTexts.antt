@@ -1,29 +1,19 @@
 -- The text of the list for ever, step by step.
-use Rattle.std.proofs.Common.{◌≡◌, ℕ, List, [], ◌∷◌, ◌++◌, ◌∙◌, ap, map, refl, sym, subst}
-use Rattle.std.specs.Prelude.{◌≢◌, Option, Some, None, Result, Ok, Err, IfErr, OnOk, ok_or, codes}
-use Rattle.std.specs.Borrow.{Bor}
+use Rattle.std.proofs.Common.{◌≡◌, ℕ, List, ◌++◌, ap, refl, sym, subst}
+use Rattle.std.specs.Prelude.{◌≢◌, Option, Some, None, Result, Ok, Err, IfErr, OnOk, ok_or}
 use Rattle.pua_tree.specs.Tree.{Tree}
 use Rattle.pua_tree.specs.Steps.{◌>>=◌}
-use Rattle.pua_calls.specs.Calls.{CallTable, call_name}
-use Rattle.pua_calls.specs.CallSets.{calls_in}
-use Rattle.pua_policy.specs.History.{History, ProcessState, StandsFor}
+use Rattle.pua_calls.specs.Calls.{CallTable}
+use Rattle.pua_policy.specs.History.{History}
 use Rattle.pua_script.specs.Replay.{history_of}
-use Rattle.pua_audit.specs.Reach.{Word, printed_path}
-use Rattle.pua_audit.specs.declared.base.Base.TheVariants.{Root}
-use Rattle.pua_objects.specs.Lines.{kind_word}
-use Rattle.pua_objects.specs.Objects.{with_commas}
-use Rattle.pua_ever.specs.Ever.{Thing, Stands, Comes, thing_text}
-use Rattle.pua_ever.specs.EverLines.{IsThing, IsListed, HasNoLine, lines_of}
-use Rattle.pua_ever.specs.EverState.{Left}
 use Rattle.pua_ever.specs.Refusals.{refusal}
-use Rattle.pua_ever.specs.declared.line.EverLine as given
-use Rattle.pua_ever.specs.declared.line.EverThing.{EverThing}
-use Rattle.pua_ever.specs.declared.line.EverThing.TheVariants as told
-use Rattle.pua_tool.specs.EverLists.{EverListState, IsEverListOf}
-use Rattle.pua_tool.specs.EverTexts.{Answers, ever_after, ever_lines, ever_list, ever_text, kind_of, path_or_new, unless_refused}
+use Rattle.pua_texts.specs.EverLists.{EverListState, IsEverListOf}
+use Rattle.pua_tool.specs.EverTexts.{Answers, ever_after, ever_text, unless_refused}
+use Rattle.pua_texts.specs.EverLines.{ever_list}
 use Rattle.pua_tool.specs.ObjectTexts.{Tells}
 use Rattle.pua_io.specs.Sinks.{Adds, AddsFront, HasFailed}
-use Rattle.pua_tool.specs.Texts.{Chosen, Replayed, answer_lines, ended, replayed}
+use Rattle.pua_tool.specs.Texts.{Chosen, Replayed, replayed}
+use Rattle.pua_texts.specs.Lines.{answer_lines}
 use Rattle.pua_tool.specs.declared.fault.ToolFault.{ToolFault}
 use Rattle.pua_tool.specs.declared.fault.ToolFault.TheVariants.{NoProcess, Write, OutOfMemory}
 use Rattle.pua_tool.proofs.ObjectTexts.{tells_write, tells_refused, tells_unwritten}
@@ -41,34 +31,6 @@ module _ (choice : Chosen) (tree_bytes script_bytes : List ℕ) (process : ℕ) 
   pub replay_answers : (done : Replayed) (r : Result (Unit {0}) ToolFault) (a b : Option (List ℕ)) (n m : ℕ) → replayed choice tree_bytes script_bytes ≡ Ok done
       → Answers (ever_after done process) r a b n m → Answers (ever_text choice tree_bytes script_bytes process) r a b n m
   replay_answers done r a b n m is = subst (λ (answer : Result (List ℕ) ToolFault). Answers answer r a b n m) (sym (ever_is done is))
-
--- the line of a thing, by what the code gives of it
-abbrev pub text_given : given.EverLine → List (Bor (List ℕ)) → List ℕ
-text_given given names =
-    ended (kind_word (kind_of given.thing) ++ 32 ∷ path_or_new given.thing (map (λ name. name.now) names) ++ 32 ∷ with_commas (map call_name (calls_in given.calls)))
-
-given_text : (t : Tree) (about : Thing) (thing : EverThing) (word : Word) → IsThing t about thing → thing_text t word about ≡ kind_word (kind_of thing) ++ 32 ∷ path_or_new thing word
-given_text t (Stands subject) (told.Stands kind) word is = ap (λ k. k ++ 32 ∷ printed_path Root word) (sym is)
-given_text t (Comes new) (told.Comes kind) word is = ap (λ k. k ++ 32 ∷ codes "new") (sym is)
-given_text t (Stands subject) (told.Comes kind) word is = absurd is
-given_text t (Comes new) (told.Stands kind) word is = absurd is
-
--- the line that a list gives stands before those that it has still to give
-pub line_next : (t u : Tree) (a b : CallTable) (p q : ProcessState) (h : History) (old new : List Left) (word : Word) (given : given.EverLine) (names : List (Bor (List ℕ)))
-    → t ≡ u → a ≡ b → p ≡ q → StandsFor q h → IsListed t a p old new word given → map (λ name. name.now) names ≡ word
-    → ever_lines u (lines_of u b h old) ≡ text_given given names ++ ever_lines u (lines_of u b h new)
-line_next t u a b p q h old new word given names same equal alike stands listed is =
-    subst (λ (v : Tree). ever_lines v (lines_of v b h old) ≡ text_given given names ++ ever_lines v (lines_of v b h new)) same
-    (subst (λ (c : CallTable). ever_lines t (lines_of t c h old) ≡ text_given given names ++ ever_lines t (lines_of t c h new)) equal
-    (ap (ever_lines t) (listed.lines h (subst (λ (r : ProcessState). StandsFor r h) (sym alike) stands))
-    ∙ ap (λ text. ended (text ++ 32 ∷ with_commas (map call_name (calls_in given.calls))) ++ ever_lines t (lines_of t a h new)) (given_text t listed.about given.thing word listed.thing)
-    ∙ ap (λ (w : Word). ended (kind_word (kind_of given.thing) ++ 32 ∷ path_or_new given.thing w ++ 32 ∷ with_commas (map call_name (calls_in given.calls))) ++ ever_lines t (lines_of t a h new)) (sym is)))
-
-pub no_line : (t u : Tree) (a b : CallTable) (p q : ProcessState) (h : History) (left : List Left) → t ≡ u → a ≡ b → p ≡ q → StandsFor q h → HasNoLine t a p left → ever_lines u (lines_of u b h left) ≡ []
-no_line t u a b p q h left same equal alike stands none =
-    subst (λ (v : Tree). ever_lines v (lines_of v b h left) ≡ []) same
-    (subst (λ (c : CallTable). ever_lines t (lines_of t c h left) ≡ []) equal
-    (ap (ever_lines t) (none h (subst (λ (r : ProcessState). StandsFor r h) (sym alike) stands))))
 
 -- what comes after the replay, by the history of the process
 abbrev after_by : Replayed → ℕ → History → Result (List ℕ) ToolFault

@@ -1,18 +1,19 @@
 -- What is replayed and begun, step by step.
-use Rattle.std.proofs.Common.{◌≡◌, ℕ, List, ◌++◌, refl, sym, subst, ◌∙◌}
-use Rattle.std.specs.Prelude.{Option, Some, None, Result, Ok, Err, OnOk, IfErr, IfOk, ok_or}
+use Rattle.std.proofs.Common.{◌≡◌, ℕ, List, ◌++◌, sym, subst, ◌∙◌}
+use Rattle.std.specs.Prelude.{Option, Some, None, Result, Ok, Err, ok_or}
 use Rattle.pua_tree.specs.Tree.{Tree}
 use Rattle.pua_tree.specs.Listing.{listing}
 use Rattle.pua_tree.specs.Steps.{◌>>=◌}
 use Rattle.pua_calls.specs.Calls.{CallTable}
-use Rattle.pua_policy.specs.History.{History, ProcessState, StandsFor}
+use Rattle.pua_policy.specs.History.{History}
 use Rattle.pua_script.specs.Requests.{Asked}
 use Rattle.pua_script.specs.Scripts.{script}
 use Rattle.pua_script.specs.Replay.{World, new_world, history_of, answers, world_after}
-use Rattle.pua_script.specs.Worlds.{StandsAt, StandsForWorld, WorldState}
+use Rattle.pua_script.specs.Worlds.{StandsForWorld, WorldState}
 use Rattle.pua_audit.specs.Begin.{Beginning, beginning}
 use Rattle.pua_audit.specs.declared.fault.AuditFault.{AuditFault}
-use Rattle.pua_tool.specs.Texts.{Chosen, Wanted, Replayed, Begun, as_listing, as_script, as_audit, table_by, replayed, begun, audit_text, front_of, pair_lines, text_of}
+use Rattle.pua_tool.specs.Texts.{Chosen, Wanted, Replayed, Begun, as_listing, as_script, as_audit, table_by, replayed, begun, audit_text, text_of}
+use Rattle.pua_texts.specs.Lines.{front_of, pair_lines}
 use Rattle.pua_tool.specs.Begun.{IsBegun, text_left}
 use Rattle.pua_tool.specs.declared.audit.Audited.{Audited}
 use Rattle.pua_tool.specs.declared.fault.ToolFault.{ToolFault}
@@ -101,31 +102,3 @@ pub text_is_left : (choice : Chosen) (tree_bytes script_bytes : List ℕ) (wante
 text_is_left choice tree_bytes script_bytes wanted audited b begins is =
     (λ i. begins i >>= λ b. Ok (text_of wanted b))
     ∙ (λ i. Ok (front_of wanted.after wanted.process (sym is.told i) ++ pair_lines (sym is.base i) (sym is.left i)))
-
--- what follows from what an answer or a fault says is said of it too
-pub on_ok : {T E P Q : Type 0} (r : Result T E) → (P → Q) → OnOk r P → OnOk r Q
-on_ok (Ok value) so p = so p
-on_ok (Err fault) so p = p
-
-pub if_err : {T E : Type 0} {P Q : E → Type 0} (r : Result T E) → ((fault : E) → P fault → Q fault) → IfErr r P → IfErr r Q
-if_err (Ok value) so p = p
-if_err (Err fault) so p = so fault p
-
-pub if_ok : {T E : Type 0} {P Q : T → Type 0} (r : Result T E) → ((value : T) → P value → Q value) → IfOk r P → IfOk r Q
-if_ok (Ok value) so p = so value p
-if_ok (Err fault) so p = p
-
--- what a process stands for at a number is a history that was made
-pub record IsMade (p : ProcessState) (made : Option History) : Type 0 where
-  pub history : History
-  pub is : made ≡ Some history
-  pub stands : StandsFor p history
-
-pub is_made : (p : ProcessState) (made : Option History) → StandsAt (Some p) made → IsMade p made
-is_made p None none = absurd none
-is_made p (Some h) stands = record { history = h; is = refl; stands = stands }
-
--- what stands for no process was never made
-pub none_made : (made : Option History) → StandsAt None made → made ≡ None
-none_made None none = refl
-none_made (Some h) none = absurd none

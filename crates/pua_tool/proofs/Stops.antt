@@ -4,7 +4,7 @@ use Rattle.pua_words.specs.Usages.{IsStop, line_text}
 use Rattle.pua_words.specs.declared.usage.UsageLine.{UsageLine}
 use Rattle.pua_words.specs.declared.words.Stop.{Stop}
 use Rattle.pua_words.specs.declared.words.Stop.TheVariants as stop
-use Rattle.pua_tool.specs.Texts.{ended}
+use Rattle.pua_texts.specs.Lines.{ended}
 use Rattle.pua_tool.specs.Told.{IsTold, TellsUsage}
 use Rattle.pua_io.specs.declared.sink.PutFault.{PutFault}
 use Rattle.pua_tool.specs.declared.status.TheConstants.{DONE, USAGE, DEVICE}

@@ -1,5 +1,5 @@
 -- The texts with reasons, step by step.
-use Rattle.std.proofs.Common.{◌≡◌, ℕ, ◌+◌, ◌<◌, ◌≤◌, List, ◌∷◌, ◌++◌, ◌∙◌, get_or, drop, length, map, sym, ap, append-nil, append_assoc}
+use Rattle.std.proofs.Common.{◌≡◌, ℕ, ◌+◌, ◌<◌, ◌≤◌, List, ◌∷◌, ◌++◌, ◌∙◌, get_or, drop, length, map, sym, subst, ap, append-nil, append_assoc}
 use Rattle.std.specs.Prelude.{Option, Result, Ok, Err, flat_map}
 use Rattle.std.specs.Borrow.{Bor}
 use Rattle.std.proofs.lemmas.List.{drop_more}
@@ -10,20 +10,28 @@ use Rattle.pua_tree.specs.Steps.{◌>>=◌}
 use Rattle.pua_calls.specs.Calls.{CallTable}
 use Rattle.pua_script.specs.Requests.{Asked}
 use Rattle.pua_script.specs.Scripts.{script, request_of}
-use Rattle.pua_script.specs.Replay.{new_world}
+use Rattle.pua_script.specs.Replay.{World, new_world, world_after}
+use Rattle.pua_script.specs.Worlds.{StandsForWorld, WorldState}
 use Rattle.pua_script.specs.declared.fault.ScriptFault.{ScriptFault}
 use Rattle.pua_words.specs.declared.command.Processes.{Processes}
 use Rattle.pua_tool.specs.EverTexts.{Answers}
-use Rattle.pua_tool.specs.ObjectTexts.{Tells, numbers_asked}
+use Rattle.pua_tool.specs.ObjectTexts.{Tells}
 use Rattle.pua_tool.specs.Texts.{Chosen, as_listing, as_script, table_by}
-use Rattle.pua_tool.specs.WhyTexts.{Posed, as_request, chain_lines, objects_why_text, posed, reason_lines, request_line, run_why_text, why_lists_of, why_text, world_left}
+use Rattle.pua_texts.specs.WhyLines.{Posed}
+use Rattle.pua_tool.specs.WhyTexts.{as_request, chain_lines, objects_why_text, posed, reason_lines, request_line, run_why_text, why_lists_asked, why_text}
 use Rattle.pua_tool.specs.declared.fault.ToolFault.{ToolFault}
 use Rattle.pua_tool.proofs.EverTexts.{answers_told}
+use Rattle.pua_tool.proofs.Replays.{left_by_same}
 
 -- what is read of a script without a fault
 pub script_is : (read : Result (List Asked) ScriptFault) (asks : List Asked) → as_script read ≡ Ok asks → read ≡ Ok asks
 script_is (Ok others) asks is = let same : others ≡ asks = cc in ap Ok same
 script_is (Err fault) asks is = cc
+
+-- a world that stands for what one table leaves of some requests stands for what the same table leaves of the same requests
+pub left_by_these : {state : WorldState} (a b : CallTable) (w : World) (asks others : List Asked) → a ≡ b → asks ≡ others → StandsForWorld state (world_after a w asks) → StandsForWorld state (world_after b w others)
+left_by_these {state} a b w asks others same alike stands =
+    subst (λ (those : List Asked). StandsForWorld state (world_after b w those)) alike (left_by_same a b w asks same stands)
 
 module _ (choice : Chosen) (tree_bytes script_bytes : List ℕ) where
   abbrev posed_by : CallTable → Tree → List Asked → Posed
@@ -98,30 +106,19 @@ module _ (choice : Chosen) (tree_bytes script_bytes : List ℕ) where
     why_told p ask r a b n m is read = answers_told (why_text choice tree_bytes script_bytes process fields) (chain_lines p ask) r a b n m (why_is p ask is read)
 
   module _ (which : Processes) where
-    abbrev listed_by : Posed → Result (List ℕ) ToolFault → Result (List ℕ) ToolFault
-    listed_by p asked = asked >>= λ numbers. Ok (reason_lines p ++ why_lists_of p numbers)
-
     -- what refuses the script comes first
     pub objects_refuse : (fault : ToolFault) → posed choice tree_bytes script_bytes ≡ Err fault → objects_why_text choice tree_bytes script_bytes which ≡ Err fault
     unfolding objects_why_text
-    objects_refuse fault is = λ i. is i >>= λ p. listed_by p (numbers_asked (world_left p) which)
+    objects_refuse fault is = λ i. is i >>= λ p. why_lists_asked p which
 
-    -- what refuses the numbers comes where the script is not refused
-    pub numbers_refuse : (p : Posed) (fault : ToolFault) → posed choice tree_bytes script_bytes ≡ Ok p → numbers_asked (world_left p) which ≡ Err fault
-        → objects_why_text choice tree_bytes script_bytes which ≡ Err fault
+    objects_are : (p : Posed) → posed choice tree_bytes script_bytes ≡ Ok p → objects_why_text choice tree_bytes script_bytes which ≡ why_lists_asked p which
     unfolding objects_why_text
-    numbers_refuse p fault is m = (λ i. is i >>= λ p. listed_by p (numbers_asked (world_left p) which)) ∙ (λ i. listed_by p (m i))
+    objects_are p is = λ i. is i >>= λ p. why_lists_asked p which
 
-    objects_are : (p : Posed) (numbers : List ℕ) → posed choice tree_bytes script_bytes ≡ Ok p → numbers_asked (world_left p) which ≡ Ok numbers
-        → objects_why_text choice tree_bytes script_bytes which ≡ Ok (reason_lines p ++ why_lists_of p numbers)
-    unfolding objects_why_text
-    objects_are p numbers is m = (λ i. is i >>= λ p. listed_by p (numbers_asked (world_left p) which)) ∙ (λ i. listed_by p (m i))
-
-    -- the lists that are told are the answer
-    pub objects_told : (p : Posed) (numbers : List ℕ) (r : Result (Unit {0}) ToolFault) (a b : Option (List ℕ)) (n m : ℕ)
-        → posed choice tree_bytes script_bytes ≡ Ok p → numbers_asked (world_left p) which ≡ Ok numbers
-        → Tells (reason_lines p ++ why_lists_of p numbers) r a b n m → Answers (objects_why_text choice tree_bytes script_bytes which) r a b n m
-    objects_told p numbers r a b n m is asked = answers_told (objects_why_text choice tree_bytes script_bytes which) (reason_lines p ++ why_lists_of p numbers) r a b n m (objects_are p numbers is asked)
+    -- the lists that are asked for are the answer
+    pub objects_answer : (p : Posed) (r : Result (Unit {0}) ToolFault) (a b : Option (List ℕ)) (n m : ℕ) → posed choice tree_bytes script_bytes ≡ Ok p
+        → Answers (why_lists_asked p which) r a b n m → Answers (objects_why_text choice tree_bytes script_bytes which) r a b n m
+    objects_answer p r a b n m is = subst (λ (answer : Result (List ℕ) ToolFault). Answers answer r a b n m) (sym (objects_are p is))
 
 -- what a line has still to come from a field on: a blank and the field, for each
 abbrev pub fields_left : List (Bor (List ℕ)) → ℕ → List ℕ

@@ -9,7 +9,8 @@ use Rattle.pua_script.specs.Worlds.{WorldState, StandsForWorld, AreServed, proce
 use Rattle.pua_script.specs.declared.answer.Answer.{Answer}
 use Rattle.pua_audit.specs.AuditState.{AuditState}
 use Rattle.pua_audit.specs.Begin.{Beginning, beginning, still_to_come}
-use Rattle.pua_tool.specs.Texts.{Wanted, pair_lines}
+use Rattle.pua_tool.specs.Texts.{Wanted}
+use Rattle.pua_texts.specs.Lines.{pair_lines}
 
 -- a script was served over a tree, by a world that was new and answers by this table
 pub record IsRunOver (rules : CallTable) (t : Tree) (asks : List Asked) (told : List Answer) (after : WorldState) : Type 0 where

@@ -1,41 +1,16 @@
 -- The text of the list for ever of a process, and what refuses it.
-use Rattle.std.specs.Prelude.{◌≡◌, ◌≢◌, ℕ, List, ◌++◌, flat_map, Option, Some, None, Result, Ok, Err, codes, ok_or}
-use Rattle.pua_tree.specs.Tree.{Tree}
+use Rattle.std.specs.Prelude.{◌≡◌, ◌≢◌, ℕ, List, ◌++◌, Option, Some, None, Result, Ok, Err, ok_or}
 use Rattle.pua_tree.specs.Steps.{◌>>=◌}
-use Rattle.pua_calls.specs.Calls.{CallTable}
-use Rattle.pua_policy.specs.History.{History}
 use Rattle.pua_script.specs.Replay.{history_of}
-use Rattle.pua_audit.specs.Reach.{Word, printed_path}
-use Rattle.pua_audit.specs.declared.base.Base.TheVariants.{Root}
-use Rattle.pua_ever.specs.Ever.{EverLine, ever, ever_text as line_text}
 use Rattle.pua_ever.specs.Refusals.{refusal}
-use Rattle.pua_ever.specs.declared.line.EverThing.{EverThing}
-use Rattle.pua_ever.specs.declared.line.EverThing.TheVariants.{Stands, Comes}
 use Rattle.pua_ever.specs.declared.refusal.Refusal.{Refusal}
 use Rattle.pua_ever.specs.declared.refusal.Refusal.TheVariants as refused
-use Rattle.pua_objects.specs.declared.kind.ObjectKind.{ObjectKind}
 use Rattle.pua_io.specs.Sinks.{Adds, AddsFront, HasFailed}
-use Rattle.pua_tool.specs.States.{head_lines}
-use Rattle.pua_tool.specs.Texts.{Chosen, Replayed, ended, answer_lines, replayed}
+use Rattle.pua_tool.specs.Texts.{Chosen, Replayed, replayed}
+use Rattle.pua_texts.specs.Lines.{answer_lines}
 use Rattle.pua_tool.specs.declared.fault.ToolFault.{ToolFault}
 use Rattle.pua_tool.specs.declared.fault.ToolFault.TheVariants.{NoProcess, Write, OutOfMemory, CanUnveil, LacksC, RenameLacksC, LinkLacksC}
-
-abbrev pub ever_lines : Tree → List EverLine → List ℕ
-ever_lines t lines = flat_map (λ line. ended (line_text t line)) lines
-
--- what kind of thing the code gives
-abbrev pub kind_of : EverThing → ObjectKind
-kind_of (Stands kind) = kind
-kind_of (Comes kind) = kind
-
--- where it stands now, as it is printed; `new` if it is still to be made
-abbrev pub path_or_new : EverThing → Word → List ℕ
-path_or_new (Stands kind) word = printed_path Root word
-path_or_new (Comes kind) word = codes "new"
-
--- the list for ever of a process: its heading, its state, and a line for each thing that it and what it forks can ever touch
-abbrev pub ever_list : CallTable → Tree → ℕ → History → List ℕ
-ever_list table t process h = head_lines t (codes "ever") process h ++ ever_lines t (ever t table h)
+use Rattle.pua_texts.specs.EverLines.{ever_list}
 
 -- why there is no list for ever of the process with this number
 abbrev pub ever_fault : ℕ → Refusal → ToolFault

@@ -1,6 +1,5 @@
 -- The claim, in reading order: what a reader has to believe of the texts that the program writes, and of how it ends.
 pub mod Texts
-pub mod States
 pub mod ObjectTexts
 pub mod EverTexts
 pub mod WhyTexts
@@ -12,11 +11,7 @@ pub mod Futures
 pub mod Alike
 -- Worked rows, which hold by computation.
 pub mod Examples
--- Notes: what the code has begun, and what it puts at once.
+-- Notes: what the code has begun.
 pub mod Begun
-pub mod Lists
-pub mod EverLists
+pub mod Unlisted
 pub mod PosedScripts
-pub mod WhyLists
-pub mod Blocks
-pub mod KeptPaths

@@ -1,34 +1,17 @@
 -- The text of the lists of processes, and what refuses it.
-use Rattle.std.specs.Prelude.{◌≡◌, ℕ, List, [], ◌∷◌, ◌++◌, map, flat_map, Option, option_map, Result, Ok, Err, codes, ok_or}
-use Rattle.std.specs.Option.{option_map_or}
-use Rattle.pua_tree.specs.Tree.{Tree}
+use Rattle.std.specs.Prelude.{◌≡◌, ℕ, List, [], ◌∷◌, ◌++◌, map, Option, option_map, Result, Ok, Err, ok_or}
 use Rattle.pua_tree.specs.Steps.{◌>>=◌}
 use Rattle.pua_calls.specs.Calls.{CallTable}
-use Rattle.pua_policy.specs.History.{History}
 use Rattle.pua_script.specs.Replay.{World, history_of}
 use Rattle.pua_script.specs.declared.answer.Answer.{Answer}
-use Rattle.pua_objects.specs.Objects.{Line, line_text, objects}
 use Rattle.pua_words.specs.declared.command.Processes.{Processes}
 use Rattle.pua_words.specs.declared.command.Processes.TheVariants.{One, All}
-use Rattle.pua_tool.specs.States.{head_lines}
-use Rattle.pua_tool.specs.Texts.{Chosen, ended, answer_lines, replayed}
+use Rattle.pua_tool.specs.Texts.{Chosen, Replayed, replayed}
+use Rattle.pua_texts.specs.Lines.{answer_lines}
 use Rattle.pua_tool.specs.declared.fault.ToolFault.{ToolFault}
 use Rattle.pua_tool.specs.declared.fault.ToolFault.TheVariants.{NoProcess, Write, OutOfMemory}
 use Rattle.pua_io.specs.Sinks.{Adds, AddsFront, HasFailed}
-
-abbrev pub object_lines : Tree → List Line → List ℕ
-object_lines t lines = flat_map (λ line. ended (line_text t line)) lines
-
--- the list of a process: its heading, its state, and a line for each object on which its history allows a call
-abbrev pub process_list : CallTable → Tree → ℕ → History → List ℕ
-process_list table t process h = head_lines t (codes "objects") process h ++ object_lines t (objects t table h)
-
--- a number that was never made has no list
-abbrev pub list_of : CallTable → World → ℕ → List ℕ
-list_of table w process = option_map_or (process_list table w.tree process) (history_of w process) []
-
-abbrev pub lists_of : CallTable → World → List ℕ → List ℕ
-lists_of table w numbers = flat_map (list_of table w) numbers
+use Rattle.pua_texts.specs.ObjectLines.{lists_of}
 
 -- the number that is asked for, if it was made; or those of all processes that were ever made, in ascending order
 abbrev pub numbers_asked : World → Processes → Result (List ℕ) ToolFault
@@ -38,6 +21,10 @@ numbers_asked w All = Ok (map (λ made. made.0) w.histories)
 -- the answers, and then the lists
 abbrev pub objects_after : CallTable → List Answer → World → List ℕ → List ℕ
 objects_after table told w numbers = answer_lines 1 told ++ lists_of table w numbers
+
+-- the answers, and then the lists of the processes that are asked for, or why there are none
+abbrev pub lists_asked : Replayed → Processes → Result (List ℕ) ToolFault
+lists_asked done which = numbers_asked done.world which >>= λ numbers. Ok (objects_after done.table done.told done.world numbers)
 
 -- the lists of processes at the end of a script over a listing, or the first fault: the table's, the listing's, the script's, or a process never made
 unfoldable pub objects_text : Chosen → List ℕ → List ℕ → Processes → Result (List ℕ) ToolFault

@@ -1,11 +1,11 @@
 -- The text of a run and of an audit, and what refuses them.
-use Rattle.std.specs.Prelude.{ℕ, suc, List, [], ◌∷◌, ◌++◌, flat_map, Option, Some, None, Result, Ok, Err, codes, ok_or, decimal, map, option_map}
+use Rattle.std.specs.Prelude.{ℕ, List, ◌++◌, Option, Some, None, Result, Ok, Err, ok_or, map, option_map}
 use Rattle.pua_tree.specs.Tree.{Tree}
 use Rattle.pua_tree.specs.Listing.{listing}
 use Rattle.pua_tree.specs.Steps.{◌>>=◌}
 use Rattle.pua_tree.specs.declared.fault.ListingFault.{ListingFault}
 use Rattle.std.specs.Borrow.{Bor}
-use Rattle.pua_calls.specs.Calls.{CallTable, call_name, table_by_rules}
+use Rattle.pua_calls.specs.Calls.{CallTable, table_by_rules}
 use Rattle.pua_calls.specs.TableTexts.{table_over}
 use Rattle.pua_calls.specs.declared.rules.Rules.{Rules}
 use Rattle.pua_calls.specs.declared.rules.Rules.TheVariants.{Profile}
@@ -13,12 +13,8 @@ use Rattle.pua_calls.specs.declared.table.read.TableFault.{TableFault}
 use Rattle.pua_script.specs.Requests.{Asked}
 use Rattle.pua_script.specs.Scripts.{script}
 use Rattle.pua_script.specs.Replay.{World, new_world, history_of, answers, world_after}
-use Rattle.pua_script.specs.AnswerTexts.{answer_text}
--- each line of a text ends in LF
-pub use Rattle.pua_script.specs.AnswerTexts.{ended}
 use Rattle.pua_script.specs.declared.answer.Answer.{Answer}
 use Rattle.pua_script.specs.declared.fault.ScriptFault.{ScriptFault}
-use Rattle.pua_audit.specs.Reach.{Pair, printed_path}
 use Rattle.pua_audit.specs.Begin.{Beginning, beginning, still_to_come}
 use Rattle.pua_audit.specs.declared.base.Base.{Base}
 use Rattle.pua_audit.specs.declared.fault.AuditFault.{AuditFault}
@@ -27,23 +23,7 @@ use Rattle.pua_tool.specs.declared.job.Job.{Job}
 use Rattle.pua_tool.specs.declared.table.TableChoice.{TableChoice}
 use Rattle.pua_tool.specs.declared.fault.ToolFault.{ToolFault}
 use Rattle.pua_tool.specs.declared.fault.ToolFault.TheVariants.{Table, Listing, Script, NoProcess, Audit}
-
-abbrev pub answer_line : ℕ → Answer → List ℕ
-answer_line n answer = ended (decimal n ++ 32 ∷ answer_text answer)
-
--- a line for each answer, with the number of the script's line, counted from n
-abbrev pub answer_lines : ℕ → List Answer → List ℕ
-answer_lines n [] = []
-answer_lines n (answer ∷ more) = answer_line n answer ++ answer_lines (suc n) more
-
-abbrev pub pair_line : Base → Pair → List ℕ
-pair_line base pair = ended (printed_path base pair.0 ++ 32 ∷ call_name pair.1)
-
-abbrev pub pair_lines : Base → List Pair → List ℕ
-pair_lines base pairs = flat_map (pair_line base) pairs
-
-abbrev pub reach_line : ℕ → List ℕ
-reach_line process = ended (codes "reach " ++ decimal process)
+use Rattle.pua_texts.specs.Lines.{answer_lines, front_of, pair_lines}
 
 -- what a whole audit is asked for, besides the texts of the table, the listing and the script
 pub record Wanted : Type 0 where
@@ -141,11 +121,6 @@ begun choice tree_bytes script_bytes wanted = do
   h ← ok_or (history_of done.world wanted.process) NoProcess
   b ← as_audit (beginning done.world.tree done.table h wanted.base wanted.candidates wanted.limit wanted.after)
   Ok (record { told = done.told; beginning = b })
-
--- the answers and the heading, which an audit that is resumed doesn't write again
-abbrev pub front_of : Option (List ℕ) → ℕ → List Answer → List ℕ
-front_of None process told = answer_lines 1 told ++ reach_line process
-front_of (Some after) process told = []
 
 -- the front, and a line for each pair that is still to come
 abbrev pub text_of : Wanted → Begun → List ℕ

@@ -5,7 +5,7 @@ use Rattle.pua_words.specs.declared.words.Stop.{Stop}
 use Rattle.pua_words.specs.declared.words.Stop.TheVariants as stop
 use Rattle.pua_io.specs.Sinks.{Adds, AddsFront, HasFailed, Writes}
 use Rattle.pua_tool.specs.Statuses.{fault_status}
-use Rattle.pua_tool.specs.Texts.{ended}
+use Rattle.pua_texts.specs.Lines.{ended}
 use Rattle.pua_io.specs.declared.sink.PutFault.{PutFault}
 use Rattle.pua_tool.specs.declared.fault.ToolFault.{ToolFault}
 use Rattle.pua_tool.specs.declared.fault.ToolFault.TheVariants.{Write, OutOfMemory, NoProcess}

@@ -1,32 +1,19 @@
 -- The texts with reasons, of a run, of what decides one request, and of lists, and what refuses them.
-use Rattle.std.specs.Prelude.{ℕ, List, [], ◌∷◌, ◌++◌, flat_map, Result, Ok, Err, codes, decimal}
-use Rattle.std.specs.Option.{option_map_or}
-use Rattle.pua_tree.specs.Tree.{Tree}
+use Rattle.std.specs.Prelude.{ℕ, List, [], ◌∷◌, ◌++◌, flat_map, Result, Ok, Err, decimal}
 use Rattle.pua_tree.specs.Listing.{listing}
 use Rattle.pua_tree.specs.Steps.{◌>>=◌}
-use Rattle.pua_calls.specs.Calls.{CallTable}
-use Rattle.pua_policy.specs.History.{History}
-use Rattle.pua_policy.specs.Reasons.{covering}
-use Rattle.pua_policy.specs.declared.reason.Covering.{Covering}
 use Rattle.pua_script.specs.Requests.{Asked}
 use Rattle.pua_script.specs.Scripts.{script, request_of}
-use Rattle.pua_script.specs.Replay.{World, new_world, history_of, world_after}
+use Rattle.pua_script.specs.Replay.{new_world}
 use Rattle.pua_script.specs.declared.fault.ScriptFault.{ScriptFault}
-use Rattle.pua_objects.specs.Objects.{Line, Subject, At, Others, line_text, objects}
 use Rattle.pua_why.specs.Texts.{why_lines, chain}
-use Rattle.pua_why.specs.Columns.{columns, covering_in}
 use Rattle.pua_words.specs.declared.command.Processes.{Processes}
-use Rattle.pua_tool.specs.States.{head_lines}
-use Rattle.pua_tool.specs.Texts.{Chosen, as_listing, as_script, ended, table_by}
+use Rattle.pua_tool.specs.Texts.{Chosen, as_listing, as_script, table_by}
+use Rattle.pua_texts.specs.Lines.{ended}
 use Rattle.pua_tool.specs.ObjectTexts.{numbers_asked}
 use Rattle.pua_tool.specs.declared.fault.ToolFault.{ToolFault}
 use Rattle.pua_tool.specs.declared.fault.ToolFault.TheVariants.{Request}
-
--- the table of calls, the world before a script, and its requests
-pub record Posed : Type 0 where
-  pub table : CallTable
-  pub world : World
-  pub asks : List Asked
+use Rattle.pua_texts.specs.WhyLines.{Posed, why_lists_of, world_left}
 
 -- a script over a listing, by the table that is chosen, or the first fault: the table's, the listing's, or the script's
 unfoldable pub posed : Chosen → List ℕ → List ℕ → Result Posed ToolFault
@@ -35,10 +22,6 @@ posed choice tree_bytes script_bytes = do
   t ← as_listing (listing tree_bytes)
   asks ← as_script (script script_bytes)
   Ok (record { table = table; world = new_world t; asks = asks })
-
--- the world that the script leaves
-abbrev pub world_left : Posed → World
-world_left p = world_after p.table p.world p.asks
 
 -- a line for each request: its number, its answer, and why and since when it is so
 abbrev pub reason_lines : Posed → List ℕ
@@ -66,25 +49,9 @@ why_text choice tree_bytes script_bytes process fields = do
   ask ← as_request (request_of 1 (request_line process fields))
   Ok (chain_lines p ask)
 
--- what covers what a line is about
-abbrev pub covering_on : Tree → History → Subject → Covering
-covering_on t h (At object) = covering t h object
-covering_on t h (Others dir) = covering_in t h dir
-
-abbrev pub why_line : Posed → ℕ → History → Line → List ℕ
-why_line p process h line =
-    ended (line_text (world_left p).tree line ++ columns p.table p.world p.asks process h line.calls (covering_on (world_left p).tree h line.subject))
-
--- the list of a process with reasons: its heading, its state, and a line for each object on which its history allows a call
-abbrev pub why_list : Posed → ℕ → History → List ℕ
-why_list p process h = head_lines (world_left p).tree (codes "objects") process h ++ flat_map (why_line p process h) (objects (world_left p).tree p.table h)
-
--- a number that was never made has no list
-abbrev pub why_list_of : Posed → ℕ → List ℕ
-why_list_of p process = option_map_or (why_list p process) (history_of (world_left p) process) []
-
-abbrev pub why_lists_of : Posed → List ℕ → List ℕ
-why_lists_of p numbers = flat_map (why_list_of p) numbers
+-- the lines of a script with reasons, and the lists of the processes that are asked for, or why there are none
+abbrev pub why_lists_asked : Posed → Processes → Result (List ℕ) ToolFault
+why_lists_asked p which = numbers_asked (world_left p) which >>= λ numbers. Ok (reason_lines p ++ why_lists_of p numbers)
 
 -- the lists with reasons at the end of a script over a listing, or the first fault: the table's, the listing's, the script's, or a process never made
 unfoldable pub objects_why_text : Chosen → List ℕ → List ℕ → Processes → Result (List ℕ) ToolFault

@@ -1,23 +1,21 @@
 //! The text of an audit.
 
-ghost use Rattle.std.specs.Prelude.{◌≡◌, ◌≢◌, ◌++◌, ℕ, List, [], Ok, Err, IfOk, IfErr, OnOk};
-ghost use Rattle.pua_tool.specs.Texts.{Begun, by_job, wanted, begun, audit_text, pair_lines};
+ghost use Rattle.std.specs.Prelude.{◌≡◌, ◌≢◌, ℕ, List, Ok, Err, IfOk, IfErr, OnOk};
+ghost use Rattle.pua_tool.specs.Texts.{Begun, by_job, wanted, begun, audit_text};
 ghost use Rattle.pua_calls.specs.declared.rules.Rules.TheVariants as rule;
 ghost use Rattle.pua_tool.specs.Begun.{IsBegun, text_left};
-ghost use Rattle.pua_io.specs.Sinks.{Adds, AddsFront, HasFailed, WritesTo};
+ghost use Rattle.pua_io.specs.Sinks.{Adds, AddsFront, HasFailed};
 
-use crate::answers::front_text;
-use crate::block::Block;
 use crate::fault::ToolFault;
 use crate::job::Job;
-use crate::line::add_pairs;
 use crate::script::{ProgramTree, Replay, replay_script};
 use crate::table::TableChoice;
 use pua_audit::{Audit, AuditFault};
 use pua_calls::Rules;
 use pua_io::{PutFault, Sink};
-use pua_path::{Counted, Probe};
+use pua_path::Counted;
 use pua_script::{Answer, World};
+use pua_texts::{Block, front_text, write_audit};
 use std::alloc::Global;
 
 /// Writes the text of an audit by the rules of the profile. It answers what `audit_by` does.
@@ -85,25 +83,6 @@ pub fn audit_by<S: Sink>(
     audited.write(alloc, job, sink)
 }
 
-/// Writes what a block holds, then the front of a text, and then a line for each pair that the audit
-/// has still to give. The front is put before the audit is asked for its first pair.
-fn write_text<'t, P: Probe<'t>, S: Sink>(
-    audit: &mut Audit,
-    probe: &mut P,
-    front: &str,
-    block: &mut Block,
-    sink: &mut S,
-) -> Result<(), PutFault>
-    requires tree { P.tree probe.old ≡ audit.old.tree }
-    ensures { WritesTo S.written S.failed
-        (block.old ++ (front.now ++ pair_lines audit.old.base audit.old.left))
-        result sink.old sink.new }
-{
-    block.add_text(front.as_bytes(), sink)?;
-    add_pairs(audit, probe, block, sink)?;
-    block.put(sink)
-}
-
 /// A script's answers, the world that it left, and the audit of a process in it.
 #[derive(Drop)]
 pub(crate) struct Audited {
@@ -142,7 +121,7 @@ impl Audited {
             return Err(ToolFault::OutOfMemory);
         };
         let mut probe = Counted::new(self.world.tree());
-        match write_text(
+        match write_audit(
             &mut self.audit,
             &mut probe,
             front.as_str(),

@@ -7,7 +7,7 @@ ghost use Rattle.pua_words.specs.Commands.{AsksSoundly};
 ghost use Rattle.pua_words.specs.declared.command.Command.{Command};
 ghost use Rattle.pua_tool.specs.Performed.{HasAnswered, HasEnded, HasHalted, IsRefused};
 ghost use Rattle.pua_io.specs.Sinks.{Adds, AddsFront, HasFailed};
-ghost use Rattle.pua_tool.specs.Texts.{ended};
+ghost use Rattle.pua_texts.specs.Lines.{ended};
 ghost use Rattle.pua_tool.specs.Told.{IsTold, Shows, ShowsFront, TellsStatus, TellsUsage};
 ghost use Rattle.pua_tool.specs.Told.{cannot_write};
 

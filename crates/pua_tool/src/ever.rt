@@ -1,24 +1,24 @@
 //! The text of the list for ever of a process.
 
-ghost use Rattle.std.specs.Prelude.{◌≡◌, ◌≢◌, ◌++◌, ℕ, List, Ok, Err, IfErr, OnOk};
-ghost use Rattle.pua_calls.specs.Calls.{CallTable as Rules};
-ghost use Rattle.pua_policy.specs.History.{History};
+ghost use Rattle.std.specs.Prelude.{◌≡◌, ◌≢◌, ℕ, List, Ok, Err, IfErr, OnOk, IfOk};
+ghost use Rattle.pua_policy.specs.History.{History, StandsFor};
 ghost use Rattle.pua_tool.specs.Begun.{IsReplay};
-ghost use Rattle.pua_tool.specs.EverLists.{IsEverListOf};
-ghost use Rattle.pua_tool.specs.EverTexts.{AnswersTo, ever_after, ever_list, ever_text};
+ghost use Rattle.pua_texts.specs.EverLists.{IsEverListOf};
+ghost use Rattle.pua_tool.specs.EverTexts.{AnswersTo, ever_after, ever_text};
 ghost use Rattle.pua_tool.specs.Texts.{Replayed, chosen};
-ghost use Rattle.pua_io.specs.Sinks.{Adds, AddsFront, HasFailed, WritesTo};
+ghost use Rattle.pua_io.specs.Sinks.{Adds, AddsFront, HasFailed};
+ghost use Rattle.pua_tool.specs.Unlisted.{IsUnlisted};
 
-use crate::answers::answer_text;
-use crate::block::Block;
-use crate::ever_list::EverList;
+use crate::ever_fault::fault_of;
 use crate::fault::ToolFault;
-use crate::kept_path::KeptPath;
 use crate::objects::told;
-use crate::places::Places;
 use crate::script::{Replay, replay_script};
 use crate::table::TableChoice;
-use pua_io::{PutFault, Sink};
+use pua_calls::CallTable;
+use pua_ever::Ever;
+use pua_io::Sink;
+use pua_policy::Process;
+use pua_texts::{Block, EverList, KeptPath, Places, ProcessHead, answer_text, write_ever};
 use pua_tree::FileTree;
 use std::alloc::Global;
 
@@ -59,7 +59,9 @@ pub fn ever_to<S: Sink>(
         S.written sink.new ≡ S.written sink.old) }
 {
     let replay = replay_script(alloc, tree_bytes, script_bytes, table)?;
-    list_to(alloc, &replay, process, sink)
+    let written = list_to(alloc, &replay, process, sink);
+    replay.release();
+    written
 }
 
 /// Writes the answers of a script, and then the list for ever of the process with this number where
@@ -77,7 +79,7 @@ fn list_to<S: Sink>(
     let Some(process) = world.process(number) else {
         return Err(ToolFault::NoProcess);
     };
-    let mut list = EverList::begin(alloc, world.tree(), world.table(), number, process)?;
+    let mut list = begin_list(alloc, world.tree(), world.table(), number, process)?;
     let Ok(front) = answer_text(alloc, replay.told.as_slice()) else {
         return Err(ToolFault::OutOfMemory);
     };
@@ -90,7 +92,7 @@ fn list_to<S: Sink>(
     let Ok(mut path) = KeptPath::new(alloc) else {
         return Err(ToolFault::OutOfMemory);
     };
-    told(write_list(
+    told(write_ever(
         front.as_str(),
         &mut list,
         &mut places,
@@ -100,23 +102,27 @@ fn list_to<S: Sink>(
     ))
 }
 
-/// Writes what a block holds, then the front of a text, and then a list: the front before any line of
-/// it, and many lines in the block.
-fn write_list<'t, T: FileTree, S: Sink>(
-    front: &str,
-    list: &mut EverList<'t, T>,
-    places: &mut Places<'t, T>,
-    path: &mut KeptPath,
-    block: &mut Block,
-    sink: &mut S,
-) -> Result<(), PutFault>
-    ensures { (table : Rules) (process : ℕ) (h : History) →
-        IsEverListOf table places.old.tree process h list.old →
-        WritesTo S.written S.failed
-        (block.old ++ (front.now ++ ever_list table places.old.tree process h))
-        result sink.old sink.new }
+/// Begins the list for ever of a process with this number, by a table of what calls need, or answers
+/// why there is none: `CanUnveil`, `LacksC`, `RenameLacksC` or `LinkLacksC`. The only other fault is
+/// `OutOfMemory`, where a growth was refused.
+fn begin_list<'t, T: FileTree>(
+    alloc: Global,
+    tree: &'t T,
+    table: &CallTable,
+    number: u32,
+    process: &'t Process,
+) -> Result<EverList<'t, T>, ToolFault>
+    ensures begun { IfOk result (λ list. (h : History) → StandsFor process.now h →
+        IsEverListOf table.now (T.content tree.now) number h list) }
+    ensures refused { IfErr result (λ fault. fault ≢ ToolFault.OutOfMemory →
+        IsUnlisted table.now process.now number fault) }
+    ensures unwritten { IfErr result (λ fault. fault ≢ ToolFault.Write) }
 {
-    block.add_text(front.as_bytes(), sink)?;
-    list.add_to(block, places, path, sink)?;
-    block.put(sink)
+    let Ok(head) = ProcessHead::begin(alloc, "ever", number, process) else {
+        return Err(ToolFault::OutOfMemory);
+    };
+    match Ever::begin(alloc, tree, process, table) {
+        Ok(ever) => Ok(EverList::new(head, ever)),
+        Err(fault) => Err(fault_of(number, fault)),
+    }
 }

@@ -7,7 +7,7 @@ use pua_audit::Base;
 use pua_words::AuditWords;
 
 /// What an audit is asked for, besides the tree and the script.
-#[derive(Clone, Copy, Debug)]
+#[derive(Clone, Copy)]
 pub struct Job<'a> {
     /// The most letters of a path, at most 16.
     pub limit: u8,

@@ -6,7 +6,6 @@ ghost use Rattle.pua_tool.specs.Alike.{AnswersAlike, LinesAlike};
 ghost use Rattle.pua_tool.specs.Examples.{TextRows};
 ghost use Rattle.pua_tool.specs.Futures.{Confinement, ConfinementAsRead, Narrowing};
 ghost use Rattle.pua_tool.specs.Futures.{NarrowingAsRead, NarrowingNow};
-ghost use Rattle.pua_tool.specs.States.{ConfinedIsPrinted};
 ghost use Rattle.pua_script.specs.Futures.{RulesNarrow};
 ghost use Rattle.pua_script.specs.Tightening.{OthersLeave, OthersLeaveAlways};
 
@@ -16,13 +15,6 @@ use pua_tree::FileTree;
 #[tactic(auto, using(crate::specs::Examples::text_rows))]
 pub fn text_examples()
     ensures { TextRows }
-{}
-
-/// A process that is locked or doesn't hold `unveil`, and so can put no veil any more, has the line
-/// `unveil locked` or `unveil given-up` in its state, and only such a process has one of them.
-#[tactic(auto, using(crate::proofs::States::confined_is_printed))]
-pub fn state_law()
-    ensures { ConfinedIsPrinted }
 {}
 
 /// Over one tree a process that is locked or doesn't hold `unveil` may never do more than now, and nor

@@ -1,31 +1,26 @@
 //! The text of the lists of processes.
 
-ghost use Rattle.std.specs.Prelude.{◌≡◌, ◌≢◌, ◌++◌, ℕ, List, [], Option, Ok, Err, IfOk, IfErr};
+ghost use Rattle.std.specs.Prelude.{◌≡◌, ◌≢◌, ◌++◌, ℕ, List, Option, Ok, Err, IfOk, IfErr};
 ghost use Rattle.std.specs.Prelude.{OnOk};
-ghost use Rattle.pua_calls.specs.Calls.{CallTable as Rules};
 ghost use Rattle.pua_script.specs.Replay.{World as Replayed};
 ghost use Rattle.pua_script.specs.Worlds.{StandsForWorld};
 ghost use Rattle.pua_words.specs.declared.command.Processes.TheVariants as which;
-ghost use Rattle.pua_tool.specs.Blocks.{PassesOn};
-ghost use Rattle.pua_tool.specs.Lists.{AreListsOf};
-ghost use Rattle.pua_tool.specs.ObjectTexts.{Tells, TellsTo, lists_of, numbers_asked, objects_text};
-ghost use Rattle.pua_tool.specs.Texts.{chosen};
-ghost use Rattle.pua_io.specs.Sinks.{Adds, AddsFront, HasFailed, Writes, WritesTo};
+ghost use Rattle.pua_tool.specs.ObjectTexts.{Tells, TellsTo, lists_asked, numbers_asked, objects_text};
+ghost use Rattle.pua_texts.specs.ObjectLines.{lists_of};
+ghost use Rattle.pua_tool.specs.Begun.{IsReplay};
+ghost use Rattle.pua_tool.specs.EverTexts.{AnswersTo};
+ghost use Rattle.pua_tool.specs.Texts.{Replayed as Served, chosen};
+ghost use Rattle.pua_io.specs.Sinks.{Adds, AddsFront, HasFailed, Writes};
 
-use crate::answers::answer_text;
-use crate::block::Block;
 use crate::fault::ToolFault;
-use crate::kept_path::KeptPath;
-use crate::places::Places;
-use crate::process_list::ProcessList;
 use crate::script::{Replay, replay_script};
 use crate::table::TableChoice;
 use pua_io::{PutFault, Sink, put_all};
 use pua_script::World;
+use pua_texts::{Block, KeptPath, Places, answer_text, begin_lists, write_lists};
 use pua_tree::{FileTree, OutOfMemory};
 use pua_words::Processes;
 use std::alloc::Global;
-use std::collections::VecDeque;
 
 /// Writes the lists of processes, of one or of all that were ever made, in the order of their numbers:
 /// for each line of the script its number and what it was answered, then for each process `objects P`,
@@ -67,12 +62,34 @@ pub fn objects_to<S: Sink>(
     ensures unwritten { IfErr result (λ fault. fault ≢ ToolFault.Write →
         S.written sink.new ≡ S.written sink.old) }
 {
-    let Replay { world, told } = replay_script(alloc, tree_bytes, script_bytes, table)?;
-    let numbers = numbers_of(alloc, &world, processes)?;
-    let Ok(front) = answer_text(alloc, told.as_slice()) else {
+    let replay = replay_script(alloc, tree_bytes, script_bytes, table)?;
+    let written = asked_to(alloc, &replay, processes, sink);
+    replay.release();
+    written
+}
+
+/// Writes the answers of a script, and then the lists of the processes that are asked for, where the
+/// script ends. Every fault but `Write` is answered before anything is written.
+fn asked_to<S: Sink>(
+    alloc: Global,
+    replay: &Replay,
+    processes: Processes,
+    sink: &mut S,
+) -> Result<(), ToolFault>
+    ensures { (done : Served) → IsReplay replay.now done →
+        AnswersTo S.written S.failed (lists_asked done processes) result sink.old sink.new }
+{
+    let numbers = numbers_of(alloc, &replay.world, processes)?;
+    let Ok(front) = answer_text(alloc, replay.told.as_slice()) else {
         return Err(ToolFault::OutOfMemory);
     };
-    lists_to(alloc, &world, numbers.as_slice(), front.as_str(), sink)
+    lists_to(
+        alloc,
+        &replay.world,
+        numbers.as_slice(),
+        front.as_str(),
+        sink,
+    )
 }
 
 /// The numbers of the processes that are asked for: `NoProcess` where the one that is named was never
@@ -145,30 +162,7 @@ fn lists_to<T: FileTree, S: Sink>(
     let Ok(mut path) = KeptPath::new(alloc) else {
         return Err(ToolFault::OutOfMemory);
     };
-    told(write_text(front, &mut lists, &mut places, &mut path, &mut block, sink))
-}
-
-/// Begins the list of each of these processes that was ever made. The only error is that a growth was
-/// refused.
-fn begin_lists<'t, T: FileTree>(
-    alloc: Global,
-    world: &'t World<T>,
-    numbers: &[u32],
-) -> Result<VecDeque<ProcessList<'t, T>>, OutOfMemory>
-    ensures { IfOk result (λ lists. (w : Replayed) → StandsForWorld world.now w →
-        AreListsOf world.now.table w numbers.now lists.items) }
-{
-    let mut lists = VecDeque::new(alloc);
-    for number in numbers {
-        let Some(process) = world.process(*number) else {
-            continue;
-        };
-        let list = ProcessList::begin(alloc, world.tree(), world.table(), *number, process)?;
-        let Ok(()) = lists.push_back(list) else {
-            return Err(OutOfMemory);
-        };
-    }
-    Ok(lists)
+    told(write_lists(front, &mut lists, &mut places, &mut path, &mut block, sink))
 }
 
 /// What a writing left, as the tool reports it.
@@ -187,45 +181,4 @@ pub(crate) fn put_text<S: Sink>(text: &str, sink: &mut S) -> Result<(), ToolFaul
     ensures { TellsTo S.written S.failed text.now result sink.old sink.new }
 {
     told(put_all(sink, text.as_bytes()))
-}
-
-/// Writes what a block holds, then the front of a text, and then lists, one after another: the front
-/// before any line of them, and many lines in the block.
-fn write_text<'t, T: FileTree, S: Sink>(
-    front: &str,
-    lists: &mut VecDeque<ProcessList<'t, T>>,
-    places: &mut Places<'t, T>,
-    path: &mut KeptPath,
-    block: &mut Block,
-    sink: &mut S,
-) -> Result<(), PutFault>
-    ensures { (table : Rules) (w : Replayed) (numbers : List ℕ) → places.old.tree ≡ w.tree →
-        AreListsOf table w numbers lists.old.items →
-        WritesTo S.written S.failed
-        (block.old ++ (front.now ++ lists_of table w numbers))
-        result sink.old sink.new }
-{
-    block.add_text(front.as_bytes(), sink)?;
-    add_lists(block, lists, places, path, sink)?;
-    block.put(sink)
-}
-
-/// Adds lists to a block, one after another.
-fn add_lists<'t, T: FileTree, S: Sink>(
-    block: &mut Block,
-    lists: &mut VecDeque<ProcessList<'t, T>>,
-    places: &mut Places<'t, T>,
-    path: &mut KeptPath,
-    sink: &mut S,
-) -> Result<(), PutFault>
-    ensures { (table : Rules) (w : Replayed) (numbers : List ℕ) → places.old.tree ≡ w.tree →
-        AreListsOf table w numbers lists.old.items →
-        PassesOn S.written S.failed
-        (lists_of table w numbers)
-        result block.old block.new sink.old sink.new }
-{
-    while let Some(mut list) = lists.pop_front() {
-        list.add_to(block, places, path, sink)?;
-    }
-    Ok(())
 }

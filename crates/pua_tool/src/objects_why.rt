@@ -1,33 +1,29 @@
 //! The text of the lists of processes with reasons.
 
-ghost use Rattle.std.specs.Prelude.{◌≡◌, ◌≢◌, ◌++◌, ◌∷◌, [], ℕ, List, Ok, Err, IfErr, IfOk, OnOk};
+ghost use Rattle.std.specs.Prelude.{◌≡◌, ◌≢◌, ◌++◌, ℕ, List, Ok, Err, IfErr, OnOk};
 ghost use Rattle.std.specs.Prelude.{flat_map, map};
 ghost use Rattle.pua_script.specs.Scripts.{script};
 ghost use Rattle.pua_script.specs.Worlds.{StandsForWorld};
-ghost use Rattle.pua_tool.specs.Blocks.{PassesOn};
 ghost use Rattle.pua_tool.specs.ObjectTexts.{TellsTo};
 ghost use Rattle.pua_tool.specs.Texts.{chosen};
 ghost use Rattle.pua_since.specs.Dates.{veil_date, veils_at};
 ghost use Rattle.pua_tool.specs.PosedScripts.{IsPosed};
-ghost use Rattle.pua_tool.specs.WhyLists.{AreWhyListsOf};
-ghost use Rattle.pua_tool.specs.WhyTexts.{Posed as Asking, objects_why_text, reason_lines};
-ghost use Rattle.pua_tool.specs.WhyTexts.{why_lists_of, world_left};
-ghost use Rattle.pua_io.specs.Sinks.{Adds, AddsFront, HasFailed, WritesTo};
+ghost use Rattle.pua_texts.specs.WhyLines.{Posed as Asking, why_lists_of, world_left};
+ghost use Rattle.pua_tool.specs.EverTexts.{AnswersTo};
+ghost use Rattle.pua_tool.specs.WhyTexts.{objects_why_text, reason_lines, why_lists_asked};
+ghost use Rattle.pua_io.specs.Sinks.{Adds, AddsFront, HasFailed};
 
-use crate::block::Block;
 use crate::fault::ToolFault;
 use crate::objects::{numbers_of, told};
-use crate::places::Places;
 use crate::posed::{Posed, pose};
 use crate::table::TableChoice;
-use crate::why_list::WhyList;
-use pua_io::{PutFault, Sink};
+use pua_io::Sink;
 use pua_script::World;
 use pua_since::{dated_text, veils_of};
+use pua_texts::{Block, Places, begin_why_lists, write_why_lists};
 use pua_tree::{FileTree, OutOfMemory};
 use pua_words::Processes;
 use std::alloc::Global;
-use std::collections::VecDeque;
 
 /// Writes the lists of processes with reasons: what [`objects_to`](crate::objects_to) writes, with the
 /// answers as [`run_why_to`](crate::run_why_to) has them, and behind each object's line
@@ -62,7 +58,24 @@ pub fn objects_why_to<S: Sink>(
     ensures unwritten { IfErr result (λ fault. fault ≢ ToolFault.Write →
         S.written sink.new ≡ S.written sink.old) }
 {
-    let posed = pose(alloc, tree_bytes, script_bytes, table)?;
+    let mut posed = pose(alloc, tree_bytes, script_bytes, table)?;
+    let written = write_asked(alloc, script_bytes, &mut posed, processes, sink);
+    posed.release();
+    written
+}
+
+/// Writes the lines of a script with reasons, and then the lists of the processes that are asked for.
+/// Every fault but `Write` is answered before anything is written.
+fn write_asked<S: Sink>(
+    alloc: Global,
+    script_bytes: &[u8],
+    posed: &mut Posed,
+    processes: Processes,
+    sink: &mut S,
+) -> Result<(), ToolFault>
+    ensures { (p : Asking) → script script_bytes.now ≡ Ok p.asks → IsPosed posed.old p →
+        AnswersTo S.written S.failed (why_lists_asked p processes) result sink.old sink.new }
+{
     let numbers = numbers_of(alloc, &posed.after, processes)?;
     write_all(alloc, script_bytes, posed, numbers.as_slice(), sink)
 }
@@ -71,31 +84,32 @@ pub fn objects_why_to<S: Sink>(
 fn write_all<S: Sink>(
     alloc: Global,
     script_bytes: &[u8],
-    posed: Posed,
+    posed: &mut Posed,
     numbers: &[u32],
     sink: &mut S,
 ) -> Result<(), ToolFault>
-    ensures { (p : Asking) → script script_bytes.now ≡ Ok p.asks → IsPosed posed p →
+    ensures { (p : Asking) → script script_bytes.now ≡ Ok p.asks → IsPosed posed.old p →
         TellsTo S.written S.failed (reason_lines p ++ why_lists_of p numbers.now)
         result sink.old sink.new }
 {
-    let Posed {
-        script,
-        told,
-        mut before,
-        after,
-    } = posed;
-    let (requests, told) = (script.requests(), told.as_slice());
-    let Ok(veils) = veils_of(alloc, &after, numbers) else {
+    let (requests, told) = (posed.script.requests(), posed.told.as_slice());
+    let Ok(veils) = veils_of(alloc, &posed.after, numbers) else {
         return Err(ToolFault::OutOfMemory);
     };
     let veils = veils.as_slice();
-    let dated = dated_text(alloc, &mut before, script_bytes, requests, told, veils);
+    let dated = dated_text(
+        alloc,
+        &mut posed.before,
+        script_bytes,
+        requests,
+        told,
+        veils,
+    );
     let Ok((front, lines)) = dated else {
         return Err(ToolFault::OutOfMemory);
     };
     let (front, lines) = (front.as_str(), lines.as_slice());
-    lists_to(alloc, &after, numbers, front, lines, sink)
+    lists_to(alloc, &posed.after, numbers, front, lines, sink)
 }
 
 /// Writes the front of a text, and then the lists of these processes, of which those are left out that
@@ -115,7 +129,7 @@ fn lists_to<T: FileTree, S: Sink>(
         TellsTo S.written S.failed (front.now ++ why_lists_of p numbers.now)
         result sink.old sink.new }
 {
-    let Ok(mut lists) = begin_lists(alloc, world, numbers, lines) else {
+    let Ok(mut lists) = begin_why_lists(alloc, world, numbers, lines) else {
         return Err(ToolFault::OutOfMemory);
     };
     let Ok(mut places) = Places::new(alloc, world.tree()) else {
@@ -124,75 +138,5 @@ fn lists_to<T: FileTree, S: Sink>(
     let Ok(mut block) = Block::new(alloc) else {
         return Err(ToolFault::OutOfMemory);
     };
-    told(write_text(front, &mut lists, &mut places, &mut block, sink))
-}
-
-/// Begins the list of each of these processes that was ever made, whose veils are so since these lines.
-/// The only error is that a growth was refused.
-fn begin_lists<'t, T: FileTree>(
-    alloc: Global,
-    world: &'t World<T>,
-    numbers: &[u32],
-    lines: &[Option<usize>],
-) -> Result<VecDeque<WhyList<'t, T>>, OutOfMemory>
-    ensures { IfOk result (λ lists. (p : Asking) → StandsForWorld world.now (world_left p) →
-        world.now.table ≡ p.table → lines.now
-        ≡ map (veil_date p.table p.world p.asks) (flat_map (veils_at world.now) numbers.now) →
-        AreWhyListsOf p numbers.now lists.items) }
-{
-    let mut lists = VecDeque::new(alloc);
-    let mut left = lines;
-    for number in numbers {
-        let Some(process) = world.process(*number) else {
-            continue;
-        };
-        let count = process.places(alloc)?.len().min(left.len());
-        let (own, more) = left.split_at(count);
-        left = more;
-        let (tree, table) = (world.tree(), world.table());
-        let list = WhyList::begin(alloc, tree, table, *number, process, own)?;
-        let Ok(()) = lists.push_back(list) else {
-            return Err(OutOfMemory);
-        };
-    }
-    Ok(lists)
-}
-
-/// Writes what a block holds, then the front of a text, and then lists, one after another: the front
-/// before any line of them, and many lines in the block.
-fn write_text<'t, T: FileTree, S: Sink>(
-    front: &str,
-    lists: &mut VecDeque<WhyList<'t, T>>,
-    places: &mut Places<'t, T>,
-    block: &mut Block,
-    sink: &mut S,
-) -> Result<(), PutFault>
-    ensures { (p : Asking) (numbers : List ℕ) → places.old.tree ≡ (world_left p).tree →
-        AreWhyListsOf p numbers lists.old.items →
-        WritesTo S.written S.failed
-        (block.old ++ (front.now ++ why_lists_of p numbers))
-        result sink.old sink.new }
-{
-    block.add_text(front.as_bytes(), sink)?;
-    add_lists(block, lists, places, sink)?;
-    block.put(sink)
-}
-
-/// Adds lists to a block, one after another.
-fn add_lists<'t, T: FileTree, S: Sink>(
-    block: &mut Block,
-    lists: &mut VecDeque<WhyList<'t, T>>,
-    places: &mut Places<'t, T>,
-    sink: &mut S,
-) -> Result<(), PutFault>
-    ensures { (p : Asking) (numbers : List ℕ) → places.old.tree ≡ (world_left p).tree →
-        AreWhyListsOf p numbers lists.old.items →
-        PassesOn S.written S.failed
-        (why_lists_of p numbers)
-        result block.old block.new sink.old sink.new }
-{
-    while let Some(mut list) = lists.pop_front() {
-        list.add_to(block, places, sink)?;
-    }
-    Ok(())
+    told(write_why_lists(front, &mut lists, &mut places, &mut block, sink))
 }

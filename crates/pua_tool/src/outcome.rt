@@ -3,7 +3,7 @@
 ghost use Rattle.std.specs.Prelude.{◌≡◌, IfErr, OnOk};
 ghost use Rattle.pua_io.specs.Sinks.{Adds, Writes};
 ghost use Rattle.pua_tool.specs.Statuses.{fault_status, status_after};
-ghost use Rattle.pua_tool.specs.Texts.{ended};
+ghost use Rattle.pua_texts.specs.Lines.{ended};
 ghost use Rattle.pua_tool.specs.Told.{IsFaultTold, TellsFault};
 
 use crate::fault::{CANNOT_WRITE, NO_PROCESS, OUT_OF_MEMORY, ToolFault};

@@ -2,13 +2,16 @@
 
 ghost use Rattle.std.specs.Prelude.{◌≡◌, ◌≢◌, Ok, Err, IfOk, IfErr};
 ghost use Rattle.pua_tree.specs.Listing.{listing};
+ghost use Rattle.pua_tree.specs.Tree.{Tree};
 ghost use Rattle.pua_script.specs.Scripts.{script};
-ghost use Rattle.pua_tool.specs.Texts.{as_listing, chosen};
+ghost use Rattle.pua_script.specs.Worlds.{StandsForWorld};
+ghost use Rattle.pua_tool.specs.Texts.{as_listing, as_script, chosen};
 ghost use Rattle.pua_tool.specs.PosedScripts.{IsNewOver, IsPosed};
-ghost use Rattle.pua_tool.specs.WhyTexts.{Posed as Asking, posed};
+ghost use Rattle.pua_texts.specs.WhyLines.{Posed as Asking};
+ghost use Rattle.pua_tool.specs.WhyTexts.{posed};
 
 use crate::fault::ToolFault;
-use crate::script::{ProgramTree, read_requests, read_table, read_tree};
+use crate::script::{ProgramTree, read_requests, read_table, read_tree, release};
 use crate::table::TableChoice;
 use pua_calls::CallTable;
 use pua_script::{Answer, Script, World};
@@ -22,6 +25,14 @@ pub(crate) struct Posed {
     pub(crate) told: Vec<Answer>,
     pub(crate) before: World<ProgramTree>,
     pub(crate) after: World<ProgramTree>,
+}
+
+impl Posed {
+    /// Gives back the memory of the script, of its answers and of both worlds.
+    pub(crate) fn release(self) {
+        release(self.before);
+        release(self.after);
+    }
 }
 
 /// Serves a script over the tree of a listing, by the table that is chosen, and keeps the world before
@@ -42,13 +53,54 @@ pub(crate) fn pose(
 {
     let table = read_table(alloc, choice)?;
     let before = world_of(alloc, tree_bytes, table)?;
-    let script = read_requests(alloc, script_bytes)?;
-    let mut after = world_of(alloc, tree_bytes, table)?;
-    let Ok(told) = after.run(alloc, &script) else {
+    match read_both(alloc, tree_bytes, script_bytes, table) {
+        Ok((requests, after)) => serve(alloc, requests, before, after),
+        Err(fault) => {
+            release(before);
+            Err(fault)
+        }
+    }
+}
+
+/// The requests of a script, and a world before it, over the tree of a listing that is known to be one.
+fn read_both(
+    alloc: Global,
+    tree_bytes: &[u8],
+    script_bytes: &[u8],
+    table: CallTable,
+) -> Result<(Script, World<ProgramTree>), ToolFault>
+    ensures script { IfOk result (λ read. as_script (script script_bytes.now) ≡ Ok read.0) }
+    ensures world { IfOk result (λ read. IsNewOver tree_bytes.now table read.1) }
+    ensures refused { IfErr result (λ fault. fault ≢ ToolFault.OutOfMemory → (t : Tree) →
+        as_listing (listing tree_bytes.now) ≡ Ok t →
+        as_script (script script_bytes.now) ≡ Err fault) }
+    ensures unwritten { IfErr result (λ fault. fault ≢ ToolFault.Write) }
+{
+    let requests = read_requests(alloc, script_bytes)?;
+    let after = world_of(alloc, tree_bytes, table)?;
+    Ok((requests, after))
+}
+
+/// Serves requests in the second of two worlds that are alike. `OutOfMemory` where a growth was refused.
+fn serve(
+    alloc: Global,
+    requests: Script,
+    before: World<ProgramTree>,
+    mut after: World<ProgramTree>,
+) -> Result<Posed, ToolFault>
+    ensures done { IfOk result (λ done. (p : Asking) → requests ≡ p.asks →
+        StandsForWorld before p.world → before.table ≡ p.table →
+        StandsForWorld after p.world → after.table ≡ p.table → IsPosed done p) }
+    ensures memory { IfErr result (λ fault. fault ≡ ToolFault.OutOfMemory) }
+    ensures unwritten { IfErr result (λ fault. fault ≢ ToolFault.Write) }
+{
+    let Ok(told) = after.run(alloc, &requests) else {
+        release(before);
+        release(after);
         return Err(ToolFault::OutOfMemory);
     };
     Ok(Posed {
-        script,
+        script: requests,
         told,
         before,
         after,

@@ -1,16 +1,17 @@
 //! The text of a run.
 
-ghost use Rattle.std.specs.Prelude.{◌≡◌, ◌≢◌, ℕ, List, Ok, Err, IfErr, OnOk};
+ghost use Rattle.std.specs.Prelude.{◌≡◌, ◌≢◌, ℕ, List, Ok, Err, IfErr, IfOk, OnOk, string_bytes};
 ghost use Rattle.pua_tool.specs.Texts.{by_profile, chosen, given, run_text};
 ghost use Rattle.pua_io.specs.Sinks.{Adds, AddsFront, HasFailed};
 
-use crate::answers::answer_text;
 use crate::fault::ToolFault;
+use crate::objects::put_text;
 use crate::script::replay_script;
 use crate::table::TableChoice;
 use pua_calls::Rules;
-use pua_io::{Sink, put_all};
-use std::alloc::Global;
+use pua_io::Sink;
+use pua_texts::answer_text;
+use std::alloc::{AllocError, Global};
 
 /// Writes the text of a run by the rules of the profile, where a text with rows may stand in the place
 /// of some. It answers what `run_by` does.
@@ -72,12 +73,29 @@ pub fn run_by<S: Sink>(
     ensures unwritten { IfErr result (λ fault. fault ≢ ToolFault.Write →
         S.written sink.new ≡ S.written sink.old) }
 {
+    let text = text_of(alloc, tree_bytes, script_bytes, table)?;
+    put_text(text.as_str(), sink)
+}
+
+/// The text of a run, or the first fault: the table's, the listing's, or the script's. `OutOfMemory`
+/// where a growth was refused.
+fn text_of(
+    alloc: Global,
+    tree_bytes: &[u8],
+    script_bytes: &[u8],
+    table: TableChoice<'_>,
+) -> Result<String, ToolFault>
+    ensures done { IfOk result (λ text. run_text (chosen table.entry) tree_bytes.now
+        script_bytes.now ≡ Ok (string_bytes text)) }
+    ensures refused { IfErr result (λ fault. fault ≢ ToolFault.OutOfMemory →
+        (run_text (chosen table.entry) tree_bytes.now script_bytes.now ≡ Err fault)) }
+    ensures unwritten { IfErr result (λ fault. fault ≢ ToolFault.Write) }
+{
     let replay = replay_script(alloc, tree_bytes, script_bytes, table)?;
-    let Ok(text) = answer_text(alloc, replay.told.as_slice()) else {
-        return Err(ToolFault::OutOfMemory);
-    };
-    match put_all(sink, text.as_bytes()) {
-        Ok(()) => Ok(()),
-        Err(_) => Err(ToolFault::Write),
+    let text = answer_text(alloc, replay.told.as_slice());
+    replay.release();
+    match text {
+        Ok(text) => Ok(text),
+        Err(AllocError) => Err(ToolFault::OutOfMemory),
     }
 }

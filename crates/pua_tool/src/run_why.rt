@@ -4,7 +4,8 @@ ghost use Rattle.std.specs.Prelude.{◌≡◌, ◌≢◌, ℕ, List, Ok, Err, If
 ghost use Rattle.pua_script.specs.Scripts.{script};
 ghost use Rattle.pua_tool.specs.Texts.{chosen};
 ghost use Rattle.pua_tool.specs.PosedScripts.{IsPosed};
-ghost use Rattle.pua_tool.specs.WhyTexts.{Posed as Asking, reason_lines, run_why_text};
+ghost use Rattle.pua_texts.specs.WhyLines.{Posed as Asking};
+ghost use Rattle.pua_tool.specs.WhyTexts.{reason_lines, run_why_text};
 ghost use Rattle.pua_io.specs.Sinks.{Adds, AddsFront, HasFailed};
 
 use crate::fault::ToolFault;
@@ -46,24 +47,20 @@ pub fn run_why_to<S: Sink>(
     ensures unwritten { IfErr result (λ fault. fault ≢ ToolFault.Write →
         S.written sink.new ≡ S.written sink.old) }
 {
-    let posed = pose(alloc, tree_bytes, script_bytes, table)?;
-    let Ok(text) = text_of(alloc, script_bytes, posed) else {
+    let mut posed = pose(alloc, tree_bytes, script_bytes, table)?;
+    let text = text_of(alloc, script_bytes, &mut posed);
+    posed.release();
+    let Ok(text) = text else {
         return Err(ToolFault::OutOfMemory);
     };
     put_text(text.as_str(), sink)
 }
 
 /// The lines of a script that was read from these bytes, with reasons.
-fn text_of(alloc: Global, script_bytes: &[u8], posed: Posed) -> Result<String, OutOfMemory>
+fn text_of(alloc: Global, script_bytes: &[u8], posed: &mut Posed) -> Result<String, OutOfMemory>
     ensures { IfOk result (λ text. (p : Asking) → script script_bytes.now ≡ Ok p.asks →
-        IsPosed posed p → string_bytes text ≡ reason_lines p) }
+        IsPosed posed.old p → string_bytes text ≡ reason_lines p) }
 {
-    let Posed {
-        script,
-        told,
-        mut before,
-        ..
-    } = posed;
-    let (requests, told) = (script.requests(), told.as_slice());
-    reason_text(alloc, &mut before, script_bytes, requests, told)
+    let (requests, told) = (posed.script.requests(), posed.told.as_slice());
+    reason_text(alloc, &mut posed.before, script_bytes, requests, told)
 }

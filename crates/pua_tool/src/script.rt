@@ -1,10 +1,11 @@
 //! The replay of a script over the tree of a listing.
 
-ghost use Rattle.std.specs.Prelude.{◌≡◌, ◌≢◌, Ok, Err, IfOk, IfErr};
+ghost use Rattle.std.specs.Prelude.{◌≡◌, ◌≢◌, List, Ok, Err, IfOk, IfErr};
 ghost use Rattle.pua_tree.specs.Listing.{listing};
+ghost use Rattle.pua_script.specs.Requests.{Asked};
 ghost use Rattle.pua_script.specs.Scripts.{script};
 ghost use Rattle.pua_tool.specs.Texts.{Replayed, as_listing, as_script, chosen, replayed, table_by};
-ghost use Rattle.pua_tool.specs.Begun.{IsReplay};
+ghost use Rattle.pua_tool.specs.Begun.{IsReplay, left_by};
 
 use crate::fault::ToolFault;
 use crate::table::TableChoice;
@@ -22,6 +23,17 @@ pub(crate) struct Replay {
     pub(crate) world: World<ProgramTree>,
     pub(crate) told: Vec<Answer>,
 }
+
+impl Replay {
+    /// Gives back the memory of the world and of the answers.
+    pub(crate) fn release(self) {
+        release(self.world);
+    }
+}
+
+/// Gives back the memory of a world: one call, where the world's drop would else be walked and proved at each
+/// exit behind it.
+pub(crate) fn release(world: World<ProgramTree>) {}
 
 /// Serves a script over the tree of a listing, by the table that is chosen, or
 /// answers the first fault: the table's, the listing's, or the script's. `OutOfMemory` where a
@@ -41,11 +53,44 @@ pub(crate) fn replay_script(
 {
     let table = read_table(alloc, table)?;
     let tree = read_tree(alloc, tree_bytes)?;
+    replay_over(alloc, tree, table, script_bytes)
+}
+
+/// Serves a script over a tree, by a table, or answers the script's fault. `OutOfMemory` where a growth
+/// was refused.
+fn replay_over(
+    alloc: Global,
+    tree: ProgramTree,
+    table: CallTable,
+    script_bytes: &[u8],
+) -> Result<Replay, ToolFault>
+    ensures done { IfOk result (λ replay. (asks : List Asked)
+        × (as_script (script script_bytes.now) ≡ Ok asks)
+        × IsReplay replay (left_by table tree asks)) }
+    ensures refused { IfErr result (λ fault. fault ≢ ToolFault.OutOfMemory →
+        (as_script (script script_bytes.now) ≡ Err fault)) }
+    ensures unwritten { IfErr result (λ fault. fault ≢ ToolFault.Write) }
+{
     let script = read_requests(alloc, script_bytes)?;
+    replay_requests(alloc, tree, table, &script)
+}
+
+/// Serves requests over a tree, by a table. `OutOfMemory` where a growth was refused.
+fn replay_requests(
+    alloc: Global,
+    tree: ProgramTree,
+    table: CallTable,
+    requests: &Script,
+) -> Result<Replay, ToolFault>
+    ensures done { IfOk result (λ replay. IsReplay replay (left_by table tree requests.now)) }
+    ensures memory { IfErr result (λ fault. fault ≡ ToolFault.OutOfMemory) }
+    ensures unwritten { IfErr result (λ fault. fault ≢ ToolFault.Write) }
+{
     let Ok(mut world) = World::new(alloc, tree, table) else {
         return Err(ToolFault::OutOfMemory);
     };
-    let Ok(told) = world.run(alloc, &script) else {
+    let Ok(told) = world.run(alloc, requests) else {
+        release(world);
         return Err(ToolFault::OutOfMemory);
     };
     Ok(Replay { world, told })

@@ -4,7 +4,7 @@ use pua_calls::Rules;
 
 /// Which table of calls is gone by: whose rules, and a text with rows that stand in the place of
 /// theirs.
-#[derive(Clone, Copy, Debug)]
+#[derive(Clone, Copy)]
 pub struct TableChoice<'a> {
     /// Whose rules they are.
     pub rules: Rules,

@@ -2,10 +2,12 @@
 
 ghost use Rattle.std.specs.Prelude.{◌≡◌, ◌≢◌, ◌++◌, ◌∷◌, ℕ, List, Ok, Err, IfErr, IfOk, OnOk, map};
 ghost use Rattle.std.specs.Prelude.{string_bytes};
+ghost use Rattle.pua_script.specs.Requests.{Asked};
 ghost use Rattle.pua_script.specs.Scripts.{request_of};
 ghost use Rattle.pua_tool.specs.PosedScripts.{IsPosed};
 ghost use Rattle.pua_tool.specs.Texts.{chosen};
-ghost use Rattle.pua_tool.specs.WhyTexts.{Posed as Asking, as_request, chain_lines, request_line};
+ghost use Rattle.pua_texts.specs.WhyLines.{Posed as Asking};
+ghost use Rattle.pua_tool.specs.WhyTexts.{as_request, chain_lines, request_line};
 ghost use Rattle.pua_tool.specs.WhyTexts.{why_text};
 ghost use Rattle.pua_io.specs.Sinks.{Adds, AddsFront, HasFailed};
 
@@ -55,12 +57,33 @@ pub fn why_to<S: Sink>(
     ensures unwritten { IfErr result (λ fault. fault ≢ ToolFault.Write →
         S.written sink.new ≡ S.written sink.old) }
 {
-    let posed = pose(alloc, tree_bytes, script_bytes, table)?;
+    let mut posed = pose(alloc, tree_bytes, script_bytes, table)?;
+    let text = asked_text(alloc, &mut posed, process, fields);
+    posed.release();
+    put_text(text?.as_str(), sink)
+}
+
+/// The lines of what the request passes behind a script, or the fault of its fields. `OutOfMemory`
+/// where a growth was refused.
+fn asked_text(
+    alloc: Global,
+    posed: &mut Posed,
+    process: u32,
+    fields: &[&[u8]],
+) -> Result<String, ToolFault>
+    ensures done { IfOk result (λ text. (p : Asking) → IsPosed posed.old p → (ask : Asked)
+        × (as_request (request_of 1 (request_line process (map (λ field. field.now) fields.now)))
+        ≡ Ok ask) × (string_bytes text ≡ chain_lines p ask)) }
+    ensures refused { IfErr result (λ fault. fault ≢ ToolFault.OutOfMemory →
+        as_request (request_of 1 (request_line process
+        (map (λ field. field.now) fields.now))) ≡ Err fault) }
+    ensures unwritten { IfErr result (λ fault. fault ≢ ToolFault.Write) }
+{
     let request = read_asked(alloc, process, fields)?;
-    let Ok(text) = text_of(alloc, posed, &request) else {
-        return Err(ToolFault::OutOfMemory);
-    };
-    put_text(text.as_str(), sink)
+    match text_of(alloc, posed, &request) {
+        Ok(text) => Ok(text),
+        Err(OutOfMemory) => Err(ToolFault::OutOfMemory),
+    }
 }
 
 /// The request of a process, by the fields behind its number.
@@ -106,16 +129,11 @@ fn push_field(line: &mut Vec<u8>, field: &[u8]) -> Result<(), AllocError>
 }
 
 /// The lines of what a request passes behind a script, and of its answer.
-fn text_of(alloc: Global, posed: Posed, request: &Request) -> Result<String, OutOfMemory>
-    ensures { IfOk result (λ text. (p : Asking) → IsPosed posed p →
+fn text_of(alloc: Global, posed: &mut Posed, request: &Request) -> Result<String, OutOfMemory>
+    ensures { IfOk result (λ text. (p : Asking) → IsPosed posed.old p →
         string_bytes text ≡ chain_lines p request.now) }
 {
-    let Posed {
-        script,
-        told,
-        mut before,
-        mut after,
-    } = posed;
-    let (requests, told) = (script.requests(), told.as_slice());
-    chain_text(alloc, &mut before, &mut after, requests, told, request)
+    let (requests, told) = (posed.script.requests(), posed.told.as_slice());
+    let (before, after) = (&mut posed.before, &mut posed.after);
+    chain_text(alloc, before, after, requests, told, request)
 }

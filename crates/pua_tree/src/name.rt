@@ -3,7 +3,6 @@
 use crate::fault::NameFault;
 use crate::spelling::{are_plain, unspell_into};
 use std::cmp::Ordering;
-use std::fmt;
 use std::hash::{Hash, Hasher};
 use std::marker::Model;
 
@@ -189,13 +188,6 @@ impl Hash for Name {
     /// Feeds the bytes at one time, which is faster than one by one.
     fn hash<H: Hasher>(&self, state: &mut H) {
         state.write(self.bytes());
-    }
-}
-
-impl fmt::Debug for Name {
-    fn fmt<W: fmt::Write>(&self, f: &mut fmt::Formatter<W>) -> fmt::Result {
-        let bytes = self.bytes();
-        write!(f, "{bytes:?}")
     }
 }
 

@@ -3,7 +3,7 @@
 use std::marker::Model;
 
 /// The number of a node, which stays its own as long as the tree lives. Contracts see the number.
-#[derive(Clone, Copy, Debug, PartialEq, Eq, PartialOrd, Ord, Hash)]
+#[derive(Clone, Copy, PartialEq, Eq, PartialOrd, Ord, Hash)]
 pub struct NodeId {
     number: u32,
 }
@@ -40,7 +40,7 @@ impl NodeId {
 }
 
 /// What a node is.
-#[derive(Clone, Copy, Debug, PartialEq, Eq)]
+#[derive(Clone, Copy, PartialEq, Eq)]
 pub enum Kind {
     /// A directory.
     Dir,

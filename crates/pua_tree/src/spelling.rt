@@ -7,7 +7,7 @@ use std::marker::Model;
 
 /// The spelling of one byte: the byte itself, or a backslash and three octal digits. It is kept
 /// inline and takes no memory. Contracts see the list of its bytes.
-#[derive(Debug, Drop)]
+#[derive(Drop)]
 pub struct SpelledByte {
     bytes: [u8; 4],
     len: u8,

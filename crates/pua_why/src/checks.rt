@@ -8,7 +8,7 @@ ghost use Rattle.pua_policy.specs.History.{History, StandsFor};
 ghost use Rattle.pua_policy.specs.Reasons.{covering, promising};
 ghost use Rattle.pua_policy.specs.Verdict.{place_of};
 ghost use Rattle.pua_policy.specs.declared.reason.Covering.TheVariants.{By};
-ghost use Rattle.pua_script.specs.Decide.{Change, call_by, object_by, symlink_by, unveil_by};
+ghost use Rattle.pua_script.specs.Decide.{Change, call_by, object_by, symlink_by, unveil_by, veil_by};
 ghost use Rattle.pua_why.specs.Checked.{refused_by};
 ghost use Rattle.pua_why.specs.Reasons.{faults, place_beyond, uncovered, unpromised, unveil_beyond};
 ghost use Rattle.pua_why.specs.Seen.{fault_seen, side_seen};
@@ -211,6 +211,22 @@ pub(crate) fn unveil_fault<'s, T: FileTree>(
     if process.locked() {
         return Ok(Some(Fault::IsLocked));
     }
+    veil_fault(alloc, tree, process, path, perms, links)
+}
+
+/// The fault of an unveil that is not locked: the letters, the path, and what is kept at the place.
+fn veil_fault<'s, T: FileTree>(
+    alloc: Global,
+    tree: &T,
+    process: &Process,
+    path: &[u8],
+    perms: Option<Perms>,
+    links: &mut Links,
+) -> Result<Option<Fault<'s>>, OutOfMemory>
+    ensures { IfOk result (λ fault. (h : History) → StandsFor process.now h →
+        option_map fault_seen fault
+        ≡ refused_by (veil_by faults (T.content tree.now) h path.now perms)) }
+{
     let Some(perms) = perms else {
         return Ok(Some(Fault::UnknownLetter));
     };

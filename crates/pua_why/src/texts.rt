@@ -520,11 +520,19 @@ fn push_link<T: FileTree>(
         ++ target_text (T.content tree.now) spot.now)) }
     ensures rows { paths.new.rows ≡ paths.old.rows }
 {
-    let node = tree.look(spot.0, &spot.1).unwrap_or(NodeId::ROOT);
     text.push_str(side_word(side))?;
     text.push_str("link ")?;
     paths.push_spot(text, spot.0, &spot.1)?;
     text.push_str(" to ")?;
+    push_led(text, tree, spot)
+}
+
+/// Adds where a link leads.
+fn push_led<T: FileTree>(text: &mut String, tree: &T, spot: &Spot) -> Result<(), AllocError>
+    ensures { OnOk result (string_bytes text.new
+        ≡ string_bytes text.old ++ target_text (T.content tree.now) spot.now) }
+{
+    let node = tree.look(spot.0, &spot.1).unwrap_or(NodeId::ROOT);
     match tree.target(node) {
         Some(target) => push_spelled(text, target),
         None => Ok(()),

@@ -5,7 +5,7 @@ use pua_path::{Found, PathFault, Spot, TextFault};
 use pua_policy::{Covering, Misfit, Place};
 
 /// Of two paths, which one; or the only one.
-#[derive(Clone, Copy, Debug, PartialEq, Eq)]
+#[derive(Clone, Copy)]
 pub enum Side {
     /// The only path.
     Sole,
@@ -16,7 +16,7 @@ pub enum Side {
 }
 
 /// Why a living process does not get what it asks for.
-#[derive(Clone, Copy, Debug, PartialEq, Eq)]
+#[derive(Clone, Copy)]
 pub enum Fault<'s> {
     /// It has ended.
     Ends,
@@ -81,7 +81,7 @@ pub enum Fault<'s> {
 }
 
 /// Why a request is answered as it is.
-#[derive(Clone, Copy, Debug, PartialEq, Eq)]
+#[derive(Clone, Copy)]
 pub enum Reason<'s> {
     /// The process was never made.
     NeverMade,
@@ -94,7 +94,7 @@ pub enum Reason<'s> {
 }
 
 /// What a request passed on its way.
-#[derive(Clone, Copy, Debug, PartialEq, Eq)]
+#[derive(Clone, Copy)]
 pub enum Fact {
     /// It needs these promises, and they are held.
     Needs(Promises),

@@ -4,7 +4,7 @@ use pua_audit::Base;
 use pua_calls::Rules;
 
 /// A command: a text that is asked for, and the names of the inputs that it is made of.
-#[derive(Debug, Drop)]
+#[derive(Drop)]
 pub struct Command<'a> {
     /// The name of the input with the listing of the tree.
     pub tree: &'a str,
@@ -19,7 +19,7 @@ pub struct Command<'a> {
 }
 
 /// Which text a command asks for.
-#[derive(Debug, Drop)]
+#[derive(Drop)]
 pub enum Text<'a> {
     /// What each line of the script is answered.
     Run,
@@ -39,7 +39,7 @@ pub enum Text<'a> {
 }
 
 /// What an audit is asked for, besides its inputs.
-#[derive(Debug, Drop)]
+#[derive(Drop)]
 pub struct AuditWords<'a> {
     /// The most components in a path. Audits take 0 to 16.
     pub limit: u8,
@@ -54,7 +54,7 @@ pub struct AuditWords<'a> {
 }
 
 /// Which request is asked about, besides the inputs.
-#[derive(Debug, Drop)]
+#[derive(Drop)]
 pub struct WhyWords<'a> {
     /// The number of the process that asks, 1 to 999,999 where the words of the command line named it.
     pub process: u32,
@@ -63,7 +63,7 @@ pub struct WhyWords<'a> {
 }
 
 /// Of which processes a list of objects is asked.
-#[derive(Clone, Copy, Debug, PartialEq, Eq)]
+#[derive(Clone, Copy)]
 pub enum Processes {
     /// The process of this number, 1 to 999,999 where the words of the command line named it.
     One(u32),
@@ -72,14 +72,14 @@ pub enum Processes {
 }
 
 /// What a list of objects is asked for, besides its inputs.
-#[derive(Clone, Copy, Debug)]
+#[derive(Clone, Copy)]
 pub struct ObjectWords {
     /// The processes.
     pub processes: Processes,
 }
 
 /// What a list for ever is asked for, besides its inputs.
-#[derive(Clone, Copy, Debug)]
+#[derive(Clone, Copy)]
 pub struct EverWords {
     /// The number of the process, 1 to 999,999 where the words of the command line named it.
     pub process: u32,

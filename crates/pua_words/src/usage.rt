@@ -6,7 +6,7 @@ ghost use Rattle.pua_words.specs.Usages.{line_for, line_text};
 use crate::help;
 
 /// The lines that tell how the program is used, of which one is told for words that are no command.
-#[derive(Clone, Copy, Debug, PartialEq, Eq)]
+#[derive(Clone, Copy)]
 pub enum UsageLine {
     /// How runs and audits are asked for.
     Program,

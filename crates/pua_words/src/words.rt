@@ -18,7 +18,7 @@ use std::alloc::{AllocError, Global};
 pub(crate) const MOST_PROCESS: u32 = 999_999;
 
 /// Why there is nothing to do.
-#[derive(Debug, Drop)]
+#[derive(Drop)]
 pub enum Stop {
     /// The words are not those of any command. This line tells how they could be.
     Usage(UsageLine),
@@ -87,87 +87,89 @@ fn read_text<'a>(
 }
 
 fn pua_command<'a>(alloc: Global) -> Result<clap::Command<'a>, AllocError> {
-    let run = run_command(alloc)?;
-    let objects = objects_command(alloc)?;
-    let why = why_command(alloc)?;
-    let audit = audit_command(alloc)?;
-    clap::Command::new(alloc, "pua")
+    let pua = clap::Command::new(alloc, "pua")
         .no_binary_name(true)
         .bin_name("pua")?
         .version(VERSION)
         .about(help::PUA)
         .after_help(help::INPUTS)
-        .subcommand_required(true)
-        .subcommand(run)?
-        .subcommand(objects)?
-        .subcommand(why)?
-        .subcommand(audit)
+        .subcommand_required(true);
+    let pua = with_run_and_objects(alloc, pua)?;
+    with_why_and_audit(alloc, pua)
+}
+
+/// Adds the first two commands, in the order of help.
+fn with_run_and_objects<'a>(
+    alloc: Global,
+    pua: clap::Command<'a>,
+) -> Result<clap::Command<'a>, AllocError> {
+    let pua = pua.subcommand(run_command(alloc)?)?;
+    pua.subcommand(objects_command(alloc)?)
+}
+
+/// Adds the other two.
+fn with_why_and_audit<'a>(
+    alloc: Global,
+    pua: clap::Command<'a>,
+) -> Result<clap::Command<'a>, AllocError> {
+    let pua = pua.subcommand(why_command(alloc)?)?;
+    pua.subcommand(audit_command(alloc)?)
 }
 
 fn run_command<'a>(alloc: Global) -> Result<clap::Command<'a>, AllocError> {
-    clap::Command::new(alloc, "run")
+    let run = clap::Command::new(alloc, "run")
         .about(help::RUN)
         .after_help(help::RUN_OUTPUT)
-        .arg(why(alloc, help::RUN_WHY))?
-        .arg(rules(alloc))?
-        .arg(table(alloc))?
-        .arg(tree(alloc))?
-        .arg(script(alloc))
+        .arg(why(alloc, help::RUN_WHY))?;
+    with_inputs(alloc, run)
 }
 
 fn objects_command<'a>(alloc: Global) -> Result<clap::Command<'a>, AllocError> {
-    clap::Command::new(alloc, "objects")
+    let objects = clap::Command::new(alloc, "objects")
         .about(help::OBJECTS)
         .after_help(help::OBJECTS_OUTPUT)
         .arg(ever(alloc))?
         .arg(why(alloc, help::OBJECTS_WHY))?
-        .arg(processes(alloc))?
+        .arg(processes(alloc))?;
+    with_inputs(alloc, objects)
+}
+
+fn why_command<'a>(alloc: Global) -> Result<clap::Command<'a>, AllocError> {
+    let why = clap::Command::new(alloc, "why")
+        .about(help::WHY)
+        .after_help(help::WHY_OUTPUT)
+        .arg(process(alloc))?;
+    let why = with_inputs(alloc, why)?;
+    why.arg(call(alloc))?.arg(arguments(alloc))
+}
+
+fn audit_command<'a>(alloc: Global) -> Result<clap::Command<'a>, AllocError> {
+    let audit = clap::Command::new(alloc, "audit")
+        .about(help::AUDIT)
+        .after_help(help::AUDIT_OUTPUT);
+    let audit = with_walk(alloc, audit)?;
+    with_inputs(alloc, audit)?.arg(names(alloc))
+}
+
+/// Adds what an audit asks for beside its inputs.
+fn with_walk<'a>(alloc: Global, audit: clap::Command<'a>) -> Result<clap::Command<'a>, AllocError> {
+    audit
+        .arg(limit(alloc))?
+        .arg(process(alloc))?
+        .arg(base(alloc))?
+        .arg(after(alloc))
+}
+
+/// Adds the words for the inputs that all commands have, in the order of help.
+fn with_inputs<'a>(
+    alloc: Global,
+    command: clap::Command<'a>,
+) -> Result<clap::Command<'a>, AllocError> {
+    command
         .arg(rules(alloc))?
         .arg(table(alloc))?
         .arg(tree(alloc))?
         .arg(script(alloc))
-}
-
-fn why_command<'a>(alloc: Global) -> Result<clap::Command<'a>, AllocError> {
-    let call = Arg::new(alloc, "call")
-        .required(true)
-        .value_name("CALL")
-        .help(help::CALL);
-    let arguments = Arg::new(alloc, "arguments")
-        .value_name("ARG")
-        .help(help::ARGUMENTS)
-        .action(ArgAction::Append)
-        .num_args(0..);
-    clap::Command::new(alloc, "why")
-        .about(help::WHY)
-        .after_help(help::WHY_OUTPUT)
-        .arg(process(alloc))?
-        .arg(rules(alloc))?
-        .arg(table(alloc))?
-        .arg(tree(alloc))?
-        .arg(script(alloc))?
-        .arg(call)?
-        .arg(arguments)
-}
-
-fn audit_command<'a>(alloc: Global) -> Result<clap::Command<'a>, AllocError> {
-    let names = Arg::new(alloc, "names")
-        .value_name("NAME")
-        .help(help::NAMES)
-        .action(ArgAction::Append)
-        .num_args(0..);
-    clap::Command::new(alloc, "audit")
-        .about(help::AUDIT)
-        .after_help(help::AUDIT_OUTPUT)
-        .arg(limit(alloc))?
-        .arg(process(alloc))?
-        .arg(base(alloc))?
-        .arg(after(alloc))?
-        .arg(rules(alloc))?
-        .arg(table(alloc))?
-        .arg(tree(alloc))?
-        .arg(script(alloc))?
-        .arg(names)
 }
 
 fn limit<'a>(alloc: Global) -> Arg<'a> {
@@ -263,6 +265,29 @@ fn script<'a>(alloc: Global) -> Arg<'a> {
         .required(true)
         .value_name("SCRIPT")
         .help(help::SCRIPT)
+}
+
+fn call<'a>(alloc: Global) -> Arg<'a> {
+    Arg::new(alloc, "call")
+        .required(true)
+        .value_name("CALL")
+        .help(help::CALL)
+}
+
+fn arguments<'a>(alloc: Global) -> Arg<'a> {
+    Arg::new(alloc, "arguments")
+        .value_name("ARG")
+        .help(help::ARGUMENTS)
+        .action(ArgAction::Append)
+        .num_args(0..)
+}
+
+fn names<'a>(alloc: Global) -> Arg<'a> {
+    Arg::new(alloc, "names")
+        .value_name("NAME")
+        .help(help::NAMES)
+        .action(ArgAction::Append)
+        .num_args(0..)
 }
 
 /// What an error of `clap` asks for: a text about the program, or nothing.

@@ -98,7 +98,6 @@ fn document(alloc: Global, text: &[u8]) -> Result<Table, TableFault>
 }
 
 /// A table with the rows of a document, in the order of its keys, or the first fault.
-#[tactic(auto, using(crate::proofs::TableTexts::keys_in_order))]
 fn with_rows(base: CallTable, document: &Table) -> Result<CallTable, TableFault>
     ensures exact { result ≡ rules_with base (table_view document.now) }
     ensures pairs { IfOk result (HasPairsOf base) }

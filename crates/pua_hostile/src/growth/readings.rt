@@ -4,7 +4,6 @@ use crate::LISTING;
 use crate::dripping::DrippingReader;
 use crate::growth::is_refused;
 use crate::growth::worlds::{REQUESTS, SCRIPT};
-use crate::inputs::TABLE;
 use crate::listed::listing_of;
 use crate::trees::ListedTree;
 use anyhow::Result;
@@ -35,6 +34,9 @@ const NAMED_TWICE: &[u8] =
 /// The lines of its tree, one for each name.
 const NAMES_LISTED: &[u8] =
     b"tree 1\n0 dir\n1 dir 0 d\n2 file 0 g\n2 file 1 f\n2 file 1 h\n4 link 1 k g\n4 link 1 l g\n";
+
+/// A table by which one of two promises is enough to make a directory.
+const TABLE: &[u8] = b"[mkdir]\npromises = [\"cpath\", \"dpath\"]\nveil = \"c\"\n";
 
 /// Whether everything is read as it has to be.
 pub(crate) fn hold(alloc: Global, again: &mut u32) -> Result<bool> {

@@ -24,16 +24,16 @@ returns-then-number-eq-LINE_LIMIT c = λ other.
 pub overflow_add-number : goal.overflow_add-number
 overflow_add-number c = let few = c.loop-line.invariant.few in omega (arith, few)
 
-pub returns-in_err-request : goal.returns-in_err-request
-returns-in_err-request c =
+pub returns-in_err-add_request : goal.returns-in_err-add_request
+returns-in_err-add_request c =
     let few = c.loop-line.invariant.few in
     let apart = c.if-number-eq-LINE_LIMIT.false in
     let less : c.loop-line.number < 60000 = omega (arith, few, apart) in
-    let fault = c.in_err-request.field-0.0 in
+    let fault = c.in_err-add_request.field-0.0 in
     let refuses : fault ≢ OutOfMemory → script c.args.bytes.now ≡ Err fault = λ other.
     c.loop-line.invariant.so_far
     ∙ ap (onwards 60000 c.loop-line.number c.loop-line.requests.items) c.in-Some.ensures.steps
-    ∙ refused 60000 c.loop-line.number c.loop-line.requests.items c.in-Some.line.now c.next.new.self fault less (rw add-one at (c.in_err-request.ensures other)) in
+    ∙ refused 60000 c.loop-line.number c.loop-line.requests.items c.in-Some.line.now c.next.new.self fault less (rw add-one at (c.in_err-add_request.ensures other)) in
     let p = err_from_is_err_and c.from_residual.result c.from_residual.ensures.1 in
     rw (p.1, p.2) refuses
 
@@ -43,13 +43,13 @@ loop-line-preserved c =
     let apart = c.if-number-eq-LINE_LIMIT.false in
     let less : c.loop-line.number < 60000 = omega (arith, few, apart) in
     let next : c.loop-line.number + 1 ≡ suc c.loop-line.number = add-one c.loop-line.number in
-    let pushed = c.in-Ok.ensures.items in
+    let added = c.in_ok-add_request.ensures in
     record {
       few = omega (arith, less);
       so_far = c.loop-line.invariant.so_far
           ∙ ap (onwards 60000 c.loop-line.number c.loop-line.requests.items) c.in-Some.ensures.steps
-          ∙ goes_on 60000 c.loop-line.number c.loop-line.requests.items c.in-Some.line.now c.next.new.self c.in_ok-request.request less (rw add-one at c.in_ok-request.ensures)
-          ∙ (λ i. onwards 60000 (sym next i) (sym pushed i) c.next.new.self);
+          ∙ goes_on 60000 c.loop-line.number c.loop-line.requests.items c.in-Some.line.now c.next.new.self added.0 less (rw add-one at added.1)
+          ∙ (λ i. onwards 60000 (sym next i) (sym added.2 i) c.next.new.self);
     }
 
 pub returns : goal.returns

@@ -2,7 +2,8 @@ use Rattle.std.proofs.Common.{◌≡◌}
 use Rattle.std.specs.Prelude.{Ok}
 use Rattle.pua_tool.specs.Texts.{audit_text, by_job, wanted}
 use Rattle.pua_tool.specs.Begun.{text_left}
-use Rattle.pua_tool.proofs.Replays.{text_is_left, on_ok, if_err}
+use Rattle.pua_tool.proofs.Replays.{text_is_left}
+use Rattle.pua_texts.proofs.ForCallers.{on_ok, if_err}
 use Rattle.pua_tool.proofs.audit.audit_by.Goals as goal
 
 pub returns-clause-whole : goal.returns-clause-whole

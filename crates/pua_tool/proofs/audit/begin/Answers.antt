@@ -7,7 +7,8 @@ use Rattle.pua_audit.specs.Begin.{beginning}
 use Rattle.pua_audit.specs.declared.fault.AuditFault.TheVariants as audit_fault
 use Rattle.pua_tool.specs.Texts.{by_job, wanted, begun}
 use Rattle.pua_tool.specs.declared.fault.ToolFault.TheVariants.{OutOfMemory}
-use Rattle.pua_tool.proofs.Replays.{begun_is, replay_refuses, process_refuses, audit_refuses, is_made, none_made}
+use Rattle.pua_tool.proofs.Replays.{begun_is, replay_refuses, process_refuses, audit_refuses}
+use Rattle.pua_texts.proofs.ForCallers.{is_made, none_made}
 use Rattle.pua_tool.proofs.audit.begin.Goals as goal
 
 pub returns-in-Ok-clause-begun : goal.returns-in-Ok-clause-begun

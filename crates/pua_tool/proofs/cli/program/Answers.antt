@@ -1,6 +1,6 @@
 use Rattle.std.proofs.Common.{◌∙◌, map, subst, sym}
 use Rattle.pua_words.specs.Usages.{line_for, line_text}
-use Rattle.pua_tool.specs.Texts.{ended}
+use Rattle.pua_texts.specs.Lines.{ended}
 use Rattle.pua_tool.specs.Told.{IsTold, TellsStatus}
 use Rattle.pua_tool.proofs.Ends.{ended_by_status, told_by_status}
 use Rattle.pua_tool.proofs.Stops.{not_done}

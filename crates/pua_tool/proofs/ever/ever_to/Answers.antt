@@ -17,29 +17,29 @@ returns-in_err-replay-clause-refused g c =
 pub returns-clause-whole : goal.returns-clause-whole
 returns-clause-whole g c =
     let done = c.in_ok-replay.ensures.done in
-    answers_whole (ever_text (chosen c.args.table) c.args.tree_bytes.now c.args.script_bytes.now c.args.process) (g.S.Sink.written c.args.sink.now) (g.S.Sink.written c.list_to.new.sink) (g.S.Sink.failed c.args.sink.now) (g.S.Sink.failed c.list_to.new.sink) c.list_to.result
-    (replay_answers (chosen c.args.table) c.args.tree_bytes.now c.args.script_bytes.now c.args.process done.0 c.list_to.result (g.S.Sink.written c.args.sink.now) (g.S.Sink.written c.list_to.new.sink) (g.S.Sink.failed c.args.sink.now) (g.S.Sink.failed c.list_to.new.sink) done.1 (c.list_to.ensures done.0 done.2))
+    answers_whole (ever_text (chosen c.args.table) c.args.tree_bytes.now c.args.script_bytes.now c.args.process) (g.S.Sink.written c.args.sink.now) (g.S.Sink.written c.list_to-written.new.sink) (g.S.Sink.failed c.args.sink.now) (g.S.Sink.failed c.list_to-written.new.sink) c.list_to-written.result
+    (replay_answers (chosen c.args.table) c.args.tree_bytes.now c.args.script_bytes.now c.args.process done.0 c.list_to-written.result (g.S.Sink.written c.args.sink.now) (g.S.Sink.written c.list_to-written.new.sink) (g.S.Sink.failed c.args.sink.now) (g.S.Sink.failed c.list_to-written.new.sink) done.1 (c.list_to-written.ensures done.0 done.2))
 
 pub returns-clause-unfailed : goal.returns-clause-unfailed
 returns-clause-unfailed g c =
     let done = c.in_ok-replay.ensures.done in
-    answers_unfailed (ever_text (chosen c.args.table) c.args.tree_bytes.now c.args.script_bytes.now c.args.process) (g.S.Sink.written c.args.sink.now) (g.S.Sink.written c.list_to.new.sink) (g.S.Sink.failed c.args.sink.now) (g.S.Sink.failed c.list_to.new.sink) c.list_to.result
-    (replay_answers (chosen c.args.table) c.args.tree_bytes.now c.args.script_bytes.now c.args.process done.0 c.list_to.result (g.S.Sink.written c.args.sink.now) (g.S.Sink.written c.list_to.new.sink) (g.S.Sink.failed c.args.sink.now) (g.S.Sink.failed c.list_to.new.sink) done.1 (c.list_to.ensures done.0 done.2))
+    answers_unfailed (ever_text (chosen c.args.table) c.args.tree_bytes.now c.args.script_bytes.now c.args.process) (g.S.Sink.written c.args.sink.now) (g.S.Sink.written c.list_to-written.new.sink) (g.S.Sink.failed c.args.sink.now) (g.S.Sink.failed c.list_to-written.new.sink) c.list_to-written.result
+    (replay_answers (chosen c.args.table) c.args.tree_bytes.now c.args.script_bytes.now c.args.process done.0 c.list_to-written.result (g.S.Sink.written c.args.sink.now) (g.S.Sink.written c.list_to-written.new.sink) (g.S.Sink.failed c.args.sink.now) (g.S.Sink.failed c.list_to-written.new.sink) done.1 (c.list_to-written.ensures done.0 done.2))
 
 pub returns-clause-write : goal.returns-clause-write
 returns-clause-write g c =
     let done = c.in_ok-replay.ensures.done in
-    answers_write (ever_text (chosen c.args.table) c.args.tree_bytes.now c.args.script_bytes.now c.args.process) (g.S.Sink.written c.args.sink.now) (g.S.Sink.written c.list_to.new.sink) (g.S.Sink.failed c.args.sink.now) (g.S.Sink.failed c.list_to.new.sink) c.list_to.result
-    (replay_answers (chosen c.args.table) c.args.tree_bytes.now c.args.script_bytes.now c.args.process done.0 c.list_to.result (g.S.Sink.written c.args.sink.now) (g.S.Sink.written c.list_to.new.sink) (g.S.Sink.failed c.args.sink.now) (g.S.Sink.failed c.list_to.new.sink) done.1 (c.list_to.ensures done.0 done.2))
+    answers_write (ever_text (chosen c.args.table) c.args.tree_bytes.now c.args.script_bytes.now c.args.process) (g.S.Sink.written c.args.sink.now) (g.S.Sink.written c.list_to-written.new.sink) (g.S.Sink.failed c.args.sink.now) (g.S.Sink.failed c.list_to-written.new.sink) c.list_to-written.result
+    (replay_answers (chosen c.args.table) c.args.tree_bytes.now c.args.script_bytes.now c.args.process done.0 c.list_to-written.result (g.S.Sink.written c.args.sink.now) (g.S.Sink.written c.list_to-written.new.sink) (g.S.Sink.failed c.args.sink.now) (g.S.Sink.failed c.list_to-written.new.sink) done.1 (c.list_to-written.ensures done.0 done.2))
 
 pub returns-clause-refused : goal.returns-clause-refused
 returns-clause-refused g c =
     let done = c.in_ok-replay.ensures.done in
-    answers_fault (ever_text (chosen c.args.table) c.args.tree_bytes.now c.args.script_bytes.now c.args.process) (g.S.Sink.written c.args.sink.now) (g.S.Sink.written c.list_to.new.sink) (g.S.Sink.failed c.args.sink.now) (g.S.Sink.failed c.list_to.new.sink) c.list_to.result
-    (replay_answers (chosen c.args.table) c.args.tree_bytes.now c.args.script_bytes.now c.args.process done.0 c.list_to.result (g.S.Sink.written c.args.sink.now) (g.S.Sink.written c.list_to.new.sink) (g.S.Sink.failed c.args.sink.now) (g.S.Sink.failed c.list_to.new.sink) done.1 (c.list_to.ensures done.0 done.2))
+    answers_fault (ever_text (chosen c.args.table) c.args.tree_bytes.now c.args.script_bytes.now c.args.process) (g.S.Sink.written c.args.sink.now) (g.S.Sink.written c.list_to-written.new.sink) (g.S.Sink.failed c.args.sink.now) (g.S.Sink.failed c.list_to-written.new.sink) c.list_to-written.result
+    (replay_answers (chosen c.args.table) c.args.tree_bytes.now c.args.script_bytes.now c.args.process done.0 c.list_to-written.result (g.S.Sink.written c.args.sink.now) (g.S.Sink.written c.list_to-written.new.sink) (g.S.Sink.failed c.args.sink.now) (g.S.Sink.failed c.list_to-written.new.sink) done.1 (c.list_to-written.ensures done.0 done.2))
 
 pub returns-clause-unwritten : goal.returns-clause-unwritten
 returns-clause-unwritten g c =
     let done = c.in_ok-replay.ensures.done in
-    answers_unwritten (ever_text (chosen c.args.table) c.args.tree_bytes.now c.args.script_bytes.now c.args.process) (g.S.Sink.written c.args.sink.now) (g.S.Sink.written c.list_to.new.sink) (g.S.Sink.failed c.args.sink.now) (g.S.Sink.failed c.list_to.new.sink) c.list_to.result
-    (replay_answers (chosen c.args.table) c.args.tree_bytes.now c.args.script_bytes.now c.args.process done.0 c.list_to.result (g.S.Sink.written c.args.sink.now) (g.S.Sink.written c.list_to.new.sink) (g.S.Sink.failed c.args.sink.now) (g.S.Sink.failed c.list_to.new.sink) done.1 (c.list_to.ensures done.0 done.2))
+    answers_unwritten (ever_text (chosen c.args.table) c.args.tree_bytes.now c.args.script_bytes.now c.args.process) (g.S.Sink.written c.args.sink.now) (g.S.Sink.written c.list_to-written.new.sink) (g.S.Sink.failed c.args.sink.now) (g.S.Sink.failed c.list_to-written.new.sink) c.list_to-written.result
+    (replay_answers (chosen c.args.table) c.args.tree_bytes.now c.args.script_bytes.now c.args.process done.0 c.list_to-written.result (g.S.Sink.written c.args.sink.now) (g.S.Sink.written c.list_to-written.new.sink) (g.S.Sink.failed c.args.sink.now) (g.S.Sink.failed c.list_to-written.new.sink) done.1 (c.list_to-written.ensures done.0 done.2))

@@ -4,13 +4,15 @@ use Rattle.pua_tree.specs.Tree.{Tree}
 use Rattle.pua_calls.specs.Calls.{CallTable}
 use Rattle.pua_script.specs.Replay.{history_of}
 use Rattle.pua_ever.specs.Refusals.{refusal}
-use Rattle.pua_tool.specs.EverLists.{IsEverListOf}
-use Rattle.pua_tool.specs.EverTexts.{ever_after, ever_list, unless_refused}
+use Rattle.pua_texts.specs.EverLists.{IsEverListOf}
+use Rattle.pua_tool.specs.EverTexts.{ever_after, unless_refused}
+use Rattle.pua_texts.specs.EverLines.{ever_list}
 use Rattle.pua_io.specs.Sinks.{Writes}
-use Rattle.pua_tool.specs.Texts.{Replayed, answer_lines}
+use Rattle.pua_tool.specs.Texts.{Replayed}
+use Rattle.pua_texts.specs.Lines.{answer_lines}
 use Rattle.pua_tool.specs.Begun.{IsReplay}
 use Rattle.pua_tool.specs.declared.fault.ToolFault.TheVariants.{OutOfMemory}
-use Rattle.pua_tool.proofs.Replays.{is_made}
+use Rattle.pua_texts.proofs.ForCallers.{is_made}
 use Rattle.pua_tool.proofs.EverTexts.{after_made, unrefused, same_list, answers_refused, answers_told}
 use Rattle.pua_tool.proofs.ever.list_to.Goals as goal
 
@@ -39,10 +41,10 @@ returns g c = λ done replay.
     let front : c.as_str.result.now ≡ answer_lines 1 done.told = c.as_str.ensures.value ∙ c.in-Ok.ensures ∙ ap (answer_lines 1) (c.as_slice.ensures.value ∙ replay.told) in
     let text = answer_lines 1 done.told ++ ever_list done.table t n h in
     let is : ever_after done n ≡ Ok text = after_made done n h made.is ∙ unrefused n h done listed.listed in
-    let written : Writes text c.write_list.result (g.S.Sink.written c.args.sink.now) (g.S.Sink.written c.write_list.new.sink) (g.S.Sink.failed c.args.sink.now) (g.S.Sink.failed c.write_list.new.sink) =
-    subst (λ (f : List ℕ). Writes (f ++ ever_list done.table t n h) c.write_list.result (g.S.Sink.written c.args.sink.now) (g.S.Sink.written c.write_list.new.sink) (g.S.Sink.failed c.args.sink.now) (g.S.Sink.failed c.write_list.new.sink)) front
-    (subst (λ (b : List ℕ). Writes (b ++ (c.as_str.result.now ++ ever_list done.table t n h)) c.write_list.result (g.S.Sink.written c.args.sink.now) (g.S.Sink.written c.write_list.new.sink) (g.S.Sink.failed c.args.sink.now) (g.S.Sink.failed c.write_list.new.sink)) c.in-Ok-new-2.ensures
-    (subst (λ (u : Tree). IsEverListOf done.table u n h list → Writes (c.in-Ok-new-2.block ++ (c.as_str.result.now ++ ever_list done.table u n h)) c.write_list.result (g.S.Sink.written c.args.sink.now) (g.S.Sink.written c.write_list.new.sink) (g.S.Sink.failed c.args.sink.now) (g.S.Sink.failed c.write_list.new.sink)) placed
-    (c.write_list.ensures done.table n h) listed)) in
-    answers_told (ever_after done n) text c.told.result (g.S.Sink.written c.args.sink.now) (g.S.Sink.written c.write_list.new.sink) (g.S.Sink.failed c.args.sink.now) (g.S.Sink.failed c.write_list.new.sink) is
-    (c.told.ensures text (g.S.Sink.written c.args.sink.now) (g.S.Sink.written c.write_list.new.sink) (g.S.Sink.failed c.args.sink.now) (g.S.Sink.failed c.write_list.new.sink) written)
+    let written : Writes text c.write_ever.result (g.S.Sink.written c.args.sink.now) (g.S.Sink.written c.write_ever.new.sink) (g.S.Sink.failed c.args.sink.now) (g.S.Sink.failed c.write_ever.new.sink) =
+    subst (λ (f : List ℕ). Writes (f ++ ever_list done.table t n h) c.write_ever.result (g.S.Sink.written c.args.sink.now) (g.S.Sink.written c.write_ever.new.sink) (g.S.Sink.failed c.args.sink.now) (g.S.Sink.failed c.write_ever.new.sink)) front
+    (subst (λ (b : List ℕ). Writes (b ++ (c.as_str.result.now ++ ever_list done.table t n h)) c.write_ever.result (g.S.Sink.written c.args.sink.now) (g.S.Sink.written c.write_ever.new.sink) (g.S.Sink.failed c.args.sink.now) (g.S.Sink.failed c.write_ever.new.sink)) c.in-Ok-new-2.ensures
+    (subst (λ (u : Tree). IsEverListOf done.table u n h list → Writes (c.in-Ok-new-2.block ++ (c.as_str.result.now ++ ever_list done.table u n h)) c.write_ever.result (g.S.Sink.written c.args.sink.now) (g.S.Sink.written c.write_ever.new.sink) (g.S.Sink.failed c.args.sink.now) (g.S.Sink.failed c.write_ever.new.sink)) placed
+    (c.write_ever.ensures done.table n h) listed)) in
+    answers_told (ever_after done n) text c.told.result (g.S.Sink.written c.args.sink.now) (g.S.Sink.written c.write_ever.new.sink) (g.S.Sink.failed c.args.sink.now) (g.S.Sink.failed c.write_ever.new.sink) is
+    (c.told.ensures text (g.S.Sink.written c.args.sink.now) (g.S.Sink.written c.write_ever.new.sink) (g.S.Sink.failed c.args.sink.now) (g.S.Sink.failed c.write_ever.new.sink) written)

@@ -1,11 +1,10 @@
-use Rattle.std.proofs.Common.{◌≡◌, ◌≢◌, ◌++◌, Err, List, ℕ, subst}
+use Rattle.std.proofs.Common.{◌≡◌, ◌≢◌, Err}
 use Rattle.std.proofs.lemmas.Result.{err_from_is_err_and}
-use Rattle.pua_tool.specs.ObjectTexts.{Tells}
 use Rattle.pua_tool.specs.Texts.{chosen}
-use Rattle.pua_tool.specs.WhyTexts.{objects_why_text, reason_lines, why_lists_of, world_left}
+use Rattle.pua_tool.specs.WhyTexts.{objects_why_text}
 use Rattle.pua_tool.specs.declared.fault.ToolFault.TheVariants.{OutOfMemory, Write}
 use Rattle.pua_tool.proofs.EverTexts.{answers_whole, answers_unfailed, answers_write, answers_fault, answers_unwritten}
-use Rattle.pua_tool.proofs.WhyTexts.{objects_refuse, numbers_refuse, objects_told}
+use Rattle.pua_tool.proofs.WhyTexts.{objects_refuse, objects_answer}
 use Rattle.pua_tool.proofs.objects_why.objects_why_to.Goals as goal
 
 pub returns-in_err-posed-clause-refused : goal.returns-in_err-posed-clause-refused
@@ -16,71 +15,52 @@ returns-in_err-posed-clause-refused g c =
     let p = err_from_is_err_and c.from_residual.result c.from_residual.ensures.1 in
     rw (p.1, p.2) refuses
 
-pub returns-in_err-numbers-clause-refused : goal.returns-in_err-numbers-clause-refused
-returns-in_err-numbers-clause-refused g c =
-    let posed = c.in_ok-posed.ensures.done in
-    let fault = c.in_err-numbers.field-0.0 in
-    let refuses : fault ≢ Write → fault ≢ OutOfMemory → objects_why_text (chosen c.args.table) c.args.tree_bytes.now c.args.script_bytes.now c.args.processes ≡ Err fault = λ unwritten other.
-    numbers_refuse (chosen c.args.table) c.args.tree_bytes.now c.args.script_bytes.now c.args.processes posed.0 fault posed.1 (c.in_err-numbers.ensures.refused other (world_left posed.0) posed.3.after) in
-    let p = err_from_is_err_and c.from_residual-in_err-numbers.result c.from_residual-in_err-numbers.ensures.1 in
-    rw (p.1, p.2) refuses
-
 pub returns-clause-whole : goal.returns-clause-whole
 returns-clause-whole g c =
     let posed = c.in_ok-posed.ensures.done in
-    let numbers : List ℕ = c.in_ok-numbers.numbers.items in
     let a = g.S.Sink.written c.args.sink.now in
-    let b = g.S.Sink.written c.write_all.new.sink in
+    let b = g.S.Sink.written c.write_asked-written.new.sink in
     let n = g.S.Sink.failed c.args.sink.now in
-    let m = g.S.Sink.failed c.write_all.new.sink in
-    let told = subst (λ (lent : List ℕ). Tells (reason_lines posed.0 ++ why_lists_of posed.0 lent) c.write_all.result a b n m) c.as_slice.ensures.value (c.write_all.ensures posed.0 posed.2 posed.3) in
-    answers_whole (objects_why_text (chosen c.args.table) c.args.tree_bytes.now c.args.script_bytes.now c.args.processes) a b n m c.write_all.result
-    (objects_told (chosen c.args.table) c.args.tree_bytes.now c.args.script_bytes.now c.args.processes posed.0 numbers c.write_all.result a b n m posed.1 (c.in_ok-numbers.ensures.asked (world_left posed.0) posed.3.after) told)
+    let m = g.S.Sink.failed c.write_asked-written.new.sink in
+    answers_whole (objects_why_text (chosen c.args.table) c.args.tree_bytes.now c.args.script_bytes.now c.args.processes) a b n m c.write_asked-written.result
+    (objects_answer (chosen c.args.table) c.args.tree_bytes.now c.args.script_bytes.now c.args.processes posed.0 c.write_asked-written.result a b n m posed.1 (c.write_asked-written.ensures posed.0 posed.2 posed.3))
 
 pub returns-clause-unfailed : goal.returns-clause-unfailed
 returns-clause-unfailed g c =
     let posed = c.in_ok-posed.ensures.done in
-    let numbers : List ℕ = c.in_ok-numbers.numbers.items in
     let a = g.S.Sink.written c.args.sink.now in
-    let b = g.S.Sink.written c.write_all.new.sink in
+    let b = g.S.Sink.written c.write_asked-written.new.sink in
     let n = g.S.Sink.failed c.args.sink.now in
-    let m = g.S.Sink.failed c.write_all.new.sink in
-    let told = subst (λ (lent : List ℕ). Tells (reason_lines posed.0 ++ why_lists_of posed.0 lent) c.write_all.result a b n m) c.as_slice.ensures.value (c.write_all.ensures posed.0 posed.2 posed.3) in
-    answers_unfailed (objects_why_text (chosen c.args.table) c.args.tree_bytes.now c.args.script_bytes.now c.args.processes) a b n m c.write_all.result
-    (objects_told (chosen c.args.table) c.args.tree_bytes.now c.args.script_bytes.now c.args.processes posed.0 numbers c.write_all.result a b n m posed.1 (c.in_ok-numbers.ensures.asked (world_left posed.0) posed.3.after) told)
+    let m = g.S.Sink.failed c.write_asked-written.new.sink in
+    answers_unfailed (objects_why_text (chosen c.args.table) c.args.tree_bytes.now c.args.script_bytes.now c.args.processes) a b n m c.write_asked-written.result
+    (objects_answer (chosen c.args.table) c.args.tree_bytes.now c.args.script_bytes.now c.args.processes posed.0 c.write_asked-written.result a b n m posed.1 (c.write_asked-written.ensures posed.0 posed.2 posed.3))
 
 pub returns-clause-write : goal.returns-clause-write
 returns-clause-write g c =
     let posed = c.in_ok-posed.ensures.done in
-    let numbers : List ℕ = c.in_ok-numbers.numbers.items in
     let a = g.S.Sink.written c.args.sink.now in
-    let b = g.S.Sink.written c.write_all.new.sink in
+    let b = g.S.Sink.written c.write_asked-written.new.sink in
     let n = g.S.Sink.failed c.args.sink.now in
-    let m = g.S.Sink.failed c.write_all.new.sink in
-    let told = subst (λ (lent : List ℕ). Tells (reason_lines posed.0 ++ why_lists_of posed.0 lent) c.write_all.result a b n m) c.as_slice.ensures.value (c.write_all.ensures posed.0 posed.2 posed.3) in
-    answers_write (objects_why_text (chosen c.args.table) c.args.tree_bytes.now c.args.script_bytes.now c.args.processes) a b n m c.write_all.result
-    (objects_told (chosen c.args.table) c.args.tree_bytes.now c.args.script_bytes.now c.args.processes posed.0 numbers c.write_all.result a b n m posed.1 (c.in_ok-numbers.ensures.asked (world_left posed.0) posed.3.after) told)
+    let m = g.S.Sink.failed c.write_asked-written.new.sink in
+    answers_write (objects_why_text (chosen c.args.table) c.args.tree_bytes.now c.args.script_bytes.now c.args.processes) a b n m c.write_asked-written.result
+    (objects_answer (chosen c.args.table) c.args.tree_bytes.now c.args.script_bytes.now c.args.processes posed.0 c.write_asked-written.result a b n m posed.1 (c.write_asked-written.ensures posed.0 posed.2 posed.3))
 
 pub returns-clause-refused : goal.returns-clause-refused
 returns-clause-refused g c =
     let posed = c.in_ok-posed.ensures.done in
-    let numbers : List ℕ = c.in_ok-numbers.numbers.items in
     let a = g.S.Sink.written c.args.sink.now in
-    let b = g.S.Sink.written c.write_all.new.sink in
+    let b = g.S.Sink.written c.write_asked-written.new.sink in
     let n = g.S.Sink.failed c.args.sink.now in
-    let m = g.S.Sink.failed c.write_all.new.sink in
-    let told = subst (λ (lent : List ℕ). Tells (reason_lines posed.0 ++ why_lists_of posed.0 lent) c.write_all.result a b n m) c.as_slice.ensures.value (c.write_all.ensures posed.0 posed.2 posed.3) in
-    answers_fault (objects_why_text (chosen c.args.table) c.args.tree_bytes.now c.args.script_bytes.now c.args.processes) a b n m c.write_all.result
-    (objects_told (chosen c.args.table) c.args.tree_bytes.now c.args.script_bytes.now c.args.processes posed.0 numbers c.write_all.result a b n m posed.1 (c.in_ok-numbers.ensures.asked (world_left posed.0) posed.3.after) told)
+    let m = g.S.Sink.failed c.write_asked-written.new.sink in
+    answers_fault (objects_why_text (chosen c.args.table) c.args.tree_bytes.now c.args.script_bytes.now c.args.processes) a b n m c.write_asked-written.result
+    (objects_answer (chosen c.args.table) c.args.tree_bytes.now c.args.script_bytes.now c.args.processes posed.0 c.write_asked-written.result a b n m posed.1 (c.write_asked-written.ensures posed.0 posed.2 posed.3))
 
 pub returns-clause-unwritten : goal.returns-clause-unwritten
 returns-clause-unwritten g c =
     let posed = c.in_ok-posed.ensures.done in
-    let numbers : List ℕ = c.in_ok-numbers.numbers.items in
     let a = g.S.Sink.written c.args.sink.now in
-    let b = g.S.Sink.written c.write_all.new.sink in
+    let b = g.S.Sink.written c.write_asked-written.new.sink in
     let n = g.S.Sink.failed c.args.sink.now in
-    let m = g.S.Sink.failed c.write_all.new.sink in
-    let told = subst (λ (lent : List ℕ). Tells (reason_lines posed.0 ++ why_lists_of posed.0 lent) c.write_all.result a b n m) c.as_slice.ensures.value (c.write_all.ensures posed.0 posed.2 posed.3) in
-    answers_unwritten (objects_why_text (chosen c.args.table) c.args.tree_bytes.now c.args.script_bytes.now c.args.processes) a b n m c.write_all.result
-    (objects_told (chosen c.args.table) c.args.tree_bytes.now c.args.script_bytes.now c.args.processes posed.0 numbers c.write_all.result a b n m posed.1 (c.in_ok-numbers.ensures.asked (world_left posed.0) posed.3.after) told)
+    let m = g.S.Sink.failed c.write_asked-written.new.sink in
+    answers_unwritten (objects_why_text (chosen c.args.table) c.args.tree_bytes.now c.args.script_bytes.now c.args.processes) a b n m c.write_asked-written.result
+    (objects_answer (chosen c.args.table) c.args.tree_bytes.now c.args.script_bytes.now c.args.processes posed.0 c.write_asked-written.result a b n m posed.1 (c.write_asked-written.ensures posed.0 posed.2 posed.3))

@@ -1,14 +1,12 @@
-use Rattle.std.proofs.Common.{◌≡◌, ◌≢◌, Err, ap, refl, subst, sym, ◌∙◌, rules}
-use Rattle.std.proofs.lemmas.Result.{err_from_is_err_and}
+use Rattle.std.proofs.Common.{◌≡◌, ◌≢◌, Err, refl, subst, sym, ◌∙◌, rules}
 use Rattle.pua_tree.specs.Tree.{Tree}
-use Rattle.pua_calls.specs.Calls.{CallTable}
 use Rattle.pua_script.specs.Scripts.{script}
-use Rattle.pua_script.specs.Replay.{new_world, answers}
+use Rattle.pua_script.specs.Replay.{new_world}
 use Rattle.pua_script.specs.Worlds.{StandsForWorld}
 use Rattle.pua_tool.specs.Texts.{chosen}
 use Rattle.pua_tool.specs.WhyTexts.{posed}
 use Rattle.pua_tool.specs.declared.fault.ToolFault.TheVariants.{OutOfMemory}
-use Rattle.pua_tool.proofs.Replays.{left_by_same}
+use Rattle.pua_texts.proofs.ForCallers.{if_err, if_ok}
 use Rattle.pua_tool.proofs.WhyTexts.{posed_is, table_refuses, listing_refuses, script_refuses, script_is}
 use Rattle.pua_tool.proofs.posed.pose.Goals as goal
 
@@ -26,35 +24,26 @@ returns-in_err-before-clause-refused c =
     listing_refuses (chosen c.args.choice) c.args.tree_bytes.now c.args.script_bytes.now c.in_ok-table.table fault c.in_ok-table.ensures.read (c.in_err-before.ensures.refused other) in
     search (rules, refuses)
 
-pub returns-in_err-script-clause-refused : goal.returns-in_err-script-clause-refused
-returns-in_err-script-clause-refused c =
-    let fault = c.in_err-script.field-0.0 in
+pub returns-in-Err-clause-refused : goal.returns-in-Err-clause-refused
+returns-in-Err-clause-refused c = λ other.
     let before = c.in_ok-before.ensures.new in
-    let refuses : fault ≢ OutOfMemory → posed (chosen c.args.choice) c.args.tree_bytes.now c.args.script_bytes.now ≡ Err fault = λ other.
-    script_refuses (chosen c.args.choice) c.args.tree_bytes.now c.args.script_bytes.now c.in_ok-table.table before.0 fault c.in_ok-table.ensures.read before.1 (c.in_err-script.ensures.refused other) in
-    let p = err_from_is_err_and c.from_residual-in_err-script.result c.from_residual-in_err-script.ensures.1 in
-    rw (p.1, p.2) refuses
+    script_refuses (chosen c.args.choice) c.args.tree_bytes.now c.args.script_bytes.now c.in_ok-table.table before.0 c.in-Err.fault c.in_ok-table.ensures.read before.1 (c.in-Err.ensures.refused other before.0 before.1)
 
-pub returns-clause-done : goal.returns-clause-done
-returns-clause-done c =
+pub returns-in-Ok-clause-done : goal.returns-in-Ok-clause-done
+returns-in-Ok-clause-done c =
     let rules = c.in_ok-table.table in
-    let asks = c.in_ok-script.script in
+    let asks = c.in-Ok.requests in
     let before = c.in_ok-before.ensures.new in
-    let after = c.in_ok-after.ensures.new in
+    let after = c.in-Ok.ensures.world in
     let tree = before.0 in
     let same : after.0 ≡ tree = let read = sym after.1 ∙ before.1 in cc in
-    let stands : StandsForWorld c.in_ok-after.after (new_world tree) = subst (λ (t : Tree). StandsForWorld c.in_ok-after.after (new_world t)) same after.2 in
-    let table : c.in_ok-after.after.table ≡ rules = after.3 in
-    let served = c.in-Ok.ensures.served (new_world tree) stands in (
+    let stands : StandsForWorld c.in-Ok.after (new_world tree) = subst (λ (t : Tree). StandsForWorld c.in-Ok.after (new_world t)) same after.2 in
+    if_ok c.serve.result (λ done served. (
       record { table = rules; world = new_world tree; asks = asks },
-      posed_is (chosen c.args.choice) c.args.tree_bytes.now c.args.script_bytes.now rules tree asks c.in_ok-table.ensures.read before.1 c.in_ok-script.ensures.read,
-      script_is (script c.args.script_bytes.now) asks c.in_ok-script.ensures.read,
-      record {
-        script = refl;
-        told = served.0 ∙ ap (λ (t : CallTable). answers t (new_world tree) asks) table;
-        before = before.2;
-        after = left_by_same c.in_ok-after.after.table rules (new_world tree) asks table served.1;
-        table_before = before.3;
-        table_after = served.2 ∙ table;
-      },
-    )
+      posed_is (chosen c.args.choice) c.args.tree_bytes.now c.args.script_bytes.now rules tree asks c.in_ok-table.ensures.read before.1 c.in-Ok.ensures.script,
+      script_is (script c.args.script_bytes.now) asks c.in-Ok.ensures.script,
+      served (record { table = rules; world = new_world tree; asks = asks }) refl before.2 before.3 stands after.3,
+    )) c.serve.ensures.done
+
+pub returns-in-Ok-clause-refused : goal.returns-in-Ok-clause-refused
+returns-in-Ok-clause-refused c = if_err c.serve.result (λ fault memory other. absurd (other memory)) c.serve.ensures.memory

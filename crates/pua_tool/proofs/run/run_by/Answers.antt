@@ -1,8 +1,59 @@
-use Rattle.std.proofs.Common.{rules}
+use Rattle.std.proofs.Common.{◌≡◌, ◌≢◌, List, ℕ, Err, subst}
+use Rattle.std.proofs.lemmas.Result.{err_from_is_err_and}
+use Rattle.pua_tool.specs.ObjectTexts.{Tells}
+use Rattle.pua_tool.specs.Texts.{chosen, run_text}
+use Rattle.pua_tool.specs.declared.fault.ToolFault.TheVariants.{OutOfMemory, Write}
+use Rattle.pua_tool.proofs.ObjectTexts.{tells_whole, tells_unfailed, tells_write, tells_refused, tells_unwritten}
 use Rattle.pua_tool.proofs.run.run_by.Goals as goal
 
-pub returns-in-Ok-put_all-clause-whole : goal.returns-in-Ok-put_all-clause-whole
-returns-in-Ok-put_all-clause-whole g c = search rules
+pub returns-in_err-text-clause-refused : goal.returns-in_err-text-clause-refused
+returns-in_err-text-clause-refused g c =
+    let fault = c.in_err-text.field-0.0 in
+    let refuses : fault ≢ Write → fault ≢ OutOfMemory → run_text (chosen c.args.table) c.args.tree_bytes.now c.args.script_bytes.now ≡ Err fault = λ unwritten other. c.in_err-text.ensures.refused other in
+    let p = err_from_is_err_and c.from_residual.result c.from_residual.ensures.1 in
+    rw (p.1, p.2) refuses
+
+pub returns-clause-whole : goal.returns-clause-whole
+returns-clause-whole g c =
+    let a = g.S.Sink.written c.args.sink.now in
+    let b = g.S.Sink.written c.put_text.new.sink in
+    let n = g.S.Sink.failed c.args.sink.now in
+    let m = g.S.Sink.failed c.put_text.new.sink in
+    let told = subst (λ (text : List ℕ). Tells text c.put_text.result a b n m) c.as_str.ensures.value c.put_text.ensures in
+    tells_whole (run_text (chosen c.args.table) c.args.tree_bytes.now c.args.script_bytes.now) _ a b n m c.in_ok-text.ensures.done c.put_text.result told
+
+pub returns-clause-unfailed : goal.returns-clause-unfailed
+returns-clause-unfailed g c =
+    let a = g.S.Sink.written c.args.sink.now in
+    let b = g.S.Sink.written c.put_text.new.sink in
+    let n = g.S.Sink.failed c.args.sink.now in
+    let m = g.S.Sink.failed c.put_text.new.sink in
+    let told = subst (λ (text : List ℕ). Tells text c.put_text.result a b n m) c.as_str.ensures.value c.put_text.ensures in
+    tells_unfailed (run_text (chosen c.args.table) c.args.tree_bytes.now c.args.script_bytes.now) _ a b n m c.in_ok-text.ensures.done c.put_text.result told
 
 pub returns-clause-write : goal.returns-clause-write
-returns-clause-write g c = search rules
+returns-clause-write g c =
+    let a = g.S.Sink.written c.args.sink.now in
+    let b = g.S.Sink.written c.put_text.new.sink in
+    let n = g.S.Sink.failed c.args.sink.now in
+    let m = g.S.Sink.failed c.put_text.new.sink in
+    let told = subst (λ (text : List ℕ). Tells text c.put_text.result a b n m) c.as_str.ensures.value c.put_text.ensures in
+    tells_write (run_text (chosen c.args.table) c.args.tree_bytes.now c.args.script_bytes.now) _ a b n m c.in_ok-text.ensures.done c.put_text.result told
+
+pub returns-clause-refused : goal.returns-clause-refused
+returns-clause-refused g c =
+    let a = g.S.Sink.written c.args.sink.now in
+    let b = g.S.Sink.written c.put_text.new.sink in
+    let n = g.S.Sink.failed c.args.sink.now in
+    let m = g.S.Sink.failed c.put_text.new.sink in
+    let told = subst (λ (text : List ℕ). Tells text c.put_text.result a b n m) c.as_str.ensures.value c.put_text.ensures in
+    tells_refused (run_text (chosen c.args.table) c.args.tree_bytes.now c.args.script_bytes.now) _ a b n m c.in_ok-text.ensures.done c.put_text.result told
+
+pub returns-clause-unwritten : goal.returns-clause-unwritten
+returns-clause-unwritten g c =
+    let a = g.S.Sink.written c.args.sink.now in
+    let b = g.S.Sink.written c.put_text.new.sink in
+    let n = g.S.Sink.failed c.args.sink.now in
+    let m = g.S.Sink.failed c.put_text.new.sink in
+    let told = subst (λ (text : List ℕ). Tells text c.put_text.result a b n m) c.as_str.ensures.value c.put_text.ensures in
+    tells_unwritten (run_text (chosen c.args.table) c.args.tree_bytes.now c.args.script_bytes.now) _ a b n m c.in_ok-text.ensures.done c.put_text.result told

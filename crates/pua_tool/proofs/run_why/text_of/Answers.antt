@@ -2,8 +2,8 @@ use Rattle.std.proofs.Common.{◌≡◌, [], Ok, ap, sym, ◌∙◌}
 use Rattle.std.specs.Prelude.{flat_map}
 use Rattle.pua_script.specs.Replay.{answers}
 use Rattle.pua_why.specs.Texts.{why_lines}
-use Rattle.pua_tool.specs.Texts.{ended}
-use Rattle.pua_tool.proofs.Replays.{if_ok}
+use Rattle.pua_texts.specs.Lines.{ended}
+use Rattle.pua_texts.proofs.ForCallers.{if_ok}
 use Rattle.pua_tool.proofs.run_why.text_of.Goals as goal
 
 pub returns : goal.returns

@@ -3,6 +3,7 @@ use Rattle.std.specs.Borrow.{Bor}
 use Rattle.std.proofs.lemmas.Bool.{ltb-true, ltb-false, leb-true, leb-false}
 use Rattle.pua_tree.specs.Listing.{line_of_fields}
 use Rattle.pua_tree.proofs.LineFields.{line_of-first_fields, line_of_fields-four, line_of_fields-five, line_of_fields-other, plain_line, long_line}
+use Rattle.pua_tree.proofs.Lifetimes.{in_four}
 use Rattle.pua_tree.proofs.line.read_line.Goals as goal
 use Rattle.pua_tree.proofs.line.read_line.Goals.{in_default-via-then-as_slice-lt4, in_default-via-else-as_slice-lt4+else-this-lt5+else-this-lt6}
 
@@ -29,3 +30,12 @@ returns-in_ok-long_kind-in-len5 c =
     sym
     (line_of-first_fields c.args.hard c.args.text.now c.in_ok-fields.fields c.in_ok-fields.ensures ∙ ap (line_of_fields c.args.hard) (sym c.as_slice.ensures)
     ∙ line_of_fields-five c.args.hard c.as_slice.result.now none five ∙ ap (option_map (long_line c.as_slice.result.now none)) (sym c.in_ok-long_kind-in-len5.ensures))
+
+pub from_residual-requires : goal.from_residual-requires
+from_residual-requires c = λ κs. in_four κs.0
+
+pub from_residual-requires-in_err-plain_kind-in-len4 : goal.from_residual-requires-in_err-plain_kind-in-len4
+from_residual-requires-in_err-plain_kind-in-len4 c = λ κs. in_four κs.0
+
+pub from_residual-requires-in_err-long_kind-in-len5 : goal.from_residual-requires-in_err-long_kind-in-len5
+from_residual-requires-in_err-long_kind-in-len5 c = λ κs. in_four κs.0

@@ -1,4 +1,4 @@
-use Rattle.std.proofs.Common.{◌≡◌, ℕ, List, ◌+◌, ◌++◌, append_assoc, ap, sym, ◌∙◌, refl}
+use Rattle.std.proofs.Common.{◌≡◌, ℕ, List, ◌+◌, ◌++◌, append_assoc, ap, sym, ◌∙◌, refl, string_bytes}
 use Rattle.std.specs.Fmt.{digits}
 use Rattle.std.specs.Prelude.{codes, decimal}
 use Rattle.std.proofs.lemmas.Result.{on_ok_weaker}
@@ -24,3 +24,9 @@ link_told t old spot stop is =
 pub returns-in-LinkBeyond-clause-text : goal.returns-in-LinkBeyond-clause-text
 returns-in-LinkBeyond-clause-text c =
     on_ok_weaker c.push_at-in-LinkBeyond.result (λ so t is. so t is ∙ link_told t _ _ _ c.in-LinkBeyond.is) c.push_at-in-LinkBeyond.ensures.text
+
+pub returns-in-NoEntry-clause-text : goal.returns-in-NoEntry-clause-text
+returns-in-NoEntry-clause-text c = on_ok_weaker c.push_at.result (λ so t is. so t is ∙ ap (λ stop. string_bytes c.args.text.now ++ path_fault_text t (Stops stop)) (sym c.in-NoEntry.is)) c.push_at.ensures.text
+
+pub returns-in-NoDirectory-clause-text : goal.returns-in-NoDirectory-clause-text
+returns-in-NoDirectory-clause-text c = on_ok_weaker c.push_at-in-NoDirectory.result (λ so t is. so t is ∙ ap (λ stop. string_bytes c.args.text.now ++ path_fault_text t (Stops stop)) (sym c.in-NoDirectory.is)) c.push_at-in-NoDirectory.ensures.text

@@ -1,15 +1,20 @@
-use Rattle.std.proofs.Common.{◌≡◌, refl, rules, subst, ℕ, List, [], sym, ap, ◌∙◌, map, length}
-use Rattle.std.specs.Prelude.{Result, Ok, Err, option_map}
+use Rattle.std.proofs.Common.{◌≡◌, ◌≤◌, ◌+◌, ◌*◌, refl, rules, arith, subst, ℕ, suc, List, [], sym, ap, ◌∙◌, map, length}
+use Rattle.std.specs.Prelude.{Result, Ok, Err, IfSome, option_map}
+use Rattle.pua_tree.specs.LentRows.{lent_entry}
 use Rattle.pua_tree.specs.Tree.{Tree}
+use Rattle.pua_path.specs.Bounds.{part_cost}
+use Rattle.pua_path.specs.Counts.{one_more}
+use Rattle.pua_steps.specs.Limits.{search_cost}
 use Rattle.pua_path.specs.declared.found.Part.{Part}
 use Rattle.pua_policy.specs.History.{StandsFor}
 use Rattle.pua_audit.specs.Past.{history_of}
 use Rattle.pua_audit.specs.Reach.{Scope, rest_after}
 use Rattle.pua_audit.specs.Begin.{Beginning, beginning}
+use Rattle.pua_audit.specs.Bounds.{begin_cost, letter_count, pairs_cost}
 use Rattle.pua_audit.specs.Live.{live_states}
 use Rattle.pua_audit.specs.Alphabets.{AreParts}
 use Rattle.pua_audit.specs.Ready.{part_bytes, letters_of, scope_in}
-use Rattle.pua_audit.specs.Starting.{pair_in, scope_with, beginning_with}
+use Rattle.pua_audit.specs.Starting.{AreLetters, AreSound, pair_in, scope_with, beginning_with}
 use Rattle.pua_audit.specs.declared.fault.AuditFault.{AuditFault}
 use Rattle.pua_audit.specs.declared.terms.Terms.{Terms}
 use Rattle.pua_audit.proofs.Pasts.{stands_for_past, rest_by_process, live_by_process}
@@ -75,3 +80,98 @@ returns-clause-live g c = λ h stands b is.
     ∙ ap (λ (u : Tree). length (live_states (scope_with u c.args.table.now (history_of p) base limit letters))) c.in-Ok.ensures.tree
     ∙ ap length (live_by_process t c.args.table.now base (map part_bytes letters) limit p (history_of p) h past stands)
     ∙ ap live_in (sym ((subst (λ (u : Tree). beginning u c.args.table.now h c.args.base (map (λ s. s.now) c.args.candidates.now) c.args.limit (option_map (λ s. s.now) c.args.after) ≡ Ok (beginning_with u c.args.table.now h c.args.base c.args.limit c.in_ok-letters.field-0)) c.in-Ok.ensures.tree (c.in_ok-letters.ensures.begun c.args.table.now h))) ∙ is)
+
+pub begin-requires : goal.begin-requires
+begin-requires g c κs =
+    let terms : Terms = c.in-Ok-new.terms in
+    let kept = c.in-Ok-new.ensures.letters in
+    let checked = c.in_ok-letters.ensures.sound in
+    let after = c.in_ok-letters.field-0.after in
+    let same : terms.seen.tree ≡ g.P.Probe.tree c.rows.new.self = ap (λ (s : Scope). s.tree) c.in-Ok-new.ensures.scope in
+    let items : terms.letters.items ≡ c.in_ok-letters.field-0.letters.items = ap (λ v. v.items) kept.1 in
+    let rows : map lent_entry c.deref-2.result.now ≡ terms.seen.tree.rows =
+    ap (map lent_entry) c.deref-2.ensures.value ∙ c.in-Ok.ensures.rows
+    ∙ ap (λ (t : Tree). t.rows) (sym (same ∙ c.in-Ok.ensures.tree)) in
+    let letters : AreSound terms.limit terms.letters.items =
+    subst (λ (n : ℕ). AreSound n terms.letters.items) (sym kept.0)
+    (subst (λ (ls : List Part). AreSound c.args.limit ls) (sym items) checked.sound) in
+    let word : IfSome after (λ r. AreLetters (letters_of terms) terms.limit r.word.items) =
+    subst (λ (n : ℕ). IfSome after (λ r. AreLetters (letters_of terms) n r.word.items)) (sym kept.0)
+    (subst (λ (ls : List Part). IfSome after (λ r. AreLetters (map part_bytes ls) c.args.limit r.word.items)) (sym items)
+    checked.after) in
+    ((refl, tt), (sym same, (rows, (c.in-Ok-new.ensures.sound, (letters, word)))))
+
+pub returns-clause-reads : goal.returns-clause-reads
+returns-clause-reads g c =
+    subst (λ (n : ℕ). c.in-Ok-begin.pairs.walk.tables.reads ≤ search_cost * n) c.in-Ok-new.ensures.letters.0 c.in-Ok-begin.ensures.reads
+
+-- the looks at the tree
+
+one_look : (old asked : ℕ) → asked ≡ one_more old → asked ≤ old + 1
+one_look old asked is = omega (arith, is)
+
+within_beginning : (nodes part letters limit : ℕ)
+    → (suc (nodes * ((nodes + 1) + letters * (2 + 2 * (part + (nodes + 1))))) + (nodes + 2)) + 1
+    ≤ 33 * (nodes * (suc limit * (suc letters * (16 * (part + (nodes + 4))))))
+    + 2 * (suc limit * (suc letters * (16 * (part + (nodes + 4)))))
+within_beginning nodes part letters limit = omega arith
+
+pairs_within : (t : Tree) (letters limit : ℕ) → pairs_cost t letters + 1 ≤ begin_cost t limit letters
+pairs_within t letters limit = within_beginning (length t.nodes) (part_cost t) letters limit
+
+asked_within : (old asked pairs most : ℕ) → asked ≤ old + 1 → pairs + 1 ≤ most → asked ≤ old + most
+asked_within old asked pairs most one within = omega arith
+
+all_within : (old asked new pairs most : ℕ) → asked ≤ old + 1 → new ≤ asked + pairs → pairs + 1 ≤ most → new ≤ old + most
+all_within old asked new pairs most one more within = omega arith
+
+asked_once : (old asked limit many : ℕ) (t : Tree) → asked ≡ one_more old → asked ≤ old + begin_cost t limit many
+asked_once old asked limit many t is =
+    asked_within old asked (pairs_cost t many) (begin_cost t limit many) (one_look old asked is) (pairs_within t many limit)
+
+begun_within : (old asked new limit letters many : ℕ) (t seen : Tree) → asked ≡ one_more old → seen ≡ t → letters ≡ many
+    → new ≤ asked + pairs_cost seen letters
+    → new ≤ old + begin_cost t limit many
+begun_within old asked new limit letters many t seen is same count more =
+    all_within old asked new (pairs_cost t many) (begin_cost t limit many) (one_look old asked is)
+    (subst (λ (u : Tree). new ≤ asked + pairs_cost u many) same (subst (λ (n : ℕ). new ≤ asked + pairs_cost seen n) count more))
+    (pairs_within t many limit)
+
+pub returns-in_default-clause-cost : goal.returns-in_default-clause-cost
+returns-in_default-clause-cost g c =
+    let t : Tree = g.P.Probe.tree c.args.probe.now in
+    asked_once _ _ c.args.limit (letter_count t (map (λ s. s.now) c.args.candidates.now)) t c.rows.ensures.count
+
+pub returns-in_err-letters-clause-cost : goal.returns-in_err-letters-clause-cost
+returns-in_err-letters-clause-cost g c =
+    let t : Tree = g.P.Probe.tree c.args.probe.now in
+    asked_once _ _ c.args.limit (letter_count t (map (λ s. s.now) c.args.candidates.now)) t c.rows.ensures.count
+
+pub returns-in_default-new-clause-cost : goal.returns-in_default-new-clause-cost
+returns-in_default-new-clause-cost g c =
+    let t : Tree = g.P.Probe.tree c.args.probe.now in
+    asked_once _ _ c.args.limit (letter_count t (map (λ s. s.now) c.args.candidates.now)) t c.rows.ensures.count
+
+pub returns-in_default-begin-clause-cost : goal.returns-in_default-begin-clause-cost
+returns-in_default-begin-clause-cost g c =
+    let t : Tree = g.P.Probe.tree c.args.probe.now in
+    let terms : Terms = c.in-Ok-new.terms in
+    let texts : List (List ℕ) = map (λ s. s.now) c.args.candidates.now in
+    let same : terms.seen.tree ≡ t = ap (λ (s : Scope). s.tree) c.in-Ok-new.ensures.scope ∙ c.in-Ok.ensures.tree in
+    let count : length terms.letters.items ≡ letter_count t texts =
+    ap (λ v. length v.items) c.in-Ok-new.ensures.letters.1 ∙ c.in_ok-letters.ensures.many
+    ∙ ap (λ (u : Tree). letter_count u texts) c.in-Ok.ensures.tree in
+    begun_within _ _ _ c.args.limit (length terms.letters.items) (letter_count t texts) t terms.seen.tree c.in-Ok.ensures.count same count
+    c.begin.ensures.cost
+
+pub returns-clause-cost : goal.returns-clause-cost
+returns-clause-cost g c =
+    let t : Tree = g.P.Probe.tree c.args.probe.now in
+    let terms : Terms = c.in-Ok-new.terms in
+    let texts : List (List ℕ) = map (λ s. s.now) c.args.candidates.now in
+    let same : terms.seen.tree ≡ t = ap (λ (s : Scope). s.tree) c.in-Ok-new.ensures.scope ∙ c.in-Ok.ensures.tree in
+    let count : length terms.letters.items ≡ letter_count t texts =
+    ap (λ v. length v.items) c.in-Ok-new.ensures.letters.1 ∙ c.in_ok-letters.ensures.many
+    ∙ ap (λ (u : Tree). letter_count u texts) c.in-Ok.ensures.tree in
+    begun_within _ _ _ c.args.limit (length terms.letters.items) (letter_count t texts) t terms.seen.tree c.in-Ok.ensures.count same count
+    c.begin.ensures.cost

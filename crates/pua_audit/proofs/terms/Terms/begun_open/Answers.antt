@@ -1,4 +1,4 @@
-use Rattle.std.proofs.Common.{◌≡◌, ◌<◌, ◌∙◌, ℕ, List, Option, None, Some, length, map, refl, sym, ap, subst, arith}
+use Rattle.std.proofs.Common.{◌≡◌, ◌<◌, ◌≤◌, ◌∙◌, ◌+◌, ◌*◌, ℕ, List, Option, None, Some, length, map, refl, sym, ap, subst, arith}
 use Rattle.std.specs.List.{AllByRecursion}
 use Rattle.pua_tree.specs.Tree.{Tree, is_dir}
 use Rattle.pua_path.specs.declared.found.Found.{Found}
@@ -8,22 +8,27 @@ use Rattle.pua_policy.specs.History.{History}
 use Rattle.pua_policy.specs.Verdict.{cover, verdict, is_allowed}
 use Rattle.pua_policy.proofs.ForCallers.{covers_descend}
 use Rattle.pua_calls.specs.declared.call.Call.{Call}
+use Rattle.pua_audit.specs.Bounds.{pairs_cost, table_cost}
 use Rattle.pua_audit.specs.Coming.{pairs_after, pairs_at}
 use Rattle.pua_audit.specs.Graphs.{numbered, spelled}
-use Rattle.pua_audit.specs.Judge.{base_dir, base_way}
+use Rattle.pua_audit.specs.Judge.{Judge, base_dir, base_way}
 use Rattle.pua_audit.specs.Past.{history_of}
 use Rattle.pua_audit.specs.Reach.{reach}
 use Rattle.pua_audit.specs.Ready.{judge_in, letters_of, scope_in}
 use Rattle.std.specs.Prelude.{IfSome, IsTrue}
 use Rattle.pua_audit.specs.Starting.{AreLetters}
+use Rattle.pua_audit.specs.Table.{IsTableOf}
 use Rattle.pua_audit.specs.declared.resume_text.Resumption.{Resumption}
 use Rattle.pua_audit.proofs.AfterPair.{scope_after, pairs_stay}
-use Rattle.pua_audit.proofs.Begun.{begun_reach, begun_live}
+use Rattle.pua_audit.proofs.Begun.{begun_reach, begun_live, table_fits}
 use Rattle.pua_audit.proofs.Starts.{lives, all_along, audited}
 use Rattle.pua_steps.proofs.ForCallers.{reach_is_within}
 use Rattle.pua_steps.specs.Graph as graph
+use Rattle.pua_steps.specs.Limits.{search_cost}
+use Rattle.pua_steps.specs.Lists.{IsListed}
+use Rattle.pua_steps.specs.Live.{IsSized}
 use Rattle.pua_steps.specs.Reached.{live_count}
-use Rattle.pua_steps.specs.Table.{graph_of}
+use Rattle.pua_steps.specs.Table.{IsState, IsTable, graph_of}
 use Rattle.pua_steps.specs.Within.{IsPair}
 use Rattle.pua_steps.specs.declared.steps.Steps.{Steps}
 use Rattle.pua_audit.proofs.terms.Terms.begun_open.Goals as goal
@@ -82,3 +87,130 @@ pub walk_after-requires-clause-word : goal.walk_after-requires-clause-word
 walk_after-requires-clause-word g c =
     let a = c.args.self.now in
     known_below (letters_of a) a.limit c.in-Ok.tables.steps.letters c.args.after (ap (λ (t : Steps). t.letters) c.in-Ok.ensures.steps ∙ c.in_ok-steps.ensures.table.1.0.many) c.requires.word
+
+-- the tables of the table of steps
+
+pub fill-requires-clause-limit : goal.fill-requires-clause-limit
+fill-requires-clause-limit g c = c.requires.letters.few
+
+pub fill-requires-clause-fits : goal.fill-requires-clause-fits
+fill-requires-clause-fits g c =
+    table_fits c.args.self.now.limit (length c.in_ok-steps.steps.rows.items) c.requires.letters.few c.in_ok-steps.ensures.few
+
+pub count-requires-clause-sized : goal.count-requires-clause-sized
+count-requires-clause-sized g c =
+    subst (λ (t : Steps). IsSized t c.in-Ok.tables.live c.args.self.now.limit) (sym c.in-Ok.ensures.steps) c.in-Ok.ensures.sized
+
+first_state : (w : Judge) (letters : List (List ℕ)) (names : List ℕ) (t : Steps) → IsTableOf w letters names t → 0 < length names
+    → IsState t (record { dir = 0; used = 0 })
+first_state w letters names t is some = record { dir = omega (arith, some, is.dirs); used = omega arith }
+
+pub count-requires-clause-base : goal.count-requires-clause-base
+count-requires-clause-base g c =
+    let made = c.in_ok-steps.ensures.table in
+    subst (λ (t : Steps). IsState t (record { dir = 0; used = 0 })) (sym c.in-Ok.ensures.steps)
+    (first_state (judge_in c.args.self.now) (letters_of c.args.self.now) made.0 c.in_ok-steps.steps made.1.0 made.1.2)
+
+pub count-requires-clause-limit : goal.count-requires-clause-limit
+count-requires-clause-limit g c = c.requires.letters.few
+
+small : (dirs rows : ℕ) → dirs ≡ rows → rows ≤ 4294967296 → dirs * 1088 < 18446744073709551616
+small dirs rows same few = omega arith
+
+pub count-requires-clause-small : goal.count-requires-clause-small
+count-requires-clause-small g c =
+    small c.in-Ok.tables.live.dirs (length c.in_ok-steps.steps.rows.items) c.in-Ok.ensures.sized.dirs c.in_ok-steps.ensures.few
+
+-- the walk over them
+
+pub walk_after-requires-clause-table : goal.walk_after-requires-clause-table
+walk_after-requires-clause-table g c = subst IsTable (sym c.in-Ok.ensures.steps) c.in_ok-steps.ensures.table.1.0.table
+
+pub walk_after-requires-clause-sized : goal.walk_after-requires-clause-sized
+walk_after-requires-clause-sized g c =
+    subst (λ (t : Steps). IsSized t c.in-Ok.tables.live c.args.self.now.limit) (sym c.in-Ok.ensures.steps) c.in-Ok.ensures.sized
+
+pub walk_after-requires-clause-listed : goal.walk_after-requires-clause-listed
+walk_after-requires-clause-listed g c =
+    subst (λ (t : Steps). IsListed t c.in-Ok.tables.live c.args.self.now.limit c.in-Ok.tables.lists) (sym c.in-Ok.ensures.steps)
+    c.in-Ok.ensures.listed
+
+pub walk_after-requires-clause-calls : goal.walk_after-requires-clause-calls
+walk_after-requires-clause-calls g c = c.bits-calls.ensures.calls
+
+pub walk_after-requires-clause-base : goal.walk_after-requires-clause-base
+walk_after-requires-clause-base g c =
+    let made = c.in_ok-steps.ensures.table in
+    subst (λ (t : Steps). IsState t (record { dir = 0; used = 0 })) (sym c.in-Ok.ensures.steps)
+    (first_state (judge_in c.args.self.now) (letters_of c.args.self.now) made.0 c.in_ok-steps.steps made.1.0 made.1.2)
+
+known_few : (letters : List (List ℕ)) (limit : ℕ) (o : Option Resumption) → IfSome o (λ r. AreLetters letters limit r.word.items)
+    → IfSome o (λ r. length r.word.items ≤ limit)
+known_few letters limit None h = tt
+known_few letters limit (Some r) h = h.within
+
+pub walk_after-requires-clause-few : goal.walk_after-requires-clause-few
+walk_after-requires-clause-few g c = known_few (letters_of c.args.self.now) c.args.self.now.limit c.args.after c.requires.word
+
+pub returns-clause-ready : goal.returns-clause-ready
+returns-clause-ready g c = c.in-Ok-walk_after.ensures.ready
+
+pub returns-clause-limit : goal.returns-clause-limit
+returns-clause-limit g c = c.in-Ok-walk_after.ensures.of.1
+
+pub returns-clause-letters : goal.returns-clause-letters
+returns-clause-letters g c =
+    ap (λ (t : Steps). t.letters) (c.in-Ok-walk_after.ensures.of.0 ∙ c.in-Ok.ensures.steps) ∙ c.in_ok-steps.ensures.table.1.0.many
+
+reads_more : (now before limit : ℕ) → now ≤ before + search_cost * limit → before ≡ 0 → now ≤ search_cost * limit
+reads_more now before limit more none = omega arith
+
+pub returns-clause-reads : goal.returns-clause-reads
+returns-clause-reads g c =
+    reads_more c.in-Ok-walk_after.walk.tables.reads c.in-Ok.tables.reads c.args.self.now.limit c.in-Ok-walk_after.ensures.reads
+    c.in-Ok.ensures.reads
+
+pub returns-clause-unread : goal.returns-clause-unread
+returns-clause-unread g c = λ none. c.in-Ok-walk_after.ensures.unread none ∙ c.in-Ok.ensures.reads
+
+-- the looks at the tree
+
+added_up : (old found looked made nodes cost : ℕ) → found ≤ old + nodes → looked ≤ found + 1 → made ≤ looked + cost
+    → made + 1 ≤ old + (cost + (nodes + 2))
+added_up old found looked made nodes cost at_cover at_calls at_table = omega arith
+
+looks : (old found looked made letters : ℕ) (t seen : Tree) → t ≡ seen → found ≤ old + length t.nodes → looked ≤ found + 1
+    → made ≤ looked + table_cost seen letters → made + 1 ≤ old + pairs_cost seen letters
+looks old found looked made letters t seen same at_cover at_calls at_table =
+    added_up old found looked made (length seen.nodes) (table_cost seen letters)
+    (subst (λ (u : Tree). found ≤ old + length u.nodes) same at_cover) at_calls at_table
+
+pub returns-in_err-steps-clause-cost : goal.returns-in_err-steps-clause-cost
+returns-in_err-steps-clause-cost g c =
+    let a = c.args.self.now in
+    looks _ _ _ _ (length a.letters.items) (g.P.Probe.tree c.args.probe.now) a.seen.tree c.requires.tree c.cover-cover.ensures.cost
+    c.calls_on.ensures.cost c.table.ensures.cost
+
+pub returns-in_default-clause-cost : goal.returns-in_default-clause-cost
+returns-in_default-clause-cost g c =
+    let a = c.args.self.now in
+    looks _ _ _ _ (length a.letters.items) (g.P.Probe.tree c.args.probe.now) a.seen.tree c.requires.tree c.cover-cover.ensures.cost
+    c.calls_on.ensures.cost c.table.ensures.cost
+
+pub returns-in_default-count-clause-cost : goal.returns-in_default-count-clause-cost
+returns-in_default-count-clause-cost g c =
+    let a = c.args.self.now in
+    looks _ _ _ _ (length a.letters.items) (g.P.Probe.tree c.args.probe.now) a.seen.tree c.requires.tree c.cover-cover.ensures.cost
+    c.calls_on.ensures.cost c.table.ensures.cost
+
+pub returns-in_default-walk_after-clause-cost : goal.returns-in_default-walk_after-clause-cost
+returns-in_default-walk_after-clause-cost g c =
+    let a = c.args.self.now in
+    looks _ _ _ _ (length a.letters.items) (g.P.Probe.tree c.args.probe.now) a.seen.tree c.requires.tree c.cover-cover.ensures.cost
+    c.calls_on.ensures.cost c.table.ensures.cost
+
+pub returns-clause-cost : goal.returns-clause-cost
+returns-clause-cost g c =
+    let a = c.args.self.now in
+    looks _ _ _ _ (length a.letters.items) (g.P.Probe.tree c.args.probe.now) a.seen.tree c.requires.tree c.cover-cover.ensures.cost
+    c.calls_on.ensures.cost c.table.ensures.cost

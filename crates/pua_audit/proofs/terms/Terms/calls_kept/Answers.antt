@@ -1,12 +1,14 @@
-use Rattle.std.proofs.Common.{◌≡◌, ◌∙◌, refl, sym, ap, subst}
+use Rattle.std.proofs.Common.{◌≡◌, ◌≤◌, ◌+◌, ◌∙◌, ℕ, length, refl, sym, ap, subst, arith}
 use Rattle.std.specs.Prelude.{IfOk, Result, is_ok}
 use Rattle.pua_tree.specs.Tree.{Tree}
 use Rattle.pua_path.specs.declared.errno.Errno.{Errno}
 use Rattle.pua_path.specs.declared.found.Found.{Found}
+use Rattle.pua_path.specs.Bounds.{part_cost}
 use Rattle.pua_path.specs.Fits.{FoundsFit, StandsAsNamed}
 use Rattle.pua_path.specs.Resolution.{follow, last}
 use Rattle.pua_path.specs.declared.found.Last.TheVariants.{Kept}
 use Rattle.pua_policy.specs.Verdict.{verdict_of, is_allowed}
+use Rattle.pua_audit.specs.Bounds.{object_cost}
 use Rattle.pua_audit.specs.Past.{history_of}
 use Rattle.pua_audit.proofs.Covers.{kept_above}
 use Rattle.pua_audit.proofs.Told.{kept_unlinked}
@@ -28,3 +30,49 @@ cover_of-cover-requires g c κs =
     let named : IfOk kept (StandsAsNamed t) = subst (λ (u : Tree). IfOk kept (StandsAsNamed u)) c.requires.tree c.last-kept.ensures.named in
     let is : kept ≡ last t c.args.dir 0 c.args.part.now Kept = c.last-kept.ensures.exact ∙ ap (λ (u : Tree). last u c.args.dir 0 c.args.part.now Kept) c.requires.tree in
     ((refl, tt), (c.last-kept.ensures.tree ∙ c.requires.tree, (c.requires.sound, (fit, (named, (c.requires.covered, (c.requires.living, kept_above t c.args.dir c.args.part.now kept is)))))))
+
+pub calls_on-requires : goal.calls_on-requires
+calls_on-requires g c κs =
+    let t : Tree = c.args.self.now.seen.tree in
+    let fit : FoundsFit t c.last-kept.result =
+    subst (λ (u : Tree). FoundsFit u c.last-kept.result) c.requires.tree c.last-kept.ensures.fits in (
+      (refl, tt),
+      (
+        c.cover_of-cover.ensures.tree ∙ c.last-kept.ensures.tree ∙ c.requires.tree,
+        (c.requires.sound, (fit, c.cover_of-cover.ensures.exact)),
+      ),
+    )
+
+pub returns-clause-exact : goal.returns-clause-exact
+returns-clause-exact g c = λ call.
+    let a = c.args.self.now in
+    let t : Tree = a.seen.tree in
+    let is : c.last-kept.result ≡ last t c.args.dir 0 c.args.part.now Kept =
+    c.last-kept.ensures.exact ∙ ap (λ (u : Tree). last u c.args.dir 0 c.args.part.now Kept) c.requires.tree in
+    c.calls_on.ensures.exact call ∙ ap (λ (x : Result Found Errno). is_allowed (verdict_of t a.table (history_of a.process) call x)) is
+
+-- the looks at the tree
+
+not_more : (n m : ℕ) → n ≤ n + m
+not_more n m = omega arith
+
+added_up : (old found kept made part nodes : ℕ) → found ≤ old + part → kept ≤ found + nodes → made ≤ kept + 1
+    → made ≤ old + (part + (nodes + 1))
+added_up old found kept made part nodes at_last at_cover at_calls = omega arith
+
+looks : (old found kept made : ℕ) (t seen : Tree) → t ≡ seen → found ≤ old + part_cost t → kept ≤ found + length seen.nodes
+    → made ≤ kept + 1
+    → made ≤ old + (part_cost seen + object_cost seen)
+looks old found kept made t seen same at_last at_cover at_calls =
+    added_up old found kept made (part_cost seen) (length seen.nodes)
+    (subst (λ (u : Tree). found ≤ old + part_cost u) same at_last) at_cover at_calls
+
+pub returns-then-is_ok-clause-cost : goal.returns-then-is_ok-clause-cost
+returns-then-is_ok-clause-cost g c =
+    let t : Tree = c.args.self.now.seen.tree in
+    not_more (g.P.Probe.count c.args.probe.now) (part_cost t + object_cost t)
+
+pub returns-clause-cost : goal.returns-clause-cost
+returns-clause-cost g c =
+    looks _ _ _ _ (g.P.Probe.tree c.args.probe.now) c.args.self.now.seen.tree c.requires.tree c.last-kept.ensures.cost
+    c.cover_of-cover.ensures.cost c.calls_on.ensures.cost

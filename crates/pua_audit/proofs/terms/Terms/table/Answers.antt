@@ -1,10 +1,20 @@
-use Rattle.std.proofs.Common.{◌≡◌, ◌<◌, ◌≤◌, ◌∙◌, ◌+◌, ◌*◌, ℕ, suc, List, [], ◌∷◌, ◌++◌, length, get_or, arith, sym, ap, subst}
+use Rattle.std.proofs.Common.{◌≡◌, ◌<◌, ◌≤◌, ◌∙◌, ◌+◌, ◌*◌, ◌-◌, ℕ, suc, nat_eq, List, [], ◌∷◌, ◌++◌, length, map, get_or, arith, refl}
+use Rattle.std.proofs.Common.{sym, ap, subst}
+use Rattle.std.specs.List.{AllByRecursion}
+use Rattle.std.specs.Prelude.{IsTrue}
 use Rattle.std.proofs.lemmas.List.{length-append, length-map}
+use Rattle.indexmap.specs.IndexSet.{insert_key}
+use Rattle.pua_tree.specs.Tree.{Tree, is_dir}
+use Rattle.pua_policy.specs.Descent.{cover_in}
+use Rattle.pua_policy.specs.History.{History}
 use Rattle.pua_audit.specs.Bounds.{row_cost}
-use Rattle.pua_audit.specs.Covers.{DirectoriesState}
+use Rattle.pua_audit.specs.Covers.{AreCovered, DirectoriesState}
+use Rattle.pua_audit.specs.Judge.{Judge}
+use Rattle.pua_audit.specs.Past.{history_of}
 use Rattle.pua_audit.specs.Ready.{part_bytes, judge_in, letters_of}
 use Rattle.pua_audit.specs.Rows.{AreNumbers, IsRow}
 use Rattle.pua_audit.proofs.Costs.{next_within, one_row_more, rows_few, rows_within}
+use Rattle.pua_audit.proofs.Moves.{all_at_index}
 use Rattle.pua_audit.proofs.Made.{AreRows, rows_pushed, table_made, numbers_apart}
 use Rattle.pua_steps.specs.declared.steps.Row.{Row}
 use Rattle.pua_steps.specs.declared.steps.Steps.{Steps}
@@ -74,3 +84,100 @@ returns-in_default-push-clause-cost g c =
     let numbers : AreNumbers l.dirs.numbers = subst (λ (d : DirectoriesState). AreNumbers d.numbers) c.dirs-in-loop-dir.view_is c.dirs-in-loop-dir.invariant in
     let inside : length l.rows.items < length l.dirs.numbers = omega (arith, c.in-Some.ensures.dir.0, c.len.ensures) in
     omega (arith, c.row.ensures.cost, l.invariant.cost, next_within a.seen.tree (length a.letters.items) (length l.rows.items) l.dirs.numbers numbers l.invariant.living inside)
+
+-- before the first row
+
+no_rows : (w : Judge) (letters : List (List ℕ)) (dirs : List ℕ) (rows : List Row) → rows ≡ [] → AreRows w letters dirs rows
+no_rows w letters dirs rows none = λ d low. absurd (omega (arith, low, ap length none))
+
+none_within : (rows : List Row) (dirs : List ℕ) → rows ≡ [] → length rows ≤ length dirs
+none_within rows dirs none = omega (arith, ap length none)
+
+some_within : (place n : ℕ) → place < n → 0 < n
+some_within place n low = omega arith
+
+not_more : (n m : ℕ) → n ≤ n + suc m
+not_more n m = omega arith
+
+pub loop-dir-init : goal.loop-dir-init
+loop-dir-init g c =
+    let a = c.args.self.now in
+    let t : Tree = a.seen.tree in
+    let h : History = history_of a.process in
+    let new = c.place.new.self in
+    let placed = c.in_ok-place.ensures in
+    let alone : new.numbers ≡ c.args.base ∷ [] =
+    placed.all ∙ ap (λ (ns : List ℕ). insert_key nat_eq ns c.args.base) c.new-dirs.ensures.numbers in
+    record {
+      rows = no_rows (judge_in a) (letters_of a) new.numbers c.new-rows.result.items c.new-rows.ensures.items;
+      within = none_within c.new-rows.result.items new.numbers c.new-rows.ensures.items;
+      some = some_within c.in_ok-place.field-0 (length new.numbers) placed.place.0;
+      first = ap (λ (ns : List ℕ). get_or ns 0 0) alone;
+      living = subst (AllByRecursion (λ (d : ℕ). IsTrue (is_dir t d))) (sym alone) (c.requires.living, tt);
+      covered = placed.covered t h c.requires.covered
+          (c.new-dirs.ensures.covers ∙ ap (map (cover_in t h)) (sym c.new-dirs.ensures.numbers));
+      tree = c.requires.tree;
+      cost = not_more (g.P.Probe.count c.args.probe.now) (length c.new-rows.result.items * row_cost t (length a.letters.items));
+    }
+
+-- one row more
+
+cover_below : (t : Tree) (h : History) (dirs : DirectoriesState) (place other : ℕ) → AreCovered t h dirs → place ≡ other
+    → other < length dirs.numbers → place < length dirs.covers
+cover_below t h dirs place other covered same low =
+    let many : length dirs.covers ≡ length dirs.numbers = ap length covered ∙ length-map dirs.numbers (cover_in t h) in
+    omega (arith, many, same, low)
+
+pub cover_at-over-requires : goal.cover_at-over-requires
+cover_at-over-requires g c =
+    let a = c.args.self.now in
+    cover_below a.seen.tree (history_of a.process) c.loop-dir.dirs c.len-in-Some.result c.len.result c.loop-dir.invariant.covered
+    (c.len-in-Some.ensures ∙ sym c.len.ensures) c.in-Some.ensures.dir.0
+
+pub row-requires : goal.row-requires
+row-requires g c κs =
+    let a = c.args.self.now in
+    let t : Tree = a.seen.tree in
+    let h : History = history_of a.process in
+    let l = c.loop-dir in
+    let at = c.in-Some.ensures.dir in
+    let living : IsTrue (is_dir t c.in-Some.dir) =
+    subst (λ (d : ℕ). IsTrue (is_dir t d)) (sym at.1)
+    (all_at_index (λ (d : ℕ). IsTrue (is_dir t d)) l.dirs.numbers 0 l.invariant.living c.len.result at.0) in
+    let over : c.cover_at-over.result ≡ cover_in t h c.in-Some.dir =
+    c.cover_at-over.ensures t h l.invariant.covered
+    ∙ ap (λ (n : ℕ). cover_in t h (get_or l.dirs.numbers n 0)) (c.len-in-Some.ensures ∙ sym c.len.ensures)
+    ∙ ap (cover_in t h) (sym at.1) in (
+      (refl, tt),
+      (
+        l.invariant.tree,
+        (
+          c.requires.sound,
+          (c.in_ok-spots.ensures, (living, (l.invariant.living, (l.invariant.covered, over)))),
+        ),
+      ),
+    )
+
+fewer_left : (count rows more dirs : ℕ) → count ≡ rows → count < dirs → dirs ≤ 4294967296 → more ≡ suc rows
+    → 4294967296 - more < 4294967296 - rows
+fewer_left count rows more dirs same low few longer = omega arith
+
+one_longer : (rows more : List Row) (row : Row) → more ≡ rows ++ row ∷ [] → length more ≡ suc (length rows)
+one_longer rows more row is = omega (arith, ap length is, length-append rows (row ∷ []))
+
+pub loop-dir-smaller : goal.loop-dir-smaller
+loop-dir-smaller g c =
+    let l = c.loop-dir in
+    let known = c.in-Some.ensures in
+    let count : c.len.result ≡ length l.rows.items = omega (arith, c.len.ensures) in
+    fewer_left c.len.result (length l.rows.items) (length c.push.new.self.items) (length l.dirs.numbers) count known.dir.0 known.few
+    (one_longer l.rows.items c.push.new.self.items c.in_ok-row.row c.in-Ok.ensures.items)
+
+-- after the last row
+
+at_most : (rows dirs most : ℕ) → rows ≤ dirs → dirs ≤ most → rows ≤ most
+at_most rows dirs most within few = omega arith
+
+pub returns-clause-few : goal.returns-clause-few
+returns-clause-few g c =
+    at_most (length c.loop-dir.rows.items) (length c.loop-dir.dirs.numbers) 4294967296 c.loop-dir.invariant.within c.in_default.ensures.few

@@ -1,11 +1,12 @@
-use Rattle.std.proofs.Common.{rules, arith, ap, sym, ◌∙◌, List, length}
+use Rattle.std.proofs.Common.{◌≡◌, rules, arith, ap, sym, ◌∙◌, List, [], ◌∷◌, length}
 use Rattle.std.specs.Prelude.{Ok}
 use Rattle.pua_tree.specs.Tree.{Spot}
 use Rattle.pua_path.specs.Walks.{way_of, walk_trace}
-use Rattle.pua_path.specs.Traces.{PathTrace, behind, object_or_errno}
+use Rattle.pua_path.specs.Traces.{PathTrace, as_path_trace, behind, object_or_errno}
 use Rattle.pua_path.proofs.Answering.{from_answers}
 use Rattle.pua_path.proofs.Fitting.{founds_fit, founds_named}
 use Rattle.pua_path.proofs.TraceStart.{trace_begins, trace_starts_nowhere}
+use Rattle.pua_path.proofs.TraceSteps.{link_followed}
 use Rattle.pua_path.proofs.resolver.tracing.trace.Goals as goal
 
 pub returns-in_default-clause-exact : goal.returns-in_default-clause-exact
@@ -54,3 +55,18 @@ returns-in-Ok-Some-clause-named g c =
     let text = c.args.text.now in
     founds_named t c.known.ensures c.args.from text.ending text.bytes c.args.mode (Ok c.found.result)
     (ap (λ (trace : PathTrace). object_or_errno trace.outcome) (returns-in-Ok-Some-clause-exact g c) ∙ from_answers t c.args.from text.ending text.bytes c.args.mode)
+
+pub loop-piece-preserved-then-walk-left : goal.loop-piece-preserved-then-walk-left
+loop-piece-preserved-then-walk-left g c = record {
+  tree = search rules;
+  ready = search rules;
+  so_far =
+      let t = g.P.Probe.tree c.args.probe.now in
+      let spot : Spot = (c.loop-piece.walk.here, c.name_of.result) in
+      let further = walk_trace t c.args.mode c.enter_piece.new.self in
+      let step : walk_trace t c.args.mode c.loop-piece.walk ≡ behind (spot ∷ []) further = search rules in
+      ap as_path_trace (link_followed c.loop-piece.links-inside.spots.items c.push_reserved.new.self.items spot (walk_trace t c.args.mode c.loop-piece.walk) further c.push_reserved.ensures.items step)
+      ∙ c.loop-piece.invariant.so_far;
+  room = omega arith;
+  all_room = search rules;
+}

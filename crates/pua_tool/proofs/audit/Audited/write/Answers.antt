@@ -1,5 +1,5 @@
 use Rattle.std.proofs.Common.{rules}
 use Rattle.pua_tool.proofs.audit.Audited.write.Goals as goal
 
-pub returns-in-Ok-write_text-clause-write : goal.returns-in-Ok-write_text-clause-write
-returns-in-Ok-write_text-clause-write g c = search rules
+pub returns-in-Ok-write_audit-clause-write : goal.returns-in-Ok-write_audit-clause-write
+returns-in-Ok-write_audit-clause-write g c = search rules

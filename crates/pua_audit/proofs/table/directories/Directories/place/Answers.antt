@@ -1,11 +1,56 @@
-use Rattle.std.proofs.Common.{◌<◌, ◌≤◌, length, arith, sym, subst}
-use Rattle.std.specs.List.{AllByRecursion}
-use Rattle.pua_audit.proofs.Places.{few_numbers, all_inserted}
+use Rattle.std.proofs.Common.{◌≡◌, ◌<◌, ◌≤◌, ◌∙◌, ℕ, List, nat_eq, length, arith, sym, ap, subst}
+use Rattle.std.specs.List.{AllByRecursion, IsDistinct}
+use Rattle.indexmap.specs.IndexSet.{insert_key}
+use Rattle.pua_audit.specs.Covers.{DirectoriesState}
+use Rattle.pua_audit.specs.Rows.{AreNumbers}
+use Rattle.pua_audit.proofs.Places.{few_numbers, all_inserted, placed}
 use Rattle.pua_audit.proofs.table.directories.Directories.place.Goals as goal
+
+numbers_inserted : (old new : List ℕ) (n : ℕ) → AreNumbers old → IsDistinct nat_eq new → new ≡ insert_key nat_eq old n
+    → n < 4294967296 → AreNumbers new
+numbers_inserted old new n known apart is low =
+    record {
+      apart = apart;
+      fit = subst (AllByRecursion (λ n. n < 4294967296)) (sym is) (all_inserted (λ n. n < 4294967296) old n low known.fit);
+    }
 
 pub overflow_cast-place : goal.overflow_cast-place
 overflow_cast-place c =
-    let fit : AllByRecursion (λ n. n < 4294967296) c.insert_full.new.self.keys =
-    subst (AllByRecursion (λ n. n < 4294967296)) (sym c.in-Ok.ensures.keys) (all_inserted (λ n. n < 4294967296) c.self.inside.numbers.keys c.number.result c.number.type_inv c.self.invariant.fit) in
-    let few : length c.insert_full.new.self.keys ≤ 4294967296 = few_numbers c.insert_full.new.self.keys (record { apart = c.insert_full.ensures.unique; fit = fit }) in
+    let known : AreNumbers c.insert_full.new.self.keys =
+    numbers_inserted c.self.inside.numbers.keys _ c.number.result c.self.invariant c.insert_full.ensures.unique c.in-Ok.ensures.keys
+    c.number.type_inv in
+    let few : length c.insert_full.new.self.keys ≤ 4294967296 = few_numbers c.insert_full.new.self.keys known in
     record { fits = omega (arith, few, c.in-Ok.ensures.within) }
+
+pub invariant_of-self-then-not-added : goal.invariant_of-self-then-not-added
+invariant_of-self-then-not-added c =
+    numbers_inserted c.self.inside.numbers.keys _ c.number.result c.self.invariant c.insert_full.ensures.unique c.in-Ok.ensures.keys
+    c.number.type_inv
+
+pub invariant_of-self-in_default-push : goal.invariant_of-self-in_default-push
+invariant_of-self-in_default-push c =
+    numbers_inserted c.self.inside.numbers.keys _ c.number.result c.self.invariant c.insert_full.ensures.unique c.in-Ok.ensures.keys
+    c.number.type_inv
+
+pub invariant_of-self-2 : goal.invariant_of-self-2
+invariant_of-self-2 c =
+    numbers_inserted c.self.inside.numbers.keys _ c.number.result c.self.invariant c.insert_full.ensures.unique c.in-Ok.ensures.keys
+    c.number.type_inv
+
+pub returns-then-not-added-clause-place : goal.returns-then-not-added-clause-place
+returns-then-not-added-clause-place c =
+    (c.in-Ok.ensures.within, placed c.insert_full.new.self.keys c.in-Ok.place c.number.result c.in-Ok.ensures.stored ∙ c.number.ensures)
+
+pub returns-clause-place : goal.returns-clause-place
+returns-clause-place c =
+    (c.in-Ok.ensures.within, placed c.insert_full.new.self.keys c.in-Ok.place c.number.result c.in-Ok.ensures.stored ∙ c.number.ensures)
+
+pub returns-then-not-added-clause-all : goal.returns-then-not-added-clause-all
+returns-then-not-added-clause-all c =
+    c.in-Ok.ensures.keys ∙ ap (insert_key nat_eq c.self.inside.numbers.keys) c.number.ensures
+    ∙ ap (λ (d : DirectoriesState). insert_key nat_eq d.numbers c.args.dir) c.self.view_is
+
+pub returns-clause-all : goal.returns-clause-all
+returns-clause-all c =
+    c.in-Ok.ensures.keys ∙ ap (insert_key nat_eq c.self.inside.numbers.keys) c.number.ensures
+    ∙ ap (λ (d : DirectoriesState). insert_key nat_eq d.numbers c.args.dir) c.self.view_is

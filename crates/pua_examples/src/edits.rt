@@ -1,0 +1,163 @@
+//! Edits of a tree in slots and of a tree of two sorted lists, side by side: a row of edits by which
+//! slots are used again, and then many at random. After each edit both trees answer the same.
+
+use crate::random::Random;
+use crate::told::tell;
+use crate::worlds::{run_over, script_of};
+use anyhow::Result;
+use pua_calls::CallTable;
+use pua_script::Answer;
+use pua_tree::{FileTree, Kind, Name, NodeId, TreeFault, read_listing, read_listing_slab};
+use std::alloc::Global;
+
+/// How many edits are made at random.
+const EDITS: u32 = 1_000;
+
+/// The names in the trees.
+const NAMES: [&str; 5] = ["a", "b", "c", "d", "e"];
+
+/// A root in which nothing stands.
+const ROOT: &[u8] = b"tree 1\n0 dir\n";
+
+/// A script that removes a directory and makes three further nodes.
+const SCRIPT: &[u8] = b"1 mkdir /a\n1 rmdir /a\n1 create /b\n1 mkdir /a\n1 create /c\n";
+
+/// Prints whether numbers are given once where slots are used again, and a line for each edit after
+/// which the two trees differ; then how many edits there were.
+pub(crate) fn run(rt: &HostRuntime) -> Result<()> {
+    let alloc = rt.alloc();
+    let mut listed = read_listing(alloc, ROOT)?;
+    let mut slotted = read_listing_slab(alloc, ROOT)?;
+    let mut random = Random::new();
+    for number in 1..=EDITS {
+        let edit = Edit::new(&mut random, &listed)?;
+        let is_alike = edit.answer(&mut listed) == edit.answer(&mut slotted);
+        let are_same = are_same(alloc, &listed, &slotted, number)?;
+        run_edit(rt, number, is_alike && are_same)?;
+    }
+    tell(rt, &["slots used again"], are_new(alloc)?)?;
+    println!(rt; "{EDITS} edits of two trees")?;
+    Ok(())
+}
+
+/// Prints that two trees differ after an edit, if they do.
+fn run_edit(rt: &HostRuntime, number: u32, are_alike: bool) -> Result<()> {
+    if !are_alike {
+        println!(rt; "the trees differ after edit {number}")?;
+    }
+    Ok(())
+}
+
+/// Whether numbers are given once, over each kind of tree.
+fn are_new(alloc: Global) -> Result<bool> {
+    let is_listed = are_given_once(alloc, read_listing(alloc, ROOT)?)?;
+    Ok(is_listed && are_given_once(alloc, read_listing_slab(alloc, ROOT)?)?)
+}
+
+/// Whether the script is answered `ok` throughout, and gives numbers that were never given.
+fn are_given_once<T: FileTree + Drop>(alloc: Global, tree: T) -> Result<bool> {
+    let script = script_of(alloc, SCRIPT)?;
+    let ran = run_over(alloc, tree, &script, CallTable::standard())?;
+    let tree = ran.world.tree();
+    let are_named = node_of(tree, b"b")? == Some(NodeId::new(2))
+        && node_of(tree, b"a")? == Some(NodeId::new(3))
+        && node_of(tree, b"c")? == Some(NodeId::new(4));
+    let are_okay = ran.told.as_slice() == [Answer::Okay; 5].as_slice();
+    Ok(are_okay && are_named && tree.kind(NodeId::new(1)).is_none())
+}
+
+/// The node with a name in the root.
+fn node_of<T: FileTree>(tree: &T, name: &[u8]) -> Result<Option<NodeId>> {
+    Ok(tree.look(NodeId::ROOT, &named(name)?))
+}
+
+fn named(bytes: &[u8]) -> Result<Name> {
+    Ok(Name::read(bytes)?)
+}
+
+/// An edit of a tree.
+#[derive(Clone, Copy)]
+enum Edit {
+    Add(NodeId, Name, Kind),
+    Tie(NodeId, Name, NodeId),
+    Cut(NodeId, Name),
+    Shift(NodeId, Name, NodeId, Name),
+}
+
+impl Edit {
+    /// An edit at random of what stands in a tree.
+    fn new<T: FileTree>(random: &mut Random, tree: &T) -> Result<Edit> {
+        let (dir, name) = (drawn_node(random, tree)?, drawn_name(random)?);
+        let other = drawn_node(random, tree)?;
+        Ok(match random.below(8) {
+            0 | 1 => Edit::Add(dir, name, Kind::Dir),
+            2 => Edit::Add(dir, name, Kind::File),
+            3 => Edit::Add(dir, name, Kind::Link),
+            4 => Edit::Tie(dir, name, other),
+            5 => Edit::Cut(dir, name),
+            _ => Edit::Shift(dir, name, other, drawn_name(random)?),
+        })
+    }
+
+    /// Edits a tree: the node that was added, lost its name or was given one, or to whose names one was
+    /// moved; or why nothing was done.
+    fn answer<T: FileTree>(&self, tree: &mut T) -> Result<NodeId, TreeFault> {
+        match self {
+            Edit::Add(dir, name, Kind::Link) => tree.add(*dir, *name, Kind::Link, Some(b"a")),
+            Edit::Add(dir, name, kind) => tree.add(*dir, *name, *kind, None),
+            Edit::Tie(dir, name, node) => {
+                tree.tie(*dir, *name, *node)?;
+                Ok(*node)
+            }
+            Edit::Cut(dir, name) => tree.cut(*dir, name),
+            Edit::Shift(from, name, to, new_name) => {
+                tree.shift(*from, name, *to, *new_name)?;
+                Ok(*to)
+            }
+        }
+    }
+}
+
+/// A node that stands in a tree, at most three names deep.
+fn drawn_node<T: FileTree>(random: &mut Random, tree: &T) -> Result<NodeId> {
+    let mut node = NodeId::ROOT;
+    for _ in 0..random.below(4) {
+        let name = drawn_name(random)?;
+        node = tree.look(node, &name).unwrap_or(node);
+    }
+    Ok(node)
+}
+
+fn drawn_name(random: &mut Random) -> Result<Name> {
+    let place = random.below(NAMES.len());
+    named(NAMES.get(place).copied().unwrap_or("a").as_bytes())
+}
+
+/// Whether two trees have the same names, and answer the same about each number up to this one.
+fn are_same<S: FileTree, T: FileTree>(
+    alloc: Global,
+    one: &S,
+    other: &T,
+    last: u32,
+) -> Result<bool> {
+    let names = one.names(alloc)?;
+    let others = other.names(alloc)?;
+    let mut same = names.as_slice() == others.as_slice();
+    for number in 0..=last {
+        same = same && is_same(one, other, NodeId::new(number), names.as_slice());
+    }
+    Ok(same)
+}
+
+/// Whether two trees answer the same about a number.
+fn is_same<S: FileTree, T: FileTree>(one: &S, other: &T, node: NodeId, names: &[Name]) -> bool {
+    for name in names {
+        if one.look(node, name) != other.look(node, name) {
+            return false;
+        }
+    }
+    one.kind(node) == other.kind(node)
+        && one.target(node) == other.target(node)
+        && one.parent(node) == other.parent(node)
+        && one.is_empty(node) == other.is_empty(node)
+}

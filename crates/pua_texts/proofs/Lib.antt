@@ -1,0 +1,16 @@
+pub mod Made
+pub mod AnswerLines
+pub mod Outcomes
+pub mod Pairs
+pub mod Passing
+pub mod ObjectLines
+pub mod KeptPaths
+pub mod EverLines
+pub mod States
+pub mod Lists
+pub mod Climbing
+pub mod VeilDates
+pub mod WhyColumns
+pub mod WhyItems
+pub mod Keywords
+pub mod ForCallers

@@ -1,0 +1,9 @@
+use Rattle.std.proofs.Common.{◌≡◌, ◌+◌, ◌*◌, ◌≤◌, ◌++◌, take, length}
+use Rattle.pua_tree.specs.Spelling.{spelling}
+use Rattle.pua_texts.proofs.line.spell.Given as goal
+
+abbrev pub invariant-loop-byte : goal.invariant-loop-byte
+invariant-loop-byte l = record {
+  spelled : l.block ≡ l.fn.block ++ spelling (take l.byte-index l.path);
+  short : length l.block ≤ length l.fn.block + 4 * l.byte-index;
+}

@@ -1,0 +1,15 @@
+use Rattle.std.proofs.Common.{ap, ◌∙◌}
+use Rattle.pua_tree.specs.Tree.{Tree}
+use Rattle.pua_policy.specs.History.{veils}
+use Rattle.pua_objects.specs.Objects.{items}
+use Rattle.pua_texts.proofs.why_list.WhyList.begin.Goals as goal
+
+pub returns : goal.returns
+returns g c = λ p h same ruled stands dated.
+    let begun = c.in_ok-head.ensures.of h stands in
+    record {
+      head = begun.0;
+      columns = c.in_ok-columns.ensures.of p c.args.number h same ruled stands dated;
+      stands = begun.1;
+      left = begun.2 ∙ ap (λ (t : Tree). items t (veils h)) same;
+    }

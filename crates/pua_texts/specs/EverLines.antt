@@ -1,0 +1,30 @@
+-- The list for ever of a process.
+use Rattle.std.specs.Prelude.{ℕ, List, ◌++◌, flat_map, codes}
+use Rattle.pua_tree.specs.Tree.{Tree}
+use Rattle.pua_calls.specs.Calls.{CallTable}
+use Rattle.pua_policy.specs.History.{History}
+use Rattle.pua_audit.specs.Reach.{Word, printed_path}
+use Rattle.pua_audit.specs.declared.base.Base.TheVariants.{Root}
+use Rattle.pua_ever.specs.Ever.{EverLine, ever, ever_text as line_text}
+use Rattle.pua_ever.specs.declared.line.EverThing.{EverThing}
+use Rattle.pua_ever.specs.declared.line.EverThing.TheVariants.{Stands, Comes}
+use Rattle.pua_objects.specs.declared.kind.ObjectKind.{ObjectKind}
+use Rattle.pua_texts.specs.States.{head_lines}
+use Rattle.pua_texts.specs.Lines.{ended}
+
+abbrev pub ever_lines : Tree → List EverLine → List ℕ
+ever_lines t lines = flat_map (λ line. ended (line_text t line)) lines
+
+-- what kind of thing the code gives
+abbrev pub kind_of : EverThing → ObjectKind
+kind_of (Stands kind) = kind
+kind_of (Comes kind) = kind
+
+-- where it stands now, as it is printed; `new` if it is still to be made
+abbrev pub path_or_new : EverThing → Word → List ℕ
+path_or_new (Stands kind) word = printed_path Root word
+path_or_new (Comes kind) word = codes "new"
+
+-- the list for ever of a process: its heading, its state, and a line for each thing that it and what it forks can ever touch
+abbrev pub ever_list : CallTable → Tree → ℕ → History → List ℕ
+ever_list table t process h = head_lines t (codes "ever") process h ++ ever_lines t (ever t table h)

@@ -1,0 +1,13 @@
+-- The claim, in reading order: what a reader has to believe of the lines of texts, and of the lists that they make.
+pub mod Lines
+pub mod States
+pub mod ObjectLines
+pub mod EverLines
+pub mod WhyLines
+-- Notes: what the code has begun, and what it puts at once.
+pub mod Lists
+pub mod EverLists
+pub mod VeilDates
+pub mod WhyLists
+pub mod Blocks
+pub mod KeptPaths

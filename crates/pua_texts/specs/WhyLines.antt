@@ -1,0 +1,44 @@
+-- The list of a process with reasons, and those of several.
+use Rattle.std.specs.Prelude.{ℕ, List, [], ◌++◌, flat_map, codes}
+use Rattle.std.specs.Option.{option_map_or}
+use Rattle.pua_tree.specs.Tree.{Tree}
+use Rattle.pua_calls.specs.Calls.{CallTable}
+use Rattle.pua_policy.specs.History.{History}
+use Rattle.pua_policy.specs.Reasons.{covering}
+use Rattle.pua_policy.specs.declared.reason.Covering.{Covering}
+use Rattle.pua_script.specs.Requests.{Asked}
+use Rattle.pua_script.specs.Replay.{World, history_of, world_after}
+use Rattle.pua_objects.specs.Objects.{Line, Subject, At, Others, line_text, objects}
+use Rattle.pua_why.specs.Columns.{columns, covering_in}
+use Rattle.pua_texts.specs.States.{head_lines}
+use Rattle.pua_texts.specs.Lines.{ended}
+
+-- the table of calls, the world before a script, and its requests
+pub record Posed : Type 0 where
+  pub table : CallTable
+  pub world : World
+  pub asks : List Asked
+
+-- the world that the script leaves
+abbrev pub world_left : Posed → World
+world_left p = world_after p.table p.world p.asks
+
+-- what covers what a line is about
+abbrev pub covering_on : Tree → History → Subject → Covering
+covering_on t h (At object) = covering t h object
+covering_on t h (Others dir) = covering_in t h dir
+
+abbrev pub why_line : Posed → ℕ → History → Line → List ℕ
+why_line p process h line =
+    ended (line_text (world_left p).tree line ++ columns p.table p.world p.asks process h line.calls (covering_on (world_left p).tree h line.subject))
+
+-- the list of a process with reasons: its heading, its state, and a line for each object on which its history allows a call
+abbrev pub why_list : Posed → ℕ → History → List ℕ
+why_list p process h = head_lines (world_left p).tree (codes "objects") process h ++ flat_map (why_line p process h) (objects (world_left p).tree p.table h)
+
+-- a number that was never made has no list
+abbrev pub why_list_of : Posed → ℕ → List ℕ
+why_list_of p process = option_map_or (why_list p process) (history_of (world_left p) process) []
+
+abbrev pub why_lists_of : Posed → List ℕ → List ℕ
+why_lists_of p numbers = flat_map (why_list_of p) numbers

@@ -1,0 +1,36 @@
+//! The lines of texts, added to blocks of bytes on their way to a sink, and the lists that they make:
+//! of answers, of pairs, of objects, of now and for ever, of the state of a process, and of reasons.
+#![tactic(auto)]
+
+mod answers;
+mod audit_text;
+mod block;
+mod ever_line;
+mod ever_list;
+mod kept_path;
+mod laws;
+mod line;
+mod object_line;
+mod object_lists;
+mod places;
+mod process_head;
+mod process_list;
+mod state;
+mod veil_line;
+mod why_columns;
+mod why_line;
+mod why_list;
+mod why_lists;
+
+pub use answers::{answer_text, front_text};
+pub use audit_text::write_audit;
+pub use block::Block;
+pub use ever_list::{EverList, write_ever};
+pub use kept_path::KeptPath;
+pub use laws::state_law;
+pub use object_lists::{begin_lists, write_lists};
+pub use places::Places;
+pub use process_head::ProcessHead;
+pub use process_list::ProcessList;
+pub use why_list::WhyList;
+pub use why_lists::{begin_why_lists, write_why_lists};

@@ -1,0 +1,86 @@
+//! What stands before the lines of a list: its heading, and the state of its process.
+
+ghost use Rattle.std.specs.Prelude.{◌≡◌, ◌++◌, [], ℕ, List, IfOk, map};
+ghost use Rattle.pua_policy.specs.History.{History, StandsFor};
+ghost use Rattle.pua_texts.specs.Blocks.{PassesOn};
+ghost use Rattle.pua_texts.specs.Lists.{IsHeadOf};
+ghost use Rattle.pua_texts.specs.States.{head_lines, living_veils};
+
+use crate::block::Block;
+use crate::places::Places;
+use crate::state::head_text;
+use crate::veil_line::add_veils;
+use pua_calls::Perms;
+use pua_io::{PutFault, Sink};
+use pua_policy::{Place, Process};
+use pua_tree::{FileTree, OutOfMemory};
+use std::alloc::Global;
+use std::marker::Model;
+
+/// The heading of a list and the state of its process, with all memory that writing them takes.
+#[derive(Drop)]
+pub struct ProcessHead<'t> {
+    text: String,
+    veils: Vec<(&'t Place, &'t Perms)>,
+}
+
+impl<'t> Model for ProcessHead<'t> {
+    ghost use Rattle.std.specs.Prelude.{map, string_bytes};
+    ghost use Rattle.pua_texts.specs.Lists.{HeadState};
+
+    ghost Value = { HeadState };
+
+    ghost view = { λ a. record {
+      text = string_bytes a.text;
+      veils = map (λ veil. (veil.0.now, veil.1.now)) a.veils.items;
+    } };
+}
+
+impl<'t> ProcessHead<'t> {
+    /// What stands before the lines of a list with this title, of the process with this number. The
+    /// only error is that a growth was refused.
+    pub fn begin(
+        alloc: Global,
+        title: &str,
+        number: u32,
+        process: &'t Process,
+    ) -> Result<ProcessHead<'t>, OutOfMemory>
+        ensures { IfOk result (λ head. (h : History) → StandsFor process.now h →
+            IsHeadOf title.now number h head) }
+    {
+        let Ok(text) = head_text(alloc, title, number, process) else {
+            return Err(OutOfMemory);
+        };
+        let veils = veils_of_living(alloc, process)?;
+        Ok(ProcessHead { text, veils })
+    }
+
+    /// Adds the heading and the state to a block.
+    pub(crate) fn add_to<T: FileTree, S: Sink>(
+        &self,
+        block: &mut Block,
+        places: &mut Places<'t, T>,
+        sink: &mut S,
+    ) -> Result<(), PutFault>
+        ensures head { (title : List ℕ) (process : ℕ) (h : History) →
+            IsHeadOf title process h self.now →
+            PassesOn S.written S.failed
+            (head_lines places.old.tree title process h)
+            result block.old block.new sink.old sink.new }
+        ensures tree { places.new.tree ≡ places.old.tree }
+    {
+        block.add_text(self.text.as_bytes(), sink)?;
+        add_veils(block, self.veils.as_slice(), places, sink)
+    }
+}
+
+/// The veils of a process that has not ended.
+fn veils_of_living(alloc: Global, process: &Process) -> Result<Vec<(&Place, &Perms)>, OutOfMemory>
+    ensures { IfOk result (λ veils. (h : History) → StandsFor process.now h →
+        map (λ veil. (veil.0.now, veil.1.now)) veils.items ≡ living_veils h) }
+{
+    if process.ended() {
+        return Ok(Vec::new(alloc));
+    }
+    process.veils(alloc)
+}

@@ -1,0 +1,132 @@
+//! The heading of a list, and what it says of the state of its process before the veils.
+
+ghost use Rattle.std.specs.Prelude.{◌≡◌, ◌++◌, ◌∷◌, [], if◌then◌else◌, IfOk, OnOk, map};
+ghost use Rattle.std.specs.Prelude.{string_bytes};
+ghost use Rattle.pua_policy.specs.History.{History, StandsFor};
+ghost use Rattle.pua_objects.specs.Objects.{with_commas};
+ghost use Rattle.pua_texts.specs.States.{heading_line, living_lines, or_equals, own_lines};
+ghost use Rattle.pua_texts.specs.States.{promises_text, unveil_word};
+ghost use Rattle.pua_texts.specs.Lines.{ended};
+
+use pua_calls::Promises;
+use pua_policy::Process;
+use std::alloc::{AllocError, Global};
+use std::fmt::Write;
+
+/// The heading of a list with this title, of the process with this number, and the lines of its state
+/// before those of its veils. The only error is that a growth was refused.
+pub(crate) fn head_text(
+    alloc: Global,
+    title: &str,
+    number: u32,
+    process: &Process,
+) -> Result<String, AllocError>
+    ensures { IfOk result (λ text. (h : History) → StandsFor process.now h →
+        string_bytes text ≡ heading_line title.now number ++ own_lines h) }
+{
+    let mut text = heading(alloc, title, number)?;
+    push_own(alloc, &mut text, process)?;
+    Ok(text)
+}
+
+fn heading(alloc: Global, title: &str, number: u32) -> Result<String, AllocError>
+    ensures { IfOk result (λ text. string_bytes text ≡ heading_line title.now number) }
+{
+    let mut text = String::new(alloc);
+    writeln!(text, "{title} {number}")?;
+    Ok(text)
+}
+
+/// Adds the lines of a state before those of the veils: an ended process has one.
+fn push_own(alloc: Global, text: &mut String, process: &Process) -> Result<(), AllocError>
+    ensures { OnOk result ((h : History) → StandsFor process.now h →
+        string_bytes text.new ≡ string_bytes text.old ++ own_lines h) }
+{
+    if process.ended() {
+        return push_line(text, "process ", "ended");
+    }
+    push_living(alloc, text, process)
+}
+
+/// Adds the lines of a living process.
+fn push_living(alloc: Global, text: &mut String, process: &Process) -> Result<(), AllocError>
+    ensures { OnOk result ((h : History) → StandsFor process.now h →
+        string_bytes text.new ≡ string_bytes text.old ++ living_lines h) }
+{
+    let promises = spelled_promises(alloc, process.promises())?;
+    let execpromises = spelled_promises(alloc, process.execpromises())?;
+    push_line(text, "process ", "alive")?;
+    push_line(text, "promises ", promises.as_str())?;
+    push_line(text, "execpromises ", execpromises.as_str())?;
+    push_line(text, "unveil ", unveil_state(process))
+}
+
+/// Adds a line of a label and a value.
+fn push_line(text: &mut String, label: &str, value: &str) -> Result<(), AllocError>
+    ensures { OnOk result (string_bytes text.new ≡ string_bytes text.old ++ ended (label.now
+        ++ value.now)) }
+{
+    writeln!(text, "{label}{value}")
+}
+
+/// Whether a process may still put veils.
+fn unveil_state(process: &Process) -> &'static str
+    ensures { (h : History) → StandsFor process.now h → result.now ≡ unveil_word h }
+{
+    let held = process.promises().unwrap_or(Promises::ALL_BUT_ERROR);
+    if process.locked() {
+        "locked"
+    } else if held.contains(Promises::UNVEIL) {
+        "open"
+    } else {
+        "given-up"
+    }
+}
+
+/// Promises as a script has them: keywords with commas between them, `=` for none, and `-` where
+/// none were given.
+fn spelled_promises(alloc: Global, promises: Option<Promises>) -> Result<String, AllocError>
+    ensures { IfOk result (λ text. string_bytes text ≡ promises_text promises) }
+{
+    let Some(promises) = promises else {
+        return String::from_str(alloc, "-");
+    };
+    let Ok(names) = promises.names(alloc) else {
+        return Err(AllocError);
+    };
+    let text = joined(alloc, names.as_slice())?;
+    String::from_str(alloc, shown(text.as_str()))
+}
+
+/// A text, or `=` where it is empty.
+fn shown(text: &str) -> &str
+    ensures { result.now ≡ or_equals text.now }
+{
+    if text.is_empty() { "=" } else { text }
+}
+
+/// Names with commas between them.
+#[tactic(auto, using(crate::proofs::ObjectLines::joined_is))]
+fn joined(alloc: Global, names: &[&str]) -> Result<String, AllocError>
+    ensures { IfOk result (λ text. string_bytes text
+        ≡ with_commas (map (λ name. name.now) names.now)) }
+{
+    let mut text = String::new(alloc);
+    let mut is_first = true;
+    for name in names {
+        push_next(&mut text, is_first, name)?;
+        is_first = false;
+    }
+    Ok(text)
+}
+
+/// Adds a name, with a comma before it unless it is the first.
+fn push_next(text: &mut String, is_first: bool, name: &str) -> Result<(), AllocError>
+    ensures { OnOk result (string_bytes text.new ≡ string_bytes text.old
+        ++ ((if is_first then [] else 44 ∷ []) ++ name.now)) }
+{
+    if !is_first {
+        text.push_str(",")?;
+    }
+    text.push_str(name)
+}

@@ -1,7 +1,0 @@
-use Rattle.std.proofs.Common.{◌≡◌, ◌++◌, suc, drop, string_bytes}
-use Rattle.pua_tool.specs.Texts.{answer_lines}
-use Rattle.pua_tool.proofs.answers.answer_text.Given as goal
-
--- the lines so far stand in front of those that are still to come
-abbrev pub invariant-loop-place : goal.invariant-loop-place
-invariant-loop-place l = answer_lines 1 l.told ≡ string_bytes l.text ++ answer_lines (suc l.place) (drop l.place l.told)

@@ -1,5 +1,0 @@
-use Rattle.std.proofs.Common.{rules}
-use Rattle.pua_tool.proofs.state.unveil_state.Goals as goal
-
-pub returns-then-locked : goal.returns-then-locked
-returns-then-locked c = search rules

@@ -1,0 +1,33 @@
+//! Why the list for ever of a process is not begun, as the tool reports it.
+
+ghost use Rattle.std.specs.Prelude.{◌≡◌, ◌≢◌, ℕ, List, Err};
+ghost use Rattle.pua_ever.specs.Refusals.{refusal_in};
+ghost use Rattle.pua_tool.specs.EverTexts.{ever_fault, unless_refused};
+
+use crate::fault::ToolFault;
+use pua_ever::{EverFault, Refusal};
+
+/// Why the list for ever of the process with this number was not begun, as the tool reports it.
+pub(crate) fn fault_of(number: u32, fault: EverFault) -> ToolFault
+    ensures told { (text : List ℕ) → result ≢ ToolFault.OutOfMemory →
+        unless_refused number (refusal_in fault) text ≡ Err result }
+    ensures unwritten { result ≢ ToolFault.Write }
+{
+    match fault {
+        EverFault::Refused(reason) => reason_of(number, reason),
+        EverFault::OutOfMemory => ToolFault::OutOfMemory,
+    }
+}
+
+/// Why there is no list for ever of the process with this number, as the tool reports it.
+fn reason_of(number: u32, reason: Refusal) -> ToolFault
+    ensures told { result ≡ ever_fault number reason }
+    ensures unwritten { result ≢ ToolFault.Write }
+{
+    match reason {
+        Refusal::CanUnveil => ToolFault::CanUnveil(number),
+        Refusal::LacksC(call) => ToolFault::LacksC(call),
+        Refusal::RenameLacksC => ToolFault::RenameLacksC,
+        Refusal::LinkLacksC => ToolFault::LinkLacksC,
+    }
+}

@@ -1,0 +1,227 @@
+# A plain model of the list for ever, written from "All that can ever be touched" in docs/DEFINITIONS.md. It asks a
+# world of Model.pm. A cover is a text of letters, or undef where no veil covers.
+package EverModel;
+use strict;
+use warnings;
+use Model;
+
+# What each call suits. A `gone` directory is one that rmdir may find empty.
+my %SUITS = (
+    create => 'missing file prog', mkdir => 'missing', symlink => 'missing',
+    unlink => 'file prog link', rmdir => 'gone', exec => 'prog', readlink => 'link',
+    chdir => 'dir gone', lstat => 'dir gone file prog link',
+    (map { $_ => 'dir gone file prog' } qw(stat open-r chmod)),
+    (map { $_ => 'file prog' } qw(open-w open-rw)),
+);
+
+my @EDITS = qw(create mkdir rmdir unlink symlink);
+
+# What can be made, by its kind: the call that makes it, and what it is.
+my @NEW = (
+    { kind => 'dir', call => 'mkdir', is => 'gone' },
+    { kind => 'other', call => 'mkdir', is => 'missing' },
+    { kind => 'file', call => 'create', is => 'file' },
+    { kind => 'link', call => 'symlink', is => 'link' },
+);
+
+# The lines of the list for ever of a process that can put no veil any more.
+sub lines {
+    my ($model, $number) = @_;
+    my $process = $model->{processes}{$number};
+    return if $process->{ended};
+    my $ever = bless { model => $model, process => $process }, __PACKAGE__;
+    $ever->{dirs} = [ sort { $a <=> $b } grep { $model->{kind}{$_} eq 'dir' } keys %{ $model->{kind} } ];
+    $ever->{edits} = grep { $ever->_promises($_) } @EDITS, 'new name of rename', 'new name of link';
+    $ever->{links} = $ever->_promises('old name of link') && $ever->_promises('new name of link');
+    $ever->_find_covers;
+    return ($ever->_lines_in(0), map { $ever->_new_line($_) } @NEW);
+}
+
+# --- Covers ---
+
+sub _find_covers {
+    my ($ever) = @_;
+    my @names = map { $_->{letters} } grep { $ever->_is_open($_) } $ever->_veiled;
+    $ever->{dir_covers} = [ map { $ever->_cover_of_dir($_) } grep { $ever->_is_way_in($_) } @{ $ever->{dirs} } ];
+    my $some = grep { _has_c($ever->_cover_of_dir($_)) } @{ $ever->{dirs} };
+    $ever->{name_covers} = \@names;
+    $ever->{file_covers} = [ @names, $some ? @{ $ever->{dir_covers} } : () ];
+    return;
+}
+
+sub _has_c { return defined $_[0] && $_[0] =~ /c/ }
+
+sub _cover_of_dir { return $_[0]{model}->_cover($_[0]{process}, { dir => $_[1] }) }
+
+# What stands at a name, as the model has what a path names.
+sub _found {
+    my ($ever, $dir, $name) = @_;
+    my $node = $ever->{model}{rows}{$dir}{$name};
+    return { in => $dir, name => $name, node => $node }
+        if !defined $node || $ever->{model}{kind}{$node} ne 'dir';
+    return { dir => $node, way => 'name' };
+}
+
+sub _row_has_c {
+    my ($ever, $dir, $name) = @_;
+    return _has_c($ever->{model}->_cover($ever->{process}, $ever->_found($dir, $name)));
+}
+
+sub _is_free {
+    my ($ever, $dir, $name) = @_;
+    return !defined $ever->{model}{rows}{$dir}{$name} || $ever->_row_has_c($dir, $name);
+}
+
+sub _can_be_emptied {
+    my ($ever, $dir) = @_;
+    return !grep { !$ever->_row_has_c($dir, $_) } keys %{ $ever->{model}{rows}{$dir} };
+}
+
+# The names in living directories that have a veil of their own, with its letters.
+sub _veiled {
+    my ($ever) = @_;
+    my $process = $ever->{process};
+    my @veiled = map { m{\A([0-9]+)/(.*)\z}s ? { dir => $1, name => $2, letters => $process->{letters}{$_} } : () }
+        @{ $process->{veils} };
+    return grep { exists $ever->{model}{kind}{ $_->{dir} } } @veiled;
+}
+
+# Such a name to which something can be moved.
+sub _is_open {
+    my ($ever, $veiled) = @_;
+    return _has_c($veiled->{letters}) && $ever->_is_free(@$veiled{qw(dir name)});
+}
+
+sub _is_way_in {
+    my ($ever, $dir) = @_;
+    return 1 if _has_c($ever->_cover_of_dir($dir));
+    return 1 if grep { $_->{dir} == $dir && $ever->_is_open($_) } $ever->_veiled;
+    return grep { $ever->_gives_way($_) } values %{ $ever->{model}{rows}{$dir} };
+}
+
+# A directory into whose place another can be moved.
+sub _gives_way {
+    my ($ever, $node) = @_;
+    return $ever->{model}{kind}{$node} eq 'dir'
+        && _has_c($ever->_cover_of_dir($node))
+        && $ever->_can_be_emptied($node)
+        && $ever->_has_c_outside($node);
+}
+
+sub _has_c_outside {
+    my ($ever, $inner) = @_;
+    return 1 if grep { !$ever->_is_below($inner, $_) && _has_c($ever->_cover_of_dir($_)) } @{ $ever->{dirs} };
+    return grep { !$ever->_is_below($inner, $_->{dir}) && _has_c($_->{letters}) } $ever->_veiled;
+}
+
+# Whether a directory is another one, or below it.
+sub _is_below {
+    my ($ever, $over, $dir) = @_;
+    while ($dir != $over) {
+        return 0 if $dir == 0;
+        $dir = $ever->{model}{above}{$dir}[0];
+    }
+    return 1;
+}
+
+# All covers that a directory can come to have, and those of anything else that stands at a name.
+sub _covers_of_dir {
+    my ($ever, $dir) = @_;
+    my $cover = $ever->_cover_of_dir($dir);
+    my $moves = $ever->{edits} && !exists $ever->{process}{letters}{$dir} && _has_c($cover);
+    return $moves ? @{ $ever->{dir_covers} } : $cover;
+}
+
+sub _covers_of_name {
+    my ($ever, $found, $kind) = @_;
+    my $cover = $ever->{model}->_cover($ever->{process}, $found);
+    return @{ $ever->{file_covers} } if $ever->{edits} && _has_c($cover);
+    return ($cover, $ever->_can_link($cover, $kind) ? @{ $ever->{file_covers} } : ());
+}
+
+sub _can_link {
+    my ($ever, $cover, $kind) = @_;
+    my $model = $ever->{model};
+    return $ever->{links}
+        && defined $cover
+        && !Model::_lacking($model->{needs}{'old name of link'}[1], $cover)
+        && !($kind eq 'link' && $model->{openbsd});
+}
+
+# --- Lines ---
+
+sub _promises {
+    my ($ever, $call) = @_;
+    for my $set (@{ $ever->{model}{needs}{$call}[0] }) {
+        return 1 if !grep { !Model::_holds($ever->{process}, $_) } split /,/, $set;
+    }
+    return 0;
+}
+
+# The line of something, if a call can be allowed on it under one of some covers.
+sub _line {
+    my ($ever, $kind, $path, $is, @covers) = @_;
+    my @calls = grep { $ever->_is_allowed($_, $is, @covers) } @Model::CALLS;
+    return @calls ? "$kind $path " . join(',', @calls) : ();
+}
+
+sub _is_allowed {
+    my ($ever, $call, $is, @covers) = @_;
+    return 0 if " $SUITS{$call} " !~ / $is / || !$ever->_promises($call);
+    return scalar grep { defined && !Model::_lacking($ever->{model}{needs}{$call}[1], $_) } @covers;
+}
+
+# A directory, its further names, and what has or could have a name in it.
+sub _lines_in {
+    my ($ever, $dir) = @_;
+    my ($model, @covers) = ($ever->{model}, $ever->_covers_of_dir($dir));
+    my ($path, $rows) = ($model->_path($dir), $model->{rows}{$dir});
+    my %names = (%$rows, map { $_->{dir} == $dir ? ($_->{name} => 1) : () } $ever->_veiled);
+    return (
+        $ever->_line('dir', $path, $ever->_is_gone($dir) ? 'gone' : 'dir', @covers),
+        $dir == 0 ? () : $ever->_freed(@{ $model->{above}{$dir} }),
+        $ever->_line('other', $path, 'missing', @covers),
+        map { $ever->_lines_at($dir, $_) } sort keys %names,
+    );
+}
+
+# Whether rmdir may find a directory empty.
+sub _is_gone {
+    my ($ever, $dir) = @_;
+    return $dir != 0 && ($ever->{edits} ? $ever->_can_be_emptied($dir) : $ever->{model}->_is_empty($dir));
+}
+
+sub _lines_at {
+    my ($ever, $dir, $name) = @_;
+    my $model = $ever->{model};
+    my $found = $ever->_found($dir, $name);
+    my $kind  = $model->_kind($found);
+    return $ever->_lines_in($found->{dir}) if $kind eq 'dir';
+    return $ever->_missing($dir, $name)    if $kind eq 'missing';
+    my @covers = $ever->_covers_of_name($found, $kind);
+    return ($ever->_line($kind, $model->_path_in($dir, $name), $kind, @covers), $ever->_freed($dir, $name));
+}
+
+# A name that nothing has, and its own veil.
+sub _missing {
+    my ($ever, $dir, $name) = @_;
+    my $path = $ever->{model}->_path_in($dir, $name);
+    return $ever->_line('missing', $path, 'missing', $ever->{process}{letters}{"$dir/$name"});
+}
+
+# A name with a veil of its own, which something has that can be taken away.
+sub _freed {
+    my ($ever, $dir, $name) = @_;
+    my $has_veil = exists $ever->{process}{letters}{"$dir/$name"};
+    return $has_veil && $ever->{edits} && $ever->_is_free($dir, $name) ? $ever->_missing($dir, $name) : ();
+}
+
+sub _new_line {
+    my ($ever, $new) = @_;
+    my @names = (@{ $ever->{name_covers} }, @{ $ever->{dir_covers} });
+    return () if !$ever->{edits} || !$ever->_is_allowed($new->{call}, 'missing', @names);
+    my $is_dir = $new->{call} eq 'mkdir';
+    return $ever->_line($new->{kind}, 'new', $new->{is}, @{ $ever->{ $is_dir ? 'dir_covers' : 'file_covers' } });
+}
+
+1;

@@ -1,0 +1,101 @@
+# Random requests of a family of processes, most of which edit the tree that there is when they are drawn,
+# where they may: so that what can come to pass mostly does.
+package Futures;
+use strict;
+use warnings;
+use Lists;
+use Things;
+
+my @EDITS = (
+    ('rename') x 7, ('link') x 2, ('mkdir') x 3, ('create') x 2, ('symlink') x 1, ('unlink') x 2, ('rmdir') x 2,
+);
+my @LOOKS = qw(stat lstat readlink open-r open-w open-rw chmod chdir chdir chdir);
+
+# Draws from a generator of worlds. %$calls has each call that can ever be allowed on something: others are drawn
+# seldom, since a process mostly ends by them. %$holds says whether the processes hold proc and exec; whoever can't
+# execute anything tries it more often, for nothing comes of it. The first child that is forked has the number
+# $child.
+sub new {
+    my ($class, $worlds, $calls, $holds, $child) = @_;
+    my %may = map { $_ => 1 } keys %$calls;
+    $may{rename} = $may{link} = 1 if grep { $may{$_} } qw(create mkdir rmdir unlink symlink);
+    return bless {
+        worlds => $worlds, holds => $holds, child => $child, exec_in => $may{exec} ? 4 : 1,
+        edits  => [ grep { $may{$_} } @EDITS ],
+        looks  => [ grep { $may{$_} } @LOOKS ],
+    }, $class;
+}
+
+# A number of lines, each of one of some processes, about what stands in a model's tree, and about what doesn't. More
+# often they are about what one of them can edit, by a list of what it can touch.
+sub lines {
+    my ($futures, $model, $list, $count, @askers) = @_;
+    my $calls = Lists::calls_at($list);
+    my @rows  = map { { %$_, is_open => Lists::gives_c($calls, $_) } } Things::rows($model);
+    local $futures->{rows} = \@rows;
+    local $futures->{free} = [ map { $_->{path} } grep { $_->{kind} eq 'missing' } @{ $list->{lines} } ];
+    return map { $futures->_line($futures->{worlds}->pick(@askers)) } 1 .. $count;
+}
+
+sub _line {
+    my ($futures, $asker) = @_;
+    my ($worlds, $holds) = @$futures{qw(worlds holds)};
+    my $way = $worlds->number(24);
+    return $worlds->requests(1, $asker) if $way == 0;
+    return "$asker fork " . $futures->{child}++ . "\n" if $way == 1 && $holds->{proc};
+    return "$asker exec " . $futures->_old('prog') . "\n"
+        if $way == 2 && $holds->{exec} && $worlds->number($futures->{exec_in}) == 0;
+    my $list = $way < 5 || !@{ $futures->{edits} } ? $futures->{looks} : $futures->{edits};
+    return "$asker " . $futures->_request(@$list ? $worlds->pick(@$list) : 'stat') . "\n";
+}
+
+sub _request {
+    my ($futures, $call) = @_;
+    return 'rename ' . $futures->_old . ' ' . $futures->_place  if $call eq 'rename';
+    return 'link ' . $futures->_any('file', 'prog', 'link') . ' ' . $futures->_new if $call eq 'link';
+    return 'symlink ' . $futures->{worlds}->path . ' ' . $futures->_new if $call eq 'symlink';
+    return "$call " . $futures->_new                             if $call eq 'mkdir';
+    return "$call " . $futures->_place                           if $call eq 'create';
+    return "$call " . $futures->_old('file', 'prog', 'link')     if $call eq 'unlink';
+    return "$call " . $futures->_old('dir')                      if $call eq 'rmdir' || $call eq 'chdir';
+    return "$call " . $futures->_old;
+}
+
+# The path of something that stands, of one of some kinds; seldom any path.
+sub _old {
+    my ($futures, @kinds) = @_;
+    my $worlds = $futures->{worlds};
+    my @open = grep { $_->{is_open} } $futures->_rows(@kinds);
+    return $worlds->path if $worlds->number(12) == 0;
+    return @open && $worlds->number(4) ? $worlds->pick(@open)->{path} : $futures->_any(@kinds);
+}
+
+# The same, where it need not be one that can be edited.
+sub _any {
+    my ($futures, @kinds) = @_;
+    my @rows = $futures->_rows(@kinds);
+    return @rows ? $futures->{worlds}->pick(@rows)->{path} : $futures->{worlds}->path;
+}
+
+# What stands, of some kinds or of all.
+sub _rows {
+    my ($futures, @kinds) = @_;
+    return grep { my $kind = $_->{kind}; !@kinds || grep { $_ eq $kind } @kinds } @{ $futures->{rows} };
+}
+
+# The path of a name in a directory, at which nothing or something may stand; or that of a missing name with a veil.
+sub _new {
+    my ($futures) = @_;
+    my ($worlds, @free) = ($futures->{worlds}, @{ $futures->{free} });
+    return $worlds->pick(@free) if @free && $worlds->number(3) == 0;
+    my $dir = $futures->_old('dir');
+    return ($dir eq '/' ? '' : $dir) . '/' . $worlds->pick($worlds->names, 'n');
+}
+
+# A path at which nothing or something may stand.
+sub _place {
+    my ($futures) = @_;
+    return $futures->{worlds}->number(2) ? $futures->_new : $futures->_any;
+}
+
+1;

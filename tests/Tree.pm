@@ -1,0 +1,180 @@
+# The tree of a plain model of what pua answers: how it is read from a listing, how it is changed, and what a path
+# names in it. Written from docs/DEFINITIONS.md alone. A listing is one without faults.
+#
+# It has kinds, targets and rows: {kind}{NODE}, {target}{NODE}, {rows}{DIRECTORY}{NAME} = NODE; and of each directory
+# but the root its place, {above}{NODE} = [DIRECTORY, NAME].
+#
+# What a path names (a *found*) is a directory, {dir => NODE, way => how it was named at last}, or a name in a
+# directory, {in => DIRECTORY, name => NAME, node => NODE or undef}.
+package Tree;
+use strict;
+use warnings;
+use Exporter qw(import);
+
+our @EXPORT_OK = qw(spelled unspelled text_fault);
+
+my $MOST_LINKS     = 32;
+my $MOST_PATH      = 1023;
+my $MOST_COMPONENT = 255;
+
+# The tree of a listing.
+sub new {
+    my ($class, $listing) = @_;
+    my $tree = bless { kind => { 0 => 'dir' }, target => {}, rows => { 0 => {} }, above => {}, next => 1 }, $class;
+    my (undef, undef, @lines) = split /\r?\n/, $listing;
+    $tree->_list(split / /) for @lines;
+    return $tree;
+}
+
+# The bytes that a field spells, and how they are spelled.
+sub unspelled {
+    my ($field) = @_;
+    return '' if $field eq '=';
+    $field =~ s/\\([0-7]{3})/chr oct $1/ge;
+    return $field;
+}
+
+sub spelled {
+    my ($bytes) = @_;
+    $bytes =~ s/([^\x21-\x5b\x5d-\x7e])/sprintf '\\%03o', ord $1/ge;
+    return $bytes;
+}
+
+# --- Edits ---
+
+# Makes the node, or the further name, of a line of a listing.
+sub _list {
+    my ($tree, $number, $kind, $parent, $name, $end) = @_;
+    $name = unspelled($name);
+    $tree->{next} = $number + 1;
+    return $tree->_tie($parent, $name, $end) if $kind eq 'hard';
+    $tree->_add($number, $kind, $parent, $name, $kind eq 'link' ? unspelled($end) : undef);
+    return;
+}
+
+sub _add {
+    my ($tree, $node, $kind, $dir, $name, $target) = @_;
+    $tree->{kind}{$node} = $kind;
+    $tree->{target}{$node} = $target if $kind eq 'link';
+    $tree->{rows}{$node} = {} if $kind eq 'dir';
+    $tree->_tie($dir, $name, $node);
+    return;
+}
+
+# Makes a new node, whose number nothing had before.
+sub _make {
+    my ($tree, $kind, $found, $target) = @_;
+    $tree->_add($tree->{next}++, $kind, $found->{in}, $found->{name}, $target);
+    return;
+}
+
+# Gives a node a name.
+sub _tie {
+    my ($tree, $dir, $name, $node) = @_;
+    $tree->{rows}{$dir}{$name} = $node;
+    $tree->{above}{$node} = [$dir, $name] if $tree->{kind}{$node} eq 'dir';
+    return;
+}
+
+# Takes a name away, without the node.
+sub _untie {
+    my ($tree, $dir, $name) = @_;
+    my $node = delete $tree->{rows}{$dir}{$name};
+    delete $tree->{above}{$node};
+    return $node;
+}
+
+# Takes a name away, and the node with its last name.
+sub _cut {
+    my ($tree, $dir, $name) = @_;
+    my $node = $tree->_untie($dir, $name);
+    return if grep { $_ == $node } map { values %$_ } values %{ $tree->{rows} };
+    delete $tree->{$_}{$node} for qw(kind target rows);
+    return;
+}
+
+# The directory over another; over the root, the root.
+sub _parent {
+    my ($tree, $dir) = @_;
+    return $tree->{above}{$dir} ? $tree->{above}{$dir}[0] : 0;
+}
+
+sub _is_empty { return !%{ $_[0]{rows}{ $_[1] } } }
+
+# The spelled path of a directory from the root.
+sub _path {
+    my ($tree, $dir) = @_;
+    my $path = '';
+    while ($tree->{above}{$dir}) {
+        my ($over, $name) = @{ $tree->{above}{$dir} };
+        ($dir, $path) = ($over, '/' . spelled($name) . $path);
+    }
+    return $path eq '' ? '/' : $path;
+}
+
+# The spelled path of a name in a directory.
+sub _path_in {
+    my ($tree, $dir, $name) = @_;
+    my $path = $tree->_path($dir);
+    return ($path eq '/' ? '' : $path) . '/' . spelled($name);
+}
+
+# --- Paths ---
+
+# The parts of a text; a slash after one of them adds `.`.
+sub _parts {
+    my ($text, $drops) = @_;
+    my @parts = grep { $_ ne '' } split m{/}, $text;
+    push @parts, '.' if @parts && !$drops && $text =~ m{/\z};
+    return @parts;
+}
+
+# What is wrong with the text of a path or target; an empty text for nothing.
+sub text_fault {
+    my ($text) = @_;
+    return 'ENOENT' if $text eq '';
+    return 'ENAMETOOLONG' if length $text > $MOST_PATH || grep { length > $MOST_COMPONENT } split m{/}, $text;
+    return 'EINVAL' if $text =~ /\0/;
+    return '';
+}
+
+# What a path names from a directory: an errno, or nothing, and what was found.
+sub resolve {
+    my ($tree, $from, $text, $follows, $drops) = @_;
+    my $fault = text_fault($text);
+    return $fault if $fault;
+    my $dir = $text =~ m{\A/} ? 0 : $from;
+    return 'ENOENT' unless $tree->{kind}{$dir};
+    my ($way, $links, @parts) = ('', 0, _parts($text, $drops));
+    while (defined(my $part = shift @parts)) {
+        if ($part eq '.' || $part eq '..') {
+            $dir = $tree->_parent($dir) if $part eq '..';
+            $way = $part;
+            next;
+        }
+        my $node = $tree->{rows}{$dir}{$part};
+        my $kind = defined $node ? $tree->{kind}{$node} : 'missing';
+        if ($kind eq 'dir') {
+            ($dir, $way) = ($node, 'name');
+        } elsif ($kind eq 'link' && (@parts || $follows)) {
+            return 'ELOOP' if ++$links > $MOST_LINKS;
+            my $target = $tree->{target}{$node};
+            $dir = 0 if $target =~ m{\A/};
+            unshift @parts, _parts($target);
+            $way = '';
+        } else {
+            return $kind eq 'missing' ? 'ENOENT' : 'ENOTDIR' if @parts;
+            return ('', { in => $dir, name => $part, node => $node });
+        }
+    }
+    return ('', { dir => $dir, way => $way });
+}
+
+# The kind of what was found.
+sub _kind {
+    my ($tree, $found) = @_;
+    return 'dir' if exists $found->{dir};
+    return defined $found->{node} ? $tree->{kind}{ $found->{node} } : 'missing';
+}
+
+1;

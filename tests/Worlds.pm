@@ -1,0 +1,369 @@
+# Random worlds by a seed: listings and scripts in the formats that pua reads, and paths that are likely
+# to name something in them; and a way to run the program over such texts.
+#
+# The numbers come from a generator of this module, so that every machine has the same worlds.
+package Worlds;
+use strict;
+use warnings;
+use Exporter qw(import);
+use File::Spec;
+use File::Temp qw(tempdir);
+use POSIX ();
+
+our @EXPORT_OK = qw(answer_of worlds_told);
+
+# All names of trees; each world has a few of them.
+my @NAMES = ('a', 'b', 'c', 'd', 'e', 'f\040g');
+
+# What a line of a listing may add. A directory that is drawn more often makes deeper trees.
+my @KINDS = qw(dir dir dir dir file file prog link link hard);
+
+# Parts of targets and of paths beside names.
+my @STEPS = qw(. .. ..);
+
+my @PERMISSIONS = qw(r r rw rwc rwc wc rc rwxc rwxc rwxc x rx c = rrw);
+
+my $ALL = 'stdio,rpath,wpath,cpath,fattr,exec,proc,unveil';
+
+# What pledges may leave. Those in the midst of a script are mild, so that processes live on.
+my @MILD = (
+    $ALL, $ALL, "$ALL,error", "$ALL,inet,dns", '-', 'stdio,rpath,wpath,cpath,exec,proc,unveil',
+    'rpath,proc,unveil,error', 'rpath,cpath,error',
+);
+my @LAST = (
+    'stdio,rpath', 'rpath,wpath,cpath', 'stdio,rpath,wpath,cpath,proc', 'rpath,exec,proc',
+    'rpath,wpath,fattr', 'cpath,fattr', 'rpath,cpath,error', 'wpath,cpath,error', 'rpath,unveil', 'cpath,unveil,proc',
+    $ALL, 'stdio', '=',
+);
+my @EXECPROMISES = ('-', '-', 'stdio,rpath', 'rpath,wpath,cpath,exec', 'rpath,unveil,proc,exec', '=');
+
+# Sets of promises of tables of calls.
+my @SETS = ('', 'rpath', 'cpath', 'wpath', 'rpath,wpath', 'fattr', 'exec', 'stdio', 'rpath,cpath', 'inet');
+
+# The calls on one path.
+my @CALLS = qw(stat lstat readlink open-r open-w open-rw create mkdir rmdir unlink chmod chdir exec);
+
+# What a line asks for; the words in capitals stand for what is drawn. Most paths suit their call.
+my @REQUESTS = (
+    ('CALL PATH') x 4,
+    ('chdir DIR', 'mkdir NEW', 'create NEW', 'unlink FILE', 'rmdir LEAF', 'exec PROG') x 2,
+    ('rename FILE NEW', 'rename DIR NEW', 'rename FILE FILE', 'rename DIR DIR', 'rename PATH PATH'),
+    ('link FILE NEW') x 2, 'link PATH PATH',
+    ('symlink TARGET NEW') x 2, 'symlink TARGET PATH',
+    ('unveil HIGH PERMISSIONS') x 2, 'unveil PATH PERMISSIONS', 'unveil NEW PERMISSIONS',
+    'pledge MILD EXECPROMISES',
+    'fork CHILD',
+);
+
+# What is drawn seldom: what is refused for its text, an end, a lock in the midst.
+my @SELDOM = (
+    'exit', 'unveil - -', 'unveil PATH rq', 'unveil = r', 'stat =', 'pledge rpath,nothing -', 'pledge - MILD',
+    'symlink = PATH', 'stat ' . 'x' x 256, 'open-r /' . 'a/' x 511 . 'a', 'pledge LAST -', 'stat \040',
+);
+my $SELDOM_IN = 25;
+
+# Lines that tell more one after the other: what an exec leaves, what a child has of its parent, and what a narrow
+# pledge refuses. A word stands for the same in all lines.
+my @STRETCHES = (
+    "ASKER unveil PROG x\nASKER pledge - SET\nASKER exec PROG\nASKER pledge - SET",
+    "ASKER unveil PROG x\nASKER pledge MILD SET\nASKER exec PROG",
+    "ASKER unveil PROG x\nASKER pledge - SET\nASKER exec PROG\nASKER unveil HIGH r\nASKER exec PROG",
+    "ASKER unveil PROG rx\nASKER unveil - -\nASKER exec PROG",
+    "ASKER unveil DIR rc\nASKER chdir DIR\nASKER fork 3\n3 stat NAME\n3 mkdir NAME\n3 create NAME/NAME",
+    "ASKER unveil HIGH rwxc\nASKER fork 3\n3 open-r FILE",
+    "ASKER pledge stdio,wpath,cpath,fattr,proc,unveil -\nASKER chmod FILE\nASKER rename FILE NEW",
+    "ASKER pledge rpath,unveil,error -\nASKER symlink = NEW\nASKER rename FILE NEW\nASKER link FILE NEW",
+    "ASKER unveil HIGH rwc\nASKER link FILE NEW\nASKER unlink FILE",
+    "ASKER rename DIR/. NEW\nASKER rename FILE /\nASKER rename FILE FILE",
+);
+
+# Makes a generator of worlds. Those of one seed are always the same.
+sub new {
+    my ($class, $seed) = @_;
+    my $worlds = bless { state => 1 + $seed % 2147483646, names => [@NAMES] }, $class;
+    @$worlds{qw(paths of)} = (['/'], { dir => [''] });
+    $worlds->number(2) for 1 .. 5;
+    return $worlds;
+}
+
+# A number from 0 to $count - 1. The products are below 2**53, so they are exact on each machine.
+sub number {
+    my ($worlds, $count) = @_;
+    $worlds->{state} = $worlds->{state} * 48271 % 2147483647;
+    return $worlds->{state} % $count;
+}
+
+# One of some things.
+sub pick {
+    my ($worlds, @list) = @_;
+    return $list[ $worlds->number(scalar @list) ];
+}
+
+# The spelled names of the last listing, and one of them.
+sub names { return @{ $_[0]{names} } }
+sub name  { return $_[0]->pick($_[0]->names) }
+
+# The text of a random listing of 8 to 20 lines below the root's, under few names.
+sub listing {
+    my ($worlds) = @_;
+    my $first = $worlds->number(3);
+    $worlds->{names} = [ @NAMES[ $first .. $first + 2 + $worlds->number(2) ] ];
+    @$worlds{qw(paths of)} = (['/'], { dir => [''] });
+    my $tree = { dirs => { 0 => '' }, others => [], taken => {}, lines => [], header => 'tree 1' };
+    my ($number, $most) = (0, 8 + $worlds->number(13));
+    for (1 .. 10 * $most) {
+        last if @{ $tree->{lines} } == $most;
+        $number += 1 + ($worlds->number(6) == 0);
+        $worlds->_add_line($tree, $number);
+    }
+    my %over = map { m{(.*)/} ? ($1 => 1) : () } @{ $worlds->{paths} };
+    $worlds->{of}{leaf} = [ grep { !$over{$_} } @{ $worlds->{of}{dir} } ];
+    return join "\n", $tree->{header}, '0 dir', @{ $tree->{lines} }, '';
+}
+
+# Adds a line to a listing, if the name that is drawn is free, and for a further name there is a node.
+sub _add_line {
+    my ($worlds, $tree, $number) = @_;
+    my $parent = $worlds->pick(sort { $a <=> $b } keys %{ $tree->{dirs} });
+    my ($kind, $name) = ($worlds->pick(@KINDS), $worlds->name);
+    my $path = "$tree->{dirs}{$parent}/$name";
+    return if $tree->{taken}{$path} || $kind eq 'hard' && !@{ $tree->{others} };
+    $tree->{taken}{$path} = 1;
+    $tree->{header} = 'tree 2' if $kind eq 'hard';
+    $tree->{dirs}{$number} = $path if $kind eq 'dir';
+    my @end = $kind eq 'link' ? $worlds->_target : $kind eq 'hard' ? $worlds->pick(@{ $tree->{others} }) : ();
+    push @{ $tree->{others} }, $number unless $kind eq 'dir' || $kind eq 'hard';
+    push @{ $tree->{lines} }, join ' ', $number, $kind, $parent, $name, @end;
+    push @{ $worlds->{paths} }, $path;
+    push @{ $worlds->{of}{$kind} }, $path;
+    return;
+}
+
+# A target of a link: a path that was listed already, or any one; so some dangle, and some lead in a circle.
+sub _target {
+    my ($worlds) = @_;
+    return $worlds->pick('.', '..', '/', $worlds->name, $worlds->name) if $worlds->number(5) == 0;
+    return $worlds->pick(@{ $worlds->{paths} })   if $worlds->number(3) == 0;
+    return $worlds->path;
+}
+
+# A spelled path of the last listing, or near one; now and then relative, through `..`, or with odd slashes.
+sub path {
+    my ($worlds) = @_;
+    my $path = $worlds->pick(@{ $worlds->{paths} });
+    my $way  = $worlds->number(16);
+    $path = "/$path"                               if $way == 0;
+    $path = "$path/"                               if $way == 1;
+    $path = "$path/" . $worlds->pick(@STEPS)       if $way == 2;
+    $path = "$path/../" . $worlds->name            if $way == 3 || $way == 4;
+    $path = "$path/" . $worlds->name               if $way == 5 || $way == 6;
+    $path =~ s{[^/]*\z}{$worlds->name}e            if $way == 7 || $way == 8;
+    $path = '/' . join '/', map { $worlds->name } 0 .. $worlds->number(3) if $way == 9;
+    $path =~ s{\A/(?=.)}{}                         if $worlds->number(4) == 0;
+    $path =~ s{\A/}{../}                           if $worlds->number(30) == 0;
+    return $path;
+}
+
+# A path that is near the root, where a veil covers much.
+sub _high_path {
+    my ($worlds) = @_;
+    my @high = grep { tr{/}{} <= 2 } @{ $worlds->{paths} };
+    return $worlds->pick(@high);
+}
+
+# A path in a directory of the listing under any of all names, so mostly under one that is not there.
+sub _new_path {
+    my ($worlds) = @_;
+    return $worlds->pick(@{ $worlds->{of}{dir} }) . '/' . $worlds->pick(@NAMES);
+}
+
+# Mostly a path of one of these kinds, if there is one: a directory but the root, a leaf, which is a directory in
+# which nothing stands, a file, and so on.
+sub _path_of {
+    my ($worlds, @kinds) = @_;
+    my @paths = grep { $_ ne '' } map { @{ $worlds->{of}{$_} || [] } } @kinds;
+    return @paths && $worlds->number(4) ? $worlds->pick(@paths) : $worlds->path;
+}
+
+# A number of lines, each of one of some processes.
+sub requests {
+    my ($worlds, $count, @processes) = @_;
+    return map { $worlds->pick(@processes) . ' ' . $worlds->_request . "\n" } 1 .. $count;
+}
+
+sub _request {
+    my ($worlds) = @_;
+    my $request = $worlds->pick($worlds->number($SELDOM_IN) ? @REQUESTS : @SELDOM);
+    return join ' ', map { $worlds->_drawn($_) } split / /, $request;
+}
+
+# Lines of one process that belong together, without the end of the last.
+sub _stretch {
+    my ($worlds, $asker) = @_;
+    my $lines = $worlds->pick(@STRETCHES);
+    $lines =~ s/ASKER/$asker/g;
+    my %drawn;
+    $lines =~ s/([A-Z]+)/$drawn{$1} = exists $drawn{$1} ? $drawn{$1} : $worlds->_drawn($1)/ge;
+    return "$lines\n";
+}
+
+# What is drawn for a word, or the word itself.
+sub _drawn {
+    my ($worlds, $word) = @_;
+    return
+          $word eq 'PATH'         ? $worlds->path
+        : $word eq 'HIGH'         ? $worlds->_high_path
+        : $word eq 'TARGET'       ? $worlds->_target
+        : $word eq 'CALL'         ? $worlds->pick(@CALLS)
+        : $word eq 'DIR'          ? $worlds->_path_of('dir')
+        : $word eq 'LEAF'         ? $worlds->_path_of('leaf')
+        : $word eq 'PROG'         ? $worlds->_path_of('prog')
+        : $word eq 'FILE'         ? $worlds->_path_of('file', 'prog', 'link', 'hard')
+        : $word eq 'NEW'          ? $worlds->_new_path
+        : $word eq 'PERMISSIONS'  ? $worlds->pick(@PERMISSIONS)
+        : $word eq 'MILD'         ? $worlds->pick(@MILD)
+        : $word eq 'LAST'         ? $worlds->pick(@LAST)
+        : $word eq 'EXECPROMISES' ? $worlds->pick(@EXECPROMISES)
+        : $word eq 'SET'          ? $worlds->pick(grep { $_ ne '-' } @EXECPROMISES)
+        : $word eq 'NAME'         ? $worlds->name
+        : $word eq 'CHILD'        ? $worlds->pick(3, 4)
+        :                           $word;
+}
+
+# The text of a random script over the last listing. In %$how, all of it optional:
+# - veils: how many veils process 1 puts first (0 to 3);
+# - locks: whether it locks itself then, before it forks process 2. Where this isn't given it is so in one of three
+#   scripts, and in half of them process 2 is there before the veils, which it hasn't then;
+# - lines: how many lines follow (4 to 11, and before them some more, and some that belong together);
+# - askers: a list of the processes that make them (1 and 2, and seldom 3);
+# - ends: whether 1 and 2 may pledge and lock at the end (yes).
+sub script {
+    my ($worlds, $how) = @_;
+    my $veils = defined $how->{veils} ? $how->{veils} : $worlds->number(4);
+    my $is_early = !defined $how->{locks} && $worlds->number(2);
+    my $locks = defined $how->{locks} ? $how->{locks} : $worlds->number(3) == 0;
+    my $lines = defined $how->{lines} ? $how->{lines} : 4 + $worlds->number(8);
+    my @askers = $how->{askers} ? @{ $how->{askers} } : ((1) x 6, (2) x 6, 3);
+    my @script = map { $worlds->_veil(1) } 1 .. $veils;
+    push @script, $worlds->_lock(1) if $locks;
+    $is_early ? unshift @script, "1 fork 2\n" : push @script, "1 fork 2\n";
+    for (defined $how->{lines} ? () : (1, 2)) {
+        push @script, $worlds->requests(2 + $worlds->number(3), @askers), $worlds->_stretch($worlds->pick(1, 2));
+    }
+    push @script, $worlds->requests($lines, @askers);
+    push @script, map { $worlds->_end($_) } 1, 2 if !defined $how->{ends} || $how->{ends};
+    return join '', @script;
+}
+
+# What process 2, which sees all, does with a directory at which others have put veils, or in its place.
+my @MOVES = (
+    '2 rmdir DIRECTORY', "2 rmdir DIRECTORY\n2 mkdir DIRECTORY", "2 rmdir DIRECTORY\n2 create DIRECTORY",
+    '2 rename DIRECTORY NEW', "2 rename DIRECTORY NEW\n2 mkdir DIRECTORY", '2 rename NEW DIRECTORY',
+    "2 unlink DIRECTORY\n2 mkdir DIRECTORY", '2 mkdir DIRECTORY',
+);
+
+# The text of a script in which process 2 moves, takes away and makes again that on which 1 and 3 have veils.
+sub moving_script {
+    my ($worlds) = @_;
+    my @script = ("1 fork 2\n", "1 fork 3\n");
+    for (1 .. 6) {
+        my $path = $worlds->pick($worlds->_path_of('dir'), ($worlds->_path_of('leaf')) x 3, $worlds->_new_path);
+        my $move = $worlds->pick(@MOVES);
+        $move =~ s/DIRECTORY/$path/g;
+        $move =~ s/NEW/$worlds->_new_path/e;
+        push @script, $worlds->pick(1, 1, 3) . " unveil $path " . $worlds->pick(@PERMISSIONS) . "\n", "$move\n";
+        push @script, $worlds->requests(1, 1, 3);
+    }
+    return join '', @script, map { $worlds->_end($_) } 1, 3;
+}
+
+# A line by which a process puts a veil, often on much.
+sub _veil {
+    my ($worlds, $process) = @_;
+    my $path = $worlds->pick($worlds->path, ($worlds->_new_path) x 2, ($worlds->_high_path) x 4);
+    return "$process unveil $path " . $worlds->pick(@PERMISSIONS) . "\n";
+}
+
+# A line after which a process can put no veil any more, if it is alive.
+sub _lock {
+    my ($worlds, $process) = @_;
+    return "$process unveil - -\n" if $worlds->number(3);
+    return "$process pledge stdio,rpath,wpath,cpath,fattr,exec,proc -\n";
+}
+
+# The last lines of a process, some of which leave it fewer promises.
+sub _end {
+    my ($worlds, $process) = @_;
+    return if $worlds->number(3) == 0;
+    my @lines;
+    push @lines, $worlds->_veil($process) if $worlds->number(3) == 0;
+    push @lines, "$process unveil - -\n" if $worlds->number(3) == 0;
+    push @lines, "$process pledge " . $worlds->pick(@LAST) . ' ' . $worlds->pick(@EXECPROMISES) . "\n"
+        if $worlds->number(3);
+    return @lines;
+}
+
+# The text of a random table of calls: rows of two or three of the calls.
+sub table {
+    my ($worlds) = @_;
+    my %rows;
+    for (0 .. 2) {
+        my @sets = map { qq("$_") } map { $worlds->pick(@SETS) } 0 .. $worlds->number(3);
+        $rows{ $worlds->pick(@CALLS, 'symlink') } = [ join(', ', @sets), $worlds->pick(qw(r w x c rw rc wc), '') ];
+    }
+    return join '', map { "[$_]\npromises = [$rows{$_}[0]]\nveil = \"$rows{$_}[1]\"\n" } sort keys %rows;
+}
+
+# The directory in which the program is run; it goes when the test ends.
+my $room;
+
+# Runs a program once, without a shell, in a directory that has some files by their names and texts: its
+# status, and what it wrote on its two outputs.
+sub answer_of {
+    my ($program, $files, @words) = @_;
+    $program = File::Spec->rel2abs($program);
+    $room = tempdir(CLEANUP => 1) unless defined $room;
+    _write("$room/$_", $files->{$_}) for sort keys %$files;
+    my $child = fork;
+    die "fork: $!" unless defined $child;
+    _become($program, @words) if !$child;
+    waitpid $child, 0;
+    my $status = $? & 127 ? 128 + ($? & 127) : $? >> 8;
+    return ($status, _content("$room/.out"), _content("$room/.err"));
+}
+
+# Runs the program in place of this process.
+sub _become {
+    my ($program, @words) = @_;
+    chdir $room or POSIX::_exit(99);
+    open STDIN,  '<', File::Spec->devnull or POSIX::_exit(99);
+    open STDOUT, '>', "$room/.out"        or POSIX::_exit(99);
+    open STDERR, '>', "$room/.err"        or POSIX::_exit(99);
+    { no warnings 'exec'; exec {$program} $program, @words }
+    POSIX::_exit(99);
+}
+
+sub _write {
+    my ($name, $text) = @_;
+    open my $out, '>:raw', $name or die "$name: $!";
+    print $out $text or die "$name: $!";
+    close $out or die "$name: $!";
+    return;
+}
+
+sub _content {
+    my ($name) = @_;
+    open my $in, '<:raw', $name or die "$name: $!";
+    local $/ = undef;
+    my $text = <$in>;
+    close $in;
+    return defined $text ? $text : '';
+}
+
+# The texts of a world, for a diagnostic: each file under its name, and the command.
+sub worlds_told {
+    my ($files, @words) = @_;
+    return join '', "pua @words\n", map { "--- $_\n$files->{$_}" } sort keys %$files;
+}
+
+1;

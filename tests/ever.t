@@ -1,0 +1,397 @@
+#!/usr/bin/perl
+# Tests of `pua objects --ever` over random worlds by a fixed seed: perl tests/ever.t [PROGRAM]
+# In each world process 1 can put no veil any more. What it can touch now lies within what it can ever touch; and so
+# does what it and what it forks can touch behind random requests of theirs, short of an exec that succeeds. Things
+# are followed through renames by a model (Model.pm) of which the same is requested. The list for ever is that of a
+# plain model, too (EverModel.pm), so it isn't too long; and what can have no such list is refused.
+use strict;
+use warnings;
+use Cwd qw(abs_path);
+use FindBin qw($Bin);
+use lib $Bin;
+use Storable qw(dclone);
+use Test::More;
+use EverModel;
+use Foreseen;
+use Futures;
+use Lists qw(lists_of);
+use Model;
+use Things;
+use Worlds qw(answer_of worlds_told);
+
+my $SEED   = 7;
+my $WORLDS = 40;
+my $PLAYS  = 12;
+
+# A process that the first line of each script forks, and that asks for nothing: it has no veils and all
+# promises, so its list has each name of the tree.
+my $WITNESS = 9;
+
+# A process that process 1 forks when it can put no veil any more.
+my $CHILD = 2;
+
+my $PUA = abs_path(@ARGV ? $ARGV[0] : "$Bin/../crates/pua/out/pua");
+BAIL_OUT('no program') if !defined $PUA || !-x $PUA;
+
+# What the process pledges at last.
+my @PLEDGES = (
+    ('1 pledge stdio,rpath,wpath,cpath,fattr,exec,proc -') x 3, '1 pledge rpath,wpath,cpath,exec,proc -',
+    '1 pledge rpath,cpath,proc,error -', '1 pledge wpath,cpath,proc -', '1 pledge rpath,wpath,fattr,proc -',
+    '1 pledge rpath,wpath,cpath -', '1 pledge exec,rpath -', '1 pledge = -',
+);
+
+# What its veils give.
+my @PERMISSIONS = qw(rwxc rwxc rwc wc rc xc c c r r rw rx x w =);
+
+# By what rules worlds are asked.
+my @RULES = qw(profile profile openbsd table);
+
+# The calls that have to need c, in the order in which the program says that one doesn't.
+my @NEED_C = qw(rmdir unlink create mkdir symlink);
+
+my $worlds = Worlds->new($SEED);
+my %counts = map { $_ => 0 } qw(lists answers calls met execs tries plays);
+
+for my $number (1 .. $WORLDS) {
+    my $world = world($number);
+    ok(!is_told($world, beyond_now($world)), "world $number: what can be touched now is in the list for ever");
+    ok(!is_told($world, not_modelled($world)), "world $number: the list for ever is that of the model");
+    ok(!is_told($world, beyond_ever($world)), "world $number: it has what can be touched in $PLAYS futures");
+    ok(!$world->{stray}, "world $number: no exec succeeds where it has none");
+}
+note("$counts{lists} lists and $counts{answers} answers in $counts{plays} futures within lists for ever, of which ",
+    "$counts{met} calls of $counts{calls} were met; $counts{execs} futures ended by an exec, and ",
+    "$counts{tries} failed where the list has none");
+refusals();
+done_testing();
+
+# A world with its lists: one in which, by the model, process 1 lives and can put no veil any more. In three of four
+# it can edit the tree.
+sub world {
+    my ($number) = @_;
+    while (1) {
+        my $world = drawn($RULES[ $number % @RULES ]);
+        next if $world->{model}->state(1) !~ /^unveil (?:locked|given-up)$/m;
+        next if $number % 4 && !grep { / new / } EverModel::lines($world->{model}, 1);
+        $world->{lists}    = lists_of(asked($world, 'objects', '--process', 'all'))->{lists};
+        $world->{now}      = $world->{lists}{1};
+        $world->{ever}     = ever_of($world, 1);
+        $world->{foreseen} = Foreseen->new($world->{model}, $world->{ever});
+        return $world;
+    }
+}
+
+# The list for ever of a process, which is asked for once.
+sub ever_of {
+    my ($world, $process) = @_;
+    my $evers = $world->{evers} ||= {};
+    $evers->{$process} ||= lists_of(asked($world, 'objects', '--ever', '--process', $process))->{lists}{$process};
+    return $evers->{$process};
+}
+
+# A listing and a script, with a table by which no call lacks c.
+sub drawn {
+    my ($rules) = @_;
+    my $files = { listing => $worlds->listing, table => '' };
+    my $words = $rules eq 'table' ? [ '--table', 'table' ] : [ '--rules', $rules ];
+    while (1) {
+        $files->{table} = $worlds->table if $rules eq 'table';
+        my $model = Model->new($files->{listing}, { rules => $rules, table => $files->{table} });
+        next if defined lacks_c($model);
+        $files->{script} = first_script($model);
+        $model->run($files->{script});
+        return { files => $files, rules => $words, model => $model };
+    }
+}
+
+# The first call that lacks c, by the table of a model.
+sub lacks_c {
+    my ($model) = @_;
+    return (grep { $model->{needs}{$_}[1] !~ /c/ } @NEED_C)[0];
+}
+
+# A script that makes the witness, lets process 1 edit the tree of a model, puts its veils, and lets it put no more.
+sub first_script {
+    my ($model) = @_;
+    my @edits = grep { !/ (?:fork|exit|exec|unveil|pledge) / } $worlds->requests($worlds->number(4), 1);
+    my @rows  = Things::rows($model);
+    my @veils = map { veil(@rows) } 0 .. 1 + $worlds->number(3);
+    unshift @veils, nested_veils(@rows) if $worlds->number(3) == 0;
+    my @locks = ('1 unveil - -', '1 unveil - -', '1 pledge stdio,rpath,wpath,cpath,fattr,exec,proc -');
+    my @last  = $worlds->number(3) ? $worlds->pick(@PLEDGES) : ();
+    return join '', "1 fork $WITNESS\n", @edits, map { "$_\n" } @veils, $worlds->pick(@locks), "1 fork $CHILD", @last;
+}
+
+# A line that puts a veil on what stands in a tree, or on a name in it that may be missing; mostly one with c.
+sub veil {
+    my (@rows) = @_;
+    my $row  = $worlds->pick(@rows);
+    my $path = $row->{path};
+    $path .= ($path eq '/' ? '' : '/') . $worlds->pick($worlds->names, 'n')
+        if $row->{kind} eq 'dir' && $worlds->number(3) == 0;
+    return "1 unveil $path " . $worlds->pick(@PERMISSIONS);
+}
+
+# Lines that put a veil with c on a directory, and on that above it one without.
+sub nested_veils {
+    my (@rows) = @_;
+    my @dirs = grep { $_->{kind} eq 'dir' && $_->{path} =~ m{./} } @rows;
+    return if !@dirs;
+    my $inner = $worlds->pick(@dirs)->{path};
+    my ($outer) = $inner =~ m{\A(.*)/};
+    return ("1 unveil $outer " . $worlds->pick(qw(r rw rx w)), "1 unveil $inner " . $worlds->pick(qw(c wc rwc xc)));
+}
+
+# What the program prints of a world, behind these words; it has to end with status 0.
+sub asked {
+    my ($world, @words) = @_;
+    my ($status, $out, $err) = answer_of($PUA, $world->{files}, words_of($world, @words));
+    return $out if $status == 0 && $err eq '';
+    diag(told($world, @words));
+    BAIL_OUT("status $status: $err");
+}
+
+sub words_of {
+    my ($world, @words) = @_;
+    return (@words, @{ $world->{rules} }, 'listing', 'script');
+}
+
+sub told {
+    my ($world, @words) = @_;
+    return worlds_told($world->{files}, words_of($world, @words));
+}
+
+# Whether there is a fault, which is told with the world's listing, script and list for ever.
+sub is_told {
+    my ($world, $fault) = @_;
+    return 0 if !defined $fault;
+    diag("$fault\n", told($world, 'objects'), "--- the list for ever\n");
+    diag("$_->{text}\n") for @{ $world->{ever}{lines} };
+    return 1;
+}
+
+# The first line of now that is not in the list for ever, with all its calls; of process 1, or of the child that it
+# made before its last pledge.
+sub beyond_now {
+    my ($world) = @_;
+    for my $process (1, $CHILD) {
+        my $fault = Lists::beyond($world->{lists}{$process}, ever_of($world, $process));
+        return "process $process: $fault" if defined $fault;
+    }
+    return;
+}
+
+# The lists for ever of these two and those of the model, if they differ.
+sub not_modelled {
+    my ($world) = @_;
+    for my $process (1, $CHILD) {
+        my @lines  = map { $_->{text} } @{ ever_of($world, $process)->{lines} };
+        my @wanted = EverModel::lines($world->{model}, $process);
+        return join "\n", "process $process:", @lines, 'and by the model:', @wanted if "@lines" ne "@wanted";
+    }
+    return;
+}
+
+# What some random future leaves beyond the list for ever, if one does. The script of the world is then that up to
+# there.
+sub beyond_ever {
+    my ($world) = @_;
+    my $first = $world->{files}{script};
+    my %holds = map { $_ => Lists::holds($world->{now}, $_) } qw(proc exec);
+    for (1 .. $PLAYS) {
+        $world->{files}{script} = $first;
+        my $futures = Futures->new($worlds, $world->{foreseen}->every, \%holds, 10);
+        my $fault = eval { played($world, $futures) };
+        $fault = $@ if $@;
+        return $fault if defined $fault;
+        $counts{plays}++;
+    }
+    my ($calls, $met) = $world->{foreseen}->counted;
+    $counts{calls} += $calls;
+    $counts{met}   += $met;
+    return;
+}
+
+# The first fault behind some parts of a random script, each of one line or of many.
+sub played {
+    my ($world, $futures) = @_;
+    my $play = { model => dclone($world->{model}), list => $world->{now}, alive => [1], family => { 1 => 1 } };
+    for (1 .. 1 + $worlds->number(5)) {
+        my $count = $worlds->pick(1, 2, 4, 8, 16);
+        my @lines = $futures->lines($play->{model}, $play->{list}, $count, @{ $play->{alive} });
+        my $fault = behind($world, $play, \@lines);
+        return $fault if defined $fault;
+        last if $play->{has_exec} || !@{ $play->{alive} };
+    }
+    return;
+}
+
+# The first fault of some lines, which are put behind the world's script, and of the lists after them.
+sub behind {
+    my ($world, $play, $lines) = @_;
+    my $script = $world->{files}{script};
+    my $told = asked_behind($world, $script, @$lines);
+    my @answers = splice @{ $told->{answers} }, -@$lines;
+    for my $place (0 .. $#$lines) {
+        chomp(my $line = $lines->[$place]);
+        my $fault = beyond_answer($world, $play, $line, $answers[$place]);
+        return $fault if defined $fault;
+        next if !$play->{has_exec};
+        $told = asked_behind($world, $script, @$lines[ 0 .. $place - 1 ]);
+        last;
+    }
+    return beyond_lists($world, $play, $told->{lists});
+}
+
+# All lists behind a script and some lines, which become the world's.
+sub asked_behind {
+    my ($world, @parts) = @_;
+    $world->{files}{script} = join '', @parts;
+    return lists_of(asked($world, 'objects', '--process', 'all'));
+}
+
+# The fault of a request and its answer. An exec that succeeds isn't served by the model.
+sub beyond_answer {
+    my ($world, $play, $line, $answer) = @_;
+    my ($asker, $call, @words) = split / /, $line;
+    my $fault = $answer eq 'ok' ? beyond_okay($world, $play, $asker, $call, @words) : undef;
+    $counts{tries}++ if $call eq 'exec' && !$world->{foreseen}->every->{exec};
+    return $fault if defined $fault || $play->{has_exec};
+    my $wanted = $play->{model}->answer($asker, $call, @words);
+    return $answer eq $wanted ? undef : "$line: $answer, and $wanted by the model";
+}
+
+# The fault of a request that was answered ok.
+sub beyond_okay {
+    my ($world, $play, $asker, $call, @words) = @_;
+    return "$asker put a veil" if $call eq 'unveil' && $words[0] ne '-';
+    $play->{family}{ $words[0] } = 1 if $call eq 'fork';
+    return if $call =~ /\A(?:rename|link|unveil|pledge|fork|exit)\z/;
+    my ($kind, $path) = split / /, $play->{model}->subject($asker, $call, $words[-1]);
+    $counts{answers}++;
+    note_exec($world, $play) if $call eq 'exec';
+    my $foreseen = $world->{foreseen};
+    return $foreseen->meet($foreseen->about($play->{model}, $kind, $path), $call);
+}
+
+sub note_exec {
+    my ($world, $play) = @_;
+    $play->{has_exec} = 1;
+    $counts{execs}++;
+    $world->{stray} = 1 if !$world->{foreseen}->every->{exec};
+    return;
+}
+
+# The first fault of the lists of all processes.
+sub beyond_lists {
+    my ($world, $play, $lists) = @_;
+    my $fault = Things::unlike($play->{model}, $lists->{$WITNESS});
+    my @members = sort { $a <=> $b } keys %{ $play->{family} };
+    for my $member (@members) {
+        $counts{lists}++;
+        $fault = beyond_state($world->{now}, $lists->{$member}) if !defined $fault;
+        $fault = $world->{foreseen}->meet_list($play->{model}, $lists->{$member}) if !defined $fault;
+        return "process $member: $fault" if defined $fault;
+    }
+    $play->{alive} = [ grep { Lists::is_alive($lists->{$_}) } @members ];
+    $play->{list} = $lists->{ $play->{alive}[0] } if @{ $play->{alive} };
+    return;
+}
+
+# A member of the family keeps the veils of process 1, as far as letters go, and gets no promise but error.
+sub beyond_state {
+    my ($first, $list) = @_;
+    return if !Lists::is_alive($list);
+    return "can put veils again" if !Lists::is_confined($list);
+    return "has other veils" if "@{ [ letters($first) ] }" ne "@{ [ letters($list) ] }";
+    my ($promises) = Lists::state_of($list, 'promises');
+    my @more = grep { $_ ne 'error' && $_ ne '=' && !Lists::holds($first, $_) } split /,/, $promises;
+    return @more ? "has further promises: @more" : undef;
+}
+
+sub letters {
+    my ($list) = @_;
+    return map { (split / /)[1] } Lists::state_of($list, 'veil');
+}
+
+# What has no list for ever, and what has one without a line.
+sub refusals {
+    is_refused('a process that can still unveil', { script => "1 unveil / r\n" }, 'pua: process 1 can still unveil');
+    is_refused('a child that can, of a locked process', { script => "1 fork 2\n1 unveil - -\n" },
+        'pua: process 2 can still unveil', '--process', '2');
+    is_refused('a process that was never made', { script => "1 unveil - -\n" }, 'pua: no such process',
+        '--process', '2');
+    for my $call (@NEED_C) {
+        my $files = { script => "1 unveil - -\n", table => table_without_c($call) };
+        is_refused("a table by which $call needs no c", $files, "pua: table: $call: no c", '--table', 'table');
+    }
+    my $files = { script => "1 unveil - -\n", table => table_without_c(qw(symlink create mkdir)) };
+    is_refused('a table by which three calls need no c', $files, 'pua: table: create: no c', '--table', 'table');
+    $files->{script} = '';
+    is_refused('a process that can still unveil, by such a table,', $files, 'pua: process 1 can still unveil',
+        '--table', 'table');
+    tabled_worlds();
+    open_worlds();
+    ended_worlds();
+    return;
+}
+
+sub table_without_c {
+    return join "\n", map { ("[$_]", 'promises = ["cpath"]', 'veil = "rwx"', '') } @_;
+}
+
+# The listing of the worlds of which nothing else is asked.
+my $SMALL;
+
+sub is_refused {
+    my ($what, $files, $fault, @words) = @_;
+    $SMALL = $worlds->listing if !defined $SMALL;
+    my @told = answer_of($PUA, { listing => $SMALL, %$files }, 'objects', '--ever', @words, 'listing', 'script');
+    is_deeply(\@told, [ 1, '', "$fault\n" ], "$what has no list for ever");
+    return;
+}
+
+# Random tables: there is a list for ever where each of the five calls needs c, and else none.
+sub tabled_worlds {
+    my ($lacks, @wrong) = (0);
+    for (1 .. 40) {
+        my $files = { listing => $SMALL, script => "1 unveil - -\n", table => $worlds->table };
+        my $call  = lacks_c(Model->new($SMALL, { table => $files->{table} }));
+        my @words = ('objects', '--ever', '--table', 'table', 'listing', 'script');
+        my ($status, undef, $err) = answer_of($PUA, $files, @words);
+        $lacks += defined $call;
+        push @wrong, worlds_told($files) if "$status $err" ne (defined $call ? "1 pua: table: $call: no c\n" : '0 ');
+    }
+    is_deeply(\@wrong, [], "40 tables, $lacks of which have no list for ever");
+    return;
+}
+
+# Random scripts: there is a list for ever of process 1 where it can put no veil any more, and else none.
+sub open_worlds {
+    my ($opens, @wrong) = (0);
+    for (1 .. 60) {
+        my $files = { listing => $worlds->listing, script => $worlds->script({}) };
+        my (undef, $text) = answer_of($PUA, $files, 'objects', 'listing', 'script');
+        my $list = lists_of($text)->{lists}{1};
+        my ($status, $out, $err) = answer_of($PUA, $files, 'objects', '--ever', 'listing', 'script');
+        my $is_open = !Lists::is_confined($list);
+        $opens += $is_open;
+        my $told = $is_open ? "1 pua: process 1 can still unveil\n" : "0 ";
+        push @wrong, worlds_told($files, 'objects', '--ever') if "$status $err" ne $told || $is_open && $out ne '';
+    }
+    is_deeply(\@wrong, [], "60 scripts, $opens of which leave a process without a list for ever");
+    return;
+}
+
+# Scripts by which process 1 ends: the list for ever has this state, and no line.
+sub ended_worlds {
+    my @wrong;
+    for (1 .. 20) {
+        my $files = { listing => $worlds->listing, script => $worlds->script({ ends => 0 }) . "1 exit\n" };
+        my ($status, $out, $err) = answer_of($PUA, $files, 'objects', '--ever', 'listing', 'script');
+        push @wrong, worlds_told($files, 'objects', '--ever')
+            if $status != 0 || $err ne '' || $out !~ /^ever 1\nprocess ended\n\z/m;
+    }
+    is_deeply(\@wrong, [], '20 ended processes, which have a list for ever without a line');
+    return;
+}

@@ -1,0 +1,268 @@
+#!/usr/bin/perl
+# Tests of what pua takes for a listing, for a script and for a table of calls, by the tables in data/:
+#
+#     perl tests/inputs.t [PROGRAM]
+#
+# Each of three texts is cut after each of its bytes, and each of its bytes is replaced by each of sixteen others. What
+# comes of it has to be refused with its fault, or to be read as what it says: a listing as the tree whose objects and
+# links are told, a script and a table as that by which the script's lines are answered so.
+use strict;
+use warnings;
+use File::Spec;
+use File::Temp qw(tempdir);
+use FindBin qw($Bin);
+use POSIX ();
+use Test::More;
+
+my $PROGRAM = File::Spec->rel2abs(@ARGV ? $ARGV[0] : "$Bin/../crates/pua/out/pua");
+-x $PROGRAM or die "$PROGRAM: no such program; name one\n";
+
+# The texts. The listing has directories, a file, a program, and links: to a directory, up and down again, to itself.
+# The script puts veils over this tree. By the table one of two promises is enough to make a directory.
+my %TEXT = (
+    listing => <<'END',
+tree 1
+0 dir
+1 dir 0 etc
+2 file 1 passwd
+3 dir 0 tmp
+4 link 0 t tmp
+5 link 3 up ../etc
+6 link 3 self self
+7 prog 3 sh
+END
+    script => <<'END',
+1 unveil /etc r
+1 unveil /etc rw
+1 unveil /etc/passwd rw
+1 unveil /etc q
+1 unveil /no/x r
+1 unveil - -
+1 unveil /tmp r
+1 unveil - -
+END
+    table => <<'END',
+[mkdir]
+promises = ["cpath", "dpath"]
+veil = "c"
+END
+);
+
+# The command over a text that was cut or varied, which is the file `given`.
+my %COMMAND = (
+    listing => [qw(objects given nothing)],
+    script  => [qw(run whole given)],
+    table   => [qw(run --table given whole making)],
+);
+
+# What lies beside it: the whole listing, a script without a line, and one of a process that holds one of the two
+# promises and makes a directory below a veil.
+my %BESIDE = (
+    whole   => $TEXT{listing},
+    nothing => '',
+    making  => "1 unveil /tmp c\n1 pledge stdio,dpath,error -\n1 mkdir /tmp/new\n",
+);
+
+# The other bytes, which the tables name by letters from `a` on.
+my @OTHERS = ("\0", "\n", "\r", ' ', '\\', '/', '0', '9', '=', '-', "\177", "\200", "\377", 'c', 'r', 'z');
+
+# What a new process may do on each kind of thing, and with the names that a directory doesn't have.
+my %CALLS = (
+    dir   => 'stat,lstat,open-r,chmod,chdir',
+    empty => 'stat,lstat,open-r,rmdir,chmod,chdir',
+    file  => 'stat,lstat,open-r,open-w,open-rw,create,unlink,chmod',
+    prog  => 'stat,lstat,open-r,open-w,open-rw,create,unlink,chmod,exec',
+    link  => 'lstat,readlink,unlink',
+    other => 'create,mkdir,symlink',
+);
+
+# Its state.
+my $STATE = "objects 1\nprocess alive\npromises -\nexecpromises -\nunveil open\n";
+
+my $room = tempdir(CLEANUP => 1);
+chdir $room or die "$room: $!";
+my $starts = 0;
+
+sub written {
+    my ($name, $bytes) = @_;
+    open my $out, '>:raw', $name or die "$name: $!";
+    print $out $bytes or die "$name: $!";
+    close $out or die "$name: $!";
+    return;
+}
+
+sub content {
+    my ($name) = @_;
+    open my $in, '<:raw', $name or die "$name: $!";
+    local $/ = undef;
+    my $bytes = <$in>;
+    close $in;
+    return defined $bytes ? $bytes : '';
+}
+
+# Runs the program: its status, and what it wrote on both outputs.
+sub told {
+    my @words = @_;
+    $starts++;
+    my $child = fork;
+    die "fork: $!" unless defined $child;
+    if (!$child) {
+        open STDOUT, '>', 'out' or POSIX::_exit(99);
+        open STDERR, '>', 'err' or POSIX::_exit(99);
+        no warnings 'exec';
+        exec {$PROGRAM} $PROGRAM, @words;
+        POSIX::_exit(99);
+    }
+    waitpid $child, 0;
+    my $status = $? & 127 ? 128 + ($? & 127) : $? >> 8;
+    return ($status, content('out'), content('err'));
+}
+
+# What is told otherwise than expected, in words; the empty text where nothing is.
+sub otherwise {
+    my ($status, $out, $err, @words) = @_;
+    my ($is_status, $is_out, $is_err) = told(@words);
+    return '' if $is_status == $status && $is_out eq $out && $is_err eq $err;
+    return "@words: status $is_status\n$is_out$is_err";
+}
+
+# What is wrong with what comes of a text of a kind, where this is the answer of its table: a fault; or, of a listing,
+# that it is read as another one says, and of the others `is` and what the script's lines are answered.
+sub wrong {
+    my ($kind, $text, $answer, $listing) = @_;
+    written('given', $text);
+    my @command = @{ $COMMAND{$kind} };
+    return otherwise(1, '', "pua: $kind: $answer\n", @command) unless $answer =~ /\A(?:accepted\z|is\b)(.*)/;
+    return wrong_tree($listing, @command) if $kind eq 'listing';
+    my $line = 0;
+    return otherwise(0, join('', map { ++$line . " $_\n" } split ' ', $1), '', @command);
+}
+
+# What is wrong with a tree, which is to be that of a listing: its objects, and where its links lead.
+sub wrong_tree {
+    my ($listing, @command) = @_;
+    my $in = rows_of($listing);
+    my $wrong = otherwise(0, $STATE . below($in, 0, ''), '', @command);
+    return $wrong . join '', map { wrong_link(@$_) } links_of($in, 0, '');
+}
+
+# What is wrong with a link, which is to lead to a target.
+sub wrong_link {
+    my ($path, $target) = @_;
+    my ($status, $out, $err) = told('why', 'given', 'nothing', 'stat', $path);
+    my ($first) = $out =~ /^(link .*\n)/m;
+    return '' if defined $first && $first eq "link $path to $target\n" && $err eq '';
+    return "why stat $path: status $status\n$out$err";
+}
+
+# The rows of a listing that is well formed, by the numbers of their directories and by their names.
+sub rows_of {
+    my ($listing) = @_;
+    my %in;
+    for my $line (split /\n/, $listing) {
+        my ($number, $kind, $dir, $name, $target) = split / /, $line;
+        $in{$dir}{$name} = { number => $number, kind => $kind, target => $target } if defined $name;
+    }
+    return \%in;
+}
+
+# The lines of a directory's further names, and of all that is below it; before them its own.
+sub below {
+    my ($in, $dir, $path) = @_;
+    my $rows = $in->{$dir};
+    my $calls = $CALLS{ $rows || $path eq '' ? 'dir' : 'empty' };
+    my $shown = $path eq '' ? '/' : $path;
+    my $lines = "dir $shown $calls\nother $shown $CALLS{other}\n";
+    for my $name (sort keys %$rows) {
+        my ($kind, $at) = ($rows->{$name}{kind}, "$path/$name");
+        $lines .= $kind eq 'dir' ? below($in, $rows->{$name}{number}, $at) : "$kind $at $CALLS{$kind}\n";
+    }
+    return $lines;
+}
+
+# The paths of the links below a directory, each with its target.
+sub links_of {
+    my ($in, $dir, $path) = @_;
+    my @links;
+    for my $name (sort keys %{ $in->{$dir} || {} }) {
+        my $row = $in->{$dir}{$name};
+        push @links, ["$path/$name", $row->{target}] if $row->{kind} eq 'link';
+        push @links, links_of($in, $row->{number}, "$path/$name") if $row->{kind} eq 'dir';
+    }
+    return @links;
+}
+
+# The rows of a table: a number, a word and an answer, one row a line. A `#` begins a remark.
+sub table {
+    my ($name) = @_;
+    return map { chomp; [split / /, $_, 3] } grep { !/\A#/ } split /^/, content("$Bin/data/$name");
+}
+
+# Passes where nothing is wrong.
+sub is_right {
+    my ($name, @wrong) = @_;
+    ok(!@wrong, $name) or diag(@wrong);
+    return;
+}
+
+# Each front of a text, from the empty one to the whole; a listing is read as one whose last line is ended.
+sub try_fronts {
+    my ($kind) = @_;
+    my $cases = 0;
+    for my $row (table("$kind-fronts")) {
+        my ($first, $last, $answer) = @$row;
+        $first == $cases or die "$kind-fronts: $first is not the next front\n";
+        my @wrong = map { wrong($kind, $_, $answer, /\n\z/ ? $_ : "$_\n") }
+            map { substr $TEXT{$kind}, 0, $_ } $first .. $last;
+        is_right("the $kind cut after $first to $last bytes: $answer", grep { $_ ne '' } @wrong);
+        $cases = $last + 1;
+    }
+    is($cases, 1 + length $TEXT{$kind}, "the $kind: all fronts");
+    return $cases;
+}
+
+# Each variant of a text.
+sub try_variants {
+    my ($kind) = @_;
+    my %cases;
+    for my $row (table("$kind-variants")) {
+        my ($place, $letters, $answer) = @$row;
+        my @wrong;
+        for my $letter (split //, $letters) {
+            $cases{"$place $letter"} = 1;
+            my $wrong = wrong($kind, varied($kind, $place, $letter), $answer, relisted($place, $answer));
+            push @wrong, "letter $letter: $wrong" if $wrong ne '';
+        }
+        is_right("the $kind, byte $place as $letters: $answer", @wrong);
+    }
+    is(scalar keys %cases, @OTHERS * length $TEXT{$kind}, "the $kind: all variants");
+    return scalar keys %cases;
+}
+
+# A text with the byte of a letter in a place.
+sub varied {
+    my ($kind, $place, $letter) = @_;
+    my $text = $TEXT{$kind};
+    substr($text, $place, 1) = $OTHERS[ord($letter) - ord 'a'];
+    return $text;
+}
+
+# The listing with the line of an answer instead of the one that has the place.
+sub relisted {
+    my ($place, $answer) = @_;
+    my $end = 0;
+    return join '', map {
+        my $has_place = $end <= $place && $place < $end + length;
+        $end += length;
+        $has_place && $answer =~ /\Ais (.*)\z/ ? "$1\n" : $_;
+    } split /^/, $TEXT{listing};
+}
+
+written($_, $BESIDE{$_}) for sort keys %BESIDE;
+my %count;
+for my $kind (qw(listing script table)) {
+    $count{$kind} = [try_fronts($kind), try_variants($kind)];
+}
+note("$_: $count{$_}[0] fronts, $count{$_}[1] variants") for sort keys %count;
+note("$starts starts of the program");
+done_testing;

@@ -1,0 +1,182 @@
+#!/usr/bin/perl
+# Why and since when: the program as a black box over random worlds by a fixed seed.
+#
+#     perl tests/reasons.t [PROGRAM [WORLDS [SEED]]]
+#
+# - A run with reasons is the run, with a reason behind each answer that isn't ok, which is one of the manual's.
+# - A since is as it is defined (Why/Since.pm).
+# - `pua why` ends with the same line, and its other lines are true (Why/Facts.pm).
+# - What a reason names is so, and where just that is otherwise there is no such reason (Why/Otherwise.pm).
+# - Lists with reasons are the lists, with the promises and the veil that decide (Why/Columns.pm).
+use strict;
+use warnings;
+use File::Spec;
+use FindBin qw($Bin);
+use Test::More;
+use lib $Bin;
+use Why::Columns qw(columns_fault);
+use Why::Facts qw(facts_fault);
+use Why::Otherwise qw(words_fault);
+use Why::World qw(OBSERVER process_of);
+use Why::Scripts qw(each_kind refused_script);
+use Why::Since qw(ask_throughout since_fault);
+use Worlds;
+
+my $PROGRAM = File::Spec->rel2abs(@ARGV ? $ARGV[0] : "$Bin/../crates/pua/out/pua");
+die "$PROGRAM: no program\n" if !-x $PROGRAM;
+
+# How many random worlds are tried, and by which seed.
+my ($WORLDS, $SEED) = (20, 20);
+$WORLDS = $ARGV[1] if @ARGV > 1;
+$SEED   = $ARGV[2] if @ARGV > 2;
+
+# Of so many worlds one is asked by `pua why` about each line.
+my $WHY_IN = 4;
+
+# What calls need, by the manual: the sets of promises of which one has to be held.
+my %NEEDS = (
+    (map { $_ => ['rpath'] } qw(stat lstat readlink chdir open-r)),
+    (map { $_ => ['cpath'] } qw(mkdir rmdir unlink symlink)),
+    'open-w' => ['wpath'], 'open-rw' => ['rpath,wpath'], create => ['wpath,cpath'],
+    chmod => ['fattr'], exec => ['exec'],
+);
+
+# What is otherwise by a table, which has what no rules have: a call without promises, and calls with several
+# sets. And the letters that it asks.
+my %OTHERS = (
+    stat      => [''],
+    mkdir     => [ 'cpath', 'dpath' ],
+    'open-rw' => [ 'rpath,wpath,exec', 'fattr,wpath', 'cpath,proc,rpath' ],
+    unlink    => [ 'wpath,cpath', 'fattr' ],
+    exec      => ['exec,rpath'],
+);
+my %LETTERS = (stat => '', mkdir => 'c', 'open-rw' => 'rwc', unlink => 'wc', exec => 'rx');
+
+# That table as a text.
+sub table {
+    return join '', map {
+        "[$_]\npromises = [" . join(', ', map { "\"$_\"" } @{ $OTHERS{$_} }) . "]\nveil = \"$LETTERS{$_}\"\n"
+    } sort keys %OTHERS;
+}
+
+# By which rules one world after the other is asked, and what calls need by these.
+my @RULES = (
+    [ {}, \%NEEDS ],
+    [ { rules => 'openbsd' }, { %NEEDS, chmod => ['rpath,fattr'] } ],
+    [ { table => table() }, { %NEEDS, %OTHERS } ],
+);
+
+# How many reasons there were of each kind, and what else was counted.
+my (%kinds, %count);
+
+# A case for each line of a script: what is asked behind the lines before it, what it is answered, and what it
+# is told.
+sub cases {
+    my ($world, $script) = @_;
+    my @answers = $world->answers($script);
+    my @lines   = map { s/\A\d+ //r } $world->lines_of($script, 'run', '--why');
+    my @told    = $world->reasons($script);
+    return map { {
+        world   => $world,
+        script  => [ @$script[ 0 .. $_ - 1 ] ],
+        answers => [ @answers[ 0 .. $_ - 1 ] ],
+        request => $script->[$_],
+        process => process_of($script->[$_]),
+        answer  => $answers[$_],
+        line    => $lines[$_],
+        told    => $told[$_],
+    } } 0 .. $#$script;
+}
+
+# One test: that no case has a fault. The first one that has is shown, with all before it.
+sub judge {
+    my ($name, $fault_of, @cases) = @_;
+    for my $case (@cases) {
+        my $fault = $fault_of->($case);
+        next if $fault eq '';
+        fail($name);
+        diag("$case->{request}\n$case->{line}\n$fault\n" . $case->{world}->shown($case->{script}));
+        return;
+    }
+    pass($name);
+    return;
+}
+
+# What is wrong with a line of a run with reasons beside its answer.
+sub line_fault {
+    my ($case) = @_;
+    my ($line, $answer) = @$case{qw(line answer)};
+    return "it is answered $answer" if $case->{told}{answer} ne $answer;
+    return $line eq 'ok' ? '' : 'a reason of what is ok' if $answer eq 'ok';
+    return defined $case->{told}{kind} ? '' : 'no reason of the list';
+}
+
+# The tests of all that asks for the reasons of a script.
+sub ask {
+    my ($world, $name, $script, $is_chained) = @_;
+    my @cases = cases($world, $script);
+    judge("$name: answers and reasons", \&line_fault, @cases);
+    judge("$name: pua why", \&facts_fault, @cases) if $is_chained;
+    my @refused = grep { defined $_->{told}{kind} } @cases;
+    ask_throughout(@refused);
+    judge("$name: since", \&since_fault, @refused);
+    my %of;
+    push @{ $of{ $_->{told}{kind} } }, $_ for @refused;
+    for my $kind (sort keys %of) {
+        judge("$name: $kind", \&words_fault, @{ $of{$kind} });
+        $kinds{$kind} += @{ $of{$kind} };
+    }
+    $count{refused} += @refused;
+    $count{since} += grep { defined $_->{told}{since} } @refused;
+    return;
+}
+
+# The test of the lists with reasons at a script's end.
+sub list {
+    my ($world, $name, $script, $needs) = @_;
+    my @answers = $world->answers($script);
+    my $case = { world => $world, script => $script, answers => \@answers, needs => $needs, request => 'lists' };
+    judge("$name: objects --why", \&columns_fault, $case);
+    $count{objects} += $case->{objects} || 0;
+    return;
+}
+
+sub add_counts {
+    my (%more) = @_;
+    $count{$_} += $more{$_} for keys %more;
+    return;
+}
+
+# Worlds by hand: of each kind of reason, and full of veils and of processes.
+my ($listing, $each) = each_kind();
+my $empty   = "tree 1\n0 dir\n";
+my @veils   = (map({ "1 unveil /n$_ r" } 1 .. 128), '1 stat /n1', '1 unveil /n rw', '1 unveil /n128 =');
+my @forks   = (map({ "1 fork $_" } 2 .. 255), '1 fork 256', '1 fork 255');
+my @by_hand = (
+    [ 'each kind', $listing, $each ],
+    [ 'many veils', $empty, [ '1 fork ' . OBSERVER, @veils ] ],
+    [ 'many processes', $empty, [ '1 fork ' . OBSERVER, @forks ] ],
+);
+for (@by_hand) {
+    my ($name, $tree, $script) = @$_;
+    my $world = Why::World->new($PROGRAM, $tree, {});
+    ask($world, "world of $name", $script, $name eq 'each kind');
+    list($world, "world of $name", $script, \%NEEDS) if $name eq 'each kind';
+    add_counts($world->counts);
+}
+
+# Random worlds.
+my $worlds = Worlds->new($SEED);
+for my $number (1 .. $WORLDS) {
+    my ($how, $needs) = @{ $RULES[ $number % @RULES ] };
+    my $world  = Why::World->new($PROGRAM, $worlds->listing, $how);
+    my $script = refused_script($worlds);
+    ask($world, "world $number", $script, $number % $WHY_IN == 1);
+    list($world, "world $number", $script, $needs);
+    add_counts($world->counts);
+}
+
+note("$count{refused} lines that aren't ok, $count{since} of them since a line; $count{objects} objects");
+note("$count{starts} starts; of $count{altered} altered scripts $count{alike} are answered alike");
+note("$kinds{$_} $_") for sort { $kinds{$b} <=> $kinds{$a} || $a cmp $b } keys %kinds;
+done_testing();
