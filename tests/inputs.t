@@ -9,10 +9,10 @@
 use strict;
 use warnings;
 use File::Spec;
-use File::Temp qw(tempdir);
 use FindBin qw($Bin);
-use POSIX ();
+use lib $Bin;
 use Test::More;
+use Worlds qw(answer_of);
 
 my $PROGRAM = File::Spec->rel2abs(@ARGV ? $ARGV[0] : "$Bin/../crates/pua/out/pua");
 -x $PROGRAM or die "$PROGRAM: no such program; name one\n";
@@ -79,43 +79,15 @@ my %CALLS = (
 # Its state.
 my $STATE = "objects 1\nprocess alive\npromises -\nexecpromises -\nunveil open\n";
 
-my $room = tempdir(CLEANUP => 1);
-chdir $room or die "$room: $!";
+# The files that the program finds: these, and the text that is tried.
+my %files  = %BESIDE;
 my $starts = 0;
-
-sub written {
-    my ($name, $bytes) = @_;
-    open my $out, '>:raw', $name or die "$name: $!";
-    print $out $bytes or die "$name: $!";
-    close $out or die "$name: $!";
-    return;
-}
-
-sub content {
-    my ($name) = @_;
-    open my $in, '<:raw', $name or die "$name: $!";
-    local $/ = undef;
-    my $bytes = <$in>;
-    close $in;
-    return defined $bytes ? $bytes : '';
-}
 
 # Runs the program: its status, and what it wrote on both outputs.
 sub told {
     my @words = @_;
     $starts++;
-    my $child = fork;
-    die "fork: $!" unless defined $child;
-    if (!$child) {
-        open STDOUT, '>', 'out' or POSIX::_exit(99);
-        open STDERR, '>', 'err' or POSIX::_exit(99);
-        no warnings 'exec';
-        exec {$PROGRAM} $PROGRAM, @words;
-        POSIX::_exit(99);
-    }
-    waitpid $child, 0;
-    my $status = $? & 127 ? 128 + ($? & 127) : $? >> 8;
-    return ($status, content('out'), content('err'));
+    return answer_of($PROGRAM, \%files, @words);
 }
 
 # What is told otherwise than expected, in words; the empty text where nothing is.
@@ -130,7 +102,7 @@ sub otherwise {
 # that it is read as another one says, and of the others `is` and what the script's lines are answered.
 sub wrong {
     my ($kind, $text, $answer, $listing) = @_;
-    written('given', $text);
+    $files{given} = $text;
     my @command = @{ $COMMAND{$kind} };
     return otherwise(1, '', "pua: $kind: $answer\n", @command) unless $answer =~ /\A(?:accepted\z|is\b)(.*)/;
     return wrong_tree($listing, @command) if $kind eq 'listing';
@@ -195,7 +167,8 @@ sub links_of {
 # The rows of a table: a number, a word and an answer, one row a line. A `#` begins a remark.
 sub table {
     my ($name) = @_;
-    return map { chomp; [split / /, $_, 3] } grep { !/\A#/ } split /^/, content("$Bin/data/$name");
+    open my $in, '<', "$Bin/data/$name" or die "$name: $!";
+    return map { chomp; [split / /, $_, 3] } grep { !/\A#/ } <$in>;
 }
 
 # Passes where nothing is wrong.
@@ -258,7 +231,6 @@ sub relisted {
     } split /^/, $TEXT{listing};
 }
 
-written($_, $BESIDE{$_}) for sort keys %BESIDE;
 my %count;
 for my $kind (qw(listing script table)) {
     $count{$kind} = [try_fronts($kind), try_variants($kind)];
