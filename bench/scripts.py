@@ -1,7 +1,7 @@
 #!/usr/bin/env python3
 """Writes the scripts of the benchmarks into a folder: python3 scripts.py FOLDER
 
-All but `climb`, `descend`, `empty` and the veils have 60,000 lines. `one`, `many`, `looks`, `edits`, `sandbox`, `refused`
+All but `climb`, `descend`, `empty` and the veils have 60,000 lines. `ten` and `through` are for the listing `deep`. `one`, `many`, `looks`, `edits`, `sandbox`, `refused`
 and `refused-300` are for the listing `large` of listings.py, which has 4,000 nodes, `mkdirs` for `folders`, `links` for
 `linked`, `fill` for `wide`, `climb` and `descend` for `tower`. In `one` process 1 makes all calls; in `many` 256 processes
 take turns."""
@@ -111,6 +111,11 @@ def climb(times):
     return ["1 unveil / r"] + [f"1 chdir {down}"] * 8 + ["1 stat f"] * times
 
 
+def stats(path):
+    """Resolutions of one path."""
+    return [f"1 stat {path}"] * LINES
+
+
 def narrow(path):
     """A veil on one file or directory, and the lock."""
     return [f"1 unveil {path} r", "1 unveil - -"]
@@ -119,6 +124,7 @@ def narrow(path):
 made = {"one": one(), "many": many(), "looks": looks(), "edits": edits(), "mkdirs": mkdirs(), "sandbox": sandbox()}
 made |= {"links": links(), "fill": fill(), "climb": climb(CLIMBS), "descend": climb(0), "empty": []}
 made |= {"refused": refused(LINES), "refused-300": refused(300)}
+made |= {"ten": stats("".join(f"/part{number}" for number in range(10))), "through": stats("/d/l31")}
 made |= {"veil-names": narrow("/d50/file0050"), "veil-dead": narrow("/d99/g"), "veil-etc": narrow("/etc/ssl")}
 made |= {"veil-include": narrow("/usr/include/linux/can"), "veil-large": narrow("/dir030/file030.c")}
 made |= {"veil-tower": narrow("/")}

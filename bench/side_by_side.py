@@ -119,6 +119,8 @@ def runs():
     table("Listings and covers")
     row("a listing of 4,096 lines, in order (`wide`)", ["run", "wide", "empty"], less=NOTHING)
     row("a listing of 4,096 lines, names in no order (`mixed`)", ["run", "mixed", "empty"], less=NOTHING)
+    row("a line with a path of ten components (`deep`, `ten`)", ["run", "deep", "ten"], less=NOTHING, per=60_000)
+    row("a line whose path goes through 32 links (`deep`, `through`)", ["run", "deep", "through"], less=NOTHING, per=60_000)
     row("a level of a cover, 4,000 directories below the veil (`tower`, `climb`)", ["run", "tower", "climb"],
         less=("run", "tower", "descend"), per=200 * 4000)
 

@@ -9,8 +9,9 @@ use Exporter qw(import);
 use File::Spec;
 use File::Temp qw(tempdir);
 use POSIX ();
+use Tables qw(content);
 
-our @EXPORT_OK = qw(answer_of worlds_told);
+our @EXPORT_OK = qw(answer_in answer_of worlds_told);
 
 # All names of trees; each world has a few of them.
 my @NAMES = ('a', 'b', 'c', 'd', 'e', 'f\040g');
@@ -321,24 +322,36 @@ my $room;
 # status, and what it wrote on its two outputs.
 sub answer_of {
     my ($program, $files, @words) = @_;
+    _write(_room() . "/$_", $files->{$_}) for sort keys %$files;
+    return answer_in(_room(), $program, @words);
+}
+
+# Runs a program once, without a shell, in a directory: its status, and what it wrote on its two outputs.
+sub answer_in {
+    my ($folder, $program, @words) = @_;
+    my ($out, $err) = map { _room() . "/$_" } '.out', '.err';
     $program = File::Spec->rel2abs($program);
-    $room = tempdir(CLEANUP => 1) unless defined $room;
-    _write("$room/$_", $files->{$_}) for sort keys %$files;
     my $child = fork;
     die "fork: $!" unless defined $child;
-    _become($program, @words) if !$child;
+    _become($folder, $out, $err, $program, @words) if !$child;
     waitpid $child, 0;
     my $status = $? & 127 ? 128 + ($? & 127) : $? >> 8;
-    return ($status, _content("$room/.out"), _content("$room/.err"));
+    return ($status, content($out), content($err));
+}
+
+# The directory for files and outputs.
+sub _room {
+    $room = tempdir(CLEANUP => 1) unless defined $room;
+    return $room;
 }
 
 # Runs the program in place of this process.
 sub _become {
-    my ($program, @words) = @_;
-    chdir $room or POSIX::_exit(99);
+    my ($folder, $out, $err, $program, @words) = @_;
+    chdir $folder or POSIX::_exit(99);
     open STDIN,  '<', File::Spec->devnull or POSIX::_exit(99);
-    open STDOUT, '>', "$room/.out"        or POSIX::_exit(99);
-    open STDERR, '>', "$room/.err"        or POSIX::_exit(99);
+    open STDOUT, '>', $out                or POSIX::_exit(99);
+    open STDERR, '>', $err                or POSIX::_exit(99);
     { no warnings 'exec'; exec {$program} $program, @words }
     POSIX::_exit(99);
 }
@@ -349,15 +362,6 @@ sub _write {
     print $out $text or die "$name: $!";
     close $out or die "$name: $!";
     return;
-}
-
-sub _content {
-    my ($name) = @_;
-    open my $in, '<:raw', $name or die "$name: $!";
-    local $/ = undef;
-    my $text = <$in>;
-    close $in;
-    return defined $text ? $text : '';
 }
 
 # The texts of a world, for a diagnostic: each file under its name, and the command.

@@ -1,6 +1,6 @@
 #!/usr/bin/perl
 # Tests of `pua run`, `pua audit` and `pua objects` beside a plain model, over random worlds that are the same on each
-# machine, over the examples, and over the listings and scripts of the rows of crates/pua_examples:
+# machine, over the examples, and over the listings and scripts of the rows of data/rows.toml:
 #
 #     perl tests/audits.t [PROGRAM]
 #
@@ -12,6 +12,7 @@ use warnings;
 use FindBin qw($Bin);
 use lib $Bin;
 use Model;
+use Tables qw(content table_in);
 use Test::More;
 use Worlds qw(answer_of worlds_told);
 
@@ -263,19 +264,17 @@ sub test_examples {
 # The worlds of the rows that have an audit or a list and no fault: tree, script and the rules of the command. Tables
 # are those that have one call, one array and one text a line.
 sub test_rows {
-    my ($front, @rows) = split /^\[\[row\]\]\n/m, content("$TOP/crates/pua_examples/data/rows.toml");
-    my %trees = $front =~ /^\[tree\.(\S+)\]\n(?:about = [^\n]*\n)?listing = '''\n(.*?)^'''/msg;
+    my $table = table_in("$Bin/data/rows.toml");
     my %seen;
-    for my $row (@rows) {
-        my ($name, $command, $tree) = map { $row =~ /^$_ = ["'](.*)["']$/m } qw(name command tree);
-        my %files = $row =~ /^(script|table) = '''\n(.*?)^'''/msg;
-        next if $row =~ /^fault = /m || !$command || $command !~ /\A(?:audit|objects)\b/;
-        next if !$trees{$tree} || !defined $files{script};
+    for my $row (@{ $table->{row} }) {
+        my ($command, $tree) = ($row->{command} || '', $table->{tree}{ $row->{tree} });
+        next if exists $row->{fault} || $command !~ /\A(?:audit|objects)\b/ || !$tree || !defined $row->{script};
         my @rules = $command =~ /(--rules) (\w+)/;
         push @rules, '--table', 'table' if $command =~ /--table/;
-        next if "@rules" =~ /table/ && !is_plain_table($files{table});
-        next if $seen{"$tree @rules $files{script}"}++;
-        test_given(world("the row '$name'", { %files, listing => $trees{$tree} }, @rules));
+        next if "@rules" =~ /table/ && !is_plain_table($row->{table});
+        next if $seen{"$row->{tree} @rules $row->{script}"}++;
+        my %files = (listing => $tree->{listing}, map { exists $row->{$_} ? ($_ => $row->{$_}) : () } qw(script table));
+        test_given(world("the row '$row->{name}'", \%files, @rules));
     }
     return;
 }
@@ -285,16 +284,6 @@ sub is_plain_table {
     my ($text) = @_;
     return 0 unless defined $text;
     return !grep { !/\A(?:\[[a-z-]+\]|promises = \["[^\]]*"\]|veil = "\w*")\z/ } split /\n/, $text;
-}
-
-# The content of a file.
-sub content {
-    my ($name) = @_;
-    open my $in, '<:raw', $name or die "$name: $!\n";
-    local $/ = undef;
-    my $text = <$in>;
-    close $in;
-    return $text;
 }
 
 # A listing with a file and a directory, and to each of them a chain of links: /f1 leads to it, /f2 to /f1.

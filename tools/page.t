@@ -223,7 +223,7 @@ my @site = ('1 dir 0 www', '2 dir 1 site', '3 file 2 index', '4 file 1 key', '5 
 
 # Each story that pua is tested with: each line about an object is a row with something in it, each other
 # line stands above, and each veil whose place is there stands in the tree too.
-for my $output (glob "$TOOLS/../crates/pua_examples/data/*/{objects,all}-output") {
+for my $output (glob "$TOOLS/../examples/*/{objects,all}-output") {
     my ($story, $text) = (dirname($output), content($output));
     my ($status, $page, $err) = page("$story/listing", $output);
     my @counts = map { my $pattern = $_; scalar(() = $page =~ /$pattern/g) } 'class="row">', '<li>', '<b class="veil">';

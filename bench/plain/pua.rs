@@ -1,12 +1,11 @@
 // What `pua run`, `pua audit` and `pua objects` do, in plain Rust of one file, to compare with: the same text to the
 // byte, by the rules of docs/DEFINITIONS.md. Nothing here is proved. Built by `rustc -O --edition 2024 pua.rs`; its
-// words are those of `pua`. After the word `measure` it measures one reading or one resolution, as `pua_hostile` does.
+// words are those of `pua`.
 
 use std::borrow::Cow;
 use std::collections::HashMap;
 use std::fs;
 use std::hash::{BuildHasherDefault, Hasher};
-use std::hint::black_box;
 use std::io::{self, Write};
 use std::process::ExitCode;
 use std::sync::OnceLock;
@@ -1839,35 +1838,6 @@ fn perform(command: Command, words: &Words) -> Result<(), (u8, String)> {
     }
 }
 
-/// Prints how long one reading of a listing takes, or one resolution of a path, of so many.
-fn measure(words: &[String]) -> Result<(), (u8, String)> {
-    let usage = || (2, "measure read LISTING TURNS; measure resolve LISTING PATH TURNS".to_string());
-    let (listing, path, turns) = match words {
-        [what, listing, turns] if what == "read" => (listing, None, turns),
-        [what, listing, path, turns] if what == "resolve" => (listing, Some(path.as_bytes()), turns),
-        _ => return Err(usage()),
-    };
-    let turns: u32 = turns.parse().ok().filter(|turns| *turns > 0).ok_or_else(usage)?;
-    let text = fs::read(listing).map_err(|_| (3, format!("pua: cannot read {listing}")))?;
-    let tree = read_listing(&text).map_err(|fault| (1, fault))?;
-    let start = std::time::Instant::now();
-    for _ in 0..turns {
-        match path {
-            Some(path) => drop(black_box(tree.named(ROOT, black_box(path), false, true))),
-            None => drop(black_box(read_listing(black_box(&text)))),
-        }
-    }
-    let whole = start.elapsed();
-    match path {
-        Some(path) => {
-            let node = tree.named(ROOT, path, false, true).map(Found::node);
-            println!("{} ns a resolution of {node:?}", whole.as_nanos() / u128::from(turns));
-        }
-        None => println!("{} us a reading of {} names", whole.as_micros() / u128::from(turns), tree.names),
-    }
-    Ok(())
-}
-
 /// Those of the program beside which this one stands. Here no table is read.
 const USAGE: &str = "pua: usage: pua run [--table FILE] TREE SCRIPT; \
                      pua audit --limit N [--process P] [--base root|cwd] [--after CALL:PATH] [--table FILE] TREE SCRIPT [NAME...]";
@@ -1877,12 +1847,9 @@ fn main() -> ExitCode {
     let words: Vec<String> = std::env::args().skip(1).collect();
     let is_objects = words.first().is_some_and(|word| word == "objects");
     let usage = if is_objects { OBJECTS_USAGE } else { USAGE };
-    let done = match words.split_first() {
-        Some((first, words)) if first == "measure" => measure(words),
-        _ => match read_words(&words) {
-            Some((command, words)) => perform(command, &words),
-            None => Err((2, usage.into())),
-        },
+    let done = match read_words(&words) {
+        Some((command, words)) => perform(command, &words),
+        None => Err((2, usage.into())),
     };
     match done {
         Ok(()) => ExitCode::SUCCESS,

@@ -9,6 +9,7 @@ trap 'rm -rf "$room"' EXIT
 cd "$room" || exit 2
 printf 'tree 1\n0 dir\n' > tree
 : > script
+printf '1 stat /\n' > asks
 truncate -s 67108864 longest
 truncate -s 67108865 longer
 wrong=0
@@ -55,25 +56,41 @@ run audit --limit 1 --after '' tree script
 expect 'an empty word' 1 'pua: audit: bad resume'
 run run '' script
 expect 'a file without a name' 3 'pua: cannot read '
-"$program" audit --limit 1 tree script > /dev/full 2> told
-status=$?
-expect 'a full device' 3 'pua: cannot write'
-"$program" audit --limit 1 tree script >&- 2> told
-status=$?
-expect 'a closed output' 3 'pua: cannot write'
-mkfifo pipe
+run run tree/below script
+expect 'a file below a file' 3 'pua: cannot read tree/below'
+run run /dev/zero script
+expect 'a file without an end' 3 'pua: cannot read /dev/zero'
+run run /dev/null script
+expect 'a file without bytes' 1 'pua: listing: bad header'
+# (more than a buffer holds, of which the last line alone is wrong)
+seq -f '1 stat /%g' 1 20000 > long
+echo 'tree 1' >> long
+run run tree long
+expect 'a long file' 1 'pua: script: line 20001: bad line'
+mkfifo pipe unread
+# (an output that is open and that nobody reads)
+exec 3<> unread 4> unread 3>&-
+for words in 'audit --limit 0 tree asks' 'objects --process all tree asks' 'run tree asks' --help --version; do
+    "$program" $words > /dev/full 2> told
+    status=$?
+    expect "a full device: $words" 3 'pua: cannot write'
+    "$program" $words >&- 2> told
+    status=$?
+    expect "a closed output: $words" 3 'pua: cannot write'
+    "$program" $words 1< tree 2> told
+    status=$?
+    expect "an output that is open for reading: $words" 3 'pua: cannot write'
+    "$program" $words >&4 2> told
+    status=$?
+    expect "a pipe that nobody reads: $words" 3 'pua: cannot write'
+done
+exec 4>&-
 # (more lines than a pipe holds)
 "$program" audit --limit 16 tree script $(seq -f name%g 1 200) > pipe 2> told &
 head -n 1 < pipe > written
 wait $!
 status=$?
 expect 'a pipe that ends early' 3 'pua: cannot write'
-"$program" --help > /dev/full 2> told
-status=$?
-expect 'help to a full device' 3 'pua: cannot write'
-"$program" --version > /dev/full 2> told
-status=$?
-expect 'the version to a full device' 3 'pua: cannot write'
 "$program" run tree script 2> /dev/full > written
 status=$?
 : > told

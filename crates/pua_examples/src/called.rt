@@ -23,7 +23,7 @@ const FRONT: &[u8] = b"1 ok\n2 ok\n3 ok\n4 ok\n5 ok\nobjects 2\n";
 /// Prints whether a caller of each library is answered as expected.
 pub(crate) fn run(rt: &HostRuntime) -> Result<()> {
     let is_called = is_replay_asked(rt.alloc())? && is_list_written(rt.alloc())?;
-    tell(rt, &["a caller of each library"], is_called)
+    tell(rt, "a caller of each library", is_called)
 }
 
 /// Whether a server and its child are told what they may do.

@@ -35,7 +35,7 @@ pub(crate) fn run(rt: &HostRuntime) -> Result<()> {
         let are_same = are_same(alloc, &listed, &slotted, number)?;
         run_edit(rt, number, is_alike && are_same)?;
     }
-    tell(rt, &["slots used again"], are_new(alloc)?)?;
+    tell(rt, "slots used again", are_new(alloc)?)?;
     println!(rt; "{EDITS} edits of two trees")?;
     Ok(())
 }

@@ -1,6 +1,7 @@
 //! Trees with as many names as may be, of one file, and of as many nodes, over each kind of tree: memory is ample
 //! for all of them.
 
+use crate::told::tell;
 use crate::worlds::{run_over, script_of};
 use anyhow::Result;
 use pua_calls::CallTable;
@@ -32,8 +33,14 @@ const ANSWERS: [Answer; 7] = [
 /// How many files a full tree has beside its root.
 const FILES: u32 = 65_534;
 
+/// Prints whether such trees are made, and are then full.
+pub(crate) fn run(rt: &HostRuntime) -> Result<()> {
+    tell(rt, "65,534 names of one file", are_most_names(rt.alloc())?)?;
+    tell(rt, "65,534 files", are_full(rt.alloc())?)
+}
+
 /// Whether a tree of each kind takes so many files, and is then full.
-pub(crate) fn are_full(alloc: Global) -> Result<bool> {
+fn are_full(alloc: Global) -> Result<bool> {
     let is_listed_full = is_full(alloc, read_listing(alloc, ROOT)?)?;
     Ok(is_listed_full && is_full(alloc, read_listing_slab(alloc, ROOT)?)?)
 }
@@ -81,7 +88,7 @@ fn takes_none<T: FileTree>(tree: &mut T, more: Name, node: NodeId) -> bool {
 /// One file is given as many names as a tree has room for beside its root. Then there is no room for
 /// a further name, nor for a further node; there is again once a name is taken away, with which the
 /// file does not go.
-pub(crate) fn are_most_names(alloc: Global) -> Result<bool> {
+fn are_most_names(alloc: Global) -> Result<bool> {
     let mut tree = read_listing(alloc, b"tree 1\n0 dir\n1 file 0 00001\n")?;
     let file = NodeId::new(1);
     let mut are_tied = true;

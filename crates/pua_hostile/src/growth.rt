@@ -10,7 +10,7 @@ mod seen;
 mod texts;
 mod worlds;
 
-use crate::told::{tell, tell_unless};
+use crate::told::tell_unless;
 use crate::trees::ListedTree;
 use anyhow::Result;
 use pua_tree::{ListTree, SlabTree};
@@ -55,39 +55,4 @@ fn is_refused<T, F: PartialEq + Copy>(
         }
         _ => false,
     }
-}
-
-/// Lists a reach by paths and by objects, and what can ever be touched, over trees of both kinds, and
-/// prints of each list whether it was refused as it began, or is whole: nothing takes memory between the
-/// lines.
-pub(crate) fn list(rt: &HostRuntime) -> Result<()> {
-    let alloc = rt.alloc();
-    tell_whole(rt, "an audit", lines::is_whole::<ListTree>(alloc))?;
-    tell_whole(
-        rt,
-        "an audit over slots",
-        lines::is_whole::<SlabTree>(alloc),
-    )?;
-    tell_whole(rt, "objects", objects::is_whole::<ListTree>(alloc))?;
-    tell_whole(
-        rt,
-        "objects over slots",
-        objects::is_whole::<SlabTree>(alloc),
-    )?;
-    tell_whole(rt, "for ever", ever::is_whole::<ListTree>(alloc))?;
-    tell_whole(
-        rt,
-        "for ever, over slots",
-        ever::is_whole::<SlabTree>(alloc),
-    )
-}
-
-/// Prints whether a list is whole; an error is that it was refused as it began.
-fn tell_whole(rt: &HostRuntime, list: &str, is_whole: Result<bool>) -> Result<()> {
-    let word = match is_whole {
-        Ok(true) => "whole",
-        Ok(false) => "wrong",
-        Err(_) => "refused",
-    };
-    tell(rt, list, word)
 }

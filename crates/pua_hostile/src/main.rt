@@ -1,20 +1,16 @@
 //! Runs the libraries in hostile surroundings: sinks that take a byte at a time and break, readers
-//! that give a byte at a time and fail, the machine's own outputs and files where they fail, files as
-//! long as may be, and audits whose looks at the tree are counted. A line is printed for each case that
-//! is not as it has to be, and for each table how many cases it has. With the word `growth` it makes only
-//! the calls to which growths may be refused, with `list` it only lists a reach, and with `measure` it
-//! only measures how long something takes.
+//! that give a byte at a time and fail, and audits whose looks at the tree are counted. A line is printed
+//! for each case that is not as it has to be, and for each table how many cases it has. With the word
+//! `growth` it makes only the calls to which growths may be refused.
 #![tactic(auto)]
 
 mod audited;
 mod broken;
 mod called;
-mod devices;
 mod dripping;
 mod growth;
 mod listed;
 mod live;
-mod measured;
 mod reports;
 mod told;
 mod trees;
@@ -31,8 +27,6 @@ fn main(rt: HostRuntime) -> Result<()> {
     let words: Vec<&str> = words.iter().map(String::as_str).collect(rt.alloc())?;
     match words.as_slice() {
         [_, "growth"] => growth::run(&rt),
-        [_, "list"] => growth::list(&rt),
-        [_, "measure", asked @ ..] => measured::run(&rt, asked),
         _ => run_all(&rt),
     }
 }
@@ -41,7 +35,5 @@ fn run_all(rt: &HostRuntime) -> Result<()> {
     broken::run(rt)?;
     reports::run(rt)?;
     live::run(rt)?;
-    devices::run(rt)?;
-    growth::run(rt)?;
-    growth::list(rt)
+    growth::run(rt)
 }

@@ -3,7 +3,7 @@
 #![tactic(auto)]
 
 mod answers;
-mod audit_text;
+mod audit_list;
 mod block;
 mod ever_line;
 mod ever_list;
@@ -23,7 +23,7 @@ mod why_list;
 mod why_lists;
 
 pub use answers::{answer_text, front_text};
-pub use audit_text::write_audit;
+pub use audit_list::{AuditList, write_audit};
 pub use block::Block;
 pub use ever_list::{EverList, write_ever};
 pub use kept_path::KeptPath;

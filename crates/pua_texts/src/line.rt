@@ -26,8 +26,9 @@ pub(crate) fn add_pairs<'t, P: Probe<'t>, S: Sink>(
     sink: &mut S,
 ) -> Result<(), PutFault>
     requires tree { P.tree probe.old ≡ audit.old.tree }
-    ensures { PassesOn S.written S.failed (pair_lines audit.old.base audit.old.left)
+    ensures lines { PassesOn S.written S.failed (pair_lines audit.old.base audit.old.left)
         result block.old block.new sink.old sink.new }
+    ensures tree { P.tree probe.new ≡ audit.new.tree }
 {
     while let Some(pair) = audit.next_line(probe) {
         block.make_room(sink)?;

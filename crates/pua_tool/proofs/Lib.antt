@@ -4,6 +4,7 @@ pub mod Futures
 pub mod Alike
 pub mod ObjectTexts
 pub mod EverTexts
+pub mod AuditTexts
 pub mod Stops
 pub mod Ends
 pub mod WhyTexts

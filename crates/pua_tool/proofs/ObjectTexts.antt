@@ -1,5 +1,5 @@
 -- The text of lists, step by step.
-use Rattle.std.proofs.Common.{◌≡◌, ℕ, ◌+◌, List, ◌++◌, subst, refl}
+use Rattle.std.proofs.Common.{◌≡◌, ℕ, List, ◌++◌, subst, refl}
 use Rattle.std.specs.Prelude.{Option, Result, Ok, Err, ◌≢◌, OnOk, IfErr}
 use Rattle.pua_tree.specs.Steps.{◌>>=◌}
 use Rattle.pua_calls.specs.Calls.{CallTable}

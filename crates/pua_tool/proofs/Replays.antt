@@ -1,23 +1,16 @@
--- What is replayed and begun, step by step.
-use Rattle.std.proofs.Common.{◌≡◌, ℕ, List, ◌++◌, sym, subst, ◌∙◌}
-use Rattle.std.specs.Prelude.{Option, Some, None, Result, Ok, Err, ok_or}
+-- What is replayed, step by step.
+use Rattle.std.proofs.Common.{◌≡◌, ℕ, List, subst}
+use Rattle.std.specs.Prelude.{Result, Ok, Err}
 use Rattle.pua_tree.specs.Tree.{Tree}
 use Rattle.pua_tree.specs.Listing.{listing}
 use Rattle.pua_tree.specs.Steps.{◌>>=◌}
 use Rattle.pua_calls.specs.Calls.{CallTable}
-use Rattle.pua_policy.specs.History.{History}
 use Rattle.pua_script.specs.Requests.{Asked}
 use Rattle.pua_script.specs.Scripts.{script}
-use Rattle.pua_script.specs.Replay.{World, new_world, history_of, answers, world_after}
+use Rattle.pua_script.specs.Replay.{World, new_world, answers, world_after}
 use Rattle.pua_script.specs.Worlds.{StandsForWorld, WorldState}
-use Rattle.pua_audit.specs.Begin.{Beginning, beginning}
-use Rattle.pua_audit.specs.declared.fault.AuditFault.{AuditFault}
-use Rattle.pua_tool.specs.Texts.{Chosen, Wanted, Replayed, Begun, as_listing, as_script, as_audit, table_by, replayed, begun, audit_text, text_of}
-use Rattle.pua_texts.specs.Lines.{front_of, pair_lines}
-use Rattle.pua_tool.specs.Begun.{IsBegun, text_left}
-use Rattle.pua_tool.specs.declared.audit.Audited.{Audited}
+use Rattle.pua_tool.specs.Texts.{Chosen, Replayed, as_listing, as_script, table_by, replayed}
 use Rattle.pua_tool.specs.declared.fault.ToolFault.{ToolFault}
-use Rattle.pua_tool.specs.declared.fault.ToolFault.TheVariants.{NoProcess, Audit}
 
 -- a world that stands for what one table leaves stands for what the same table leaves
 pub left_by_same : {state : WorldState} (a b : CallTable) (w : World) (asks : List Asked) → a ≡ b → StandsForWorld state (world_after a w asks) → StandsForWorld state (world_after b w asks)
@@ -56,49 +49,3 @@ module _ (choice : Chosen) (tree_bytes script_bytes : List ℕ) where
       → replayed choice tree_bytes script_bytes ≡ Err fault
   unfolding replayed
   script_refuses table t fault b l s = λ i. b i >>= λ table. l i >>= λ t. served table t (s i)
-
-  module _ (wanted : Wanted) where
-    abbrev begun_with : Replayed → Result Beginning ToolFault → Result Begun ToolFault
-    begun_with done begins = begins >>= λ b. Ok (record { told = done.told; beginning = b })
-
-    abbrev begun_by : Replayed → Option History → Result Begun ToolFault
-    begun_by done made =
-        ok_or made NoProcess >>= λ h. begun_with done (as_audit (beginning done.world.tree done.table h wanted.base wanted.candidates wanted.limit wanted.after))
-
-    pub begun_is : (done : Replayed) (h : History) (b : Beginning) → replayed choice tree_bytes script_bytes ≡ Ok done → history_of done.world wanted.process ≡ Some h
-        → beginning done.world.tree done.table h wanted.base wanted.candidates wanted.limit wanted.after ≡ Ok b
-        → begun choice tree_bytes script_bytes wanted ≡ Ok (record { told = done.told; beginning = b })
-    unfolding begun
-    begun_is done h b r m e =
-        (λ i. r i >>= λ done. begun_by done (history_of done.world wanted.process))
-        ∙ (λ i. begun_by done (m i))
-        ∙ (λ i. begun_with done (as_audit (e i)))
-
-    -- what refuses the replay comes first
-    pub replay_refuses : (fault : ToolFault) → replayed choice tree_bytes script_bytes ≡ Err fault → begun choice tree_bytes script_bytes wanted ≡ Err fault
-    unfolding begun
-    replay_refuses fault r = λ i. r i >>= λ done. begun_by done (history_of done.world wanted.process)
-
-    -- a process never made comes where the replay is not refused
-    pub process_refuses : (done : Replayed) → replayed choice tree_bytes script_bytes ≡ Ok done → history_of done.world wanted.process ≡ None
-        → begun choice tree_bytes script_bytes wanted ≡ Err NoProcess
-    unfolding begun
-    process_refuses done r m = (λ i. r i >>= λ done. begun_by done (history_of done.world wanted.process)) ∙ (λ i. begun_by done (m i))
-
-    -- what no audit begins with comes last
-    pub audit_refuses : (done : Replayed) (h : History) (fault : AuditFault) → replayed choice tree_bytes script_bytes ≡ Ok done
-        → history_of done.world wanted.process ≡ Some h
-        → beginning done.world.tree done.table h wanted.base wanted.candidates wanted.limit wanted.after ≡ Err fault
-        → begun choice tree_bytes script_bytes wanted ≡ Err (Audit fault)
-    unfolding begun
-    audit_refuses done h fault r m e =
-        (λ i. r i >>= λ done. begun_by done (history_of done.world wanted.process))
-        ∙ (λ i. begun_by done (m i))
-        ∙ (λ i. begun_with done (as_audit (e i)))
-
--- what is left to write of what was begun is the whole text
-pub text_is_left : (choice : Chosen) (tree_bytes script_bytes : List ℕ) (wanted : Wanted) (audited : Audited) (b : Begun) → begun choice tree_bytes script_bytes wanted ≡ Ok b
-    → IsBegun audited b → audit_text choice tree_bytes script_bytes wanted ≡ Ok (text_left wanted audited)
-text_is_left choice tree_bytes script_bytes wanted audited b begins is =
-    (λ i. begins i >>= λ b. Ok (text_of wanted b))
-    ∙ (λ i. Ok (front_of wanted.after wanted.process (sym is.told i) ++ pair_lines (sym is.base i) (sym is.left i)))

@@ -10,6 +10,7 @@ use Rattle.pua_calls.specs.TableTexts.{table_over}
 use Rattle.pua_calls.specs.declared.rules.Rules.{Rules}
 use Rattle.pua_calls.specs.declared.rules.Rules.TheVariants.{Profile}
 use Rattle.pua_calls.specs.declared.table.read.TableFault.{TableFault}
+use Rattle.pua_policy.specs.History.{History}
 use Rattle.pua_script.specs.Requests.{Asked}
 use Rattle.pua_script.specs.Scripts.{script}
 use Rattle.pua_script.specs.Replay.{World, new_world, history_of, answers, world_after}
@@ -114,17 +115,30 @@ pub record Begun : Type 0 where
   pub told : List Answer
   pub beginning : Beginning
 
+-- where the audit begins that is asked for, of a process with this history over a tree
+abbrev pub beginning_of : Tree → CallTable → History → Wanted → Result Beginning AuditFault
+beginning_of t table h wanted = beginning t table h wanted.base wanted.candidates wanted.limit wanted.after
+
+-- the audit of a process where a replay ends, or why there is none: a process never made, or what no audit begins with
+abbrev pub begun_after : Replayed → Wanted → Result Begun ToolFault
+begun_after done wanted = do
+  h ← ok_or (history_of done.world wanted.process) NoProcess
+  b ← as_audit (beginning_of done.world.tree done.table h wanted)
+  Ok (record { told = done.told; beginning = b })
+
 -- the audit of a process at the end of a script over a listing, or the first fault: the table's, the listing's, the script's, a process never made, or what no audit begins with
 unfoldable pub begun : Chosen → List ℕ → List ℕ → Wanted → Result Begun ToolFault
 begun choice tree_bytes script_bytes wanted = do
   done ← replayed choice tree_bytes script_bytes
-  h ← ok_or (history_of done.world wanted.process) NoProcess
-  b ← as_audit (beginning done.world.tree done.table h wanted.base wanted.candidates wanted.limit wanted.after)
-  Ok (record { told = done.told; beginning = b })
+  begun_after done wanted
 
 -- the front, and a line for each pair that is still to come
 abbrev pub text_of : Wanted → Begun → List ℕ
 text_of wanted b = front_of wanted.after wanted.process b.told ++ pair_lines b.beginning.scope.base (still_to_come b.beginning)
+
+-- the text of an audit where a replay ends, or why there is none
+abbrev pub audit_after : Replayed → Wanted → Result (List ℕ) ToolFault
+audit_after done wanted = begun_after done wanted >>= λ b. Ok (text_of wanted b)
 
 -- the whole text of an audit, or what refuses it
 abbrev pub audit_text : Chosen → List ℕ → List ℕ → Wanted → Result (List ℕ) ToolFault

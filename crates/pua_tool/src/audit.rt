@@ -1,21 +1,26 @@
 //! The text of an audit.
 
 ghost use Rattle.std.specs.Prelude.{◌≡◌, ◌≢◌, ℕ, List, Ok, Err, IfOk, IfErr, OnOk};
-ghost use Rattle.pua_tool.specs.Texts.{Begun, by_job, wanted, begun, audit_text};
+ghost use Rattle.pua_policy.specs.History.{History, StandsFor};
+ghost use Rattle.pua_audit.specs.Begin.{Beginning, still_to_come};
 ghost use Rattle.pua_calls.specs.declared.rules.Rules.TheVariants as rule;
-ghost use Rattle.pua_tool.specs.Begun.{IsBegun, text_left};
+ghost use Rattle.pua_tool.specs.Begun.{IsReplay};
+ghost use Rattle.pua_tool.specs.EverTexts.{AnswersTo};
+ghost use Rattle.pua_tool.specs.Texts.{Replayed, as_audit, audit_after, audit_text};
+ghost use Rattle.pua_tool.specs.Texts.{beginning_of, by_job, wanted};
 ghost use Rattle.pua_io.specs.Sinks.{Adds, AddsFront, HasFailed};
 
 use crate::fault::ToolFault;
 use crate::job::Job;
-use crate::script::{ProgramTree, Replay, replay_script};
+use crate::objects::told;
+use crate::script::{Replay, replay_script};
 use crate::table::TableChoice;
-use pua_audit::{Audit, AuditFault};
-use pua_calls::Rules;
-use pua_io::{PutFault, Sink};
-use pua_path::Counted;
-use pua_script::{Answer, World};
-use pua_texts::{Block, front_text, write_audit};
+use pua_audit::AuditFault;
+use pua_calls::{CallTable, Rules};
+use pua_io::Sink;
+use pua_policy::Process;
+use pua_texts::{AuditList, Block, front_text, write_audit};
+use pua_tree::FileTree;
 use std::alloc::Global;
 
 /// Writes the text of an audit by the rules of the profile. It answers what `audit_by` does.
@@ -79,98 +84,68 @@ pub fn audit_by<S: Sink>(
     ensures unwritten { IfErr result (λ fault. fault ≢ ToolFault.Write →
         S.written sink.new ≡ S.written sink.old) }
 {
-    let mut audited = begin(alloc, tree_bytes, script_bytes, rules, job)?;
-    audited.write(alloc, job, sink)
-}
-
-/// A script's answers, the world that it left, and the audit of a process in it.
-#[derive(Drop)]
-pub(crate) struct Audited {
-    pub(crate) told: Vec<Answer>,
-    pub(crate) world: World<ProgramTree>,
-    pub(crate) audit: Audit,
-}
-
-impl Audited {
-    /// Writes the text of what was begun. `OutOfMemory` where a growth was refused, and nothing is
-    /// then written; `Write` where a put failed.
-    fn write<S: Sink>(
-        &mut self,
-        alloc: Global,
-        job: &Job<'_>,
-        sink: &mut S,
-    ) -> Result<(), ToolFault>
-        requires { self.old.world.tree ≡ self.old.audit.tree }
-        ensures whole { OnOk result (Adds (text_left (wanted job.now) self.old)
-            (S.written sink.old) (S.written sink.new)) }
-        ensures unfailed { OnOk result (S.failed sink.new ≡ S.failed sink.old) }
-        ensures write { result ≡ Err ToolFault.Write →
-            AddsFront (text_left (wanted job.now) self.old) (S.written sink.old)
-            (S.written sink.new)
-            × HasFailed (S.failed sink.old) (S.failed sink.new) }
-        ensures memory { IfErr result (λ fault. fault ≢ ToolFault.Write →
-            fault ≡ ToolFault.OutOfMemory) }
-        ensures unwritten { IfErr result (λ fault. fault ≢ ToolFault.Write →
-            S.written sink.new ≡ S.written sink.old) }
-    {
-        let told = self.told.as_slice();
-        let Ok(front) = front_text(alloc, told, job.process, job.after) else {
-            return Err(ToolFault::OutOfMemory);
-        };
-        let Ok(mut block) = Block::new(alloc) else {
-            return Err(ToolFault::OutOfMemory);
-        };
-        let mut probe = Counted::new(self.world.tree());
-        match write_audit(
-            &mut self.audit,
-            &mut probe,
-            front.as_str(),
-            &mut block,
-            sink,
-        ) {
-            Ok(()) => Ok(()),
-            Err(PutFault) => Err(ToolFault::Write),
-        }
-    }
-}
-
-/// Serves the script and begins the audit, or answers the first fault.
-fn begin(
-    alloc: Global,
-    tree_bytes: &[u8],
-    script_bytes: &[u8],
-    rules: Rules,
-    job: &Job<'_>,
-) -> Result<Audited, ToolFault>
-    ensures begun { IfOk result (λ audited. (b : Begun)
-        × (begun (by_job rules job.now) tree_bytes.now script_bytes.now (wanted job.now) ≡ Ok b)
-        × IsBegun audited b) }
-    ensures refused { IfErr result (λ fault. fault ≢ ToolFault.OutOfMemory →
-        (begun (by_job rules job.now) tree_bytes.now script_bytes.now (wanted job.now)
-        ≡ Err fault)) }
-    ensures unwritten { IfErr result (λ fault. fault ≢ ToolFault.Write) }
-{
     let choice = TableChoice {
         rules,
         rows: job.table,
     };
-    let Replay { world, told } = replay_script(alloc, tree_bytes, script_bytes, choice)?;
+    let replay = replay_script(alloc, tree_bytes, script_bytes, choice)?;
+    let written = pairs_to(alloc, &replay, job, sink);
+    replay.release();
+    written
+}
+
+/// Writes the answers of a script, and then the pairs of the audit that a job asks for, where the
+/// script ends. Every fault but `Write` is answered before anything is written.
+fn pairs_to<S: Sink>(
+    alloc: Global,
+    replay: &Replay,
+    job: &Job<'_>,
+    sink: &mut S,
+) -> Result<(), ToolFault>
+    ensures { (done : Replayed) → IsReplay replay.now done →
+        AnswersTo S.written S.failed (audit_after done (wanted job.now)) result sink.old sink.new }
+{
+    let world = &replay.world;
     let Some(process) = world.process(job.process) else {
         return Err(ToolFault::NoProcess);
     };
-    let mut probe = Counted::new(world.tree());
-    let audit = Audit::begin(
+    let mut list = begin(alloc, world.tree(), process, world.table(), job)?;
+    let Ok(front) = front_text(alloc, replay.told.as_slice(), job.process, job.after) else {
+        return Err(ToolFault::OutOfMemory);
+    };
+    let Ok(mut block) = Block::new(alloc) else {
+        return Err(ToolFault::OutOfMemory);
+    };
+    told(write_audit(front.as_str(), &mut list, &mut block, sink))
+}
+
+/// Begins the audit of a process that a job asks for, or answers why there is none.
+fn begin<'t, T: FileTree>(
+    alloc: Global,
+    tree: &'t T,
+    process: &Process,
+    table: &CallTable,
+    job: &Job<'_>,
+) -> Result<AuditList<'t, T>, ToolFault>
+    ensures begun { IfOk result (λ list. (h : History) → StandsFor process.now h →
+        (b : Beginning) × (beginning_of (T.content tree.now) table.now h (wanted job.now) ≡ Ok b)
+        × (list.left ≡ still_to_come b) × (list.base ≡ b.scope.base)) }
+    ensures refused { IfErr result (λ fault. fault ≢ ToolFault.OutOfMemory → (h : History) →
+        as_audit (beginning_of (T.content tree.now) table.now h (wanted job.now)) ≡ Err fault) }
+    ensures unwritten { IfErr result (λ fault. fault ≢ ToolFault.Write) }
+{
+    let list = AuditList::begin(
         alloc,
-        &mut probe,
+        tree,
         process,
-        world.table(),
+        table,
         job.base,
         job.candidates,
         job.limit,
         job.after,
     );
-    match audit {
-        Ok(audit) => Ok(Audited { told, world, audit }),
+    match list {
+        Ok(list) => Ok(list),
         Err(fault) => Err(of_audit(fault)),
     }
 }

@@ -99,17 +99,6 @@ fn begun_again<'t, T: FileTree>(
     list
 }
 
-/// Whether a list over such a tree is given whole; an error where it was refused before the first line. It
-/// takes memory before the first line alone.
-pub(crate) fn is_whole<T: ListedTree>(alloc: Global) -> Result<bool> {
-    let tree = T::read(alloc, LISTING)?;
-    let process = spooler(alloc)?;
-    let Ok(mut list) = begun(alloc, &tree, &process) else {
-        bail!("there is no list for ever");
-    };
-    Ok(is_listed(&mut list))
-}
-
 /// Whether a list gives each of the lines in turn, and then none.
 fn is_listed<T: FileTree>(list: &mut Ever<'_, T>) -> bool {
     for (thing, calls) in &LINES {

@@ -62,18 +62,6 @@ fn begun_again<'t, T: FileTree>(
     audit
 }
 
-/// Whether an audit over such a tree is listed whole; an error where a growth was refused before the first
-/// line. It takes memory before the first line alone.
-pub(crate) fn is_whole<T: ListedTree>(alloc: Global) -> Result<bool> {
-    let tree = T::read(alloc, LISTING)?;
-    let process = reader(alloc)?;
-    match begun(alloc, &tree, &process) {
-        Ok(mut audit) => Ok(is_listed(&mut audit)),
-        Err(fault) if fault == AuditFault::OutOfMemory => Err(fault.into()),
-        Err(_) => Ok(false),
-    }
-}
-
 /// A locked process that may read one file.
 fn reader(alloc: Global) -> Result<Process> {
     let name = Name::read(b"passwd")?;

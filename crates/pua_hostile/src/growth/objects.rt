@@ -65,15 +65,6 @@ fn begun_again<'t, T: FileTree>(
     objects
 }
 
-/// Whether a list over such a tree is given whole; an error where a growth was refused before the first
-/// line. It takes memory before the first line alone.
-pub(crate) fn is_whole<T: ListedTree>(alloc: Global) -> Result<bool> {
-    let tree = T::read(alloc, LISTING)?;
-    let process = spooler(alloc)?;
-    let mut objects = begun(alloc, &tree, &process)?;
-    Ok(is_listed(&mut objects))
-}
-
 /// A locked process that may write into a directory under one name alone.
 pub(crate) fn spooler(alloc: Global) -> Result<Process> {
     let etc = NodeId::new(1);

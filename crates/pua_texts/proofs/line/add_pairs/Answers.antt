@@ -40,8 +40,13 @@ loop-pair-preserved g c =
           c.in_ok-make_room.ensures.handed c.in_ok-make_room.ensures.unfailed c.add_line.ensures);
     }
 
-pub returns-in_err-make_room : goal.returns-in_err-make_room
-returns-in_err-make_room g c =
+pub returns-in_err-make_room-clause-tree : goal.returns-in_err-make_room-clause-tree
+returns-in_err-make_room-clause-tree g c =
+    let next = subst (λ (given : Option Line). IsNextLine c.loop-pair.audit given c.next_line.follows.lender-at-none) c.in-Some.is c.next_line.follows.holds-at-none in
+    c.in-Some.ensures.tree ∙ c.loop-pair.invariant.tree ∙ sym next.0
+
+pub returns-in_err-make_room-clause-lines : goal.returns-in_err-make_room-clause-lines
+returns-in_err-make_room-clause-lines g c =
     let base = c.args.audit.now.base in
     let rest : List ℕ = pair_lines base c.loop-pair.audit.left in
     let p = err_from_is_err_and c.from_residual.result c.from_residual.ensures.1 in
@@ -50,8 +55,13 @@ returns-in_err-make_room g c =
     c.loop-pair.invariant.lines (sym (append-nil rest))
     (passes_unput rest c.loop-pair.block p.0 [] (g.S.Sink.written c.loop-pair.sink) (g.S.Sink.written c.make_room.new.sink) (g.S.Sink.failed c.loop-pair.sink) (g.S.Sink.failed c.make_room.new.sink) c.in_err-make_room.ensures.front c.in_err-make_room.ensures.failed))
 
-pub returns : goal.returns
-returns g c =
+pub returns-clause-tree : goal.returns-clause-tree
+returns-clause-tree g c =
+    let none = subst (λ (given : Option Line). IsNextLine c.loop-pair.audit given c.next_line.follows.lender-at-none) c.in_default.is c.next_line.follows.holds-at-none in
+    c.in_default.ensures.tree ∙ c.loop-pair.invariant.tree ∙ sym none.0
+
+pub returns-clause-lines : goal.returns-clause-lines
+returns-clause-lines g c =
     let none = subst (λ (given : Option Line). IsNextLine c.loop-pair.audit given c.next_line.follows.lender-at-none) c.in_default.is c.next_line.follows.holds-at-none in
     let base = c.args.audit.now.base in
     passing_last (pair_lines base c.args.audit.now.left) (pair_lines base c.loop-pair.audit.left) [] c.args.block.now c.loop-pair.block c.loop-pair.block (Ok tt)

@@ -1,4 +1,3 @@
-use Rattle.std.proofs.Common.{◌≡◌}
 use Rattle.pua_texts.proofs.ForCallers.{if_err, if_ok}
 use Rattle.pua_tool.proofs.script.replay_over.Goals as goal
 

@@ -1,0 +1,91 @@
+//! The pairs of an audit, written in blocks behind the front of a text.
+
+ghost use Rattle.std.specs.Prelude.{◌≡◌, ◌≢◌, ◌++◌, Ok, Err, IfOk, IfErr, map, option_map};
+ghost use Rattle.pua_policy.specs.History.{History, StandsFor};
+ghost use Rattle.pua_audit.specs.Begin.{Beginning, beginning, still_to_come};
+ghost use Rattle.pua_texts.specs.Blocks.{PassesOn};
+ghost use Rattle.pua_texts.specs.Lines.{pair_lines};
+ghost use Rattle.pua_io.specs.Sinks.{WritesTo};
+
+use crate::block::Block;
+use crate::line::add_pairs;
+use pua_audit::{Audit, AuditFault, Base};
+use pua_calls::CallTable;
+use pua_io::{PutFault, Sink};
+use pua_path::Counted;
+use pua_policy::Process;
+use pua_tree::FileTree;
+use std::alloc::Global;
+use std::marker::Model;
+
+/// An audit, beside the tree that it is of. Contracts see the audit.
+#[derive(Drop)]
+pub struct AuditList<'t, T: FileTree> {
+    probe: Counted<'t, T>,
+    audit: Audit,
+}
+
+impl<'t, T: FileTree> Model for AuditList<'t, T> {
+    ghost use Rattle.std.specs.Prelude.{◌≡◌};
+    ghost use Rattle.pua_audit.specs.AuditState.{AuditState};
+
+    ghost Value = { AuditState };
+
+    ghost view = { λ a. a.audit };
+
+    ghost invariant = { λ a. a.probe.tree ≡ a.audit.tree };
+}
+
+impl<'t, T: FileTree> AuditList<'t, T> {
+    /// Begins the audit of a process over a tree, as [`Audit::begin`] does, with its errors.
+    pub fn begin(
+        alloc: Global,
+        tree: &'t T,
+        process: &Process,
+        table: &CallTable,
+        base: Base,
+        candidates: &[&[u8]],
+        limit: u8,
+        after: Option<&[u8]>,
+    ) -> Result<AuditList<'t, T>, AuditFault>
+        ensures begun { IfOk result (λ list. (h : History) → StandsFor process.now h →
+            (b : Beginning) × (beginning (T.content tree.now) table.now h base (map
+            (λ s. s.now) candidates.now) limit (option_map (λ s. s.now) after.entry) ≡ Ok b)
+            × (list.left ≡ still_to_come b) × (list.base ≡ b.scope.base)) }
+        ensures refused { IfErr result (λ fault. fault ≢ AuditFault.OutOfMemory → (h : History) →
+            beginning (T.content tree.now) table.now h base (map
+            (λ s. s.now) candidates.now) limit (option_map (λ s. s.now) after.entry)
+            ≡ Err fault) }
+    {
+        let mut probe = Counted::new(tree);
+        let audit = Audit::begin(
+            alloc, &mut probe, process, table, base, candidates, limit, after,
+        )?;
+        Ok(AuditList { probe, audit })
+    }
+
+    /// Adds a line for each pair that the audit has still to give to a block.
+    fn add_to<S: Sink>(&mut self, block: &mut Block, sink: &mut S) -> Result<(), PutFault>
+        ensures { PassesOn S.written S.failed (pair_lines self.old.base self.old.left)
+            result block.old block.new sink.old sink.new }
+    {
+        add_pairs(&mut self.audit, &mut self.probe, block, sink)
+    }
+}
+
+/// Writes what a block holds, then the front of a text, and then a line for each pair that the audit
+/// has still to give. The front is put before the audit is asked for its first pair.
+pub fn write_audit<'t, T: FileTree, S: Sink>(
+    front: &str,
+    list: &mut AuditList<'t, T>,
+    block: &mut Block,
+    sink: &mut S,
+) -> Result<(), PutFault>
+    ensures { WritesTo S.written S.failed
+        (block.old ++ (front.now ++ pair_lines list.old.base list.old.left))
+        result sink.old sink.new }
+{
+    block.add_text(front.as_bytes(), sink)?;
+    list.add_to(block, sink)?;
+    block.put(sink)
+}
