@@ -6,12 +6,13 @@ package Worlds;
 use strict;
 use warnings;
 use Exporter qw(import);
+use File::Basename ();
 use File::Spec;
 use File::Temp qw(tempdir);
 use POSIX ();
 use Tables qw(content);
 
-our @EXPORT_OK = qw(answer_in answer_of worlds_told);
+our @EXPORT_OK = qw(answer_in answer_of program_in worlds_told);
 
 # All names of trees; each world has a few of them.
 my @NAMES = ('a', 'b', 'c', 'd', 'e', 'f\040g');
@@ -318,6 +319,15 @@ sub table {
 # The directory in which the program is run; it goes when the test ends.
 my $room;
 
+# The program that a test is about: the one that its words name, or else the one that the gate has built.
+sub program_in {
+    my ($named) = @_;
+    my $here = File::Basename::dirname(File::Spec->rel2abs(__FILE__));
+    my $program = File::Spec->rel2abs(defined $named ? $named : "$here/../crates/pua/out/pua");
+    -x $program or die "$program: no such program; name one\n";
+    return $program;
+}
+
 # Runs a program once, without a shell, in a directory that has some files by their names and texts: its
 # status, and what it wrote on its two outputs.
 sub answer_of {
@@ -330,7 +340,6 @@ sub answer_of {
 sub answer_in {
     my ($folder, $program, @words) = @_;
     my ($out, $err) = map { _room() . "/$_" } '.out', '.err';
-    $program = File::Spec->rel2abs($program);
     my $child = fork;
     die "fork: $!" unless defined $child;
     _become($folder, $out, $err, $program, @words) if !$child;

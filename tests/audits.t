@@ -14,11 +14,10 @@ use lib $Bin;
 use Model;
 use Tables qw(content table_in);
 use Test::More;
-use Worlds qw(answer_of worlds_told);
+use Worlds qw(answer_of program_in worlds_told);
 
 my $TOP     = "$Bin/..";
-my $PROGRAM = @ARGV ? $ARGV[0] : "$TOP/crates/pua/out/pua";
--x $PROGRAM or die "$PROGRAM: no such program; name one\n";
+my $PROGRAM = program_in(@ARGV);
 
 my $SEED   = 20240229;
 my $WORLDS = 100;

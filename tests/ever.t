@@ -6,7 +6,6 @@
 # plain model, too (EverModel.pm), so it isn't too long; and what can have no such list is refused.
 use strict;
 use warnings;
-use Cwd qw(abs_path);
 use FindBin qw($Bin);
 use lib $Bin;
 use Storable qw(dclone);
@@ -17,7 +16,7 @@ use Futures;
 use Lists qw(lists_of);
 use Model;
 use Things;
-use Worlds qw(answer_of worlds_told);
+use Worlds qw(answer_of program_in worlds_told);
 
 my $SEED   = 7;
 my $WORLDS = 40;
@@ -30,8 +29,7 @@ my $WITNESS = 9;
 # A process that process 1 forks when it can put no veil any more.
 my $CHILD = 2;
 
-my $PUA = abs_path(@ARGV ? $ARGV[0] : "$Bin/../crates/pua/out/pua");
-BAIL_OUT('no program') if !defined $PUA || !-x $PUA;
+my $PUA = program_in(@ARGV);
 
 # What the process pledges at last.
 my @PLEDGES = (

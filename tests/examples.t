@@ -7,15 +7,13 @@
 # also tried with reasons and by OpenBSD's rules. Help and the version are as data/help and this file have them.
 use strict;
 use warnings;
-use File::Spec;
 use FindBin qw($Bin);
 use lib $Bin;
 use Tables qw(content);
 use Test::More;
-use Worlds qw(answer_in);
+use Worlds qw(answer_in program_in);
 
-my $PROGRAM = File::Spec->rel2abs(@ARGV ? $ARGV[0] : "$Bin/../crates/pua/out/pua");
--x $PROGRAM or die "$PROGRAM: no such program; name one\n";
+my $PROGRAM = program_in(@ARGV);
 my $EXAMPLES = "$Bin/../examples";
 
 # The files by which OpenBSD's rules give another list of objects.

@@ -6,7 +6,6 @@
 # (Mirrors.pm).
 use strict;
 use warnings;
-use Cwd qw(abs_path);
 use FindBin qw($Bin);
 use lib $Bin;
 use List::Util qw(first);
@@ -17,7 +16,7 @@ use Lists qw(lists_of);
 use Mirrors qw(twin bare mirrored);
 use Model;
 use Things;
-use Worlds qw(answer_of worlds_told);
+use Worlds qw(answer_of program_in worlds_told);
 
 my $SEED   = 11;
 my $WORLDS = 24;
@@ -31,8 +30,7 @@ my $AT_ONCE = 4;
 # promises, so its list has each name of the tree.
 my $WITNESS = 9;
 
-my $PUA = abs_path(@ARGV ? $ARGV[0] : "$Bin/../crates/pua/out/pua");
-BAIL_OUT('no program') if !defined $PUA || !-x $PUA;
+my $PUA = program_in(@ARGV);
 
 # What is asked of each cut of a script: its fault, and what is said where there is none.
 my @CLAIMS = (

@@ -8,14 +8,12 @@
 # links are told, a script and a table as that by which the script's lines are answered so.
 use strict;
 use warnings;
-use File::Spec;
 use FindBin qw($Bin);
 use lib $Bin;
 use Test::More;
-use Worlds qw(answer_of);
+use Worlds qw(answer_of program_in);
 
-my $PROGRAM = File::Spec->rel2abs(@ARGV ? $ARGV[0] : "$Bin/../crates/pua/out/pua");
--x $PROGRAM or die "$PROGRAM: no such program; name one\n";
+my $PROGRAM = program_in(@ARGV);
 
 # The texts. The listing has directories, a file, a program, and links: to a directory, up and down again, to itself.
 # The script puts veils over this tree. By the table one of two promises is enough to make a directory.

@@ -5,15 +5,13 @@
 #     perl tests/limits.t [PROGRAM]
 use strict;
 use warnings;
-use File::Spec;
 use FindBin qw($Bin);
 use lib $Bin;
 use Tables qw(ended table_in);
 use Test::More;
-use Worlds qw(answer_of);
+use Worlds qw(answer_of program_in);
 
-my $PROGRAM = File::Spec->rel2abs(@ARGV ? $ARGV[0] : "$Bin/../crates/pua/out/pua");
--x $PROGRAM or die "$PROGRAM: no such program; name one\n";
+my $PROGRAM = program_in(@ARGV);
 
 # A text whose parts are repeated, with a path where one is named; nothing where there is none.
 sub expanded {

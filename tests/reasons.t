@@ -10,7 +10,6 @@
 # - Lists with reasons are the lists, with the promises and the veil that decide (Why/Columns.pm).
 use strict;
 use warnings;
-use File::Spec;
 use FindBin qw($Bin);
 use Test::More;
 use lib $Bin;
@@ -20,10 +19,9 @@ use Why::Otherwise qw(words_fault);
 use Why::World qw(OBSERVER process_of);
 use Why::Scripts qw(each_kind refused_script);
 use Why::Since qw(ask_throughout since_fault);
-use Worlds;
+use Worlds qw(program_in);
 
-my $PROGRAM = File::Spec->rel2abs(@ARGV ? $ARGV[0] : "$Bin/../crates/pua/out/pua");
-die "$PROGRAM: no program\n" if !-x $PROGRAM;
+my $PROGRAM = program_in(@ARGV);
 
 # How many random worlds are tried, and by which seed.
 my ($WORLDS, $SEED) = (20, 20);

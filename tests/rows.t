@@ -7,16 +7,14 @@
 # standard table of calls alone, and no reasons: rows that ask for more are left out.
 use strict;
 use warnings;
-use File::Spec;
 use FindBin qw($Bin);
 use lib $Bin;
 use Tables qw(ended table_in);
 use Test::More;
-use Worlds qw(answer_of);
+use Worlds qw(answer_of program_in);
 
 my $is_plain = @ARGV && $ARGV[0] eq '--plain' ? shift @ARGV : 0;
-my $PROGRAM = File::Spec->rel2abs(@ARGV ? $ARGV[0] : "$Bin/../crates/pua/out/pua");
--x $PROGRAM or die "$PROGRAM: no such program; name one\n";
+my $PROGRAM = program_in(@ARGV);
 
 # The commands that refuse an input. The last one's limit is refused too, though later.
 my @REFUSING = ('run TREE SCRIPT', 'objects TREE SCRIPT', 'audit --limit 1 TREE SCRIPT', 'audit --limit 17 TREE SCRIPT');
