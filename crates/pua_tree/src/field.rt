@@ -16,7 +16,7 @@ const MOST_FIELDS: usize = 6;
 /// take no memory. Contracts see the list of their bytes.
 #[derive(Drop)]
 pub struct Fields<'a> {
-    fields: [&'a [u8]; 6],
+    fields: [&'a [u8]; MOST_FIELDS],
     count: usize,
 }
 
