@@ -31,14 +31,19 @@ impl Calls {
     /// No call.
     pub const NONE: Calls = Calls { bits: 0 };
 
-    /// Lstat, readlink, mkdir, rmdir, unlink and symlink: the calls on a link itself.
+    /// The calls on a link itself.
     const KEEPING: Calls = Calls {
-        bits: 0b00_0111_1000_0110,
+        bits: 1 << Call::Lstat as u16
+            | 1 << Call::Readlink as u16
+            | 1 << Call::Mkdir as u16
+            | 1 << Call::Rmdir as u16
+            | 1 << Call::Unlink as u16
+            | 1 << Call::Symlink as u16,
     };
 
     /// The calls on what a link leads to.
     const FOLLOWING: Calls = Calls {
-        bits: 0b11_1000_0111_1001,
+        bits: !Calls::KEEPING.bits & (1 << Call::COUNT) - 1,
     };
 
     /// Whether it has a call.
