@@ -9,7 +9,7 @@ use Rattle.pua_texts.specs.WhyLines.{world_left}
 use Rattle.pua_texts.proofs.Made.{is_made, none_made}
 use Rattle.pua_texts.proofs.Lists.{one_more, none_more}
 use Rattle.pua_texts.proofs.VeilDates.{length_dates, none_dated, some_dated}
-use Rattle.pua_texts.proofs.why_lists.begin_why_lists.Goals as goal
+use Rattle.pua_texts.proofs.why_lists.begin_lists.Goals as goal
 
 pub loop-number-preserved-in_default : goal.loop-number-preserved-in_default
 loop-number-preserved-in_default g c = λ p stands ruled dated.
