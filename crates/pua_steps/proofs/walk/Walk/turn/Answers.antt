@@ -16,9 +16,10 @@ use Rattle.pua_steps.specs.declared.lists.Lists.{Lists}
 use Rattle.pua_steps.proofs.Seeks.{counted_none, counted_more, looks_zero, looks-looks}
 use Rattle.pua_steps.proofs.Listing.{longer_none}
 use Rattle.pua_steps.proofs.Front.{longer_popped, front_by, front_gone}
-use Rattle.pua_steps.proofs.Turning.{all_front, front_taken, last_set, last_split, taken_by, left_by, none_left, all_over}
+use Rattle.pua_steps.proofs.Turning.{front_taken, last_set, last_split, taken_by, left_by, none_left, all_over}
 use Rattle.pua_steps.proofs.Moved.{moved_table, moved_sized, moved_listed, moved_open}
 use Rattle.pua_steps.proofs.walk.Walk.turn.Goals as goal
+use Rattle.pua_steps.proofs.Base.{all_front}
 
 pub loop-self-init : goal.loop-self-init
 loop-self-init c = record {
