@@ -8,7 +8,6 @@ use Rattle.pua_path.specs.Paths.{part_of, is_absolute}
 use Rattle.pua_path.specs.Resolution.{Resolved, resolve_parts, resolution_of_text, reached}
 use Rattle.pua_path.specs.Laws.{Lands, onwards}
 use Rattle.pua_path.proofs.ForCallers.{composes, resolutions_fit}
-use Rattle.pua_path.specs.declared.errno.Errno.{Errno}
 use Rattle.pua_path.specs.declared.errno.Errno.TheVariants.{ENOENT, ENOTDIR}
 use Rattle.pua_path.specs.declared.text.Ending.{Ending}
 use Rattle.pua_path.specs.declared.text.Ending.TheVariants as ending
@@ -18,10 +17,7 @@ use Rattle.pua_path.specs.declared.found.Way.TheVariants.{Top}
 use Rattle.pua_path.specs.declared.found.Found.TheVariants.{Whole, Slot}
 use Rattle.pua_calls.specs.Calls.{CallTable, rule_of, last_of, ending_of, calls}
 use Rattle.pua_policy.specs.History.{History, may_any, is_ended, working_dir}
-use Rattle.pua_policy.specs.Verdict.{if_promised, verdict_of, verdict_on, object_named, is_allowed}
-use Rattle.pua_policy.specs.declared.answer.May.{May}
-use Rattle.pua_policy.specs.declared.answer.May.TheVariants.{Yes, Enosys, Death}
-use Rattle.pua_policy.specs.declared.answer.Verdict.TheVariants.{Failed}
+use Rattle.pua_policy.specs.Verdict.{verdict_of, verdict_on, object_named, is_allowed}
 use Rattle.pua_calls.specs.declared.call.Call.{Call}
 use Rattle.pua_audit.specs.Reach.{Word, Pair, Scope, words, pairs, from_root, path_of, is_reached, reach}
 use Rattle.pua_audit.specs.Judge.{Start, Below, Judge, base_dir, base_way, state_of, judge_of, judge_for, if_some, is_allowed_along, reach_along}
@@ -30,12 +26,8 @@ use Rattle.pua_audit.specs.declared.base.Base.TheVariants.{Root, Cwd}
 use Rattle.pua_audit.specs.Begin.{longest}
 use Rattle.pua_audit.proofs.Paths.{IsPiece, IsPath, path_is, length_from_root}
 use Rattle.pua_audit.proofs.Rising.{all_mapped, all_flat, all_of}
-
--- what failed is never allowed
-refused : (may : May) (errno : Errno) → is_allowed (if_promised may (Failed errno)) ≡ false
-refused Yes errno = refl
-refused Enosys errno = refl
-refused Death errno = refl
+use Rattle.pua_audit.proofs.Fresh.{refused}
+use Rattle.pua_steps.proofs.ForCallers.{all_weaker}
 
 -- one who has ended is allowed nothing
 ended : (t : Tree) (table : CallTable) (h : History) (call : Call) (r : _) → is_ended h ≡ true → is_allowed (verdict_of t table h call r) ≡ false
@@ -107,10 +99,6 @@ filter_none : {A : Type 0} (f : A → Bool) (xs : List A) → AllByRecursion (λ
 filter_none f [] all = refl
 filter_none f (x ∷ xs) all = ap (λ b. cond b (x ∷ filter f xs) (filter f xs)) all.0 ∙ filter_none f xs all.1
 
-pub all_to : {A : Type 0} (P Q : A → Type 0) → ((x : A) → P x → Q x) → (xs : List A) → AllByRecursion P xs → AllByRecursion Q xs
-all_to P Q leads [] all = tt
-all_to P Q leads (x ∷ xs) all = (leads x all.0, all_to P Q leads xs all.1)
-
 -- the letters of a word are of the alphabet, and there are no more than the limit
 pub record IsWord (P : List ℕ → Type 0) (limit : ℕ) (word : Word) : Type 0 where
   pub letters : AllByRecursion P word
@@ -155,15 +143,15 @@ times a b c d h k = omega (arith, mul-le-mul_right c k)
 module _ (s : Scope) (fits : WellFormed s.tree) (readable : IsReadable s.alphabet s.limit) where
   short : (word : Word) → IsWord (λ a. IsPiece a × (length a ≤ longest s.alphabet)) s.limit word → length (from_root word) ≤ 1023
   short word is =
-      let long = length_from_root (longest s.alphabet) word (all_to (λ a. IsPiece a × (length a ≤ longest s.alphabet)) (λ a. length a ≤ longest s.alphabet) (λ _ a. a.1) word is.letters) in
+      let long = length_from_root (longest s.alphabet) word (all_weaker (λ a. IsPiece a × (length a ≤ longest s.alphabet)) (λ a. length a ≤ longest s.alphabet) (λ _ a. a.1) word is.letters) in
       omega (arith, times (length (from_root word)) (length word) (suc (longest s.alphabet)) s.limit long is.within, readable.fits)
 
   -- the reach is what is allowed letter by letter
   pub reach_is_along : is_dir s.tree (base_dir s.base s.history) ≡ true → reach s ≡ reach_along (judge_for s) s.alphabet s.limit
   reach_is_along lives =
       filter_alike (is_reached s) (λ pair. is_allowed_along (judge_for s) Start pair.0 pair.1) (pairs s.alphabet s.limit)
-      (all_to (λ pair. IsWord (λ a. IsPiece a × (length a ≤ longest s.alphabet)) s.limit pair.0) (λ pair. is_reached s pair ≡ is_allowed_along (judge_for s) Start pair.0 pair.1)
-      (λ pair is. judged_along s.tree fits s.table s.base s.history lives pair.1 pair.0 (all_to (λ a. IsPiece a × (length a ≤ longest s.alphabet)) IsPiece (λ _ a. a.0) pair.0 is.letters)
+      (all_weaker (λ pair. IsWord (λ a. IsPiece a × (length a ≤ longest s.alphabet)) s.limit pair.0) (λ pair. is_reached s pair ≡ is_allowed_along (judge_for s) Start pair.0 pair.1)
+      (λ pair is. judged_along s.tree fits s.table s.base s.history lives pair.1 pair.0 (all_weaker (λ a. IsPiece a × (length a ≤ longest s.alphabet)) IsPiece (λ _ a. a.0) pair.0 is.letters)
       (short pair.0 is))
       (pairs s.alphabet s.limit)
       (pairs_are (λ a. IsPiece a × (length a ≤ longest s.alphabet)) s.alphabet s.limit (both IsPiece (λ a. length a ≤ longest s.alphabet) s.alphabet readable.letters (no_longer 0 s.alphabet))))
@@ -177,8 +165,8 @@ module _ (s : Scope) (fits : WellFormed s.tree) (readable : IsReadable s.alphabe
   pub none_without_base : is_dir s.tree (base_dir s.base s.history) ≡ false → reach s ≡ []
   none_without_base gone =
       filter_none (is_reached s) (pairs s.alphabet s.limit)
-      (all_to (λ pair. IsWord (λ a. IsPiece a × (length a ≤ longest s.alphabet)) s.limit pair.0) (λ pair. is_reached s pair ≡ false)
-      (λ pair is. missing s.base gone pair.1 pair.0 (all_to (λ a. IsPiece a × (length a ≤ longest s.alphabet)) IsPiece (λ _ a. a.0) pair.0 is.letters) (short pair.0 is))
+      (all_weaker (λ pair. IsWord (λ a. IsPiece a × (length a ≤ longest s.alphabet)) s.limit pair.0) (λ pair. is_reached s pair ≡ false)
+      (λ pair is. missing s.base gone pair.1 pair.0 (all_weaker (λ a. IsPiece a × (length a ≤ longest s.alphabet)) IsPiece (λ _ a. a.0) pair.0 is.letters) (short pair.0 is))
       (pairs s.alphabet s.limit)
       (pairs_are (λ a. IsPiece a × (length a ≤ longest s.alphabet)) s.alphabet s.limit (both IsPiece (λ a. length a ≤ longest s.alphabet) s.alphabet readable.letters (no_longer 0 s.alphabet))))
     where

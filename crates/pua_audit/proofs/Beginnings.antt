@@ -19,7 +19,8 @@ use Rattle.pua_audit.specs.Starting.{begun_in}
 use Rattle.pua_audit.specs.declared.base.Base.{Base}
 use Rattle.pua_audit.specs.declared.fault.AuditFault.{AuditFault}
 use Rattle.pua_audit.specs.declared.fault.AuditFault.TheVariants.{LimitTooLarge, TooLong, TooManyNames, BadCandidate}
-use Rattle.pua_audit.proofs.Rising.{all_joined, all_with_name}
+use Rattle.pua_audit.proofs.Rising.{all_with_name}
+use Rattle.pua_steps.proofs.ForCallers.{all_joined}
 
 module _ (t : Tree) (table : CallTable) (h : History) (base : Base) (texts : List (List ℕ)) (limit : ℕ) (after : Option (List ℕ)) where
   abbrev scope_of : List (List ℕ) → Scope

@@ -1,6 +1,6 @@
 -- There are few live states: each is a living directory, a number of links followed, and a number of letters that may still come.
-use Rattle.std.proofs.Common.{ℕ, zero, suc, ◌+◌, ◌*◌, ◌-◌, ◌<◌, ◌≤◌, ◌≡◌, List, [], ◌∷◌, ◌++◌, Option, Some, None, Result, Ok, Err, Bool, true, false, ◌||◌, ◌&&◌, ◌==◌, not, cond, refl, ap, arith, sym, subst, ◌∙◌, map, length, option_map, inl, inr}
-use Rattle.std.proofs.lemmas.Bool.{cases_Bool, cases_eq, or_left, or_right, eq-eqb}
+use Rattle.std.proofs.Common.{ℕ, zero, suc, ◌+◌, ◌*◌, ◌-◌, ◌<◌, ◌≤◌, ◌≡◌, List, [], ◌∷◌, ◌++◌, Option, Some, None, Result, Ok, Err, Bool, true, false, ◌||◌, ◌&&◌, not, cond, refl, ap, arith, sym, subst, ◌∙◌, map, length, option_map, inl, inr}
+use Rattle.std.proofs.lemmas.Bool.{cases_Bool, cases_eq, or_left, or_right}
 use Rattle.std.proofs.lemmas.List.{length-append}
 use Rattle.std.proofs.lemmas.Map.Made.{length-le_from_is_member}
 use Rattle.std.proofs.lemmas.Map.Views.{Contains-from_any}
@@ -24,9 +24,10 @@ use Rattle.pua_audit.specs.Judge.{base_dir}
 use Rattle.pua_audit.specs.Laws.{IsAudited, LiveStatesFew}
 use Rattle.pua_audit.specs.Live.{Stage, IsLive, live_states, shorter, stage_after}
 use Rattle.pua_audit.proofs.DistinctStages.{one_stage, same_is, same_stage, same_stage_laws, staged_is, stages_distinct}
-use Rattle.pua_audit.proofs.LiveStagesListed.{live_states_live}
+use Rattle.pua_audit.proofs.LiveStagesListed.{live_states_live, staged_itself}
 use Rattle.pua_audit.proofs.LiveStates.{live_states_count}
 use Rattle.pua_audit.proofs.Stages.{is_stage, is_staged}
+use Rattle.std.proofs.Math.Bool.{and-false}
 
 -- lists of so many
 
@@ -50,9 +51,6 @@ length-joined (suc n) k f each = omega (arith, length-append (f n) (joined n f),
 
 -- what is in them
 
-itself : (y : Stage) → is_stage y y ≡ true
-itself y = ap (λ b. b && ((y.links == y.links) && (y.left == y.left))) (eq-eqb y.dir y.dir refl) ∙ ap (λ b. b && (y.left == y.left)) (eq-eqb y.links y.links refl) ∙ eq-eqb y.left y.left refl
-
 staged_left : (y : Stage) (xs ys : List Stage) → is_staged y xs ≡ true → is_staged y (xs ++ ys) ≡ true
 staged_left y [] ys there = absurd cc
 staged_left y (x ∷ xs) ys there = by (is_stage y x) there (staged_left y xs ys)
@@ -70,7 +68,7 @@ unfolding listed
 in_listed y zero f k low is = absurd (omega (arith, low))
 in_listed y (suc n) f k low is =
     elim (cases_eq k n) [
-      | inl same ↦ or_left (is_stage y (f n)) (is_staged y (listed n f)) (ap (is_stage y) (sym (is ∙ ap f same)) ∙ itself y)
+      | inl same ↦ or_left (is_stage y (f n)) (is_staged y (listed n f)) (ap (is_stage y) (sym (is ∙ ap f same)) ∙ staged_itself y)
       | inr apart ↦ or_right (is_stage y (f n)) (is_staged y (listed n f)) (in_listed y n f k (omega (arith, low, apart)) is)
     ]
 
@@ -144,10 +142,6 @@ live_fits s is lives y (pair, word, there, front, leads) = by (steps s.tree (map
         subst (IsAmong s) (same_Some (record { dir = at.0; links = at.1; left = s.limit - length word }) y e) (fit.0, (omega (arith, fit.1), omega arith))
     by (Err errno) stands e = absurd cc
 
-and_false : (a : Bool) → (a && false) ≡ false
-and_false true = refl
-and_false false = refl
-
 pub few_states : LiveStatesFew
 few_states s is =
     elim (cases_Bool (is_dir s.tree (base_dir s.base s.history))) [
@@ -159,6 +153,6 @@ few_states s is =
           staged_is q all ∙ in_all q s.limit s.tree.nodes (dir_found s.tree q.dir fit.0) fit.1.0 fit.1.1) in
           omega (arith, few, length-all_in s.limit s.tree.nodes)
       | inr gone ↦
-          let none = live_states_count.none s is (ap (λ b. not (is_ended s.history) && b) gone ∙ and_false (not (is_ended s.history))) in
+          let none = live_states_count.none s is (ap (λ b. not (is_ended s.history) && b) gone ∙ and-false (not (is_ended s.history))) in
           omega (arith, none)
     ]

@@ -1,9 +1,10 @@
 -- What crates above cite of the proofs of this one, beside the definitions and the laws.
 
--- lists that rise
-pub use Rattle.pua_audit.proofs.Rising.{all_mapped, all_joined, all_flat, rises_filtered, rises_joined, rises_mapped, rises_flat, distinct_names_rise}
+-- lists that rise, and facts of each element
+pub use Rattle.pua_steps.proofs.ForCallers.{all_weaker, all_joined}
+pub use Rattle.pua_audit.proofs.Rising.{all_mapped, all_flat, rises_filtered, rises_joined, rises_mapped, rises_flat, distinct_names_rise}
 -- words and their paths
-pub use Rattle.pua_audit.proofs.Paths.{same_is, IsPiece, letter_is_piece, path_is}
+pub use Rattle.pua_audit.proofs.Paths.{IsPiece, letter_is_piece, path_is}
 -- fewer pairs that are allowed make a reach that lies within another
 pub use Rattle.pua_audit.proofs.SubLists.{fewer_reach_less}
 -- a reach asks a tree for its rows and nodes alone

@@ -26,7 +26,7 @@ use Rattle.pua_audit.specs.Judge.{State}
 use Rattle.pua_audit.specs.Entries.{links_of, found_of, leads_to, allowed_kept, allowed_near, allowed_far, EntriesStand}
 
 -- a failed path is never allowed
-refused : (may : May) (errno : Errno) → is_allowed (if_promised may (Failed errno)) ≡ false
+pub refused : (may : May) (errno : Errno) → is_allowed (if_promised may (Failed errno)) ≡ false
 refused Yes errno = refl
 refused Enosys errno = refl
 refused Death errno = refl

@@ -2,7 +2,6 @@
 use Rattle.std.proofs.Common.{ℕ, zero, suc, ◌≡◌, List, [], ◌∷◌, ◌++◌, Option, Some, None, Bool, true, false, cond, refl, ap, arith, sym, ◌∙◌, map, length, get_or, option_map, filter}
 use Rattle.std.specs.Prelude.{flat_map, option_to_list, IfSome}
 use Rattle.std.specs.List.{range_with_len, cons_option}
-use Rattle.std.proofs.lemmas.Grind.{flat_map-append}
 use Rattle.pua_calls.specs.Calls.{calls}
 use Rattle.pua_calls.specs.CallSets.{bit_of}
 use Rattle.pua_calls.specs.declared.call.Call.{Call}
@@ -15,14 +14,7 @@ use Rattle.pua_steps.specs.declared.visit.Visit.{Visit}
 use Rattle.pua_audit.specs.Graphs.{named_in, IsRight, StandsIn, IsKnown, StandsForJudge, MasksList}
 use Rattle.pua_audit.proofs.Stages.{on_state, reached_from}
 use Rattle.pua_audit.proofs.Refined.{map-flat_map, by_places, from_letters, all_pairs}
-
-flat_map-flat_map : {A B C : Type 0} (f : B → List C) (g : A → List B) (xs : List A) → flat_map f (flat_map g xs) ≡ flat_map (λ x. flat_map f (g x)) xs
-flat_map-flat_map f g [] = refl
-flat_map-flat_map f g (x ∷ xs) = flat_map-append f (g x) (flat_map g xs) ∙ ap (λ ys. flat_map f (g x) ++ ys) (flat_map-flat_map f g xs)
-
-flat_map-same : {A B : Type 0} (f g : A → List B) → ((x : A) → f x ≡ g x) → (xs : List A) → flat_map f xs ≡ flat_map g xs
-flat_map-same f g same [] = refl
-flat_map-same f g same (x ∷ xs) = ap (λ ys. ys ++ flat_map f xs) (same x) ∙ ap (λ ys. g x ++ ys) (flat_map-same f g same xs)
+use Rattle.pua_audit.proofs.Lines.{flat_map-flat_map, flat_map-cong}
 
 module _ (g : State → List Visit) where
   -- the same with the first letter first
@@ -48,7 +40,7 @@ module _ (g : State → List Visit) where
       append_none [] = refl
       append_none (x ∷ ss) = ap (λ ys. x ∷ ys) (append_none ss)
   led_more (suc n) None = refl
-  led_more (suc n) (Some s) = flat_map-flat_map (λ s. states_behind (g s)) (λ v. led n v.behind) (g s) ∙ flat_map-same (λ v. flat_map (λ s. states_behind (g s)) (led n v.behind)) (λ v. led (suc n) v.behind) (λ v. led_more n v.behind) (g s)
+  led_more (suc n) (Some s) = flat_map-flat_map (λ s. states_behind (g s)) (λ v. led n v.behind) (g s) ∙ flat_map-cong (λ v. flat_map (λ s. states_behind (g s)) (led n v.behind)) (λ v. led (suc n) v.behind) (λ v. led_more n v.behind) (g s)
 
   reached_led : (n : ℕ) (o : Option State) → reached g n o ≡ led n o
   unfolding reached led

@@ -11,6 +11,7 @@ use Rattle.pua_audit.specs.Judge.{State}
 use Rattle.pua_audit.specs.Reach.{Word, Pair, words, pairs}
 use Rattle.pua_audit.specs.Judge.{if_some, is_allowed_along, reach_along}
 use Rattle.pua_audit.specs.Judge.{allowed_at}
+use Rattle.pua_steps.proofs.ForCallers.{filter-none}
 
 -- lists
 
@@ -22,7 +23,7 @@ flat_map-nil : {A B : Type 0} (xs : List A) → flat_map {A = B} (λ _. []) xs �
 flat_map-nil [] = refl
 flat_map-nil (x ∷ xs) = flat_map-nil xs
 
-flat_map-flat_map : {A B C : Type 0} (f : B → List C) (g : A → List B) (xs : List A) → flat_map f (flat_map g xs) ≡ flat_map (λ x. flat_map f (g x)) xs
+pub flat_map-flat_map : {A B C : Type 0} (f : B → List C) (g : A → List B) (xs : List A) → flat_map f (flat_map g xs) ≡ flat_map (λ x. flat_map f (g x)) xs
 flat_map-flat_map f g [] = refl
 flat_map-flat_map f g (x ∷ xs) = flat_map-append f (g x) (flat_map g xs) ∙ ap (λ ys. flat_map f (g x) ++ ys) (flat_map-flat_map f g xs)
 
@@ -37,14 +38,6 @@ filter-map test f (x ∷ xs) =
       | true ↦ ap (λ ys. f x ∷ ys) (filter-map test f xs)
       | false ↦ filter-map test f xs
     ]
-
-pub filter-cong : {A : Type 0} (f g : A → Bool) → ((x : A) → f x ≡ g x) → (xs : List A) → filter f xs ≡ filter g xs
-filter-cong f g same [] = refl
-filter-cong f g same (x ∷ xs) = ap (λ b. cond b (x ∷ filter f xs) (filter f xs)) (same x) ∙ ap (λ ys. cond (g x) (x ∷ ys) ys) (filter-cong f g same xs)
-
-pub filter-none : {A : Type 0} (xs : List A) → filter (λ _. false) xs ≡ []
-filter-none [] = refl
-filter-none (x ∷ xs) = filter-none xs
 
 -- pairs behind a letter
 

@@ -34,10 +34,6 @@ all_after P Q by zero (x ∷ xs) within = (by x (within 0 x (omega arith) (omega
 all_after P Q by (suc n) [] within = tt
 all_after P Q by (suc n) (x ∷ xs) within = all_after P Q by n xs (λ k d high low. within (suc k) d (omega (arith, high)) (omega (arith, low)))
 
-pub all_alike : {X : Type 0} (P Q : X → Type 0) → ((x : X) → P x → Q x) → (xs : List X) → AllByRecursion P xs → AllByRecursion Q xs
-all_alike P Q by [] all = tt
-all_alike P Q by (x ∷ xs) all = (by x all.0, all_alike P Q by xs all.1)
-
 pub all_mapped : {X Y : Type 0} (P : Y → Type 0) (f : X → Y) (xs : List X) → AllByRecursion (λ x. P (f x)) xs → AllByRecursion P (map f xs)
 all_mapped P f [] all = tt
 all_mapped P f (x ∷ xs) all = (all.0, all_mapped P f xs all.1)

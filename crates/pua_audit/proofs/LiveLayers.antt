@@ -14,25 +14,16 @@ use Rattle.pua_audit.proofs.Stages.{staged, is_stage, is_staged, is_state, is_am
 use Rattle.pua_audit.proofs.DistinctStages.{same_stage, same_is, one_stage}
 use Rattle.pua_audit.proofs.Leading.{graphs_lead}
 use Rattle.pua_audit.proofs.Refined.{rows_alike}
-use Rattle.pua_audit.proofs.Rising.{all_flat, all_joined}
+use Rattle.pua_audit.proofs.Rising.{all_flat}
 use Rattle.pua_steps.specs.Graph as graph
 use Rattle.pua_steps.specs.Reached as steps
 use Rattle.pua_steps.specs.declared.state.State.{State}
 use Rattle.pua_steps.specs.declared.visit.Visit.{Visit}
+use Rattle.std.proofs.Math.Bool.{and-false, or-false}
+use Rattle.pua_audit.proofs.Staged.{staged-append}
+use Rattle.pua_steps.proofs.ForCallers.{all_joined}
 
 -- tests
-
-and_assoc : (a b c : Bool) → ((a && b) && c) ≡ (a && (b && c))
-and_assoc true b c = refl
-and_assoc false b c = refl
-
-and_false : (a : Bool) → (a && false) ≡ false
-and_false true = refl
-and_false false = refl
-
-or_false : (a : Bool) → (a || false) ≡ a
-or_false true = refl
-or_false false = refl
 
 one_named : (a b : named.State) → is_state a b ≡ true → a ≡ b
 one_named a b e = let both = and_parts (a.dir == b.dir) (a.used == b.used) e in λ i. record { dir = eqb-true a.dir b.dir both.0 i; used = eqb-true a.used b.used both.1 i }
@@ -88,14 +79,6 @@ unfolding IsDistinct
 distinct_joined [] ys first second apart = second
 distinct_joined (x ∷ xs) ys first second apart = (all_joined (λ y. same_stage x y ≡ false) xs ys first.0 apart.0, distinct_joined xs ys first.1 second apart.1)
 
-staged-append : (y : Stage) (xs ys : List Stage) → is_staged y (xs ++ ys) ≡ (is_staged y xs || is_staged y ys)
-staged-append y [] ys = refl
-staged-append y (x ∷ xs) ys = ap (λ b. is_stage y x || b) (staged-append y xs ys) ∙ assoc (is_stage y x) (is_staged y xs) (is_staged y ys)
-  where
-    assoc : (a b c : Bool) → (a || (b || c)) ≡ ((a || b) || c)
-    assoc true b c = refl
-    assoc false b c = refl
-
 -- whether a list has a member
 abbrev some : {A : Type 0} → List A → Bool
 some [] = false
@@ -143,7 +126,7 @@ module _ (names : List ℕ) where
       ] refl
 
   among_kept : (p : State → Bool) (q : named.State → Bool) (y : named.State) (ss : List State) → AllByRecursion (λ s. p s ≡ q (name s)) ss → is_among y (map name (filter p ss)) ≡ (q y && is_among y (map name ss))
-  among_kept p q y [] all = sym (and_false (q y))
+  among_kept p q y [] all = sym (and-false (q y))
   among_kept p q y (x ∷ xs) all =
       elim (p x) as (λ b. p x ≡ b → is_among y (map name (cond b (x ∷ filter p xs) (filter p xs))) ≡ (q y && (is_state y (name x) || is_among y (map name xs)))) [
         | true ↦ λ e. ap (λ b. is_state y (name x) || b) (among_kept p q y xs all.1) ∙ elim (is_state y (name x)) as (λ b. is_state y (name x) ≡ b → (b || (q y && is_among y (map name xs))) ≡ (q y && (b || is_among y (map name xs)))) [
@@ -162,7 +145,7 @@ module _ (names : List ℕ) where
   stages left ss = map (λ s. staged left (name s)) ss
 
   stages_among : (left : ℕ) (y : Stage) (ss : List State) → is_staged y (stages left ss) ≡ ((y.left == left) && is_among (state_of y) (map name ss))
-  stages_among left y [] = sym (and_false (y.left == left))
+  stages_among left y [] = sym (and-false (y.left == left))
   stages_among left y (s ∷ ss) =
       ap (λ b. is_stage y (staged left (name s)) || b) (stages_among left y ss)
       ∙ shuffle (y.dir == get_or names s.dir 0) (y.links == s.used) (y.left == left) (is_among (state_of y) (map name ss))
@@ -268,7 +251,7 @@ module _ (w : Judge) (letters : List (List ℕ)) (names : List ℕ) (g : State �
     pub layers_have : (n : ℕ) (y : Stage) → n ≤ limit → is_staged y (layers n) ≡ (in_range y n && lives y)
     unfolding layers
     layers_have zero y low = elim (cases_lt limit y.left) [
-      | inl over ↦ sym (ap (λ b. (nat_lt (limit - 0) y.left && b) && lives y) (lt-leb y.left limit over) ∙ ap (λ b. b && lives y) (and_false (nat_lt (limit - 0) y.left)))
+      | inl over ↦ sym (ap (λ b. (nat_lt (limit - 0) y.left && b) && lives y) (lt-leb y.left limit over) ∙ ap (λ b. b && lives y) (and-false (nat_lt (limit - 0) y.left)))
       | inr under ↦ sym (ap (λ b. (b && nat_le y.left limit) && lives y) (le-ltb (limit - 0) y.left (omega (arith, under))))
     ]
     layers_have (suc n) y low =
@@ -289,7 +272,7 @@ module _ (w : Judge) (letters : List (List ℕ)) (names : List ℕ) (g : State �
               ∙ sym (ap (λ b. b && lives y) now)
           | inr away ↦
               ap (λ b. (in_range y n && lives y) || (b && (goes_on (limit - n) (state_of y) && is_among (state_of y) (reached_from w letters n Start)))) (ne_eqb y.left (limit - n) away)
-              ∙ or_false (in_range y n && lives y)
+              ∙ or-false (in_range y n && lives y)
               ∙ ap (λ b. (b && nat_le y.left limit) && lives y) (elim (cases_lt (limit - n) y.left) [
                 | inl over ↦ lt-ltb (limit - n) y.left over ∙ sym (lt-ltb (limit - suc n) y.left (omega (arith, over)))
                 | inr under ↦ le-ltb (limit - n) y.left under ∙ sym (le-ltb (limit - suc n) y.left (omega (arith, under, away, low)))
@@ -313,7 +296,7 @@ module _ (w : Judge) (letters : List (List ℕ)) (names : List ℕ) (g : State �
         same (y ∷ ys) all = (omega (arith, all.0, low), same ys all.1)
 
     far_apart : (a b : Stage) → (a.left ≡ b.left → ⊥) → same_stage a b ≡ false
-    far_apart a b away = same_is a b ∙ ap (λ c. (a.dir == b.dir) && ((a.links == b.links) && c)) (ne_eqb a.left b.left away) ∙ ap (λ c. (a.dir == b.dir) && c) (and_false (a.links == b.links)) ∙ and_false (a.dir == b.dir)
+    far_apart a b away = same_is a b ∙ ap (λ c. (a.dir == b.dir) && ((a.links == b.links) && c)) (ne_eqb a.left b.left away) ∙ ap (λ c. (a.dir == b.dir) && c) (and-false (a.links == b.links)) ∙ and-false (a.dir == b.dir)
 
     far_from : (left : ℕ) (a : Stage) → left < a.left → (ys : List Stage) → AllByRecursion (λ y. y.left ≡ left) ys → AllByRecursion (λ y. same_stage a y ≡ false) ys
     far_from left a high [] all = tt

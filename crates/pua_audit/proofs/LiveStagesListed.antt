@@ -51,7 +51,7 @@ in_flat f [] x y (k, low, is) there = absurd (omega (arith, low))
 in_flat f (a ∷ xs) x y (zero, low, is) there = Contains-append_left (f a) (flat_map f xs) y (subst (λ b. Contains (f b) y) (sym is) there)
 in_flat f (a ∷ xs) x y (suc k, low, is) there = Contains-append_right (f a) (flat_map f xs) y (in_flat f xs x y (k, omega (arith, low), is) there)
 
-staged_itself : (y : Stage) → is_stage y y ≡ true
+pub staged_itself : (y : Stage) → is_stage y y ≡ true
 staged_itself y = ap (λ b. b && ((y.links == y.links) && (y.left == y.left))) (eq-eqb y.dir y.dir refl) ∙ ap (λ b. b && (y.left == y.left)) (eq-eqb y.links y.links refl) ∙ eq-eqb y.left y.left refl
 
 in_kept : {A : Type 0} (f : A → Option Stage) (xs : List A) (x : A) (y : Stage) → Contains xs x → f x ≡ Some y → is_staged y (filter_map f xs) ≡ true

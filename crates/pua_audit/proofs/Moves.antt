@@ -4,14 +4,6 @@ use Rattle.std.proofs.lemmas.List.{map-append, length-map}
 use Rattle.std.specs.List.{AllByRecursion}
 use Rattle.pua_audit.specs.Ready.{word_of}
 
-pub all_front : {A : Type 0} (P : A → Type 0) (xs : List A) (x : A) → AllByRecursion P (xs ++ x ∷ []) → AllByRecursion P xs × P x
-all_front P [] x all = (tt, all.0)
-all_front P (y ∷ xs) x all = let more = all_front P xs x all.1 in ((all.0, more.0), more.1)
-
-pub all_pushed : {A : Type 0} (P : A → Type 0) (xs : List A) (x : A) → AllByRecursion P xs → P x → AllByRecursion P (xs ++ x ∷ [])
-all_pushed P [] x all one = (one, tt)
-all_pushed P (y ∷ xs) x all one = (all.0, all_pushed P xs x all.1 one)
-
 pub all_at_index : {A : Type 0} (P : A → Type 0) (xs : List A) (d : A) → AllByRecursion P xs → (i : ℕ) → i < length xs → P (get_or xs i d)
 all_at_index P [] d all i h = absurd (omega (arith, h))
 all_at_index P (x ∷ xs) d all zero h = all.0

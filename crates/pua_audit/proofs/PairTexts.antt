@@ -12,7 +12,7 @@ use Rattle.std.proofs.lemmas.List.Sums.{split_at_first, passes_at_first}
 use Rattle.std.proofs.lemmas.Slice.Eq.{bytes_eq-Decides}
 use Rattle.pua_tree.specs.Names.{same_bytes}
 use Rattle.pua_tree.specs.Spelling.{is_plain, byte_spelling, spelling}
-use Rattle.pua_tree.proofs.ForCallers.{is_byte, spelling_tells, same_Some, None≢Some}
+use Rattle.pua_tree.proofs.ForCallers.{is_byte, spelling_tells, same_Some, None≢Some, first_passes, other_word}
 use Rattle.pua_calls.specs.Calls.{calls, call_name, call_named}
 use Rattle.pua_calls.specs.declared.call.Call.{Call}
 use Rattle.pua_calls.specs.declared.call.Call.TheVariants.{Stat, Lstat, Readlink, OpenRead, OpenWrite, OpenBoth, Create, Mkdir, Rmdir, Unlink, Symlink, Chmod, Chdir, Exec}
@@ -22,9 +22,9 @@ use Rattle.pua_audit.specs.Judge.{is_letter}
 use Rattle.pua_audit.specs.PairTexts.{pair_text, is_among, IsWord, ResumeTextsName}
 use Rattle.pua_audit.specs.declared.base.Base.{Base}
 use Rattle.pua_audit.specs.declared.base.Base.TheVariants.{Root, Cwd}
-use Rattle.pua_audit.proofs.Paths.{IsPiece, letter_is_piece, no_slash_all}
-use Rattle.pua_audit.proofs.Placing.{other_bytes}
+use Rattle.pua_audit.proofs.Paths.{IsPiece, letter_is_piece}
 use Rattle.pua_audit.proofs.ResumeTexts.{letter_bytes, same_find, spelled_same}
+use Rattle.pua_path.proofs.ForCallers.{no_slash_all}
 
 abbrev slash : ℕ → Bool
 slash b = b == 47
@@ -66,14 +66,6 @@ joined a [] = ap spelling (sym (append-nil a))
 joined a (c ∷ word) = ap (λ t. spelling a ++ 47 ∷ t) (joined c word) ∙ sym (flat_map-append byte_spelling a (47 ∷ c ++ from_root word))
 
 -- what is found passes
-
-passes : {A : Type 0} (test : A → Bool) (xs : List A) (a : A) → find test xs ≡ Some a → test a ≡ true
-passes test [] a e = absurd (None≢Some a e)
-passes test (x ∷ xs) a e = by (test x) refl e (passes test xs a)
-  where
-    by : (v : Bool) → test x ≡ v → cond v (Some x) (find test xs) ≡ Some a → (find test xs ≡ Some a → test a ≡ true) → test a ≡ true
-    by true is e rest = subst (λ y. test y ≡ true) (same_Some x a e) is
-    by false is e rest = rest e
 
 found_among : (test : List ℕ → Bool) (ms : List (List ℕ)) (a : List ℕ) → find test ms ≡ Some a → is_among ms a ≡ true
 found_among test [] a e = absurd (None≢Some a e)
@@ -131,7 +123,7 @@ module _ (alphabet : List (List ℕ)) (letters : IsTrue (list_all is_letter alph
       by None is q rest e = absurd (None≢Some word e)
       by (Some a) is None rest e = absurd (None≢Some word e)
       by (Some a) is (Some v) rest e =
-          let first : p ≡ spelling a = sym ((bytes_eq-Decides (spelling a) p).0 (passes (λ l. same_bytes (spelling l) p) alphabet a is)) in
+          let first : p ≡ spelling a = sym ((bytes_eq-Decides (spelling a) p).0 (first_passes (λ l. same_bytes (spelling l) p) alphabet a is)) in
           let more = rest v refl in
           subst (λ w. (p ∷ ps ≡ map spelling w) × AreAmong w) (same_Some (a ∷ v) word e) ((λ i. first i ∷ more.0 i), (found_among (λ l. same_bytes (spelling l) p) alphabet a is, more.1))
 
@@ -190,7 +182,7 @@ module _ (alphabet : List (List ℕ)) (letters : IsTrue (list_all is_letter alph
   path_read Root (a ∷ word) all = behind_slash (text a word all) (not_text a word all [] refl refl refl refl) ∙ between a word all
   path_read Cwd [] all = refl
   path_read Cwd (a ∷ word) all =
-      ap (λ v. cond v (Some []) (word_of_pieces_between alphabet (text a word all))) (other_bytes (text a word all) (codes ".") (not_text a word all (codes ".") refl refl refl refl))
+      ap (λ v. cond v (Some []) (word_of_pieces_between alphabet (text a word all))) (other_word (text a word all) (codes ".") (not_text a word all (codes ".") refl refl refl refl))
       ∙ between a word all
 
   printed_some : (base : Base) (word : Word) → AreAmong word → [] ≢ printed_path base word
@@ -244,7 +236,7 @@ module _ (s : Scope) (letters : IsTrue (list_all is_letter s.alphabet)) (text : 
   whole : (c : Call) (w : Word) → call_named front ≡ Some c → word_of_path s.base s.alphabet back ≡ Some w → text ≡ pair_text s.base (w, c)
   whole c w is there =
       let path = path_spelled s.alphabet letters s.base back w there in
-      let name : front ≡ call_name c = sym ((bytes_eq-Decides (call_name c) front).0 (passes (λ call. same_bytes (call_name call) front) calls c is)) in
+      let name : front ≡ call_name c = sym ((bytes_eq-Decides (call_name c) front).0 (first_passes (λ call. same_bytes (call_name call) front) calls c is)) in
       elim (cases_lt (position_or_len colon text) (length text)) [
         | inl h ↦
             split_at_first colon text 0 h

@@ -22,7 +22,7 @@ use Rattle.pua_audit.specs.declared.base.Base.TheVariants.{Root, Cwd}
 use Rattle.pua_audit.specs.Past.{unveiled, locked_if, ended_if, history_of}
 use Rattle.pua_audit.specs.Reach.{Pair, Scope, path_of, pair_cmp, pairs, is_reached, reach, rest_after}
 use Rattle.pua_audit.specs.declared.base.Base.{Base}
-use Rattle.pua_audit.proofs.Lines.{filter-cong}
+use Rattle.std.proofs.lemmas.List.Elements.{filter_agree}
 
 -- what veils, a lock and an end leave as it is
 
@@ -161,7 +161,7 @@ module _ (t : Tree) (table : CallTable) (base : Base) (alphabet : List (List ℕ
 
   module _ (h k : History) (alike : AllowAlike h k) where
     reach_alike : reach (scope_by h) ≡ reach (scope_by k)
-    reach_alike = filter-cong (is_reached (scope_by h)) (is_reached (scope_by k)) (λ pair. ap is_allowed (alike.verdicts t table pair.1 (path_of base pair.0))) (pairs alphabet limit)
+    reach_alike = filter_agree (is_reached (scope_by h)) (is_reached (scope_by k)) (λ pair. ap is_allowed (alike.verdicts t table pair.1 (path_of base pair.0))) (pairs alphabet limit)
 
     rest_alike : (after : Option Pair) → rest_after (scope_by h) after ≡ rest_after (scope_by k) after
     rest_alike None = reach_alike

@@ -2,10 +2,9 @@
 use Rattle.std.proofs.Common.{subst, ◌≡◌, ℕ, suc, Bool, true, false, not, ◌&&◌, ◌||◌, List, [], ◌∷◌, ◌++◌, length, map, refl, sym, ap, ◌∙◌, arith, lt-ltb, ◌+◌, ◌*◌, ◌≤◌, append-nil, length-append, None, ◌==◌, codes, nat_lt, nat_le}
 use Rattle.std.proofs.lemmas.Bool.{false≢true, and_parts}
 use Rattle.std.proofs.lemmas.Bool.Decides.{nat_tests}
-use Rattle.std.specs.List.{All, AllByRecursion, list_any, list_all}
+use Rattle.std.specs.List.{AllByRecursion, list_any, list_all}
 use Rattle.std.proofs.lemmas.List.Splits.{slice_split_none, slice_split_at}
 use Rattle.std.proofs.lemmas.List.Folds.{list_any-append}
-use Rattle.std.proofs.lemmas.List.Elements.{All-cons}
 use Rattle.pua_tree.specs.Names.{is_name, is_name_byte, same_bytes, has_byte, components, has_short_components}
 use Rattle.pua_path.specs.Paths.{part_of, ends_in_slash, ending_parts, parts_of, path_fault, is_absolute}
 use Rattle.pua_path.specs.declared.text.Ending.{Ending}
@@ -14,6 +13,8 @@ use Rattle.pua_audit.specs.Reach.{Word, from_root, path_of}
 use Rattle.pua_audit.specs.Judge.{is_letter}
 use Rattle.pua_audit.specs.declared.base.Base.{Base}
 use Rattle.pua_audit.specs.declared.base.Base.TheVariants.{Root, Cwd}
+use Rattle.pua_tree.proofs.ForCallers.{same_word}
+use Rattle.pua_path.proofs.ForCallers.{no_slash_all}
 
 abbrev slash : ℕ → Bool
 slash b = b == 47
@@ -58,32 +59,14 @@ name_is_piece n h =
 dots_are_piece : IsPiece (codes "..")
 dots_are_piece = record { some = refl; short = refl; no_slash = refl; no_nul = refl }
 
--- equal as bytes is equal
-pub same_is : (xs ys : List ℕ) → same_bytes xs ys ≡ true → xs ≡ ys
-same_is [] [] h = refl
-same_is [] (y ∷ ys) h = cc
-same_is (x ∷ xs) [] h = cc
-same_is (x ∷ xs) (y ∷ ys) h =
-    let a = and_parts (x == y) (same_bytes xs ys) h in
-    let first : x ≡ y = grind (arith, nat_tests) in
-    (λ i. first i ∷ same_is xs ys a.1 i)
-
 pub letter_is_piece : (a : List ℕ) → is_letter a ≡ true → IsPiece a
 letter_is_piece a h = by (is_name a) refl h
   where
     by : (v : Bool) → is_name a ≡ v → (v || same_bytes a (codes "..")) ≡ true → IsPiece a
     by true e h = name_is_piece a e
-    by false e h = let P : List ℕ → Type 0 = λ n. IsPiece n in subst P (sym (same_is a (codes "..") h)) dots_are_piece
+    by false e h = let P : List ℕ → Type 0 = λ n. IsPiece n in subst P (sym (same_word a (codes "..") h)) dots_are_piece
 
 -- the parts of a path
-
-pub no_slash_all : (xs : List ℕ) → list_any slash xs ≡ false → All (λ b. slash b ≡ false) xs
-no_slash_all [] h = λ k d l. absurd (omega (arith, l))
-no_slash_all (b ∷ bs) h = by (λ k. no_slash_all bs k) (b == 47) refl h
-  where
-    by : (list_any slash bs ≡ false → All (λ b. slash b ≡ false) bs) → (v : Bool) → (b == 47) ≡ v → (v || list_any slash bs) ≡ false → All (λ b. slash b ≡ false) (b ∷ bs)
-    by more true e h = cc
-    by more false e h = All-cons (λ b. slash b ≡ false) b bs e (more h)
 
 -- letters behind one another, each behind a slash, are the components
 pub components_of : (a : List ℕ) (word : Word) → IsPiece a → AllByRecursion IsPiece word → components (a ++ from_root word) ≡ a ∷ word

@@ -7,7 +7,7 @@ use Rattle.std.proofs.lemmas.Map.Steps.{length-le_from_distinct_below}
 use Rattle.std.proofs.lemmas.Option.{get_or_from_slice_get}
 use Rattle.indexmap.specs.IndexSet.{insert_key}
 use Rattle.pua_audit.specs.Rows.{AreNumbers}
-use Rattle.pua_audit.proofs.Rising.{all_joined}
+use Rattle.pua_steps.proofs.ForCallers.{all_joined}
 
 -- numbers below 2^32, none of them twice, are at most so many
 

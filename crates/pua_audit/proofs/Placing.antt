@@ -1,11 +1,10 @@
 -- Where a letter stands among letters that rise, as a binary search finds it.
-use Rattle.std.proofs.Common.{◌≡◌, ◌≢◌, ℕ, zero, suc, ◌<◌, ◌≤◌, List, [], ◌∷◌, ◌++◌, Bool, true, false, cond, Some, None, Result, Ok, Err, length, map, get_or, take, drop, reverse, Bor, refl, sym, ap, ◌∙◌, inl, inr, arith}
+use Rattle.std.proofs.Common.{◌≡◌, ◌≢◌, ℕ, zero, suc, ◌<◌, ◌≤◌, List, [], ◌∷◌, ◌++◌, Bool, false, cond, Some, None, Result, Ok, Err, length, map, get_or, take, drop, reverse, Bor, refl, sym, ap, ◌∙◌, inl, inr, arith}
 use Rattle.std.specs.Prelude.{find}
 use Rattle.std.specs.List.{insert}
 use Rattle.std.specs.List.Sorted.{IsNonDecreasingBy, IsBinarySearchResult, IsSearchInRange}
 use Rattle.std.proofs.lemmas.Bool.{cases_lt}
 use Rattle.std.proofs.lemmas.List.{get_or-map, length-map, map-append, reverse-append, take-map, drop-map}
-use Rattle.std.proofs.lemmas.Slice.Eq.{bytes_eq-Decides}
 use Rattle.std.specs.declared.cmp.Ordering.{Ordering}
 use Rattle.std.specs.declared.cmp.Ordering.TheVariants.{Less, Equal, Greater}
 use Rattle.std.specs.Ordering.{ordering_index, ordering_reverse}
@@ -22,6 +21,7 @@ use Rattle.pua_audit.specs.Ready.{part_bytes}
 use Rattle.pua_audit.specs.Alphabets.{with_names, IsPlaced}
 use Rattle.pua_audit.proofs.Moves.{all_at_index}
 use Rattle.pua_audit.proofs.Rising.{with_name_rises}
+use Rattle.pua_tree.proofs.ForCallers.{other_word}
 
 pub turned : (a b : List ℕ) (o : Ordering) → name_cmp a b ≡ o → name_cmp b a ≡ ordering_reverse o
 turned a b o e = nat_list_cmp_total.antisymm b a ∙ ap ordering_reverse e
@@ -68,13 +68,6 @@ pub none_is : (test : List ℕ → Bool) (ms : List (List ℕ)) → ((k : ℕ) �
 none_is test [] others = refl
 none_is test (m ∷ ms) others = ap (λ b. cond b (Some m) (find test ms)) (others 0 (omega arith)) ∙ none_is test ms (λ k h. others (suc k) (omega (arith, h)))
 
-pub other_bytes : (a b : List ℕ) → a ≢ b → same_bytes a b ≡ false
-other_bytes a b other = by (same_bytes a b) refl
-  where
-    by : (v : Bool) → same_bytes a b ≡ v → v ≡ false
-    by true e = absurd (other ((bytes_eq-Decides a b).0 e))
-    by false e = refl
-
 not_itself : (n : List ℕ) (o : Ordering) → name_cmp n n ≡ o → o ≢ Equal → ⊥
 not_itself n o e other = other (sym e ∙ tied_itself nat_list_cmp_total n)
 
@@ -109,7 +102,7 @@ module _ (letters : List Part) (q : List ℕ) (rises : Rises name_cmp (map part_
       let parts = parted searchable in
       let less : (k : ℕ) → k < i → name_cmp (get_or bytes k []) q ≡ Less = λ k h. ap (λ b. name_cmp b q) (bytes_at k Dot (omega (arith, h, within))) ∙ parts.0 k Dot (omega arith) h in
       let greater : (k : ℕ) → i ≤ k → k < length bytes → name_cmp (get_or bytes k []) q ≡ Greater = λ k h l. ap (λ b. name_cmp b q) (bytes_at k Dot (omega (arith, l, long))) ∙ parts.1 k Dot h (omega (arith, l, long)) in
-      (omega (arith, within, long), put_between q bytes i (omega (arith, within, long)) less greater, none_is (same_bytes q) bytes (λ k l. other_bytes q (get_or bytes k []) (other k less greater l)))
+      (omega (arith, within, long), put_between q bytes i (omega (arith, within, long)) less greater, none_is (same_bytes q) bytes (λ k l. other_word q (get_or bytes k []) (other k less greater l)))
     where
       other : (k : ℕ) → ((k : ℕ) → k < i → name_cmp (get_or bytes k []) q ≡ Less) → ((k : ℕ) → i ≤ k → k < length bytes → name_cmp (get_or bytes k []) q ≡ Greater) → k < length bytes → q ≢ get_or bytes k []
       other k less greater l e =

@@ -10,7 +10,7 @@ use Rattle.std.proofs.lemmas.Slice.Eq.{bytes_eq-Decides}
 use Rattle.pua_tree.specs.Names.{is_name, same_bytes}
 use Rattle.pua_tree.specs.Spelling.{spelling, name_of}
 use Rattle.pua_tree.specs.declared.fault.NameFault.{NameFault}
-use Rattle.pua_tree.proofs.ForCallers.{is_byte, name_is_bytes, spelling_tells, name_of-spelling, Err≢Ok}
+use Rattle.pua_tree.proofs.ForCallers.{is_byte, name_is_bytes, spelling_tells, name_of-spelling, Err≢Ok, other_word}
 use Rattle.pua_audit.specs.Reach.{Word}
 use Rattle.pua_audit.specs.Begin.{word_of_pieces, word_of_path, word_within}
 use Rattle.pua_audit.specs.Judge.{is_letter}
@@ -18,8 +18,7 @@ use Rattle.pua_audit.specs.Ready.{word_of}
 use Rattle.pua_audit.specs.Alphabets.{IsPlaced}
 use Rattle.pua_audit.specs.Starting.{AreLetters}
 use Rattle.pua_audit.specs.declared.base.Base.TheVariants.{Root}
-use Rattle.pua_audit.proofs.Moves.{all_pushed}
-use Rattle.pua_audit.proofs.Placing.{other_bytes}
+use Rattle.pua_steps.proofs.ForCallers.{all_pushed}
 
 -- a letter is a name or two dots
 
@@ -71,7 +70,7 @@ module _ (ms : List (List ℕ)) (all : IsTrue (list_all is_letter ms)) where
 
   -- what spells no name and is not two dots spells no letter
   pub none_spelled : (piece : List ℕ) (fault : NameFault) → name_of piece ≡ Err fault → same_bytes piece (codes "..") ≡ false → find (λ a. same_bytes (spelling a) piece) ms ≡ None
-  none_spelled piece fault refused other = same_find (λ a. same_bytes (spelling a) piece) (λ _. false) ms all (λ a h. other_bytes (spelling a) piece (apart a (letter_is a h))) ∙ find_none ms
+  none_spelled piece fault refused other = same_find (λ a. same_bytes (spelling a) piece) (λ _. false) ms all (λ a h. other_word (spelling a) piece (apart a (letter_is a h))) ∙ find_none ms
     where
       apart : (a : List ℕ) → IsTrue (is_name a) ⊎ (a ≡ codes "..") → spelling a ≢ piece
       apart a (inl n) e = Err≢Ok fault a (sym refused ∙ ap name_of (sym e) ∙ name_of-spelling a n)

@@ -9,11 +9,11 @@ use Rattle.pua_audit.specs.Judge.{Judge}
 use Rattle.pua_audit.specs.Rows.{IsGrown, IsEntryFor, IsRow}
 use Rattle.pua_audit.specs.Table.{IsLetter, IsTold, entry_of}
 use Rattle.pua_audit.specs.Judge as named
-use Rattle.pua_audit.proofs.Rising.{all_joined}
 use Rattle.pua_steps.specs.Calls.{has_call}
 use Rattle.pua_steps.specs.Limits.{call_count}
 use Rattle.pua_steps.specs.Table.{Rising}
 use Rattle.pua_steps.specs.declared.steps.Entry.{Entry}
+use Rattle.pua_steps.proofs.ForCallers.{all_joined}
 
 pub grown_itself : (dirs : List ℕ) → IsGrown dirs dirs
 grown_itself dirs = record { more = omega arith; same = λ d low. refl }

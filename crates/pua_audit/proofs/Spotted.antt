@@ -25,10 +25,9 @@ use Rattle.pua_path.specs.Paths.{part_of}
 use Rattle.pua_path.specs.declared.found.Part.{Part}
 use Rattle.pua_path.specs.declared.found.Part.TheVariants as part
 use Rattle.pua_audit.proofs.Letters.{letter_part}
-use Rattle.pua_audit.proofs.Lists.{all_alike, all_before, all_after}
-use Rattle.pua_audit.proofs.Rising.{all_joined}
+use Rattle.pua_audit.proofs.Lists.{all_before, all_after}
 use Rattle.pua_audit.proofs.AfterPair.{letters_alike}
-use Rattle.pua_audit.proofs.Moves.{all_pushed}
+use Rattle.pua_steps.proofs.ForCallers.{all_weaker, all_joined, all_pushed}
 
 -- one element more of a list that is gone through
 
@@ -93,7 +92,7 @@ pub unmarked_between : (dir letter first past : ℕ) (spots rest : List LetterSp
 unmarked_between dir letter first past spots rest is before after between =
     let unmarked = λ (s : LetterSpot). s.dir ≡ dir → s.letter ≢ letter in
     let front : AllByRecursion unmarked (take first spots) = all_before (λ s. ltb s.dir dir ≡ true) unmarked (λ s low same. absurd (omega (arith, same, ltb-true s.dir dir low))) first spots before in
-    let here : AllByRecursion unmarked (take past rest) = all_alike (λ s. s.letter ≢ letter) unmarked (λ s away _. away) (take past rest) between in
+    let here : AllByRecursion unmarked (take past rest) = all_weaker (λ s. s.letter ≢ letter) unmarked (λ s away _. away) (take past rest) between in
     let back : AllByRecursion unmarked (drop past rest) = all_after (λ s. leb s.dir dir ≡ false) unmarked (λ s high same. absurd (omega (arith, same, leb-false s.dir dir high))) past rest after in
     let behind : AllByRecursion unmarked (drop first spots) = subst (AllByRecursion unmarked) (take-append-drop past rest ∙ sym is) (all_joined unmarked (take past rest) (drop past rest) here back) in
     subst (AllByRecursion unmarked) (take-append-drop first spots) (all_joined unmarked (take first spots) (drop first spots) front behind)

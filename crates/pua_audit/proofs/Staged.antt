@@ -13,20 +13,13 @@ use Rattle.pua_audit.specs.Judge.{State}
 use Rattle.pua_audit.specs.Live.{Stage, shorter}
 use Rattle.pua_audit.proofs.Lines as lines
 use Rattle.pua_audit.proofs.Stages.{on_state, leads, staged, stage_after, stages_of, is_stage, is_staged, reached_from, is_state, is_among, some_pair, state_of, StagesLive}
+use Rattle.std.proofs.Math.Bool.{or-false, or_assoc, and-false}
 
 abbrev any : {A : Type 0} → (A → Bool) → List A → Bool
 any f [] = false
 any f (x ∷ xs) = f x || any f xs
 
-or_assoc : (a b c : Bool) → ((a || b) || c) ≡ (a || (b || c))
-or_assoc true b c = refl
-or_assoc false b c = refl
-
-or_false : (b : Bool) → (b || false) ≡ b
-or_false true = refl
-or_false false = refl
-
-staged-append : (y : Stage) (xs ys : List Stage) → is_staged y (xs ++ ys) ≡ (is_staged y xs || is_staged y ys)
+pub staged-append : (y : Stage) (xs ys : List Stage) → is_staged y (xs ++ ys) ≡ (is_staged y xs || is_staged y ys)
 staged-append y [] ys = refl
 staged-append y (x ∷ xs) ys = ap (λ b. is_stage y x || b) (staged-append y xs ys) ∙ sym (or_assoc (is_stage y x) (is_staged y xs) (is_staged y ys))
 
@@ -187,7 +180,7 @@ module _ (w : Judge) (letters : List (List ℕ)) where
         | true ↦ λ same.
             let less : l ≡ y.left - 1 = omega (arith, e) in
             ap (λ n. some_pair (lines.rows w letters n s letters)) less ∙ ap (λ z. some_pair (lines.rows w letters (y.left - 1) z letters)) (sym (same_state (state_of y) s same)) ∙ sym (and_true (lives y))
-        | false ↦ λ _. sym (and_false (lives y))
+        | false ↦ λ _. sym (and-false (lives y))
       ] refl
     where
       drop_true : (a b c : Bool) → ((a && (b && true)) && c) ≡ ((a && b) && c)
@@ -198,10 +191,6 @@ module _ (w : Judge) (letters : List (List ℕ)) where
       and_true : (b : Bool) → (b && true) ≡ b
       and_true true = refl
       and_true false = refl
-
-      and_false : (b : Bool) → (b && false) ≡ false
-      and_false true = refl
-      and_false false = refl
 
   outside : (l : ℕ) (y : Stage) → l < y.left → in_range y l ≡ false
   outside l y h = ap (λ b. nat_lt 0 y.left && b) (lt-leb y.left l h) ∙ none (nat_lt 0 y.left)
@@ -229,7 +218,7 @@ module _ (w : Judge) (letters : List (List ℕ)) where
             any-same (λ a. told l (Below s a) y) (λ _. false) (λ a. ap (λ b. b && (lives y && is_among (state_of y) (reached_from w letters (l - y.left) (Below s a)))) (outside l y (omega (arith, e)))) letters ∙ any-none letters in
             let none : suc l - y.left ≡ 0 = omega (arith, e) in
             let range : in_range y (suc l) ≡ true = ap (λ b. b && nat_le y.left (suc l)) (lt-ltb 0 y.left (omega (arith, e))) ∙ le-leb y.left (suc l) (omega (arith, e)) in
-            ap (λ b. (is_stage y (staged (suc l) s) && some_pair (lines.rows w letters l s letters)) || b) (all ∙ off) ∙ or_false (is_stage y (staged (suc l) s) && some_pair (lines.rows w letters l s letters))
+            ap (λ b. (is_stage y (staged (suc l) s) && some_pair (lines.rows w letters l s letters)) || b) (all ∙ off) ∙ or-false (is_stage y (staged (suc l) s) && some_pair (lines.rows w letters l s letters))
             ∙ here l s y e
             ∙ sym (ap (λ b. b && (lives y && is_among (state_of y) (reached_from w letters (suc l - y.left) x))) range
             ∙ ap (λ n. lives y && is_among (state_of y) (reached_from w letters n x)) none ∙ ap (λ ss. lives y && is_among (state_of y) ss) (reached_zero x s step))

@@ -2,7 +2,7 @@
 use Rattle.std.proofs.Common.{ℕ, zero, suc, ◌+◌, ◌-◌, ◌<◌, ◌≤◌, ◌≡◌, List, [], ◌∷◌, ◌++◌, Option, Some, None, Bool, true, false, ◌||◌, ◌==◌, nat_le, cond, refl, ap, arith, sym, ◌∙◌, map, length, get_or, option_map, append-nil, subst, inl, inr}
 use Rattle.std.specs.Prelude.{IfSome}
 use Rattle.std.specs.List.{AllByRecursion, range_with_len}
-use Rattle.std.proofs.lemmas.Bool.{cases_eq, cases_lt, eqb-true, eq-eqb, ne_eqb, leb-true}
+use Rattle.std.proofs.lemmas.Bool.{cases_eq, cases_lt, eqb-true, eq-eqb, ne_eqb, leb-true, or_parts}
 use Rattle.pua_path.specs.Limits.{link_limit}
 use Rattle.pua_calls.specs.CallSets.{bit_of}
 use Rattle.pua_calls.specs.declared.call.Call.{Call}
@@ -12,21 +12,17 @@ use Rattle.pua_audit.specs.Graphs.{named_in, is_visited, Rising, IsRight, IsMiss
 use Rattle.pua_audit.specs.Table.{IsTold, entry_of, IsTableOf}
 use Rattle.pua_audit.specs.Judge as named
 use Rattle.pua_audit.proofs.Leading.{masks_list}
-use Rattle.pua_audit.proofs.Rising.{all_joined}
 use Rattle.pua_steps.specs.Calls.{has_call, calls_of}
 use Rattle.pua_steps.specs.Table as steps
 use Rattle.pua_steps.specs.declared.state.State.{State}
 use Rattle.pua_steps.specs.declared.steps.Entry.{Entry}
 use Rattle.pua_steps.specs.declared.steps.Steps.{Steps}
 use Rattle.pua_steps.specs.declared.visit.Visit.{Visit}
+use Rattle.pua_steps.proofs.ForCallers.{all_joined}
 
 visited-append : (xs ys : List Visit) (i : ℕ) → is_visited (xs ++ ys) i ≡ (is_visited xs i || is_visited ys i)
 visited-append [] ys i = refl
 visited-append (x ∷ xs) ys i = elim (x.letter == i) as (λ b. cond b true (is_visited (xs ++ ys) i) ≡ (cond b true (is_visited xs i) || is_visited ys i)) [ true ↦ refl | false ↦ visited-append xs ys i ]
-
-or_parts : (a b : Bool) → (a || b) ≡ false → (a ≡ false) × (b ≡ false)
-or_parts true b e = absurd cc
-or_parts false b e = (refl, e)
 
 module _ (missing : ℕ) where
   abbrev all_missed : ℕ → ℕ → List Visit

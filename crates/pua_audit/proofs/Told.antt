@@ -23,6 +23,7 @@ use Rattle.pua_audit.specs.Entries.{links_of, found_of, leads_to, allowed_near, 
 use Rattle.pua_audit.specs.Table.{IsLetter}
 use Rattle.pua_audit.specs.declared.base.Base.{Base}
 use Rattle.pua_audit.proofs.Fresh.{entries_stand}
+use Rattle.pua_calls.proofs.ForCallers.{has_none}
 
 -- a letter that is followed once, by the sets of its calls
 pub letter_told : (t : Tree) (table : CallTable) (base : Base) (h : History) (dir : ℕ) (letter : List ℕ) (all kept : ℕ)
@@ -92,9 +93,6 @@ no_bit set none i low = at i low
 
 pub no_calls : (set : ℕ) → set < 2 ^ 14 → ((call : Call) → has set call ≡ false) → set ≡ 0
 no_calls set fits none = same_from_bits_below 14 set 0 fits (omega arith) (λ i low. no_bit set none i low ∙ sym (bit_at-zero i))
-
-pub has_none : (call : Call) → has 0 call ≡ false
-has_none call = ap (λ b. b == 1) (bit_at-zero (bit_of call))
 
 -- the calls that a set keeps are none where it has none
 pub kept_none : (all kept : ℕ) → kept < 2 ^ 14 → ((call : Call) → has kept call ≡ (has all call && keeps_link call)) → all ≡ 0 → kept ≡ 0

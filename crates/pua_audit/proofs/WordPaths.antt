@@ -1,7 +1,7 @@
 -- The path of a word in a buffer, letter by letter.
 use Rattle.std.proofs.Common.{ℕ, zero, suc, ◌+◌, ◌<◌, ◌≤◌, ◌≡◌, List, [], ◌∷◌, ◌++◌, refl, ap, arith, sym, ◌∙◌, length, get_or, take, length-append, min, inl, inr}
 use Rattle.std.proofs.lemmas.Bool.{cases_lt}
-use Rattle.std.proofs.lemmas.List.{length-take}
+use Rattle.std.proofs.lemmas.List.{length-take, take-take}
 use Rattle.pua_audit.specs.Reach.{Word, from_root}
 use Rattle.pua_audit.specs.WordPaths.{starts_of}
 
@@ -48,19 +48,10 @@ take_whole zero (x ∷ xs) h = absurd (omega (arith, h))
 take_whole (suc k) [] h = refl
 take_whole (suc k) (x ∷ xs) h = ap (λ ys. x ∷ ys) (take_whole k xs (omega (arith, h)))
 
-take_fewer : {A : Type 0} (m n : ℕ) (xs : List A) → m ≤ n → take m (take n xs) ≡ take m xs
-take_fewer zero zero [] h = refl
-take_fewer zero zero (x ∷ xs) h = refl
-take_fewer zero (suc n) [] h = refl
-take_fewer zero (suc n) (x ∷ xs) h = refl
-take_fewer (suc m) zero xs h = absurd (omega (arith, h))
-take_fewer (suc m) (suc n) [] h = refl
-take_fewer (suc m) (suc n) (x ∷ xs) h = ap (λ ys. x ∷ ys) (take_fewer m n xs (omega (arith, h)))
-
 -- the letters of a front that stay are those at the front of the new word
 pub front_stays : (old new : List ℕ) (k n m : ℕ) → take n new ≡ take n old → m ≡ min n k → take n (take k old) ≡ take m new
 front_stays old new k n m same few =
     elim (cases_lt n k) [
-      | inl h ↦ take_fewer n k old (omega (arith, h)) ∙ sym same ∙ ap (λ l. take l new) (omega (arith, h, few))
-      | inr h ↦ take_whole n (take k old) (omega (arith, h, length-take k old)) ∙ sym (take_fewer k n old h) ∙ ap (take k) (sym same) ∙ take_fewer k n new h ∙ ap (λ l. take l new) (omega (arith, h, few))
+      | inl h ↦ take-take n k old (omega (arith, h)) ∙ sym same ∙ ap (λ l. take l new) (omega (arith, h, few))
+      | inr h ↦ take_whole n (take k old) (omega (arith, h, length-take k old)) ∙ sym (take-take k n old h) ∙ ap (take k) (sym same) ∙ take-take k n new h ∙ ap (λ l. take l new) (omega (arith, h, few))
     ]

@@ -2,6 +2,7 @@
 
 ghost use Rattle.std.specs.Prelude.{◌≡◌, ◌≤◌, IfOk, map};
 ghost use Rattle.pua_tree.specs.LentRows.{lent_entry};
+ghost use Rattle.pua_tree.specs.Limits.{most_name};
 ghost use Rattle.pua_tree.specs.Tree.{Tree, name_cmp, with_name, distinct_names};
 ghost use Rattle.pua_audit.specs.Reach.{alphabet_of};
 ghost use Rattle.pua_audit.specs.Begin.{longest};
@@ -102,7 +103,7 @@ pub(crate) fn place_of(letters: &[Component], bytes: &[u8]) -> Result<usize, usi
 pub(crate) fn longest(letters: &[Component]) -> usize
     ensures longest { result ≡ longest (map part_bytes letters.now) }
     ensures parts { AreParts letters.now }
-    ensures short { result ≤ 255 }
+    ensures short { result ≤ most_name }
 {
     let mut most = 0;
     for letter in letters {

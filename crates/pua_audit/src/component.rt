@@ -31,6 +31,7 @@ impl Model for Component {
 
 ghost use Rattle.std.specs.Prelude.{◌≡◌, ◌≤◌, IfOk, IsTrue, length, not};
 ghost use Rattle.std.specs.List.{list_all};
+ghost use Rattle.pua_tree.specs.Limits.{most_name};
 ghost use Rattle.pua_tree.specs.Spelling.{is_plain};
 ghost use Rattle.pua_path.specs.Paths.{part_of};
 ghost use Rattle.pua_path.specs.declared.found.Part.TheVariants.{DotDot};
@@ -70,11 +71,11 @@ impl Component {
         })
     }
 
-    /// Its bytes: at most 255.
+    /// Its bytes: no more than a name has.
     pub(crate) fn bytes(&self) -> &[u8]
         ensures bytes { result.now ≡ part_bytes self.now }
         ensures part { part_of (part_bytes self.now) ≡ self.now }
-        ensures short { length (part_bytes self.now) ≤ 255 }
+        ensures short { length (part_bytes self.now) ≤ most_name }
     {
         &self.bytes
     }

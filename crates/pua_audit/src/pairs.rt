@@ -112,20 +112,5 @@ fn call_at(number: u8) -> Call
     requires { number < call_count }
     ensures { result ≡ call_at number }
 {
-    match number {
-        0 => Call::Stat,
-        1 => Call::Lstat,
-        2 => Call::Readlink,
-        3 => Call::OpenRead,
-        4 => Call::OpenWrite,
-        5 => Call::OpenBoth,
-        6 => Call::Create,
-        7 => Call::Mkdir,
-        8 => Call::Rmdir,
-        9 => Call::Unlink,
-        10 => Call::Symlink,
-        11 => Call::Chmod,
-        12 => Call::Chdir,
-        _ => Call::Exec,
-    }
+    Call::ALL[number as usize]
 }

@@ -28,6 +28,10 @@ both_of (suc zero) (suc zero) low high = refl
 both_of (suc (suc x)) y low high = absurd (omega (arith, low))
 both_of x (suc (suc y)) low high = absurd (omega (arith, high))
 
+-- the empty set has no call
+pub has_none : (call : Call) → has 0 call ≡ false
+has_none call = ap (λ b. b == 1) (bit_at-zero (bit_of call))
+
 pub has_or : (a b : ℕ) (call : Call) → has (bit_or a b) call ≡ (has a call || has b call)
 has_or a b call = ap (λ n. n == 1) (bit_at_or a b (bit_of call)) ∙ one_of (bit_at a (bit_of call)) (bit_at b (bit_of call)) (bit_at-lt a (bit_of call)) (bit_at-lt b (bit_of call))
 

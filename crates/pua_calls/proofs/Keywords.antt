@@ -7,11 +7,7 @@ use Rattle.std.proofs.lemmas.Option.{slice_get-map, slice_get_past}
 use Rattle.pua_tree.specs.Names.{same_bytes}
 use Rattle.pua_calls.specs.Promises.{holds, keyword_at, keyword_if, keyword_rows, keywords_of, promise_of}
 use Rattle.pua_path.proofs.ForCallers.{find_passes}
-
--- finding after a map is a map after finding
-find-map : {X Y : Type 0} (f : X → Y) (p : Y → Bool) (xs : List X) → find p (map f xs) ≡ option_map f (find (λ x. p (f x)) xs)
-find-map f p [] = refl
-find-map f p (x ∷ xs) = elim (p (f x)) as (λ b. cond b (Some (f x)) (find p (map f xs)) ≡ option_map f (cond b (Some x) (find (λ x. p (f x)) xs))) [ true ↦ refl | false ↦ find-map f p xs ]
+use Rattle.pua_tree.proofs.ForCallers.{find-map}
 
 -- a keyword found among flags is that of the rows
 pub promise_of-find : {F : Type 0} (row : F → (List ℕ × ℕ)) (flags : List F) (word : List ℕ) → map row flags ≡ keyword_rows →

@@ -9,12 +9,10 @@ use Rattle.pua_calls.specs.Promises.{joined, union_of}
 use Rattle.pua_path.specs.declared.errno.Errno.{Errno}
 use Rattle.pua_path.specs.declared.errno.Errno.TheVariants.{EINVAL}
 
-max_assoc : (a b c : ℕ) → max (max a b) c ≡ max a (max b c)
-max_assoc a b c = omega arith
-
 pub or_assoc : (a b c : ℕ) → bit_or (bit_or a b) c ≡ bit_or a (bit_or b c)
 or_assoc a b c = same_from_bits _ _ (λ i.
-    bit_at_or (bit_or a b) c i ∙ ap (λ x. max x (bit_at c i)) (bit_at_or a b i) ∙ max_assoc (bit_at a i) (bit_at b i) (bit_at c i)
+    let turned : max (max (bit_at a i) (bit_at b i)) (bit_at c i) ≡ max (bit_at a i) (max (bit_at b i) (bit_at c i)) = omega arith in
+    bit_at_or (bit_or a b) c i ∙ ap (λ x. max x (bit_at c i)) (bit_at_or a b i) ∙ turned
     ∙ ap (max (bit_at a i)) (sym (bit_at_or b c i)) ∙ sym (bit_at_or a (bit_or b c) i))
 
 joined_assoc : (a b : ℕ) (more : Result ℕ Errno) → joined a (joined b more) ≡ joined (bit_or a b) more

@@ -1,11 +1,8 @@
 -- No table of calls that a text gives needs `error`, if the one doesn't over which it is read.
-use Rattle.std.proofs.Common.{◌≡◌, ℕ, zero, suc, ◌*◌, ◌^◌, ◌<◌, List, [], ◌∷◌, Bool, true, false, map, refl, sym, ap, ◌∙◌, subst, arith, lit<}
-use Rattle.std.proofs.lemmas.Bool.{eq-eqb, true≢false}
+use Rattle.std.proofs.Common.{◌≡◌, ℕ, zero, suc, ◌^◌, ◌<◌, List, [], ◌∷◌, Bool, true, false, map, refl, subst, lit<}
 use Rattle.std.proofs.lemmas.Nat.{or_lt}
-use Rattle.std.proofs.lemmas.Nat.Bits.{and_pow, bit_at-lt}
-use Rattle.std.specs.Int.{bit_at}
 use Rattle.std.specs.List.{AllByRecursion, slice_split}
-use Rattle.std.specs.Prelude.{Option, None, Some, Result, Ok, Err, ok_or, bit_and, bit_or, if◌then◌else◌, ◌==◌, slice_index_or, slice_set}
+use Rattle.std.specs.Prelude.{Option, None, Some, Result, Ok, Err, ok_or, bit_or, if◌then◌else◌, ◌==◌, slice_index_or, slice_set}
 use Rattle.toml.specs.Data.{Data, as_str, Items, no_items, item, Members, no_members, member}
 use Rattle.pua_tree.proofs.ForCallers.{step_read}
 use Rattle.pua_path.specs.declared.errno.Errno.{Errno}
@@ -16,6 +13,7 @@ use Rattle.pua_calls.specs.TableTexts.{alternative_of, alternatives_of, veil_of,
 use Rattle.pua_calls.specs.declared.call.Call.{Call}
 use Rattle.pua_calls.specs.declared.table.read.TableFault.TheVariants.{BadKey, BadRow, BadPromises}
 use Rattle.pua_calls.proofs.Keywords.{promise_of-below}
+use Rattle.pua_calls.proofs.TableTexts.{no_error_in}
 
 -- what joins two sets of keywords is one
 joined_below : (bits : ℕ) (more : Result ℕ Errno) (set : ℕ) → bits < 2 ^ 36 → ((s : ℕ) → more ≡ Ok s → s < 2 ^ 36) → joined bits more ≡ Ok set → set < 2 ^ 36
@@ -41,15 +39,6 @@ promises_below [] set is =
     subst (λ s. s < 2 ^ 36) none (lit< tt)
 promises_below (b ∷ more) set is = union_below (slice_split (λ b. b == 44) (b ∷ more)) set is
 
--- a set that doesn't hold `error` has no bit of it
-no_bit : (set : ℕ) → holds set error ≡ false → bit_and set error ≡ 0
-no_bit set none = by (bit_at set 8) refl (bit_at-lt set 8)
-  where
-    by : (bit : ℕ) → bit_at set 8 ≡ bit → bit < 2 → bit_and set error ≡ 0
-    by zero is low = and_pow set 8 ∙ ap (λ b. b * 2 ^ 8) is
-    by (suc zero) is low = absurd (true≢false (sym (eq-eqb _ _ (and_pow set 8 ∙ ap (λ b. b * 2 ^ 8) is)) ∙ none))
-    by (suc (suc bit)) is low = omega (arith, low)
-
 alternative_names_no_error : (call : Call) (read : Result ℕ Errno) (set : ℕ) → ((s : ℕ) → read ≡ Ok s → s < 2 ^ 36) → alternative_of call read ≡ Ok set → NamesNoError set
 alternative_names_no_error call (Err errno) set low is = cc
 alternative_names_no_error call (Ok s) set low is = by (holds s error) refl is
@@ -58,7 +47,7 @@ alternative_names_no_error call (Ok s) set low is = by (holds s error) refl is
     by true own is = cc
     by false own is =
         let same : s ≡ set = cc in
-        subst NamesNoError same (low s refl, no_bit s own)
+        subst NamesNoError same (low s refl, no_error_in s own)
 
 alternatives_name_no_error : (call : Call) (items : Items) (sets : List ℕ) → alternatives_of call items ≡ Ok sets → AllByRecursion NamesNoError sets
 alternatives_name_no_error call no_items sets is =

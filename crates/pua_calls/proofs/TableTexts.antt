@@ -1,7 +1,6 @@
 -- Rows of tables as they are read, one after another.
-use Rattle.std.proofs.Common.{◌≡◌, ℕ, zero, suc, ◌*◌, ◌<◌, ◌^◌, true, false, List, [], ◌∷◌, ◌++◌, length, set, refl, sym, ap, ◌∙◌, arith, append_assoc, inl, inr}
-use Rattle.std.specs.Prelude.{Option, Some, None, Result, Ok, Err, ok_or, slice_set, bit_and, ◌==◌}
-use Rattle.std.specs.List.{AllByRecursion}
+use Rattle.std.proofs.Common.{◌≡◌, ℕ, zero, suc, ◌*◌, ◌<◌, ◌^◌, true, false, List, [], ◌∷◌, length, set, refl, ap, ◌∙◌, arith, inl, inr}
+use Rattle.std.specs.Prelude.{Option, Some, None, Result, Ok, Err, ok_or, bit_and, ◌==◌}
 use Rattle.std.specs.Int.{bit_at}
 use Rattle.std.proofs.lemmas.Nat.Bits.{and_pow, bit_at-lt}
 use Rattle.std.specs.Str.{IsUtf8, is_utf8}
@@ -18,7 +17,6 @@ use Rattle.toml.specs.declared.value.Value.{Value}
 use Rattle.pua_tree.specs.Steps.{◌>>=◌}
 use Rattle.pua_calls.specs.Promises.{holds, error}
 use Rattle.pua_calls.specs.Calls.{CallTable, Rule, call_named}
-use Rattle.pua_calls.specs.Tables.{NeedsNoError}
 use Rattle.pua_calls.specs.TableTexts.{count, document_of, keys_ascend, member_count, rule_in, rules_with, with_rule}
 use Rattle.pua_calls.specs.declared.call.Call.{Call}
 use Rattle.pua_calls.specs.declared.table.read.TableFault.{TableFault}
@@ -37,16 +35,6 @@ module _ (t : CallTable) (key : List ℕ) (value : Data) (rest : Members) where
 
   pub one_row : (call : Call) (rule : Rule) → call_named key ≡ Some call → rule_in call value ≡ Ok rule → rules_with t (member key value rest) ≡ put call rule
   one_row call rule named is = named_as (Some call) named ∙ (λ i. is i >>= put call)
-
--- what holds of each rule still does where another stands in one's place
-pub all_set : (rules : List Rule) (i : ℕ) (rule : Rule) → AllByRecursion NeedsNoError rules → NeedsNoError rule → AllByRecursion NeedsNoError (slice_set rules i rule)
-all_set [] i rule all one = all
-all_set (r ∷ rules) zero rule all one = (one, all.1)
-all_set (r ∷ rules) (suc i) rule all one = (all.0, all_set rules i rule all.1 one)
-
-set_next : (xs ys : List ℕ) (a b : ℕ) → slice_set (xs ++ a ∷ ys) (length xs) b ≡ xs ++ b ∷ ys
-set_next [] ys a b = refl
-set_next (x ∷ xs) ys a b = ap (λ zs. x ∷ zs) (set_next xs ys a b)
 
 -- as many items as values
 pub count_of : (values : List Value) → count (items_view values) ≡ length values
@@ -74,11 +62,6 @@ no_document text unless =
 
 pub text_of : (text : List ℕ) → IsUtf8 text → document_of text ≡ parse_document text
 text_of text is = rw (is_utf8-from_IsUtf8 text is)
-
--- one more set stands behind those that were read
-pub moved : (more : Result (List ℕ) TableFault) (done : List ℕ) (set : ℕ) → ((more >>= λ sets. Ok (set ∷ sets)) >>= λ sets. Ok (done ++ sets)) ≡ (more >>= λ sets. Ok ((done ++ set ∷ []) ++ sets))
-moved (Ok sets) done set = ap Ok (sym (append_assoc done (set ∷ []) sets))
-moved (Err fault) done set = refl
 
 no_error_at : (bit : ℕ) → bit < 2 → (bit * 2 ^ 8 == 2 ^ 8) ≡ false → bit * 2 ^ 8 ≡ 0
 no_error_at zero below other = refl

@@ -50,8 +50,11 @@ impl Call {
     ghost use Rattle.std.specs.Prelude.{◌≡◌};
     ghost use Rattle.pua_calls.specs.Calls.{call_number, call_name, call_named};
 
+    /// How many calls there are.
+    pub const COUNT: usize = 14;
+
     /// Every call, in the order of their numbers.
-    pub const ALL: [Call; 14] = [
+    pub const ALL: [Call; Call::COUNT] = [
         Call::Stat,
         Call::Lstat,
         Call::Readlink,

@@ -20,9 +20,8 @@ impl Model for Calls {
     ghost inverse = { λ n. record { bits = n } };
 }
 
-ghost use Rattle.std.specs.Prelude.{◌≡◌, ◌≢◌, ◌↔◌, ◌<◌, ◌^◌, [], find};
+ghost use Rattle.std.specs.Prelude.{◌≡◌, ◌≢◌, ◌↔◌, ◌<◌, ◌^◌, []};
 ghost use Rattle.std.specs.Prelude.{◌&&◌, ◌||◌, not, IsTrue};
-ghost use Rattle.pua_calls.specs.Calls.{calls};
 ghost use Rattle.pua_calls.specs.CallSets.{has, calls_in, keeps_link};
 
 use crate::call::Call;
@@ -31,14 +30,19 @@ impl Calls {
     /// No call.
     pub const NONE: Calls = Calls { bits: 0 };
 
-    /// Lstat, readlink, mkdir, rmdir, unlink and symlink: the calls on a link itself.
+    /// The calls on a link itself.
     const KEEPING: Calls = Calls {
-        bits: 0b00_0111_1000_0110,
+        bits: 1 << Call::Lstat as u16
+            | 1 << Call::Readlink as u16
+            | 1 << Call::Mkdir as u16
+            | 1 << Call::Rmdir as u16
+            | 1 << Call::Unlink as u16
+            | 1 << Call::Symlink as u16,
     };
 
-    /// The calls on what a link leads to.
+    /// The others: the calls on what a link leads to.
     const FOLLOWING: Calls = Calls {
-        bits: 0b11_1000_0111_1001,
+        bits: !Calls::KEEPING.bits & (1 << Call::COUNT) - 1,
     };
 
     /// Whether it has a call.
@@ -53,13 +57,6 @@ impl Calls {
         ensures { IsTrue result ↔ (calls_in self ≡ []) }
     {
         self.bits == 0
-    }
-
-    /// Its first call, in the order of the calls' numbers; None where it is empty.
-    pub fn first(self) -> Option<Call>
-        ensures { result ≡ find (has self) calls }
-    {
-        Call::ALL.iter().find(|call| self.contains(**call)).copied()
     }
 
     /// Its number: a bit for each call, that of the call with number n at bit n - 1.

@@ -54,7 +54,7 @@ impl Keywords {
     const WPATH: Keywords = Keywords(1 << 34);
 }
 
-static KEYWORDS: [Flag<Keywords>; 36] = [
+static KEYWORDS: [Flag<Keywords>; Promises::KEYWORDS] = [
     Flag {
         name: "audio",
         value: Keywords(1 << 0),

@@ -47,7 +47,7 @@ impl Model for Row {
 /// execpromises. No alternative names `error`: a process can gain that promise, and no other.
 #[derive(Clone, Copy)]
 pub struct CallTable {
-    rows: [Row; 14],
+    rows: [Row; Call::COUNT],
     rename: PairNeed,
     link: PairNeed,
     execpromises: ExecPromises,

@@ -1,7 +1,7 @@
 -- What is known of each row stays known over a list of requests of a family.
 use Rattle.std.proofs.Common.{◌≡◌, ℕ, List, [], ◌∷◌, true, false, sym, ap, ◌∙◌, inl, inr}
 use Rattle.std.specs.Prelude.{None, Ok, not, ◌&&◌, ◌||◌, is_none}
-use Rattle.std.proofs.lemmas.Bool.{and_parts, and_from}
+use Rattle.std.proofs.lemmas.Bool.{and_parts, and_from, not-true}
 use Rattle.pua_tree.specs.Tree.{Tree, WellFormed, Spot, is_dir, kind_at, has_no_row, empty_tree}
 use Rattle.pua_path.specs.Fits.{is_link_kind}
 use Rattle.pua_path.specs.declared.found.Found.{Found}
@@ -18,7 +18,7 @@ use Rattle.pua_script.specs.Family.{is_member, is_exec, is_done, none_done, memb
 use Rattle.pua_script.specs.Tightening.{NoCallNeedsError}
 use Rattle.pua_script.specs.Confinement.{TreesAlong, object_in, has_c}
 use Rattle.pua_script.proofs.ForCallers.{IsWithin, same_cover, verdicts_within}
-use Rattle.pua_script.proofs.ForCallers.{Members, members_then, not_true}
+use Rattle.pua_script.proofs.ForCallers.{Members, members_then}
 use Rattle.pua_script.proofs.ForCallers.{each_spares, by_other, first_tree}
 use Rattle.pua_objects.specs.Objects.{cover_in}
 use Rattle.pua_objects.proofs.ForCallers.{covers_descend}
@@ -105,5 +105,5 @@ module _ (table : CallTable) (sound : NoCallNeedsError table) (needs : EditsNeed
       let spared = by_other asker.0 now asker.2.within.tightens.unveils w.tree after.tree (each_spares table (takes table needs) w ask asker.0 trees.0 well asker.1) in
       let grown = grown_within table sound now asker.0 asker.2.within w.tree trees.0 after.tree (requests_grow table needs w ask asker.0 trees.0 asker.1) in
       stays_along asks after (family_then table w ask members)
-      (members_then table now w ask members false are (not_true (is_done is_exec table w ask members) parts.0)) parts.1 asked.1 trees.1
+      (members_then table now w ask members false are (not-true (is_done is_exec table w ask members) parts.0)) parts.1 asked.1 trees.1
       (stays_then table t0 now well0 stand w.tree after.tree k well grown spared)

@@ -45,9 +45,6 @@ module _ (t : Tree) (h : History) (well : WellFormed t) where
       by None e l = absurd (false≢true l)
       by (Some n) e l = ((sound_from t well).node x n e).0
 
-pub same_dir : (t u : Tree) (x : ℕ) → node_at u x ≡ node_at t x → is_dir u x ≡ is_dir t x
-same_dir t u x e = ap (λ o. is_dir_kind (option_map (λ n. n.kind) o)) e
-
 -- a number was given, or is new
 pub given_or_new : (t : Tree) (d : ℕ) → (d < t.next) ⊎ (t.next ≤ d)
 given_or_new t d =

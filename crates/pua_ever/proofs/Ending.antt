@@ -3,11 +3,11 @@ use Rattle.std.proofs.Common.{◌≡◌, ◌⊎◌, ◌≤◌, ◌<◌, ℕ, Lis
 use Rattle.std.specs.Prelude.{Option, Some, None, Result, Ok, Err, not, ◌&&◌, ◌||◌, ◌∷◌, ◌==◌, is_some, is_none, option_map, filter, flat_map}
 use Rattle.std.specs.Option.{option_eq}
 use Rattle.std.specs.List.{list_any}
-use Rattle.std.proofs.lemmas.Bool.{false≢true, and_parts, and_from, eq-eqb, or_left, or_right}
+use Rattle.std.proofs.lemmas.Bool.{false≢true, and_parts, and_from, eq-eqb, or_left, or_right, not-true}
 use Rattle.pua_tree.specs.Tree.{Tree, WellFormed, Spot, is_dir, is_dir_kind, is_living, look, node_at, kind_at, is_empty, has_no_row, empty_tree}
 use Rattle.pua_tree.specs.declared.node.Kind.{Kind}
 use Rattle.pua_tree.specs.declared.node.Kind.TheVariants as kind
-use Rattle.pua_tree.proofs.ForCallers.{Sound, sound_from, row_says, row_of, Some≢None}
+use Rattle.pua_tree.proofs.ForCallers.{Sound, sound_from, row_says, row_of, Some≢None, same_dir}
 use Rattle.pua_path.specs.Resolution.{resolution_of_text}
 use Rattle.pua_path.specs.Fits.{FoundFits, IsOf, StandsAsNamed, is_link, is_link_kind}
 use Rattle.pua_path.specs.declared.errno.Errno.{Errno}
@@ -44,7 +44,7 @@ use Rattle.pua_ever.specs.Ever.{row_cover, is_free, can_empty, dir_covers, file_
 use Rattle.pua_ever.specs.Laws.{VeilsStand, IsLineOf, of_dir, of_new_dir, of_row, of_new_file, of_new_link, of_name, of_others, of_new_others, IsForeseen}
 use Rattle.pua_ever.proofs.Grown.{new_kind}
 use Rattle.pua_ever.proofs.Ways.{any_among, way_by_c}
-use Rattle.pua_ever.proofs.Covers.{given_or_new, living_dir, below_next, same_dir}
+use Rattle.pua_ever.proofs.Covers.{given_or_new, living_dir, below_next}
 use Rattle.pua_ever.proofs.KindFaults.{plain_alike, dir_as, dir_alike}
 use Rattle.pua_ever.proofs.Origins.{Origin, stood, linked, since, Known, Stays, DirUnder, at_rest, come, old_dir, dir_under, file_under, could_empty, free_then}
 
@@ -101,10 +101,6 @@ module _ (t : Tree) (table : CallTable) (h : History) (what : Option Kind) (now 
       by : (b : Bool) → Among (cond b (file_covers t h) (now ∷ further)) c
       by true = a
       by false = inr (subst (λ (b : Bool). Among (cond b (file_covers t h) []) c) (sym can) a)
-
-not_dir : (b : Bool) → not b ≡ true → b ≡ false
-not_dir true e = cc
-not_dir false e = refl
 
 module _ (table : CallTable) (t0 : Tree) (h : History) where
   -- the calls of a line
@@ -463,7 +459,7 @@ module _ (table : CallTable) (t0 : Tree) (h : History) (well0 : WellFormed t0) (
     hit : (object : Found) → IsOf u (last_of c) object → verdict u table h c object ≡ Allowed → Hit object
     hit (Whole d w) is allowed = hit_dir d w is.fits is.named allowed
     hit (Slot dir name (Some x)) is allowed =
-        hit_file (dir, name) x is.named.1 (not_dir (is_dir u x) (and_parts _ _ (and_parts (is_dir u dir) _ is.fits).1).1) is.followed allowed
+        hit_file (dir, name) x is.named.1 (not-true (is_dir u x) (and_parts _ _ (and_parts (is_dir u dir) _ is.fits).1).1) is.followed allowed
     hit (Slot dir name None) is allowed = hit_missing dir name (and_parts (is_dir u dir) _ is.fits).0 is.named.1 allowed
 
     pub foreseen : (from : ℕ) (text : List ℕ) → let named = resolution_of_text u from (ending_of c) text (last_of c) in

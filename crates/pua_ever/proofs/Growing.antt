@@ -2,7 +2,7 @@
 use Rattle.std.proofs.Common.{◌≡◌, ◌≤◌, ◌⊎◌, ℕ, Bool, true, false, not, cond, refl, sym, ap, subst, ◌∙◌, inl, inr, arith}
 use Rattle.std.specs.Prelude.{Option, Some, None, is_some, is_none, ◌&&◌, ◌||◌, ◌==◌, nat_le, length}
 use Rattle.std.specs.Option.{option_eq}
-use Rattle.std.proofs.lemmas.Bool.{false≢true, and_parts, and_from, or_left, or_right}
+use Rattle.std.proofs.lemmas.Bool.{false≢true, and_parts, and_from, or_left, or_right, not-false}
 use Rattle.pua_tree.specs.Tree.{Tree, Node, WellFormed, Spot, is_dir, look, kind_at, is_empty, empty_tree}
 use Rattle.pua_tree.specs.declared.node.Kind.TheVariants as kind
 use Rattle.pua_tree.proofs.ForCallers.{same_Some, None≢Some}
@@ -33,7 +33,7 @@ use Rattle.pua_script.specs.declared.request.Action.TheVariants.{OnPath, Symlink
 use Rattle.pua_script.specs.Confinement.{has_c, TakingNeedsC}
 use Rattle.pua_script.specs.Decide.{Change, NoChange, AddNode, CutRow, ShiftRow, TieRow, CopyAs, adding, shifting, change_by, fault_if, is_whole, plain_node, link_node, kinds_fault}
 use Rattle.pua_script.specs.Guards.{IsDecided, IsShift}
-use Rattle.pua_script.proofs.ForCallers.{name_fits, c_from_cover, covered_by_c, has_spot, by_tree, by_own_tree, by_cutting, by_going, by_tying, first_none, second_none, not_faulty, not_false}
+use Rattle.pua_script.proofs.ForCallers.{name_fits, c_from_cover, covered_by_c, has_spot, by_tree, by_own_tree, by_cutting, by_going, by_tying, first_none, second_none, not_faulty}
 use Rattle.pua_objects.proofs.ForCallers.{covers_descend, named_within_text}
 use Rattle.pua_ever.specs.Ever.{row_cover, is_yes, may_link, can_link, New, NewDir, NewFile, NewLink, maker}
 use Rattle.pua_ever.specs.Laws.{EditsNeedC}
@@ -104,8 +104,8 @@ module _ (table : CallTable) (needs : EditsNeedC table) (t : Tree) (h : History)
       → (s : Spot) → spot_named b ≡ Some s → Written table t h s x
   goes a (Slot dir name o) x fa fb has is kinds s e = subst (λ r. Written table t h r x) (same_Some (dir, name) s e) (by_name has)
   goes a (Whole y (way.Named parent name)) x fa fb has is kinds s e =
-      let whole = not_false (is_whole a) (not_faulty (not (is_whole a)) EISDIR (first_none (fault_if (not (is_whole a)) EISDIR) _ kinds)) in
-      let empty = not_false (is_empty t y) (not_faulty (not (is_empty t y)) ENOTEMPTY (second_none _ (fault_if (not (is_empty t y)) ENOTEMPTY) kinds)) in
+      let whole = not-false (is_whole a) (not_faulty (not (is_whole a)) EISDIR (first_none (fault_if (not (is_whole a)) EISDIR) _ kinds)) in
+      let empty = not-false (is_empty t y) (not_faulty (not (is_empty t y)) ENOTEMPTY (second_none _ (fault_if (not (is_empty t y)) ENOTEMPTY) kinds)) in
       subst (λ r. Written table t h r x) (same_Some (parent, name) s e)
       (by_turn y fb.named.1 empty (ap has_c (sym ((covers_descend t h well).directory y (way.Named parent name) fb.fits)) ∙ has) (whole_dir a x fa is whole))
   goes a (Whole y way.Dot) x fa fb has is kinds s e = cc

@@ -1,41 +1,16 @@
 -- Each veil in the list of a history is what is kept at its place.
 use Rattle.std.proofs.Common.{◌≡◌, ℕ, List, [], ◌∷◌, Bool, true, false, cond, refl, sym, ap, ◌∙◌, inl, inr}
-use Rattle.std.specs.Prelude.{Some, None, ◌&&◌}
-use Rattle.std.proofs.lemmas.Bool.{false≢true, eq-eqb}
-use lib.Pointwise.{bytes_decides}
-use Rattle.pua_tree.specs.Names.{same_bytes}
+use Rattle.std.specs.Prelude.{Some, None}
 use Rattle.pua_tree.proofs.ForCallers.{Some≢None}
 use Rattle.pua_policy.specs.History.{History, Pledged, Unveiled, Locked, Moved, Ended, kept, veils, veil_at, with_veil, same_place}
 use Rattle.pua_policy.specs.declared.place.Place.{Place}
-use Rattle.pua_policy.specs.declared.place.Place.TheVariants.{Dir, Slot}
-use Rattle.pua_policy.proofs.ForCallers.{veils_are_kept, same_place_is}
+use Rattle.pua_policy.proofs.ForCallers.{veils_are_kept, same_place_is, same_place_refl, still_unveiled, same_place_turned}
 use Rattle.pua_objects.proofs.ForCallers.{Among}
-
-same_refl : (a : Place) → same_place a a ≡ true
-same_refl (Dir a) = eq-eqb a a refl
-same_refl (Slot a n) = ap (λ b. b && same_bytes n n) (eq-eqb a a refl) ∙ (bytes_decides n n).1 refl
-
-turned : (a b : Place) → same_place a b ≡ false → same_place b a ≡ false
-turned a b differ = by (same_place b a) refl
-  where
-    by : (s : Bool) → same_place b a ≡ s → same_place b a ≡ false
-    by false e = e
-    by true e = absurd (false≢true (sym differ ∙ ap (same_place a) (same_place_is b a e) ∙ same_refl a))
 
 -- no place stands twice
 abbrev Once : List (Place × ℕ) → Type 0
 Once [] = Unit {0}
 Once (v ∷ vs) = (veil_at vs v.0 ≡ None) × Once vs
-
-absent : (at : Place) (perms : ℕ) (vs : List (Place × ℕ)) (other : Place) → same_place other at ≡ false → veil_at vs other ≡ None → veil_at (with_veil at perms vs) other ≡ None
-absent at perms [] other differ none = ap (λ b. cond b (Some perms) None) differ
-absent at perms (v ∷ vs) other differ none = by (same_place at v.0) (same_place other v.0) refl none (absent at perms vs other differ)
-  where
-    by : (s o : Bool) → same_place other v.0 ≡ o → cond o (Some v.1) (veil_at vs other) ≡ None → (veil_at vs other ≡ None → veil_at (with_veil at perms vs) other ≡ None)
-        → veil_at (cond s ((v.0, perms) ∷ vs) (v ∷ with_veil at perms vs)) other ≡ None
-    by s true is none rest = absurd (Some≢None v.1 none)
-    by true false is none rest = ap (λ b. cond b (Some perms) (veil_at vs other)) is ∙ none
-    by false false is none rest = ap (λ b. cond b (Some v.1) (veil_at (with_veil at perms vs) other)) is ∙ rest none
 
 once_more : (at : Place) (perms : ℕ) (vs : List (Place × ℕ)) → Once vs → Once (with_veil at perms vs)
 once_more at perms [] once = (refl, tt)
@@ -43,7 +18,7 @@ once_more at perms (v ∷ vs) once = by (same_place at v.0) refl (once_more at p
   where
     by : (s : Bool) → same_place at v.0 ≡ s → Once (with_veil at perms vs) → Once (cond s ((v.0, perms) ∷ vs) (v ∷ with_veil at perms vs))
     by true is rest = once
-    by false is rest = (absent at perms vs v.0 (turned at v.0 is) once.0, rest)
+    by false is rest = (still_unveiled at perms vs v.0 (same_place_turned v.0 at ∙ is) once.0, rest)
 
 veils_once : (h : History) → Once (veils h)
 veils_once [] = tt
@@ -55,7 +30,7 @@ veils_once (Ended ∷ h) = veils_once h
 
 found_once : (vs : List (Place × ℕ)) (at : Place) (perms : ℕ) → Once vs → Among vs (at, perms) → veil_at vs at ≡ Some perms
 found_once [] at perms once a = absurd a
-found_once (v ∷ vs) at perms once (inl e) = ap (λ (w : Place × ℕ). cond (same_place at w.0) (Some w.1) (veil_at vs at)) e ∙ ap (λ b. cond b (Some perms) (veil_at vs at)) (same_refl at)
+found_once (v ∷ vs) at perms once (inl e) = ap (λ (w : Place × ℕ). cond (same_place at w.0) (Some w.1) (veil_at vs at)) e ∙ ap (λ b. cond b (Some perms) (veil_at vs at)) (same_place_refl at)
 found_once (v ∷ vs) at perms once (inr a) = by (same_place at v.0) refl (found_once vs at perms once.1 a)
   where
     by : (s : Bool) → same_place at v.0 ≡ s → veil_at vs at ≡ Some perms → veil_at (v ∷ vs) at ≡ Some perms

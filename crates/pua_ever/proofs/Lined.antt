@@ -1,6 +1,6 @@
 -- The lines of what is to come, one after another.
 use Rattle.std.proofs.Common.{ℕ, ◌≡◌, ◌≢◌, List, [], ◌∷◌, ◌++◌, Bool, true, false, cond, length, map, refl, sym, ap, subst, ◌∙◌, arith}
-use Rattle.std.specs.Prelude.{Option, Some, None, ◌&&◌, filter, flat_map, nat_lt, IsTrue, ◌↔◌}
+use Rattle.std.specs.Prelude.{Option, Some, None, ◌&&◌, filter, flat_map, nat_lt}
 use Rattle.std.proofs.lemmas.Bool.{lt-ltb}
 use Rattle.std.proofs.lemmas.List.Elements.{filter-append}
 use Rattle.pua_tree.specs.Tree.{Tree, Spot}
@@ -94,10 +94,6 @@ kept_in word thing line some = ap (λ b. cond b (line_with word thing line ∷ [
     some_calls : (cs : List Call) → cs ≢ [] → nat_lt 0 (length cs) ≡ true
     some_calls [] some = absurd (some refl)
     some_calls (c ∷ cs) some = lt-ltb 0 (length (c ∷ cs)) (omega arith)
-
--- a test that answers by a list
-pub is_not_so : (b : Bool) (A : Type 0) → IsTrue b ↔ A → b ≡ false → A → ⊥
-is_not_so b A so e a = let bad : true ≡ false = sym (so.1 a) ∙ e in cc
 
 -- the lines of a tree, a table and a process are those of the same ones
 pub lines_moved : (t u : Tree) (a b : CallTable) (p q : ProcessState) → u ≡ t → b ≡ a → q ≡ p → (old new : List Left) (first : List EverLine)

@@ -1,7 +1,7 @@
 -- What stands at a name, and the name once that is taken away.
-use Rattle.std.proofs.Common.{◌≡◌, ℕ, List, [], ◌∷◌, Bool, true, false, refl, sym, ap, subst, ◌∙◌}
+use Rattle.std.proofs.Common.{◌≡◌, ℕ, List, [], ◌∷◌, true, false, refl, sym, ap, subst, ◌∙◌}
 use Rattle.std.specs.Prelude.{Option, Some, None, not, ◌&&◌, ◌||◌, if◌then◌else◌, is_some, option_map}
-use Rattle.std.proofs.lemmas.Bool.{and_parts}
+use Rattle.std.proofs.lemmas.Bool.{and_parts, not-true}
 use Rattle.pua_tree.specs.Tree.{Tree, Node, WellFormed, Spot, is_dir, look, node_at, kind_at, empty_tree}
 use Rattle.pua_tree.specs.declared.node.Kind.{Kind}
 use Rattle.pua_tree.specs.declared.node.Kind.TheVariants as kinds
@@ -29,12 +29,9 @@ use Rattle.pua_objects.specs.Objects.{Subject, At, Others, cover_in}
 use Rattle.pua_objects.proofs.ForCallers.{covers_descend}
 use Rattle.pua_ever.specs.Ever.{may_edit, named_covers, is_allowed_under, is_ever_allowed, is_free, own_spot, can_be_freed}
 use Rattle.pua_ever.specs.EverReady.{AreOnFreed, kind_allowed, own_given}
-use Rattle.pua_ever.proofs.Prospected.{always, last}
-use Rattle.pua_ever.proofs.Under.{has_none}
-
-not_so : (b : Bool) → not b ≡ true → b ≡ false
-not_so true e = cc
-not_so false e = refl
+use Rattle.pua_ever.proofs.Prospected.{last}
+use Rattle.std.proofs.Math.Bool.{or-true}
+use Rattle.pua_calls.proofs.ForCallers.{has_none}
 
 -- what stands at a name is seen alike in each tree
 seen_alike : (t : Tree) (k : Option Kind) → object_seen t (object_of_kind k) ≡ object_seen empty_tree (object_of_kind k)
@@ -68,7 +65,7 @@ module _ (t : Tree) (well : WellFormed t) (table : CallTable) (h : History) wher
   -- whether the name of a thing can come to be free, by the thing's own cover
   free_by : (about : Subject) (spot : Spot) → SubjectFits t about → own_spot about ≡ Some spot → is_free t h spot ≡ has_c (cover_on t h about)
   free_by (At (Slot dir name (Some x))) spot fits own =
-      let plain : is_dir t x ≡ false = not_so (is_dir t x) (and_parts _ _ (and_parts (is_dir t dir) _ fits.0).1).1 in
+      let plain : is_dir t x ≡ false = not-true (is_dir t x) (and_parts _ _ (and_parts (is_dir t dir) _ fits.0).1).1 in
       let here : is_free t h (dir, name) ≡ has_c (cover t h (Slot dir name (Some x))) = rw (fits.1.1, plain) refl in
       subst (λ s. is_free t h s ≡ has_c (cover t h (Slot dir name (Some x)))) (same_Some _ _ own) here
   free_by (At (Whole dir (Named parent name))) spot fits own =
@@ -107,7 +104,7 @@ module _ (t : Tree) (well : WellFormed t) (table : CallTable) (h : History) wher
           all call
           ∙ ap (λ c. is_allowed (covered_verdict empty_tree table h call c IsMissing)) (sym under)
           ∙ last _
-          ∙ (λ i. sym (always (keeps_link call)) i && is_allowed_under table h (cover t h (Slot spot.0 spot.1 None) ∷ []) IsMissing call)
+          ∙ (λ i. sym (or-true (keeps_link call)) i && is_allowed_under table h (cover t h (Slot spot.0 spot.1 None) ∷ []) IsMissing call)
           ∙ (λ i. sym test i && is_ever_allowed t table h (At (Slot spot.0 spot.1 None)) call)
           ∙ ap (λ s. can_be_freed t table h s && is_ever_allowed t table h (At (Slot s.0 s.1 None)) call) (same_Some _ _ (own ∙ is));
     }

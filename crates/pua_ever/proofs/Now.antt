@@ -23,7 +23,7 @@ use Rattle.pua_audit.specs.Reach.{Word}
 use Rattle.pua_objects.specs.Objects.{Subject, At, Others, Item, Line, items, items_at, items_below, entries, line_of, calls_on, cover_in, is_named_by, subject_verdict}
 use Rattle.pua_objects.specs.Objects as now
 use Rattle.pua_objects.specs.Laws.{own_or}
-use Rattle.pua_objects.proofs.ForCallers.{Among, among_left, among_map, map_among, among_filter, filter_among, among_flat, flat_among, contained}
+use Rattle.pua_objects.proofs.ForCallers.{Among, among_left, among_map, map_among, among_filter, filter_among, among_flat, flat_among, contained, among_contained}
 use Rattle.pua_objects.proofs.ForCallers.{covers_descend}
 use Rattle.pua_objects.proofs.ForCallers.{some_of, allowed_is}
 use Rattle.pua_ever.specs.Ever.{is_free, can_empty, dir_covers, file_covers, may_edit, covers_of, covers_of_dir, is_named_way, ever_object, is_allowed_under, ever_calls, ever_line, EverLine, subjects_of, all_new, new_line, has_calls, ever}
@@ -32,7 +32,6 @@ use Rattle.pua_ever.proofs.Covers.{slot_row}
 use Rattle.pua_ever.proofs.Ways.{way_by_c, name_by_veil, some_dir_by, file_by_name, file_by_dir}
 use Rattle.pua_ever.proofs.KindFaults.{plain_alike, dir_as, dir_alike}
 use Rattle.pua_ever.proofs.Ending.{parts_of, ever_first, named_first, calls_among, under_one}
-use Rattle.pua_ever.proofs.Opening.{among_contained}
 use Rattle.pua_ever.proofs.Prospected.{empty_can}
 
 module _ (t : Tree) (h : History) where

@@ -1,7 +1,7 @@
 -- The veils alone tell which directories come to be empty, and outside of which something has `c`.
-use Rattle.std.proofs.Common.{◌≡◌, ◌≢◌, ℕ, List, [], ◌∷◌, Bool, true, false, cond, map, refl, sym, ap, subst, ◌∙◌, inl, inr}
+use Rattle.std.proofs.Common.{◌≡◌, ◌≢◌, ℕ, List, [], ◌∷◌, Bool, true, false, cond, map, refl, sym, ap, ◌∙◌, inl, inr}
 use Rattle.std.specs.Prelude.{Option, Some, None, is_some, not, ◌&&◌, ◌||◌, ◌==◌, filter_map}
-use Rattle.std.specs.List.{list_any, list_all, cons_option}
+use Rattle.std.specs.List.{list_any, list_all}
 use Rattle.std.proofs.lemmas.Bool.{false≢true, true≢false, eq-eqb, eqb-true, and_parts, and_from, or_cases, not-true}
 use Rattle.pua_tree.specs.Tree.{Tree, WellFormed, Spot, is_dir, look, empty_tree}
 use Rattle.pua_tree.proofs.ForCallers.{same_Some, None≢Some, sound_from, row_says, row_of}
@@ -14,7 +14,7 @@ use Rattle.pua_policy.specs.declared.place.Place.TheVariants as place
 use Rattle.pua_script.specs.Confinement.{has_c}
 use Rattle.pua_objects.specs.Laws.{own_or}
 use Rattle.pua_objects.specs.Objects.{cover_in}
-use Rattle.pua_objects.proofs.ForCallers.{Among, among_map, found_among}
+use Rattle.pua_objects.proofs.ForCallers.{Among, among_map, found_among, filter_map_among, among_filter_map}
 use Rattle.pua_ever.specs.Ever.{row_cover, can_empty, is_below, opens_outside, has_c_outside, directories}
 use Rattle.pua_ever.specs.Laws.{dir_of_place}
 use Rattle.pua_ever.specs.Openings.{if_c, lacks_c, is_barred, opened_dir, held_dir, is_no_dir, is_outside}
@@ -22,7 +22,7 @@ use Rattle.pua_ever.proofs.Covers.{dir_row, slot_row, own_dir, under_dir}
 use Rattle.pua_ever.proofs.KeptVeils.{among_kept_at}
 use Rattle.pua_ever.proofs.Origin.{below_both, own_cover, origin}
 use Rattle.pua_ever.proofs.Quiet.{above_row}
-use Rattle.pua_ever.proofs.Ways.{any_among, any_found, all_among, among_kept, kept_among, among_dir, among_rows, quiet_dir, quiet_name}
+use Rattle.pua_ever.proofs.Ways.{any_among, any_found, all_among, kept_among, among_dir, among_rows, quiet_dir, quiet_name}
 
 -- the value and the test of a value that a test gives
 pub when_some : {X : Type 0} (b : Bool) (o : Option X) (x : X) → cond b o None ≡ Some x → (b ≡ true) × (o ≡ Some x)
@@ -31,19 +31,6 @@ when_some false o x e = absurd (None≢Some x e)
 
 pub when : {X : Type 0} (b : Bool) (o : Option X) → b ≡ true → cond b o None ≡ o
 when b o e = ap (λ b. cond b o None) e
-
--- what is among the values was given
-pub kept_from : {X Y : Type 0} (f : X → Option Y) (xs : List X) (y : Y) → Among (filter_map f xs) y → (x : X) × Among xs x × (f x ≡ Some y)
-kept_from f [] y a = absurd a
-kept_from {X} {Y} f (x ∷ xs) y a = by (f x) refl a (kept_from f xs y)
-  where
-    by : (o : Option Y) → f x ≡ o → Among (filter_map f (x ∷ xs)) y → (Among (filter_map f xs) y → (z : X) × Among xs z × (f z ≡ Some y)) → (z : X) × Among (x ∷ xs) z × (f z ≡ Some y)
-    by None is a more = let found = more (subst (λ (o : Option Y). Among (cons_option o (filter_map f xs)) y) is a) in (found.0, inr found.1, found.2)
-    by (Some z) is a more =
-        elim (subst (λ (o : Option Y). Among (cons_option o (filter_map f xs)) y) is a) [
-          | inl e ↦ (x, inl refl, is ∙ ap Some e)
-          | inr b ↦ (let found = more b in (found.0, inr found.1, found.2))
-        ]
 
 -- an element that doesn't pass
 pub fails : {X : Type 0} (p : X → Bool) (xs : List X) → list_all p xs ≡ false → (x : X) × Among xs x × (p x ≡ false)
@@ -145,14 +132,14 @@ module _ (t : Tree) (h : History) (well : WellFormed t) where
         dir_held dir (Some perms) e =
             let bad : has_c (Only perms) ≡ false = ap has_c (sym (dir_row t h well s x dir ∙ own_dir t h well x perms dir n e)) ∙ lacks in
             let zero_no : not (x == 0) ≡ true = elim (x == 0) as (λ b. (x == 0) ≡ b → not b ≡ true) [ true ↦ λ z. absurd (n (eqb-true x 0 z)) | false ↦ λ z. refl ] refl in
-            among_kept (held_dir t h) (places_of h) (place.Dir x) y (place_among h (place.Dir x) perms e)
+            among_filter_map (held_dir t h) (places_of h) (place.Dir x) y (place_among h (place.Dir x) perms e)
             (when _ _ (and_from (is_dir t x) _ dir (and_from (not (x == 0)) _ zero_no (ap lacks_c e ∙ ap not bad))) ∙ ap Some (above_row t well y s x row dir ∙ at))
 
         slot_held : is_dir t x ≡ false → (o : Option ℕ) → kept h (place.Slot s.0 s.1) ≡ o → Among held y
         slot_held plain None e = absurd (false≢true (sym lacks ∙ ap has_c (slot_row t h well s x plain ∙ ap (λ o. own_or o (cover_in t h s.0)) e) ∙ over))
         slot_held plain (Some perms) e =
             let bad : has_c (Only perms) ≡ false = ap has_c (sym (slot_row t h well s x plain ∙ ap (λ o. own_or o (cover_in t h s.0)) e)) ∙ lacks in
-            among_kept (held_dir t h) (places_of h) (place.Slot s.0 s.1) y (place_among h (place.Slot s.0 s.1) perms e)
+            among_filter_map (held_dir t h) (places_of h) (place.Slot s.0 s.1) y (place_among h (place.Slot s.0 s.1) perms e)
             (when _ _ (and_from (is_no_dir t (look t s.0 s.1)) _ (ap (is_no_dir t) row ∙ ap not plain) (ap lacks_c e ∙ ap not bad)) ∙ ap Some at)
 
         by : (b : Bool) → is_dir t x ≡ b → Among held y
@@ -165,7 +152,7 @@ module _ (t : Tree) (h : History) (well : WellFormed t) where
         by : (l c : Bool) → list_any (λ other. other == y) held ≡ l → can_empty t h y ≡ c → c ≡ not l
         by true c any e =
             let found = any_found (λ other. other == y) held any in
-            let from = kept_from (held_dir t h) (places_of h) found.0 found.1 in
+            let from = filter_map_among (held_dir t h) (places_of h) found.0 found.1 in
             sym e ∙ held_bars from.0 y (from.2 ∙ ap Some (eqb-true found.0 y found.2))
         by false true any e = refl
         by false false any e =
@@ -188,7 +175,7 @@ module _ (t : Tree) (h : History) (well : WellFormed t) where
         opens : (at : Place) (perms d : ℕ) → kept h at ≡ Some perms → has_c (Only perms) ≡ true → dir_of_place at ≡ d → is_dir t d ≡ true → is_below t y d ≡ false → list_any (is_outside t y) opened ≡ true
         opens at perms d e has same is outside =
             any_among (is_outside t y) opened d
-            (among_kept (opened_dir h) (places_of h) at d (place_among h at perms e)
+            (among_filter_map (opened_dir h) (places_of h) at d (place_among h at perms e)
             (when _ _ (ap is_some (opening_from (kept h at) perms e has)) ∙ ap Some same))
             (and_from (is_dir t d) _ is (ap not outside))
 
@@ -213,7 +200,7 @@ module _ (t : Tree) (h : History) (well : WellFormed t) where
         found = any_found _ _ any
 
         from : (at : Place) × Among (places_of h) at × (opened_dir h at ≡ Some found.0)
-        from = kept_from (opened_dir h) (places_of h) found.0 found.1
+        from = filter_map_among (opened_dir h) (places_of h) found.0 found.1
 
         at_place : (at : Place) → opened_dir h at ≡ Some found.0 → has_c_outside t h y ≡ false → ⊥
         at_place (place.Dir d) e none =

@@ -1,7 +1,7 @@
 -- The covers that the veils give are those of the definition.
-use Rattle.std.proofs.Common.{◌≡◌, ◌≢◌, ℕ, zero, suc, List, [], ◌∷◌, ◌++◌, Bool, true, false, length, map, refl, sym, ap, subst, ◌∙◌, inl, inr, arith}
+use Rattle.std.proofs.Common.{◌≡◌, ◌≢◌, ℕ, List, [], ◌∷◌, ◌++◌, Bool, true, false, length, map, refl, sym, ap, subst, ◌∙◌, inl, inr, arith}
 use Rattle.std.specs.Prelude.{Option, Some, None, is_some, not, ◌&&◌, ◌==◌, filter, filter_map, nat_lt, if◌then◌else◌}
-use Rattle.std.specs.List.{list_any, Contains}
+use Rattle.std.specs.List.{list_any}
 use Rattle.std.proofs.lemmas.Bool.{false≢true, eq-eqb, eqb-true, and_parts, and_from, or_cases, not-true, lt-ltb}
 use Rattle.pua_tree.specs.Tree.{Tree, WellFormed, Spot, is_dir, look, climb}
 use Rattle.pua_tree.proofs.ForCallers.{same_Some, None≢Some, sound_from, row_says, row_of}
@@ -14,21 +14,15 @@ use Rattle.pua_policy.specs.declared.place.Place.TheVariants as place
 use Rattle.pua_policy.proofs.ForCallers.{any_veil}
 use Rattle.pua_script.specs.Confinement.{has_c}
 use Rattle.pua_objects.specs.Objects.{cover_in}
-use Rattle.pua_objects.proofs.ForCallers.{Among, among_left, among_right, among_either, map_among, filter_among, contained}
+use Rattle.pua_objects.proofs.ForCallers.{Among, among_left, among_right, among_either, map_among, filter_among, contained, among_contained, filter_map_among, among_filter_map}
 use Rattle.pua_ever.specs.Ever.{is_free, can_empty, opens_at, gives_way, is_way_in, has_c_outside, directories, dir_covers, veil_cover_at, name_covers, some_dir_has_c}
 use Rattle.pua_ever.specs.Openings.{opening, dir_opening, name_opening, entrance, HaveSame}
 use Rattle.pua_ever.proofs.Covers.{under_dir}
 use Rattle.pua_ever.proofs.KeptVeils.{among_kept_at}
-use Rattle.pua_ever.proofs.Opened.{when_some, when, kept_from, opening_is, opening_from, opening_some, places_of, place_among, held, opened, empties, outsides}
+use Rattle.pua_ever.proofs.Opened.{when_some, when, opening_is, opening_from, opening_some, places_of, place_among, held, opened, empties, outsides}
 use Rattle.pua_ever.proofs.Origin.{own_cover, origin}
 use Rattle.pua_ever.proofs.Quiet.{above_row}
-use Rattle.pua_ever.proofs.Ways.{any_found, among_kept, among_dir, among_rows, way_by_c, way_by_name, way_by_turn, name_by_veil, some_dir_by}
-
--- what a list has, in std's words, is among its elements
-pub among_contained : {X : Type 0} (xs : List X) (x : X) → Contains xs x → Among xs x
-among_contained [] x (k, less, e) = absurd (omega (arith, less))
-among_contained (y ∷ xs) x (zero, less, e) = inl e
-among_contained (y ∷ xs) x (suc k, less, e) = inr (among_contained xs x (k, omega (arith, less), e))
+use Rattle.pua_ever.proofs.Ways.{any_found, among_dir, among_rows, way_by_c, way_by_name, way_by_turn, name_by_veil, some_dir_by}
 
 -- both ways
 pub have_same : {X : Type 0} (xs ys : List X) → ((x : X) → Among xs x → Among ys x) → ((x : X) → Among ys x → Among xs x) → HaveSame xs ys
@@ -59,11 +53,11 @@ module _ (t : Tree) (h : History) (well : WellFormed t) where
       by true some =
           let from = origin t well h (any_veil h ∙ some) d is has in
           among_left (filter_map (dir_opening t h) (places_of h)) _ (cover_in t h d)
-          (among_kept (dir_opening t h) (places_of h) (place.Dir from.dir) (cover_in t h d) (place_among h (place.Dir from.dir) from.perms from.veil)
+          (among_filter_map (dir_opening t h) (places_of h) (place.Dir from.dir) (cover_in t h d) (place_among h (place.Dir from.dir) from.perms from.veil)
           (when _ _ from.living ∙ opening_from (kept h (place.Dir from.dir)) from.perms from.veil (ap has_c (sym from.cover) ∙ has) ∙ ap Some (sym from.cover)))
 
   own_dir_at : (c : Cover) → Among own_covers c → (d : ℕ) × (is_dir t d ≡ true) × (has_c (cover_in t h d) ≡ true) × (cover_in t h d ≡ c)
-  own_dir_at c a = elim (among_either (filter_map (dir_opening t h) (places_of h)) _ c a) [ inl b ↦ by_veil (kept_from (dir_opening t h) (places_of h) c b) | inr b ↦ by_none (has_veil (veils h)) refl b ]
+  own_dir_at c a = elim (among_either (filter_map (dir_opening t h) (places_of h)) _ c a) [ inl b ↦ by_veil (filter_map_among (dir_opening t h) (places_of h) c b) | inr b ↦ by_none (has_veil (veils h)) refl b ]
     where
       by_veil : (at : Place) × Among (places_of h) at × (dir_opening t h at ≡ Some c) → (d : ℕ) × (is_dir t d ≡ true) × (has_c (cover_in t h d) ≡ true) × (cover_in t h d ≡ c)
       by_veil (place.Dir d, _, e) =
@@ -117,7 +111,7 @@ module _ (t : Tree) (h : History) (well : WellFormed t) where
       enters : (at : Place) (perms : ℕ) → kept h at ≡ Some perms → entrance t h (held t h well) (opened t h well) at ≡ Some (cover_in t h d) → Among (own_covers ++ entrances) (cover_in t h d)
       enters at perms veil e =
           among_right own_covers entrances (cover_in t h d)
-          (among_kept (entrance t h (held t h well) (opened t h well)) (places_of h) at (cover_in t h d) (place_among h at perms veil) e)
+          (among_filter_map (entrance t h (held t h well) (opened t h well)) (places_of h) at (cover_in t h d) (place_among h at perms veil) e)
 
       by_name : (veil : Place × ℕ) × Among (veils h) veil × (opens_at t h d veil.0 veil.1 ≡ true) → Among (own_covers ++ entrances) (cover_in t h d)
       by_name ((place.Slot other name, perms), a, all) =
@@ -168,7 +162,7 @@ module _ (t : Tree) (h : History) (well : WellFormed t) where
       within c a =
           elim (among_either own_covers entrances c a) [
             | inl b ↦ (let at = own_dir_at c b in subst (Among (dir_covers t h)) at.3 (way_by_c t h at.0 at.1 at.2))
-            | inr b ↦ (let from = kept_from (entrance t h (held t h well) (opened t h well)) (places_of h) c b in entrance_covers from.0 c from.2)
+            | inr b ↦ (let from = filter_map_among (entrance t h (held t h well) (opened t h well)) (places_of h) c b in entrance_covers from.0 c from.2)
           ]
 
       all : (c : Cover) → Among (dir_covers t h) c → Among (own_covers ++ entrances) c
@@ -178,7 +172,7 @@ module _ (t : Tree) (h : History) (well : WellFormed t) where
           subst (Among (own_covers ++ entrances)) from.2 (ways_gathered from.0 (among_dir t well from.0 d.0) d.1)
 
   pub names_same : HaveSame (filter_map (name_opening t h) (places_of h)) (name_covers t h)
-  names_same = have_same _ _ (λ c a. within c (kept_from (name_opening t h) (places_of h) c a)) (λ c a. all c (kept_from (λ veil. veil_cover_at t h veil.0 veil.1) (veils h) c a))
+  names_same = have_same _ _ (λ c a. within c (filter_map_among (name_opening t h) (places_of h) c a)) (λ c a. all c (filter_map_among (λ veil. veil_cover_at t h veil.0 veil.1) (veils h) c a))
     where
       within : (c : Cover) → (at : Place) × Among (places_of h) at × (name_opening t h at ≡ Some c) → Among (name_covers t h) c
       within c (place.Slot d name, _, e) =
@@ -194,7 +188,7 @@ module _ (t : Tree) (h : History) (well : WellFormed t) where
           let one = and_parts (is_dir t d) _ parts.0 in
           let two = and_parts (has_c (Only perms)) _ one.1 in
           let veil = among_kept_at h (place.Slot d name) perms a in
-          among_kept (name_opening t h) (places_of h) (place.Slot d name) c (place_among h (place.Slot d name) perms veil)
+          among_filter_map (name_opening t h) (places_of h) (place.Slot d name) c (place_among h (place.Slot d name) perms veil)
           (when _ _ (and_from (is_dir t d) _ one.0 two.1) ∙ opening_from _ perms veil two.0 ∙ parts.1)
       all c ((place.Dir d, perms), a, e) = absurd (None≢Some c e)
 

@@ -4,7 +4,7 @@ use Rattle.std.specs.Prelude.{Option, Some, None, not, ◌||◌, ◌==◌}
 use Rattle.std.specs.List.{list_any}
 use Rattle.std.proofs.lemmas.Bool.{false≢true, and_parts, not-true, or_right}
 use Rattle.pua_tree.specs.Tree.{Tree, WellFormed, Spot, spot_cmp, is_dir, is_living, look, node_at, kind_at, above, is_empty, has_no_row}
-use Rattle.pua_tree.proofs.ForCallers.{Sound, Reaches, sound_from, row_says, row_of, above_dir, same_Some, Some≢None, spots_total, exact_spots}
+use Rattle.pua_tree.proofs.ForCallers.{Sound, Reaches, sound_from, row_says, row_of, above_dir, same_Some, Some≢None, spots_total, exact_spots, same_dir}
 use Rattle.pua_tree.proofs.ForCallers.{none_found, all_from_found}
 use Rattle.pua_calls.specs.Calls.{CallTable}
 use Rattle.pua_policy.specs.History.{History, kept}
@@ -18,7 +18,7 @@ use Rattle.pua_objects.proofs.ForCallers.{covers_descend}
 use Rattle.pua_ever.specs.Ever.{row_cover, is_free, can_link, can_empty, has_c_outside, dir_covers, name_covers, some_dir_has_c, file_covers, New, can_make}
 use Rattle.pua_ever.specs.Laws.{VeilsStand}
 use Rattle.pua_ever.proofs.Grown.{new_kind}
-use Rattle.pua_ever.proofs.Covers.{given_or_new, dir_row, slot_row, own_dir, under_dir, living_dir, below_next, same_dir}
+use Rattle.pua_ever.proofs.Covers.{given_or_new, dir_row, slot_row, own_dir, under_dir, living_dir, below_next}
 use Rattle.pua_ever.proofs.Quiet.{Quiet}
 use Rattle.pua_ever.proofs.Ways.{way_by_c, way_by_name, way_by_turn, name_by_veil, some_dir_by, file_by_name, file_by_dir, quiet_dir, quiet_name}
 

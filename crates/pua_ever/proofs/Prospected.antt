@@ -31,10 +31,7 @@ use Rattle.pua_ever.specs.EverReady.{IsProspects}
 use Rattle.pua_ever.specs.Laws.{EditsNeedC}
 use Rattle.pua_ever.specs.declared.prospects.Prospects.{Prospects}
 use Rattle.pua_ever.proofs.KindFaults.{dir_as}
-
-pub always : (b : Bool) → (b || true) ≡ true
-always true = refl
-always false = refl
+use Rattle.std.proofs.Math.Bool.{or-true}
 
 pub last : (b : Bool) → b ≡ (b || false)
 last true = refl
@@ -125,7 +122,7 @@ module _ (t : Tree) (table : CallTable) (h : History) (p : Prospects) (is : IsPr
     under : (call : Call) (covers : List Cover) → ever_covers moves (cover_in t h dir) (dir_covers t h) ≡ covers → is_allowed_under table h covers (dir_as empties) call ≡ is_ever_allowed t table h (At (Whole dir way)) call
     under call covers same =
         ap (λ cs. is_allowed_under table h cs (dir_as empties) call) (sym same)
-        ∙ ap (λ b. b && is_allowed_under table h (ever_covers moves (cover_in t h dir) (dir_covers t h)) (dir_as empties) call) (sym (always (keeps_link call)))
+        ∙ ap (λ b. b && is_allowed_under table h (ever_covers moves (cover_in t h dir) (dir_covers t h)) (dir_as empties) call) (sym (or-true (keeps_link call)))
 
     -- one that can be moved
     pub moved_calls : (moves && has_c (cover_in t h dir)) ≡ true → (emptied : Bool) → emptied ≡ (is_named_way way && not stays)

@@ -4,7 +4,7 @@ use Rattle.std.specs.Prelude.{Option, Some, None, ◌||◌, ◌==◌}
 use Rattle.std.specs.List.{list_any}
 use Rattle.std.proofs.lemmas.Bool.{false≢true, and_parts, not-true, eqb-true, or_left}
 use Rattle.pua_tree.specs.Tree.{Tree, WellFormed, Spot, spot_cmp, is_dir, is_living, look, node_at, above, climb, is_empty, has_no_row}
-use Rattle.pua_tree.proofs.ForCallers.{Reaches, sound_from, row_says, row_of, above_is, spots_total, exact_spots}
+use Rattle.pua_tree.proofs.ForCallers.{Reaches, sound_from, row_says, row_of, above_is, spots_total, exact_spots, same_dir}
 use Rattle.pua_tree.proofs.ForCallers.{none_found}
 use Rattle.pua_policy.proofs.ForCallers.{climb_step, climb_root}
 use Rattle.pua_calls.specs.Calls.{CallTable}
@@ -17,7 +17,7 @@ use Rattle.pua_objects.specs.Laws.{own_or}
 use Rattle.pua_objects.proofs.ForCallers.{covers_descend}
 use Rattle.pua_ever.specs.Ever.{is_below}
 use Rattle.pua_ever.proofs.Grown.{Grown, Written, by_name, by_turn, From, is_new, is_moved, is_linked, Put, name_cover}
-use Rattle.pua_ever.proofs.Covers.{dir_row, living_dir, below_next, same_dir}
+use Rattle.pua_ever.proofs.Covers.{dir_row, living_dir, below_next}
 
 -- nothing with `c` is outside
 pub record Quiet (h : History) (y : ℕ) (t : Tree) : Type 0 where

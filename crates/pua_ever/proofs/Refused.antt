@@ -1,7 +1,7 @@
 -- Where nothing refuses the list.
 use Rattle.std.proofs.Common.{◌≡◌, ◌⊎◌, List, [], ◌∷◌, Bool, true, false, cond, refl, sym, ◌∙◌, inl, inr}
 use Rattle.std.specs.Prelude.{Option, Some, None, not, ◌&&◌, ◌||◌, if◌then◌else◌, find}
-use Rattle.std.proofs.lemmas.Bool.{false≢true, true≢false, and_parts}
+use Rattle.std.proofs.lemmas.Bool.{false≢true, and_parts, not-false}
 use Rattle.pua_tree.proofs.ForCallers.{Some≢None}
 use Rattle.pua_calls.specs.Promises.{holds, creating, unveil}
 use Rattle.pua_calls.specs.Calls.{CallTable}
@@ -21,10 +21,6 @@ none_in p c cs = by (p c)
     by : (b : Bool) → cond b (Some c) (find p cs) ≡ None → (b ≡ false) × (find p cs ≡ None)
     by true e = absurd (Some≢None c e)
     by false e = (refl, e)
-
-needed : (b : Bool) → not b ≡ false → b ≡ true
-needed true e = refl
-needed false e = absurd (true≢false e)
 
 -- of two tests each passed
 both : (a b : Bool) → (if a then (if b then None else Some LinkLacksC) else Some RenameLacksC) ≡ None → (a ≡ true) × (b ≡ true)
@@ -46,11 +42,11 @@ all_need table e =
     let symlink = none_in (lacks_c table) call.Symlink [] mkdir.1 in
     let rename = and_parts (holds table.rename.old.needs.perms creating) (holds table.rename.new.needs.perms creating) parts.1 in
     record {
-      create = needed _ create.0;
-      mkdir = needed _ mkdir.0;
-      rmdir = needed _ rmdir.0;
-      unlink = needed _ unlink.0;
-      symlink = needed _ symlink.0;
+      create = not-false _ create.0;
+      mkdir = not-false _ mkdir.0;
+      rmdir = not-false _ rmdir.0;
+      unlink = not-false _ unlink.0;
+      symlink = not-false _ symlink.0;
       rename_old = rename.0;
       rename_new = rename.1;
       link_new = parts.2;

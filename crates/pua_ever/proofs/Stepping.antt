@@ -3,7 +3,7 @@ use Rattle.std.proofs.Common.{◌≡◌, ◌≢◌, ◌⊎◌, ◌≤◌, ◌<�
 use Rattle.std.specs.Prelude.{Option, Some, None, ◌==◌, is_some, option_map}
 use Rattle.std.proofs.lemmas.Bool.{false≢true, and_parts, eqb-true}
 use Rattle.pua_tree.specs.Tree.{Tree, WellFormed, Spot, is_dir, is_living, look, node_at, is_empty, has_no_row, empty_tree}
-use Rattle.pua_tree.proofs.ForCallers.{sound_from, row_says}
+use Rattle.pua_tree.proofs.ForCallers.{sound_from, row_says, same_dir}
 use Rattle.pua_calls.specs.Calls.{CallTable}
 use Rattle.pua_policy.specs.History.{History, kept}
 use Rattle.pua_policy.specs.Verdict.{IsMissing, covered_verdict, is_allowed}
@@ -17,7 +17,7 @@ use Rattle.pua_ever.specs.Ever.{row_cover, can_link, has_c_outside, some_dir_has
 use Rattle.pua_ever.specs.Laws.{VeilsStand}
 use Rattle.pua_ever.proofs.Grown.{Grown, Written, by_name, by_turn, From, is_new, is_moved, is_linked, Makes, name_cover}
 use Rattle.pua_ever.proofs.Ways.{any_among, some_dir_by, some_dir_among}
-use Rattle.pua_ever.proofs.Covers.{dir_row, living_dir, below_next, same_dir}
+use Rattle.pua_ever.proofs.Covers.{dir_row, living_dir, below_next}
 use Rattle.pua_ever.proofs.Quiet.{quiet_then, never_turned}
 use Rattle.pua_ever.proofs.Origins.{Fixed, Origin, linked, since, Entrance, by_veil, turned, still, Came, Known, Stays, DirUnder, at_rest, come, dir_under, name_under, could_empty, free_then}
 

@@ -4,35 +4,16 @@ use Rattle.std.specs.Prelude.{◌||◌, if◌then◌else◌, length, nat_lt}
 use Rattle.std.specs.List.{list_any, Contains}
 use Rattle.std.proofs.lemmas.Bool.{false≢true}
 use Rattle.std.proofs.lemmas.List.Folds.{list_any-append}
-use Rattle.pua_objects.proofs.ForCallers.{contained}
+use Rattle.pua_objects.proofs.ForCallers.{contained, among_contained}
 use Rattle.pua_tree.specs.Tree.{Tree, empty_tree}
 use Rattle.pua_calls.specs.Calls.{CallTable}
-use Rattle.pua_calls.specs.CallSets.{has}
 use Rattle.pua_policy.specs.History.{History}
 use Rattle.pua_policy.specs.Verdict.{Object, covered_verdict, is_allowed}
 use Rattle.pua_policy.specs.declared.answer.Cover.{Cover}
 use Rattle.pua_calls.specs.declared.call.Call.{Call}
-use Rattle.pua_calls.specs.declared.call.Call.TheVariants.{Stat, Lstat, Readlink, OpenRead, OpenWrite, OpenBoth, Create, Mkdir, Rmdir, Unlink, Symlink, Chmod, Chdir, Exec}
 use Rattle.pua_ever.specs.Ever.{is_allowed_under, dir_covers, name_covers, file_covers, some_dir_has_c}
 use Rattle.pua_ever.specs.Openings.{HaveSame}
-use Rattle.pua_ever.proofs.Opening.{among_contained}
 use Rattle.pua_ever.proofs.Ways.{any_among, any_found}
-
-pub has_none : (call : Call) → has 0 call ≡ false
-has_none Stat = refl
-has_none Lstat = refl
-has_none Readlink = refl
-has_none OpenRead = refl
-has_none OpenWrite = refl
-has_none OpenBoth = refl
-has_none Create = refl
-has_none Mkdir = refl
-has_none Rmdir = refl
-has_none Unlink = refl
-has_none Symlink = refl
-has_none Chmod = refl
-has_none Chdir = refl
-has_none Exec = refl
 
 pub any_same : {X : Type 0} (p : X → Bool) (xs ys : List X) → HaveSame xs ys → list_any p xs ≡ list_any p ys
 any_same {X} p xs ys same = by (list_any p xs) (list_any p ys) refl refl

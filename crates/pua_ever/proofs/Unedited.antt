@@ -2,7 +2,7 @@
 use Rattle.std.proofs.Common.{◌≡◌, ℕ, List, [], ◌∷◌, Bool, true, false, cond, refl, sym, ap, subst, ◌∙◌, ◌||◌, inl, inr}
 use Rattle.std.specs.List.{list_any, AllByRecursion}
 use Rattle.std.specs.Prelude.{Some, is_some, nat_le, length, not}
-use Rattle.std.proofs.lemmas.Bool.{false≢true, and_parts, or_left, or_right}
+use Rattle.std.proofs.lemmas.Bool.{false≢true, and_parts, or_left, or_right, not-true}
 use Rattle.pua_path.specs.declared.errno.Errno.TheVariants.{EAGAIN}
 use Rattle.pua_path.specs.declared.found.Found.{Found}
 use Rattle.pua_policy.specs.History.{History, may_any}
@@ -23,7 +23,7 @@ use Rattle.pua_script.specs.declared.request.Action.{Action}
 use Rattle.pua_script.specs.declared.request.Action.TheVariants.{OnPath, Symlink, Rename, Link, Pledge, Unveil, Lock, Fork, Exit}
 use Rattle.pua_script.proofs.ForCallers.{by_own_tree, by_going}
 use Rattle.pua_script.proofs.ForCallers.{IsWithin, may_yes}
-use Rattle.pua_script.proofs.ForCallers.{Members, members_then, not_true}
+use Rattle.pua_script.proofs.ForCallers.{Members, members_then}
 use Rattle.pua_objects.proofs.ForCallers.{Among}
 use Rattle.pua_ever.specs.Ever.{is_yes, may_edit, edit_calls}
 use Rattle.pua_ever.proofs.Ways.{any_among, any_found}
@@ -110,5 +110,5 @@ module _ (table : CallTable) (sound : NoCallNeedsError table) (now : History) wh
       let parts = and_parts (not (is_done is_exec table w ask members)) _ none in
       let asker = are ask.process asked.0 in
       unedited_along lacks asks (apply table w ask).1 (family_then table w ask members)
-      (members_then table now w ask members false are (not_true (is_done is_exec table w ask members) parts.0)) parts.1 asked.1
+      (members_then table now w ask members false are (not-true (is_done is_exec table w ask members) parts.0)) parts.1 asked.1
       ∙ unedited table w ask asker.0 asker.1 (still_unable asker.0 asker.2.within lacks)

@@ -1,6 +1,6 @@
 -- Which covers are among those that a thing can come under.
 use Rattle.std.proofs.Common.{◌≡◌, ℕ, List, [], ◌∷◌, Bool, true, false, cond, refl, sym, ap, ◌∙◌, inl, inr}
-use Rattle.std.specs.Prelude.{Option, Some, None, not, ◌&&◌, ◌||◌, ◌==◌, filter, filter_map, option_map}
+use Rattle.std.specs.Prelude.{Option, Some, None, not, ◌&&◌, ◌||◌, ◌==◌, filter, option_map}
 use Rattle.std.specs.List.{list_any, list_all}
 use Rattle.std.specs.Option.{option_eq}
 use Rattle.std.specs.Ordering.{nat_cmp, is_eq}
@@ -17,7 +17,7 @@ use Rattle.pua_policy.specs.declared.answer.Cover.TheVariants.{Only}
 use Rattle.pua_policy.proofs.ForCallers.{veils_are_kept, same_place_is}
 use Rattle.pua_script.specs.Confinement.{has_c}
 use Rattle.pua_objects.specs.Objects.{cover_in}
-use Rattle.pua_objects.proofs.ForCallers.{found_among, Among, among_left, among_right, among_map, map_among, among_filter, filter_among}
+use Rattle.pua_objects.proofs.ForCallers.{found_among, Among, among_left, among_right, among_map, map_among, among_filter, filter_among, among_filter_map}
 use Rattle.pua_ever.specs.Ever.{is_free, can_empty, opens_at, gives_way, is_below, opens_outside, has_c_outside, is_way_in, is_dir_entry, directories, dir_covers, veil_cover_at, name_covers, some_dir_has_c, file_covers}
 
 -- some element passes
@@ -34,15 +34,6 @@ any_found {X = X} p (x ∷ xs) e = by (p x) refl (any_found p xs) e
     by : (b : Bool) → p x ≡ b → (list_any p xs ≡ true → (y : X) × Among xs y × (p y ≡ true)) → (b || list_any p xs) ≡ true → (y : X) × Among (x ∷ xs) y × (p y ≡ true)
     by true is more e = (x, inl refl, is)
     by false is more e = let found = more e in (found.0, inr found.1, found.2)
-
-pub among_kept : {X Y : Type 0} (f : X → Option Y) (xs : List X) (x : X) (y : Y) → Among xs x → f x ≡ Some y → Among (filter_map f xs) y
-among_kept f [] x y a h = absurd a
-among_kept f (z ∷ xs) x y (inl e) h = rw (ap f e ∙ h) (inl refl)
-among_kept f (z ∷ xs) x y (inr a) h = by (f z) refl (among_kept f xs x y a h)
-  where
-    by : (o : Option _) → f z ≡ o → Among (filter_map f xs) y → Among (filter_map f (z ∷ xs)) y
-    by None is more = rw is more
-    by (Some w) is more = rw is (inr more)
 
 -- what is found by its number is among the nodes
 node_among : (k : ℕ) (v : Node) (es : List (ℕ × Node)) → find_key nat_cmp k es ≡ Some v → Among es (k, v)
@@ -115,7 +106,7 @@ module _ (t : Tree) (h : History) where
   pub name_by_veil : (d : ℕ) (name : List ℕ) (perms : ℕ) → is_dir t d ≡ true → kept h (place.Slot d name) ≡ Some perms → has_c (Only perms) ≡ true → is_free t h (d, name) ≡ true
       → Among (name_covers t h) (Only perms)
   name_by_veil d name perms is e has free =
-      among_kept (λ veil. veil_cover_at t h veil.0 veil.1) (veils h) (place.Slot d name, perms) (Only perms) (kept_among (place.Slot d name) perms e)
+      among_filter_map (λ veil. veil_cover_at t h veil.0 veil.1) (veils h) (place.Slot d name, perms) (Only perms) (kept_among (place.Slot d name) perms e)
       (ap (λ b. cond b (Some (Only perms)) None) (and_from (is_dir t d) _ is (and_from (has_c (Only perms)) _ has free)))
 
   pub some_dir_by : (d : ℕ) → is_dir t d ≡ true → has_c (cover_in t h d) ≡ true → some_dir_has_c t h ≡ true

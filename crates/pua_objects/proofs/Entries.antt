@@ -20,13 +20,13 @@ use Rattle.pua_objects.proofs.Among.{Among, among_left, among_right, among_eithe
 
 -- ---- what `filter_map` gives
 
-among_filter_map : {X Y : Type 0} (f : X → Option Y) (xs : List X) (x : X) (y : Y) → Among xs x → f x ≡ Some y → Among (filter_map f xs) y
+pub among_filter_map : {X Y : Type 0} (f : X → Option Y) (xs : List X) (x : X) (y : Y) → Among xs x → f x ≡ Some y → Among (filter_map f xs) y
 among_filter_map f [] x y a e = absurd a
 among_filter_map f (z ∷ xs) x y (inl same) e = let here : f z ≡ Some y = ap f same ∙ e in rw here (inl refl)
 among_filter_map f (z ∷ xs) x y (inr a) e =
     elim (f z) as (λ o. Among (cons_option o (filter_map f xs)) y) [ None ↦ among_filter_map f xs x y a e | Some other ↦ inr (among_filter_map f xs x y a e) ]
 
-filter_map_among : {X Y : Type 0} (f : X → Option Y) (xs : List X) (y : Y) → Among (filter_map f xs) y → (x : X) × Among xs x × (f x ≡ Some y)
+pub filter_map_among : {X Y : Type 0} (f : X → Option Y) (xs : List X) (y : Y) → Among (filter_map f xs) y → (x : X) × Among xs x × (f x ≡ Some y)
 filter_map_among f [] y a = absurd a
 filter_map_among f (z ∷ xs) y a =
     elim (f z) as (λ o. f z ≡ o → Among (cons_option o (filter_map f xs)) y → ((x : _) × Among (z ∷ xs) x × (f x ≡ Some y))) [

@@ -1,14 +1,7 @@
 -- Fronts of words that stay from item to item.
 use Rattle.std.proofs.Common.{◌≡◌, ◌≤◌, ◌-◌, ◌∷◌, ◌++◌, [], ℕ, suc, zero, List, length, take, map, refl, sym, ap, ◌∙◌, subst, length-append, arith}
-use Rattle.std.proofs.lemmas.List.{length-map, take_all, take-append-le, take-map}
+use Rattle.std.proofs.lemmas.List.{length-map, take_all, take-append-le, take-map, take-take}
 use Rattle.pua_objects.specs.Items.{IsNear}
-
--- of a front a shorter one is that of the whole
-pub take_less : {A : Type 0} (n m : ℕ) (xs : List A) → n ≤ m → take n (take m xs) ≡ take n xs
-take_less zero m xs less = refl
-take_less (suc n) zero xs less = absurd (omega (arith, less))
-take_less (suc n) (suc m) [] less = refl
-take_less (suc n) (suc m) (x ∷ xs) less = ap (λ ys. x ∷ ys) (take_less n m xs (omega (arith, less)))
 
 -- a front is known by its length
 pub front_own : {A : Type 0} (n : ℕ) (xs : List A) → take n xs ≡ take (length (take n xs)) xs
@@ -21,17 +14,17 @@ front_same xs ys same = same ∙ sym (take_all (length ys) xs (omega (arith, ap 
 
 -- lists that have a front in common have each shorter one
 pub less_same : {A : Type 0} (n m : ℕ) (xs ys : List A) → n ≤ m → take m xs ≡ take m ys → take n xs ≡ take n ys
-less_same n m xs ys less same = sym (take_less n m xs less) ∙ ap (take n) same ∙ take_less n m ys less
+less_same n m xs ys less same = sym (take-take n m xs less) ∙ ap (take n) same ∙ take-take n m ys less
 
 -- a front of a list is near to it, also with one more element
 pub near_front : {A : Type 0} (xs ys : List A) → ys ≡ take (length ys) xs → IsNear xs ys
-near_front xs ys front = ap (take (length ys - 1)) front ∙ take_less (length ys - 1) (length ys) xs (omega arith)
+near_front xs ys front = ap (take (length ys - 1)) front ∙ take-take (length ys - 1) (length ys) xs (omega arith)
 
 pub near_pushed : {A : Type 0} (xs ys zs : List A) (z : A) → ys ≡ take (length ys) xs → zs ≡ ys ++ z ∷ [] → IsNear xs zs
 near_pushed xs ys zs z front pushed =
     let long : length zs - 1 ≡ length ys = omega (arith, ap length pushed, length-append ys (z ∷ [])) in
     subst (λ n. take n zs ≡ take n xs) (sym long)
-    (ap (take (length ys)) pushed ∙ take-append-le (length ys) ys (z ∷ []) (omega arith) ∙ ap (take (length ys)) front ∙ take_less (length ys) (length ys) xs (omega arith))
+    (ap (take (length ys)) pushed ∙ take-append-le (length ys) ys (z ∷ []) (omega arith) ∙ ap (take (length ys)) front ∙ take-take (length ys) (length ys) xs (omega arith))
 
 pub near_map : {A B : Type 0} (f : A → B) (xs ys : List A) → IsNear xs ys → IsNear (map f xs) (map f ys)
 near_map f xs ys near =

@@ -1,5 +1,5 @@
 -- A verdict depends on what was found alone, and on the way for rmdir.
-use Rattle.std.proofs.Common.{◌≡◌, ◌≢◌, ℕ, zero, suc, List, ◌∷◌, Bool, true, false, refl, sym, ap, ◌∙◌}
+use Rattle.std.proofs.Common.{◌≡◌, ◌≢◌, ℕ, zero, suc, List, ◌∷◌, true, false, refl, sym, ap, ◌∙◌}
 use Rattle.std.specs.Prelude.{Option, Some, None, not, ◌&&◌, ◌||◌, ◌==◌, is_some, map, if◌then◌else◌}
 use Rattle.std.specs.List.{list_any}
 use Rattle.pua_tree.specs.Tree.{Tree, Spot, is_dir, spot_cmp, climb}
@@ -27,6 +27,7 @@ use Rattle.pua_policy.specs.declared.answer.Verdict.{Verdict}
 use Rattle.pua_policy.specs.declared.answer.Verdict.TheVariants.{Allowed}
 use Rattle.pua_policy.specs.declared.place.Place.TheVariants as place
 use Rattle.pua_objects.specs.Objects.{Subject, At, Others, own_way, way_of_spot, subject_of, cover_in, subject_verdict, is_named_by}
+use Rattle.std.proofs.Math.Bool.{or-true}
 
 -- nothing is allowed where there is a fault
 never : (m : May) (first : Option Errno) (errno : Errno) → if_promised m (allowed_unless (or_fault first (Some errno))) ≡ Allowed → ⊥
@@ -34,10 +35,6 @@ never may.Yes None errno e = cc
 never may.Yes (Some other) errno e = cc
 never may.Enosys first errno e = cc
 never may.Death first errno e = cc
-
-or_true : (b : Bool) → (b || true) ≡ true
-or_true true = refl
-or_true false = refl
 
 module _ (t : Tree) (sound : Sound t) where
   -- a directory but the root stands in one row, and is named by it
@@ -104,6 +101,6 @@ module _ (t : Tree) (sound : Sound t) where
     -- what is allowed on what was found is allowed on what its line is about
     pub told : (call : Call) (object : Found) → (last_of call ≡ Followed → is_link t object ≡ false) → StandsAsNamed t object → ((dir : ℕ) (way : Way) → object ≡ Whole dir way → is_dir t dir ≡ true)
         → verdict t table h call object ≡ Allowed → Told call (subject_of t h object)
-    told call (Whole dir way) followed fits living e = told_at call (At (Whole dir (own_way t dir))) (or_true (is_kept (last_of call))) (by_own_way call dir way (living dir way refl) fits e)
+    told call (Whole dir way) followed fits living e = told_at call (At (Whole dir (own_way t dir))) (or-true (is_kept (last_of call))) (by_own_way call dir way (living dir way refl) fits e)
     told call (Slot dir name (Some x)) followed fits living e = slot_told call dir name (Some x) (last_of call) refl followed e
     told call (Slot dir name None) followed fits living e = missing_told call dir name (kept h (place.Slot dir name)) refl e

@@ -1,7 +1,7 @@
 -- Directories that are left, and the next name of the innermost that has one.
-use Rattle.std.proofs.Common.{◌≡◌, ◌≤◌, ◌<◌, ℕ, suc, ◌+◌, List, [], ◌∷◌, ◌++◌, length, take, drop, map, refl, sym, ap, subst, ◌∙◌, arith, append-nil, vec_capacity}
+use Rattle.std.proofs.Common.{◌≡◌, ◌≤◌, ◌<◌, ℕ, suc, ◌+◌, List, [], ◌∷◌, ◌++◌, length, take, drop, map, sym, ap, subst, ◌∙◌, arith, append-nil, vec_capacity}
 use Rattle.std.specs.Prelude.{reverse}
-use Rattle.std.proofs.lemmas.List.{length-take-le, length_push, length-reverse, take-map}
+use Rattle.std.proofs.lemmas.List.{length-take-le, length_push, length-reverse, take-map, nil_from_length}
 use Rattle.pua_tree.specs.Tree.{Tree, Spot}
 use Rattle.pua_policy.specs.History.{ProcessState}
 use Rattle.pua_policy.specs.declared.answer.Cover.{Cover}
@@ -13,10 +13,6 @@ use Rattle.pua_objects.specs.declared.open_dir.Coming.TheVariants.{Names}
 use Rattle.pua_objects.specs.declared.walk.Walk.{Walk}
 use Rattle.pua_objects.proofs.Framed.{names_no_root, reverse_more, frames_cut, frames_left}
 use Rattle.pua_objects.proofs.Ranges.{passed_more}
-
-empty : {A : Type 0} (xs : List A) → length xs ≡ 0 → xs ≡ []
-empty [] e = refl
-empty (x ∷ xs) e = absurd (omega (arith, e))
 
 pub shorter : {A : Type 0} (xs front : List A) (x : A) → xs ≡ front ++ x ∷ [] → length front < length xs
 shorter xs front x split = omega (arith, ap length split, length_push front x)
@@ -103,7 +99,7 @@ module _ (t : Tree) (p : ProcessState) (a : Walk) (ready : IsReady t p a) (names
 -- no directory is entered
 module _ (t : Tree) (p : ProcessState) (a : Walk) (b : Walk) (none : length a.dirs.items ≡ 0) (dirs : a.dirs.items ≡ b.dirs.items ++ []) where
   all_left : a.dirs.items ≡ []
-  all_left = empty a.dirs.items none
+  all_left = nil_from_length a.dirs.items none
 
   pub no_dirs : b.dirs.items ≡ []
   no_dirs = sym (dirs ∙ append-nil b.dirs.items) ∙ all_left

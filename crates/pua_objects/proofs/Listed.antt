@@ -1,6 +1,6 @@
 -- Lines of what is to come, one after another.
 use Rattle.std.proofs.Common.{◌≡◌, ◌≢◌, List, [], ◌∷◌, Bool, true, false, cond, length, refl, sym, ap, subst, ◌∙◌, arith}
-use Rattle.std.specs.Prelude.{filter, nat_lt, IsTrue, ◌↔◌}
+use Rattle.std.specs.Prelude.{filter, nat_lt}
 use Rattle.std.proofs.lemmas.Bool.{lt-ltb}
 use Rattle.pua_tree.specs.Tree.{Tree}
 use Rattle.pua_calls.specs.Calls.{CallTable, calls}
@@ -49,7 +49,3 @@ module _ (t u : Tree) (p q : ProcessState) (table other : CallTable) (same_tree 
   told_lined tells lines h stands =
       let here = subst (λ (x : ProcessState). StandsFor x h) (sym same_process) stands in
       subst (λ (x : Tree). IsLineOn x table h subject line) same_tree (subst (λ (x : CallTable). IsLineOn u x h subject line) same_table (lines h here (tells h here)))
-
--- a test that answers by a list
-pub is_not_so : (b : Bool) (A : Type 0) → IsTrue b ↔ A → b ≡ false → A → ⊥
-is_not_so b A so e a = let bad : true ≡ false = sym (so.1 a) ∙ e in cc

@@ -8,7 +8,7 @@ use Rattle.std.specs.Cmp.{Equal-is}
 use Rattle.std.specs.FinMap.{find as find_key}
 use Rattle.pua_tree.specs.Names.{same_bytes}
 use Rattle.pua_tree.specs.Tree.{Tree, Spot, look, is_dir, above, spot_cmp}
-use Rattle.pua_tree.proofs.ForCallers.{exact_spots}
+use Rattle.pua_tree.proofs.ForCallers.{exact_spots, same_word}
 use Rattle.pua_tree.proofs.ForCallers.{Sound, Reaches, row_of, above_dir, climb_ends}
 use Rattle.pua_path.specs.declared.found.Way.{Way}
 use Rattle.pua_path.specs.declared.found.Way.TheVariants.{Top}
@@ -20,7 +20,6 @@ use Rattle.pua_policy.specs.declared.place.Place.{Place}
 use Rattle.pua_policy.specs.declared.place.Place.TheVariants as place
 use Rattle.pua_policy.proofs.ForCallers.{veils_are_kept}
 use Rattle.pua_audit.specs.Reach.{Word}
-use Rattle.pua_audit.proofs.ForCallers.{same_is}
 use Rattle.pua_objects.specs.Objects.{Subject, At, Others, Item, own_way, subject_of, names_in, name_at, veiled_in, entries, items_at, items_below, items}
 use Rattle.pua_objects.proofs.Among.{Among, among_left, among_right, among_map, among_filter, among_flat, among_distinct}
 use Rattle.pua_objects.proofs.Judged.{named_by_row}
@@ -53,7 +52,7 @@ veil_among ((place.Slot other called, given) ∷ vs) dir name perms e = by (dir 
         Among (filter_map (λ veil. name_at dir veil.0) ((place.Slot other called, given) ∷ vs)) name
     by true true is same more e =
         let this : (other == dir) ≡ true = eq-eqb other dir (sym (eqb-true dir other is)) in
-        rw this (inl (sym (same_is name called same)))
+        rw this (inl (sym (same_word name called same)))
     by true false is same more e = more e
     by false same is also more e = more e
 

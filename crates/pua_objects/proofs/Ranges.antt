@@ -1,25 +1,16 @@
 -- The spots of a directory among spots in order.
-use Rattle.std.proofs.Common.{◌≡◌, ◌≢◌, ◌<◌, ◌≤◌, ◌==◌, ◌+◌, ℕ, zero, suc, List, [], ◌∷◌, true, false, map, length, drop, get_or, drop_of_length-le, refl, sym, ap, ◌∙◌, arith, ltb, Bor, inl, inr, cond, subst}
+use Rattle.std.proofs.Common.{◌≡◌, ◌≢◌, ◌<◌, ◌≤◌, ◌==◌, ◌+◌, ℕ, zero, suc, List, [], ◌∷◌, true, false, map, length, drop, get_or, drop_of_length-le, refl, sym, ap, ◌∙◌, arith, ltb, Bor, cond, subst}
 use Rattle.std.specs.Prelude.{filter}
 use Rattle.std.specs.List.{AllByRecursion, slice_index_or}
-use Rattle.std.specs.declared.cmp.Ordering.TheVariants.{Less, Greater}
-use Rattle.std.specs.Ordering.{ordering_then}
-use Rattle.std.specs.Cmp.{nat_cmp_is}
+use Rattle.std.specs.declared.cmp.Ordering.TheVariants.{Less}
 use Rattle.std.specs.List.Sorted.{IsPartitionPoint, IsPartitionedBy}
 use Rattle.std.proofs.lemmas.List.Sorted.{IsPartitionedBy-ltb}
-use Rattle.std.proofs.lemmas.Bool.{cases_lt, ne_eqb, eq-eqb, ltb-true, ltb-false}
+use Rattle.std.proofs.lemmas.Bool.{ne_eqb, eq-eqb, ltb-true, ltb-false}
 use Rattle.std.proofs.lemmas.List.{length-map, get_or-map, drop_more}
-use Rattle.pua_tree.specs.Tree.{Spot, spot_cmp, name_cmp}
+use Rattle.pua_tree.specs.Tree.{Spot, spot_cmp}
 use Rattle.pua_audit.specs.Laws.{Rises}
 use Rattle.pua_objects.specs.Spots.{spot_now, names_at}
-
--- of two spots in order the later is of no lower directory
-not_lower : (x y : Spot) → spot_cmp x y ≡ Less → x.0 ≤ y.0
-not_lower x y less =
-    elim (cases_lt y.0 x.0) [
-      | inl lower ↦ (let turned : spot_cmp x y ≡ Greater = ap (λ o. ordering_then o (name_cmp x.1 y.1)) (sym (nat_cmp_is x.0 y.0 Greater lower)) in let bad : Less ≡ Greater = sym less ∙ turned in cc)
-      | inr other ↦ omega (arith, other)
-    ]
+use Rattle.pua_tree.proofs.ForCallers.{not_lower}
 
 all_from : (x : Spot) (spots : List Spot) → AllByRecursion (λ y. spot_cmp x y ≡ Less) spots → AllByRecursion (λ y. x.0 ≤ y.0) spots
 all_from x [] all = tt

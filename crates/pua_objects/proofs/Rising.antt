@@ -15,16 +15,12 @@ use Rattle.pua_policy.specs.History.{veils}
 use Rattle.pua_policy.specs.declared.place.Place.{Place}
 use Rattle.pua_audit.specs.Reach.{Word}
 use Rattle.pua_audit.specs.Laws.{Rises}
-use Rattle.pua_audit.proofs.ForCallers.{all_flat, rises_filtered, rises_mapped, rises_flat, distinct_names_rise}
+use Rattle.pua_audit.proofs.ForCallers.{all_flat, rises_filtered, rises_mapped, rises_flat, distinct_names_rise, all_weaker}
 use Rattle.pua_objects.specs.Objects.{Subject, At, Others, Item, line_of, has_calls, names_in, veiled_in, entries, items_at, items_below, items}
 use Rattle.pua_objects.specs.Laws.{subject_rank, line_cmp, ObjectsRise}
 
 abbrev item_cmp : Item → Item → Ordering
 item_cmp a b = ordering_then (slice_cmp name_cmp a.word b.word) (nat_cmp (subject_rank a.subject) (subject_rank b.subject))
-
-all_and : {A : Type 0} (P Q : A → Type 0) → ((x : A) → P x → Q x) → (xs : List A) → AllByRecursion P xs → AllByRecursion Q xs
-all_and P Q leads [] all = tt
-all_and P Q leads (x ∷ xs) all = (leads x all.0, all_and P Q leads xs all.1)
 
 -- the item's names begin with these
 abbrev Extends : Word → Item → Type 0
@@ -64,7 +60,7 @@ item_before word subject name y ey =
 
 all_pairs : {A B : Type 0} (P : A → Type 0) (Q : B → Type 0) (R : A → B → Type 0) → ((x : A) (y : B) → P x → Q y → R x y) → (xs : List A) (ys : List B) → AllByRecursion P xs → AllByRecursion Q ys → AllByRecursion (λ x. AllByRecursion (R x) ys) xs
 all_pairs P Q R leads [] ys all others = tt
-all_pairs P Q R leads (x ∷ xs) ys all others = (all_and Q (R x) (λ y q. leads x y all.0 q) ys others, all_pairs P Q R leads xs ys all.1 others)
+all_pairs P Q R leads (x ∷ xs) ys all others = (all_weaker Q (R x) (λ y q. leads x y all.0 q) ys others, all_pairs P Q R leads xs ys all.1 others)
 
 module _ (t : Tree) (vs : List (Place × ℕ)) where
   abbrev Inside : Word → List Item → Type 0
@@ -92,9 +88,9 @@ module _ (t : Tree) (vs : List (Place × ℕ)) where
       (λ a b less. all_pairs (Extends (word ++ a ∷ [])) (Extends (word ++ b ∷ [])) (λ x y. item_cmp x y ≡ Less) (λ x y ex ey. items_apart word a b less x y ex ey) (f a) (f b) (each a).0 (each b).0)
       names (distinct_names_rise (names_in t dir ++ veiled_in vs dir)) in
       let after : (subject : Subject) → AllByRecursion (λ y. item_cmp (record { word = word; subject = subject }) y ≡ Less) (flat_map f names) =
-      (λ subject. all_flat (λ _. ⊤) (λ y. item_cmp (record { word = word; subject = subject }) y ≡ Less) f (λ name _. all_and (Extends (word ++ name ∷ [])) (λ y. item_cmp (record { word = word; subject = subject }) y ≡ Less) (item_before word subject name) (f name) (each name).0) names every) in
+      (λ subject. all_flat (λ _. ⊤) (λ y. item_cmp (record { word = word; subject = subject }) y ≡ Less) f (λ name _. all_weaker (Extends (word ++ name ∷ [])) (λ y. item_cmp (record { word = word; subject = subject }) y ≡ Less) (item_before word subject name) (f name) (each name).0) names every) in
       let first : item_cmp (record { word = word; subject = At (Whole dir way) }) (record { word = word; subject = Others dir }) ≡ Less = ap (λ o. ordering_then o Less) (same_names word) in (
-        (([], nothing_more word), (([], nothing_more word), all_flat (λ _. ⊤) (Extends word) f (λ name _. all_and (Extends (word ++ name ∷ [])) (Extends word) (shorter word name) (f name) (each name).0) names every)),
+        (([], nothing_more word), (([], nothing_more word), all_flat (λ _. ⊤) (Extends word) f (λ name _. all_weaker (Extends (word ++ name ∷ [])) (Extends word) (shorter word name) (f name) (each name).0) names every)),
         ((first, after (At (Whole dir way))), (after (Others dir), rest)),
       )
     where

@@ -16,3 +16,5 @@ pub use Rattle.pua_path.proofs.Living.{find_passes, list_all-find_key}
 pub use Rattle.pua_path.proofs.Answering.{traces_answer, text_traces_answer}
 pub use Rattle.pua_path.proofs.Holding.{traces_hold}
 pub use Rattle.pua_path.proofs.Going.{traces_arrive, coming_resolves}
+-- no slash among bytes, byte by byte
+pub use Rattle.pua_path.proofs.Pieces.{no_slash_all}

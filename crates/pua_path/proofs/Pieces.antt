@@ -89,7 +89,7 @@ is_readable-after_slashes xs =
     ∙ ap (λ pieces. not (has_byte 0 xs) && list_all (λ piece. nat_le (length piece) 255) pieces) (components-after_slashes xs)
 
 -- no slash among bytes, byte by byte
-no_slash_all : (xs : List ℕ) → list_any slash xs ≡ false → All (λ b. slash b ≡ false) xs
+pub no_slash_all : (xs : List ℕ) → list_any slash xs ≡ false → All (λ b. slash b ≡ false) xs
 no_slash_all [] h = λ k d l. absurd (omega (arith, l))
 no_slash_all (b ∷ bs) h = by (λ k. no_slash_all bs k) (b == 47) refl h
   where

@@ -5,10 +5,6 @@ use Rattle.std.specs.Prelude.{ℕ}
 abbrev pub link_limit : ℕ
 link_limit = 32
 
--- the most bytes of a component of a path, as of a name
-abbrev pub name_limit : ℕ
-name_limit = 255
-
 -- the most bytes of a path
 abbrev pub path_limit : ℕ
 path_limit = 1023

@@ -2,8 +2,8 @@
 use Rattle.std.specs.Prelude.{ℕ, Bool, true, false, not, ◌&&◌, ◌||◌, if◌then◌else◌, List, [], ◌∷◌, ◌++◌, length, map, nat_lt, nat_le, ◌==◌}
 use Rattle.std.specs.List.{list_all}
 use Rattle.std.specs.Borrow.{Bor}
+use Rattle.pua_tree.specs.Limits.{most_name}
 use Rattle.pua_tree.specs.Names.{is_name_byte, has_byte, components, has_short_components}
-use Rattle.pua_path.specs.Limits.{name_limit}
 use Rattle.pua_path.specs.Paths.{part_of, ends_in_slash}
 use Rattle.pua_path.specs.declared.found.Part.{Part}
 use Rattle.pua_path.specs.declared.found.Part.TheVariants.{Dot}
@@ -40,7 +40,7 @@ is_stack top waiting = is_readable top && (list_all can_wait waiting && (nat_lt 
 
 -- a piece between slashes that is a part: bytes that may stand in a name, at least one and no more than a name has
 abbrev pub is_piece : List ℕ → Bool
-is_piece piece = nat_lt 0 (length piece) && (nat_le (length piece) name_limit && list_all is_name_byte piece)
+is_piece piece = nat_lt 0 (length piece) && (nat_le (length piece) most_name && list_all is_name_byte piece)
 
 -- no part is left
 abbrev pub is_done : List Part → Bool

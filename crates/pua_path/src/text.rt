@@ -62,7 +62,7 @@ impl<'a> PathText<'a> {
     }
 
     /// What a slash at its end adds.
-    pub fn ending(&self) -> Ending
+    pub(crate) fn ending(&self) -> Ending
         ensures { result ≡ self.now.ending }
     {
         self.ending

@@ -1,28 +1,19 @@
 -- Covers go down from directory to directory.
-use Rattle.std.proofs.Common.{◌≡◌, ◌≢◌, ℕ, List, [], ◌∷◌, map, Bool, true, refl, sym, ap, ◌∙◌}
+use Rattle.std.proofs.Common.{◌≡◌, ◌≢◌, ℕ, List, ◌∷◌, map, Bool, true, refl, sym, ap, ◌∙◌}
 use Rattle.std.specs.Prelude.{Option, Some, None, if◌then◌else◌}
 use Rattle.std.specs.List.{list_any}
 use Rattle.pua_tree.specs.Tree.{Tree, WellFormed, look, is_dir, above, climb}
 use Rattle.pua_tree.proofs.ForCallers.{Sound, sound_from, row_says, above_is}
 use Rattle.pua_path.specs.declared.found.Found.TheVariants.{Slot}
-use Rattle.pua_policy.specs.History.{History, Unveiled, Pledged, Locked, Moved, Ended, kept}
+use Rattle.pua_policy.specs.History.{History, kept}
 use Rattle.pua_policy.specs.Verdict.{nearest, is_unveil, cover}
-use Rattle.pua_policy.specs.declared.place.Place.{Place}
 use Rattle.pua_policy.specs.declared.place.Place.TheVariants as place
 use Rattle.pua_policy.specs.declared.answer.Cover.{Cover}
 use Rattle.pua_policy.specs.declared.answer.Cover.TheVariants.{All, Nothing}
 use Rattle.pua_policy.specs.Descent.{cover_in, own_or}
 use Rattle.pua_policy.specs.Laws.{CoversDescend}
 use Rattle.pua_policy.proofs.Climbs.{nearest_here, nearest_above, nearest_root, nearest_whole}
-
--- where something is kept there was an unveil
-unveiled : (h : History) (p : Place) (perms : ℕ) → kept h p ≡ Some perms → list_any is_unveil h ≡ true
-unveiled [] p perms e = cc
-unveiled (Unveiled other given ∷ h) p perms e = refl
-unveiled (Pledged a b ∷ h) p perms e = unveiled h p perms e
-unveiled (Locked ∷ h) p perms e = unveiled h p perms e
-unveiled (Moved dir ∷ h) p perms e = unveiled h p perms e
-unveiled (Ended ∷ h) p perms e = unveiled h p perms e
+use Rattle.pua_policy.proofs.Veils.{unveil_from_kept}
 
 abbrev if_any : Bool → Cover → Cover
 if_any any over = if any then over else All
@@ -34,7 +25,7 @@ module _ (t : Tree) (h : History) (fits : WellFormed t) (sound : Sound t) where
   root_cover : (o : Option ℕ) → kept_in 0 ≡ o → cover_in t h 0 ≡ own_or o (if list_any is_unveil h then Nothing else All)
   root_cover None e = ap (if_any (list_any is_unveil h)) (nearest_root t fits kept_in e)
   root_cover (Some perms) e =
-      ap (λ b. if_any b (nearest (map kept_in (climb t 0)))) (unveiled h (place.Dir 0) perms e) ∙ nearest_here t fits kept_in 0 perms fits.root e
+      ap (λ b. if_any b (nearest (map kept_in (climb t 0)))) (unveil_from_kept h (place.Dir 0) perms e) ∙ nearest_here t fits kept_in 0 perms fits.root e
 
   below_cover : (dir : ℕ) (name : List ℕ) (x : ℕ) → look t dir name ≡ Some x → is_dir t x ≡ true → (o : Option ℕ) → kept_in x ≡ o → cover_in t h x ≡ own_or o (cover_in t h dir)
   below_cover dir name x row living None e =
@@ -42,18 +33,18 @@ module _ (t : Tree) (h : History) (fits : WellFormed t) (sound : Sound t) where
       let over : above t x ≡ dir = above_is t x (dir, name) other (sound.once x living other) row in
       ap (if_any (list_any is_unveil h)) (nearest_above t fits kept_in x other living e ∙ ap (λ d. nearest (map kept_in (climb t d))) over)
   below_cover dir name x row living (Some perms) e =
-      ap (λ b. if_any b (nearest (map kept_in (climb t x)))) (unveiled h (place.Dir x) perms e) ∙ nearest_here t fits kept_in x perms living e
+      ap (λ b. if_any b (nearest (map kept_in (climb t x)))) (unveil_from_kept h (place.Dir x) perms e) ∙ nearest_here t fits kept_in x perms living e
 
   over_cover : (dir : ℕ) → is_dir t dir ≡ true → (o : Option ℕ) → kept_in dir ≡ o → cover_in t h dir ≡ own_or o (cover_in t h (above t dir))
   over_cover dir living None e =
       ap (if_any (list_any is_unveil h)) (sym (nearest_whole t fits kept_in dir living) ∙ ap (λ k. nearest (k ∷ map kept_in (climb t (above t dir)))) e)
   over_cover dir living (Some perms) e =
-      ap (λ b. if_any b (nearest (map kept_in (climb t dir)))) (unveiled h (place.Dir dir) perms e) ∙ nearest_here t fits kept_in dir perms living e
+      ap (λ b. if_any b (nearest (map kept_in (climb t dir)))) (unveil_from_kept h (place.Dir dir) perms e) ∙ nearest_here t fits kept_in dir perms living e
 
   name_cover : (dir : ℕ) (name : List ℕ) (node : Option ℕ) (o : Option ℕ) → kept h (place.Slot dir name) ≡ o → cover t h (Slot dir name node) ≡ own_or o (cover_in t h dir)
   name_cover dir name there None e = ap (λ k. if_any (list_any is_unveil h) (nearest (k ∷ map kept_in (climb t dir)))) e
   name_cover dir name there (Some perms) e =
-      ap (λ b. if_any b (nearest (kept h (place.Slot dir name) ∷ map kept_in (climb t dir)))) (unveiled h (place.Slot dir name) perms e)
+      ap (λ b. if_any b (nearest (kept h (place.Slot dir name) ∷ map kept_in (climb t dir)))) (unveil_from_kept h (place.Slot dir name) perms e)
       ∙ ap (λ k. nearest (k ∷ map kept_in (climb t dir))) e
 
 pub covers_descend : CoversDescend

@@ -6,8 +6,9 @@ pub use Rattle.pua_policy.proofs.Climbs.{climb_step, length-climb_step}
 pub use Rattle.pua_policy.proofs.Standing.{processes_decide}
 -- no event brings back a promise but `error`
 pub use Rattle.pua_policy.proofs.Narrowing.{held_never_grows}
--- what both of two sets have, the second has
+-- what both of two sets have, the second has, and what a set holds, a set that holds it holds
 pub use Rattle.pua_policy.proofs.Narrowing.{second_holds}
+pub use Rattle.pua_policy.proofs.Veils.{holds_through}
 -- what an exec keeps of a history
 pub use Rattle.pua_policy.proofs.Exec.{others, no_promises, no_execpromises, same_veils, same_lock, same_dirs, same_end}
 -- names without a veil of their own are covered as their directory is, and get one verdict where nothing stands
@@ -16,8 +17,8 @@ pub use Rattle.pua_policy.proofs.Unveiled.{unveiled_alike, unveiled_within, miss
 pub use Rattle.pua_policy.proofs.Climbs.{climb_root, nearest_here, nearest_above, nearest_root, nearest_whole}
 -- covers go down from directory to directory
 pub use Rattle.pua_policy.proofs.Descending.{covers_descend}
--- the veils that are kept, places that test alike, and whether there is any veil
-pub use Rattle.pua_policy.proofs.Veils.{veils_are_kept, same_place_is}
+-- the veils that are kept, the test of places, and whether there is any veil
+pub use Rattle.pua_policy.proofs.Veils.{veils_are_kept, same_place_is, same_place_refl, same_place_turned, still_unveiled}
 pub use Rattle.pua_policy.proofs.Standing.{any_veil}
 -- what is told of promises, of veils and of objects
 pub use Rattle.pua_policy.proofs.Lacking.{suffices, least, lackings_hold, promisings_hold, promisings_answer}

@@ -24,6 +24,7 @@ use Rattle.pua_calls.specs.Promises.{holds}
 use Rattle.pua_policy.specs.Verdict.{cover, cover_fault, nearest, place_of, directories_over, is_unveil}
 use Rattle.pua_policy.proofs.Narrowing.{second_holds}
 use Rattle.pua_policy.specs.Laws.{VeilsAreKept, CoverNeedsUnveil, NearestCounts, KeptPlacesNarrow, places_over}
+use Rattle.pua_tree.proofs.ForCallers.{Some≢None}
 
 -- places that test alike are one
 pub same_place_is : (a b : Place) → same_place a b ≡ true → a ≡ b
@@ -47,6 +48,17 @@ same_place_turned a b = by (same_place a b) (same_place b a) refl refl
     by false false e f = refl
     by true false e f = let g = sym f ∙ ap (same_place b) (same_place_is a b e) ∙ same_place_refl b in cc
     by false true e f = let g = sym e ∙ ap (same_place a) (same_place_is b a f) ∙ same_place_refl a in cc
+
+-- a veil on another place leaves a place without one
+pub still_unveiled : (at : Place) (perms : ℕ) (vs : List (Place × ℕ)) (other : Place) → same_place other at ≡ false → veil_at vs other ≡ None → veil_at (with_veil at perms vs) other ≡ None
+still_unveiled at perms [] other differ none = ap (λ b. cond b (Some perms) None) differ
+still_unveiled at perms (v ∷ vs) other differ none = by (same_place at v.0) (same_place other v.0) refl none (still_unveiled at perms vs other differ)
+  where
+    by : (s o : Bool) → same_place other v.0 ≡ o → cond o (Some v.1) (veil_at vs other) ≡ None → (veil_at vs other ≡ None → veil_at (with_veil at perms vs) other ≡ None)
+        → veil_at (cond s ((v.0, perms) ∷ vs) (v ∷ with_veil at perms vs)) other ≡ None
+    by s true is none rest = absurd (Some≢None v.1 none)
+    by true false is none rest = ap (λ b. cond b (Some perms) (veil_at vs other)) is ∙ none
+    by false false is none rest = ap (λ b. cond b (Some v.1) (veil_at (with_veil at perms vs) other)) is ∙ rest none
 
 -- what a new veil leaves at a place
 pub veil_at-with_veil : (place : Place) (perms : ℕ) (vs : List (Place × ℕ)) (at : Place) →
@@ -105,7 +117,7 @@ nearest-append (None ∷ near) far perms e = nearest-append near far perms e
 nearest-append (Some other ∷ near) far perms e = cc
 
 -- a veil is kept where some place keeps permissions
-unveil_from_kept : (h : History) (place : Place) (perms : ℕ) → kept h place ≡ Some perms → list_any is_unveil h ≡ true
+pub unveil_from_kept : (h : History) (place : Place) (perms : ℕ) → kept h place ≡ Some perms → list_any is_unveil h ≡ true
 unveil_from_kept [] place perms e = cc
 unveil_from_kept (Unveiled other p ∷ h) place perms e = refl
 unveil_from_kept (Pledged p x ∷ h) place perms e = unveil_from_kept h place perms e
@@ -131,7 +143,7 @@ nearest_counts t h object near far place perms split none here =
     ∙ nearest-append (map (kept h) near) (map (kept h) far) perms (list_all-map is_none (kept h) near ∙ none)
 
 -- what a set holds, a set that holds it holds
-holds_through : (old perms wanted : ℕ) → holds old perms ≡ true → holds perms wanted ≡ true → holds old wanted ≡ true
+pub holds_through : (old perms wanted : ℕ) → holds old perms ≡ true → holds perms wanted ≡ true → holds old wanted ≡ true
 holds_through old perms wanted a b =
     second_holds perms old wanted (ap (λ s. holds s wanted) (and_comm perms old ∙ eqb-true _ _ a) ∙ b)
 

@@ -37,8 +37,10 @@ use Rattle.pua_policy.specs.Verdict.{found_fault}
 use Rattle.pua_policy.specs.declared.answer.Refusal.TheVariants.{Failed, Killed}
 use Rattle.pua_script.specs.Limits.{process_limit}
 use Rattle.pua_script.specs.Worlds.{WorldState, StandsAt, StandsForWorld, WorldsAnswerAlike, process_at}
-use Rattle.pua_script.proofs.StoodFor.{nat_tie, nat_turned, true_from_T, T_from_true}
+use Rattle.pua_script.proofs.StoodFor.{nat_turned}
 use Rattle.pua_script.proofs.Histories.{Same, state_of, same_self, same_from_standing, stands_from_same, same_more, same_after_exec}
+use Rattle.pua_tree.proofs.ForCallers.{holds, nat_tie}
+use Rattle.std.specs.Bool.{passes}
 
 -- effects that differ in the history they leave, for which one process stands
 data SameEffect : Effect → Effect → Type 0 where
@@ -123,8 +125,8 @@ module _ (v w : World) (same : SameWorlds v w) where
   same_put : (n : ℕ) (t u : Tree) (h k : History) → t ≡ u → Same h k
       → SameWorlds (record { tree = t; histories = put nat_cmp n h v.histories }) (record { tree = u; histories = put nat_cmp n k w.histories })
   same_put n t u h k trees histories =
-      let sorted_v = T_from_true _ same.first_order in
-      let sorted_w = T_from_true _ same.second_order in
+      let sorted_v = passes _ same.first_order in
+      let sorted_w = passes _ same.second_order in
       let length_of : (x : World) → (g : History) → Type 0 = λ x g. length (put nat_cmp n g x.histories) ≡ cond (is_some (history_of x n)) (length x.histories) (length x.histories + 1) in
       let length_v : length_of v h = length-put nat_cmp nat_cmp_total n h v.histories sorted_v in
       let length_w : length_of w k = length-put nat_cmp nat_cmp_total n k w.histories sorted_w in
@@ -133,8 +135,8 @@ module _ (v w : World) (same : SameWorlds v w) where
         at = λ q. subst (λ o. SameAt o (find_key nat_cmp q (put nat_cmp n k w.histories))) (sym (find-put nat_cmp nat_cmp_total q n h v.histories))
             (subst (SameAt (cond _ (Some h) (history_of v q))) (sym (find-put nat_cmp nat_cmp_total q n k w.histories)) (same_chosen _ h k _ _ histories (same.at q)));
         count = length_v ∙ (λ i. cond (same_known _ _ (same.at n) i) (same.count i) (same.count i + 1)) ∙ sym length_w;
-        first_order = true_from_T _ (is_sorted-put nat_cmp nat_cmp_total n h v.histories sorted_v);
-        second_order = true_from_T _ (is_sorted-put nat_cmp nat_cmp_total n k w.histories sorted_w);
+        first_order = holds _ (is_sorted-put nat_cmp nat_cmp_total n h v.histories sorted_v);
+        second_order = holds _ (is_sorted-put nat_cmp nat_cmp_total n k w.histories sorted_w);
       }
 
   same_made : (h k : History) → Same h k → (c : Change) → SameEffect (made v h c) (made w k c)

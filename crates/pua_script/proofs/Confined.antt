@@ -1,7 +1,7 @@
 -- What a list of requests of a family leaves of the tree.
 use Rattle.std.proofs.Common.{◌≡◌, ℕ, List, [], ◌∷◌, Bool, true, false, refl, sym, ap, ◌∙◌, lit<}
 use Rattle.std.specs.Prelude.{not, filter}
-use Rattle.std.proofs.lemmas.Bool.{false≢true, and_parts}
+use Rattle.std.proofs.lemmas.Bool.{false≢true, and_parts, not-true}
 use Rattle.pua_tree.specs.Tree.{Tree, WellFormed}
 use Rattle.pua_calls.specs.Promises.{holds, cpath}
 use Rattle.pua_calls.specs.Calls.{CallTable}
@@ -12,7 +12,7 @@ use Rattle.pua_script.specs.Replay.{World, apply, world_after}
 use Rattle.pua_script.specs.Family.{is_member, is_exec, is_done, none_done, members_alone, family_then}
 use Rattle.pua_script.specs.Confinement.{TakingNeedsC, ChangingNeedsCpath, UncoveredStay, TreesAlong, FamiliesConfine, object_in, has_c}
 use Rattle.pua_script.proofs.Allowing.{IsWithin, same_cover}
-use Rattle.pua_script.proofs.Families.{Members, members_then, begins, not_true}
+use Rattle.pua_script.proofs.Families.{Members, members_then, begins}
 use Rattle.pua_script.proofs.Confining.{each_spares, spared_twice}
 use Rattle.pua_script.proofs.Unchanged.{cpath_changes}
 
@@ -42,7 +42,7 @@ module _ (table : CallTable) (now : History) where
       spared_twice now w.tree after.tree (world_after table after asks).tree
       (by_other asker.0 now asker.2.within.tightens.unveils w.tree after.tree step)
       (spares_along needs asks after (family_then table w ask members)
-      (members_then table now w ask members false are (not_true (is_done is_exec table w ask members) parts.0)) parts.1 asked.1 trees.1)
+      (members_then table now w ask members false are (not-true (is_done is_exec table w ask members) parts.0)) parts.1 asked.1 trees.1)
 
   lacking : (h : History) → IsWithin now h → holds (held now) cpath ≡ false → holds (held h) cpath ≡ false
   lacking h within lacks = by (holds (held h) cpath) refl
@@ -59,7 +59,7 @@ module _ (table : CallTable) (now : History) where
       let parts = and_parts (not (is_done is_exec table w ask members)) _ none in
       let asker = are ask.process asked.0 in
       unchanged_along needs lacks asks (apply table w ask).1 (family_then table w ask members)
-      (members_then table now w ask members false are (not_true (is_done is_exec table w ask members) parts.0)) parts.1 asked.1
+      (members_then table now w ask members false are (not-true (is_done is_exec table w ask members) parts.0)) parts.1 asked.1
       ∙ cpath_changes table needs w ask asker.0 asker.1 (lacking asker.0 asker.2.within lacks)
 
 pub at_all : (w : World) (members : List ℕ) (now : History) → Members w members now true → Members w members now false

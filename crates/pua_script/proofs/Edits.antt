@@ -2,7 +2,7 @@
 use Rattle.std.proofs.Common.{◌≡◌, ℕ, List, Bool, true, false, cond, refl, sym, ap, subst, ◌∙◌}
 use Rattle.std.specs.Prelude.{Option, Some, None, option_map, Ok, Err, IsOk, ◌&&◌, ◌==◌, not}
 use Rattle.std.specs.Option.{option_eq}
-use Rattle.std.proofs.lemmas.Bool.{and_parts}
+use Rattle.std.proofs.lemmas.Bool.{and_parts, not-true}
 use Rattle.std.proofs.lemmas.Option.{same_Some}
 use Rattle.pua_tree.specs.Tree.{Tree, Spot, is_dir, look, has_no_row, is_empty, kind_at}
 use Rattle.pua_tree.specs.Edits.{cut, cut_found, is_full_dir, without_unnamed, without_row}
@@ -52,10 +52,6 @@ is_emptied : (b : Bool) → option_map misfit_errno (cond b None (Some IsNotEmpt
 is_emptied true is = refl
 is_emptied false is = absurd (some_none _ is)
 
-pub not_dir : (b : Bool) → not b ≡ true → b ≡ false
-not_dir true is = cc
-not_dir false is = refl
-
 module _ (t : Tree) where
   removable_at : (dir : ℕ) (name : List ℕ) (o : Option Spot) → o ≡ Some (dir, name) → IsOk (cut t dir name) → (spot : Spot) → o ≡ Some spot → IsOk (cut t spot.0 spot.1)
   removable_at dir name o here ok spot is = subst (λ s. IsOk (cut t s.0 s.1)) (same_Some _ _ (sym here ∙ is)) ok
@@ -81,4 +77,4 @@ module _ (t : Tree) where
   unlink_removes (Slot dir name None) for = absurd (some_none _ for.kind)
   unlink_removes (Slot dir name (Some x)) for =
       let alone = and_parts (option_eq ◌==◌ (look t dir name) (Some x)) _ (and_parts (is_dir t dir) _ for.name.fits).1 in
-      removable_at dir name (Some (dir, name)) refl (cut_ok t dir name x for.name.named.0 for.name.named.1 (ap (λ b. b && not (has_no_row t x)) (not_dir (is_dir t x) alone.1)))
+      removable_at dir name (Some (dir, name)) refl (cut_ok t dir name x for.name.named.0 for.name.named.1 (ap (λ b. b && not (has_no_row t x)) (not-true (is_dir t x) alone.1)))

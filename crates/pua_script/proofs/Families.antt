@@ -1,7 +1,7 @@
 -- What a list of requests leaves of the family of a process that can put no veil any more.
 use Rattle.std.proofs.Common.{◌≡◌, ℕ, List, [], ◌∷◌, Bool, true, false, cond, ◌&&◌, ◌||◌, refl, sym, ap, subst, ◌∙◌}
 use Rattle.std.specs.Prelude.{Some, not, ◌==◌}
-use Rattle.std.proofs.lemmas.Bool.{false≢true, eqb-true, and_parts}
+use Rattle.std.proofs.lemmas.Bool.{false≢true, eqb-true, and_parts, not-true}
 use Rattle.pua_calls.specs.Calls.{CallTable}
 use Rattle.pua_policy.specs.History.{History, working_dir}
 use Rattle.pua_script.specs.Requests.{Asked}
@@ -43,10 +43,6 @@ not_by_one kind table w ask members m belongs none = by (m == ask.process) refl
         ap (λ b. b && is_own kind table w ask) (is_one m ask.process ∙ e)
         ∙ sym (ap (λ b. b && is_own kind table w ask) (ap (is_member members) (sym is) ∙ belongs)) ∙ none
 
-pub not_true : (b : Bool) → not b ≡ true → b ≡ false
-not_true true e = absurd (false≢true e)
-not_true false e = refl
-
 -- a member of the family with a child is one before, or the child
 child_or_old : (action : Action) (members : List ℕ) (m : ℕ) (P : Type 0) → is_member (with_child action members) m ≡ true
     → (is_member members m ≡ true → P) → ((new : ℕ) → action ≡ Fork new → new ≡ m → P) → P
@@ -76,7 +72,7 @@ module _ (table : CallTable) (now : History) where
             within = within_twice now before.0 after.0 before.2.within after.2.within;
             dir = λ is.
                 let parts = and_parts still (not (is_done is_chdir table w ask members)) is in
-                after.2.dir (not_by_one is_chdir table w ask members m belongs (not_true (is_done is_chdir table w ask members) parts.1)) ∙ before.2.dir parts.0;
+                after.2.dir (not_by_one is_chdir table w ask members m belongs (not-true (is_done is_chdir table w ask members) parts.1)) ∙ before.2.dir parts.0;
           },
         )
 
@@ -109,7 +105,7 @@ module _ (table : CallTable) (now : History) where
       let one = are m belongs in (one.0, one.1, record { within = one.2.within; dir = λ is. one.2.dir (and_parts still true is).0 })
   members_after (ask ∷ asks) w members still are none m belongs =
       let parts = and_parts (not (is_done is_exec table w ask members)) _ none in
-      let first = not_true (is_done is_exec table w ask members) parts.0 in
+      let first = not-true (is_done is_exec table w ask members) parts.0 in
       let one = members_after asks (apply table w ask).1 (family_then table w ask members) (still && not (is_done is_chdir table w ask members))
       (members_then w ask members still are first) parts.1 m belongs in
       (one.0, one.1, record { within = one.2.within; dir = λ is. one.2.dir (weaker still (not (is_done is_chdir table w ask members)) _ is) })

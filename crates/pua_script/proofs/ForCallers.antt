@@ -13,12 +13,12 @@ pub use Rattle.pua_script.proofs.Others.{others_leave, others_leave_always}
 -- a history within another: the same covers, and no more is allowed
 pub use Rattle.pua_script.proofs.Allowing.{IsWithin, same_cover, may_yes, verdicts_within}
 -- the members of a family, one request after another
-pub use Rattle.pua_script.proofs.Families.{Members, begins, members_then, members_after, not_true}
+pub use Rattle.pua_script.proofs.Families.{Members, begins, members_then, members_after}
 -- what one request leaves of the rows without `c`, or two of them, and what it leaves by other histories with the same veils
 pub use Rattle.pua_script.proofs.Confining.{each_spares, spared_twice}
 pub use Rattle.pua_script.proofs.Confined.{by_other, first_tree, at_all}
 -- what a text named is of the tree, a cover that has what needs `c` has `c` and what `c` alone needs, and so has the row of what was found under it
-pub use Rattle.pua_script.proofs.Possible.{name_fits, not_false}
+pub use Rattle.pua_script.proofs.Possible.{name_fits}
 pub use Rattle.pua_script.proofs.Spared.{c_from_cover, covered_by_c, has_spot}
 -- what is so of each change once its guards are passed is so of what a request leaves
 pub use Rattle.pua_script.proofs.Applied.{by_request, by_living, by_decision, by_tree, by_own_tree}
@@ -26,3 +26,5 @@ pub use Rattle.pua_script.proofs.Changing.{by_placing, by_cutting, by_going, by_
 pub use Rattle.pua_script.proofs.Guarding.{decisions_are_guarded, first_none, second_none, not_faulty}
 -- a request is answered ENOSPC exactly where it was granted a change for which there is no room
 pub use Rattle.pua_script.proofs.RequestRoom.{requests_lack}
+-- the world after one request more
+pub use Rattle.pua_script.proofs.Composition.{one_request_more}

@@ -1,5 +1,5 @@
 -- A script is read exactly as the requests that its lines spell.
-use Rattle.std.proofs.Common.{◌≡◌, ℕ, suc, ◌≤◌, ◌<◌, Bool, true, false, cond, List, [], ◌∷◌, length, take, Option, Some, None, Result, Ok, Err, refl, sym, ap, subst, ◌∙◌, true≢false, arith, lit<, find}
+use Rattle.std.proofs.Common.{◌≡◌, ℕ, suc, ◌≤◌, ◌<◌, Bool, true, false, cond, List, [], ◌∷◌, length, take, Option, Some, None, Result, Ok, Err, refl, sym, ap, subst, ◌∙◌, true≢false, arith, lit<}
 use Rattle.std.specs.Prelude.{◌≢◌, codes, IsTrue, ok_or, option_map, nat_lt, not}
 use Rattle.std.specs.List.{list_all}
 use Rattle.std.specs.Result.{result_ok}
@@ -12,7 +12,7 @@ use Rattle.pua_tree.specs.Names.{same_bytes}
 use Rattle.pua_tree.specs.Spelling.{unspelled, fields, is_field, number_within}
 use Rattle.pua_tree.specs.Steps.{◌>>=◌}
 use Rattle.pua_tree.specs.Listing.{only_if}
-use Rattle.pua_tree.proofs.ForCallers.{same_Some, None≢Some, guarded, Err≢Ok, same_Ok, unspelled-spelling, spelling-unspelled, bytes_unspelled, decimal_within, number_read}
+use Rattle.pua_tree.proofs.ForCallers.{same_Some, None≢Some, guarded, Err≢Ok, same_Ok, unspelled-spelling, spelling-unspelled, bytes_unspelled, decimal_within, number_read, mapped, only_if_read, first_passes, other_word, same_word, ok_or_read, step_read}
 use Rattle.pua_path.specs.declared.errno.Errno.{Errno}
 use Rattle.pua_calls.specs.Promises.{promises_of, perms_of}
 use Rattle.pua_calls.specs.Calls.{calls, call_name, call_named}
@@ -28,53 +28,26 @@ use Rattle.pua_script.specs.declared.fault.ScriptFault.TheVariants.{BadLine, Bad
 use Rattle.pua_script.specs.Scripts.{is_dash, is_equals, path_in, has_empty_word, good_or_unknown, given_in, perms_in, Form, PathForm, SymlinkForm, RenameForm, LinkForm, PledgeForm, UnveilForm, ForkForm, ExitForm, form_of, with_paths, unveil_of, action_of, form_in, action_in, request_of_fields, request_of, requests_of}
 use Rattle.pua_script.specs.ScriptGrammar.{SpellsPath, empty, spelled, IsList, SpellsGiven, null, nothing, known, unknown, SpellsPerms, no_letter, letters, unknown_letter, SpellsAction, on_path, symlink, rename, link, pledge, unveil, lock, fork, exit, SpellsRequest, SpellRequests, ScriptsAreRead}
 
-same_from : (a b : List ℕ) → same_bytes a b ≡ true → a ≡ b
-same_from a b e = (bytes_decides a b).0 e
-
 same_to : (a b : List ℕ) → a ≡ b → same_bytes a b ≡ true
 same_to a b e = (bytes_decides a b).1 e
 
 apart_from : (a b : List ℕ) → same_bytes a b ≡ false → a ≢ b
 apart_from a b e is = true≢false (sym (same_to a b is) ∙ e)
 
-apart_to : (a b : List ℕ) → a ≢ b → same_bytes a b ≡ false
-apart_to a b ne = not-true (same_bytes a b) (by (same_bytes a b) refl)
-  where
-    by : (t : Bool) → same_bytes a b ≡ t → IsTrue (not t)
-    by true e = absurd (ne (same_from a b e))
-    by false e = refl
-
--- steps, forwards and backwards
-pub bound : {A B E : Type 0} (r : Result A E) (f : A → Result B E) (y : B) → (r >>= f) ≡ Ok y → (x : A) × (r ≡ Ok x) × (f x ≡ Ok y)
-bound (Ok x) f y e = (x, refl, e)
-bound (Err fault) f y e = absurd (Err≢Ok fault y e)
-
-pub found : {A E : Type 0} (o : Option A) (fault : E) (x : A) → ok_or o fault ≡ Ok x → o ≡ Some x
-found (Some w) fault x e = ap Some (same_Ok w x e)
-found None fault x e = absurd (Err≢Ok fault x e)
-
-mapped : {A B : Type 0} (f : A → B) (o : Option A) (y : B) → option_map f o ≡ Some y → (x : A) × (o ≡ Some x) × (f x ≡ y)
-mapped f (Some x) y e = (x, refl, same_Some _ _ e)
-mapped f None y e = absurd (None≢Some y e)
-
-passes : {A : Type 0} (test : A → Bool) (o : Option A) (x : A) → only_if test o ≡ Some x → (o ≡ Some x) × IsTrue (test x)
-passes test None x e = absurd (None≢Some x e)
-passes test (Some w) x e = let both = guarded (test w) w x e in (ap Some both.1, subst (λ v. IsTrue (test v)) both.1 both.0)
-
 -- fields that stand for paths
 path_read : (field text : List ℕ) → path_in field ≡ Some text → SpellsPath field text
 path_read field text = by (is_equals field) refl
   where
     by : (b : Bool) → is_equals field ≡ b → cond b (Some []) (only_if has_no_nul (unspelled field)) ≡ Some text → SpellsPath field text
-    by true e is = subst (SpellsPath field) (same_Some [] text is) (empty (same_from field (codes "=") e))
+    by true e is = subst (SpellsPath field) (same_Some [] text is) (empty (same_word field (codes "=") e))
     by false e is =
-        let parts = passes has_no_nul (unspelled field) text is in
+        let parts = only_if_read has_no_nul (unspelled field) text is in
         spelled (apart_from field (codes "=") e) (bytes_unspelled field text parts.0) parts.1 (spelling-unspelled field text parts.0)
 
 path_told : (field text : List ℕ) → SpellsPath field text → path_in field ≡ Some text
 path_told field _ (empty e) = ap (λ b. cond b (Some []) (only_if has_no_nul (unspelled field))) (same_to field (codes "=") e)
 path_told field text (spelled ne small clean e) =
-    ap (λ b. cond b (Some []) (only_if has_no_nul (unspelled field))) (apart_to field (codes "=") ne)
+    ap (λ b. cond b (Some []) (only_if has_no_nul (unspelled field))) (other_word field (codes "=") ne)
     ∙ ap (only_if has_no_nul) (ap unspelled e ∙ unspelled-spelling text small)
     ∙ cond-true (has_no_nul text) (Some text) None clean
 
@@ -88,15 +61,15 @@ given_read field given = by (is_dash field) refl (is_equals field) refl (has_emp
 
     by : (a : Bool) → is_dash field ≡ a → (b : Bool) → is_equals field ≡ b → (c : Bool) → has_empty_word field ≡ c
         → cond a (Some Null) (cond b (Some (Good 0)) (cond c None (Some (good_or_unknown (promises_of field))))) ≡ Some given → SpellsGiven field given
-    by true d b e c w is = subst (SpellsGiven field) (same_Some Null given is) (null (same_from field (codes "-") d))
-    by false d true e c w is = subst (SpellsGiven field) (same_Some (Good 0) given is) (nothing (same_from field (codes "=") e))
+    by true d b e c w is = subst (SpellsGiven field) (same_Some Null given is) (null (same_word field (codes "-") d))
+    by false d true e c w is = subst (SpellsGiven field) (same_Some (Good 0) given is) (nothing (same_word field (codes "=") e))
     by false d false e true w is = absurd (None≢Some given is)
     by false d false e false w is = listed (record { no_dash = apart_from field (codes "-") d; no_equals = apart_from field (codes "=") e; words = w }) (promises_of field) refl (same_Some _ given is)
 
 list_told : (field : List ℕ) → IsList field → given_in field ≡ Some (good_or_unknown (promises_of field))
 list_told field list =
-    ap (λ a. cond a (Some Null) (cond (is_equals field) (Some (Good 0)) (cond (has_empty_word field) None (Some (good_or_unknown (promises_of field)))))) (apart_to field (codes "-") list.no_dash)
-    ∙ ap (λ b. cond b (Some (Good 0)) (cond (has_empty_word field) None (Some (good_or_unknown (promises_of field))))) (apart_to field (codes "=") list.no_equals)
+    ap (λ a. cond a (Some Null) (cond (is_equals field) (Some (Good 0)) (cond (has_empty_word field) None (Some (good_or_unknown (promises_of field)))))) (other_word field (codes "-") list.no_dash)
+    ∙ ap (λ b. cond b (Some (Good 0)) (cond (has_empty_word field) None (Some (good_or_unknown (promises_of field))))) (other_word field (codes "=") list.no_equals)
     ∙ ap (λ c. cond c None (Some (good_or_unknown (promises_of field)))) list.words
 
 given_told : (field : List ℕ) (given : Given) → SpellsGiven field given → given_in field ≡ Some given
@@ -110,26 +83,18 @@ perms_read : (field : List ℕ) → SpellsPerms field (perms_in field)
 perms_read field = by (is_equals field) refl (perms_of field) refl
   where
     by : (b : Bool) → is_equals field ≡ b → (r : Result ℕ Errno) → perms_of field ≡ r → SpellsPerms field (cond b (Some 0) (result_ok r))
-    by true e r p = no_letter (same_from field (codes "=") e)
+    by true e r p = no_letter (same_word field (codes "=") e)
     by false e (Ok set) p = letters (apart_from field (codes "=") e) p
     by false e (Err errno) p = unknown_letter (apart_from field (codes "=") e) p
 
 perms_told : (field : List ℕ) (perms : Option ℕ) → SpellsPerms field perms → perms_in field ≡ perms
 perms_told field _ (no_letter e) = ap perms_in e
-perms_told field _ (letters ne e) = ap (λ b. cond b (Some 0) (result_ok (perms_of field))) (apart_to field (codes "=") ne) ∙ ap result_ok e
-perms_told field _ (unknown_letter ne e) = ap (λ b. cond b (Some 0) (result_ok (perms_of field))) (apart_to field (codes "=") ne) ∙ ap result_ok e
+perms_told field _ (letters ne e) = ap (λ b. cond b (Some 0) (result_ok (perms_of field))) (other_word field (codes "=") ne) ∙ ap result_ok e
+perms_told field _ (unknown_letter ne e) = ap (λ b. cond b (Some 0) (result_ok (perms_of field))) (other_word field (codes "=") ne) ∙ ap result_ok e
 
 -- the calls' names
-first_passes : {A : Type 0} (test : A → Bool) (xs : List A) (x : A) → find test xs ≡ Some x → test x ≡ true
-first_passes test [] x e = absurd (None≢Some x e)
-first_passes test (y ∷ ys) x e = by (test y) refl e (first_passes test ys x)
-  where
-    by : (b : Bool) → test y ≡ b → cond b (Some y) (find test ys) ≡ Some x → (find test ys ≡ Some x → test x ≡ true) → test x ≡ true
-    by true t is later = subst (λ v. test v ≡ true) (same_Some y x is) t
-    by false t is later = later is
-
 call_read : (word : List ℕ) (c : Call) → call_named word ≡ Some c → word ≡ call_name c
-call_read word c e = sym (same_from (call_name c) word (first_passes (λ d. same_bytes (call_name d) word) calls c e))
+call_read word c e = sym (same_word (call_name c) word (first_passes (λ d. same_bytes (call_name d) word) calls c e))
 
 form_of_call : (c : Call) (a : List ℕ) → is_symlink c ≡ false → form_of (call_name c) (a ∷ []) ≡ Some (PathForm c a)
 form_of_call call.Stat a other = refl
@@ -151,14 +116,14 @@ form_of_call call.Exec a other = refl
 module _ (n : ℕ) where
   path_form : (word a : List ℕ) (c : Call) (action : Action) → is_symlink c ≡ false → word ≡ call_name c → action_of n (PathForm c a) ≡ Ok action → SpellsAction (word ∷ a ∷ []) action
   path_form word a c action other named e =
-      let path = bound (ok_or (path_in a) (BadPath n)) (λ p. Ok (OnPath c p)) action e in
-      subst (SpellsAction (word ∷ a ∷ [])) (same_Ok (OnPath c path.0) action path.2) (on_path other named (path_read a path.0 (found (path_in a) (BadPath n) path.0 path.1)))
+      let path = step_read (ok_or (path_in a) (BadPath n)) (λ p. Ok (OnPath c p)) action e in
+      subst (SpellsAction (word ∷ a ∷ [])) (same_Ok (OnPath c path.0) action path.2) (on_path other named (path_read a path.0 (ok_or_read (path_in a) (BadPath n) path.0 path.1)))
 
   two_paths : (make : List ℕ → List ℕ → Action) (a b : List ℕ) (action : Action) → with_paths n make a b ≡ Ok action → (x : List ℕ) × (y : List ℕ) × SpellsPath a x × SpellsPath b y × (make x y ≡ action)
   two_paths make a b action e =
-      let first = bound (ok_or (path_in a) (BadPath n)) (λ x. ok_or (path_in b) (BadPath n) >>= λ y. Ok (make x y)) action e in
-      let second = bound (ok_or (path_in b) (BadPath n)) (λ y. Ok (make first.0 y)) action first.2 in
-      (first.0, second.0, path_read a first.0 (found (path_in a) (BadPath n) first.0 first.1), path_read b second.0 (found (path_in b) (BadPath n) second.0 second.1), same_Ok _ action second.2)
+      let first = step_read (ok_or (path_in a) (BadPath n)) (λ x. ok_or (path_in b) (BadPath n) >>= λ y. Ok (make x y)) action e in
+      let second = step_read (ok_or (path_in b) (BadPath n)) (λ y. Ok (make first.0 y)) action first.2 in
+      (first.0, second.0, path_read a first.0 (ok_or_read (path_in a) (BadPath n) first.0 first.1), path_read b second.0 (ok_or_read (path_in b) (BadPath n) second.0 second.1), same_Ok _ action second.2)
 
   symlink_form : (word a b : List ℕ) (action : Action) → word ≡ codes "symlink" → action_of n (SymlinkForm a b) ≡ Ok action → SpellsAction (word ∷ a ∷ b ∷ []) action
   symlink_form word a b action named e = let both = two_paths Symlink a b action e in subst (SpellsAction (word ∷ a ∷ b ∷ [])) both.4 (symlink named both.2 both.3)
@@ -171,23 +136,23 @@ module _ (n : ℕ) where
 
   pledge_form : (word a b : List ℕ) (action : Action) → word ≡ codes "pledge" → action_of n (PledgeForm a b) ≡ Ok action → SpellsAction (word ∷ a ∷ b ∷ []) action
   pledge_form word a b action named e =
-      let first = bound (ok_or (given_in a) (BadList n)) (λ p. ok_or (given_in b) (BadList n) >>= λ x. Ok (Pledge p x)) action e in
-      let second = bound (ok_or (given_in b) (BadList n)) (λ x. Ok (Pledge first.0 x)) action first.2 in
+      let first = step_read (ok_or (given_in a) (BadList n)) (λ p. ok_or (given_in b) (BadList n) >>= λ x. Ok (Pledge p x)) action e in
+      let second = step_read (ok_or (given_in b) (BadList n)) (λ x. Ok (Pledge first.0 x)) action first.2 in
       subst (SpellsAction (word ∷ a ∷ b ∷ [])) (same_Ok (Pledge first.0 second.0) action second.2)
-      (pledge named (given_read a first.0 (found (given_in a) (BadList n) first.0 first.1)) (given_read b second.0 (found (given_in b) (BadList n) second.0 second.1)))
+      (pledge named (given_read a first.0 (ok_or_read (given_in a) (BadList n) first.0 first.1)) (given_read b second.0 (ok_or_read (given_in b) (BadList n) second.0 second.1)))
 
   unveil_form : (word a b : List ℕ) (action : Action) → word ≡ codes "unveil" → action_of n (UnveilForm a b) ≡ Ok action → SpellsAction (word ∷ a ∷ b ∷ []) action
   unveil_form word a b action named = by (is_dash a) refl (is_dash b) refl
     where
       by : (s : Bool) → is_dash a ≡ s → (t : Bool) → is_dash b ≡ t
           → cond s (cond t (Ok Lock) (Err (BadList n))) (ok_or (path_in a) (BadPath n) >>= λ text. cond t (Err (BadList n)) (Ok (Unveil text (perms_in b)))) ≡ Ok action → SpellsAction (word ∷ a ∷ b ∷ []) action
-      by true d true f e = subst (SpellsAction (word ∷ a ∷ b ∷ [])) (same_Ok Lock action e) (lock named (same_from a (codes "-") d) (same_from b (codes "-") f))
+      by true d true f e = subst (SpellsAction (word ∷ a ∷ b ∷ [])) (same_Ok Lock action e) (lock named (same_word a (codes "-") d) (same_word b (codes "-") f))
       by true d false f e = absurd (Err≢Ok (BadList n) action e)
-      by false d true f e = let path = bound (ok_or (path_in a) (BadPath n)) (λ text. Err (BadList n)) action e in absurd (Err≢Ok (BadList n) action path.2)
+      by false d true f e = let path = step_read (ok_or (path_in a) (BadPath n)) (λ text. Err (BadList n)) action e in absurd (Err≢Ok (BadList n) action path.2)
       by false d false f e =
-          let path = bound (ok_or (path_in a) (BadPath n)) (λ text. Ok (Unveil text (perms_in b))) action e in
+          let path = step_read (ok_or (path_in a) (BadPath n)) (λ text. Ok (Unveil text (perms_in b))) action e in
           subst (SpellsAction (word ∷ a ∷ b ∷ [])) (same_Ok (Unveil path.0 (perms_in b)) action path.2)
-          (unveil named (apart_from a (codes "-") d) (apart_from b (codes "-") f) (path_read a path.0 (found (path_in a) (BadPath n) path.0 path.1)) (perms_read b))
+          (unveil named (apart_from a (codes "-") d) (apart_from b (codes "-") f) (path_read a path.0 (ok_or_read (path_in a) (BadPath n) path.0 path.1)) (perms_read b))
 
   one_argument : (word a : List ℕ) (form : Form) (action : Action) → form_of word (a ∷ []) ≡ Some form → action_of n form ≡ Ok action → SpellsAction (word ∷ a ∷ []) action
   one_argument word a form action = by (same_bytes word (codes "fork")) refl
@@ -197,10 +162,10 @@ module _ (n : ℕ) where
       by true w e is =
           let number = mapped ForkForm (number_within 1 999999 a) form e in
           let read = number_read 1 999999 a number.0 (lit< tt) number.1 in
-          subst (SpellsAction (word ∷ a ∷ [])) (same_Ok (Fork number.0) action (ap (action_of n) number.2 ∙ is)) (fork (same_from word (codes "fork") w) read.0 read.1 read.2)
+          subst (SpellsAction (word ∷ a ∷ [])) (same_Ok (Fork number.0) action (ap (action_of n) number.2 ∙ is)) (fork (same_word word (codes "fork") w) read.0 read.1 read.2)
       by false w e is =
           let named = mapped (λ c. PathForm c a) (only_if (λ c. not (is_symlink c)) (call_named word)) form e in
-          let read = passes (λ c. not (is_symlink c)) (call_named word) named.0 named.1 in
+          let read = only_if_read (λ c. not (is_symlink c)) (call_named word) named.0 named.1 in
           path_form word a named.0 action (not-true (is_symlink named.0) read.1) (call_read word named.0 read.0) (ap (action_of n) named.2 ∙ is)
 
   two_arguments : (word a b : List ℕ) (form : Form) (action : Action) → form_of word (a ∷ b ∷ []) ≡ Some form → action_of n form ≡ Ok action → SpellsAction (word ∷ a ∷ b ∷ []) action
@@ -208,18 +173,18 @@ module _ (n : ℕ) where
     where
       by : (s : Bool) → same_bytes word (codes "symlink") ≡ s → (r : Bool) → same_bytes word (codes "rename") ≡ r → (l : Bool) → same_bytes word (codes "link") ≡ l → (p : Bool) → same_bytes word (codes "pledge") ≡ p → (u : Bool) → same_bytes word (codes "unveil") ≡ u
           → cond s (Some (SymlinkForm a b)) (cond r (Some (RenameForm a b)) (cond l (Some (LinkForm a b)) (cond p (Some (PledgeForm a b)) (cond u (Some (UnveilForm a b)) None)))) ≡ Some form → action_of n form ≡ Ok action → SpellsAction (word ∷ a ∷ b ∷ []) action
-      by true w r _ l _ p _ u _ e is = symlink_form word a b action (same_from word (codes "symlink") w) (ap (action_of n) (same_Some (SymlinkForm a b) form e) ∙ is)
-      by false _ true w l _ p _ u _ e is = rename_form word a b action (same_from word (codes "rename") w) (ap (action_of n) (same_Some (RenameForm a b) form e) ∙ is)
-      by false _ false _ true w p _ u _ e is = link_form word a b action (same_from word (codes "link") w) (ap (action_of n) (same_Some (LinkForm a b) form e) ∙ is)
-      by false _ false _ false _ true w u _ e is = pledge_form word a b action (same_from word (codes "pledge") w) (ap (action_of n) (same_Some (PledgeForm a b) form e) ∙ is)
-      by false _ false _ false _ false _ true w e is = unveil_form word a b action (same_from word (codes "unveil") w) (ap (action_of n) (same_Some (UnveilForm a b) form e) ∙ is)
+      by true w r _ l _ p _ u _ e is = symlink_form word a b action (same_word word (codes "symlink") w) (ap (action_of n) (same_Some (SymlinkForm a b) form e) ∙ is)
+      by false _ true w l _ p _ u _ e is = rename_form word a b action (same_word word (codes "rename") w) (ap (action_of n) (same_Some (RenameForm a b) form e) ∙ is)
+      by false _ false _ true w p _ u _ e is = link_form word a b action (same_word word (codes "link") w) (ap (action_of n) (same_Some (LinkForm a b) form e) ∙ is)
+      by false _ false _ false _ true w u _ e is = pledge_form word a b action (same_word word (codes "pledge") w) (ap (action_of n) (same_Some (PledgeForm a b) form e) ∙ is)
+      by false _ false _ false _ false _ true w e is = unveil_form word a b action (same_word word (codes "unveil") w) (ap (action_of n) (same_Some (UnveilForm a b) form e) ∙ is)
       by false _ false _ false _ false _ false w e is = absurd (None≢Some form e)
 
   pub action_read : (more : List (List ℕ)) (form : Form) (action : Action) → form_in more ≡ Some form → action_of n form ≡ Ok action → SpellsAction more action
   action_read [] form action e is = absurd (None≢Some form e)
   action_read (word ∷ []) form action e is =
       let both = guarded (same_bytes word (codes "exit")) ExitForm form e in
-      subst (SpellsAction (word ∷ [])) (same_Ok Exit action (ap (action_of n) both.1 ∙ is)) (exit (same_from word (codes "exit") both.0))
+      subst (SpellsAction (word ∷ [])) (same_Ok Exit action (ap (action_of n) both.1 ∙ is)) (exit (same_word word (codes "exit") both.0))
   action_read (word ∷ a ∷ []) form action e is = one_argument word a form action e is
   action_read (word ∷ a ∷ b ∷ []) form action e is = two_arguments word a b form action e is
   action_read (word ∷ a ∷ b ∷ c ∷ more) form action e is = absurd (None≢Some form e)
@@ -251,9 +216,9 @@ module _ (n : ℕ) where
   action_told _ _ (unveil {a = a} {b = b} {path = path} {perms = perms} named no_a no_b first second) = (
     UnveilForm a b,
     ap (λ w. form_of w (a ∷ b ∷ [])) named,
-    ap (λ s. cond s (cond (is_dash b) (Ok Lock) (Err (BadList n))) (ok_or (path_in a) (BadPath n) >>= λ text. cond (is_dash b) (Err (BadList n)) (Ok (Unveil text (perms_in b))))) (apart_to a (codes "-") no_a)
+    ap (λ s. cond s (cond (is_dash b) (Ok Lock) (Err (BadList n))) (ok_or (path_in a) (BadPath n) >>= λ text. cond (is_dash b) (Err (BadList n)) (Ok (Unveil text (perms_in b))))) (other_word a (codes "-") no_a)
         ∙ ap (λ o. ok_or o (BadPath n) >>= λ text. cond (is_dash b) (Err (BadList n)) (Ok (Unveil text (perms_in b)))) (path_told a path first)
-        ∙ ap (λ t. cond t (Err (BadList n)) (Ok (Unveil path (perms_in b)))) (apart_to b (codes "-") no_b)
+        ∙ ap (λ t. cond t (Err (BadList n)) (Ok (Unveil path (perms_in b)))) (other_word b (codes "-") no_b)
         ∙ ap (λ v. Ok (Unveil path v)) (perms_told b perms second),
   )
   action_told _ _ (lock {a = a} {b = b} named first second) =
@@ -270,17 +235,17 @@ request_read n line ask = by (list_all is_field (fields line)) refl (fields line
   where
     split : (process : List ℕ) (more : List (List ℕ)) → IsTrue (list_all is_field (fields line)) → fields line ≡ process ∷ more → request_of_fields n (process ∷ more) ≡ Ok ask → SpellsRequest line ask
     split process more visible are e =
-        let number = bound (ok_or (number_within 1 999999 process) (BadLine n)) (λ m. action_in n more >>= λ action. Ok (record { process = m; action = action })) ask e in
-        let action = bound (action_in n more) (λ action. Ok (record { process = number.0; action = action })) ask number.2 in
-        let form = bound (ok_or (form_in more) (BadCall n)) (action_of n) action.0 action.1 in
-        let read = number_read 1 999999 process number.0 (lit< tt) (found _ (BadLine n) number.0 number.1) in
+        let number = step_read (ok_or (number_within 1 999999 process) (BadLine n)) (λ m. action_in n more >>= λ action. Ok (record { process = m; action = action })) ask e in
+        let action = step_read (action_in n more) (λ action. Ok (record { process = number.0; action = action })) ask number.2 in
+        let form = step_read (ok_or (form_in more) (BadCall n)) (action_of n) action.0 action.1 in
+        let read = number_read 1 999999 process number.0 (lit< tt) (ok_or_read _ (BadLine n) number.0 number.1) in
         subst (SpellsRequest line) (same_Ok (record { process = number.0; action = action.0 }) ask action.2) (record {
           visible = visible;
           more = more;
           split = are ∙ ap (λ p. p ∷ more) read.0;
           low = read.1;
           high = read.2;
-          spells = action_read n more form.0 action.0 (found _ (BadCall n) form.0 form.1) form.2;
+          spells = action_read n more form.0 action.0 (ok_or_read _ (BadCall n) form.0 form.1) form.2;
         })
 
     by : (s : Bool) → list_all is_field (fields line) ≡ s → (fs : List (List ℕ)) → fields line ≡ fs → cond s (request_of_fields n fs) (Err (BadLine n)) ≡ Ok ask → SpellsRequest line ask
@@ -301,8 +266,8 @@ requests_read : (n : ℕ) (texts : List (List ℕ)) (asks : List Asked) → requ
 requests_read n [] [] e = tt
 requests_read n [] (ask ∷ asks) e = cc
 requests_read n (text ∷ texts) asks e =
-    let first = bound (request_of n text) (λ request. requests_of (suc n) texts >>= λ requests. Ok (request ∷ requests)) asks e in
-    let rest = bound (requests_of (suc n) texts) (λ requests. Ok (first.0 ∷ requests)) asks first.2 in
+    let first = step_read (request_of n text) (λ request. requests_of (suc n) texts >>= λ requests. Ok (request ∷ requests)) asks e in
+    let rest = step_read (requests_of (suc n) texts) (λ requests. Ok (first.0 ∷ requests)) asks first.2 in
     subst (SpellRequests (text ∷ texts)) (same_Ok (first.0 ∷ rest.0) asks rest.2) (request_read n text first.0 first.1, requests_read (suc n) texts rest.0 rest.1)
 
 requests_told : (n : ℕ) (texts : List (List ℕ)) (asks : List Asked) → SpellRequests texts asks → requests_of n texts ≡ Ok asks
@@ -319,7 +284,7 @@ within limit texts = requests_of 1 (take limit texts) >>= λ requests. cond (nat
 
 within_read : (limit : ℕ) (texts : List (List ℕ)) (asks : List Asked) → within limit texts ≡ Ok asks → (length texts ≤ limit) × SpellRequests texts asks
 within_read limit texts asks e =
-    let requests = bound (requests_of 1 (take limit texts)) (λ requests. cond (nat_lt limit (length texts)) (Err TooMany) (Ok requests)) asks e in
+    let requests = step_read (requests_of 1 (take limit texts)) (λ requests. cond (nat_lt limit (length texts)) (Err TooMany) (Ok requests)) asks e in
     by (nat_lt limit (length texts)) refl requests.0 requests.1 requests.2
   where
     by : (s : Bool) → nat_lt limit (length texts) ≡ s → (found : List Asked) → requests_of 1 (take limit texts) ≡ Ok found → cond s (Err TooMany) (Ok found) ≡ Ok asks → (length texts ≤ limit) × SpellRequests texts asks

@@ -3,7 +3,7 @@ use Rattle.std.proofs.Common.{◌≡◌, ℕ, zero, suc, List, [], ◌∷◌, �
 use Rattle.std.specs.Prelude.{Option, Some, None, option_map, Result, Ok, Err, IsTrue, nat_lt, nat_le, length, ◌==◌, unwrap_or}
 use Rattle.std.specs.List.{filter, slice_split, onto_first, list_all, list_any}
 use Rattle.std.proofs.lemmas.List.Folds.{list_all-append}
-use Rattle.std.proofs.lemmas.Bool.{false≢true, true≢false, and_parts, and_from, or_parts, lt-ltb}
+use Rattle.std.proofs.lemmas.Bool.{false≢true, true≢false, and_parts, and_from, or_parts, lt-ltb, not-true}
 use Rattle.pua_tree.specs.Names.{is_name, is_name_byte, is_target, same_bytes, has_byte, components, has_short_components}
 use Rattle.pua_tree.specs.Limits.{most_name}
 use Rattle.pua_tree.specs.Steps.{◌>>=◌}
@@ -180,11 +180,7 @@ module _ (t : Tree) (is_tree : IsByteTree t) where
       let a = and_parts (nat_lt 0 (length target)) _ lead.0 in
       let b = and_parts (nat_le (length target) Rattle.pua_tree.specs.Limits.most_target) _ a.1 in
       let c = and_parts (not (has_byte 0 target)) (has_short_components target) b.1 in
-      text_parts ending.Dot target (not_true (has_byte 0 target) c.0) c.1 lead.1
-    where
-      not_true : (b : Bool) → not b ≡ true → b ≡ false
-      not_true true e = absurd (false≢true e)
-      not_true false e = refl
+      text_parts ending.Dot target (not-true (has_byte 0 target) c.0) c.1 lead.1
 
   resolve_named : (mode : Last) (links : ℕ) (dir : ℕ) (by : Way) (ps : List Part) → list_all is_named ps ≡ true → has_name (Whole dir by) ≡ true → IsNamed (resolve_parts links t mode dir by ps)
   resolve_named mode zero dir by ps all is = walk_named mode 0 (λ from target rest. Err ELOOP) (λ from target rest lead all. tt) ps dir by all is

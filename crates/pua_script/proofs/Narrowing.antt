@@ -1,6 +1,6 @@
 -- What a request of a process that can put no veil any more adds to its history.
 use Rattle.std.proofs.Common.{◌≡◌, ℕ, [], ◌∷◌, Bool, true, false, cond, refl, sym, ap, ◌∙◌, inl, inr, ◌⊎◌, lit<, ◌||◌}
-use Rattle.std.proofs.lemmas.Bool.{true≢false}
+use Rattle.std.proofs.lemmas.Bool.{true≢false, false_from_ne_true}
 use Rattle.std.specs.Prelude.{Result, Ok, Err, IsTrue, is_some, nat_le, length}
 use Rattle.pua_tree.specs.Tree.{Tree}
 use Rattle.pua_path.specs.declared.errno.Errno.{Errno}
@@ -98,13 +98,9 @@ locked_after (Unveiled place perms) h locked = locked
 locked_after (Moved dir) h locked = locked
 locked_after Ended h locked = locked
 
-not_true : (b : Bool) → (b ≡ true → ⊥) → b ≡ false
-not_true true never = absurd (never refl)
-not_true false never = refl
-
 pub confined_after : (event : Event) (h : History) → IsConfined h → IsConfined (event ∷ h)
 confined_after event h (inl locked) = inl (locked_after event h locked)
-confined_after event h (inr lacking) = inr (not_true _ (λ holding. let again = held_never_grows event h unveil (lit< tt) refl holding in cc (again, lacking)))
+confined_after event h (inr lacking) = inr (false_from_ne_true _ (λ holding. let again = held_never_grows event h unveil (lit< tt) refl holding in cc (again, lacking)))
 
 pub fine_effect : (m : Bool) (table : CallTable) (w : World) (h : History) (action : Action) → IsConfined h → is_exec action ≡ false → (IsTrue (is_chdir action) → IsTrue m) → Fine m h (effect table w h action)
 fine_effect m table w h action confined other moving = by_decision w h (Fine m h) (decide table w.tree h action) (fine_refused m w h)

@@ -12,7 +12,9 @@ use Rattle.std.proofs.lemmas.List.Sorted.{IsNonDecreasingBy-from_sort, list_any-
 use Rattle.std.proofs.lemmas.Map.Keys.{IsDistinct-IsPermutation, IsStrictlyIncreasing-from_distinct, sorted_from_strictly_increasing, sorted_head, sorted_tail}
 use Rattle.std.proofs.lemmas.Map.Made.{is_some-lookup}
 use Rattle.pua_script.specs.Worlds.{WorldState, AreNumbersOf}
-use Rattle.pua_script.proofs.StoodFor.{T_from_true, nat_tie, nat_turned, same_numbers}
+use Rattle.pua_script.proofs.StoodFor.{nat_turned, same_numbers}
+use Rattle.std.specs.Bool.{passes}
+use Rattle.pua_tree.proofs.ForCallers.{nat_tie}
 
 -- a number's entry
 abbrev marked : ℕ → ℕ × Unit {0}
@@ -75,7 +77,7 @@ numbers_are s sorted are w stands =
         (IsStrictlyIncreasing-from_distinct sorted (IsNonDecreasingBy-from_sort (λ n. n) sorted are.order) (IsDistinct-IsPermutation eqb nat_turned (keys_of s.processes) sorted are.moved are.distinct))
 
     ordered : T (is_sorted nat_cmp (map (λ e. marked e.0) w.histories))
-    ordered = T_from_true _ (sorted_same w.histories ∙ stands.in_order)
+    ordered = passes _ (sorted_same w.histories ∙ stands.in_order)
 
     alike : (n : ℕ) → find nat_cmp n (map marked sorted) ≡ find nat_cmp n (map (λ e. marked e.0) w.histories)
     alike n = units _ _

@@ -1,8 +1,8 @@
 -- What is decided can be done, but for want of room.
-use Rattle.std.proofs.Common.{◌≡◌, ℕ, List, Bool, true, false, not, ◌&&◌, cond, refl, sym, ap, subst, ◌∙◌}
+use Rattle.std.proofs.Common.{◌≡◌, ℕ, List, true, false, not, ◌&&◌, cond, refl, sym, ap, subst, ◌∙◌}
 use Rattle.std.specs.Prelude.{Option, Some, None, Ok, Err, IsOk, ◌==◌, is_some}
 use Rattle.std.specs.Option.{option_eq}
-use Rattle.std.proofs.lemmas.Bool.{and_parts}
+use Rattle.std.proofs.lemmas.Bool.{and_parts, not-true, not-false}
 use Rattle.std.proofs.lemmas.Option.{same_Some}
 use Rattle.pua_tree.specs.Tree.{Tree, WellFormed, Spot, is_dir, is_empty, look, has_no_row}
 use Rattle.pua_tree.specs.Edits.{shift, shift_found, moved, is_inside, is_same_node, is_full_dir_there}
@@ -29,7 +29,7 @@ use Rattle.pua_script.specs.declared.granted.Granted.{Granted}
 use Rattle.pua_script.specs.declared.granted.Granted.TheVariants as granted
 use Rattle.pua_script.specs.Laws.{DecisionsArePossible}
 use Rattle.pua_script.specs.declared.request.Action.{Action}
-use Rattle.pua_script.proofs.Edits.{IsFor, IsRemovable, empty_alone, not_dir, rmdir_removes, unlink_removes}
+use Rattle.pua_script.proofs.Edits.{IsFor, IsRemovable, empty_alone, rmdir_removes, unlink_removes}
 use Rattle.pua_script.proofs.Linking.{named_lives}
 use Rattle.pua_script.proofs.Guarding.{decisions_are_guarded, second_none, not_faulty, grounds}
 use Rattle.pua_script.proofs.Grounds.{Grounds, takes}
@@ -51,14 +51,10 @@ shift_ok t from to x there lives stands lives_there stands_there other outside a
     ∙ (λ i. cond (other i) (Ok t) (cond (outside i) (Err faults.Inside) (cond (alone i) (Err faults.NotEmpty) (Ok (moved t from.0 from.1 to.0 to.1 x there))))) in
     subst IsOk (sym is) refl
 
-pub not_false : (b : Bool) → not b ≡ false → b ≡ true
-not_false true e = refl
-not_false false e = cc
-
 module _ (t : Tree) where
   -- what was found without being a directory is none
   slot_other : (dir : ℕ) (name : List ℕ) (x : ℕ) → FoundFits t (Slot dir name (Some x)) → is_dir t x ≡ false
-  slot_other dir name x fits = not_dir (is_dir t x) (and_parts (option_eq ◌==◌ (look t dir name) (Some x)) _ (and_parts (is_dir t dir) _ fits).1).1
+  slot_other dir name x fits = not-true (is_dir t x) (and_parts (option_eq ◌==◌ (look t dir name) (Some x)) _ (and_parts (is_dir t dir) _ fits).1).1
 
   other_named : (object : Found) (x : ℕ) → FoundFits t object → is_whole object ≡ false → node_named object ≡ Some x → is_dir t x ≡ false
   other_named (Whole dir way) x fits other is = cc
@@ -66,7 +62,7 @@ module _ (t : Tree) where
   other_named (Slot dir name (Some y)) x fits other is = subst (λ z. is_dir t z ≡ false) (same_Some y x is) (slot_other dir name y fits)
 
   kinds_alone : (x : ℕ) (old new : Found) → NameFits t new → kinds_fault t x old new ≡ None → is_full_dir_there t (node_named new) ≡ false
-  kinds_alone x old (Whole y way) fits e = empty_alone t y (not_false (is_empty t y) (not_faulty _ ENOTEMPTY (second_none _ (fault_if (not (is_empty t y)) ENOTEMPTY) e)))
+  kinds_alone x old (Whole y way) fits e = empty_alone t y (not-false (is_empty t y) (not_faulty _ ENOTEMPTY (second_none _ (fault_if (not (is_empty t y)) ENOTEMPTY) e)))
   kinds_alone x old (Slot dir name None) fits e = refl
   kinds_alone x old (Slot dir name (Some y)) fits e = ap (λ b. b && not (has_no_row t y)) (slot_other dir name y fits.fits)
 

@@ -6,12 +6,12 @@ use Rattle.std.specs.List.{list_all}
 use Rattle.std.proofs.lemmas.Bool.{and_from, le-leb}
 use Rattle.pua_tree.specs.Spelling.{fields, is_field, number_within}
 use Rattle.pua_tree.specs.Fields.{first_fields}
-use Rattle.pua_tree.proofs.ForCallers.{guarded, number_read}
+use Rattle.pua_tree.proofs.ForCallers.{guarded, number_read, ok_or_read, step_read}
 use Rattle.pua_script.specs.Requests.{is_asked}
 use Rattle.pua_script.specs.declared.request.Action.{Action}
 use Rattle.pua_script.specs.declared.fault.ScriptFault.TheVariants.{BadLine, BadCall}
 use Rattle.pua_script.specs.Scripts.{action_in, form_in, action_of, request_of_fields, request_of}
-use Rattle.pua_script.proofs.Grammar.{bound, found, action_read, askable}
+use Rattle.pua_script.proofs.Grammar.{action_read, askable}
 
 -- no call has more than two arguments
 pub many_arguments : (n : ℕ) (fs : List (Bor (List ℕ))) → 4 ≤ length fs → action_in n (map (λ f. f.now) fs) ≡ Err (BadCall n)
@@ -39,6 +39,6 @@ by_fields n line fs e =
 pub asked : (n number : ℕ) (process : List ℕ) (more : List (List ℕ)) (action : Action) → number_within 1 999999 process ≡ Some number → action_in n more ≡ Ok action → IsTrue (is_asked (record { process = number; action = action }))
 asked n number process more action numbered acts =
     let read = number_read 1 999999 process number (lit< tt) numbered in
-    let form = bound (ok_or (form_in more) (BadCall n)) (action_of n) action acts in
+    let form = step_read (ok_or (form_in more) (BadCall n)) (action_of n) action acts in
     and_from _ _ (and_from _ _ (le-leb 1 number read.1) (le-leb number 999999 read.2))
-    (askable more action (action_read n more form.0 action (found (form_in more) (BadCall n) form.0 form.1) form.2))
+    (askable more action (action_read n more form.0 action (ok_or_read (form_in more) (BadCall n) form.0 form.1) form.2))

@@ -1,11 +1,8 @@
 -- A world that stands for one of the replay still does after a process was changed or made on both sides.
-use Rattle.std.proofs.Common.{◌≡◌, ℕ, ◌+◌, T, eqb, Bool, true, false, cond, nat_eq, List, [], ◌∷◌, length, Option, Some, None, is_some, refl, sym, subst, ap, ◌∙◌}
+use Rattle.std.proofs.Common.{◌≡◌, ℕ, ◌+◌, eqb, Bool, true, false, cond, nat_eq, List, [], ◌∷◌, length, Option, Some, None, is_some, refl, sym, subst, ap, ◌∙◌}
 use Rattle.std.specs.Prelude.{IsTrue}
 use Rattle.std.proofs.lemmas.Bool.{eqb-true, eq-eqb}
 use Rattle.std.proofs.lemmas.Bool.Decides.{same_from_decides}
-use Rattle.std.specs.Cmp.{Equal-is, tied_itself}
-use Rattle.std.specs.FinMap.{nat_cmp-IsAntisymmetric}
-use Rattle.std.specs.Ordering.{is_eq}
 use Rattle.std.specs.Cmp.{nat_cmp_total}
 use Rattle.std.specs.Ordering.{nat_cmp, eq_by_cmp}
 use Rattle.std.specs.FinMap.{put, find as find_key, is_sorted}
@@ -16,19 +13,8 @@ use Rattle.pua_calls.specs.Calls.{CallTable}
 use Rattle.pua_policy.specs.History.{History, ProcessState, StandsFor, new_history}
 use Rattle.pua_script.specs.Replay.{World, history_of, new_world}
 use Rattle.pua_script.specs.Worlds.{WorldState, StandsAt, StandsForWorld, process_at}
-
-pub true_from_T : (b : Bool) → T b → b ≡ true
-true_from_T true h = refl
-true_from_T false h = absurd h
-
-pub T_from_true : (b : Bool) → b ≡ true → T b
-T_from_true b e = subst T (sym e) tt
-
--- two numbers tie where they are the same, whichever stands first
-pub nat_tie : (p n : ℕ) → eq_by_cmp nat_cmp p n ≡ eqb n p
-nat_tie p n = same_from_decides {P = p ≡ n} _ _
-    (λ e. nat_cmp-IsAntisymmetric p n ((Equal-is _).0 e), λ e. subst (λ s. eq_by_cmp nat_cmp p s ≡ true) e (ap is_eq (tied_itself nat_cmp_total p)))
-    (λ e. sym (eqb-true n p e), λ e. eq-eqb n p (sym e))
+use Rattle.pua_tree.proofs.ForCallers.{holds, nat_tie}
+use Rattle.std.specs.Bool.{passes}
 
 pub nat_turned : (p n : ℕ) → eqb p n ≡ eqb n p
 nat_turned p n = same_from_decides {P = p ≡ n} _ _ (eqb-true p n, eq-eqb p n) (λ e. sym (eqb-true n p e), λ e. eq-eqb n p (sym e))
@@ -65,14 +51,14 @@ module _ (s : WorldState) (w : World) (stands : StandsForWorld s w) (n : ℕ) (t
       (subst (λ g. StandsAt (cond (nat_eq n q) (Some p) (process_at s q)) g) (sym found) (stands_chosen (nat_eq n q) p h _ _ new (stands.processes q)))
 
   in_order : IsTrue (is_sorted nat_cmp (put nat_cmp n h w.histories))
-  in_order = true_from_T _ (is_sorted-put nat_cmp nat_cmp_total n h w.histories (T_from_true _ stands.in_order))
+  in_order = holds _ (is_sorted-put nat_cmp nat_cmp_total n h w.histories (passes _ stands.in_order))
 
   -- where the process was there before
   pub stands_changed : is_some (history_of w n) ≡ true → length more ≡ length s.processes → StandsForWorld (record { tree = t; table = s.table; processes = more }) (record { tree = t; histories = put nat_cmp n h w.histories })
   stands_changed there same = record {
     tree = refl;
     processes = at_each;
-    count = same ∙ stands.count ∙ sym (length-put nat_cmp nat_cmp_total n h w.histories (T_from_true _ stands.in_order) ∙ ap (λ b. cond b (length w.histories) (length w.histories + 1)) there);
+    count = same ∙ stands.count ∙ sym (length-put nat_cmp nat_cmp_total n h w.histories (passes _ stands.in_order) ∙ ap (λ b. cond b (length w.histories) (length w.histories + 1)) there);
     in_order = in_order;
   }
 
@@ -81,6 +67,6 @@ module _ (s : WorldState) (w : World) (stands : StandsForWorld s w) (n : ℕ) (t
   stands_made absent one = record {
     tree = refl;
     processes = at_each;
-    count = one ∙ ap (λ k. k + 1) stands.count ∙ sym (length-put nat_cmp nat_cmp_total n h w.histories (T_from_true _ stands.in_order) ∙ ap (λ b. cond b (length w.histories) (length w.histories + 1)) absent);
+    count = one ∙ ap (λ k. k + 1) stands.count ∙ sym (length-put nat_cmp nat_cmp_total n h w.histories (passes _ stands.in_order) ∙ ap (λ b. cond b (length w.histories) (length w.histories + 1)) absent);
     in_order = in_order;
   }

@@ -2,8 +2,7 @@
 use Rattle.std.proofs.Common.{◌≡◌, ℕ, List, [], ◌∷◌, Bool, true, false, cond, refl, sym, ap, ◌∙◌, ◌||◌}
 use Rattle.std.specs.List.{list_any, AllByRecursion}
 use Rattle.std.specs.Prelude.{IsTrue, is_some, nat_le, length}
-use Rattle.std.proofs.lemmas.Bool.{false≢true, eqb-true}
-use Rattle.std.proofs.lemmas.Nat.{and_comm}
+use Rattle.std.proofs.lemmas.Bool.{false≢true}
 use Rattle.pua_tree.specs.Tree.{Tree}
 use Rattle.pua_path.specs.declared.errno.Errno.TheVariants.{EAGAIN}
 use Rattle.pua_calls.specs.Promises.{holds, cpath}
@@ -12,7 +11,7 @@ use Rattle.pua_calls.specs.Calls.{Rule, CallTable, rule_of}
 use Rattle.pua_calls.specs.declared.call.Call.{Call}
 use Rattle.pua_calls.specs.declared.call.Call.TheVariants as call
 use Rattle.pua_policy.specs.declared.answer.May.TheVariants.{Yes, Enosys, Death}
-use Rattle.pua_policy.proofs.ForCallers.{second_holds}
+use Rattle.pua_policy.proofs.ForCallers.{holds_through}
 use Rattle.pua_script.specs.Limits.{process_limit}
 use Rattle.pua_script.specs.Worlds.{tree_left}
 use Rattle.pua_script.specs.Confinement.{NamesCpath, ChangingNeedsCpath, CpathChanges}
@@ -23,17 +22,13 @@ use Rattle.pua_script.proofs.Guarding.{grounds}
 use Rattle.pua_script.proofs.Grounds.{Grounds, makes, takes}
 use Rattle.pua_script.proofs.Applied.{by_own_tree}
 
--- what holds a set holds what the set holds
-pub holds_on : (a b c : ℕ) → holds a b ≡ true → holds b c ≡ true → holds a c ≡ true
-holds_on a b c first second = second_holds b a c (ap (λ s. holds s c) (and_comm b a ∙ eqb-true _ _ first) ∙ second)
-
 module _ (h : History) (lacks : holds (held h) cpath ≡ false) where
   none_held : (alternatives : List ℕ) → AllByRecursion (λ set. IsTrue (holds set cpath)) alternatives → list_any (holds (held h)) alternatives ≡ false
   none_held [] names = refl
   none_held (set ∷ sets) names = by (holds (held h) set) refl (none_held sets names.1)
     where
       by : (b : Bool) → holds (held h) set ≡ b → list_any (holds (held h)) sets ≡ false → (b || list_any (holds (held h)) sets) ≡ false
-      by true is rest = absurd (false≢true (sym lacks ∙ holds_on (held h) set cpath is names.0))
+      by true is rest = absurd (false≢true (sym lacks ∙ holds_through (held h) set cpath is names.0))
       by false is rest = rest
 
   pub may_not : (alternatives : List ℕ) → AllByRecursion (λ set. IsTrue (holds set cpath)) alternatives → may_any h alternatives ≡ Yes → ⊥

@@ -1,10 +1,16 @@
 //! What a living process's request does, where it makes no process: it is judged, and then it is done.
+//!
+//! Each request with paths has a function of its own: a compiled function clears all its variables when
+//! it begins, and what a path names takes some 280 bytes.
 
 ghost use Rattle.std.specs.Prelude.{◌≡◌, ℕ, List, IfOk, OnErr, IsFalse, false};
 ghost use Rattle.pua_policy.specs.History.{History, StandsFor};
 ghost use Rattle.pua_script.specs.Judged.{CanBeDone, decided};
 ghost use Rattle.pua_script.specs.Replay.{come_of};
+ghost use Rattle.pua_calls.specs.Calls.{CallTable as Rules};
 ghost use Rattle.pua_script.specs.Worlds.{Acts, Attempts, is_fork};
+ghost use Rattle.pua_script.specs.declared.request.Action.TheVariants.{Link, OnPath, Rename};
+ghost use Rattle.pua_script.specs.declared.request.Action.TheVariants.{Symlink, Unveil};
 
 use crate::answer::Answer;
 use crate::fault::WorldFault;
@@ -16,7 +22,7 @@ use crate::link::{grant_link, judge_link};
 use crate::process::{decide_lock, decide_pledge, refuse};
 use crate::rename::{grant_rename, judge_rename};
 use crate::request::Action;
-use pua_calls::CallTable;
+use pua_calls::{Call, CallTable, Perms};
 use pua_policy::{Process, Refusal};
 use pua_tree::FileTree;
 
@@ -36,27 +42,13 @@ pub(crate) fn act<T: FileTree>(
     tree.known();
     process.known();
     match action {
-        Action::OnPath(call, path) => {
-            let object = judge_call(tree, table, process, *call, path.bytes());
-            answer(tree, process, &grant_call(table, *call, &object))
-        }
+        Action::OnPath(call, path) => call_on(tree, table, process, *call, path.bytes()),
         Action::Symlink(target, path) => {
-            let object = judge_symlink(tree, table, process, target.bytes(), path.bytes());
-            answer(tree, process, &grant_symlink(target.bytes(), &object))
+            symlink(tree, table, process, target.bytes(), path.bytes())
         }
-        Action::Rename(old, new) => {
-            let pair = judge_rename(tree, table, process, old.bytes(), new.bytes());
-            let granted = grant_rename(tree, &pair);
-            answer(tree, process, &granted)
-        }
-        Action::Link(old, new) => {
-            let pair = judge_link(tree, table, process, old.bytes(), new.bytes());
-            answer(tree, process, &grant_link(&pair))
-        }
-        Action::Unveil(path, perms) => {
-            let veil = judge_unveil(tree, process, path.bytes(), *perms);
-            answer(tree, process, &grant_unveil(&veil))
-        }
+        Action::Rename(old, new) => rename(tree, table, process, old.bytes(), new.bytes()),
+        Action::Link(old, new) => link(tree, table, process, old.bytes(), new.bytes()),
+        Action::Unveil(path, perms) => unveil(tree, process, path.bytes(), *perms),
         Action::Pledge(promises, execpromises) => {
             answer(tree, process, &decide_pledge(promises, execpromises))
         }
@@ -67,6 +59,107 @@ pub(crate) fn act<T: FileTree>(
         Action::Exit => answer(tree, process, &Ok(Granted::Exit)),
         Action::Fork(_) => unreachable!(),
     }
+}
+
+/// Makes one of the calls on a path.
+fn call_on<T: FileTree>(
+    tree: &mut T,
+    table: &CallTable,
+    process: &mut Process,
+    call: Call,
+    path: &[u8],
+) -> Result<Answer, WorldFault>
+    requires living { process.old.ended ≡ false }
+    ensures exact { Acts table.now (T.content tree.old) process.old (OnPath call path.now)
+        result (T.content tree.new) process.new }
+    ensures unchanged { OnErr result
+        ((T.content tree.new ≡ T.content tree.old) × (process.new ≡ process.old)) }
+{
+    tree.known();
+    process.known();
+    let object = judge_call(tree, table, process, call, path);
+    answer(tree, process, &grant_call(table, call, &object))
+}
+
+/// Makes a link with this target.
+fn symlink<T: FileTree>(
+    tree: &mut T,
+    table: &CallTable,
+    process: &mut Process,
+    target: &[u8],
+    path: &[u8],
+) -> Result<Answer, WorldFault>
+    requires living { process.old.ended ≡ false }
+    ensures exact { Acts table.now (T.content tree.old) process.old (Symlink target.now path.now)
+        result (T.content tree.new) process.new }
+    ensures unchanged { OnErr result
+        ((T.content tree.new ≡ T.content tree.old) × (process.new ≡ process.old)) }
+{
+    tree.known();
+    process.known();
+    let object = judge_symlink(tree, table, process, target, path);
+    answer(tree, process, &grant_symlink(target, &object))
+}
+
+/// Renames what the old path names.
+fn rename<T: FileTree>(
+    tree: &mut T,
+    table: &CallTable,
+    process: &mut Process,
+    old: &[u8],
+    new: &[u8],
+) -> Result<Answer, WorldFault>
+    requires living { process.old.ended ≡ false }
+    ensures exact { Acts table.now (T.content tree.old) process.old (Rename old.now new.now)
+        result (T.content tree.new) process.new }
+    ensures unchanged { OnErr result
+        ((T.content tree.new ≡ T.content tree.old) × (process.new ≡ process.old)) }
+{
+    tree.known();
+    process.known();
+    let pair = judge_rename(tree, table, process, old, new);
+    let granted = grant_rename(tree, &pair);
+    answer(tree, process, &granted)
+}
+
+/// Gives what the old path names a further name.
+fn link<T: FileTree>(
+    tree: &mut T,
+    table: &CallTable,
+    process: &mut Process,
+    old: &[u8],
+    new: &[u8],
+) -> Result<Answer, WorldFault>
+    requires living { process.old.ended ≡ false }
+    ensures exact { Acts table.now (T.content tree.old) process.old (Link old.now new.now)
+        result (T.content tree.new) process.new }
+    ensures unchanged { OnErr result
+        ((T.content tree.new ≡ T.content tree.old) × (process.new ≡ process.old)) }
+{
+    tree.known();
+    process.known();
+    let pair = judge_link(tree, table, process, old, new);
+    answer(tree, process, &grant_link(&pair))
+}
+
+/// Puts a veil on what a path names.
+fn unveil<T: FileTree>(
+    tree: &mut T,
+    process: &mut Process,
+    path: &[u8],
+    perms: Option<Perms>,
+) -> Result<Answer, WorldFault>
+    requires living { process.old.ended ≡ false }
+    ensures exact { (table : Rules) →
+        Acts table (T.content tree.old) process.old (Unveil path.now perms)
+        result (T.content tree.new) process.new }
+    ensures unchanged { OnErr result
+        ((T.content tree.new ≡ T.content tree.old) × (process.new ≡ process.old)) }
+{
+    tree.known();
+    process.known();
+    let veil = judge_unveil(tree, process, path, perms);
+    answer(tree, process, &grant_unveil(&veil))
 }
 
 /// Does what was granted, or what a refusal leaves to do.

@@ -167,6 +167,8 @@ impl<T: FileTree> World<T> {
         ensures held { IfOk result (λ _. AreHeld self.old script.now self.new) }
         ensures in_part { OnErr result (AreServedInPart self.old script.now self.new) }
     {
+        // What is true of the requests together follows from what `serve_each` says of each. So it is a
+        // function of its own, as `answer` is.
         self.serve_each(alloc, script)
     }
 

@@ -9,7 +9,7 @@ use lib.Pointwise.{bytes_decides}
 use Rattle.pua_tree.specs.Names.{same_bytes}
 use Rattle.pua_tree.specs.Tree.{Tree, Node, Spot, WellFormed, spot_cmp, node_at, is_dir, is_dir_kind, is_living, look, above, climb, climb_within, rows_of}
 use Rattle.pua_tree.specs.Edits.{add, tie, cut, cut_found, is_full_dir, has_room, has_name_room, with_new, with_row, without_row, without_node, without_unnamed}
-use Rattle.pua_tree.proofs.ForCallers.{Reaches, sound_from, row_says, row_of, above_is, above_dir, climb_ends, spots_total, exact_spots, put_here, put_elsewhere, without_here, without_elsewhere, tally_counts, tally_found, past, tested, same_Some, same_Ok, none, None≢Some}
+use Rattle.pua_tree.proofs.ForCallers.{Reaches, sound_from, row_says, row_of, above_is, above_dir, climb_ends, spots_total, exact_spots, put_here, put_elsewhere, without_here, without_elsewhere, tally_counts, tally_found, past, tested, same_Some, same_Ok, none, None≢Some, is_living_dir, same_dir}
 use Rattle.pua_since.specs.Frames.{DifferAt}
 
 -- a climb to the root has all directories on the way, however many steps more it may take
@@ -79,10 +79,7 @@ differing name s t well well_then leaves = record {
         (leaves.rows row.0 (suc d) is row.1)
         ∙ sym row.2
 
--- bytes that are the same, and bytes that aren't
-same_read : (other name : List ℕ) → same_bytes other name ≡ true → other ≡ name
-same_read other name same = (bytes_decides other name).0 same
-
+-- spots with bytes that aren't the same
 other_spot : (dir to : ℕ) (other name : List ℕ) → same_bytes other name ≡ false → ◌≢◌ {A = Spot} (dir, other) (to, name)
 other_spot dir to other name differs same =
     false≢true (sym differs ∙ (bytes_decides other name).1 (ap (λ (spot : Spot). spot.1) same))
@@ -112,22 +109,12 @@ below s well y living = by (node_at s y) refl living
     by None e living = absurd (false≢true living)
     by (Some node) e living = ((sound_from s well).node y node e).0
 
-living_dir : (s : Tree) (d : ℕ) → is_dir s d ≡ true → is_living s d ≡ true
-living_dir s d is = by (node_at s d) is
-  where
-    by : (o : Option Node) → is_dir_kind (option_map (λ n. n.kind) o) ≡ true → is_some o ≡ true
-    by None is = absurd (false≢true is)
-    by (Some node) is = refl
-
 not_living : (s : Tree) → WellFormed s → is_dir s s.next ≡ false
 not_living s well = by (is_dir s s.next) refl
   where
     by : (b : Bool) → is_dir s s.next ≡ b → b ≡ false
     by false e = refl
-    by true e = absurd (let under = below s well s.next (living_dir s s.next e) in omega arith)
-
-dir_by : (s t : Tree) (d : ℕ) → node_at t d ≡ node_at s d → is_dir t d ≡ is_dir s d
-dir_by s t d same = ap (λ o. is_dir_kind (option_map (λ (n : Node). n.kind) o)) same
+    by true e = absurd (let under = below s well s.next (is_living_dir s s.next e) in omega arith)
 
 -- a new node that is no directory
 module _ (s : Tree) (well : WellFormed s) (dir : ℕ) (name : List ℕ) (node : Node) (plain : is_dir_kind (Some node.kind) ≡ false) where
@@ -144,7 +131,7 @@ module _ (s : Tree) (well : WellFormed s) (dir : ℕ) (name : List ℕ) (node : 
           ∙ ap (λ o. is_dir_kind (option_map (λ (n : Node). n.kind) o))
           (put_here nat_cmp nat_cmp_total nat_cmp-IsAntisymmetric s.next node s.nodes)
           ∙ plain ∙ sym (not_living s well) ∙ ap (is_dir s) (sym is)
-      by false differs = dir_by s (with_new s dir name node) d (new_nodes d (λ same. false≢true (sym differs ∙ eq-eqb d s.next same)))
+      by false differs = same_dir s (with_new s dir name node) d (new_nodes d (λ same. false≢true (sym differs ∙ eq-eqb d s.next same)))
 
   pub adding_differs : (x : ℕ) (after : Tree) → add s dir name node ≡ Ok (x, after) → WellFormed after → DifferAt name s after
   adding_differs x after made well_then =
@@ -221,7 +208,7 @@ module _ (s : Tree) (well : WellFormed s) (dir : ℕ) (name : List ℕ) (x : ℕ
       by true same =
           let is : d ≡ x = eqb-true d x same in
           ap (is_dir Cut) is ∙ at_node (rows_of (without_row s dir name) x == 0) ∙ sym plain ∙ ap (is_dir s) (sym is)
-      by false differs = dir_by s Cut d (nodes_left d (λ same. false≢true (sym differs ∙ eq-eqb d x same)))
+      by false differs = same_dir s Cut d (nodes_left d (λ same. false≢true (sym differs ∙ eq-eqb d x same)))
 
   cut_differs : WellFormed Cut → DifferAt name s Cut
   cut_differs well_then = differing name s Cut well well_then record {

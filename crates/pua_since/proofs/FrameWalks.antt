@@ -1,6 +1,6 @@
 -- A path that follows no link goes the same way in a tree that differs in rows of another name.
 use Rattle.std.proofs.Common.{◌≡◌, ◌≤◌, ℕ, zero, suc, List, [], ◌∷◌, ◌++◌, map, Bool, true, false, Option, Some, None, option_map, Result, Ok, Err, refl, sym, ap, subst, ◌∙◌, arith}
-use Rattle.std.specs.Prelude.{if◌then◌else◌, ◌&&◌, ◌||◌, not}
+use Rattle.std.specs.Prelude.{if◌then◌else◌, ◌&&◌, not}
 use Rattle.std.specs.List.{list_any}
 use Rattle.pua_tree.specs.Names.{same_bytes, components}
 use Rattle.pua_tree.specs.Tree.{Tree, Node, Spot, WellFormed, is_dir, is_dir_kind, look, node_at, above, climb}
@@ -29,10 +29,7 @@ use Rattle.pua_policy.specs.Laws.{places_over}
 use Rattle.pua_policy.specs.Verdict.{object_of, object_of_kind}
 use Rattle.pua_policy.specs.declared.place.Place.TheVariants as place
 use Rattle.pua_since.specs.Frames.{DifferAt, PathFollowsNone, has_part}
-
-pub neither : (a b : Bool) → (a || b) ≡ false → (a ≡ false) × (b ≡ false)
-neither false b e = (refl, e)
-neither true b e = cc
+use Rattle.std.proofs.lemmas.Bool.{or_parts}
 
 -- none of the names in parts is this one
 abbrev pub NamesNot : List ℕ → List Part → Type 0
@@ -54,7 +51,7 @@ module _ (name : List ℕ) where
       NamesNot name rest → NamesNot name (map part_of pieces ++ rest)
   pieces_other [] rest none more = more
   pieces_other (piece ∷ pieces) rest none more =
-      let both = neither (same_bytes piece name) (list_any (λ piece. same_bytes piece name) pieces) none in
+      let both = or_parts (same_bytes piece name) (list_any (λ piece. same_bytes piece name) pieces) none in
       part_other piece (map part_of pieces ++ rest) both.0 (pieces_other pieces rest both.1 more)
 
   ending_other : (end : Ending) (pieces : List (List ℕ)) (slash : Bool) → NamesNot name (ending_parts end pieces slash)

@@ -27,7 +27,8 @@ use Rattle.pua_script.specs.declared.request.Action.TheVariants.{OnPath, Symlink
 use Rattle.pua_why.specs.Reasons.{Fault, BadTarget, Unfit, IsLocked, Ended, unpromised, told_path, uncovered, faults, reasoned, reason_of}
 use Rattle.pua_why.specs.Checked.{process_fault, checks_fault, checked_by}
 use Rattle.pua_since.specs.Frames.{DifferAt, PathFollowsNone, ActionFollowsNone, FollowsNone, has_part, names_part, is_removal, looks_further, IsSpared, IsUntouched, RowsSpare}
-use Rattle.pua_since.proofs.FrameWalks.{IsAlike, NamesAlike, IsKept, path_kept, neither}
+use Rattle.pua_since.proofs.FrameWalks.{IsAlike, NamesAlike, IsKept, path_kept}
+use Rattle.std.proofs.lemmas.Bool.{or_parts}
 
 -- how a path of a process goes
 abbrev went : Tree → History → Ending → List ℕ → Last → PathTrace
@@ -120,7 +121,7 @@ module _ (name : List ℕ) (s t : Tree) (fits : WellFormed s) (differ : DifferAt
       (path_keeps (ending_of call.Symlink) path (last_of call.Symlink) other none))
   reasoned_same (Rename old new) none near other = cc
   reasoned_same (Link old new) none near other =
-      let both = neither (has_part name old) (has_part name new) other in
+      let both = or_parts (has_part name old) (has_part name new) other in
       ap (λ d. unless_refused (unpromised (promising h table.link.old.needs.alternatives))
       (unless_refused (unpromised (promising h table.link.new.needs.alternatives)) d))
       (pair_same s t h table.link ending.Dot old new (λ a b. link_by faults a b (node_named a))
@@ -140,7 +141,7 @@ module _ (name : List ℕ) (s t : Tree) (fits : WellFormed s) (differ : DifferAt
   action_follows_none (Symlink target path) none near other = follows_none (ending_of call.Symlink) path (last_of call.Symlink) other none
   action_follows_none (Rename old new) none near other = cc
   action_follows_none (Link old new) none near other =
-      let both = neither (has_part name old) (has_part name new) other in
+      let both = or_parts (has_part name old) (has_part name new) other in
       (follows_none ending.Dot old table.link.old.last both.0 none.0, follows_none ending.Dot new table.link.new.last both.1 none.1)
   action_follows_none (Pledge promises execpromises) none near other = tt
   action_follows_none (Unveil path perms) none near other = follows_none ending.Dot path Followed other none

@@ -22,8 +22,8 @@ use Rattle.pua_since.specs.declared.watch.Watch.{Watch}
 use Rattle.pua_since.specs.declared.watches.Fork.{Fork as Made}
 use Rattle.pua_since.specs.declared.watches.Watches.{Watches}
 use Rattle.pua_since.proofs.Forks.{forebears_tell}
-use Rattle.pua_since.proofs.Sincing.{one_more}
 use Rattle.pua_since.proofs.Watching.{begun, came_itself, handed_on, not_forked, stays_handed, stays_watched}
+use Rattle.pua_script.proofs.ForCallers.{one_request_more}
 
 no_fork : (ask : Asked) (answer : Answer) (more : List (ℕ × ℕ)) → has_forked ask.action answer ≡ false → fork_told ask answer more ≡ more
 no_fork ask (Failed errno) more e = refl
@@ -126,7 +126,7 @@ module _ (table : CallTable) (w : World) (done : List Asked) (ask : Asked) (left
       let alone = not_forked ask.action (apply table Before ask).0 none in
       record {
         forks = watched.forks ∙ no_fork ask (apply table Before ask).0 Later alone
-            ∙ ap (λ v. forks_done left (answers table v left)) (sym (one_more table w done ask));
+            ∙ ap (λ v. forks_done left (answers table v left)) (sym (one_request_more table w done ask));
         each = All-weaker (IsWatched table w done (ask ∷ left)) (IsWatched table w (done ++ ask ∷ []) left)
             (λ watch. stays_watched table w done ask left watch same (λ process. came_itself table Before ask process alone))
             s.watches.items watched.each;

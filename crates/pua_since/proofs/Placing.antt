@@ -1,5 +1,5 @@
 -- The places of the questions of requests, one request after another.
-use Rattle.std.proofs.Common.{◌≡◌, ◌≤◌, ◌+◌, ℕ, suc, List, [], ◌∷◌, Bool, true, false, length, take, refl, sym, ap, subst, ◌∙◌, arith, add-one, Result, Ok, Err, inl, inr}
+use Rattle.std.proofs.Common.{◌≡◌, ◌≤◌, ◌+◌, ℕ, suc, List, [], ◌∷◌, Bool, true, false, length, take, refl, sym, ap, subst, ◌∙◌, add-one, Result, Ok, Err, inl, inr}
 use Rattle.std.specs.Prelude.{◌⊎◌, if◌then◌else◌, nat_lt}
 use Rattle.std.specs.Str.Lines.{lines}
 use Rattle.std.proofs.lemmas.List.{take_all}
@@ -82,11 +82,6 @@ places_kept old new kept n (ask ∷ asks) (Gone ∷ told) [] at = at
 places_kept old new kept n (ask ∷ asks) (Failed errno ∷ told) (place ∷ places) at = (request_kept old new place ask n kept at.0, places_kept old new kept (suc n) asks told places at.1)
 places_kept old new kept n (ask ∷ asks) (Killed ∷ told) (place ∷ places) at = (request_kept old new place ask n kept at.0, places_kept old new kept (suc n) asks told places at.1)
 places_kept old new kept n (ask ∷ asks) (Gone ∷ told) (place ∷ places) at = (request_kept old new place ask n kept at.0, places_kept old new kept (suc n) asks told places at.1)
-
--- what has no length is empty
-pub empty_of : {A : Type 0} (xs : List A) → length xs ≡ 0 → xs ≡ []
-empty_of [] e = refl
-empty_of (x ∷ xs) e = absurd (omega arith)
 
 pub none_read : (n : ℕ) (requests : List Asked) → requests_of n [] ≡ Ok requests → requests ≡ []
 none_read n requests e = cc

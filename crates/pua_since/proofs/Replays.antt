@@ -12,8 +12,8 @@ use Rattle.pua_script.specs.Worlds.{WorldState, StandsForWorld}
 use Rattle.pua_script.specs.declared.answer.Answer.{Answer}
 use Rattle.pua_since.specs.Watched.{AreWatched, IsKeptThrough}
 use Rattle.pua_since.specs.declared.watches.Watches.{Watches}
-use Rattle.pua_since.proofs.Topics.{kept_on}
-use Rattle.pua_since.proofs.Sincing.{one_more}
+use Rattle.pua_since.proofs.Keeping.{kept_twice}
+use Rattle.pua_script.proofs.ForCallers.{one_request_more}
 
 -- where this turn's request and answer stand
 pub one_turn : (asks : List Asked) (told : List Answer) (n index : ℕ) (ask : Asked) (answer : Answer) →
@@ -90,13 +90,13 @@ module _ (s : WorldState) (start : Watches) (asks : List Asked) (told : List Ans
       ∙ ap (λ x. take n asks ++ x ∷ []) (sym turn.3) in
       let left : drop n asks ≡ ask ∷ drop (n + 1) asks = drop-cons asks n ask turn.0 ∙ (λ i. sym turn.3 i ∷ drop (count i) asks) in
       record {
-        kept = kept_on start.watches.items watches.watches.items later.watches.items so_far.kept kept;
+        kept = kept_twice start.watches.items watches.watches.items later.watches.items so_far.kept kept;
         world = λ w stands is.
             let was = so_far.world w stands is in
             let moved : Moves now ask after s.table = subst (Moves now ask after) was.1 moving in
             let v : World = world_after s.table w (take n asks) in
             let next = moved v was.0 in
-            (subst (StandsForWorld after) (sym (ap (world_after s.table w) taken ∙ one_more s.table w (take n asks) ask)) next.0, next.1);
+            (subst (StandsForWorld after) (sym (ap (world_after s.table w) taken ∙ one_request_more s.table w (take n asks) ask)) next.0, next.1);
         watched = λ w stands is watched.
             let was = so_far.world w stands is in
             let asked : Asks now watches ask answer (index + 1) later s.table =

@@ -12,9 +12,10 @@ use Rattle.pua_since.specs.Watched.{AreHanded, AreWatched, forks_done, made_by, 
 use Rattle.pua_since.specs.declared.touched.Touched.{Touched}
 use Rattle.pua_since.specs.declared.watch.Watch.{Watch}
 use Rattle.pua_since.specs.declared.watches.Watches.{Watches}
-use Rattle.pua_since.proofs.Topics.{kept_on, kept_by_set}
-use Rattle.pua_since.proofs.Sincing.{one_more}
+use Rattle.pua_since.proofs.Topics.{kept_by_set}
 use Rattle.pua_since.proofs.Watching.{asked_or_spared}
+use Rattle.pua_since.proofs.Keeping.{kept_twice}
+use Rattle.pua_script.proofs.ForCallers.{one_request_more}
 
 -- the first n were asked again where that may concern them, and the others not yet
 pub record AreAsked (s : WorldState) (touched : Touched) (line n : ℕ) (start : Watches) (watches : List Watch) : Type 0 where
@@ -37,7 +38,7 @@ module _ (s : WorldState) (touched : Touched) (line n : ℕ) (start : Watches) (
     (within : n < length watches)
     (old new : Watch) (here : old ≡ get_or watches n old) (same : IsSameTopic old new) where
   pub kept_more : IsKeptThrough start.watches.items (set watches n new)
-  kept_more = kept_on start.watches.items watches (set watches n new) so_far.kept
+  kept_more = kept_twice start.watches.items watches (set watches n new) so_far.kept
       (kept_by_set watches n old new (slice_get_read watches (length watches) n old refl within here) same)
 
   pub one_asked : ((w : World) → StandsForWorld s w → IsAskedOnce s.table w touched line old new) →
@@ -68,7 +69,7 @@ all_asked s touched line n start after watches forks is asked all w done ask lef
     let now = asked.each w done ask left stands only number handed in
     record {
       forks = ap (λ made. made_by made.items) forks ∙ handed.forks
-          ∙ ap (λ v. forks_done left (answers s.table v left)) (sym (one_more s.table w done ask));
+          ∙ ap (λ v. forks_done left (answers s.table v left)) (sym (one_request_more s.table w done ask));
       each = All-same (IsWatched s.table w (done ++ ask ∷ []) left) after.watches.items watches is
           (λ k d within. now.0 k d (omega arith) (omega (arith, within, all)));
     }

@@ -6,12 +6,6 @@ use Rattle.pua_script.specs.Requests.{Asked}
 use Rattle.pua_script.specs.Replay.{World, apply, world_after}
 use Rattle.pua_why.specs.Since.{Test, came_from, forebear, later_or, since}
 
--- one request more
-pub one_more : (table : CallTable) (w : World) (done : List Asked) (ask : Asked) →
-    world_after table w (done ++ ask ∷ []) ≡ (apply table (world_after table w done) ask).1
-one_more table w [] ask = refl
-one_more table w (first ∷ done) ask = one_more table (apply table w first).1 done ask
-
 pub forebear_more : (table : CallTable) (w : World) (done : List Asked) (ask : Asked) (process : ℕ) →
     forebear table w (done ++ ask ∷ []) process ≡ forebear table w done (came_from table (world_after table w done) ask process)
 forebear_more table w [] ask process = refl

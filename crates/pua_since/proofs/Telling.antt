@@ -19,6 +19,7 @@ use Rattle.pua_since.proofs.Answered.{okay_is_granted}
 use Rattle.pua_since.proofs.Keeping.{kept_all, kept_twice}
 use Rattle.pua_since.proofs.Placing.{places_kept}
 use Rattle.pua_since.proofs.Veiled.{request_at}
+use Rattle.pua_script.proofs.ForCallers.{one_request_more}
 
 -- since when the next request has its reason
 next_date : (table : CallTable) (w : World) (past left : List Asked) (s : Watches) → AreWatched table w past left s → (ask : Asked) (more : List Asked) (answer : Answer) (told : List Answer) (places : List ℕ) → answer ≡ (apply table (world_after table w past) ask).0
@@ -43,10 +44,6 @@ next_places watches n ask more Gone told [] at = absurd at
 next_places watches n ask more (Failed errno) told (place ∷ places) at = at.1
 next_places watches n ask more Killed told (place ∷ places) at = at.1
 next_places watches n ask more Gone told (place ∷ places) at = at.1
-
-world_next : (table : CallTable) (w : World) (past : List Asked) (ask : Asked) → world_after table w (past ++ ask ∷ []) ≡ (apply table (world_after table w past) ask).1
-world_next table w [] ask = refl
-world_next table w (first ∷ past) ask = world_next table (apply table w first).1 past ask
 
 -- some requests were served and told of, and others are still to be
 pub record IsTold (before : WorldState) (kept_before : Watches) (requests : List Asked) (told : List Answer) (places : List ℕ) (now : WorldState) (kept_now : Watches) (left : List Asked) (told_left : List Answer) (left_places : List ℕ) (n : ℕ) (text : List ℕ) : Type 0 where
@@ -103,12 +100,12 @@ module _ (before : WorldState) (kept_before : Watches) (requests : List Asked) (
     later_answers : told_more ≡ answers before.table (world_after before.table w behind) more
     later_answers =
         let both : told_more ≡ answers before.table (apply before.table reached ask).1 more = let all = (so.world w stands answered).2 in cc in
-        both ∙ ap (λ v. answers before.table v more) (sym (world_next before.table w so.past ask))
+        both ∙ ap (λ v. answers before.table v more) (sym (one_request_more before.table w so.past ask))
 
     turn_world : StandsForWorld next (world_after before.table w behind) × (next.table ≡ before.table) × (told_more ≡ answers before.table (world_after before.table w behind) more)
     turn_world =
         let after = turn.world reached (so.world w stands answered).0 in (
-          subst (StandsForWorld next) ((λ i. (apply (same i) reached ask).1) ∙ sym (world_next before.table w so.past ask)) after.0,
+          subst (StandsForWorld next) ((λ i. (apply (same i) reached ask).1) ∙ sym (one_request_more before.table w so.past ask)) after.0,
           after.1 ∙ same,
           later_answers,
         )

@@ -4,13 +4,7 @@ use Rattle.std.specs.Prelude.{slice_get, slice_set, if◌then◌else◌}
 use Rattle.pua_since.specs.declared.watch.Question.{Question}
 use Rattle.pua_since.specs.declared.watch.Watch.{Watch}
 use Rattle.pua_since.specs.Watched.{IsSameTopic, IsTopicAt, IsKeptThrough}
-
-pub kept_same : (watches : List Watch) → IsKeptThrough watches watches
-kept_same watches place process question lines topic = topic
-
-pub kept_on : (first second third : List Watch) → IsKeptThrough first second → IsKeptThrough second third → IsKeptThrough first third
-kept_on first second third one two place process question lines topic =
-    two place process question lines (one place process question lines topic)
+use Rattle.pua_since.proofs.Keeping.{kept_all}
 
 module _ (watch : Watch) (watches : List Watch) (place process : ℕ) (question : Question) (lines : ℕ) where
   -- one place further
@@ -103,4 +97,4 @@ kept_by_try b watches more after is = subst (IsKeptThrough watches) (sym is) (by
   where
     by : (b : Bool) → IsKeptThrough watches (if b then watches ++ more ∷ [] else watches)
     by true = kept_by_push watches more
-    by false = kept_same watches
+    by false = kept_all watches

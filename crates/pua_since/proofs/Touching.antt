@@ -39,8 +39,9 @@ use Rattle.pua_since.specs.Concerns.{ChangesOnly, ChangesProcess, TouchesOnly, a
 use Rattle.pua_since.specs.declared.touched.Touched.{Touched}
 use Rattle.pua_since.specs.declared.touched.Touched.TheVariants.{Nothing, Row, Process, Anything}
 use Rattle.pua_since.proofs.Differing.{adding_differs, cutting_differs, tying_differs}
-use Rattle.pua_since.proofs.Unchanged.{put_there, ordered}
+use Rattle.pua_since.proofs.Unchanged.{put_there}
 use Rattle.pua_since.proofs.Watching.{came_itself}
+use Rattle.std.specs.Bool.{passes}
 
 -- a tree doesn't differ from itself
 same_trees : (name : List ℕ) (t : Tree) → DifferAt name t t
@@ -73,7 +74,7 @@ module _ (table : CallTable) (w : World) (process : ℕ) (sorted : IsTrue (is_so
     tree = refl;
     others = λ other differs. elsewhere other (λ same. false≢true (sym differs ∙ eq-eqb other process same));
     there = λ other. by other (other == process) refl;
-    count = length-put nat_cmp nat_cmp_total process after w.histories (ordered _ sorted)
+    count = length-put nat_cmp nat_cmp_total process after w.histories (passes _ sorted)
         ∙ ap (λ (o : Option History). cond (is_some o) (length w.histories) (length w.histories + 1)) here;
   }
     where

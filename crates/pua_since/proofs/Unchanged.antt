@@ -1,5 +1,5 @@
 -- A request that can't have changed a world leaves it as it is.
-use Rattle.std.proofs.Common.{◌≡◌, ℕ, List, Bool, true, false, cond, Some, Ok, refl, sym, ap, subst, ◌∙◌}
+use Rattle.std.proofs.Common.{◌≡◌, ℕ, List, false, cond, Some, Ok, refl, sym, ap, ◌∙◌}
 use Rattle.std.specs.Prelude.{IsTrue, T}
 use Rattle.std.specs.declared.cmp.Ordering.{Ordering}
 use Rattle.std.specs.declared.cmp.Ordering.TheVariants.{Less, Equal, Greater}
@@ -22,15 +22,13 @@ use Rattle.pua_script.specs.declared.request.Action.{Action}
 use Rattle.pua_script.specs.declared.request.Action.TheVariants.{OnPath, Symlink, Rename, Link, Pledge, Unveil, Lock, Fork, Exit}
 use Rattle.pua_script.proofs.ForCallers.{by_request, by_decision, decisions_are_guarded}
 use Rattle.pua_since.specs.Changes.{call_changes, action_changes, has_changed, LeavesAsIs}
-
-pub ordered : (b : Bool) → b ≡ true → T b
-ordered b e = subst T (sym e) tt
+use Rattle.std.specs.Bool.{passes}
 
 -- putting what is there
 pub put_there : (process : ℕ) (h : History) (made : List (ℕ × History)) → IsTrue (is_sorted nat_cmp made) →
     find_key nat_cmp process made ≡ Some h → put nat_cmp process h made ≡ made
 put_there process h made sorted here =
-    let in_order : T (is_sorted nat_cmp made) = ordered _ sorted in
+    let in_order : T (is_sorted nat_cmp made) = passes _ sorted in
     same_entries nat_cmp nat_cmp_total nat_cmp-IsAntisymmetric (put nat_cmp process h made) made
     (is_sorted-put nat_cmp nat_cmp_total process h made in_order) in_order
     (λ q. find-put nat_cmp nat_cmp_total q process h made ∙ by q (nat_cmp q process) refl)

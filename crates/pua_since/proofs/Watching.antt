@@ -24,14 +24,11 @@ use Rattle.pua_since.specs.declared.watch.Question.TheVariants as asks
 use Rattle.pua_since.specs.declared.watch.Told.{Told}
 use Rattle.pua_since.specs.declared.watch.Told.TheVariants as tells
 use Rattle.pua_since.specs.declared.watch.Watch.{Watch}
-use Rattle.pua_since.proofs.Sincing.{one_more, turns, turned_or, since_more}
+use Rattle.pua_since.proofs.Sincing.{turns, turned_or, since_more}
 use Rattle.pua_since.proofs.Forks.{forebears_tell}
 use Rattle.pua_since.proofs.Sparing.{IsSparedIn, is_bounded_by, spared}
-
-both_ways : (a b : Bool) → (a ≡ true → b ≡ true) → (b ≡ true → a ≡ true) → a ≡ b
-both_ways true b there back = sym (there refl)
-both_ways false true there back = back refl
-both_ways false false there back = refl
+use Rattle.std.specs.Cmp.{both_ways}
+use Rattle.pua_script.proofs.ForCallers.{one_request_more}
 
 option_same : (a b : Option ℕ) → option_eq ◌==◌ a b ≡ true → a ≡ b
 option_same None None e = refl
@@ -116,7 +113,7 @@ module _ (table : CallTable) (w : World) (done : List Asked) (ask : Asked) (left
   Next = (apply table (world_after table w done) ask).1
 
   behind_is : world_after table w (done ++ ask ∷ []) ≡ Next
-  behind_is = one_more table w done ask
+  behind_is = one_request_more table w done ask
 
   wanted_there : (last : ℕ) → length (done ++ ask ∷ []) ≤ last → length done + 1 ≤ last
   wanted_there last wanted = omega (arith, wanted, length-append done (ask ∷ []))

@@ -1,5 +1,5 @@
 -- The table of steps and that of live states: steps stay among its directories, and what is not live has no pair.
-use Rattle.std.proofs.Common.{ℕ, suc, ◌+◌, ◌-◌, ◌*◌, ◌<◌, ◌≤◌, ◌≡◌, List, [], ◌∷◌, ◌++◌, Some, true, false, cond, ◌==◌, nat_lt, refl, arith, length, map, get_or, suc-mul, mul-le-mul_right}
+use Rattle.std.proofs.Common.{ℕ, suc, ◌+◌, ◌-◌, ◌*◌, ◌<◌, ◌≤◌, ◌≡◌, List, [], ◌∷◌, Some, true, false, cond, ◌==◌, nat_lt, refl, arith, length, map, get_or, suc-mul, mul-le-mul_right}
 use Rattle.std.specs.Prelude.{IfSome}
 use Rattle.std.specs.List.{range_with_len, AllByRecursion}
 use Rattle.pua_steps.specs.Graph.{Pair, below, some_pair}
@@ -11,10 +11,7 @@ use Rattle.pua_steps.specs.declared.steps.Entry.{Entry}
 use Rattle.pua_steps.specs.declared.steps.Steps.{Steps}
 use Rattle.pua_steps.specs.declared.live.Live as table
 use Rattle.pua_steps.proofs.Visits.{visit_is}
-
-pub all_append : {A : Type 0} (P : A → Type 0) (xs ys : List A) → AllByRecursion P xs → AllByRecursion P ys → AllByRecursion P (xs ++ ys)
-all_append P [] ys a b = b
-all_append P (x ∷ xs) ys a b = (a.0, all_append P xs ys a.1 b)
+use Rattle.pua_steps.proofs.Base.{all_joined}
 
 module _ (t : Steps) where
   abbrev pub Stays : Visit → Type 0
@@ -32,7 +29,7 @@ module _ (t : Steps) where
   unfolding visits_from
   visits_stay letters m u next [] low all = gaps_stay m next (letters - next)
   visits_stay letters m u next (e ∷ es) low all =
-      all_append Stays (gap m next (e.letter - next)) (visit_of u e ∷ visits_from letters m u (suc e.letter) es) (gaps_stay m next (e.letter - next))
+      all_joined Stays (gap m next (e.letter - next)) (visit_of u e ∷ visits_from letters m u (suc e.letter) es) (gaps_stay m next (e.letter - next))
       ((visit_is t u e all.0 low).behind, visits_stay letters m u (suc e.letter) es low all.1)
 
   pub states_stay : IsTable t → (l : ℕ) (s : State) → IsState t s → AllByRecursion Stays (graph_of t l s)

@@ -11,7 +11,7 @@ use Rattle.pua_steps.specs.declared.steps.Steps.{Steps}
 use Rattle.pua_steps.specs.declared.live.Live as table
 use Rattle.pua_steps.specs.declared.lists.Lists.{Lists}
 use Rattle.pua_steps.specs.declared.walk.Walk.{Walk}
-use Rattle.pua_steps.proofs.Turning.{all_pushed}
+use Rattle.pua_steps.proofs.Base.{all_pushed}
 
 pub entered_ready : (t : Steps) (v : table.Live) (ls : Lists) (limit : ℕ) (word : List ℕ) (front : List Frame) (f : Frame) (letter : ℕ) (b : Walk) → IsTable t → IsSized t v limit → IsListed t v limit ls → AreOpen t ls front → IsOpen t ls f → b.calls < 2 ^ 14
     → IfSome b.behind (λ s. IsState t s × (live_of v (limit - length word - 1) s ≡ true)) → length front ≡ length word → length word < limit

@@ -17,6 +17,7 @@ use Rattle.pua_steps.specs.declared.steps.Entry.{Entry}
 use Rattle.pua_steps.specs.declared.steps.Steps.{Steps}
 use Rattle.pua_steps.specs.declared.live.Live as table
 use Rattle.pua_steps.proofs.Visits.{from_gap, from_entry, from_end}
+use Rattle.std.proofs.Math.Bool.{or-false}
 
 some_append : (ps qs : List Pair) → some_pair (ps ++ qs) ≡ (some_pair ps || some_pair qs)
 some_append [] qs = refl
@@ -93,14 +94,6 @@ module _ (g : Graph) where
       some_append (alone (calls_of v.calls)) (below g l v.behind) ∙ ap (λ x. x || some_pair (below g l v.behind)) (some_of v.calls fits) ∙ ap (λ x. not (v.calls == 0) || x) behind
 
   module _ (bounds : List ℕ) (dirs l : ℕ) (cells : (d : ℕ) → d < dirs → IsBound g l d (get_or bounds (l * dirs + d) 0)) where
-    or_true : (b : Bool) → (b || true) ≡ true
-    or_true true = refl
-    or_true false = refl
-
-    or_false : (b : Bool) → (b || false) ≡ b
-    or_false true = refl
-    or_false false = refl
-
     -- with few links: the calls where the letter's links are followed, or the state after
     near : (u : ℕ) (e : Entry) → e.all < 2 ^ 14 → (e.all ≡ 0 → e.kept ≡ 0) → IfSome e.to (λ d. d < dirs) → e.links ≤ 32 → u ≤ 32 → u + e.links ≤ 32
         → (not (e.all == 0) || some_pair (below g l (option_map (λ to. record { dir = to; used = u + e.links }) e.to))) ≡ nat_lt u (bound_of bounds dirs l e)
@@ -152,7 +145,7 @@ module _ (g : Graph) where
               rw short (gives_by l (record { letter = e.letter; calls = e.all; behind = option_map (λ to. record { dir = to; used = u + e.links }) e.to }) _ is.all refl ∙ near u e is.all is.more to is.links low under)
           | inl over ↦
               let long : nat_le (u + e.links) 32 ≡ false = lt-leb (u + e.links) 32 over in
-              rw long (gives_by l (record { letter = e.letter; calls = e.kept; behind = None }) false is.kept (ap some_pair (below_none l)) ∙ or_false (not (e.kept == 0)) ∙ far u e to is.links low over)
+              rw long (gives_by l (record { letter = e.letter; calls = e.kept; behind = None }) false is.kept (ap some_pair (below_none l)) ∙ or-false (not (e.kept == 0)) ∙ far u e to is.links low over)
         ]
 
     pub bound_within : (e : Entry) → IfSome e.to (λ d. d < dirs) → bound_of bounds dirs l e ≤ 33

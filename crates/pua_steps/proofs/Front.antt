@@ -1,19 +1,10 @@
 -- The letters at the front of a word that stay.
-use Rattle.std.proofs.Common.{ℕ, zero, suc, ◌≤◌, ◌≡◌, List, [], ◌∷◌, ◌++◌, refl, ap, arith, sym, ◌∙◌, length, length-append, append_assoc, take, Option}
+use Rattle.std.proofs.Common.{ℕ, ◌≤◌, ◌≡◌, List, [], ◌∷◌, ◌++◌, refl, ap, arith, sym, ◌∙◌, length, length-append, append_assoc, take, Option}
 use Rattle.std.specs.Prelude.{option_to_list}
-use Rattle.std.proofs.lemmas.List.{take-append-le}
+use Rattle.std.proofs.lemmas.List.{take-append-le, take-take}
 use Rattle.pua_steps.specs.Lists.{IsLonger}
 use Rattle.pua_steps.specs.Ready.{StaysFront}
 use Rattle.pua_steps.proofs.Listing.{longer_length}
-
-take_fewer : {A : Type 0} (m n : ℕ) (xs : List A) → m ≤ n → take m (take n xs) ≡ take m xs
-take_fewer zero zero [] h = refl
-take_fewer zero zero (x ∷ xs) h = refl
-take_fewer zero (suc n) [] h = refl
-take_fewer zero (suc n) (x ∷ xs) h = refl
-take_fewer (suc m) zero xs h = absurd (omega (arith, h))
-take_fewer (suc m) (suc n) [] h = refl
-take_fewer (suc m) (suc n) (x ∷ xs) h = ap (λ ys. x ∷ ys) (take_fewer m n xs (omega (arith, h)))
 
 pub front_none : (n : ℕ) (word : List ℕ) → n ≤ length word → StaysFront n word n word
 front_none n word h = record { less = omega arith; front = record { before = h; after = h; same = refl } }
@@ -24,7 +15,7 @@ front_more k m n a b c first more = record {
   front = record {
     before = omega (arith, more.less, first.front.before);
     after = more.front.after;
-    same = more.front.same ∙ sym (take_fewer n m b more.less) ∙ ap (take n) first.front.same ∙ take_fewer n m a more.less;
+    same = more.front.same ∙ sym (take-take n m b more.less) ∙ ap (take n) first.front.same ∙ take-take n m a more.less;
   };
 }
 

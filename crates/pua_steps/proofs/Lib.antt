@@ -1,3 +1,4 @@
+pub mod Base
 pub mod Moved
 pub mod Moves
 pub mod Turns

@@ -15,6 +15,7 @@ use Rattle.pua_steps.specs.declared.live.Live as table
 use Rattle.pua_steps.specs.declared.lists.Span.{Span}
 use Rattle.pua_steps.specs.declared.lists.Lists.{Lists}
 use Rattle.pua_steps.proofs.Filling.{at_end}
+use Rattle.pua_steps.proofs.Base.{all_filtered}
 
 -- lists that go on from others
 
@@ -50,10 +51,6 @@ list_last es fs list e = record {
   same = ap (drop (length es)) (take_all fs ∙ e) ∙ drop-append_seam es list;
 }
 
-pub all_kept : {A : Type 0} (P : A → Type 0) (p : A → Bool) (xs : List A) → AllByRecursion P xs → AllByRecursion P (filter p xs)
-all_kept P p [] all = tt
-all_kept P p (x ∷ xs) all = elim (p x) as (λ b. AllByRecursion P (cond b (x ∷ filter p xs) (filter p xs))) [ true ↦ (all.0, all_kept P p xs all.1) | false ↦ all_kept P p xs all.1 ]
-
 later : (next more : ℕ) (es : List Entry) → next ≤ more → Rising more es → Rising next es
 later next more [] h rises = tt
 later next more (e ∷ es) h rises = (omega (arith, h, rises.0), rises.1)
@@ -68,25 +65,13 @@ rising_kept p next (e ∷ es) rises =
 
 pub list_known : (t : Steps) (v : table.Live) (l d : ℕ) → IsTable t → d < length t.rows.items → AllByRecursion (λ e. IsEntry t e) (list_of t v l d)
 unfolding list_of
-list_known t v l d known h = all_kept (λ e. IsEntry t e) (is_useful (missing_at t d) v.bounds.items v.dirs l) (entries_at t d) (known d h).entries
+list_known t v l d known h = all_filtered (λ e. IsEntry t e) (is_useful (missing_at t d) v.bounds.items v.dirs l) (entries_at t d) (known d h).entries
 
 pub list_rises : (t : Steps) (v : table.Live) (l d : ℕ) → IsTable t → d < length t.rows.items → Rising 0 (list_of t v l d)
 unfolding list_of
 list_rises t v l d known h = rising_kept (is_useful (missing_at t d) v.bounds.items v.dirs l) 0 (entries_at t d) (known d h).rises
 
--- one entry more of a list
-
-pub one_more : (p : Entry → Bool) (before now rest es : List Entry) (e : Entry) → now ≡ cond (p e) (before ++ e ∷ []) before → es ≡ e ∷ rest → now ++ filter p rest ≡ before ++ filter p es
-one_more p before now rest es e added split =
-    ap (λ xs. xs ++ filter p rest) added
-    ∙ elim (p e) as (λ b. cond b (before ++ e ∷ []) before ++ filter p rest ≡ before ++ cond b (e ∷ filter p rest) (filter p rest)) [ true ↦ append_assoc before (e ∷ []) (filter p rest) | false ↦ refl ]
-    ∙ ap (λ xs. before ++ filter p xs) (sym split)
-
-pub no_more : (p : Entry → Bool) (before all rest : List Entry) → rest ≡ [] → before ++ filter p rest ≡ all → before ≡ all
-no_more p before all rest none so_far = sym (append-nil before) ∙ ap (λ xs. before ++ filter p xs) (sym none) ∙ so_far
-
 -- layers with the same bounds have the same lists
-
 abbrev left_behind : List ℕ → ℕ → ℕ → ℕ → Option ℕ → ℕ
 left_behind bounds dirs l links None = 0
 left_behind bounds dirs l links (Some d) = get_or bounds (l * dirs + d) 0 - links

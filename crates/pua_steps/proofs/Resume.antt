@@ -1,7 +1,7 @@
 -- What comes after a pair, step by step along its word.
 use Rattle.std.proofs.Common.{ℕ, zero, suc, ◌+◌, ◌-◌, ◌<◌, ◌≤◌, ◌≡◌, List, [], ◌∷◌, ◌++◌, Option, Some, None, Bool, true, false, cond, nat_lt, ◌==◌, refl, ap, arith, sym, ◌∙◌, length, filter, append_assoc, append-nil, length-append, map, get_or}
 use Rattle.std.proofs.lemmas.List.{map-append}
-use Rattle.std.proofs.lemmas.List.Elements.{filter-append}
+use Rattle.std.proofs.lemmas.List.Elements.{filter-append, filter_agree}
 use Rattle.std.proofs.lemmas.Grind.{flat_map-append}
 use Rattle.std.proofs.lemmas.Cmp.{tied_itself, nat_cmp_total}
 use Rattle.std.specs.Cmp.{nat_cmp_is}
@@ -22,6 +22,7 @@ use Rattle.pua_steps.proofs.Turns.{nothing_pending}
 use Rattle.pua_steps.proofs.Sets.{no_calls}
 use Rattle.pua_steps.proofs.Filling.{below_none, below_some}
 use Rattle.pua_steps.proofs.Lines.{Prunes, pairs-append, pairs-under, pairs-with_calls, pairs-deeper, pairs-branches}
+use Rattle.pua_steps.proofs.Base.{filter-none}
 
 -- lists
 
@@ -30,17 +31,9 @@ all_index P [] all i h = absurd (omega (arith, h))
 all_index P (x ∷ xs) all zero h = all.0
 all_index P (x ∷ xs) all (suc i) h = all_index P xs all.1 i (omega (arith, h))
 
-filter-cong : {A : Type 0} (f g : A → Bool) → ((x : A) → f x ≡ g x) → (xs : List A) → filter f xs ≡ filter g xs
-filter-cong f g same [] = refl
-filter-cong f g same (x ∷ xs) = ap (λ b. cond b (x ∷ filter f xs) (filter f xs)) (same x) ∙ ap (λ ys. cond (g x) (x ∷ ys) ys) (filter-cong f g same xs)
-
 filter-all : {A : Type 0} (xs : List A) → filter (λ _. true) xs ≡ xs
 filter-all [] = refl
 filter-all (x ∷ xs) = ap (λ ys. x ∷ ys) (filter-all xs)
-
-filter-none : {A : Type 0} (xs : List A) → filter (λ _. false) xs ≡ []
-filter-none [] = refl
-filter-none (x ∷ xs) = filter-none xs
 
 filter-cons : (test : Pair → Bool) (a : ℕ) (ps : List Pair) → filter test (cons a ps) ≡ cons a (filter (λ p. test (longer a p)) ps)
 unfolding cons
@@ -81,13 +74,13 @@ module _ (v : Word) (c : ℕ) where
   after_greater a b p h = ap (λ o. is_lt (ordering_then (ordering_then o (slice_cmp nat_cmp v p.0)) (nat_cmp c p.1))) (sym (nat_cmp_is a b Greater h))
 
   cons_same : (a : ℕ) (ps : List Pair) → rest_after (a ∷ v, c) (cons a ps) ≡ cons a (rest_after (v, c) ps)
-  cons_same a ps = filter-cons (comes_after (a ∷ v, c)) a ps ∙ ap (cons a) (filter-cong (λ p. comes_after (a ∷ v, c) (longer a p)) (comes_after (v, c)) (after_same a) ps)
+  cons_same a ps = filter-cons (comes_after (a ∷ v, c)) a ps ∙ ap (cons a) (filter_agree (λ p. comes_after (a ∷ v, c) (longer a p)) (comes_after (v, c)) (after_same a) ps)
 
   cons_less : (a b : ℕ) (ps : List Pair) → a < b → rest_after (a ∷ v, c) (cons b ps) ≡ cons b ps
-  cons_less a b ps h = filter-cons (comes_after (a ∷ v, c)) b ps ∙ ap (cons b) (filter-cong (λ p. comes_after (a ∷ v, c) (longer b p)) (λ _. true) (λ p. after_less a b p h) ps ∙ filter-all ps)
+  cons_less a b ps h = filter-cons (comes_after (a ∷ v, c)) b ps ∙ ap (cons b) (filter_agree (λ p. comes_after (a ∷ v, c) (longer b p)) (λ _. true) (λ p. after_less a b p h) ps ∙ filter-all ps)
 
   cons_greater : (a b : ℕ) (ps : List Pair) → b < a → rest_after (a ∷ v, c) (cons b ps) ≡ []
-  cons_greater a b ps h = filter-cons (comes_after (a ∷ v, c)) b ps ∙ ap (cons b) (filter-cong (λ p. comes_after (a ∷ v, c) (longer b p)) (λ _. false) (λ p. after_greater a b p h) ps ∙ filter-none ps) ∙ cons-nil b
+  cons_greater a b ps h = filter-cons (comes_after (a ∷ v, c)) b ps ∙ ap (cons b) (filter_agree (λ p. comes_after (a ∷ v, c) (longer b p)) (λ _. false) (λ p. after_greater a b p h) ps ∙ filter-none ps) ∙ cons-nil b
 
   -- the letters of a state, when those before one are gone and those after it are whole
   module _ (F : Visit → List Pair) (a : ℕ) where
@@ -153,7 +146,7 @@ module _ (c : ℕ) where
   below_longer g (suc l) (Some s) = on_longer (λ x. alone (calls_of x.calls) ++ below g l x.behind) (g l s)
 
   calls_longer : (cs : List ℕ) → rest_after ([], c) (alone cs) ≡ alone (filter (λ other. nat_lt c other) cs)
-  calls_longer cs = filter-alone (comes_after ([], c)) cs ∙ ap alone (filter-cong (λ other. is_lt (nat_cmp c other)) (λ other. nat_lt c other) (lt_is c) cs)
+  calls_longer cs = filter-alone (comes_after ([], c)) cs ∙ ap alone (filter_agree (λ other. is_lt (nat_cmp c other)) (λ other. nat_lt c other) (lt_is c) cs)
 
   here_longer : (g : Graph) (l : ℕ) (o : Option State) (cs : List ℕ) → rest_after ([], c) (alone cs ++ below g l o) ≡ alone (filter (λ other. nat_lt c other) cs) ++ below g l o
   here_longer g l o cs =

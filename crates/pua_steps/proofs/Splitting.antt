@@ -8,7 +8,7 @@ use Rattle.pua_steps.specs.Order.{IsSplit}
 use Rattle.pua_steps.specs.Table.{visit_of, missed, gap, first_of, visits_from, Rising}
 use Rattle.pua_steps.specs.declared.visit.Visit.{Visit}
 use Rattle.pua_steps.specs.declared.steps.Entry.{Entry}
-use Rattle.pua_steps.proofs.Closing.{all_append}
+use Rattle.pua_steps.proofs.Base.{all_joined}
 
 -- numbers in order
 
@@ -87,7 +87,7 @@ module _ (letters m u : ℕ) where
   unfolding visits_from
   letters_high a next [] rises h = gap_high m a next (letters - next) h
   letters_high a next (e ∷ es) rises h =
-      all_append (λ (y : Visit). a ≤ y.letter) (gap m next (e.letter - next)) (visit_of u e ∷ from (suc e.letter) es) (gap_high m a next (e.letter - next) h)
+      all_joined (λ (y : Visit). a ≤ y.letter) (gap m next (e.letter - next)) (visit_of u e ∷ from (suc e.letter) es) (gap_high m a next (e.letter - next) h)
       (omega (arith, h, rises.0, letter_is u e), letters_high a (suc e.letter) es rises.1 (omega (arith, h, rises.0)))
 
   -- the visits before a letter, and those from it on
@@ -121,7 +121,7 @@ module _ (letters m u : ℕ) where
       let more = cut_at a p (suc e.letter) es (omega (arith, less)) within rises.1 before.1 high in record {
         front = gap m next (e.letter - next) ++ visit_of u e ∷ more.front;
         parts = ap (λ vs. gap m next (e.letter - next) ++ visit_of u e ∷ vs) more.parts ∙ sym (append_assoc (gap m next (e.letter - next)) (visit_of u e ∷ more.front) (from a (drop p es)));
-        low = all_append (λ (y : Visit). y.letter < a) (gap m next (e.letter - next)) (visit_of u e ∷ more.front) (gap_low m a next (e.letter - next) (omega (arith, rises.0, less))) (omega (arith, less, letter_is u e), more.low);
+        low = all_joined (λ (y : Visit). y.letter < a) (gap m next (e.letter - next)) (visit_of u e ∷ more.front) (gap_low m a next (e.letter - next) (omega (arith, rises.0, less))) (omega (arith, less, letter_is u e), more.low);
         rises = more.rises;
       }
 

@@ -1,5 +1,5 @@
 -- Sets of numbers of links, moved along entries.
-use Rattle.std.proofs.Common.{ℕ, zero, suc, ◌+◌, ◌-◌, ◌^◌, ◌<◌, ◌≤◌, ◌≡◌, max, List, [], ◌∷◌, Option, Some, None, Bool, true, false, ◌||◌, ◌&&◌, ◌==◌, nat_le, refl, ap, arith, sym, ◌∙◌, length, get_or, set, drop, bit_or, inl, inr, subst}
+use Rattle.std.proofs.Common.{ℕ, zero, suc, ◌+◌, ◌-◌, ◌^◌, ◌<◌, ◌≤◌, ◌≡◌, max, List, ◌∷◌, Option, Some, None, false, ◌||◌, ◌&&◌, ◌==◌, nat_le, refl, ap, arith, sym, ◌∙◌, length, get_or, set, drop, bit_or, inl, inr, subst}
 use Rattle.std.specs.Prelude.{IfSome}
 use Rattle.std.specs.Int.{bit_at}
 use Rattle.std.specs.List.{AllByRecursion}
@@ -11,6 +11,8 @@ use Rattle.pua_steps.specs.Reached.{stood, lands, lands_some}
 use Rattle.pua_steps.specs.Table.{IsEntry}
 use Rattle.pua_steps.specs.declared.steps.Entry.{Entry}
 use Rattle.pua_steps.specs.declared.steps.Steps.{Steps}
+use Rattle.pua_steps.proofs.Base.{all_weaker}
+use Rattle.std.proofs.Math.Bool.{or-false, or_assoc}
 
 either : (a b : ℕ) → a < 2 → b < 2 → (max a b == 1) ≡ ((a == 1) || (b == 1))
 either zero zero h k = refl
@@ -20,14 +22,6 @@ either (suc zero) (suc zero) h k = refl
 either zero (suc (suc b)) h k = absurd (omega (arith, k))
 either (suc zero) (suc (suc b)) h k = absurd (omega (arith, k))
 either (suc (suc a)) b h k = absurd (omega (arith, h))
-
-or_false : (b : Bool) → (b || false) ≡ b
-or_false true = refl
-or_false false = refl
-
-pub or_assoc : (a b c : Bool) → (a || (b || c)) ≡ ((a || b) || c)
-or_assoc true b c = refl
-or_assoc false b c = refl
 
 pub spread_one : (next : List ℕ) (t m d u : ℕ) → t < length next → stood (set next t (bit_or (get_or next t 0) m)) d u ≡ (stood next d u || ((t == d) && (bit_at m u == 1)))
 spread_one next t m d u low =
@@ -41,7 +35,7 @@ spread_one next t m d u low =
           ∙ ap (λ b. stood next d u || (b && (bit_at m u == 1))) (sym (eq-eqb t d e))
       | inr apart ↦
           ap (λ x. bit_at x u == 1) (get_or-set_other next t d (bit_or (get_or next t 0) m) 0 (λ e. apart (sym e)))
-          ∙ sym (or_false (stood next d u)) ∙ ap (λ b. stood next d u || (b && (bit_at m u == 1))) (sym (ne_eqb t d apart))
+          ∙ sym (or-false (stood next d u)) ∙ ap (λ b. stood next d u || (b && (bit_at m u == 1))) (sym (ne_eqb t d apart))
     ]
 
 pub small_one : (next : List ℕ) (t m : ℕ) → t < length next → m < 2 ^ 33 → ((d : ℕ) → d < length next → get_or next d 0 < 2 ^ 33) → (d : ℕ) → d < length next → get_or (set next t (bit_or (get_or next t 0) m)) d 0 < 2 ^ 33
@@ -56,7 +50,7 @@ pub one_more : (es : List Entry) (i : ℕ) (e : Entry) (set-of : ℕ) (old new a
     → (stood old d u || lands_some es set-of d u) ≡ (stood new d u || lands_some (drop i es) set-of d u)
     → (stood old d u || lands_some es set-of d u) ≡ (stood after d u || lands_some (drop (i + 1) es) set-of d u)
 one_more es i e set-of old new after d u split landed far =
-    far ∙ ap (λ xs. stood new d u || lands_some xs set-of d u) split ∙ or_assoc (stood new d u) (lands e set-of d u) (lands_some (drop (i + 1) es) set-of d u)
+    far ∙ ap (λ xs. stood new d u || lands_some xs set-of d u) split ∙ sym (or_assoc (stood new d u) (lands e set-of d u) (lands_some (drop (i + 1) es) set-of d u))
     ∙ ap (λ b. b || lands_some (drop (i + 1) es) set-of d u) (sym landed)
 
 pub landed_some : (e : Entry) (set-of d u t m : ℕ) (new after : List ℕ) → e.to ≡ Some t → (bit_at m u == 1) ≡ (nat_le e.links u && (bit_at set-of (u - e.links) == 1)) → t < length new → after ≡ set new t (bit_or (get_or new t 0) m)
@@ -64,10 +58,6 @@ pub landed_some : (e : Entry) (set-of d u t m : ℕ) (new after : List ℕ) → 
 landed_some e set-of d u t m new after some bits low stored =
     ap (λ xs. stood xs d u) stored ∙ spread_one new t m d u low ∙ ap (λ b. stood new d u || ((t == d) && b)) bits
     ∙ sym (ap (λ (o : Option ℕ). stood new d u || (elim o [ None ↦ false | Some to ↦ (to == d) && (nat_le e.links u && (bit_at set-of (u - e.links) == 1)) ])) some)
-
-pub all_weaker : {A : Type 0} (P Q : A → Type 0) → ((x : A) → P x → Q x) → (xs : List A) → AllByRecursion P xs → AllByRecursion Q xs
-all_weaker P Q leads [] all = tt
-all_weaker P Q leads (x ∷ xs) all = (leads x all.0, all_weaker P Q leads xs all.1)
 
 pub links_few : (t : Steps) (es : List Entry) → AllByRecursion (λ e. IsEntry t e) es → AllByRecursion (λ e. e.links ≤ 32) es
 links_few t es all = all_weaker (λ e. IsEntry t e) (λ e. e.links ≤ 32) (λ e is. is.links) es all

@@ -1,5 +1,5 @@
 -- Sets of numbers of links tell of the states to which words lead.
-use Rattle.std.proofs.Common.{ℕ, zero, suc, ◌+◌, ◌-◌, ◌*◌, ◌^◌, ◌<◌, ◌≤◌, ◌≡◌, List, [], ◌∷◌, ◌++◌, Option, Some, None, Bool, true, false, cond, ◌||◌, ◌&&◌, ◌==◌, nat_lt, nat_le, refl, ap, arith, sym, ◌∙◌, length, map, get_or, set, filter, option_map, count_ones, bit_and, inl, inr, subst}
+use Rattle.std.proofs.Common.{ℕ, zero, suc, ◌+◌, ◌-◌, ◌*◌, ◌^◌, ◌<◌, ◌≤◌, ◌≡◌, List, [], ◌∷◌, ◌++◌, Option, Some, None, Bool, true, false, cond, ◌||◌, ◌&&◌, ◌==◌, nat_lt, nat_le, refl, ap, arith, sym, ◌∙◌, length, map, get_or, set, option_map, count_ones, bit_and, inl, inr, subst}
 use Rattle.std.specs.Prelude.{IfSome, option_to_list, flat_map, ◌⊎◌}
 use Rattle.std.specs.Int.{bit_at}
 use Rattle.std.specs.List.{range_with_len, AllByRecursion, cons_option}
@@ -18,6 +18,9 @@ use Rattle.pua_steps.specs.declared.steps.Steps.{Steps}
 use Rattle.pua_steps.specs.declared.live.Live as table
 use Rattle.pua_steps.proofs.Counting.{same_is, among_filter, distinct_by_rows, Within, layer_ones, total_same, count, count_same}
 use Rattle.pua_steps.proofs.Closing.{states_stay, bound_at}
+use Rattle.pua_steps.proofs.Base.{all_filtered, all_joined}
+use Rattle.std.proofs.Math.Bool.{or_assoc, or-false}
+use Rattle.std.specs.Cmp.{both_ways}
 
 -- lists with a member that passes
 abbrev any : {A : Type 0} → (A → Bool) → List A → Bool
@@ -35,15 +38,6 @@ or_left false b e = absurd cc
 or_right : (a b : Bool) → b ≡ true → (a || b) ≡ true
 or_right true b e = refl
 or_right false b e = e
-
-or_assoc : (a b c : Bool) → ((a || b) || c) ≡ (a || (b || c))
-or_assoc true b c = refl
-or_assoc false b c = refl
-
-same_from : (a b : Bool) → (a ≡ true → b ≡ true) → (b ≡ true → a ≡ true) → a ≡ b
-same_from true b f g = sym (f refl)
-same_from false true f g = g refl
-same_from false false f g = refl
 
 pick : {A : Type 0} (f : A → Bool) (xs : List A) → any f xs ≡ true → (x : A) × (In x xs × (f x ≡ true))
 pick f [] e = absurd cc
@@ -97,17 +91,13 @@ visit_leads used e d u low =
       | inl over ↦ ap (λ b. is_among (record { dir = d; used = u }) (option_to_list (cond {A = Visit} b (record { letter = e.letter; calls = e.all; behind = option_map (λ to. record { dir = to; used = used + e.links }) e.to }) (record { letter = e.letter; calls = e.kept; behind = None })).behind)) (lt-leb (used + e.links) 32 over) ∙ far e.to over
     ]
   where
-    or_false : (b : Bool) → (b || false) ≡ b
-    or_false true = refl
-    or_false false = refl
-
     and_false : (b : Bool) → false ≡ (b && false)
     and_false true = refl
     and_false false = refl
 
     near : (o : Option ℕ) → is_among (record { dir = d; used = u }) (option_to_list (option_map (λ to. record { dir = to; used = used + e.links }) o)) ≡ elim o [ None ↦ false | Some to ↦ (d == to) && (u == used + e.links) ]
     near None = refl
-    near (Some to) = or_false ((d == to) && (u == used + e.links))
+    near (Some to) = or-false ((d == to) && (u == used + e.links))
 
     far : (o : Option ℕ) → 32 < used + e.links → false ≡ elim o [ None ↦ false | Some to ↦ (d == to) && (u == used + e.links) ]
     far None over = refl
@@ -182,7 +172,7 @@ module _ (t : Steps) (ss : List State) (sets : List ℕ) (are : AreSets (length 
 
   pub stepped : (d u : ℕ) → u ≤ 32 → lands_from t sets (length t.rows.items) d u ≡ is_among (record { dir = d; used = u }) (flat_map f ss)
   stepped d u low =
-      same_from (lands_from t sets (length t.rows.items) d u) (any (λ s. is_among (record { dir = d; used = u }) (f s)) ss) forth back ∙ sym (among_flat (record { dir = d; used = u }) f ss)
+      both_ways (lands_from t sets (length t.rows.items) d u) (any (λ s. is_among (record { dir = d; used = u }) (f s)) ss) forth back ∙ sym (among_flat (record { dir = d; used = u }) f ss)
     where
       forth : lands_from t sets (length t.rows.items) d u ≡ true → any (λ s. is_among (record { dir = d; used = u }) (f s)) ss ≡ true
       forth h =
@@ -212,10 +202,6 @@ pub next_sets : (t : Steps) (ss : List State) (sets next : List ℕ) → AreSets
 next_sets t ss sets next are all many small tells = record { many = many; small = small; tells = λ d u h low. tells d u h low ∙ stepped t ss sets are all d u low }
 
 -- all states to which words lead are of the table
-all_append : {A : Type 0} (P : A → Type 0) (xs ys : List A) → AllByRecursion P xs → AllByRecursion P ys → AllByRecursion P (xs ++ ys)
-all_append P [] ys a b = b
-all_append P (x ∷ xs) ys a b = (a.0, all_append P xs ys a.1 b)
-
 behind_within : (t : Steps) (vs : List Visit) → AllByRecursion (λ v. IfSome v.behind (λ s. IsState t s)) vs → AllByRecursion (Within (length t.rows.items)) (states_behind vs)
 behind_within t [] all = tt
 behind_within t (v ∷ vs) all = by v.behind all.0 (behind_within t vs all.1)
@@ -226,7 +212,7 @@ behind_within t (v ∷ vs) all = by v.behind all.0 (behind_within t vs all.1)
 
 steps_within : (t : Steps) → IsTable t → (ss : List State) → AllByRecursion (Within (length t.rows.items)) ss → AllByRecursion (Within (length t.rows.items)) (flat_map (λ s. states_behind (graph_of t 0 s)) ss)
 steps_within t known [] all = tt
-steps_within t known (s ∷ ss) all = all_append (Within (length t.rows.items)) (states_behind (graph_of t 0 s)) (flat_map (λ s. states_behind (graph_of t 0 s)) ss)
+steps_within t known (s ∷ ss) all = all_joined (Within (length t.rows.items)) (states_behind (graph_of t 0 s)) (flat_map (λ s. states_behind (graph_of t 0 s)) ss)
     (behind_within t (graph_of t 0 s) (states_stay t known 0 s (record { dir = all.0.0; used = all.0.1 }))) (steps_within t known ss all.1)
 
 pub reached_more : (t : Steps) (n : ℕ) (o : Option State) → reached (graph_of t 0) (n + 1) o ≡ flat_map (λ s. states_behind (graph_of t 0 s)) (reached (graph_of t 0) n o)
@@ -242,10 +228,6 @@ unfolding reached
 reached_within t known zero None is = tt
 reached_within t known zero (Some s) is = ((is.dir, is.used), tt)
 reached_within t known (suc n) o is = steps_within t known (reached (graph_of t 0) n o) (reached_within t known n o is)
-
-all_filtered : {A : Type 0} (P : A → Type 0) (p : A → Bool) (xs : List A) → AllByRecursion P xs → AllByRecursion P (filter p xs)
-all_filtered P p [] all = tt
-all_filtered P p (x ∷ xs) all = elim (p x) as (λ b. AllByRecursion P (cond b (x ∷ filter p xs) (filter p xs))) [ true ↦ (all.0, all_filtered P p xs all.1) | false ↦ all_filtered P p xs all.1 ]
 
 -- the members of the sets below the bounds are the live states, each once
 pub layer_counts : (t : Steps) (v : table.Live) (limit l : ℕ) (ss : List State) (sets : List ℕ) → IsSized t v limit → l ≤ limit → AreSets v.dirs ss sets → AllByRecursion (Within (length t.rows.items)) ss

@@ -10,8 +10,9 @@ use Rattle.pua_steps.specs.declared.state.State.{State}
 use Rattle.pua_steps.specs.declared.visit.Visit.{Visit}
 use Rattle.pua_steps.specs.declared.steps.Entry.{Entry}
 use Rattle.pua_steps.specs.declared.steps.Steps.{Steps}
-use Rattle.pua_steps.proofs.Closing.{Stays, all_append, states_stay}
+use Rattle.pua_steps.proofs.Closing.{Stays, states_stay}
 use Rattle.pua_steps.proofs.Visits.{visit_is}
+use Rattle.pua_steps.proofs.Base.{all_joined}
 
 range_below : (most k n : ℕ) → n ≤ most - k → AllByRecursion (λ i. i < most) (range_with_len k n)
 range_below most k zero h = tt
@@ -54,7 +55,7 @@ module _ (t : Steps) where
   unfolding visits_from
   visits_here m u next [] low all = gap_here t.letters m next (t.letters - next) (omega arith)
   visits_here m u next (e ∷ es) low all =
-      all_append (Here t.letters) (gap m next (e.letter - next)) (visit_of u e ∷ visits_from t.letters m u (suc e.letter) es)
+      all_joined (Here t.letters) (gap m next (e.letter - next)) (visit_of u e ∷ visits_from t.letters m u (suc e.letter) es)
       (gap_here t.letters m next (e.letter - next) (omega (arith, all.0.letter)))
       ((visit_is t u e all.0 low).letter, visits_here m u (suc e.letter) es low all.1)
 
@@ -74,11 +75,11 @@ module _ (t : Steps) where
             → AllByRecursion (λ p. IsPair t.letters p) (flat_map (λ v. cons v.letter (alone (calls_of v.calls) ++ below (graph_of t) l v.behind)) vs)
         flat more [] here stays = tt
         flat more (v ∷ vs) here stays =
-            all_append (λ p. IsPair t.letters p) (cons v.letter (alone (calls_of v.calls) ++ below (graph_of t) l v.behind)) _
+            all_joined (λ p. IsPair t.letters p) (cons v.letter (alone (calls_of v.calls) ++ below (graph_of t) l v.behind)) _
             (cons_within t.letters v.letter (alone (calls_of v.calls) ++ below (graph_of t) l v.behind) here.0
-            (all_append (λ p. IsPair t.letters p) (alone (calls_of v.calls)) (below (graph_of t) l v.behind) (alone_within t.letters (calls_of v.calls) (calls_below v.calls)) (more v.behind stays.0)))
+            (all_joined (λ p. IsPair t.letters p) (alone (calls_of v.calls)) (below (graph_of t) l v.behind) (alone_within t.letters (calls_of v.calls) (calls_below v.calls)) (more v.behind stays.0)))
             (flat more vs here.1 stays.1)
 
 pub reach_is_within : ReachIsWithin
 reach_is_within t limit calls base known is =
-    all_append (λ p. IsPair t.letters p) (alone (calls_of calls)) (below (graph_of t) limit base) (alone_within t.letters (calls_of calls) (calls_below calls)) (below_within t known limit base is)
+    all_joined (λ p. IsPair t.letters p) (alone (calls_of calls)) (below (graph_of t) limit base) (alone_within t.letters (calls_of calls) (calls_below calls)) (below_within t known limit base is)

@@ -116,8 +116,9 @@ impl Tables {
         requires listed { IsListed self.old.steps self.old.live
             (length self.old.lists.layers.items) self.old.lists }
         requires open { IsOpen self.old.steps self.old.lists frame.old }
-        ensures kept { (self.new.steps ≡ self.old.steps) × (self.new.live ≡ self.old.live)
-            × (self.new.lists ≡ self.old.lists) }
+        ensures steps { self.new.steps ≡ self.old.steps }
+        ensures live { self.new.live ≡ self.old.live }
+        ensures lists { self.new.lists ≡ self.old.lists }
         ensures open { IsOpen self.old.steps self.old.lists frame.new }
         ensures given { IfSome result (λ v. IsGiven self.old.steps self.old.live left v) }
         ensures next { (n : ℕ) × (IsCounted self.old.reads n self.new.reads
@@ -142,8 +143,9 @@ impl Tables {
         requires left { left < length self.old.lists.layers.items }
         requires state { IsState self.old.steps state }
         requires letter { letter < self.old.steps.letters }
-        ensures kept { (self.new.steps ≡ self.old.steps) × (self.new.live ≡ self.old.live)
-            × (self.new.lists ≡ self.old.lists) }
+        ensures steps { self.new.steps ≡ self.old.steps }
+        ensures live { self.new.live ≡ self.old.live }
+        ensures lists { self.new.lists ≡ self.old.lists }
         ensures open { IsOpen self.old.steps self.old.lists result.frame }
         ensures visit { IsVisit self.old.steps result.visit }
         ensures split { IsSplit letter (narrow_of self.old.steps self.old.live left state) result.visit

@@ -189,10 +189,12 @@ impl Walk {
     pub(crate) fn enter(&mut self, frame: Frame, visit: Visit)
         requires words { length self.old.word.items < vec_capacity self.old.word }
         requires frames { length self.old.frames.items < vec_capacity self.old.frames }
-        ensures kept { (self.new.tables.steps ≡ self.old.tables.steps)
-            × (self.new.tables.live ≡ self.old.tables.live)
-            × (self.new.limit ≡ self.old.limit) × (self.new.tables.reads ≡ self.old.tables.reads)
-            × (self.new.tables.lists ≡ self.old.tables.lists) × (self.new.unchanged ≡ self.old.unchanged) }
+        ensures steps { self.new.tables.steps ≡ self.old.tables.steps }
+        ensures live { self.new.tables.live ≡ self.old.tables.live }
+        ensures lists { self.new.tables.lists ≡ self.old.tables.lists }
+        ensures reads { self.new.tables.reads ≡ self.old.tables.reads }
+        ensures limit { self.new.limit ≡ self.old.limit }
+        ensures unchanged { self.new.unchanged ≡ self.old.unchanged }
         ensures room { (vec_capacity self.old.word ≤ vec_capacity self.new.word)
             × (vec_capacity self.old.frames ≤ vec_capacity self.new.frames) }
         ensures frames { self.new.frames.items ≡ self.old.frames.items ++ frame ∷ [] }
@@ -206,10 +208,12 @@ impl Walk {
     /// Goes to the word with one letter more, by the deepest frame.
     fn go_by(&mut self, visit: Visit)
         requires { length self.old.word.items < vec_capacity self.old.word }
-        ensures kept { (self.new.tables.steps ≡ self.old.tables.steps)
-            × (self.new.tables.live ≡ self.old.tables.live)
-            × (self.new.limit ≡ self.old.limit) × (self.new.tables.reads ≡ self.old.tables.reads)
-            × (self.new.tables.lists ≡ self.old.tables.lists) × (self.new.unchanged ≡ self.old.unchanged) }
+        ensures steps { self.new.tables.steps ≡ self.old.tables.steps }
+        ensures live { self.new.tables.live ≡ self.old.tables.live }
+        ensures lists { self.new.tables.lists ≡ self.old.tables.lists }
+        ensures reads { self.new.tables.reads ≡ self.old.tables.reads }
+        ensures limit { self.new.limit ≡ self.old.limit }
+        ensures unchanged { self.new.unchanged ≡ self.old.unchanged }
         ensures frames { self.new.frames ≡ self.old.frames }
         ensures room { vec_capacity self.old.word ≤ vec_capacity self.new.word }
         ensures word { self.new.word.items ≡ self.old.word.items ++ visit.letter ∷ [] }

@@ -1,11 +1,11 @@
 -- What of a path is kept from line to line.
 use Rattle.std.proofs.Common.{◌≡◌, ◌⊎◌, inl, inr, ◌<◌, ◌≤◌, ◌+◌, ◌∷◌, ◌++◌, [], ℕ, List, length, take, drop, get_or, refl, sym, ap, ◌∙◌, length-append, append_assoc, append-nil, arith}
-use Rattle.std.proofs.lemmas.List.{length-take-le, take-append-drop, take_at, take_more, get_or-take, get_or_append_left}
+use Rattle.std.proofs.lemmas.List.{length-take-le, take-append-drop, take_at, take_more, get_or-take, get_or_append_left, take-take}
 use Rattle.std.proofs.Math.Seq.{get_or-append_seam}
 use Rattle.std.proofs.lemmas.Bool.{cases_order}
 use Rattle.pua_tree.specs.Spelling.{spelling}
 use Rattle.pua_audit.specs.Reach.{Word, from_root}
-use Rattle.pua_objects.proofs.ForCallers.{less_same, take_less}
+use Rattle.pua_objects.proofs.ForCallers.{less_same}
 use Rattle.pua_texts.specs.KeptPaths.{KeptPathState, IsKept, printed_front}
 use Rattle.pua_texts.proofs.ObjectLines.{name_next}
 
@@ -49,7 +49,7 @@ cut_kept old new count path kept less short same =
     kept.text
     ∙ ap printed (sym (take-append-drop count (take k old)))
     ∙ printed_append (take count (take k old)) (drop count (take k old))
-    ∙ ap (λ names. printed names ++ rest) (take_less count k old (omega (arith, less))) in
+    ∙ ap (λ names. printed names ++ rest) (take-take count k old (omega (arith, less))) in
     record {
       few = omega (arith, long, short);
       text = ap (take (get_or path.starts count 0)) parts ∙ take_at (printed_front count old) rest (get_or path.starts count 0) (sym (kept.starts count less)) ∙ ap printed same ∙ ap (λ n. printed_front n new) (sym long);

@@ -8,7 +8,7 @@ use Rattle.pua_policy.specs.History.{History}
 use Rattle.pua_texts.specs.Lists.{ListState, IsListOf, BeginsBy, AreListsBy}
 use Rattle.pua_texts.specs.Blocks.{Passes}
 use Rattle.pua_io.specs.declared.sink.PutFault.{PutFault}
-use Rattle.pua_texts.proofs.Passing.{Passing, passes_none, passing_none, passing_more, passing_fails, passing_last}
+use Rattle.pua_texts.proofs.Passing.{Passing, passes_none, passing_more, passing_fails, passing_last}
 
 -- the same list by other names
 pub same_list : (rules table : CallTable) (t u : Tree) (process : ℕ) (h : History) (list : ListState) → rules ≡ table → t ≡ u → IsListOf rules t process h list → IsListOf table u process h list
@@ -99,8 +99,10 @@ module _ {A : Type 0} (made : ℕ → Option History) (Is : ℕ → History → 
       pub are : Are numbers lists
       pub passing : Passing whole (texts numbers) old new a b n m
 
-    pub all_left : (numbers : List ℕ) (lists : List A) (block : List ℕ) (a : Option (List ℕ)) (n : ℕ) → Are numbers lists → Left (texts numbers) lists block block a a n n
-    all_left numbers lists block a n are = record { numbers = numbers; are = are; passing = passing_none (texts numbers) block a n }
+    -- a front is added, and all lists are still to come
+    pub all_left : (front : List ℕ) (numbers : List ℕ) (lists : List A) (old mid : List ℕ) (a b : Option (List ℕ)) (n m : ℕ) → Are numbers lists
+        → Passes front (Ok tt) old mid a b n m → Left (front ++ texts numbers) lists old mid a b n m
+    all_left front numbers lists old mid a b n m are passes = record { numbers = numbers; are = are; passing = record { done = front; parts = refl; passes = passes } }
 
     module _ (whole : List ℕ) (list : A) (lists : List A) (old mid : List ℕ) (a b c : Option (List ℕ)) (n m k : ℕ) (left : Left whole (list ∷ lists) old mid a b n m) where
       abbrev next : Next left.numbers list lists

@@ -1,16 +1,12 @@
 -- Since which lines the veils of a process have their letters.
 use Rattle.std.proofs.Common.{◌≡◌, ℕ, ◌+◌, ◌<◌, List, [], ◌∷◌, ◌++◌, Bool, true, false, cond, map, take, drop, length, get_or, min, refl, sym, ap, ◌∙◌, subst, arith}
-use Rattle.std.specs.Prelude.{⊤, ◌&&◌, Option, Some, None, flat_map}
+use Rattle.std.specs.Prelude.{⊤, Option, Some, None, flat_map}
 use Rattle.std.specs.Option.{option_map_or}
-use Rattle.std.proofs.lemmas.Bool.{eq-eqb}
 use Rattle.std.proofs.lemmas.List.{drop_more, length-append, length-map, map-append}
 use Rattle.std.proofs.Math.Seq.{take-append_seam, drop-append_seam}
-use lib.Pointwise.{bytes_decides}
-use Rattle.pua_tree.specs.Names.{same_bytes}
 use Rattle.pua_policy.specs.History.{History, Pledged, Unveiled, Locked, Moved, Ended, ProcessState, StandsFor, kept, same_place, veil_at, veils, with_veil}
 use Rattle.pua_policy.specs.declared.place.Place.{Place}
-use Rattle.pua_policy.specs.declared.place.Place.TheVariants.{Dir, Slot}
-use Rattle.pua_policy.proofs.ForCallers.{veils_are_kept, same_place_is}
+use Rattle.pua_policy.proofs.ForCallers.{veils_are_kept, same_place_is, same_place_refl, still_unveiled, same_place_turned}
 use Rattle.pua_script.specs.Replay.{history_of}
 use Rattle.pua_script.specs.Worlds.{WorldState, process_at}
 use Rattle.pua_why.specs.Since.{since}
@@ -20,52 +16,16 @@ use Rattle.pua_since.specs.Watched.{kept_in}
 use Rattle.pua_texts.specs.VeilDates.{veil_dates}
 use Rattle.pua_texts.specs.WhyLines.{Posed, world_left}
 
--- a place tests as itself
-same_as_itself : (a : Place) → same_place a a ≡ true
-same_as_itself (Dir a) = eq-eqb a a refl
-same_as_itself (Slot a n) = ap (λ b. b && same_bytes n n) (eq-eqb a a refl) ∙ (bytes_decides n n).1 refl
-
--- other places test as such, from both sides
-other_place : (a b : Place) → (a ≡ b → ⊥) → same_place a b ≡ false
-other_place a b other = by (same_place a b) refl
-  where
-    by : (c : Bool) → same_place a b ≡ c → c ≡ false
-    by true is = absurd (other (same_place_is a b is))
-    by false is = refl
-
-turned : (a b : Place) → same_place a b ≡ false → same_place b a ≡ false
-turned a b other = other_place b a (λ is. let bad : true ≡ false = sym (same_as_itself a) ∙ ap (same_place a) (sym is) ∙ other in cc)
-
--- the test is the same from both sides
-pub same_turned : (a b : Place) → same_place a b ≡ same_place b a
-same_turned a b = by (same_place a b) refl
-  where
-    by : (c : Bool) → same_place a b ≡ c → same_place a b ≡ same_place b a
-    by true is = is ∙ sym (ap (λ x. same_place x a) (sym (same_place_is a b is)) ∙ same_as_itself a)
-    by false is = is ∙ sym (turned a b is)
-
 -- no place has two veils
 abbrev AreApart : List (Place × ℕ) → Type 0
 AreApart [] = ⊤
 AreApart (veil ∷ vs) = (veil_at vs veil.0 ≡ None) × AreApart vs
 
-none_of : (same : Bool) (given other : ℕ) (rest more : Option ℕ) → cond same (Some given) rest ≡ None → (rest ≡ None → more ≡ None) → cond same (Some other) more ≡ None
-none_of true given other rest more none go = cc
-none_of false given other rest more none go = go none
-
--- a veil on another place leaves a place without one
-still_none : (place : Place) (perms : ℕ) (vs : List (Place × ℕ)) (at : Place) → same_place at place ≡ false → veil_at vs at ≡ None → veil_at (with_veil place perms vs) at ≡ None
-still_none place perms [] at other none = ap (λ b. cond b (Some perms) None) other
-still_none place perms (v ∷ vs) at other none = elim (same_place place v.0) as (λ here. veil_at (cond here ((v.0, perms) ∷ vs) (v ∷ with_veil place perms vs)) at ≡ None) [
-  | true ↦ none_of (same_place at v.0) v.1 perms (veil_at vs at) (veil_at vs at) none (λ n. n)
-  | false ↦ none_of (same_place at v.0) v.1 v.1 (veil_at vs at) (veil_at (with_veil place perms vs) at) none (λ n. still_none place perms vs at other n)
-]
-
 apart_with : (place : Place) (perms : ℕ) (vs : List (Place × ℕ)) → AreApart vs → AreApart (with_veil place perms vs)
 apart_with place perms [] apart = (refl, tt)
 apart_with place perms (v ∷ vs) apart = elim (same_place place v.0) as (λ here. same_place place v.0 ≡ here → AreApart (cond here ((v.0, perms) ∷ vs) (v ∷ with_veil place perms vs))) [
   | true ↦ λ is. apart
-  | false ↦ λ is. (still_none place perms vs v.0 (turned place v.0 is) apart.0, apart_with place perms vs apart.1)
+  | false ↦ λ is. (still_unveiled place perms vs v.0 (same_place_turned v.0 place ∙ is) apart.0, apart_with place perms vs apart.1)
 ] refl
 
 veils_apart : (h : History) → AreApart (veils h)
@@ -91,7 +51,7 @@ behind v vs (u ∷ us) none are = (by (same_place u.0 v.0) refl, behind v vs us 
 
 each_at : (vs : List (Place × ℕ)) → AreApart vs → AreAt (veil_at vs) vs
 each_at [] apart = tt
-each_at (v ∷ vs) apart = (ap (λ b. cond b (Some v.1) (veil_at vs v.0)) (same_as_itself v.0), behind v vs vs apart.0 (each_at vs apart.1))
+each_at (v ∷ vs) apart = (ap (λ b. cond b (Some v.1) (veil_at vs v.0)) (same_place_refl v.0), behind v vs vs apart.0 (each_at vs apart.1))
 
 module _ (p : Posed) (process : ℕ) (state : ProcessState) (h : History) (is : history_of (world_left p) process ≡ Some h) (stands : StandsFor state h) where
   at_place : (place : Place) → kept_in (world_left p) process place ≡ veil_at state.veils place

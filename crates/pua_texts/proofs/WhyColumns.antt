@@ -1,12 +1,10 @@
 -- What stands behind lines: veils, and the promises on which calls rest.
-use Rattle.std.proofs.Common.{◌≡◌, ℕ, zero, suc, ◌+◌, ◌<◌, ◌≤◌, List, [], ◌∷◌, ◌++◌, Bool, true, false, cond, map, drop, take, length, get_or, slice_index_or, max, refl, sym, ap, subst, ◌∙◌, arith}
+use Rattle.std.proofs.Common.{◌≡◌, ℕ, zero, suc, ◌+◌, ◌<◌, ◌≤◌, List, [], ◌∷◌, ◌++◌, Bool, true, false, cond, map, drop, take, length, get_or, slice_index_or, refl, sym, ap, ◌∙◌, arith}
 use Rattle.std.specs.Prelude.{Option, Some, None, filter, bit_or, if◌then◌else◌}
 use Rattle.std.specs.List.{list_any}
 use Rattle.std.specs.Borrow.{Bor}
 use Rattle.std.specs.Int.Bits.{or_zero_r}
 use Rattle.std.proofs.lemmas.List.{drop_more, take_more, map-append, get_or-map, length-map}
-use Rattle.std.proofs.lemmas.Nat.Bits.{bit_at_or, same_from_bits}
-use Rattle.std.specs.Int.{bit_at}
 use Rattle.std.proofs.Math.ListN.{drop_of_length-le}
 use Rattle.pua_tree.specs.Tree.{Tree, WellFormed, is_dir, above, climb}
 use Rattle.pua_path.specs.Fits.{FoundFits}
@@ -23,9 +21,8 @@ use Rattle.pua_calls.specs.declared.call.Call.{Call}
 use Rattle.pua_calls.specs.declared.call.Call.TheVariants.{Stat}
 use Rattle.pua_policy.specs.declared.place.Place.{Place}
 use Rattle.pua_policy.specs.declared.place.Place.TheVariants.{Dir}
-use Rattle.pua_policy.specs.declared.reason.Covering.{Covering}
 use Rattle.pua_policy.specs.declared.reason.Covering.TheVariants.{InView, NoneOver, By}
-use Rattle.pua_policy.proofs.ForCallers.{climb_root, climb_step, same_place_is, veils_are_kept}
+use Rattle.pua_policy.proofs.ForCallers.{climb_root, climb_step, same_place_is, veils_are_kept, same_place_turned}
 use Rattle.pua_objects.specs.Objects.{Subject, At, Others}
 use Rattle.pua_objects.specs.Items.{SubjectFits}
 use Rattle.pua_why.specs.Columns.{covering_in, let_by, resting_on}
@@ -35,7 +32,7 @@ use Rattle.pua_texts.specs.VeilDates.{veil_dates}
 use Rattle.pua_why.specs.Since.{since}
 use Rattle.pua_why.specs.Texts.{has_veil}
 use Rattle.pua_texts.proofs.States.{shown}
-use Rattle.pua_texts.proofs.VeilDates.{same_turned}
+use Rattle.pua_calls.proofs.ForCallers.{or_assoc}
 
 -- the first of some places with a veil has one that is kept
 first_among : (h : History) (places : List Place) → IsAmongVeils (veils h) (first_kept (kept h) places)
@@ -77,15 +74,11 @@ pub found_fits : (t : Tree) (subject : Subject) → SubjectFits t subject → Fo
 found_fits t (At object) fit = fit.0
 found_fits t (Others dir) fit = fit
 
-pub covered_among : (t : Tree) → WellFormed t → (h : History) (subject : Subject) → SubjectFits t subject → IsAmongVeils (veils h) (covering_on t h subject)
-covered_among t fits h (At object) fit = covering_among t h object
-covered_among t fits h (Others dir) fit = subst (λ (over : Covering). IsAmongVeils (veils h) over) (others_covered t fits h dir fit) (covering_among t h (Whole dir Top))
-
 -- a veil that is kept stands among the columns
 pub text_kept : (p : Posed) (process : ℕ) (vs : List (Place × ℕ)) (place : Place) (given : ℕ) → veil_at vs place ≡ Some given → text_at (veils_behind p process vs) place ≡ covering_behind p process (By place given)
 text_kept p process [] place given is = cc
 text_kept p process (v ∷ vs) place given is =
-    ap (λ same. if same then (veil_kept p process v).text else text_at (veils_behind p process vs) place) (same_turned v.0 place) ∙ by (same_place place v.0) refl (text_kept p process vs place given) is
+    ap (λ same. if same then (veil_kept p process v).text else text_at (veils_behind p process vs) place) (same_place_turned v.0 place) ∙ by (same_place place v.0) refl (text_kept p process vs place given) is
   where
     by : (same : Bool) → same_place place v.0 ≡ same → (veil_at vs place ≡ Some given → text_at (veils_behind p process vs) place ≡ covering_behind p process (By place given)) → (if same then Some v.1 else veil_at vs place) ≡ Some given
         → (if same then (veil_kept p process v).text else text_at (veils_behind p process vs) place) ≡ covering_behind p process (By place given)
@@ -94,14 +87,6 @@ text_kept p process (v ∷ vs) place given is =
         let at : place ≡ v.0 = same_place_is place v.0 here in
         (λ i. covering_behind p process (By (sym at i) (letters i)))
     by false other farther is = farther is
-
-max_assoc : (a b c : ℕ) → max (max a b) c ≡ max a (max b c)
-max_assoc a b c = omega arith
-
-or_assoc : (a b c : ℕ) → bit_or (bit_or a b) c ≡ bit_or a (bit_or b c)
-or_assoc a b c = same_from_bits _ _ (λ i.
-    bit_at_or (bit_or a b) c i ∙ ap (λ x. max x (bit_at c i)) (bit_at_or a b i) ∙ max_assoc (bit_at a i) (bit_at b i) (bit_at c i)
-    ∙ ap (max (bit_at a i)) (sym (bit_at_or b c i)) ∙ sym (bit_at_or a (bit_or b c) i))
 
 -- the promises on which calls rest, from a place among all calls on
 module _ (table : CallTable) (h : History) (set : ℕ) where

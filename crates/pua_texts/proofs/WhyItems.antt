@@ -1,6 +1,6 @@
 -- The lines of items with reasons, one after another.
 use Rattle.std.proofs.Common.{◌≡◌, ◌≢◌, ℕ, List, [], ◌∷◌, ◌++◌, Bool, true, false, cond, length, map, refl, sym, ap, subst, ◌∙◌, append_assoc, append-nil, arith}
-use Rattle.std.specs.Prelude.{filter, flat_map, nat_lt, IsTrue, ◌↔◌}
+use Rattle.std.specs.Prelude.{filter, flat_map, nat_lt}
 use Rattle.std.proofs.lemmas.Bool.{lt-ltb}
 use Rattle.pua_tree.specs.Tree.{Tree}
 use Rattle.pua_calls.specs.Calls.{CallTable, call_name, calls}
@@ -44,10 +44,6 @@ module _ (t : Tree) (table : CallTable) (h : History) (word : Word) (subject : S
       some_calls : (cs : List Call) → cs ≢ [] → nat_lt 0 (length cs) ≡ true
       some_calls [] some = absurd (some refl)
       some_calls (c ∷ cs) some = lt-ltb 0 (length (c ∷ cs)) (omega arith)
-
--- a test that answers by a list
-pub is_not_so : (b : Bool) (A : Type 0) → IsTrue b ↔ A → b ≡ false → A → ⊥
-is_not_so b A so e a = let bad : true ≡ false = sym (so.1 a) ∙ e in cc
 
 -- the columns stand behind the parts of a line
 columns_behind : (kind path names resting veil : List ℕ)

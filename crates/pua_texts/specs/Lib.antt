@@ -4,10 +4,11 @@ pub mod States
 pub mod ObjectLines
 pub mod EverLines
 pub mod WhyLines
--- Notes: what the code has begun, and what it puts at once.
+-- Notes: what the code has begun, what a writing leaves, and what is put at once.
 pub mod Lists
 pub mod EverLists
 pub mod VeilDates
 pub mod WhyLists
+pub mod Tells
 pub mod Blocks
 pub mod KeptPaths

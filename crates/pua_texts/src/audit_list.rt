@@ -5,9 +5,10 @@ ghost use Rattle.pua_policy.specs.History.{History, StandsFor};
 ghost use Rattle.pua_audit.specs.Begin.{Beginning, beginning, still_to_come};
 ghost use Rattle.pua_texts.specs.Blocks.{PassesOn};
 ghost use Rattle.pua_texts.specs.Lines.{pair_lines};
-ghost use Rattle.pua_io.specs.Sinks.{WritesTo};
+ghost use Rattle.pua_texts.specs.Tells.{TellsTo};
 
 use crate::block::Block;
+use crate::fault::TextFault;
 use crate::line::add_pairs;
 use pua_audit::{Audit, AuditFault, Base};
 use pua_calls::CallTable;
@@ -37,7 +38,8 @@ impl<'t, T: FileTree> Model for AuditList<'t, T> {
 }
 
 impl<'t, T: FileTree> AuditList<'t, T> {
-    /// Begins the audit of a process over a tree, as [`Audit::begin`] does, with its errors.
+    /// Begins the audit of a process over a tree, as [`Audit::begin`] does, and answers each `AuditFault`
+    /// where that one does.
     pub fn begin(
         alloc: Global,
         tree: &'t T,
@@ -64,28 +66,35 @@ impl<'t, T: FileTree> AuditList<'t, T> {
         Ok(AuditList { probe, audit })
     }
 
-    /// Adds a line for each pair that the audit has still to give to a block.
-    fn add_to<S: Sink>(&mut self, block: &mut Block, sink: &mut S) -> Result<(), PutFault>
-        ensures { PassesOn S.written S.failed (pair_lines self.old.base self.old.left)
+    /// Adds the front of a text to a block, and then a line for each pair that the audit has still to
+    /// give. The front is put before the audit is asked for its first pair.
+    fn add_to<S: Sink>(
+        &mut self,
+        front: &str,
+        block: &mut Block,
+        sink: &mut S,
+    ) -> Result<(), PutFault>
+        ensures { PassesOn S.written S.failed (front.now ++ pair_lines self.old.base self.old.left)
             result block.old block.new sink.old sink.new }
     {
+        block.add_text(front.as_bytes(), sink)?;
         add_pairs(&mut self.audit, &mut self.probe, block, sink)
     }
 }
 
-/// Writes what a block holds, then the front of a text, and then a line for each pair that the audit
-/// has still to give. The front is put before the audit is asked for its first pair.
-pub fn write_audit<'t, T: FileTree, S: Sink>(
+/// Writes the front of a text, and then a line for each pair that an audit has still to give.
+/// `OutOfMemory` where the room of a block was refused, before anything is written. `Write` only where
+/// a put failed in this call, after a front of the text.
+pub fn write_audit<T: FileTree, S: Sink>(
+    alloc: Global,
     front: &str,
-    list: &mut AuditList<'t, T>,
-    block: &mut Block,
+    list: &mut AuditList<'_, T>,
     sink: &mut S,
-) -> Result<(), PutFault>
-    ensures { WritesTo S.written S.failed
-        (block.old ++ (front.now ++ pair_lines list.old.base list.old.left))
+) -> Result<(), TextFault>
+    ensures { TellsTo S.written S.failed (front.now ++ pair_lines list.old.base list.old.left)
         result sink.old sink.new }
 {
-    block.add_text(front.as_bytes(), sink)?;
-    list.add_to(block, sink)?;
-    block.put(sink)
+    let mut block = Block::new(alloc)?;
+    let added = list.add_to(front, &mut block, sink);
+    block.finish(added, sink)
 }

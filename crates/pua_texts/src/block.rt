@@ -1,9 +1,12 @@
 //! Blocks of bytes on the way to a sink.
 
 ghost use Rattle.std.specs.Prelude.{◌≡◌, ◌≤◌, ◌+◌, ◌*◌, ◌++◌, [], IfOk, OnOk, OnErr, length, take};
-ghost use Rattle.pua_texts.specs.Blocks.{HandsOn, PassesOn};
+ghost use Rattle.std.specs.Prelude.{ℕ, List, Option};
+ghost use Rattle.pua_texts.specs.Blocks.{HandsOn, Passes, PassesOn};
+ghost use Rattle.pua_texts.specs.Tells.{Tells};
 ghost use Rattle.pua_io.specs.Sinks.{AddsFront, HasFailed, WritesTo};
 
+use crate::fault::TextFault;
 use pua_io::{PutFault, Sink, put_all};
 use pua_path::PATH_LIMIT;
 use pua_tree::OutOfMemory;
@@ -24,7 +27,7 @@ pub(crate) const BLOCK: usize = 65_536;
 /// Bytes that are still to be put into a sink, many at one time. Its room is reserved when it is made,
 /// so nothing that is added takes memory. Contracts see the bytes.
 #[derive(Drop)]
-pub struct Block {
+pub(crate) struct Block {
     bytes: Vec<u8>,
 }
 
@@ -40,7 +43,7 @@ impl Model for Block {
 
 impl Block {
     /// An empty block. The only error is that its room was refused.
-    pub fn new(alloc: Global) -> Result<Block, OutOfMemory>
+    pub(crate) fn new(alloc: Global) -> Result<Block, OutOfMemory>
         ensures { IfOk result (λ block. block ≡ []) }
     {
         match Vec::with_capacity(alloc, BLOCK) {
@@ -134,5 +137,25 @@ impl Block {
         ensures { WritesTo S.written S.failed self.now result sink.old sink.new }
     {
         put_all(sink, self.bytes.as_slice())
+    }
+
+    /// Puts all bytes where a text was added whole, and answers what became of it. `Write` where a put
+    /// failed, now or while it was added.
+    pub(crate) fn finish<S: Sink>(
+        &self,
+        added: Result<(), PutFault>,
+        sink: &mut S,
+    ) -> Result<(), TextFault>
+        ensures { (text : List ℕ) (a : Option (List ℕ)) (n : ℕ) →
+            Passes text added [] self.now a (S.written sink.old) n (S.failed sink.old) →
+            Tells text result a (S.written sink.new) n (S.failed sink.new) }
+    {
+        let Ok(()) = added else {
+            return Err(TextFault::Write);
+        };
+        let Ok(()) = self.put(sink) else {
+            return Err(TextFault::Write);
+        };
+        Ok(())
     }
 }

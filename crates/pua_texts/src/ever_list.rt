@@ -1,82 +1,70 @@
 //! The list for ever of a process: its heading, its state, and what it can ever touch.
 
-ghost use Rattle.std.specs.Prelude.{◌≡◌, ℕ, ◌++◌};
+ghost use Rattle.std.specs.Prelude.{◌++◌, ℕ, codes};
 ghost use Rattle.pua_calls.specs.Calls.{CallTable as Rules};
-ghost use Rattle.pua_policy.specs.History.{History};
+ghost use Rattle.pua_policy.specs.History.{History, StandsFor};
 ghost use Rattle.pua_texts.specs.Blocks.{PassesOn};
-ghost use Rattle.pua_texts.specs.EverLists.{IsEverListOf};
+ghost use Rattle.pua_texts.specs.EverLists.{IsEverOf};
 ghost use Rattle.pua_texts.specs.EverLines.{ever_list};
-ghost use Rattle.pua_io.specs.Sinks.{WritesTo};
+ghost use Rattle.pua_texts.specs.Lists.{IsHeadOf};
+ghost use Rattle.pua_texts.specs.Tells.{TellsTo};
 
 use crate::block::Block;
 use crate::ever_line::add_ever;
+use crate::fault::TextFault;
 use crate::kept_path::KeptPath;
 use crate::places::Places;
 use crate::process_head::ProcessHead;
 use pua_ever::Ever;
 use pua_io::{PutFault, Sink};
+use pua_policy::Process;
 use pua_tree::FileTree;
-use std::marker::Model;
+use std::alloc::Global;
 
-/// The list for ever of a process, with all memory that writing it takes.
-#[derive(Drop)]
-pub struct EverList<'t, T: FileTree> {
-    head: ProcessHead<'t>,
-    ever: Ever<'t, T>,
-}
-
-impl<'t, T: FileTree> Model for EverList<'t, T> {
-    ghost use Rattle.pua_texts.specs.EverLists.{EverListState};
-
-    ghost Value = { EverListState };
-
-    ghost view = { λ a. record { head = a.head; ever = a.ever } };
-}
-
-impl<'t, T: FileTree> EverList<'t, T> {
-    /// The list with this heading and these lines.
-    pub fn new(head: ProcessHead<'t>, ever: Ever<'t, T>) -> EverList<'t, T>
-        ensures { result ≡ record { head = head.entry; ever = ever.entry } }
-    {
-        EverList { head, ever }
-    }
-
-    /// Adds the list to a block, and takes its lines.
-    pub(crate) fn add_to<S: Sink>(
-        &mut self,
-        block: &mut Block,
-        places: &mut Places<'t, T>,
-        path: &mut KeptPath,
-        sink: &mut S,
-    ) -> Result<(), PutFault>
-        ensures { (table : Rules) (process : ℕ) (h : History) →
-            IsEverListOf table places.old.tree process h self.old →
-            PassesOn S.written S.failed
-            (ever_list table places.old.tree process h)
-            result block.old block.new sink.old sink.new }
-    {
-        self.head.add_to(block, places, sink)?;
-        add_ever(block, &mut self.ever, path, sink)
-    }
-}
-
-/// Writes what a block holds, then the front of a text, and then a list: the front before any line of
-/// it, and many lines in the block.
-pub fn write_ever<'t, T: FileTree, S: Sink>(
+/// Writes the front of a text, and then the list for ever of the process with this number, of which
+/// these lines are to come. `OutOfMemory` where a growth was refused, before anything is written.
+/// `Write` only where a put failed in this call, after a front of the text.
+pub fn write_ever<T: FileTree, S: Sink>(
+    alloc: Global,
+    tree: &T,
+    number: u32,
+    process: &Process,
+    ever: &mut Ever<'_, T>,
     front: &str,
-    list: &mut EverList<'t, T>,
+    sink: &mut S,
+) -> Result<(), TextFault>
+    ensures { (table : Rules) (h : History) → StandsFor process.now h →
+        IsEverOf table (T.content tree.now) h ever.old →
+        TellsTo S.written S.failed
+        (front.now ++ ever_list table (T.content tree.now) number h)
+        result sink.old sink.new }
+{
+    let head = ProcessHead::begin(alloc, "ever", number, process)?;
+    let mut places = Places::new(alloc, tree)?;
+    let mut path = KeptPath::new(alloc)?;
+    let mut block = Block::new(alloc)?;
+    let added = add_list(&mut block, front, &head, ever, &mut places, &mut path, sink);
+    block.finish(added, sink)
+}
+
+/// Adds the front of a text to a block, and then a list for ever with this heading and these lines.
+fn add_list<'t, T: FileTree, S: Sink>(
+    block: &mut Block,
+    front: &str,
+    head: &ProcessHead<'t>,
+    ever: &mut Ever<'_, T>,
     places: &mut Places<'t, T>,
     path: &mut KeptPath,
-    block: &mut Block,
     sink: &mut S,
 ) -> Result<(), PutFault>
     ensures { (table : Rules) (process : ℕ) (h : History) →
-        IsEverListOf table places.old.tree process h list.old →
-        WritesTo S.written S.failed
-        (block.old ++ (front.now ++ ever_list table places.old.tree process h))
-        result sink.old sink.new }
+        IsHeadOf (codes "ever") process h head.now →
+        IsEverOf table places.old.tree h ever.old →
+        PassesOn S.written S.failed
+        (front.now ++ ever_list table places.old.tree process h)
+        result block.old block.new sink.old sink.new }
 {
     block.add_text(front.as_bytes(), sink)?;
-    list.add_to(block, places, path, sink)?;
-    block.put(sink)
+    head.add_to(block, places, sink)?;
+    add_ever(block, ever, path, sink)
 }

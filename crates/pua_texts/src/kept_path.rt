@@ -19,7 +19,7 @@ const MOST_NAMES: usize = 8_192;
 /// again. Its room is reserved when it is made, so a path with more names than have room is kept in
 /// part. Contracts see the text, and how long it is before each name.
 #[derive(Drop)]
-pub struct KeptPath {
+pub(crate) struct KeptPath {
     text: Block,
     starts: Vec<usize>,
 }
@@ -37,7 +37,7 @@ impl Model for KeptPath {
 
 impl KeptPath {
     /// A path of which nothing is kept. The only error is that its room was refused.
-    pub fn new(alloc: Global) -> Result<KeptPath, OutOfMemory>
+    pub(crate) fn new(alloc: Global) -> Result<KeptPath, OutOfMemory>
         ensures { IfOk result (λ path. path ≡ record { text = []; starts = [] }) }
     {
         let text = Block::new(alloc)?;

@@ -1,5 +1,6 @@
 //! The lines of texts, added to blocks of bytes on their way to a sink, and the lists that they make:
 //! of answers, of pairs, of objects, of now and for ever, of the state of a process, and of reasons.
+//! Each list is written by one call, which takes all its memory before it writes.
 #![tactic(auto)]
 
 mod answers;
@@ -7,6 +8,7 @@ mod audit_list;
 mod block;
 mod ever_line;
 mod ever_list;
+mod fault;
 mod kept_path;
 mod laws;
 mod line;
@@ -24,13 +26,8 @@ mod why_lists;
 
 pub use answers::{answer_text, front_text};
 pub use audit_list::{AuditList, write_audit};
-pub use block::Block;
-pub use ever_list::{EverList, write_ever};
-pub use kept_path::KeptPath;
+pub use ever_list::write_ever;
+pub use fault::TextFault;
 pub use laws::state_law;
-pub use object_lists::{begin_lists, write_lists};
-pub use places::Places;
-pub use process_head::ProcessHead;
-pub use process_list::ProcessList;
-pub use why_list::WhyList;
-pub use why_lists::{begin_why_lists, write_why_lists};
+pub use object_lists::write_lists;
+pub use why_lists::write_why_lists;

@@ -1,4 +1,4 @@
-//! The lists of processes, begun, and written one after another.
+//! The lists of processes, written one after another.
 
 ghost use Rattle.std.specs.Prelude.{◌≡◌, ◌++◌, ℕ, List, IfOk};
 ghost use Rattle.pua_calls.specs.Calls.{CallTable as Rules};
@@ -7,9 +7,10 @@ ghost use Rattle.pua_script.specs.Worlds.{StandsForWorld};
 ghost use Rattle.pua_texts.specs.Blocks.{PassesOn};
 ghost use Rattle.pua_texts.specs.Lists.{AreListsOf};
 ghost use Rattle.pua_texts.specs.ObjectLines.{lists_of};
-ghost use Rattle.pua_io.specs.Sinks.{WritesTo};
+ghost use Rattle.pua_texts.specs.Tells.{TellsTo};
 
 use crate::block::Block;
+use crate::fault::TextFault;
 use crate::kept_path::KeptPath;
 use crate::places::Places;
 use crate::process_list::ProcessList;
@@ -19,9 +20,31 @@ use pua_tree::{FileTree, OutOfMemory};
 use std::alloc::Global;
 use std::collections::VecDeque;
 
+/// Writes the front of a text, and then the lists of these processes, one after another, of which those
+/// are left out that were never made. `OutOfMemory` where a growth was refused, before anything is
+/// written. `Write` only where a put failed in this call, after a front of the text.
+pub fn write_lists<T: FileTree, S: Sink>(
+    alloc: Global,
+    world: &World<T>,
+    numbers: &[u32],
+    front: &str,
+    sink: &mut S,
+) -> Result<(), TextFault>
+    ensures { (w : Replayed) → StandsForWorld world.now w →
+        TellsTo S.written S.failed (front.now ++ lists_of world.now.table w numbers.now)
+        result sink.old sink.new }
+{
+    let mut lists = begin_lists(alloc, world, numbers)?;
+    let mut places = Places::new(alloc, world.tree())?;
+    let mut path = KeptPath::new(alloc)?;
+    let mut block = Block::new(alloc)?;
+    let added = add_lists(&mut block, front, &mut lists, &mut places, &mut path, sink);
+    block.finish(added, sink)
+}
+
 /// Begins the list of each of these processes that was ever made. The only error is that a growth was
 /// refused.
-pub fn begin_lists<'t, T: FileTree>(
+fn begin_lists<'t, T: FileTree>(
     alloc: Global,
     world: &'t World<T>,
     numbers: &[u32],
@@ -42,30 +65,10 @@ pub fn begin_lists<'t, T: FileTree>(
     Ok(lists)
 }
 
-/// Writes what a block holds, then the front of a text, and then lists, one after another: the front
-/// before any line of them, and many lines in the block.
-pub fn write_lists<'t, T: FileTree, S: Sink>(
-    front: &str,
-    lists: &mut VecDeque<ProcessList<'t, T>>,
-    places: &mut Places<'t, T>,
-    path: &mut KeptPath,
-    block: &mut Block,
-    sink: &mut S,
-) -> Result<(), PutFault>
-    ensures { (table : Rules) (w : Replayed) (numbers : List ℕ) → places.old.tree ≡ w.tree →
-        AreListsOf table w numbers lists.old.items →
-        WritesTo S.written S.failed
-        (block.old ++ (front.now ++ lists_of table w numbers))
-        result sink.old sink.new }
-{
-    block.add_text(front.as_bytes(), sink)?;
-    add_lists(block, lists, places, path, sink)?;
-    block.put(sink)
-}
-
-/// Adds lists to a block, one after another.
+/// Adds the front of a text to a block, and then lists, one after another.
 fn add_lists<'t, T: FileTree, S: Sink>(
     block: &mut Block,
+    front: &str,
     lists: &mut VecDeque<ProcessList<'t, T>>,
     places: &mut Places<'t, T>,
     path: &mut KeptPath,
@@ -74,9 +77,10 @@ fn add_lists<'t, T: FileTree, S: Sink>(
     ensures { (table : Rules) (w : Replayed) (numbers : List ℕ) → places.old.tree ≡ w.tree →
         AreListsOf table w numbers lists.old.items →
         PassesOn S.written S.failed
-        (lists_of table w numbers)
+        (front.now ++ lists_of table w numbers)
         result block.old block.new sink.old sink.new }
 {
+    block.add_text(front.as_bytes(), sink)?;
     while let Some(mut list) = lists.pop_front() {
         list.add_to(block, places, path, sink)?;
     }

@@ -14,7 +14,7 @@ use std::marker::Model;
 /// A tree with its rows, and room for the names of the deepest place. Contracts see the tree and the
 /// names that lead to the place that was found last.
 #[derive(Drop)]
-pub struct Places<'t, T: FileTree> {
+pub(crate) struct Places<'t, T: FileTree> {
     tree: &'t T,
     rows: Vec<LentRow<'t>>,
     names: Vec<&'t Name>,
@@ -39,7 +39,7 @@ impl<'t, T: FileTree> Model for Places<'t, T> {
 impl<'t, T: FileTree> Places<'t, T> {
     /// The places in this tree. The only error is that a growth was refused: later calls take no
     /// memory.
-    pub fn new(alloc: Global, tree: &'t T) -> Result<Places<'t, T>, OutOfMemory>
+    pub(crate) fn new(alloc: Global, tree: &'t T) -> Result<Places<'t, T>, OutOfMemory>
         ensures { IfOk result (λ places. places.tree ≡ T.content tree.now) }
     {
         let rows = tree.rows(alloc)?;

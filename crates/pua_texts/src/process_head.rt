@@ -19,7 +19,7 @@ use std::marker::Model;
 
 /// The heading of a list and the state of its process, with all memory that writing them takes.
 #[derive(Drop)]
-pub struct ProcessHead<'t> {
+pub(crate) struct ProcessHead<'t> {
     text: String,
     veils: Vec<(&'t Place, &'t Perms)>,
 }
@@ -39,7 +39,7 @@ impl<'t> Model for ProcessHead<'t> {
 impl<'t> ProcessHead<'t> {
     /// What stands before the lines of a list with this title, of the process with this number. The
     /// only error is that a growth was refused.
-    pub fn begin(
+    pub(crate) fn begin(
         alloc: Global,
         title: &str,
         number: u32,

@@ -22,7 +22,7 @@ use std::marker::Model;
 
 /// The list of a process, with all memory that writing it takes.
 #[derive(Drop)]
-pub struct ProcessList<'t, T: FileTree> {
+pub(crate) struct ProcessList<'t, T: FileTree> {
     head: ProcessHead<'t>,
     objects: Objects<'t, T>,
 }

@@ -24,7 +24,7 @@ use std::marker::Model;
 
 /// The list of a process with reasons, with all memory that writing it takes.
 #[derive(Drop)]
-pub struct WhyList<'t, T: FileTree> {
+pub(crate) struct WhyList<'t, T: FileTree> {
     head: ProcessHead<'t>,
     items: Items<'t, T>,
     columns: Columns<'t, T>,

@@ -1,4 +1,4 @@
-//! The lists of processes with reasons, begun, and written one after another.
+//! The lists of processes with reasons, written one after another.
 
 ghost use Rattle.std.specs.Prelude.{◌≡◌, ◌++◌, ℕ, List, Option, IfOk, OnOk};
 ghost use Rattle.std.specs.Prelude.{flat_map, length, map};
@@ -9,9 +9,10 @@ ghost use Rattle.pua_since.specs.Dates.{veil_date, veils_at};
 ghost use Rattle.pua_texts.specs.VeilDates.{veil_dates};
 ghost use Rattle.pua_texts.specs.WhyLists.{AreWhyListsOf, IsPushed};
 ghost use Rattle.pua_texts.specs.WhyLines.{Posed as Asking, why_lists_of, world_left};
-ghost use Rattle.pua_io.specs.Sinks.{WritesTo};
+ghost use Rattle.pua_texts.specs.Tells.{TellsTo};
 
 use crate::block::Block;
+use crate::fault::TextFault;
 use crate::places::Places;
 use crate::why_list::WhyList;
 use pua_io::{PutFault, Sink};
@@ -21,9 +22,34 @@ use pua_tree::{FileTree, OutOfMemory};
 use std::alloc::Global;
 use std::collections::VecDeque;
 
+/// Writes the front of a text, and then the lists of these processes with reasons, one after another,
+/// of which those are left out that were never made, where their veils are so since these lines.
+/// `OutOfMemory` where a growth was refused, before anything is written. `Write` only where a put failed
+/// in this call, after a front of the text.
+pub fn write_why_lists<T: FileTree, S: Sink>(
+    alloc: Global,
+    world: &World<T>,
+    numbers: &[u32],
+    lines: &[Option<usize>],
+    front: &str,
+    sink: &mut S,
+) -> Result<(), TextFault>
+    ensures { (p : Asking) → StandsForWorld world.now (world_left p) →
+        world.now.table ≡ p.table → lines.now
+        ≡ map (veil_date p.table p.world p.asks) (flat_map (veils_at world.now) numbers.now) →
+        TellsTo S.written S.failed (front.now ++ why_lists_of p numbers.now)
+        result sink.old sink.new }
+{
+    let mut lists = begin_lists(alloc, world, numbers, lines)?;
+    let mut places = Places::new(alloc, world.tree())?;
+    let mut block = Block::new(alloc)?;
+    let added = add_lists(&mut block, front, &mut lists, &mut places, sink);
+    block.finish(added, sink)
+}
+
 /// Begins the list of each of these processes that was ever made, whose veils are so since these lines.
 /// The only error is that a growth was refused.
-pub fn begin_why_lists<'t, T: FileTree>(
+fn begin_lists<'t, T: FileTree>(
     alloc: Global,
     world: &'t World<T>,
     numbers: &[u32],
@@ -84,29 +110,10 @@ fn push_list<'t, T: FileTree>(
     Ok(())
 }
 
-/// Writes what a block holds, then the front of a text, and then lists, one after another: the front
-/// before any line of them, and many lines in the block.
-pub fn write_why_lists<'t, T: FileTree, S: Sink>(
-    front: &str,
-    lists: &mut VecDeque<WhyList<'t, T>>,
-    places: &mut Places<'t, T>,
-    block: &mut Block,
-    sink: &mut S,
-) -> Result<(), PutFault>
-    ensures { (p : Asking) (numbers : List ℕ) → places.old.tree ≡ (world_left p).tree →
-        AreWhyListsOf p numbers lists.old.items →
-        WritesTo S.written S.failed
-        (block.old ++ (front.now ++ why_lists_of p numbers))
-        result sink.old sink.new }
-{
-    block.add_text(front.as_bytes(), sink)?;
-    add_lists(block, lists, places, sink)?;
-    block.put(sink)
-}
-
-/// Adds lists to a block, one after another.
+/// Adds the front of a text to a block, and then lists, one after another.
 fn add_lists<'t, T: FileTree, S: Sink>(
     block: &mut Block,
+    front: &str,
     lists: &mut VecDeque<WhyList<'t, T>>,
     places: &mut Places<'t, T>,
     sink: &mut S,
@@ -114,9 +121,10 @@ fn add_lists<'t, T: FileTree, S: Sink>(
     ensures { (p : Asking) (numbers : List ℕ) → places.old.tree ≡ (world_left p).tree →
         AreWhyListsOf p numbers lists.old.items →
         PassesOn S.written S.failed
-        (why_lists_of p numbers)
+        (front.now ++ why_lists_of p numbers)
         result block.old block.new sink.old sink.new }
 {
+    block.add_text(front.as_bytes(), sink)?;
     while let Some(mut list) = lists.pop_front() {
         list.add_to(block, places, sink)?;
     }

@@ -1,22 +1,17 @@
 -- The text of the list for ever, step by step.
 use Rattle.std.proofs.Common.{◌≡◌, ℕ, List, ◌++◌, ap, refl, sym, subst}
 use Rattle.std.specs.Prelude.{◌≢◌, Option, Some, None, Result, Ok, Err, IfErr, OnOk, ok_or}
-use Rattle.pua_tree.specs.Tree.{Tree}
 use Rattle.pua_tree.specs.Steps.{◌>>=◌}
-use Rattle.pua_calls.specs.Calls.{CallTable}
 use Rattle.pua_policy.specs.History.{History}
 use Rattle.pua_script.specs.Replay.{history_of}
 use Rattle.pua_ever.specs.Refusals.{refusal}
-use Rattle.pua_texts.specs.EverLists.{EverListState, IsEverListOf}
 use Rattle.pua_tool.specs.EverTexts.{Answers, ever_after, ever_text, unless_refused}
 use Rattle.pua_texts.specs.EverLines.{ever_list}
-use Rattle.pua_tool.specs.ObjectTexts.{Tells}
 use Rattle.pua_io.specs.Sinks.{Adds, AddsFront, HasFailed}
 use Rattle.pua_tool.specs.Texts.{Chosen, Replayed, replayed}
 use Rattle.pua_texts.specs.Lines.{answer_lines}
 use Rattle.pua_tool.specs.declared.fault.ToolFault.{ToolFault}
 use Rattle.pua_tool.specs.declared.fault.ToolFault.TheVariants.{NoProcess, Write, OutOfMemory}
-use Rattle.pua_tool.proofs.ObjectTexts.{tells_write, tells_refused, tells_unwritten}
 
 module _ (choice : Chosen) (tree_bytes script_bytes : List ℕ) (process : ℕ) where
   pub ever_is : (done : Replayed) → replayed choice tree_bytes script_bytes ≡ Ok done → ever_text choice tree_bytes script_bytes process ≡ ever_after done process
@@ -43,23 +38,36 @@ after_made done process h is = ap (λ made. ok_or made NoProcess >>= after_by do
 pub unrefused : (process : ℕ) (h : History) (done : Replayed) → refusal done.table h ≡ None → after_by done process h ≡ Ok (answer_lines 1 done.told ++ ever_list done.table done.world.tree process h)
 unrefused process h done is = ap (λ reason. unless_refused process reason (answer_lines 1 done.told ++ ever_list done.table done.world.tree process h)) is
 
--- the same list by other names
-pub same_list : (rules table : CallTable) (t u : Tree) (process : ℕ) (h : History) (list : EverListState) → rules ≡ table → t ≡ u → IsEverListOf rules t process h list → IsEverListOf table u process h list
-same_list rules table t u process h list ruled same is =
-    subst (λ (c : CallTable). IsEverListOf c u process h list) ruled (subst (λ (v : Tree). IsEverListOf rules v process h list) same is)
-
 -- a fault before anything is written
 pub answers_refused : (answer : Result (List ℕ) ToolFault) (fault : ToolFault) (a : Option (List ℕ)) (n : ℕ) → fault ≢ Write → (fault ≢ OutOfMemory → answer ≡ Err fault) → Answers answer (Err fault) a a n n
 answers_refused answer fault a n unwritten refuses = record { write = λ is. absurd (unwritten is); refused = λ written. refuses; unwritten = λ written. refl }
 
 -- a text that is told is the answer
-pub answers_told : (answer : Result (List ℕ) ToolFault) (text : List ℕ) (r : Result (Unit {0}) ToolFault) (a b : Option (List ℕ)) (n m : ℕ) → answer ≡ Ok text → Tells text r a b n m → Answers answer r a b n m
-answers_told answer text (Ok done) a b n m is told = (text, is, told.0, told.1)
-answers_told answer text (Err fault) a b n m is told = record {
-  write = λ same. tells_write answer text a b n m is (Err fault) told (ap Err same);
-  refused = tells_refused answer text a b n m is (Err fault) told;
-  unwritten = tells_unwritten answer text a b n m is (Err fault) told;
-}
+pub answers_told : (answer : Result (List ℕ) ToolFault) (text : List ℕ) (r : Result (Unit {0}) ToolFault) (a b : Option (List ℕ)) (n m : ℕ) → answer ≡ Ok text → Answers (Ok text) r a b n m → Answers answer r a b n m
+answers_told answer text r a b n m is = subst (λ (other : Result (List ℕ) ToolFault). Answers other r a b n m) (sym is)
+
+abbrev of_memory : ToolFault → Type 0
+of_memory OutOfMemory = Unit {0}
+of_memory fault = ⊥
+
+-- the telling of a text, case by case
+module _ (text : List ℕ) (a b : Option (List ℕ)) (n m : ℕ) where
+  pub all_told : Adds text a b → m ≡ n → Answers (Ok text) (Ok tt) a b n m
+  all_told adds same = (text, refl, adds, same)
+
+  pub front_told : AddsFront text a b → HasFailed n m → Answers (Ok text) (Err Write) a b n m
+  front_told adds failed = record {
+    write = λ same. (text, refl, adds, failed);
+    refused = λ written. absurd (written refl);
+    unwritten = λ written. absurd (written refl);
+  }
+
+  pub none_told : b ≡ a → Answers (Ok text) (Err OutOfMemory) a b n m
+  none_told kept = record {
+    write = λ same. absurd (subst of_memory same tt);
+    refused = λ written room. absurd (room refl);
+    unwritten = λ written. kept;
+  }
 
 -- what the telling of an answer says, clause by clause
 module _ (answer : Result (List ℕ) ToolFault) (a b : Option (List ℕ)) (n m : ℕ) where

@@ -15,7 +15,6 @@ use Rattle.pua_script.specs.Worlds.{StandsForWorld, WorldState}
 use Rattle.pua_script.specs.declared.fault.ScriptFault.{ScriptFault}
 use Rattle.pua_words.specs.declared.command.Processes.{Processes}
 use Rattle.pua_tool.specs.EverTexts.{Answers}
-use Rattle.pua_tool.specs.ObjectTexts.{Tells}
 use Rattle.pua_tool.specs.Texts.{Chosen, as_listing, as_script, table_by}
 use Rattle.pua_texts.specs.WhyLines.{Posed}
 use Rattle.pua_tool.specs.WhyTexts.{as_request, chain_lines, objects_why_text, posed, reason_lines, request_line, run_why_text, why_lists_asked, why_text}
@@ -73,7 +72,7 @@ module _ (choice : Chosen) (tree_bytes script_bytes : List ℕ) where
 
   -- the lines of a run that is told are the answer
   pub run_told : (p : Posed) (r : Result (Unit {0}) ToolFault) (a b : Option (List ℕ)) (n m : ℕ) → posed choice tree_bytes script_bytes ≡ Ok p
-      → Tells (reason_lines p) r a b n m → Answers (run_why_text choice tree_bytes script_bytes) r a b n m
+      → Answers (Ok (reason_lines p)) r a b n m → Answers (run_why_text choice tree_bytes script_bytes) r a b n m
   run_told p r a b n m is = answers_told (run_why_text choice tree_bytes script_bytes) (reason_lines p) r a b n m (λ i. is i >>= λ p. Ok (reason_lines p))
 
   module _ (process : ℕ) (fields : List (List ℕ)) where
@@ -102,7 +101,7 @@ module _ (choice : Chosen) (tree_bytes script_bytes : List ℕ) where
     -- the chain that is told is the answer
     pub why_told : (p : Posed) (ask : Asked) (r : Result (Unit {0}) ToolFault) (a b : Option (List ℕ)) (n m : ℕ)
         → posed choice tree_bytes script_bytes ≡ Ok p → as_request (request_of 1 (request_line process fields)) ≡ Ok ask
-        → Tells (chain_lines p ask) r a b n m → Answers (why_text choice tree_bytes script_bytes process fields) r a b n m
+        → Answers (Ok (chain_lines p ask)) r a b n m → Answers (why_text choice tree_bytes script_bytes process fields) r a b n m
     why_told p ask r a b n m is read = answers_told (why_text choice tree_bytes script_bytes process fields) (chain_lines p ask) r a b n m (why_is p ask is read)
 
   module _ (which : Processes) where

@@ -13,5 +13,4 @@ pub mod Alike
 pub mod Examples
 -- Notes: what the code has begun.
 pub mod Begun
-pub mod Unlisted
 pub mod PosedScripts

@@ -1,5 +1,5 @@
 -- The text of the lists of processes, and what refuses it.
-use Rattle.std.specs.Prelude.{◌≡◌, ℕ, List, [], ◌∷◌, ◌++◌, map, Option, option_map, Result, Ok, Err, ok_or}
+use Rattle.std.specs.Prelude.{ℕ, List, [], ◌∷◌, ◌++◌, map, option_map, Result, Ok, ok_or}
 use Rattle.pua_tree.specs.Steps.{◌>>=◌}
 use Rattle.pua_calls.specs.Calls.{CallTable}
 use Rattle.pua_script.specs.Replay.{World, history_of}
@@ -9,8 +9,7 @@ use Rattle.pua_words.specs.declared.command.Processes.TheVariants.{One, All}
 use Rattle.pua_tool.specs.Texts.{Chosen, Replayed, replayed}
 use Rattle.pua_texts.specs.Lines.{answer_lines}
 use Rattle.pua_tool.specs.declared.fault.ToolFault.{ToolFault}
-use Rattle.pua_tool.specs.declared.fault.ToolFault.TheVariants.{NoProcess, Write, OutOfMemory}
-use Rattle.pua_io.specs.Sinks.{Adds, AddsFront, HasFailed}
+use Rattle.pua_tool.specs.declared.fault.ToolFault.TheVariants.{NoProcess}
 use Rattle.pua_texts.specs.ObjectLines.{lists_of}
 
 -- the number that is asked for, if it was made; or those of all processes that were ever made, in ascending order
@@ -32,18 +31,3 @@ objects_text choice tree_bytes script_bytes which = do
   done ← replayed choice tree_bytes script_bytes
   numbers ← numbers_asked done.world which
   Ok (objects_after done.table done.told done.world numbers)
-
--- why a text was not told, or not whole: a put failed after a front of it, or memory was refused before it
-abbrev pub IsUntold : List ℕ → ToolFault → Option (List ℕ) → Option (List ℕ) → ℕ → ℕ → Type 0
-IsUntold text Write old new before after = AddsFront text old new × HasFailed before after
-IsUntold text OutOfMemory old new before after = new ≡ old
-IsUntold text fault old new before after = ⊥
-
--- what the telling of a text leaves
-abbrev pub Tells : List ℕ → Result (Unit {0}) ToolFault → Option (List ℕ) → Option (List ℕ) → ℕ → ℕ → Type 0
-Tells text (Ok done) old new before after = Adds text old new × (after ≡ before)
-Tells text (Err fault) old new before after = IsUntold text fault old new before after
-
--- the same, of a sink of which this is known
-abbrev pub TellsTo : {A : Type 0} → (A → Option (List ℕ)) → (A → ℕ) → List ℕ → Result (Unit {0}) ToolFault → A → A → Type 0
-TellsTo written failed text r a b = Tells text r (written a) (written b) (failed a) (failed b)

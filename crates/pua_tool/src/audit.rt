@@ -19,7 +19,7 @@ use pua_audit::AuditFault;
 use pua_calls::{CallTable, Rules};
 use pua_io::Sink;
 use pua_policy::Process;
-use pua_texts::{AuditList, Block, front_text, write_audit};
+use pua_texts::{AuditList, front_text, write_audit};
 use pua_tree::FileTree;
 use std::alloc::Global;
 
@@ -113,10 +113,7 @@ fn pairs_to<S: Sink>(
     let Ok(front) = front_text(alloc, replay.told.as_slice(), job.process, job.after) else {
         return Err(ToolFault::OutOfMemory);
     };
-    let Ok(mut block) = Block::new(alloc) else {
-        return Err(ToolFault::OutOfMemory);
-    };
-    told(write_audit(front.as_str(), &mut list, &mut block, sink))
+    told(write_audit(alloc, front.as_str(), &mut list, sink))
 }
 
 /// Begins the audit of a process that a job asks for, or answers why there is none.

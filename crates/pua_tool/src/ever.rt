@@ -1,25 +1,19 @@
 //! The text of the list for ever of a process.
 
-ghost use Rattle.std.specs.Prelude.{◌≡◌, ◌≢◌, ℕ, List, Ok, Err, IfErr, OnOk, IfOk};
-ghost use Rattle.pua_policy.specs.History.{History, StandsFor};
+ghost use Rattle.std.specs.Prelude.{◌≡◌, ◌≢◌, ℕ, List, Ok, Err, IfErr, OnOk};
 ghost use Rattle.pua_tool.specs.Begun.{IsReplay};
-ghost use Rattle.pua_texts.specs.EverLists.{IsEverListOf};
 ghost use Rattle.pua_tool.specs.EverTexts.{AnswersTo, ever_after, ever_text};
 ghost use Rattle.pua_tool.specs.Texts.{Replayed, chosen};
 ghost use Rattle.pua_io.specs.Sinks.{Adds, AddsFront, HasFailed};
-ghost use Rattle.pua_tool.specs.Unlisted.{IsUnlisted};
 
 use crate::ever_fault::fault_of;
 use crate::fault::ToolFault;
 use crate::objects::told;
 use crate::script::{Replay, replay_script};
 use crate::table::TableChoice;
-use pua_calls::CallTable;
 use pua_ever::Ever;
 use pua_io::Sink;
-use pua_policy::Process;
-use pua_texts::{Block, EverList, KeptPath, Places, ProcessHead, answer_text, write_ever};
-use pua_tree::FileTree;
+use pua_texts::{answer_text, write_ever};
 use std::alloc::Global;
 
 /// Writes the list for ever of a process: for each line of the script its number and what it was
@@ -79,50 +73,20 @@ fn list_to<S: Sink>(
     let Some(process) = world.process(number) else {
         return Err(ToolFault::NoProcess);
     };
-    let mut list = begin_list(alloc, world.tree(), world.table(), number, process)?;
+    let mut ever = match Ever::begin(alloc, world.tree(), process, world.table()) {
+        Ok(ever) => ever,
+        Err(fault) => return Err(fault_of(number, fault)),
+    };
     let Ok(front) = answer_text(alloc, replay.told.as_slice()) else {
         return Err(ToolFault::OutOfMemory);
     };
-    let Ok(mut places) = Places::new(alloc, world.tree()) else {
-        return Err(ToolFault::OutOfMemory);
-    };
-    let Ok(mut block) = Block::new(alloc) else {
-        return Err(ToolFault::OutOfMemory);
-    };
-    let Ok(mut path) = KeptPath::new(alloc) else {
-        return Err(ToolFault::OutOfMemory);
-    };
     told(write_ever(
+        alloc,
+        world.tree(),
+        number,
+        process,
+        &mut ever,
         front.as_str(),
-        &mut list,
-        &mut places,
-        &mut path,
-        &mut block,
         sink,
     ))
-}
-
-/// Begins the list for ever of a process with this number, by a table of what calls need, or answers
-/// why there is none: `CanUnveil`, `LacksC`, `RenameLacksC` or `LinkLacksC`. The only other fault is
-/// `OutOfMemory`, where a growth was refused.
-fn begin_list<'t, T: FileTree>(
-    alloc: Global,
-    tree: &'t T,
-    table: &CallTable,
-    number: u32,
-    process: &'t Process,
-) -> Result<EverList<'t, T>, ToolFault>
-    ensures begun { IfOk result (λ list. (h : History) → StandsFor process.now h →
-        IsEverListOf table.now (T.content tree.now) number h list) }
-    ensures refused { IfErr result (λ fault. fault ≢ ToolFault.OutOfMemory →
-        IsUnlisted table.now process.now number fault) }
-    ensures unwritten { IfErr result (λ fault. fault ≢ ToolFault.Write) }
-{
-    let Ok(head) = ProcessHead::begin(alloc, "ever", number, process) else {
-        return Err(ToolFault::OutOfMemory);
-    };
-    match Ever::begin(alloc, tree, process, table) {
-        Ok(ever) => Ok(EverList::new(head, ever)),
-        Err(fault) => Err(fault_of(number, fault)),
-    }
 }

@@ -1,23 +1,23 @@
 //! The text of the lists of processes.
 
-ghost use Rattle.std.specs.Prelude.{◌≡◌, ◌≢◌, ◌++◌, ℕ, List, Option, Ok, Err, IfOk, IfErr};
+ghost use Rattle.std.specs.Prelude.{◌≡◌, ◌≢◌, ℕ, List, Option, Ok, Err, IfOk, IfErr};
 ghost use Rattle.std.specs.Prelude.{OnOk};
 ghost use Rattle.pua_script.specs.Replay.{World as Replayed};
 ghost use Rattle.pua_script.specs.Worlds.{StandsForWorld};
 ghost use Rattle.pua_words.specs.declared.command.Processes.TheVariants as which;
-ghost use Rattle.pua_tool.specs.ObjectTexts.{Tells, TellsTo, lists_asked, numbers_asked, objects_text};
-ghost use Rattle.pua_texts.specs.ObjectLines.{lists_of};
+ghost use Rattle.pua_tool.specs.ObjectTexts.{lists_asked, numbers_asked, objects_text};
+ghost use Rattle.pua_texts.specs.Tells.{Tells};
 ghost use Rattle.pua_tool.specs.Begun.{IsReplay};
-ghost use Rattle.pua_tool.specs.EverTexts.{AnswersTo};
+ghost use Rattle.pua_tool.specs.EverTexts.{Answers, AnswersTo};
 ghost use Rattle.pua_tool.specs.Texts.{Replayed as Served, chosen};
-ghost use Rattle.pua_io.specs.Sinks.{Adds, AddsFront, HasFailed, Writes};
+ghost use Rattle.pua_io.specs.Sinks.{Adds, AddsFront, HasFailed};
 
 use crate::fault::ToolFault;
 use crate::script::{Replay, replay_script};
 use crate::table::TableChoice;
-use pua_io::{PutFault, Sink, put_all};
+use pua_io::{Sink, put_all};
 use pua_script::World;
-use pua_texts::{Block, KeptPath, Places, answer_text, begin_lists, write_lists};
+use pua_texts::{TextFault, answer_text, write_lists};
 use pua_tree::{FileTree, OutOfMemory};
 use pua_words::Processes;
 use std::alloc::Global;
@@ -83,13 +83,13 @@ fn asked_to<S: Sink>(
     let Ok(front) = answer_text(alloc, replay.told.as_slice()) else {
         return Err(ToolFault::OutOfMemory);
     };
-    lists_to(
+    told(write_lists(
         alloc,
         &replay.world,
         numbers.as_slice(),
         front.as_str(),
         sink,
-    )
+    ))
 }
 
 /// The numbers of the processes that are asked for: `NoProcess` where the one that is named was never
@@ -135,50 +135,24 @@ fn one_number<T: FileTree>(
     Ok(numbers)
 }
 
-/// Writes the front of a text, and then the lists of these processes, of which those are left out that
-/// were never made. `OutOfMemory` is answered before anything is written, and no other fault but
-/// `Write`.
-fn lists_to<T: FileTree, S: Sink>(
-    alloc: Global,
-    world: &World<T>,
-    numbers: &[u32],
-    front: &str,
-    sink: &mut S,
-) -> Result<(), ToolFault>
-    ensures { (w : Replayed) → StandsForWorld world.now w →
-        TellsTo S.written S.failed
-        (front.now ++ lists_of world.now.table w numbers.now)
-        result sink.old sink.new }
-{
-    let Ok(mut lists) = begin_lists(alloc, world, numbers) else {
-        return Err(ToolFault::OutOfMemory);
-    };
-    let Ok(mut places) = Places::new(alloc, world.tree()) else {
-        return Err(ToolFault::OutOfMemory);
-    };
-    let Ok(mut block) = Block::new(alloc) else {
-        return Err(ToolFault::OutOfMemory);
-    };
-    let Ok(mut path) = KeptPath::new(alloc) else {
-        return Err(ToolFault::OutOfMemory);
-    };
-    told(write_lists(front, &mut lists, &mut places, &mut path, &mut block, sink))
-}
-
-/// What a writing left, as the tool reports it.
-pub(crate) fn told(written: Result<(), PutFault>) -> Result<(), ToolFault>
-    ensures { (text : List ℕ) (a b : Option (List ℕ)) (n m : ℕ) → Writes text written a b n m →
-        Tells text result a b n m }
+/// What the writing of a text left, as the tool reports it.
+pub(crate) fn told(written: Result<(), TextFault>) -> Result<(), ToolFault>
+    ensures { (text : List ℕ) (a b : Option (List ℕ)) (n m : ℕ) → Tells text written a b n m →
+        Answers (Ok text) result a b n m }
 {
     match written {
         Ok(()) => Ok(()),
-        Err(PutFault) => Err(ToolFault::Write),
+        Err(TextFault::Write) => Err(ToolFault::Write),
+        Err(TextFault::OutOfMemory) => Err(ToolFault::OutOfMemory),
     }
 }
 
 /// Puts a text, as the tool reports it.
 pub(crate) fn put_text<S: Sink>(text: &str, sink: &mut S) -> Result<(), ToolFault>
-    ensures { TellsTo S.written S.failed text.now result sink.old sink.new }
+    ensures { AnswersTo S.written S.failed (Ok text.now) result sink.old sink.new }
 {
-    told(put_all(sink, text.as_bytes()))
+    let Ok(()) = put_all(sink, text.as_bytes()) else {
+        return Err(ToolFault::Write);
+    };
+    Ok(())
 }

@@ -1,14 +1,11 @@
 //! The text of the lists of processes with reasons.
 
 ghost use Rattle.std.specs.Prelude.{◌≡◌, ◌≢◌, ◌++◌, ℕ, List, Ok, Err, IfErr, OnOk};
-ghost use Rattle.std.specs.Prelude.{flat_map, map};
 ghost use Rattle.pua_script.specs.Scripts.{script};
-ghost use Rattle.pua_script.specs.Worlds.{StandsForWorld};
-ghost use Rattle.pua_tool.specs.ObjectTexts.{TellsTo};
 ghost use Rattle.pua_tool.specs.Texts.{chosen};
-ghost use Rattle.pua_since.specs.Dates.{veil_date, veils_at};
 ghost use Rattle.pua_tool.specs.PosedScripts.{IsPosed};
-ghost use Rattle.pua_texts.specs.WhyLines.{Posed as Asking, why_lists_of, world_left};
+ghost use Rattle.pua_texts.specs.Tells.{TellsTo};
+ghost use Rattle.pua_texts.specs.WhyLines.{Posed as Asking, why_lists_of};
 ghost use Rattle.pua_tool.specs.EverTexts.{AnswersTo};
 ghost use Rattle.pua_tool.specs.WhyTexts.{objects_why_text, reason_lines, why_lists_asked};
 ghost use Rattle.pua_io.specs.Sinks.{Adds, AddsFront, HasFailed};
@@ -18,10 +15,8 @@ use crate::objects::{numbers_of, told};
 use crate::posed::{Posed, pose};
 use crate::table::TableChoice;
 use pua_io::Sink;
-use pua_script::World;
 use pua_since::{dated_text, veils_of};
-use pua_texts::{Block, Places, begin_why_lists, write_why_lists};
-use pua_tree::{FileTree, OutOfMemory};
+use pua_texts::{TextFault, write_why_lists};
 use pua_words::Processes;
 use std::alloc::Global;
 
@@ -77,66 +72,34 @@ fn write_asked<S: Sink>(
         AnswersTo S.written S.failed (why_lists_asked p processes) result sink.old sink.new }
 {
     let numbers = numbers_of(alloc, &posed.after, processes)?;
-    write_all(alloc, script_bytes, posed, numbers.as_slice(), sink)
+    told(write_all(alloc, script_bytes, posed, numbers.as_slice(), sink))
 }
 
-/// Writes the lines of a script with reasons, and then the lists of these processes.
+/// Writes the lines of a script with reasons, and then the lists of these processes. `OutOfMemory` where
+/// a growth was refused, before anything is written. `Write` only where a put failed in this call, after
+/// a front of the text.
 fn write_all<S: Sink>(
     alloc: Global,
     script_bytes: &[u8],
     posed: &mut Posed,
     numbers: &[u32],
     sink: &mut S,
-) -> Result<(), ToolFault>
+) -> Result<(), TextFault>
     ensures { (p : Asking) → script script_bytes.now ≡ Ok p.asks → IsPosed posed.old p →
         TellsTo S.written S.failed (reason_lines p ++ why_lists_of p numbers.now)
         result sink.old sink.new }
 {
     let (requests, told) = (posed.script.requests(), posed.told.as_slice());
-    let Ok(veils) = veils_of(alloc, &posed.after, numbers) else {
-        return Err(ToolFault::OutOfMemory);
-    };
+    let veils = veils_of(alloc, &posed.after, numbers)?;
     let veils = veils.as_slice();
-    let dated = dated_text(
+    let (front, lines) = dated_text(
         alloc,
         &mut posed.before,
         script_bytes,
         requests,
         told,
         veils,
-    );
-    let Ok((front, lines)) = dated else {
-        return Err(ToolFault::OutOfMemory);
-    };
+    )?;
     let (front, lines) = (front.as_str(), lines.as_slice());
-    lists_to(alloc, &posed.after, numbers, front, lines, sink)
-}
-
-/// Writes the front of a text, and then the lists of these processes, of which those are left out that
-/// were never made, where their veils are so since these lines. `OutOfMemory` is answered before
-/// anything is written, and no other fault but `Write`.
-fn lists_to<T: FileTree, S: Sink>(
-    alloc: Global,
-    world: &World<T>,
-    numbers: &[u32],
-    front: &str,
-    lines: &[Option<usize>],
-    sink: &mut S,
-) -> Result<(), ToolFault>
-    ensures { (p : Asking) → StandsForWorld world.now (world_left p) →
-        world.now.table ≡ p.table → lines.now
-        ≡ map (veil_date p.table p.world p.asks) (flat_map (veils_at world.now) numbers.now) →
-        TellsTo S.written S.failed (front.now ++ why_lists_of p numbers.now)
-        result sink.old sink.new }
-{
-    let Ok(mut lists) = begin_why_lists(alloc, world, numbers, lines) else {
-        return Err(ToolFault::OutOfMemory);
-    };
-    let Ok(mut places) = Places::new(alloc, world.tree()) else {
-        return Err(ToolFault::OutOfMemory);
-    };
-    let Ok(mut block) = Block::new(alloc) else {
-        return Err(ToolFault::OutOfMemory);
-    };
-    told(write_why_lists(front, &mut lists, &mut places, &mut block, sink))
+    write_why_lists(alloc, &posed.after, numbers, lines, front, sink)
 }

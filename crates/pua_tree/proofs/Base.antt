@@ -1,12 +1,14 @@
 -- Lemmas of no one subject: tests, options, results, byte strings and lists.
-use Rattle.std.proofs.Common.{◌≡◌, ◌≢◌, Bool, true, false, cond, T, ℕ, List, Option, Some, None, Result, Ok, Err, ok_or, option_map, unwrap_or, is_some, is_ok, eqb, nat_cmp, refl, sym, ap, subst, ◌∙◌, true≢false, is_eq}
+use Rattle.std.proofs.Common.{◌≡◌, ◌≢◌, ◌<◌, Bool, true, false, cond, T, ℕ, List, [], ◌∷◌, ◌++◌, map, reverse, find, Option, Some, None, Result, Ok, Err, ok_or, option_map, unwrap_or, is_some, is_ok, eqb, nat_cmp, refl, sym, ap, subst, ◌∙◌, true≢false, is_eq}
 use Rattle.std.specs.Prelude.{IsTrue}
 use Rattle.std.specs.Result.{result_ok}
-use Rattle.std.specs.Cmp.{Equal-is, nat_cmp_total, tied_itself}
+use Rattle.std.specs.Cmp.{Equal-is, nat_cmp_is, nat_cmp_total, tied_itself}
+use Rattle.std.specs.declared.cmp.Ordering.TheVariants.{Greater}
 use Rattle.std.specs.Ordering.{eq_by_cmp}
 use Rattle.std.specs.FinMap.{nat_cmp-IsAntisymmetric}
 use Rattle.std.proofs.lemmas.Bool.{eq-eqb, eqb-true}
 use Rattle.std.proofs.lemmas.Bool.Decides.{same_from_decides}
+use Rattle.std.proofs.lemmas.List.{map-append, reverse-append}
 use lib.Pointwise.{bytes_decides}
 use Rattle.pua_tree.specs.Steps.{◌>>=◌}
 use Rattle.pua_tree.specs.Listing.{only_if}
@@ -102,3 +104,27 @@ pub nat_tie : (p n : ℕ) → eq_by_cmp nat_cmp p n ≡ eqb n p
 nat_tie p n = same_from_decides {P = p ≡ n} _ _
     (λ e. nat_cmp-IsAntisymmetric p n ((Equal-is _).0 e), λ e. subst (λ s. eq_by_cmp nat_cmp p s ≡ true) e (ap is_eq (tied_itself nat_cmp_total p)))
     (λ e. sym (eqb-true n p e), λ e. eq-eqb n p (sym e))
+
+-- a number after a lower one
+pub greater : (x y : ℕ) → y < x → nat_cmp x y ≡ Greater
+greater x y lower = sym (nat_cmp_is x y Greater lower)
+
+-- what is found passes
+pub first_passes : {A : Type 0} (test : A → Bool) (xs : List A) (x : A) → find test xs ≡ Some x → test x ≡ true
+first_passes test [] x e = absurd (None≢Some x e)
+first_passes test (y ∷ ys) x e = by (test y) refl e (first_passes test ys x)
+  where
+    by : (b : Bool) → test y ≡ b → cond b (Some y) (find test ys) ≡ Some x → (find test ys ≡ Some x → test x ≡ true) → test x ≡ true
+    by true t is later = subst (λ v. test v ≡ true) (same_Some y x is) t
+    by false t is later = later is
+
+-- finding after a map is a map after finding
+pub find-map : {X Y : Type 0} (f : X → Y) (p : Y → Bool) (xs : List X) → find p (map f xs) ≡ option_map f (find (λ x. p (f x)) xs)
+find-map f p [] = refl
+find-map f p (x ∷ xs) = elim (p (f x)) as (λ b. cond b (Some (f x)) (find p (map f xs)) ≡ option_map f (cond b (Some x) (find (λ x. p (f x)) xs))) [ true ↦ refl | false ↦ find-map f p xs ]
+
+-- a list turned round after a map
+pub map-reverse : {A B : Type 0} (f : A → B) (xs : List A) → map f (reverse xs) ≡ reverse (map f xs)
+map-reverse f [] = refl
+map-reverse f (x ∷ xs) =
+    ap (map f) (reverse-append (x ∷ []) xs) ∙ map-append f (reverse xs) (x ∷ []) ∙ ap (λ ys. ys ++ f x ∷ []) (map-reverse f xs) ∙ sym (reverse-append (f x ∷ []) (map f xs))

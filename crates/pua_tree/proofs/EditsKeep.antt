@@ -22,7 +22,8 @@ same_spot_or_other s r = elim (same_or_other spot_cmp spots_total exact_spots s 
 same_number_or_other : (x y : ℕ) → (x ≡ y) ⊎ (x ≢ y)
 same_number_or_other x y = elim (same_or_other nat_cmp nat_cmp_total nat_cmp-IsAntisymmetric x y) [ inl e ↦ inl e.0 | inr e ↦ inr e.0 ]
 
-is_living_dir : (t : Tree) (d : ℕ) → is_dir t d ≡ true → is_living t d ≡ true
+-- a directory lives
+pub is_living_dir : (t : Tree) (d : ℕ) → is_dir t d ≡ true → is_living t d ≡ true
 is_living_dir t d h =
     elim (node_at t d) as (λ o. is_dir_kind (option_map (λ n. n.kind) o) ≡ true → is_some o ≡ true) [ None ↦ λ e. absurd (false≢true e) | Some n ↦ λ e. refl ] h
 

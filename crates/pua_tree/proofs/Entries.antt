@@ -1,5 +1,5 @@
 -- The rows and nodes of a listing's entries, looked up and added to.
-use Rattle.std.proofs.Common.{◌≡◌, ℕ, suc, ◌+◌, ◌<◌, ◌≤◌, Bool, true, false, cond, not, ◌&&◌, ◌||◌, T, eqb, leb, ltb, List, [], ◌∷◌, ◌++◌, map, length, Option, Some, None, option_map, is_some, refl, sym, ap, subst, ◌∙◌, arith, append-nil, append_assoc, add-one, Less, Equal, Greater, is_eq, nat_cmp, true≢false, inl, inr}
+use Rattle.std.proofs.Common.{◌≡◌, ℕ, suc, ◌+◌, ◌<◌, ◌≤◌, Bool, true, false, cond, not, ◌&&◌, ◌||◌, T, eqb, leb, ltb, List, [], ◌∷◌, ◌++◌, map, length, Option, Some, None, option_map, is_some, refl, sym, ap, subst, ◌∙◌, arith, append-nil, append_assoc, add-one, is_eq, nat_cmp, true≢false, inl, inr}
 use Rattle.std.specs.Prelude.{IsTrue}
 use Rattle.std.specs.List.{list_all, list_any, filter_map, cons_option}
 use Rattle.std.specs.Cmp.{Equal-is, tied_itself}
@@ -7,7 +7,7 @@ use Rattle.std.specs.Ordering.{eq_by_cmp}
 use Rattle.std.specs.FinMap.{put, find, is_sorted}
 use Rattle.std.specs.FinMap.Entries.{find-put, length-put, is_sorted-put, same_entries, find-append, by_order}
 use Rattle.std.proofs.Math.Bool.{and-false}
-use Rattle.std.proofs.lemmas.Bool.{lt-ltb, ltb-true, eq-eqb, eqb-true, ne_eqb, le-ltb, and_parts, and_from, or_cases, not-true, not_from_false, le-leb, leb-true}
+use Rattle.std.proofs.lemmas.Bool.{lt-ltb, ltb-true, eq-eqb, eqb-true, ne_eqb, and_parts, and_from, or_cases, not-true, not_from_false, le-leb, leb-true}
 use Rattle.std.proofs.lemmas.Bool.Decides.{same_from_decides, Decides-eqb}
 use Rattle.std.proofs.lemmas.List.{map_push}
 use Rattle.std.proofs.lemmas.List.Elements.{filter_map-append}
@@ -17,7 +17,7 @@ use Rattle.pua_tree.specs.Tree.{Node, Spot, spot_cmp, is_dir, is_dir_kind, is_li
 use Rattle.pua_tree.specs.Listing.{Entry, is_taken, makes_dir, makes_other, is_earlier_dir, is_earlier_other, rows_of_entries, node_entry, root_node, last_number, tree_of}
 use Rattle.pua_tree.specs.Grammar.{entry_fits, entries_fit, made_fits}
 use Rattle.pua_tree.specs.Reading.{grown, grown_by}
-use Rattle.pua_tree.proofs.Base.{none, nat_tie}
+use Rattle.pua_tree.proofs.Base.{none, nat_tie, greater}
 use Rattle.pua_tree.proofs.Content.{spots_total, exact_spots}
 
 -- two spots tie where the directories and the names are the same
@@ -178,9 +178,6 @@ entries_push hard earlier [] e h fits = and_from _ _ (subst (λ l. IsTrue (entry
 entries_push hard earlier (x ∷ es) e h fits =
     let parts = and_parts (entry_fits hard earlier x) (entries_fit hard (earlier ++ x ∷ []) es) h in
     and_from _ _ parts.0 (entries_push hard (earlier ++ x ∷ []) es e parts.1 (subst (λ l. IsTrue (entry_fits hard l e)) (sym (append_assoc earlier (x ∷ []) es)) fits))
-
-greater : (k n : ℕ) → n < k → nat_cmp k n ≡ Greater
-greater k n h = ap (λ b. cond b Less (cond (eqb k n) Equal Greater)) (le-ltb k n (omega arith)) ∙ ap (λ b. cond b Equal Greater) (ne_eqb k n (λ e. omega (arith, h, e)))
 
 -- a key above all others stands last
 pub put_last : {X : Type 0} (k : ℕ) (v : X) (es : List (ℕ × X)) → IsTrue (list_all (λ e. ltb e.0 k) es) → put nat_cmp k v es ≡ es ++ (k, v) ∷ []

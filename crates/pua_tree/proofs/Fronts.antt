@@ -10,6 +10,7 @@ use Rattle.std.specs.Int.{w64, from_be_bytes}
 use Rattle.std.specs.List.{list_all}
 use Rattle.std.proofs.lemmas.Bool.{and_parts, ltb-true}
 use Rattle.pua_tree.specs.Names.{is_name, is_name_byte, front, padded}
+use Rattle.pua_tree.proofs.Base.{greater}
 
 -- eight bytes of a longer list as a number
 pub front-eight : (bytes : List ℕ) → 8 ≤ length bytes
@@ -58,9 +59,6 @@ rises (suc n) a b (x ∷ xs) (y ∷ ys) h l =
 below : (x y : ℕ) → x < y → nat_cmp x y ≡ Less
 below x y l = sym (nat_cmp_is x y Less l)
 
-above : (x y : ℕ) → y < x → nat_cmp x y ≡ Greater
-above x y l = sym (nat_cmp_is x y Greater l)
-
 -- the numbers of names decide their order where they are not equal
 pub by_front : (n a : ℕ) (xs ys : List ℕ) → list_all is_name_byte xs ≡ true → list_all is_name_byte ys ≡ true
     → ordering_then (nat_cmp (front n a xs) (front n a ys)) (slice_cmp nat_cmp xs ys) ≡ slice_cmp nat_cmp xs ys
@@ -73,7 +71,7 @@ by_front (suc n) a [] (y ∷ ys) g h =
 by_front (suc n) a (x ∷ xs) [] g h =
     let parts = and_parts (is_name_byte x) _ g in
     let some = is_byte x parts.0 in
-    ap (λ r. ordering_then r Greater) (above _ _ (rises n (a * 256) (a * 256 + x) [] xs h (omega (arith, some.0))))
+    ap (λ r. ordering_then r Greater) (greater _ _ (rises n (a * 256) (a * 256 + x) [] xs h (omega (arith, some.0))))
 by_front (suc n) a (x ∷ xs) (y ∷ ys) g h =
     by (nat_cmp x y) (ranks x y) (and_parts (is_name_byte x) _ g).1 (and_parts (is_name_byte y) _ h).1 (by_front n (a * 256 + x) xs ys)
   where
@@ -81,7 +79,7 @@ by_front (suc n) a (x ∷ xs) (y ∷ ys) g h =
         → (list_all is_name_byte xs ≡ true → list_all is_name_byte ys ≡ true → ordering_then (nat_cmp (front n (a * 256 + x) xs) (front n (a * 256 + x) ys)) (slice_cmp nat_cmp xs ys) ≡ slice_cmp nat_cmp xs ys)
         → ordering_then (nat_cmp (front n (a * 256 + x) xs) (front n (a * 256 + y) ys)) (ordering_then r (slice_cmp nat_cmp xs ys)) ≡ ordering_then r (slice_cmp nat_cmp xs ys)
     by Less l p q alike = let under : x < y = l in ap (λ r. ordering_then r Less) (below _ _ (rises n (a * 256 + x) (a * 256 + y) xs ys p (omega arith)))
-    by Greater l p q alike = let over : y < x = l in ap (λ r. ordering_then r Greater) (above _ _ (rises n (a * 256 + y) (a * 256 + x) ys xs q (omega arith)))
+    by Greater l p q alike = let over : y < x = l in ap (λ r. ordering_then r Greater) (greater _ _ (rises n (a * 256 + y) (a * 256 + x) ys xs q (omega arith)))
     by Equal l p q alike = let level : x ≡ y = l in
         subst (λ z. ordering_then (nat_cmp (front n (a * 256 + x) xs) (front n (a * 256 + z) ys)) (slice_cmp nat_cmp xs ys) ≡ slice_cmp nat_cmp xs ys) level (alike p q)
 

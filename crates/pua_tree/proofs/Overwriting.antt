@@ -1,12 +1,8 @@
 -- What a write of bytes into a room of a fixed length leaves.
 use Rattle.std.proofs.Common.{◌≡◌, ℕ, suc, ◌≤◌, List, [], ◌∷◌, ◌++◌, length, take, drop, set, replicate, refl, sym, ap, ◌∙◌, arith}
-use Rattle.std.proofs.lemmas.List.{set_past, set_at, append_assoc, append-nil, length_push, length-set, length-append, drop_all, take_all, drop-replicate, length-replicate}
+use Rattle.std.proofs.lemmas.List.{set_past, set_at, append_assoc, append-nil, length_push, length-append, drop_all, take_all, drop-replicate, length-replicate}
 use Rattle.pua_tree.specs.Names.{padded}
 use Rattle.pua_tree.specs.Writes.{overwritten}
-
-pub length-overwritten : (room : List ℕ) (at : ℕ) (bytes : List ℕ) → length (overwritten room at bytes) ≡ length room
-length-overwritten room at [] = refl
-length-overwritten room at (b ∷ bytes) = length-overwritten (set room at b) (suc at) bytes ∙ length-set room at b
 
 -- past the room nothing is written
 overwritten-past : (room : List ℕ) (at : ℕ) (bytes : List ℕ) → length room ≤ at → overwritten room at bytes ≡ room

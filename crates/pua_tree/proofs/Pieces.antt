@@ -4,6 +4,7 @@ use Rattle.std.specs.List.{list_all, filter, slice_split, position, position_or_
 use Rattle.std.proofs.lemmas.Bool.{and_from, cond-true, le-leb, lt-ltb, ltb-true, ltb-false}
 use Rattle.std.proofs.lemmas.List.Splits.{slice_split_first}
 use Rattle.pua_tree.specs.Names.{has_short_components}
+use Rattle.pua_tree.proofs.Base.{guarded}
 
 abbrev pub is_short : List ℕ → Bool
 is_short piece = nat_le (length piece) 255
@@ -23,10 +24,6 @@ short_pieces ((x ∷ xs) ∷ pieces) =
 pub has_short_components-pieces : (text : List ℕ) → has_short_components text ≡ list_all is_short (slice_split (λ b. b == 47) text)
 has_short_components-pieces text = short_pieces (slice_split (λ b. b == 47) text)
 
-pub found : (test : Bool) (at end : ℕ) → cond test (Some at) None ≡ Some end → (test ≡ true) × (at ≡ end)
-found true at end e = let same : at ≡ end = cc in (refl, same)
-found false at end e = cc
-
 pub not_found : (test : Bool) (at : ℕ) → cond test (Some at) None ≡ None → test ≡ false
 not_found true at e = cc
 not_found false at e = refl
@@ -35,7 +32,7 @@ module _ (p : ℕ → Bool) where
   -- a first separator ends the first piece
   pub slice_split-Some : (xs : List ℕ) (end : ℕ) → position p xs ≡ Some end → slice_split p xs ≡ take end xs ∷ slice_split p (drop (end + 1) xs)
   slice_split-Some xs end e =
-      let at = found (nat_lt (position_or_len p xs) (length xs)) (position_or_len p xs) end e in
+      let at = guarded (nat_lt (position_or_len p xs) (length xs)) (position_or_len p xs) end e in
       slice_split_first p xs 0 (ltb-true (position_or_len p xs) (length xs) at.0) ∙ ap (λ n. take n xs ∷ slice_split p (drop (n + 1) xs)) at.1
 
   behind_first : (test : Bool) (x : ℕ) (xs : List ℕ) (far : ℕ) → suc (length xs) ≤ cond (not test) (1 + far) 0 → (length xs ≤ far → slice_split p xs ≡ xs ∷ [])

@@ -1,5 +1,5 @@
 -- What rows in order say of a directory and of a node.
-use Rattle.std.proofs.Common.{◌≡◌, ◌<◌, ◌≤◌, ℕ, zero, suc, List, [], ◌∷◌, ◌++◌, length, get_or, map, Some, None, Result, Ok, Err, Bool, true, false, not, cond, ◌&&◌, ◌||◌, ◌==◌, ◌≢◌, T, IsTrue, unwrap_or, option_map, find, refl, sym, ap, ◌∙◌, inl, inr, arith, is_ok, reverse, Bor}
+use Rattle.std.proofs.Common.{◌≡◌, ◌<◌, ◌≤◌, ℕ, zero, suc, List, [], ◌∷◌, ◌++◌, length, get_or, map, Option, Some, None, Result, Ok, Err, Bool, true, false, not, cond, ◌&&◌, ◌||◌, ◌==◌, ◌≢◌, T, IsTrue, unwrap_or, option_map, find, refl, sym, ap, ◌∙◌, inl, inr, arith, is_ok, reverse, Bor}
 use Rattle.std.specs.List.{list_all, list_any}
 use Rattle.std.specs.List.Sorted.{IsNonDecreasingBy, IsBinarySearchResult, IsSearchInRange}
 use Rattle.std.specs.declared.cmp.Ordering.TheVariants.{Less, Equal, Greater}
@@ -11,16 +11,20 @@ use Rattle.std.specs.BTreeSet.{insert_key}
 use Rattle.std.specs.Ordering.{match_ordering}
 use Rattle.std.specs.FinMap.Entries.{by_order}
 use Rattle.std.proofs.lemmas.Bool.Decides.{nat_tests}
-use Rattle.pua_tree.specs.Tree.{Spot, Tree, with_name, distinct_names, spot_cmp, name_cmp, above, is_dir, is_living, row_fits}
+use Rattle.pua_tree.specs.Tree.{Spot, Tree, with_name, distinct_names, spot_cmp, name_cmp, spot_of, above, is_dir, is_living, row_fits}
 use Rattle.pua_tree.specs.Names.{is_name}
 use Rattle.pua_tree.specs.ListTree.{row_entry}
+use Rattle.pua_tree.specs.LentRows.{lent_entry}
 use Rattle.pua_tree.specs.declared.list.Row.{Row}
+use Rattle.pua_tree.specs.declared.tree.LentRow.{LentRow}
+use Rattle.pua_tree.proofs.Base.{find-map}
 use Rattle.pua_tree.proofs.Content.{spots_total}
 use Rattle.std.specs.Bool.{passes}
 use Rattle.pua_tree.proofs.Places.{left, right, rises}
 
-dirs_rise : (a b : Spot) → spot_cmp a b ≡ Less → a.0 ≤ b.0
-dirs_rise a b e =
+-- of two spots in order the later is of no lower directory
+pub not_lower : (a b : Spot) → spot_cmp a b ≡ Less → a.0 ≤ b.0
+not_lower a b e =
     elim (cases_lt b.0 a.0) [
       | inl less ↦ let more : nat_cmp a.0 b.0 ≡ Greater = grind (arith, nat_tests) in
           let other : spot_cmp a b ≡ Greater = ap (λ o. ordering_then o (name_cmp a.1 b.1)) more in cc
@@ -33,7 +37,7 @@ index_rises a b d le = grind (arith, nat_tests)
 dirs_searchable : (rows : List Row) (d : ℕ) → IsTrue (is_sorted spot_cmp (map row_entry rows)) → IsNonDecreasingBy (λ row. ordering_index (nat_cmp row.dir d)) rows
 dirs_searchable rows d h i j row le lt =
     elim (cases_lt i j) [
-      | inl less ↦ index_rises _ _ d (dirs_rise (row_entry (get_or rows i row)).0 (row_entry (get_or rows j row)).0 (rises spots_total row_entry rows i j row (passes _ h) less lt))
+      | inl less ↦ index_rises _ _ d (not_lower (row_entry (get_or rows i row)).0 (row_entry (get_or rows j row)).0 (rises spots_total row_entry rows i j row (passes _ h) less lt))
       | inr more ↦ let same : j ≡ i = omega arith in rw same (omega arith)
     ]
 
@@ -112,3 +116,16 @@ one_name_more rows row names more so_far new =
 pub entry_names : (rows : List Row) → map (λ entry. entry.0.1) (map row_entry rows) ≡ map (λ row. row.name) rows
 entry_names [] = refl
 entry_names (r ∷ rows) = ap (λ names. r.name ∷ names) (entry_names rows)
+
+-- the row that is found among those that are lent is the tree's
+pub found_spot : (rows : List LentRow) (t : Tree) (dir : ℕ) (o : Option (Bor LentRow)) → map lent_entry rows ≡ t.rows → option_map (λ row. row.now) o ≡ find (λ row. row.node == dir) rows
+    → option_map (λ row. (lent_entry row.now).0) o ≡ spot_of t dir
+found_spot rows t dir o all found =
+    twice o
+    ∙ ap (λ row. option_map (λ entry. entry.0) (option_map lent_entry row)) found
+    ∙ ap (option_map (λ entry. entry.0)) (sym (find-map lent_entry (λ entry. entry.1 == dir) rows))
+    ∙ ap (λ es. option_map (λ entry. entry.0) (find (λ entry. entry.1 == dir) es)) all
+  where
+    twice : (o : Option (Bor LentRow)) → option_map (λ row. (lent_entry row.now).0) o ≡ option_map (λ entry. entry.0) (option_map lent_entry (option_map (λ row. row.now) o))
+    twice None = refl
+    twice (Some row) = refl

@@ -7,18 +7,11 @@ use Rattle.std.proofs.lemmas.List.Folds.{sum_by-zero}
 use Rattle.pua_tree.specs.Tree as tree
 use Rattle.pua_tree.specs.Tree.{Tree, WellFormed, spot_cmp, kind_at, target_at, parent, is_empty, is_dir, is_dir_kind, above, has_no_row}
 use Rattle.pua_tree.specs.Slots.{node_in, made_of, held_rows, held_in_slots, IsKept}
-use Rattle.pua_tree.specs.declared.node.Kind.{Kind}
-use Rattle.pua_tree.specs.declared.node.Kind.TheVariants.{Dir, File, Prog, Link}
+use Rattle.pua_tree.specs.declared.node.Kind.TheVariants.{Dir}
 use Rattle.pua_tree.specs.declared.slots.Slots.{Slots}
 use Rattle.pua_tree.specs.declared.slots.Node.{Node}
 use Rattle.pua_tree.proofs.SlotsHold.{nodes_found}
-use Rattle.pua_tree.proofs.Sound.{sound_from, row_of}
-
-dir_kind : (k : Kind) → is_dir_kind (Some k) ≡ true → k ≡ Dir
-dir_kind Dir e = refl
-dir_kind File e = absurd (false≢true e)
-dir_kind Prog e = absurd (false≢true e)
-dir_kind Link e = absurd (false≢true e)
+use Rattle.pua_tree.proofs.Sound.{sound_from, row_of, dir_kind}
 
 dir_node : (o : Option Node) → is_dir_kind (option_map (λ n. n.kind) (option_map made_of o)) ≡ true → (n : Node) × (o ≡ Some n) × (n.kind ≡ Dir)
 dir_node None e = absurd (false≢true e)

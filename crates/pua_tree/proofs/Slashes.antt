@@ -4,6 +4,7 @@ use Rattle.std.proofs.lemmas.Bool.{cases_eq, ne_eqb, and_parts}
 use Rattle.std.proofs.lemmas.Bool.Decides.{nat_tests}
 use Rattle.pua_tree.specs.Names.{has_byte}
 use Rattle.pua_tree.specs.Spelling.{unspelled, unspelled_from, with_front, escaped_byte, is_plain, is_octal}
+use Rattle.pua_tree.proofs.Base.{guarded}
 
 -- a front and what is after it, where both are spelled
 fronts : (front : Option ℕ) (behind : Option (List ℕ)) (bytes : List ℕ) → with_front front behind ≡ Some bytes
@@ -11,10 +12,6 @@ fronts : (front : Option ℕ) (behind : Option (List ℕ)) (bytes : List ℕ) �
 fronts (Some b) (Some rest) bytes e = let same : b ∷ rest ≡ bytes = cc in (b, rest, refl, refl, same)
 fronts (Some b) None bytes e = cc
 fronts None behind bytes e = cc
-
-kept : (test : Bool) (x b : ℕ) → cond test (Some x) None ≡ Some b → (test ≡ true) × (x ≡ b)
-kept true x b e = let same : x ≡ b = cc in (refl, same)
-kept false x b e = cc
 
 -- a byte that stands for itself
 slash-plain : (x : ℕ) (more bytes : List ℕ) → x ≢ 92 → ((rest : List ℕ) → unspelled more ≡ Some rest → has_byte 47 rest ≡ has_byte 47 more)
@@ -24,7 +21,7 @@ slash-plain x more bytes ne behind e =
     let at : with_front (cond (is_plain x) (Some x) None) (unspelled more) ≡ Some bytes =
     sym (λ i. with_front (cond (no i) (escaped_byte more) (cond (is_plain x) (Some x) None)) (unspelled_from (cond (no i) 3 0) more)) ∙ e in
     let parts = fronts (cond (is_plain x) (Some x) None) (unspelled more) bytes at in
-    let same = kept (is_plain x) x parts.0 parts.2 in
+    let same = guarded (is_plain x) x parts.0 parts.2 in
     let tail = behind parts.1 parts.3 in
     sym (ap (has_byte 47) parts.4) ∙ (λ i. (sym same.1 i == 47) || tail i)
 
@@ -42,7 +39,7 @@ slash-escaped a b c more bytes behind e =
     let value : ℕ = 64 * (a - 48) + 8 * (b - 48) + (c - 48) in
     let test : Bool = is_octal a && (is_octal b && (is_octal c && (nat_le value 255 && not (is_plain value)))) in
     let parts = fronts (cond test (Some value) None) (unspelled more) bytes e in
-    let same = kept test value parts.0 parts.2 in
+    let same = guarded test value parts.0 parts.2 in
     let first = and_parts (is_octal a) (is_octal b && (is_octal c && (nat_le value 255 && not (is_plain value)))) same.0 in
     let second = and_parts (is_octal b) (is_octal c && (nat_le value 255 && not (is_plain value))) first.1 in
     let third = and_parts (is_octal c) (nat_le value 255 && not (is_plain value)) second.1 in

@@ -146,7 +146,7 @@ living_node : (o : Option Node) → is_some o ≡ true → (n : Node) × (o ≡ 
 living_node None e = absurd (false≢true e)
 living_node (Some n) e = (n, refl)
 
-dir_kind : (k : Kind) → is_dir_kind (Some k) ≡ true → k ≡ Dir
+pub dir_kind : (k : Kind) → is_dir_kind (Some k) ≡ true → k ≡ Dir
 dir_kind Dir e = refl
 dir_kind File e = absurd (false≢true e)
 dir_kind Prog e = absurd (false≢true e)
@@ -227,3 +227,7 @@ only_names_found t dir bytes w other = by (look t dir bytes) refl
     by : (o : Option ℕ) → look t dir bytes ≡ o → option_and_then {U = ℕ × Kind} (λ x. option_map (λ kind. (x, kind)) (kind_at t x)) o ≡ None
     by None here = refl
     by (Some x) here = absurd (false≢true (sym other ∙ (row_says t (sound_from t w) (dir, bytes) x here).1))
+
+-- nodes that are the same are directories both or neither
+pub same_dir : (t u : Tree) (x : ℕ) → node_at u x ≡ node_at t x → is_dir u x ≡ is_dir t x
+same_dir t u x e = ap (λ o. is_dir_kind (option_map (λ n. n.kind) o)) e

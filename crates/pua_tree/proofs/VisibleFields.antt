@@ -1,12 +1,13 @@
 -- The first field of a line by its first byte that is not visible.
 use Rattle.std.proofs.Common.{◌≡◌, ◌<◌, ◌≤◌, ◌&&◌, ◌==◌, ℕ, ◌+◌, Bool, true, false, List, [], ◌∷◌, ◌++◌, length, get_or, Some, None, refl, sym, ap, ◌∙◌, arith, cond, not, suc, nat_lt, nat_le, take, drop, true≢false}
 use Rattle.std.specs.List.{list_all, onto_first, position, position_or_len}
-use Rattle.std.proofs.lemmas.Bool.{and_parts, and_from, ltb-true, ltb-false, lt-ltb, eqb-true}
+use Rattle.std.proofs.lemmas.Bool.{and_parts, and_from, ltb-true, ltb-false, lt-ltb, eqb-true, not-true, not-false}
 use Rattle.std.proofs.lemmas.List.Splits.{slice_split-cons_no}
 use Rattle.std.proofs.lemmas.List.Sums.{split_at_first, prefix_len_stops}
 use Rattle.std.proofs.lemmas.List.{take_all, length-take-le}
 use Rattle.pua_tree.specs.Spelling.{fields, is_field}
-use Rattle.pua_tree.proofs.Pieces.{found, not_found}
+use Rattle.pua_tree.proofs.Pieces.{not_found}
+use Rattle.pua_tree.proofs.Base.{guarded}
 
 abbrev pub visible : ℕ → Bool
 visible b = nat_le 33 b && nat_le b 126
@@ -77,15 +78,7 @@ all_before (x ∷ xs) = by (visible x) refl (all_before xs)
     by false e behind = refl
 
 position_stops : (xs : List ℕ) → position_or_len hidden xs < length xs → hidden (get_or xs (position_or_len hidden xs) 0) ≡ true
-position_stops xs l = not_false _ (prefix_len_stops (λ x. not (hidden x)) xs 0 l)
-  where
-    not_false : (b : Bool) → not b ≡ false → b ≡ true
-    not_false true e = refl
-    not_false false e = absurd (true≢false e)
-
-not_true : (b : Bool) → not b ≡ true → b ≡ false
-not_true true e = absurd (true≢false (sym e))
-not_true false e = refl
+position_stops xs l = not-false _ (prefix_len_stops (λ x. not (hidden x)) xs 0 l)
 
 pub some_byte : (xs : List ℕ) → (length xs == 0) ≡ false → 0 < length xs
 some_byte [] e = absurd (true≢false e)
@@ -100,7 +93,7 @@ whole_line line e some =
 
 module _ (line : List ℕ) (end : ℕ) (is : position hidden line ≡ Some end) where
   place : (position_or_len hidden line < length line) × (position_or_len hidden line ≡ end)
-  place = let at = found (nat_lt (position_or_len hidden line) (length line)) (position_or_len hidden line) end is in
+  place = let at = guarded (nat_lt (position_or_len hidden line) (length line)) (position_or_len hidden line) end is in
       (ltb-true (position_or_len hidden line) (length line) at.0, at.1)
 
   front_visible : list_all visible (take end line) ≡ true
@@ -131,8 +124,8 @@ module _ (line : List ℕ) (end : ℕ) (is : position hidden line ≡ Some end) 
       by true e = ap (λ l. list_all is_field (fields l)) cut
           ∙ ap (λ b. list_all is_field (fields (take end line ++ (b ∷ drop (end + 1) line)))) (eqb-true (get_or line end 0) 32 e)
           ∙ ap (λ l. list_all is_field (fields (l ++ (32 ∷ drop (end + 1) line)))) front
-      by false e = none_if_badly (fields line) (ap (λ l. begins_badly (fields l)) cut ∙ bad_field (take end line) (get_or line end 0) (drop (end + 1) line) front_visible (not_true _ stopped) e)
+      by false e = none_if_badly (fields line) (ap (λ l. begins_badly (fields l)) cut ∙ bad_field (take end line) (get_or line end 0) (drop (end + 1) line) front_visible (not-true _ stopped) e)
 
   -- a byte that is no space
   pub bad_byte : (get_or line end 0 == 32) ≡ false → list_all is_field (fields line) ≡ false
-  bad_byte e = none_if_badly (fields line) (ap (λ l. begins_badly (fields l)) cut ∙ bad_field (take end line) (get_or line end 0) (drop (end + 1) line) front_visible (not_true _ stopped) e)
+  bad_byte e = none_if_badly (fields line) (ap (λ l. begins_badly (fields l)) cut ∙ bad_field (take end line) (get_or line end 0) (drop (end + 1) line) front_visible (not-true _ stopped) e)

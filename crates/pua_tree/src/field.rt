@@ -1,6 +1,6 @@
 //! The fields of a line of a listing or script: what stands between single spaces.
 
-ghost use Rattle.std.specs.Prelude.{◌≡◌, ◌<◌, ◌==◌, ◌&&◌, ◌∷◌, [], length, IfSome, IfNone, Some, None, if◌then◌else◌, map, nat_le, not, take, true, false};
+ghost use Rattle.std.specs.Prelude.{◌≡◌, ◌<◌, ◌&&◌, ◌∷◌, [], length, IfSome, IfNone, Some, None, if◌then◌else◌, map, nat_le, not, take, true, false};
 ghost use Rattle.std.specs.List.{list_all, position};
 ghost use Rattle.std.specs.Option.{option_map_or};
 ghost use Rattle.pua_tree.specs.Fields.{first_fields};
@@ -16,7 +16,7 @@ const MOST_FIELDS: usize = 6;
 /// take no memory. Contracts see the list of their bytes.
 #[derive(Drop)]
 pub struct Fields<'a> {
-    fields: [&'a [u8]; 6],
+    fields: [&'a [u8]; MOST_FIELDS],
     count: usize,
 }
 
@@ -82,36 +82,6 @@ fn first_hidden(line: &[u8]) -> Option<usize>
     ensures { result ≡ position (λ b. not (nat_le 33 b && nat_le b 126)) line.now }
 {
     line.iter().position(|byte| !is_visible(*byte))
-}
-
-/// Whether these bytes are a field: at least one, and each visible.
-pub fn is_field(bytes: &[u8]) -> bool
-    ensures { result ≡ is_field bytes.now }
-{
-    !bytes.is_empty() && are_visible(bytes)
-}
-
-fn are_visible(bytes: &[u8]) -> bool
-    ensures { result ≡ list_all (λ b. nat_le 33 b && nat_le b 126) bytes.now }
-{
-    bytes.iter().all(|byte| is_visible(*byte))
-}
-
-/// The first field of a line, and what stands after the space that ends it, if one does.
-pub fn split_field(line: &[u8]) -> (&[u8], Option<&[u8]>)
-    ensures fields { fields line.now ≡ result.0.now ∷ option_map_or (λ rest. fields rest.now) result.1 [] }
-    ensures shorter { IfSome result.1 (λ rest. length rest.now < length line.now) }
-{
-    match first_space(line) {
-        Some(end) => (&line[..end], Some(&line[end + 1..])),
-        None => (line, None),
-    }
-}
-
-fn first_space(line: &[u8]) -> Option<usize>
-    ensures { result ≡ position (λ b. b == 32) line.now }
-{
-    line.iter().position(|byte| *byte == b' ')
 }
 
 /// The number that a decimal writes, if it lies within these bounds. A decimal is digits without a

@@ -20,7 +20,7 @@ mod spot;
 mod tree;
 
 pub use fault::{ListingFault, NameFault, OutOfMemory, TreeFault};
-pub use field::{Fields, is_field, number_within, split_field};
+pub use field::{Fields, number_within};
 pub use laws::{
     edit_examples, edits_keep_trees, fault_order_examples, limits_law, listing_examples,
     listing_law, spelling_law, tree_law,

@@ -10,7 +10,7 @@ use std::marker::Model;
 /// is kept inline, so that a copy takes no memory. Contracts see the list of its bytes.
 #[derive(Clone, Copy)]
 pub struct Name {
-    bytes: [u8; 255],
+    bytes: [u8; Name::MOST],
     len: u8,
 }
 
@@ -217,7 +217,7 @@ fn is_name_byte(byte: u8) -> bool
 
 /// The bytes and zeros after them.
 #[inline(always)]
-fn padded(bytes: &[u8]) -> [u8; 255]
+fn padded(bytes: &[u8]) -> [u8; Name::MOST]
     requires { length bytes.now ≤ most_name }
     ensures { result ≡ padded bytes.now }
 {

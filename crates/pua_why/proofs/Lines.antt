@@ -4,12 +4,13 @@ use Rattle.std.specs.Prelude.{decimal}
 use Rattle.pua_calls.specs.Calls.{CallTable}
 use Rattle.pua_script.specs.AnswerTexts.{answer_text}
 use Rattle.pua_script.specs.Requests.{Asked}
-use Rattle.pua_script.specs.Replay.{World, apply, answers, world_after}
+use Rattle.pua_script.specs.Replay.{World, answers, world_after}
 use Rattle.pua_script.specs.declared.answer.Answer.{Answer}
 use Rattle.pua_why.specs.Reasons.{reason, answer_of}
 use Rattle.pua_why.specs.Texts.{spaced, reason_text, reason_since, since_text, answer_why, why_lines}
 use Rattle.pua_why.specs.Laws.{IsTail, TellMore, WhyLinesTellMore}
 use Rattle.pua_why.proofs.Decisions.{reasons_give_answers}
+use Rattle.pua_script.proofs.ForCallers.{one_request_more}
 
 -- an answer, and what is told behind it
 abbrev Tells : Answer → List ℕ → Type 0
@@ -31,11 +32,6 @@ why_tells table w done ask =
     let v : World = world_after table w done in
     told_behind (answer_of (reason table v ask)) (reason_text v.tree (reason table v ask)) (reason_since table w done ask (reason table v ask))
 
--- one request more
-one_more : (table : CallTable) (w : World) (done : List Asked) (ask : Asked) → world_after table w (done ++ ask ∷ []) ≡ (apply table (world_after table w done) ask).1
-one_more table w [] ask = refl
-one_more table w (first ∷ done) ask = one_more table (apply table w first).1 done ask
-
 line_tells : (n : ℕ) (answer : Answer) (text : List ℕ) → Tells answer text → (tail : List ℕ) × ((decimal n ++ 32 ∷ text) ≡ (decimal n ++ 32 ∷ answer_text answer) ++ tail) × IsTail tail
 line_tells n answer text tells = (tells.0, ap (λ more. decimal n ++ 32 ∷ more) tells.1 ∙ sym (append_assoc (decimal n) (32 ∷ answer_text answer) tells.0), tells.2)
 
@@ -45,5 +41,5 @@ why_lines_tell_more table w done (ask ∷ asks) n =
     let v : World = world_after table w done in (
       subst (λ answer. (tail : List ℕ) × ((decimal n ++ 32 ∷ answer_why table w done ask) ≡ (decimal n ++ 32 ∷ answer_text answer) ++ tail) × IsTail tail)
           (reasons_give_answers table v ask) (line_tells n (answer_of (reason table v ask)) (answer_why table w done ask) (why_tells table w done ask)),
-      subst (λ next. TellMore (why_lines table w (done ++ ask ∷ []) (suc n) asks) (suc n) (answers table next asks)) (one_more table w done ask) (why_lines_tell_more table w (done ++ ask ∷ []) asks (suc n)),
+      subst (λ next. TellMore (why_lines table w (done ++ ask ∷ []) (suc n) asks) (suc n) (answers table next asks)) (one_request_more table w done ask) (why_lines_tell_more table w (done ++ ask ∷ []) asks (suc n)),
     )

@@ -1,6 +1,6 @@
 -- What a request passed, as it is told one after another.
 use Rattle.std.proofs.Common.{◌≡◌, ℕ, false, List, [], ◌∷◌, ◌++◌, map, Some, None, refl, sym, ap, ◌∙◌, append_assoc, Result, Ok, Err, Option}
-use Rattle.std.specs.Prelude.{if◌then◌else◌, bit_or, length, is_some, option_map, IfOk}
+use Rattle.std.specs.Prelude.{if◌then◌else◌, bit_or, length, is_some, option_map}
 use Rattle.pua_tree.specs.Tree.{Spot}
 use Rattle.pua_path.specs.declared.found.Found.{Found}
 use Rattle.pua_path.specs.declared.traced.PathFault.{PathFault}
@@ -58,8 +58,3 @@ promises_passed (Some fault) further p d none told rest = cc
 pub target_passed : (further : Option told.Fault) (o : Option TextFault) (d : Outcome reasons.Fault) → None ≡ o
     → option_map fault_seen further ≡ refused_by d → option_map fault_seen further ≡ refused_by (unless_failed (λ fault. fault) (option_map reasons.BadTarget o) d)
 target_passed further o d none rest = rest ∙ ap (λ q. refused_by (unless_failed (λ fault. fault) (option_map reasons.BadTarget q) d)) none
-
--- what follows from a fact of each value
-pub if_ok : {T E : Type 0} {P Q : T → Type 0} (r : Result T E) → ((x : T) → P x → Q x) → IfOk r P → IfOk r Q
-if_ok (Ok x) so is = so x is
-if_ok (Err fault) so is = is

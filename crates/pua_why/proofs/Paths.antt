@@ -1,6 +1,6 @@
 -- The names that lead to a directory, row by row.
-use Rattle.std.proofs.Common.{◌≡◌, ◌≢◌, ℕ, zero, suc, Bool, true, false, cond, List, [], ◌∷◌, ◌++◌, map, length, refl, sym, ap, ◌∙◌, append_assoc, append-nil}
-use Rattle.std.specs.Prelude.{Option, Some, None, option_map, find, reverse, ◌==◌}
+use Rattle.std.proofs.Common.{◌≡◌, ◌≢◌, ℕ, zero, suc, List, [], ◌∷◌, ◌++◌, map, length, refl, sym, ap, ◌∙◌, append_assoc, append-nil}
+use Rattle.std.specs.Prelude.{Some, None, reverse}
 use Rattle.std.proofs.lemmas.List.{length-map, reverse-append}
 use Rattle.std.specs.Borrow.{Bor}
 use Rattle.pua_tree.specs.Tree.{Tree, spot_of}
@@ -8,24 +8,7 @@ use Rattle.pua_tree.specs.Spelling.{spelling}
 use Rattle.pua_tree.specs.LentRows.{lent_entry}
 use Rattle.pua_tree.specs.declared.tree.LentRow.{LentRow}
 use Rattle.pua_why.specs.Texts.{names_at, names_to, slashed, path_text, dir_names, spot_text}
-
--- finding after a map is a map after finding
-find-map : {X Y : Type 0} (f : X → Y) (p : Y → Bool) (xs : List X) → find p (map f xs) ≡ option_map f (find (λ x. p (f x)) xs)
-find-map f p [] = refl
-find-map f p (x ∷ xs) = elim (p (f x)) as (λ b. cond b (Some (f x)) (find p (map f xs)) ≡ option_map f (cond b (Some x) (find (λ x. p (f x)) xs))) [ true ↦ refl | false ↦ find-map f p xs ]
-
--- the row that is found among those that are lent is the tree's
-pub found_spot : (rows : List LentRow) (t : Tree) (dir : ℕ) (o : Option (Bor LentRow)) → map lent_entry rows ≡ t.rows → option_map (λ row. row.now) o ≡ find (λ row. row.node == dir) rows
-    → option_map (λ row. (lent_entry row.now).0) o ≡ spot_of t dir
-found_spot rows t dir o all found =
-    twice o
-    ∙ ap (λ row. option_map (λ entry. entry.0) (option_map lent_entry row)) found
-    ∙ ap (option_map (λ entry. entry.0)) (sym (find-map lent_entry (λ entry. entry.1 == dir) rows))
-    ∙ ap (λ es. option_map (λ entry. entry.0) (find (λ entry. entry.1 == dir) es)) all
-  where
-    twice : (o : Option (Bor LentRow)) → option_map (λ row. (lent_entry row.now).0) o ≡ option_map (λ entry. entry.0) (option_map lent_entry (option_map (λ row. row.now) o))
-    twice None = refl
-    twice (Some row) = refl
+use Rattle.pua_tree.proofs.ForCallers.{map-reverse}
 
 -- a name more, of a directory that stands in a row
 pub path_more : (t : Tree) (dir n k : ℕ) (row : LentRow) (names : List (List ℕ)) → dir ≢ 0 → Some (lent_entry row).0 ≡ spot_of t dir → k ≡ suc n
@@ -61,15 +44,6 @@ path_none t (suc d) (suc n) names none = ap (λ spot. names_at spot (names_to n 
 
 pub path_done : (t : Tree) (dir k : ℕ) (names : List (List ℕ)) → k ≡ 0 → names_to k t dir ++ names ≡ names
 path_done t dir k names none = ap (λ m. names_to m t dir ++ names) none
-
-pub map-reverse : {A B : Type 0} (f : A → B) (xs : List A) → map f (reverse xs) ≡ reverse (map f xs)
-map-reverse f [] = refl
-map-reverse f (x ∷ xs) =
-    ap (map f) (reverse-append (x ∷ []) xs) ∙ map_append f (reverse xs) (x ∷ []) ∙ ap (λ ys. ys ++ f x ∷ []) (map-reverse f xs) ∙ sym (reverse-append (f x ∷ []) (map f xs))
-  where
-    map_append : {A B : Type 0} (f : A → B) (xs ys : List A) → map f (xs ++ ys) ≡ map f xs ++ map f ys
-    map_append f [] ys = refl
-    map_append f (x ∷ xs) ys = ap (λ zs. f x ∷ zs) (map_append f xs ys)
 
 -- the names that were found and turned are those that lead there
 pub found_names : (over new : List (Bor (List ℕ))) (to : List (List ℕ)) → reverse (map (λ name. name.now) over) ≡ to → new ≡ reverse over → map (λ name. name.now) new ≡ to

@@ -38,6 +38,7 @@ use Rattle.pua_why.proofs.Steps.{same_fault, refused_true, failed_true, named_tr
 use Rattle.pua_script.proofs.ForCallers.{requests_lack}
 use Rattle.pua_why.proofs.Decisions.{reasons_give_decisions}
 use Rattle.pua_why.proofs.Faults.{object_true, call_faults_hold}
+use Rattle.std.proofs.lemmas.Bool.{not-true}
 
 -- a symlink: a fault of a call on its path, or of its target
 by_target : (table : CallTable) (t : Tree) (h : History) (target path : List ℕ) (fault : Fault) → CallFaultHolds t table h call.Symlink path fault → SymlinkFaultHolds table t h target path fault
@@ -99,11 +100,7 @@ module _ (pair : PairRule) (t : Tree) (h : History) (end : Ending) (a b : List �
   kinds_true old (Whole y by) bad n e =
       either_true _ _ bad Pair
       (when_true (not (is_whole old)) (Unfit New (Whole y by) IsDirectory) bad Pair (λ v. (n, refl)))
-      (when_true (not (is_empty t y)) (Unfit New (Whole y by) IsNotEmpty) bad Pair (λ v. (n, (y, by, refl, not_true (is_empty t y) v)))) e
-    where
-      not_true : (v : Bool) → not v ≡ true → v ≡ false
-      not_true true e = cc
-      not_true false e = refl
+      (when_true (not (is_empty t y)) (Unfit New (Whole y by) IsNotEmpty) bad Pair (λ v. (n, (y, by, refl, not-true (is_empty t y) v)))) e
   kinds_true old (Slot dir name None) bad n e = cc
   kinds_true old (Slot dir name (Some y)) bad n e = when_true (is_whole old) (Unfit New (Slot dir name (Some y)) IsNoDirectory) bad Pair (λ v. (n, (refl, refl))) e
 
@@ -163,11 +160,7 @@ module _ (pair : PairRule) (t : Tree) (h : History) (end : Ending) (a b : List �
 asks_true : (h : History) (p x : Given) (of_exec : Bool) (request given : Option ℕ) (bad : Fault) →
     (is_within request given ≡ false → PledgeFaultHolds h p x (AsksPromises of_exec (beyond request given))) → asks_beyond of_exec request given ≡ Some bad → PledgeFaultHolds h p x bad
 asks_true h p x of_exec request given bad is e =
-    when_true (not (is_within request given)) (AsksPromises of_exec (beyond request given)) bad (PledgeFaultHolds h p x) (λ v. is (not_true (is_within request given) v)) e
-  where
-    not_true : (v : Bool) → not v ≡ true → v ≡ false
-    not_true true e = cc
-    not_true false e = refl
+    when_true (not (is_within request given)) (AsksPromises of_exec (beyond request given)) bad (PledgeFaultHolds h p x) (λ v. is (not-true (is_within request given) v)) e
 
 pledge_true : (table : CallTable) (t : Tree) (h : History) (p x : Given) (fault : Fault) → reasoned table t h (Pledge p x) ≡ Err fault → PledgeFaultHolds h p x fault
 pledge_true table t h p x fault e =

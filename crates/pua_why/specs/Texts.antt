@@ -1,9 +1,10 @@
 -- How reasons and facts are written.
 use Rattle.std.specs.Prelude.{ℕ, zero, suc, ◌+◌, Bool, true, false, List, [], ◌∷◌, ◌++◌, map, flat_map, length, ◌==◌, Option, Some, None, codes, decimal, unwrap_or}
+use Rattle.pua_tree.specs.Limits.{most_name}
 use Rattle.pua_tree.specs.Names.{same_bytes}
 use Rattle.pua_tree.specs.Spelling.{spelling}
 use Rattle.pua_tree.specs.Tree.{Tree, Spot, spot_of, look, target_at}
-use Rattle.pua_path.specs.Resolution.{link_limit}
+use Rattle.pua_path.specs.Limits.{link_limit, path_limit}
 use Rattle.pua_path.specs.declared.found.Found.{Found}
 use Rattle.pua_path.specs.declared.found.Found.TheVariants.{Whole, Slot}
 use Rattle.pua_path.specs.declared.traced.Stop.TheVariants.{NoEntry, NoDirectory, LinkBeyond}
@@ -14,10 +15,12 @@ use Rattle.pua_path.specs.declared.traced.PathFault.TheVariants.{InText, NoStart
 use Rattle.pua_calls.specs.Promises.{keywords_of, letters_of}
 use Rattle.pua_calls.specs.Calls.{CallTable}
 use Rattle.pua_policy.specs.History.{History, kept}
+use Rattle.pua_policy.specs.Limits.{place_limit}
 use Rattle.pua_policy.specs.Verdict.{Object, IsDir, IsFile, IsProg, IsLink, IsMissing, object_of}
 use Rattle.pua_policy.specs.declared.place.Place.{Place}
 use Rattle.pua_policy.specs.declared.place.Place.TheVariants as place
 use Rattle.pua_script.specs.AnswerTexts.{answer_text}
+use Rattle.pua_script.specs.Limits.{process_limit}
 use Rattle.pua_script.specs.Requests.{Asked}
 use Rattle.pua_script.specs.Replay.{World, history_of, world_after}
 use Rattle.pua_policy.specs.declared.reason.Covering.{Covering}
@@ -91,8 +94,8 @@ side_text New = codes "new: "
 
 abbrev pub text_fault_text : TextFault → List ℕ
 text_fault_text EmptyText = codes "is empty"
-text_fault_text LongText = codes "has more than 1023 bytes"
-text_fault_text LongComponent = codes "has a component of more than 255 bytes"
+text_fault_text LongText = codes "has more than " ++ decimal path_limit ++ codes " bytes"
+text_fault_text LongComponent = codes "has a component of more than " ++ decimal most_name ++ codes " bytes"
 text_fault_text NulInText = codes "has a NUL"
 
 abbrev pub path_fault_text : Tree → PathFault → List ℕ
@@ -136,9 +139,9 @@ fault_text t (AsksPromises of_exec lacks) = codes "no " ++ promises_text lacks +
 fault_text t IsLocked = codes "locked"
 fault_text t UnknownLetter = codes "unknown letter"
 fault_text t (AsksLetters place given lacks) = codes "no " ++ letters_text lacks ++ codes " in " ++ veil_text t place given
-fault_text t NoPlaceLeft = codes "128 places have veils"
+fault_text t NoPlaceLeft = decimal place_limit ++ codes " places have veils"
 fault_text t (NumberTaken n) = codes "process " ++ decimal n ++ codes " exists"
-fault_text t NoProcessLeft = codes "256 processes were made"
+fault_text t NoProcessLeft = decimal process_limit ++ codes " processes were made"
 fault_text t NoRoom = codes "tree is full"
 
 -- the words of a reason; what is allowed has none

@@ -17,9 +17,10 @@ ghost use Rattle.pua_why.specs.Texts.{text_fault_text, veil_text};
 use crate::told::{Fact, Fault, Reason, Side};
 use crate::tree_paths::{TreePaths, push_spelled};
 use pua_calls::{Perms, Promises};
-use pua_path::{Found, PathFault, Spot, Stop, TextFault};
-use pua_policy::{Covering, Misfit, Place};
-use pua_tree::{FileTree, Kind, NodeId};
+use pua_path::{Found, PATH_LIMIT, PathFault, Spot, Stop, TextFault};
+use pua_policy::{Covering, Misfit, PLACE_LIMIT, Place};
+use pua_script::PROCESS_LIMIT;
+use pua_tree::{FileTree, Kind, Name, NodeId};
 use std::alloc::{AllocError, Global};
 use std::fmt::Write;
 
@@ -83,9 +84,9 @@ fn push_fault(
             given,
             lacks,
         } => push_letters(text, paths, place, given, lacks),
-        Fault::NoPlaceLeft => text.push_str("128 places have veils"),
+        Fault::NoPlaceLeft => write!(text, "{PLACE_LIMIT} places have veils"),
         Fault::NumberTaken(number) => write!(text, "process {number} exists"),
-        Fault::NoProcessLeft => text.push_str("256 processes were made"),
+        Fault::NoProcessLeft => write!(text, "{PROCESS_LIMIT} processes were made"),
         Fault::NoRoom => text.push_str("tree is full"),
     }
 }
@@ -260,15 +261,18 @@ pub(crate) fn push_found(
     }
 }
 
-/// The words of a text that is no path.
-fn text_words(fault: TextFault) -> &'static str
-    ensures { result.now ≡ text_fault_text fault }
+/// Adds the words of a text that is no path.
+fn push_text_words(text: &mut String, fault: TextFault) -> Result<(), AllocError>
+    ensures { OnOk result (string_bytes text.new
+        ≡ string_bytes text.old ++ text_fault_text fault) }
 {
     match fault {
-        TextFault::EmptyText => "is empty",
-        TextFault::LongText => "has more than 1023 bytes",
-        TextFault::LongComponent => "has a component of more than 255 bytes",
-        TextFault::NulInText => "has a NUL",
+        TextFault::EmptyText => text.push_str("is empty"),
+        TextFault::LongText => write!(text, "has more than {PATH_LIMIT} bytes"),
+        TextFault::LongComponent => {
+            write!(text, "has a component of more than {} bytes", Name::MOST)
+        }
+        TextFault::NulInText => text.push_str("has a NUL"),
     }
 }
 
@@ -278,7 +282,7 @@ fn push_target(text: &mut String, fault: TextFault) -> Result<(), AllocError>
         ≡ string_bytes text.old ++ (codes "target " ++ text_fault_text fault)) }
 {
     text.push_str("target ")?;
-    text.push_str(text_words(fault))
+    push_text_words(text, fault)
 }
 
 /// Adds why a path names nothing.
@@ -307,7 +311,7 @@ fn push_text_fault(text: &mut String, fault: TextFault) -> Result<(), AllocError
         ≡ string_bytes text.old ++ (codes "path " ++ text_fault_text fault)) }
 {
     text.push_str("path ")?;
-    text.push_str(text_words(fault))
+    push_text_words(text, fault)
 }
 
 /// Adds where a path leads no further.

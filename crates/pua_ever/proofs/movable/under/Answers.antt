@@ -5,8 +5,8 @@ use Rattle.std.proofs.lemmas.List.Folds.{list_any_more}
 use Rattle.pua_tree.specs.Tree.{empty_tree}
 use Rattle.pua_policy.specs.Verdict.{covered_verdict, is_allowed}
 use Rattle.pua_policy.specs.declared.answer.Cover.{Cover}
-use Rattle.pua_ever.proofs.Under.{has_none}
 use Rattle.pua_ever.proofs.movable.under.Goals as goal
+use Rattle.pua_calls.proofs.ForCallers.{has_none}
 
 pub loop-cover-init : goal.loop-cover-init
 loop-cover-init c = record { so_far = λ h judged stands seen call. has_none call }

@@ -6,9 +6,9 @@ use Rattle.pua_script.specs.Replay.{world_after}
 use Rattle.pua_script.specs.Worlds.{StandsForWorld}
 use Rattle.pua_why.specs.Texts.{why_lines}
 use Rattle.pua_since.specs.Watched.{AreWatched}
-use Rattle.pua_since.proofs.Placing.{empty_of}
 use Rattle.pua_since.proofs.Telling.{IsTurn, all_told, none_told, past_all, turned}
 use Rattle.pua_since.proofs.reason_lines.lines_text.Goals as goal
+use Rattle.std.proofs.lemmas.List.{nil_from_length}
 
 pub loop-done-init : goal.loop-done-init
 loop-done-init g c =
@@ -38,7 +38,7 @@ returns g c =
     let steps = c.in-None.ensures.steps in
     let so = c.loop-done.invariant in
     let empty : (iter_rest c.loop-done.done-iterator.iter.a ≡ []) ⊎ (iter_rest c.loop-done.done-iterator.iter.b ≡ []) =
-    elim steps.0 [ inl x ↦ inl (empty_of _ x.1.0) | inr x ↦ inr (empty_of _ x.1.0) ] in
+    elim steps.0 [ inl x ↦ inl (nil_from_length _ x.1.0) | inr x ↦ inr (nil_from_length _ x.1.0) ] in
     record {
       text = λ w stands told are at.
           let none = all_told _ _ _ _ _ _ _ _ _ _ _ _ so empty w stands told in

@@ -6,8 +6,9 @@ use Rattle.pua_tree.proofs.ForCallers.{lines_agree}
 use Rattle.pua_script.specs.Scripts.{requests_of}
 use Rattle.pua_since.specs.Dates.{ArePlacesOf, IsRequestAt}
 use Rattle.pua_since.proofs.Keeping.{kept_all, kept_twice, request_kept}
-use Rattle.pua_since.proofs.Placing.{all_read, empty_of, first_read, none_placed, none_read, passed, placed}
+use Rattle.pua_since.proofs.Placing.{all_read, first_read, none_placed, none_read, passed, placed}
 use Rattle.pua_since.proofs.reason_lines.watch_lines.Goals as goal
+use Rattle.std.proofs.lemmas.List.{nil_from_length}
 
 pub loop-done-init : goal.loop-done-init
 loop-done-init g c =
@@ -79,7 +80,7 @@ returns g c =
           let empty : (iter_rest c.loop-done.done-iterator.iter.b.a ≡ []) ⊎ (iter_rest c.loop-done.done-iterator.iter.b.b ≡ []) =
           elim steps.0 [
             | inl x ↦ inl (none_read (so.lines read).0 _ (sym (ap (requests_of (so.lines read).0) x.1.0) ∙ (so.lines read).1))
-            | inr y ↦ elim y.1 [ inl z ↦ inl (empty_of _ z.1.0) | inr z ↦ inr (empty_of _ z.1.0) ]
+            | inr y ↦ elim y.1 [ inl z ↦ inl (nil_from_length _ z.1.0) | inr z ↦ inr (nil_from_length _ z.1.0) ]
           ] in
           subst (λ places. ArePlacesOf c.loop-done.watches.watches.items 0 c.args.requests.now c.args.told.now places) (append-nil c.loop-done.places.items)
           (so.places read c.loop-done.watches.watches.items [] (kept_all c.loop-done.watches.watches.items)

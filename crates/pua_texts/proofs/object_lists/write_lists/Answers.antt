@@ -1,32 +1,11 @@
-use Rattle.std.proofs.Common.{List, ℕ, ◌++◌, [], Ok, Err, subst}
-use Rattle.std.proofs.lemmas.Result.{err_from_is_err_and}
+use Rattle.std.proofs.Common.{List, ℕ, ◌++◌, subst, ◌∙◌}
 use Rattle.pua_texts.specs.Blocks.{Passes}
 use Rattle.pua_texts.specs.ObjectLines.{lists_of}
-use Rattle.pua_texts.proofs.Passing.{passes_then, passes_front, passes_written}
 use Rattle.pua_texts.proofs.object_lists.write_lists.Goals as goal
 
-pub returns-in_err-add_text : goal.returns-in_err-add_text
-returns-in_err-add_text g c =
-    let p = err_from_is_err_and c.from_residual.result c.from_residual.ensures.1 in
-    rw p.1 (λ table w numbers same are.
-    passes_front c.args.front.now (lists_of table w numbers) c.args.block.now [] [] p.0 (g.S.Sink.written c.args.sink.now) (g.S.Sink.written c.add_text.new.sink) (g.S.Sink.failed c.args.sink.now) (g.S.Sink.failed c.add_text.new.sink)
-    (subst (λ (t : List ℕ). Passes t (Err p.0) c.args.block.now [] (g.S.Sink.written c.args.sink.now) (g.S.Sink.written c.add_text.new.sink) (g.S.Sink.failed c.args.sink.now) (g.S.Sink.failed c.add_text.new.sink)) c.as_bytes.ensures.value c.in_err-add_text.ensures))
-
-pub returns-in_err-add_lists : goal.returns-in_err-add_lists
-returns-in_err-add_lists g c =
-    let p = err_from_is_err_and c.from_residual-in_err-add_lists.result c.from_residual-in_err-add_lists.ensures.1 in
-    rw p.1 (λ table w numbers same are.
-    passes_then c.args.front.now (lists_of table w numbers) c.args.block.now c.add_text.new.self [] (Err p.0)
-    (g.S.Sink.written c.args.sink.now) (g.S.Sink.written c.add_text.new.sink) (g.S.Sink.written c.add_lists.new.sink) (g.S.Sink.failed c.args.sink.now) (g.S.Sink.failed c.add_text.new.sink) (g.S.Sink.failed c.add_lists.new.sink)
-    (subst (λ (t : List ℕ). Passes t (Ok tt) c.args.block.now c.add_text.new.self (g.S.Sink.written c.args.sink.now) (g.S.Sink.written c.add_text.new.sink) (g.S.Sink.failed c.args.sink.now) (g.S.Sink.failed c.add_text.new.sink)) c.as_bytes.ensures.value c.in_ok-add_text.ensures)
-    (c.in_err-add_lists.ensures table w numbers same are))
-
 pub returns : goal.returns
-returns g c = λ table w numbers same are.
-    passes_written (c.args.front.now ++ (lists_of table w numbers)) c.args.block.now c.add_lists.new.block c.put.result
-    (g.S.Sink.written c.args.sink.now) (g.S.Sink.written c.add_lists.new.sink) (g.S.Sink.written c.put.new.sink) (g.S.Sink.failed c.args.sink.now) (g.S.Sink.failed c.add_lists.new.sink) (g.S.Sink.failed c.put.new.sink)
-    (passes_then c.args.front.now (lists_of table w numbers) c.args.block.now c.add_text.new.self c.add_lists.new.block (Ok tt)
-    (g.S.Sink.written c.args.sink.now) (g.S.Sink.written c.add_text.new.sink) (g.S.Sink.written c.add_lists.new.sink) (g.S.Sink.failed c.args.sink.now) (g.S.Sink.failed c.add_text.new.sink) (g.S.Sink.failed c.add_lists.new.sink)
-    (subst (λ (t : List ℕ). Passes t (Ok tt) c.args.block.now c.add_text.new.self (g.S.Sink.written c.args.sink.now) (g.S.Sink.written c.add_text.new.sink) (g.S.Sink.failed c.args.sink.now) (g.S.Sink.failed c.add_text.new.sink)) c.as_bytes.ensures.value c.in_ok-add_text.ensures)
-    (c.in_ok-add_lists.ensures table w numbers same are))
-    c.put.ensures
+returns g c = λ w stands.
+    let text : List ℕ = c.args.front.now ++ lists_of c.args.world.now.table w c.args.numbers.now in
+    c.finish.ensures text (g.S.Sink.written c.args.sink.now) (g.S.Sink.failed c.args.sink.now)
+    (subst (λ (b : List ℕ). Passes text c.add_lists-added.result b c.add_lists-added.new.block (g.S.Sink.written c.args.sink.now) (g.S.Sink.written c.add_lists-added.new.sink) (g.S.Sink.failed c.args.sink.now) (g.S.Sink.failed c.add_lists-added.new.sink)) c.in_ok-block.ensures
+    (c.add_lists-added.ensures c.args.world.now.table w c.args.numbers.now (c.in_ok-places.ensures ∙ c.tree.ensures ∙ stands.tree) (c.in_ok-lists.ensures w stands)))

@@ -5,8 +5,9 @@ use Rattle.pua_objects.specs.Items.{subject_given}
 use Rattle.pua_why.specs.Texts.{promises_text}
 use Rattle.pua_texts.specs.Blocks.{Passes}
 use Rattle.pua_texts.proofs.Passing.{passes_none, passes_then, passes_front}
-use Rattle.pua_texts.proofs.WhyItems.{front_given, is_not_so, item_listed, item_unlisted}
+use Rattle.pua_texts.proofs.WhyItems.{front_given, item_listed, item_unlisted}
 use Rattle.pua_texts.proofs.why_line.add_item.Goals as goal
+use Rattle.std.proofs.lemmas.Bool.Decides.{not_from_Decides}
 
 pub returns-then-is_empty : goal.returns-then-is_empty
 returns-then-is_empty g c = λ fits p number h are stands on.
@@ -25,7 +26,7 @@ returns-in_err-add_object g c =
     let subject = subject_given c.args.columns.now.tree c.args.item.now.subject in
     let word = map (λ name. name.now) c.args.word.now in
     let line = c.line_of-line.result in
-    let some : calls_in line.calls ≢ [] = is_not_so c.is_empty.result (calls_in line.calls ≡ []) c.is_empty.ensures c.if-is_empty.false in
+    let some : calls_in line.calls ≢ [] = not_from_Decides c.is_empty.result c.is_empty.ensures c.if-is_empty.false in
     let resting = c.resting_on-resting.result in
     let veil = c.over-veil.result.now in
     subst (λ (text : List ℕ). Passes text (Err cut.0) c.args.block.now [] (g.S.Sink.written c.args.sink.now) (g.S.Sink.written c.add_object.new.sink) (g.S.Sink.failed c.args.sink.now) (g.S.Sink.failed c.add_object.new.sink))
@@ -38,7 +39,7 @@ returns g c = λ fits p number h are stands on.
     let subject = subject_given c.args.columns.now.tree c.args.item.now.subject in
     let word = map (λ name. name.now) c.args.word.now in
     let line = c.line_of-line.result in
-    let some : calls_in line.calls ≢ [] = is_not_so c.is_empty.result (calls_in line.calls ≡ []) c.is_empty.ensures c.if-is_empty.false in
+    let some : calls_in line.calls ≢ [] = not_from_Decides c.is_empty.result c.is_empty.ensures c.if-is_empty.false in
     subst (λ (text : List ℕ). Passes text c.add_columns.result c.args.block.now c.add_columns.new.block (g.S.Sink.written c.args.sink.now) (g.S.Sink.written c.add_columns.new.sink) (g.S.Sink.failed c.args.sink.now) (g.S.Sink.failed c.add_columns.new.sink))
     (item_listed p number h c.args.columns.now.tree c.args.columns.now.table are.tree are.table word subject line (c.line_of-line.ensures h subject stands on) c.resting_on-resting.result c.over-veil.result.now some
     (c.resting_on-resting.ensures h stands) (c.over-veil.ensures fits p number h are stands))

@@ -1,8 +1,8 @@
 use Rattle.std.proofs.Common.{◌≡◌, ◌≢◌, ℕ, List, ◌++◌, Ok, Err, ap, subst, sym, ◌∙◌}
 use Rattle.std.proofs.lemmas.Result.{err_from_is_err_and}
 use Rattle.pua_script.specs.Replay.{history_of}
-use Rattle.pua_io.specs.Sinks.{Writes}
 use Rattle.pua_texts.specs.Lines.{front_of, pair_lines}
+use Rattle.pua_texts.specs.Tells.{Tells}
 use Rattle.pua_tool.specs.Begun.{IsReplay}
 use Rattle.pua_tool.specs.Texts.{Replayed, as_audit, audit_after, beginning_of, text_of, wanted}
 use Rattle.pua_tool.specs.declared.fault.ToolFault.TheVariants.{OutOfMemory}
@@ -33,9 +33,9 @@ returns g c = λ done replay.
     (λ i. beginning_of (sym (c.tree.ensures ∙ replay.stands.tree) i) (sym (c.table.ensures ∙ replay.table) i) h w) ∙ begins.1 in
     let front : c.as_str.result.now ≡ front_of w.after w.process done.told = c.as_str.ensures.value ∙ c.in-Ok.ensures ∙ ap (front_of w.after w.process) (c.as_slice.ensures.value ∙ replay.told) in
     let text = text_of w (record { told = done.told; beginning = b }) in
-    let written : Writes text c.write_audit.result (g.S.Sink.written c.args.sink.now) (g.S.Sink.written c.write_audit.new.sink) (g.S.Sink.failed c.args.sink.now) (g.S.Sink.failed c.write_audit.new.sink) =
-    subst (λ (t : List ℕ). Writes t c.write_audit.result (g.S.Sink.written c.args.sink.now) (g.S.Sink.written c.write_audit.new.sink) (g.S.Sink.failed c.args.sink.now) (g.S.Sink.failed c.write_audit.new.sink))
-    (λ i. c.in-Ok-new.ensures i ++ (front i ++ pair_lines (begins.3 i) (begins.2 i)))
+    let written : Tells text c.write_audit.result (g.S.Sink.written c.args.sink.now) (g.S.Sink.written c.write_audit.new.sink) (g.S.Sink.failed c.args.sink.now) (g.S.Sink.failed c.write_audit.new.sink) =
+    subst (λ (t : List ℕ). Tells t c.write_audit.result (g.S.Sink.written c.args.sink.now) (g.S.Sink.written c.write_audit.new.sink) (g.S.Sink.failed c.args.sink.now) (g.S.Sink.failed c.write_audit.new.sink))
+    (λ i. front i ++ pair_lines (begins.3 i) (begins.2 i))
     c.write_audit.ensures in
     answers_told (audit_after done w) text c.told.result (g.S.Sink.written c.args.sink.now) (g.S.Sink.written c.write_audit.new.sink) (g.S.Sink.failed c.args.sink.now) (g.S.Sink.failed c.write_audit.new.sink) (after_begun done w h b made.is same)
     (c.told.ensures text (g.S.Sink.written c.args.sink.now) (g.S.Sink.written c.write_audit.new.sink) (g.S.Sink.failed c.args.sink.now) (g.S.Sink.failed c.write_audit.new.sink) written)

@@ -2,7 +2,8 @@ use Rattle.std.proofs.Common.{◌≡◌, Ok, List, ℕ, ap, ◌∙◌}
 use Rattle.std.proofs.lemmas.Result.{err_from_is_err_and}
 use Rattle.pua_tree.specs.Steps.{◌>>=◌}
 use Rattle.pua_texts.specs.Lines.{answer_lines}
-use Rattle.pua_tool.specs.ObjectTexts.{lists_asked, objects_after, Tells}
+use Rattle.pua_texts.specs.Tells.{Tells}
+use Rattle.pua_tool.specs.ObjectTexts.{lists_asked, objects_after}
 use Rattle.pua_tool.proofs.EverTexts.{answers_refused, answers_told}
 use Rattle.pua_tool.proofs.ObjectTexts.{told_as}
 use Rattle.pua_tool.proofs.objects.asked_to.Goals as goal
@@ -18,11 +19,12 @@ pub returns : goal.returns
 returns g c = λ done replay.
     let numbers : List ℕ = c.in_ok-numbers.numbers.items in
     let a = g.S.Sink.written c.args.sink.now in
-    let b = g.S.Sink.written c.lists_to.new.sink in
+    let b = g.S.Sink.written c.write_lists.new.sink in
     let n = g.S.Sink.failed c.args.sink.now in
-    let m = g.S.Sink.failed c.lists_to.new.sink in
+    let m = g.S.Sink.failed c.write_lists.new.sink in
     let front : c.as_str.result.now ≡ answer_lines 1 done.told = c.as_str.ensures.value ∙ c.in-Ok.ensures ∙ ap (answer_lines 1) (c.as_slice.ensures.value ∙ replay.told) in
-    let told : Tells (objects_after done.table done.told done.world numbers) c.lists_to.result a b n m =
-    told_as c.as_str.result.now (answer_lines 1 done.told) _ done.table done.world c.as_slice-2.result.now numbers c.lists_to.result a b n m front replay.table c.as_slice-2.ensures.value (c.lists_to.ensures done.world replay.stands) in
-    answers_told (lists_asked done c.args.processes) (objects_after done.table done.told done.world numbers) c.lists_to.result a b n m
-    (λ i. c.in_ok-numbers.ensures.asked done.world replay.stands i >>= λ numbers. Ok (objects_after done.table done.told done.world numbers)) told
+    let written : Tells (objects_after done.table done.told done.world numbers) c.write_lists.result a b n m =
+    told_as c.as_str.result.now (answer_lines 1 done.told) _ done.table done.world c.as_slice-2.result.now numbers c.write_lists.result a b n m front replay.table c.as_slice-2.ensures.value (c.write_lists.ensures done.world replay.stands) in
+    answers_told (lists_asked done c.args.processes) (objects_after done.table done.told done.world numbers) c.told.result a b n m
+    (λ i. c.in_ok-numbers.ensures.asked done.world replay.stands i >>= λ numbers. Ok (objects_after done.table done.told done.world numbers))
+    (c.told.ensures (objects_after done.table done.told done.world numbers) a b n m written)

@@ -2,7 +2,7 @@ use Rattle.std.proofs.Common.{◌++◌, Ok, List, ℕ, subst}
 use Rattle.std.proofs.lemmas.Result.{err_from_is_err_and}
 use Rattle.pua_tree.specs.Steps.{◌>>=◌}
 use Rattle.pua_texts.specs.WhyLines.{why_lists_of, world_left}
-use Rattle.pua_tool.specs.ObjectTexts.{Tells}
+use Rattle.pua_texts.specs.Tells.{Tells}
 use Rattle.pua_tool.specs.WhyTexts.{reason_lines, why_lists_asked}
 use Rattle.pua_tool.proofs.EverTexts.{answers_refused, answers_told}
 use Rattle.pua_tool.proofs.objects_why.write_asked.Goals as goal
@@ -21,6 +21,8 @@ returns g c = λ q read is.
     let b = g.S.Sink.written c.write_all.new.sink in
     let n = g.S.Sink.failed c.args.sink.now in
     let m = g.S.Sink.failed c.write_all.new.sink in
-    answers_told (why_lists_asked q c.args.processes) (reason_lines q ++ why_lists_of q numbers) c.write_all.result a b n m
+    let text = reason_lines q ++ why_lists_of q numbers in
+    answers_told (why_lists_asked q c.args.processes) text c.told.result a b n m
     (λ i. c.in_ok-numbers.ensures.asked (world_left q) is.after i >>= λ numbers. Ok (reason_lines q ++ why_lists_of q numbers))
-    (subst (λ (lent : List ℕ). Tells (reason_lines q ++ why_lists_of q lent) c.write_all.result a b n m) c.as_slice.ensures.value (c.write_all.ensures q read is))
+    (c.told.ensures text a b n m
+    (subst (λ (lent : List ℕ). Tells (reason_lines q ++ why_lists_of q lent) c.write_all.result a b n m) c.as_slice.ensures.value (c.write_all.ensures q read is)))

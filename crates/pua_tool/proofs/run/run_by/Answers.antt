@@ -1,9 +1,9 @@
-use Rattle.std.proofs.Common.{◌≡◌, ◌≢◌, List, ℕ, Err, subst}
+use Rattle.std.proofs.Common.{◌≡◌, ◌≢◌, List, ℕ, Ok, Err, subst}
 use Rattle.std.proofs.lemmas.Result.{err_from_is_err_and}
-use Rattle.pua_tool.specs.ObjectTexts.{Tells}
+use Rattle.pua_tool.specs.EverTexts.{Answers}
 use Rattle.pua_tool.specs.Texts.{chosen, run_text}
 use Rattle.pua_tool.specs.declared.fault.ToolFault.TheVariants.{OutOfMemory, Write}
-use Rattle.pua_tool.proofs.ObjectTexts.{tells_whole, tells_unfailed, tells_write, tells_refused, tells_unwritten}
+use Rattle.pua_tool.proofs.EverTexts.{answers_told, answers_whole, answers_unfailed, answers_write, answers_fault, answers_unwritten}
 use Rattle.pua_tool.proofs.run.run_by.Goals as goal
 
 pub returns-in_err-text-clause-refused : goal.returns-in_err-text-clause-refused
@@ -19,8 +19,9 @@ returns-clause-whole g c =
     let b = g.S.Sink.written c.put_text.new.sink in
     let n = g.S.Sink.failed c.args.sink.now in
     let m = g.S.Sink.failed c.put_text.new.sink in
-    let told = subst (λ (text : List ℕ). Tells text c.put_text.result a b n m) c.as_str.ensures.value c.put_text.ensures in
-    tells_whole (run_text (chosen c.args.table) c.args.tree_bytes.now c.args.script_bytes.now) _ a b n m c.in_ok-text.ensures.done c.put_text.result told
+    let told = subst (λ (text : List ℕ). Answers (Ok text) c.put_text.result a b n m) c.as_str.ensures.value c.put_text.ensures in
+    answers_whole (run_text (chosen c.args.table) c.args.tree_bytes.now c.args.script_bytes.now) a b n m c.put_text.result
+    (answers_told (run_text (chosen c.args.table) c.args.tree_bytes.now c.args.script_bytes.now) _ c.put_text.result a b n m c.in_ok-text.ensures.done told)
 
 pub returns-clause-unfailed : goal.returns-clause-unfailed
 returns-clause-unfailed g c =
@@ -28,8 +29,9 @@ returns-clause-unfailed g c =
     let b = g.S.Sink.written c.put_text.new.sink in
     let n = g.S.Sink.failed c.args.sink.now in
     let m = g.S.Sink.failed c.put_text.new.sink in
-    let told = subst (λ (text : List ℕ). Tells text c.put_text.result a b n m) c.as_str.ensures.value c.put_text.ensures in
-    tells_unfailed (run_text (chosen c.args.table) c.args.tree_bytes.now c.args.script_bytes.now) _ a b n m c.in_ok-text.ensures.done c.put_text.result told
+    let told = subst (λ (text : List ℕ). Answers (Ok text) c.put_text.result a b n m) c.as_str.ensures.value c.put_text.ensures in
+    answers_unfailed (run_text (chosen c.args.table) c.args.tree_bytes.now c.args.script_bytes.now) a b n m c.put_text.result
+    (answers_told (run_text (chosen c.args.table) c.args.tree_bytes.now c.args.script_bytes.now) _ c.put_text.result a b n m c.in_ok-text.ensures.done told)
 
 pub returns-clause-write : goal.returns-clause-write
 returns-clause-write g c =
@@ -37,8 +39,9 @@ returns-clause-write g c =
     let b = g.S.Sink.written c.put_text.new.sink in
     let n = g.S.Sink.failed c.args.sink.now in
     let m = g.S.Sink.failed c.put_text.new.sink in
-    let told = subst (λ (text : List ℕ). Tells text c.put_text.result a b n m) c.as_str.ensures.value c.put_text.ensures in
-    tells_write (run_text (chosen c.args.table) c.args.tree_bytes.now c.args.script_bytes.now) _ a b n m c.in_ok-text.ensures.done c.put_text.result told
+    let told = subst (λ (text : List ℕ). Answers (Ok text) c.put_text.result a b n m) c.as_str.ensures.value c.put_text.ensures in
+    answers_write (run_text (chosen c.args.table) c.args.tree_bytes.now c.args.script_bytes.now) a b n m c.put_text.result
+    (answers_told (run_text (chosen c.args.table) c.args.tree_bytes.now c.args.script_bytes.now) _ c.put_text.result a b n m c.in_ok-text.ensures.done told)
 
 pub returns-clause-refused : goal.returns-clause-refused
 returns-clause-refused g c =
@@ -46,8 +49,9 @@ returns-clause-refused g c =
     let b = g.S.Sink.written c.put_text.new.sink in
     let n = g.S.Sink.failed c.args.sink.now in
     let m = g.S.Sink.failed c.put_text.new.sink in
-    let told = subst (λ (text : List ℕ). Tells text c.put_text.result a b n m) c.as_str.ensures.value c.put_text.ensures in
-    tells_refused (run_text (chosen c.args.table) c.args.tree_bytes.now c.args.script_bytes.now) _ a b n m c.in_ok-text.ensures.done c.put_text.result told
+    let told = subst (λ (text : List ℕ). Answers (Ok text) c.put_text.result a b n m) c.as_str.ensures.value c.put_text.ensures in
+    answers_fault (run_text (chosen c.args.table) c.args.tree_bytes.now c.args.script_bytes.now) a b n m c.put_text.result
+    (answers_told (run_text (chosen c.args.table) c.args.tree_bytes.now c.args.script_bytes.now) _ c.put_text.result a b n m c.in_ok-text.ensures.done told)
 
 pub returns-clause-unwritten : goal.returns-clause-unwritten
 returns-clause-unwritten g c =
@@ -55,5 +59,6 @@ returns-clause-unwritten g c =
     let b = g.S.Sink.written c.put_text.new.sink in
     let n = g.S.Sink.failed c.args.sink.now in
     let m = g.S.Sink.failed c.put_text.new.sink in
-    let told = subst (λ (text : List ℕ). Tells text c.put_text.result a b n m) c.as_str.ensures.value c.put_text.ensures in
-    tells_unwritten (run_text (chosen c.args.table) c.args.tree_bytes.now c.args.script_bytes.now) _ a b n m c.in_ok-text.ensures.done c.put_text.result told
+    let told = subst (λ (text : List ℕ). Answers (Ok text) c.put_text.result a b n m) c.as_str.ensures.value c.put_text.ensures in
+    answers_unwritten (run_text (chosen c.args.table) c.args.tree_bytes.now c.args.script_bytes.now) a b n m c.put_text.result
+    (answers_told (run_text (chosen c.args.table) c.args.tree_bytes.now c.args.script_bytes.now) _ c.put_text.result a b n m c.in_ok-text.ensures.done told)

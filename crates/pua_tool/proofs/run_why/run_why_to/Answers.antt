@@ -1,6 +1,6 @@
-use Rattle.std.proofs.Common.{◌≡◌, ◌≢◌, Err, List, ℕ, subst, ◌∙◌}
+use Rattle.std.proofs.Common.{◌≡◌, ◌≢◌, Ok, Err, List, ℕ, subst, ◌∙◌}
 use Rattle.std.proofs.lemmas.Result.{err_from_is_err_and}
-use Rattle.pua_tool.specs.ObjectTexts.{Tells}
+use Rattle.pua_tool.specs.EverTexts.{Answers}
 use Rattle.pua_tool.specs.Texts.{chosen}
 use Rattle.pua_tool.specs.WhyTexts.{run_why_text}
 use Rattle.pua_tool.specs.declared.fault.ToolFault.TheVariants.{OutOfMemory, Write}
@@ -23,7 +23,7 @@ returns-clause-whole g c =
     let b = g.S.Sink.written c.put_text.new.sink in
     let n = g.S.Sink.failed c.args.sink.now in
     let m = g.S.Sink.failed c.put_text.new.sink in
-    let told = subst (λ (text : List ℕ). Tells text c.put_text.result a b n m) (c.as_str.ensures.value ∙ c.in-Ok.ensures posed.0 posed.2 posed.3) c.put_text.ensures in
+    let told = subst (λ (text : List ℕ). Answers (Ok text) c.put_text.result a b n m) (c.as_str.ensures.value ∙ c.in-Ok.ensures posed.0 posed.2 posed.3) c.put_text.ensures in
     answers_whole (run_why_text (chosen c.args.table) c.args.tree_bytes.now c.args.script_bytes.now) a b n m c.put_text.result
     (run_told (chosen c.args.table) c.args.tree_bytes.now c.args.script_bytes.now posed.0 c.put_text.result a b n m posed.1 told)
 
@@ -34,7 +34,7 @@ returns-clause-unfailed g c =
     let b = g.S.Sink.written c.put_text.new.sink in
     let n = g.S.Sink.failed c.args.sink.now in
     let m = g.S.Sink.failed c.put_text.new.sink in
-    let told = subst (λ (text : List ℕ). Tells text c.put_text.result a b n m) (c.as_str.ensures.value ∙ c.in-Ok.ensures posed.0 posed.2 posed.3) c.put_text.ensures in
+    let told = subst (λ (text : List ℕ). Answers (Ok text) c.put_text.result a b n m) (c.as_str.ensures.value ∙ c.in-Ok.ensures posed.0 posed.2 posed.3) c.put_text.ensures in
     answers_unfailed (run_why_text (chosen c.args.table) c.args.tree_bytes.now c.args.script_bytes.now) a b n m c.put_text.result
     (run_told (chosen c.args.table) c.args.tree_bytes.now c.args.script_bytes.now posed.0 c.put_text.result a b n m posed.1 told)
 
@@ -45,7 +45,7 @@ returns-clause-write g c =
     let b = g.S.Sink.written c.put_text.new.sink in
     let n = g.S.Sink.failed c.args.sink.now in
     let m = g.S.Sink.failed c.put_text.new.sink in
-    let told = subst (λ (text : List ℕ). Tells text c.put_text.result a b n m) (c.as_str.ensures.value ∙ c.in-Ok.ensures posed.0 posed.2 posed.3) c.put_text.ensures in
+    let told = subst (λ (text : List ℕ). Answers (Ok text) c.put_text.result a b n m) (c.as_str.ensures.value ∙ c.in-Ok.ensures posed.0 posed.2 posed.3) c.put_text.ensures in
     answers_write (run_why_text (chosen c.args.table) c.args.tree_bytes.now c.args.script_bytes.now) a b n m c.put_text.result
     (run_told (chosen c.args.table) c.args.tree_bytes.now c.args.script_bytes.now posed.0 c.put_text.result a b n m posed.1 told)
 
@@ -56,7 +56,7 @@ returns-clause-refused g c =
     let b = g.S.Sink.written c.put_text.new.sink in
     let n = g.S.Sink.failed c.args.sink.now in
     let m = g.S.Sink.failed c.put_text.new.sink in
-    let told = subst (λ (text : List ℕ). Tells text c.put_text.result a b n m) (c.as_str.ensures.value ∙ c.in-Ok.ensures posed.0 posed.2 posed.3) c.put_text.ensures in
+    let told = subst (λ (text : List ℕ). Answers (Ok text) c.put_text.result a b n m) (c.as_str.ensures.value ∙ c.in-Ok.ensures posed.0 posed.2 posed.3) c.put_text.ensures in
     answers_fault (run_why_text (chosen c.args.table) c.args.tree_bytes.now c.args.script_bytes.now) a b n m c.put_text.result
     (run_told (chosen c.args.table) c.args.tree_bytes.now c.args.script_bytes.now posed.0 c.put_text.result a b n m posed.1 told)
 
@@ -67,6 +67,6 @@ returns-clause-unwritten g c =
     let b = g.S.Sink.written c.put_text.new.sink in
     let n = g.S.Sink.failed c.args.sink.now in
     let m = g.S.Sink.failed c.put_text.new.sink in
-    let told = subst (λ (text : List ℕ). Tells text c.put_text.result a b n m) (c.as_str.ensures.value ∙ c.in-Ok.ensures posed.0 posed.2 posed.3) c.put_text.ensures in
+    let told = subst (λ (text : List ℕ). Answers (Ok text) c.put_text.result a b n m) (c.as_str.ensures.value ∙ c.in-Ok.ensures posed.0 posed.2 posed.3) c.put_text.ensures in
     answers_unwritten (run_why_text (chosen c.args.table) c.args.tree_bytes.now c.args.script_bytes.now) a b n m c.put_text.result
     (run_told (chosen c.args.table) c.args.tree_bytes.now c.args.script_bytes.now posed.0 c.put_text.result a b n m posed.1 told)

@@ -1,6 +1,6 @@
-use Rattle.std.proofs.Common.{◌≡◌, ◌≢◌, Err, List, ℕ, map, subst, ◌∙◌}
+use Rattle.std.proofs.Common.{◌≡◌, ◌≢◌, Ok, Err, List, ℕ, map, subst, ◌∙◌}
 use Rattle.std.proofs.lemmas.Result.{err_from_is_err_and}
-use Rattle.pua_tool.specs.ObjectTexts.{Tells}
+use Rattle.pua_tool.specs.EverTexts.{Answers}
 use Rattle.pua_tool.specs.Texts.{chosen}
 use Rattle.pua_tool.specs.WhyTexts.{why_text}
 use Rattle.pua_tool.specs.declared.fault.ToolFault.TheVariants.{OutOfMemory, Write}
@@ -36,7 +36,7 @@ returns-clause-whole g c =
     let b = g.S.Sink.written c.put_text.new.sink in
     let n = g.S.Sink.failed c.args.sink.now in
     let m = g.S.Sink.failed c.put_text.new.sink in
-    let told = subst (λ (text : List ℕ). Tells text c.put_text.result a b n m) (c.as_str.ensures.value ∙ got.2) c.put_text.ensures in
+    let told = subst (λ (text : List ℕ). Answers (Ok text) c.put_text.result a b n m) (c.as_str.ensures.value ∙ got.2) c.put_text.ensures in
     answers_whole (why_text (chosen c.args.table) c.args.tree_bytes.now c.args.script_bytes.now c.args.process fields) a b n m c.put_text.result
     (why_told (chosen c.args.table) c.args.tree_bytes.now c.args.script_bytes.now c.args.process fields posed.0 got.0 c.put_text.result a b n m posed.1 got.1 told)
 
@@ -49,7 +49,7 @@ returns-clause-unfailed g c =
     let b = g.S.Sink.written c.put_text.new.sink in
     let n = g.S.Sink.failed c.args.sink.now in
     let m = g.S.Sink.failed c.put_text.new.sink in
-    let told = subst (λ (text : List ℕ). Tells text c.put_text.result a b n m) (c.as_str.ensures.value ∙ got.2) c.put_text.ensures in
+    let told = subst (λ (text : List ℕ). Answers (Ok text) c.put_text.result a b n m) (c.as_str.ensures.value ∙ got.2) c.put_text.ensures in
     answers_unfailed (why_text (chosen c.args.table) c.args.tree_bytes.now c.args.script_bytes.now c.args.process fields) a b n m c.put_text.result
     (why_told (chosen c.args.table) c.args.tree_bytes.now c.args.script_bytes.now c.args.process fields posed.0 got.0 c.put_text.result a b n m posed.1 got.1 told)
 
@@ -62,7 +62,7 @@ returns-clause-write g c =
     let b = g.S.Sink.written c.put_text.new.sink in
     let n = g.S.Sink.failed c.args.sink.now in
     let m = g.S.Sink.failed c.put_text.new.sink in
-    let told = subst (λ (text : List ℕ). Tells text c.put_text.result a b n m) (c.as_str.ensures.value ∙ got.2) c.put_text.ensures in
+    let told = subst (λ (text : List ℕ). Answers (Ok text) c.put_text.result a b n m) (c.as_str.ensures.value ∙ got.2) c.put_text.ensures in
     answers_write (why_text (chosen c.args.table) c.args.tree_bytes.now c.args.script_bytes.now c.args.process fields) a b n m c.put_text.result
     (why_told (chosen c.args.table) c.args.tree_bytes.now c.args.script_bytes.now c.args.process fields posed.0 got.0 c.put_text.result a b n m posed.1 got.1 told)
 
@@ -75,7 +75,7 @@ returns-clause-refused g c =
     let b = g.S.Sink.written c.put_text.new.sink in
     let n = g.S.Sink.failed c.args.sink.now in
     let m = g.S.Sink.failed c.put_text.new.sink in
-    let told = subst (λ (text : List ℕ). Tells text c.put_text.result a b n m) (c.as_str.ensures.value ∙ got.2) c.put_text.ensures in
+    let told = subst (λ (text : List ℕ). Answers (Ok text) c.put_text.result a b n m) (c.as_str.ensures.value ∙ got.2) c.put_text.ensures in
     answers_fault (why_text (chosen c.args.table) c.args.tree_bytes.now c.args.script_bytes.now c.args.process fields) a b n m c.put_text.result
     (why_told (chosen c.args.table) c.args.tree_bytes.now c.args.script_bytes.now c.args.process fields posed.0 got.0 c.put_text.result a b n m posed.1 got.1 told)
 
@@ -88,6 +88,6 @@ returns-clause-unwritten g c =
     let b = g.S.Sink.written c.put_text.new.sink in
     let n = g.S.Sink.failed c.args.sink.now in
     let m = g.S.Sink.failed c.put_text.new.sink in
-    let told = subst (λ (text : List ℕ). Tells text c.put_text.result a b n m) (c.as_str.ensures.value ∙ got.2) c.put_text.ensures in
+    let told = subst (λ (text : List ℕ). Answers (Ok text) c.put_text.result a b n m) (c.as_str.ensures.value ∙ got.2) c.put_text.ensures in
     answers_unwritten (why_text (chosen c.args.table) c.args.tree_bytes.now c.args.script_bytes.now c.args.process fields) a b n m c.put_text.result
     (why_told (chosen c.args.table) c.args.tree_bytes.now c.args.script_bytes.now c.args.process fields posed.0 got.0 c.put_text.result a b n m posed.1 got.1 told)

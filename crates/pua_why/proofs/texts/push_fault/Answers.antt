@@ -18,10 +18,6 @@ pub returns-in-UnknownLetter-clause-text : goal.returns-in-UnknownLetter-clause-
 returns-in-UnknownLetter-clause-text c =
     pushed_so c.push_str-in-UnknownLetter.result _ _ _ c.push_str-in-UnknownLetter.ensures.bytes (λ so t is. so ∙ ap (λ fault. string_bytes c.args.text.now ++ fault_text t (fault_seen fault)) (sym c.in-UnknownLetter.is))
 
-pub returns-in-NoProcessLeft-clause-text : goal.returns-in-NoProcessLeft-clause-text
-returns-in-NoProcessLeft-clause-text c =
-    pushed_so c.push_str-in-NoProcessLeft.result _ _ _ c.push_str-in-NoProcessLeft.ensures.bytes (λ so t is. so ∙ ap (λ fault. string_bytes c.args.text.now ++ fault_text t (fault_seen fault)) (sym c.in-NoProcessLeft.is))
-
 pub returns-in-NoRoom-clause-text : goal.returns-in-NoRoom-clause-text
 returns-in-NoRoom-clause-text c =
     pushed_so c.push_str-in-NoRoom.result _ _ _ c.push_str-in-NoRoom.ensures.bytes (λ so t is. so ∙ ap (λ fault. string_bytes c.args.text.now ++ fault_text t (fault_seen fault)) (sym c.in-NoRoom.is))

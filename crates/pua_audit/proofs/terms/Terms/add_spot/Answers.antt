@@ -5,8 +5,8 @@ use Rattle.pua_tree.proofs.ForCallers.{None≢Some, same_Some}
 use Rattle.pua_audit.specs.Ready.{letters_of}
 use Rattle.pua_audit.specs.Spots.{AreAtLetters, IsUnmarked}
 use Rattle.pua_audit.specs.declared.table.spots.LetterSpot.{LetterSpot}
-use Rattle.pua_audit.proofs.Moves.{all_front, all_pushed}
 use Rattle.pua_audit.proofs.terms.Terms.add_spot.Goals as goal
+use Rattle.pua_steps.proofs.ForCallers.{all_front, all_pushed}
 
 -- a name that is no letter
 pub returns-in_default-clause-here : goal.returns-in_default-clause-here

@@ -6,8 +6,8 @@ use Rattle.std.proofs.lemmas.List.{get_or_read}
 use Rattle.pua_path.specs.declared.found.Part.{Part}
 use Rattle.pua_path.specs.declared.found.Part.TheVariants.{Dot}
 use Rattle.pua_audit.specs.Spots.{IsApart, is_dots}
-use Rattle.pua_audit.proofs.Moves.{all_front, all_pushed}
 use Rattle.pua_audit.proofs.terms.Terms.dots.Goals as goal
+use Rattle.pua_steps.proofs.ForCallers.{all_front, all_pushed}
 
 not_true : (b : Bool) → not b ≡ true → b ≡ false
 not_true true e = absurd (false≢true e)

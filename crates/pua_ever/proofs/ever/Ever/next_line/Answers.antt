@@ -4,8 +4,9 @@ use Rattle.pua_calls.specs.CallSets.{calls_in}
 use Rattle.pua_objects.proofs.ForCallers.{stays_shared}
 use Rattle.pua_ever.specs.EverLines.{lines_of, IsThing}
 use Rattle.pua_ever.specs.EverState.{EverState}
-use Rattle.pua_ever.proofs.Lined.{left_out, kept_in, is_not_so, lines_moved}
+use Rattle.pua_ever.proofs.Lined.{left_out, kept_in, lines_moved}
 use Rattle.pua_ever.proofs.ever.Ever.next_line.Goals as goal
+use Rattle.std.proofs.lemmas.Bool.Decides.{not_from_Decides}
 
 pub loop-line-init : goal.loop-line-init
 loop-line-init g c =
@@ -32,7 +33,7 @@ returns-then-not-is_empty-clause-line g c =
     let now = c.loop-line.invariant in
     let first = c.in-Some.ensures.line in
     let after = c.next_given.new.self in
-    let some : calls_in c.in-Some.line.calls ≢ [] = is_not_so c.is_empty.result (calls_in c.in-Some.line.calls ≡ []) c.is_empty.ensures c.if-not-is_empty.true in
+    let some : calls_in c.in-Some.line.calls ≢ [] = not_from_Decides c.is_empty.result c.is_empty.ensures c.if-not-is_empty.true in
     record {
       about = first.about;
       thing = subst (λ (t : Tree). IsThing t first.about c.in-Some.line.thing) now.tree first.thing;

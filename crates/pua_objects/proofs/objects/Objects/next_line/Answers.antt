@@ -5,8 +5,9 @@ use Rattle.pua_policy.specs.History.{ProcessState, StandsFor}
 use Rattle.pua_objects.specs.ObjectsState.{ObjectsState}
 use Rattle.pua_objects.specs.Ready.{lines_of}
 use Rattle.pua_objects.proofs.Fronts.{shares_on}
-use Rattle.pua_objects.proofs.Listed.{left_out, kept_in, told_lined, is_not_so}
+use Rattle.pua_objects.proofs.Listed.{left_out, kept_in, told_lined}
 use Rattle.pua_objects.proofs.objects.Objects.next_line.Goals as goal
+use Rattle.std.proofs.lemmas.Bool.Decides.{not_from_Decides}
 
 pub loop-item-init : goal.loop-item-init
 loop-item-init g c =
@@ -33,7 +34,7 @@ returns-then-not-is_empty-clause-line g c =
     let after = c.next_item.new.self in
     let first = c.in-Some.ensures.item in
     let line = c.line_of-line.result in
-    let some : calls_in line.calls ≢ [] = is_not_so c.is_empty.result (calls_in line.calls ≡ []) c.is_empty.ensures c.if-not-is_empty.true in
+    let some : calls_in line.calls ≢ [] = not_from_Decides c.is_empty.result c.is_empty.ensures c.if-not-is_empty.true in
     let process = c.process-in-Some.ensures ∙ c.in-Some.ensures.of.1 in
     let on = told_lined old.tree at.items.tree old.process at.items.process old.table at.table now.tree now.process now.table first.subject c.in-Some.item line first.tells
     (λ h stands told. c.line_of-line.ensures at.items.tree h first.subject (subst (λ (p : ProcessState). StandsFor p h) (sym process) stands) told) in

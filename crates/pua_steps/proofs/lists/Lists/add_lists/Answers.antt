@@ -8,9 +8,9 @@ use Rattle.pua_steps.specs.Table.{IsEntry}
 use Rattle.pua_steps.specs.declared.steps.Entry.{Entry}
 use Rattle.pua_steps.specs.declared.steps.Steps.{Steps}
 use Rattle.pua_steps.specs.declared.lists.Span.{Span}
-use Rattle.pua_steps.proofs.Closing.{all_append}
 use Rattle.pua_steps.proofs.Listing.{no_span, longer_on, longer_at, list_stays, list_last, list_known}
 use Rattle.pua_steps.proofs.lists.Lists.add_lists.Goals as goal
+use Rattle.pua_steps.proofs.Base.{all_joined}
 
 pub loop-dir-preserved : goal.loop-dir-preserved
 loop-dir-preserved c =
@@ -31,7 +31,7 @@ loop-dir-preserved c =
     let added : IsLonger Span ss us = record { more = span ∷ []; parts = got.spans } in
     record {
       layers = got.layers ∙ inv.layers;
-      known = subst (AllByRecursion (λ e. IsEntry t e)) (sym got.entries) (all_append (λ e. IsEntry t e) es list inv.known (list_known t v c.args.left d c.requires.table low));
+      known = subst (AllByRecursion (λ e. IsEntry t e)) (sym got.entries) (all_joined (λ e. IsEntry t e) es list inv.known (list_known t v c.args.left d c.requires.table low));
       entries = longer_on c.args.self.now.entries.items es fs list inv.entries got.entries;
       spans = longer_on c.args.self.now.spans.items ss us (span ∷ []) inv.spans got.spans;
       many = omega (arith, ap length got.spans, length_push ss span, inv.many);

@@ -16,9 +16,10 @@ use Rattle.pua_steps.specs.declared.lists.Lists.{Lists}
 use Rattle.pua_steps.proofs.Seeks.{counted_none, counted_more, looks_zero, looks-looks}
 use Rattle.pua_steps.proofs.Listing.{longer_none}
 use Rattle.pua_steps.proofs.Front.{longer_popped, front_by, front_gone}
-use Rattle.pua_steps.proofs.Turning.{all_front, front_taken, last_set, last_split, taken_by, left_by, none_left, all_over}
+use Rattle.pua_steps.proofs.Turning.{front_taken, last_set, last_split, taken_by, left_by, none_left, all_over}
 use Rattle.pua_steps.proofs.Moved.{moved_table, moved_sized, moved_listed, moved_open}
 use Rattle.pua_steps.proofs.walk.Walk.turn.Goals as goal
+use Rattle.pua_steps.proofs.Base.{all_front}
 
 pub loop-self-init : goal.loop-self-init
 loop-self-init c = record {
@@ -49,8 +50,6 @@ returns-in-Some-clause-next c =
     let b = c.go_by.new.self in
     let far = c.loop-self.invariant.so_far in
     let got = c.in-Some.ensures.next in
-    let nk = c.next_visit.ensures.kept in
-    let kept = c.go_by.ensures.kept in
     let k : ℕ = c.len-deepest.result - 1 in
     let f : Frame = c.index_mut.result.now in
     let front : List Frame = take k a.frames.items in
@@ -64,11 +63,11 @@ returns-in-Some-clause-next c =
     ∙ ap (looks far.0) (taken_by (narrow_of a.tables.steps a.tables.live) (live_of a.tables.live) a.limit (rest_of a.tables.steps a.tables.lists) a.word.items a.frames.items front f got.0 split even (a.limit - k - 1) (omega (arith, c.len-deepest.ensures, c.loop-self.invariant.framed)) c.in-Some.visit c.next_visit.new.frame b.word.items b.frames.items b.calls b.behind
     got.1.1.next.1 pushed c.go_by.ensures.word c.go_by.ensures.there.0 c.go_by.ensures.there.1)
     ∙ looks-looks far.0 got.0 _
-    ∙ ap (λ (t : Steps). looks (far.0 + got.0) (ahead (narrow_of t a.tables.live) (live_of a.tables.live) a.limit b.word.items (calls_of b.calls) b.behind (rests_of t a.tables.lists b.frames.items))) (sym (kept.0 ∙ nk.0))
-    ∙ ap (λ (v : table.Live). looks (far.0 + got.0) (ahead (narrow_of b.tables.steps v) (live_of v) a.limit b.word.items (calls_of b.calls) b.behind (rests_of b.tables.steps a.tables.lists b.frames.items))) (sym (kept.1 ∙ nk.1))
-    ∙ ap (λ n. looks (far.0 + got.0) (ahead (narrow_of b.tables.steps b.tables.live) (live_of b.tables.live) n b.word.items (calls_of b.calls) b.behind (rests_of b.tables.steps a.tables.lists b.frames.items))) (sym kept.2)
-    ∙ ap (λ (ls : Lists). looks (far.0 + got.0) (ahead (narrow_of b.tables.steps b.tables.live) (live_of b.tables.live) b.limit b.word.items (calls_of b.calls) b.behind (rests_of b.tables.steps ls b.frames.items))) (sym (kept.4 ∙ nk.2)) in
-    (far.0 + got.0, (subst (λ k. IsCounted c.args.self.now.tables.reads (far.0 + got.0) k) (sym kept.3) (counted_more c.args.self.now.tables.reads far.0 got.0 a.tables.reads c.next_visit.new.self.reads far.1.0 got.1.0), record { next = (omega (arith, got.1.1.next.0), e); over = λ h. absurd cc }))
+    ∙ ap (λ (t : Steps). looks (far.0 + got.0) (ahead (narrow_of t a.tables.live) (live_of a.tables.live) a.limit b.word.items (calls_of b.calls) b.behind (rests_of t a.tables.lists b.frames.items))) (sym (c.go_by.ensures.steps ∙ c.next_visit.ensures.steps))
+    ∙ ap (λ (v : table.Live). looks (far.0 + got.0) (ahead (narrow_of b.tables.steps v) (live_of v) a.limit b.word.items (calls_of b.calls) b.behind (rests_of b.tables.steps a.tables.lists b.frames.items))) (sym (c.go_by.ensures.live ∙ c.next_visit.ensures.live))
+    ∙ ap (λ n. looks (far.0 + got.0) (ahead (narrow_of b.tables.steps b.tables.live) (live_of b.tables.live) n b.word.items (calls_of b.calls) b.behind (rests_of b.tables.steps a.tables.lists b.frames.items))) (sym c.go_by.ensures.limit)
+    ∙ ap (λ (ls : Lists). looks (far.0 + got.0) (ahead (narrow_of b.tables.steps b.tables.live) (live_of b.tables.live) b.limit b.word.items (calls_of b.calls) b.behind (rests_of b.tables.steps ls b.frames.items))) (sym (c.go_by.ensures.lists ∙ c.next_visit.ensures.lists)) in
+    (far.0 + got.0, (subst (λ k. IsCounted c.args.self.now.tables.reads (far.0 + got.0) k) (sym c.go_by.ensures.reads) (counted_more c.args.self.now.tables.reads far.0 got.0 a.tables.reads c.next_visit.new.self.reads far.1.0 got.1.0), record { next = (omega (arith, got.1.1.next.0), e); over = λ h. absurd cc }))
 
 pub loop-self-preserved : goal.loop-self-preserved
 loop-self-preserved c =
@@ -76,7 +75,6 @@ loop-self-preserved c =
     let inv = c.loop-self.invariant in
     let far = inv.so_far in
     let got = c.in_default.ensures.next in
-    let nk = c.next_visit.ensures.kept in
     let t : Steps = a.tables.steps in
     let u : Steps = c.next_visit.new.self.steps in
     let v : table.Live = a.tables.live in
@@ -101,11 +99,11 @@ loop-self-preserved c =
     ∙ ap (looks far.0) (left_by (narrow_of a.tables.steps a.tables.live) (live_of a.tables.live) a.limit (rest_of a.tables.steps a.tables.lists) a.word.items a.frames.items rest f got.0 last even (a.limit - k - 1) (omega (arith, c.len-deepest.ensures, c.loop-self.invariant.framed)) c.pop-in-loop-self.new.self.items c.pop-in-loop-self.result
     got.1.1.next c.pop-in-loop-self.ensures.items)
     ∙ looks-looks far.0 got.0 (pending (narrow_of t v) (live_of v) a.limit 0 c.pop-in-loop-self.new.self.items (rests_of t ls rest))
-    ∙ sym (λ i. looks (far.0 + got.0) (pending (narrow_of (nk.0 i) (nk.1 i)) (live_of (nk.1 i)) a.limit 0 c.pop-in-loop-self.new.self.items (rests_of (nk.0 i) (nk.2 i) rest))) in
+    ∙ sym (λ i. looks (far.0 + got.0) (pending (narrow_of (c.next_visit.ensures.steps i) (c.next_visit.ensures.live i)) (live_of (c.next_visit.ensures.live i)) a.limit 0 c.pop-in-loop-self.new.self.items (rests_of (c.next_visit.ensures.steps i) (c.next_visit.ensures.lists i) rest))) in
     record {
-      same = record { steps = nk.0 ∙ inv.same.steps; live = nk.1 ∙ inv.same.live; lists = nk.2 ∙ inv.same.lists; limit = inv.same.limit };
-      sound = record { table = moved_table t u v w ls ms nk.0 nk.1 nk.2 inv.sound.table; sized = moved_sized t u v w ls ms nk.0 nk.1 nk.2 a.limit inv.sound.sized; listed = moved_listed t u v w ls ms nk.0 nk.1 nk.2 a.limit inv.sound.listed; room = record { words = grind (arith, common_steps); frames = grind (arith, common_steps) } };
-      states = moved_open t u v w ls ms nk.0 nk.1 nk.2 rest (all_front (λ f. IsOpen a.tables.steps a.tables.lists f) rest f (subst (AreOpen a.tables.steps a.tables.lists) last inv.states)).0;
+      same = record { steps = c.next_visit.ensures.steps ∙ inv.same.steps; live = c.next_visit.ensures.live ∙ inv.same.live; lists = c.next_visit.ensures.lists ∙ inv.same.lists; limit = inv.same.limit };
+      sound = record { table = moved_table t u v w ls ms c.next_visit.ensures.steps c.next_visit.ensures.live c.next_visit.ensures.lists inv.sound.table; sized = moved_sized t u v w ls ms c.next_visit.ensures.steps c.next_visit.ensures.live c.next_visit.ensures.lists a.limit inv.sound.sized; listed = moved_listed t u v w ls ms c.next_visit.ensures.steps c.next_visit.ensures.live c.next_visit.ensures.lists a.limit inv.sound.listed; room = record { words = grind (arith, common_steps); frames = grind (arith, common_steps) } };
+      states = moved_open t u v w ls ms c.next_visit.ensures.steps c.next_visit.ensures.live c.next_visit.ensures.lists rest (all_front (λ f. IsOpen a.tables.steps a.tables.lists f) rest f (subst (AreOpen a.tables.steps a.tables.lists) last inv.states)).0;
       calls = inv.calls;
       behind = inv.behind;
       framed = grind (arith, common_steps);
@@ -136,9 +134,7 @@ returns-in-Some-clause-ready c =
     let a = c.loop-self.self in
     let b = c.go_by.new.self in
     let inv = c.loop-self.invariant in
-    let kept = c.go_by.ensures.kept in
     let given = c.in-Some.ensures.given in
-    let nk = c.next_visit.ensures.kept in
     let k : ℕ = c.len-deepest.result - 1 in
     let f : Frame = c.index_mut.result.now in
     let front : List Frame = take k a.frames.items in
@@ -153,17 +149,16 @@ returns-in-Some-clause-ready c =
     (subst (λ n. IfSome c.in-Some.visit.behind (λ s. IsState a.tables.steps s × (live_of a.tables.live n s ≡ true))) left given.behind) in
     entered_ready a.tables.steps a.tables.live a.tables.lists a.limit a.word.items front c.next_visit.new.frame c.in-Some.visit.letter b inv.sound.table inv.sound.sized inv.sound.listed
     (all_front (λ f. IsOpen a.tables.steps a.tables.lists f) front f (subst (AreOpen a.tables.steps a.tables.lists) split inv.states)).0 c.next_visit.ensures.open
-    (subst (λ n. n < 2 ^ 14) (sym c.go_by.ensures.there.0) given.calls) stands even short (kept.0 ∙ nk.0) (kept.1 ∙ nk.1) (kept.4 ∙ nk.2) kept.2
-    (omega (arith, inv.sound.room.words, c.go_by.ensures.room)) (subst (λ v. a.limit ≤ vec_capacity v) (sym c.go_by.ensures.frames) inv.sound.room.frames) c.go_by.ensures.word pushed (omega (arith, kept.5, c.min-self.ensures, c.len.ensures))
+    (subst (λ n. n < 2 ^ 14) (sym c.go_by.ensures.there.0) given.calls) stands even short (c.go_by.ensures.steps ∙ c.next_visit.ensures.steps) (c.go_by.ensures.live ∙ c.next_visit.ensures.live) (c.go_by.ensures.lists ∙ c.next_visit.ensures.lists) c.go_by.ensures.limit
+    (omega (arith, inv.sound.room.words, c.go_by.ensures.room)) (subst (λ v. a.limit ≤ vec_capacity v) (sym c.go_by.ensures.frames) inv.sound.room.frames) c.go_by.ensures.word pushed (omega (arith, c.go_by.ensures.unchanged, c.min-self.ensures, c.len.ensures))
 
 pub returns-in-Some-clause-unchanged : goal.returns-in-Some-clause-unchanged
 returns-in-Some-clause-unchanged c =
     let a = c.loop-self.self in
     let old = c.args.self.now in
     let b = c.go_by.new.self in
-    let kept = c.go_by.ensures.kept in
-    front_by old.unchanged b.unchanged old.word.items a.word.items (c.in-Some.visit.letter ∷ []) b.word.items c.loop-self.invariant.front c.go_by.ensures.word (omega (arith, kept.5, c.min-self.ensures, c.len.ensures))
-    (omega (arith, kept.5, c.min-self.ensures, c.loop-self.invariant.unchanged))
+    front_by old.unchanged b.unchanged old.word.items a.word.items (c.in-Some.visit.letter ∷ []) b.word.items c.loop-self.invariant.front c.go_by.ensures.word (omega (arith, c.go_by.ensures.unchanged, c.min-self.ensures, c.len.ensures))
+    (omega (arith, c.go_by.ensures.unchanged, c.min-self.ensures, c.loop-self.invariant.unchanged))
 
 pub returns-clause-unchanged : goal.returns-clause-unchanged
 returns-clause-unchanged c = front_gone c.args.self.now.unchanged 0 c.args.self.now.word.items c.loop-self.self.word.items refl

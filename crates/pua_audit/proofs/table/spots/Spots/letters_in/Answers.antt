@@ -8,8 +8,8 @@ use Rattle.std.proofs.lemmas.Map.Keys.{IsStrictlyIncreasing-dedup}
 use Rattle.pua_audit.specs.Spots.{IsUnmarked}
 use Rattle.pua_audit.specs.declared.table.spots.LetterSpot.{LetterSpot}
 use Rattle.pua_audit.proofs.Lists.{all_among, all_mapped, all_unmapped}
-use Rattle.pua_audit.proofs.Rising.{all_joined}
 use Rattle.pua_audit.proofs.table.spots.Spots.letters_in.Goals as goal
+use Rattle.pua_steps.proofs.ForCallers.{all_joined}
 
 pub returns : goal.returns
 returns c =
