@@ -3,7 +3,7 @@ use Rattle.std.proofs.Common.{ℕ, suc, ◌+◌, ◌-◌, ◌*◌, ◌<◌, ◌�
 use Rattle.std.specs.Prelude.{IfSome}
 use Rattle.std.specs.List.{range_with_len, AllByRecursion}
 use Rattle.pua_steps.specs.Graph.{Pair, below, some_pair}
-use Rattle.pua_steps.specs.Table.{visit_of, missed, gap, visits_from, graph_of, missing_at, entries_at, IsEntry, IsState, IsTable}
+use Rattle.pua_steps.specs.Table.{visit_of, missing_visit, gap, visits_from, graph_of, missing_at, entries_at, IsEntry, IsState, IsTable}
 use Rattle.pua_steps.specs.Live.{IsSized, live_of}
 use Rattle.pua_steps.specs.declared.state.State.{State}
 use Rattle.pua_steps.specs.declared.visit.Visit.{Visit}
@@ -17,13 +17,13 @@ module _ (t : Steps) where
   abbrev pub Stays : Visit → Type 0
   Stays v = IfSome v.behind (λ s. IsState t s)
 
-  missed_stay : (m : ℕ) (is : List ℕ) → AllByRecursion Stays (map (missed m) is)
+  missed_stay : (m : ℕ) (is : List ℕ) → AllByRecursion Stays (map (missing_visit m) is)
   missed_stay m [] = tt
   missed_stay m (i ∷ is) = (tt, missed_stay m is)
 
   gaps_stay : (m next n : ℕ) → AllByRecursion Stays (gap m next n)
   unfolding gap
-  gaps_stay m next n = elim (m == 0) as (λ b. AllByRecursion Stays (cond b [] (map (missed m) (range_with_len next n)))) [ true ↦ tt | false ↦ missed_stay m (range_with_len next n) ]
+  gaps_stay m next n = elim (m == 0) as (λ b. AllByRecursion Stays (cond b [] (map (missing_visit m) (range_with_len next n)))) [ true ↦ tt | false ↦ missed_stay m (range_with_len next n) ]
 
   pub visits_stay : (letters m u next : ℕ) (es : List Entry) → u ≤ 32 → AllByRecursion (λ e. IsEntry t e) es → AllByRecursion Stays (visits_from letters m u next es)
   unfolding visits_from

@@ -4,8 +4,8 @@ use Rattle.std.specs.Prelude.{IfSome, MatchOption}
 use Rattle.std.specs.List.{range_with_len, AllByRecursion}
 use Rattle.std.proofs.lemmas.List.{length-map}
 use Rattle.pua_steps.specs.Calls.{calls_of}
-use Rattle.pua_steps.specs.Trail.{Event, pairs_of}
-use Rattle.pua_steps.specs.Table.{IsTable, IsState, IsEntry, Rising, visits_from, gap, missed, visit_of, missing_at}
+use Rattle.pua_steps.specs.Trail.{TrailEvent, pairs_of}
+use Rattle.pua_steps.specs.Table.{IsTable, IsState, IsEntry, Rising, visits_from, gap, missing_visit, visit_of, missing_at}
 use Rattle.pua_steps.specs.Lists.{IsOpen, within, narrow_of, rest_of, list_of}
 use Rattle.pua_steps.specs.Live.{live_of, IsSized}
 use Rattle.pua_steps.specs.Ready.{looks, trail, IsReady, AreOpen, rests_of}
@@ -28,7 +28,7 @@ range_length k (suc n) = ap suc (range_length (k + 1) n)
 
 gap_few : (m next n : ℕ) → length (gap m next n) ≤ n
 unfolding gap
-gap_few m next n = elim (m == 0) as (λ b. length (cond b [] (map (missed m) (range_with_len next n))) ≤ n) [ true ↦ omega arith | false ↦ omega (arith, length-map (range_with_len next n) (missed m), range_length next n) ]
+gap_few m next n = elim (m == 0) as (λ b. length (cond b [] (map (missing_visit m) (range_with_len next n))) ≤ n) [ true ↦ omega arith | false ↦ omega (arith, length-map (range_with_len next n) (missing_visit m), range_length next n) ]
 
 -- a state has no more visits than there are letters
 visits_few : (t : Steps) (m u next : ℕ) (es : List Entry) → AllByRecursion (λ e. IsEntry t e) es → Rising next es → length (visits_from t.letters m u next es) ≤ t.letters - next
@@ -66,7 +66,7 @@ states_of P Q None h = tt
 states_of P Q (Some s) h = h.0
 
 -- how many letters are looked at
-pub cost_of : (a : Walk) → IsReady a → (n : ℕ) (es : List Event) → trail a ≡ looks n es → n ≤ 2 * (a.limit * a.tables.steps.letters)
+pub cost_of : (a : Walk) → IsReady a → (n : ℕ) (es : List TrailEvent) → trail a ≡ looks n es → n ≤ 2 * (a.limit * a.tables.steps.letters)
 cost_of a ready n es e =
     let known = ready.sound.table in
     let sized = ready.sound.sized in
@@ -74,7 +74,7 @@ cost_of a ready n es e =
     (states_of (λ s. IsState a.tables.steps s) (λ s. live_of a.tables.live (a.limit - length a.word.items) s ≡ true) a.behind ready.behind) (rests_are a.tables.steps a.tables.live a.limit known sized a.tables.lists ready.sound.listed.known a.frames.items ready.states)
     (omega (arith, length-map a.frames.items (rest_of a.tables.steps a.tables.lists), ready.framed, ready.within)) e
 
-looks-pairs : (n : ℕ) (es : List Event) → pairs_of (looks n es) ≡ pairs_of es
+looks-pairs : (n : ℕ) (es : List TrailEvent) → pairs_of (looks n es) ≡ pairs_of es
 unfolding looks
 looks-pairs zero es = refl
 looks-pairs (suc n) es = looks-pairs n es

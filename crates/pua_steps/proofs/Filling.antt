@@ -9,7 +9,7 @@ use Rattle.std.proofs.Math.Nat.{eq-or-lt_of_le}
 use mir.Syntax.{w16}
 use Rattle.pua_steps.specs.Calls.{has_call, calls_of}
 use Rattle.pua_steps.specs.Graph.{Graph, Pair, cons, alone, below, rows, some_pair}
-use Rattle.pua_steps.specs.Table.{visit_of, missed, has_gap, end_of, first_of, visits_from, graph_of, missing_at, entries_at, IsEntry, IsState}
+use Rattle.pua_steps.specs.Table.{visit_of, missing_visit, has_gap, end_of, first_of, visits_from, graph_of, missing_at, entries_at, IsEntry, IsState}
 use Rattle.pua_steps.specs.Live.{IsBound, IsFilled, IsSized, live_of, bound_of}
 use Rattle.pua_steps.specs.declared.state.State.{State}
 use Rattle.pua_steps.specs.declared.visit.Visit.{Visit}
@@ -165,8 +165,8 @@ module _ (g : Graph) where
       pub gap_gives : (es : List Entry) → has_gap m next (end_of letters (first_of es)) ≡ true → left es ≡ true
       gap_gives es some =
           let calls : (m == 0) ≡ false = not-true (m == 0) (and_parts (not (m == 0)) (nat_lt next (end_of letters (first_of es))) some).0 in
-          ap (λ vs. some_pair (rows g l vs)) (from_gap letters m u next es some) ∙ rows_more l (missed m next) (visits_from letters m u (next + 1) es)
-          ∙ ap (λ b. b || some_pair (rows g l (visits_from letters m u (next + 1) es))) (gives_by l (missed m next) false fits (ap some_pair (below_none l)) ∙ ap (λ b. not b || false) calls)
+          ap (λ vs. some_pair (rows g l vs)) (from_gap letters m u next es some) ∙ rows_more l (missing_visit m next) (visits_from letters m u (next + 1) es)
+          ∙ ap (λ b. b || some_pair (rows g l (visits_from letters m u (next + 1) es))) (gives_by l (missing_visit m next) false fits (ap some_pair (below_none l)) ∙ ap (λ b. not b || false) calls)
 
       pub end_gives : has_gap m next letters ≡ false → left [] ≡ false
       end_gives none = ap (λ vs. some_pair (rows g l vs)) (from_end letters m u next none) ∙ rows_none l

@@ -4,8 +4,8 @@ use Rattle.std.proofs.lemmas.Bool.{cases_Bool, cases_eq, eq-eqb, eqb-true}
 use Rattle.std.specs.Prelude.{IfSome}
 use Rattle.std.specs.List.{AllByRecursion}
 use Rattle.pua_steps.specs.Order.{IsSplit}
-use Rattle.pua_steps.specs.Table.{IsTable, IsState, IsVisit, IsEntry, Rising, visit_of, missed, first_of, with_letter, visits_from, missing_at}
-use Rattle.pua_steps.specs.Lists.{IsListed, IsOpen, within, span_of, list_of, narrow_of, rest_of}
+use Rattle.pua_steps.specs.Table.{IsTable, IsState, IsVisit, IsEntry, Rising, visit_of, missing_visit, first_of, with_letter, visits_from, missing_at}
+use Rattle.pua_steps.specs.Lists.{AreListsOf, IsOpen, within, span_of, list_of, narrow_of, rest_of}
 use Rattle.pua_steps.specs.declared.state.State.{State}
 use Rattle.pua_steps.specs.declared.visit.Visit.{Visit}
 use Rattle.pua_steps.specs.declared.steps.Entry.{Entry}
@@ -82,7 +82,7 @@ module _ (t : Steps) (s : State) (es : List Entry) (a p : ℕ) (is : IsState t s
   cut : Cut t.letters m s.used a 0 es (drop p es)
   cut = cut_at t.letters m s.used a p 0 es (omega arith) within_all rises low high
 
-  missed_parts : with_letter a (first_of (drop p es)) ≡ None → IsSplit a (from 0 es) (missed m a) (from (a + 1) (drop p es)) × Rising (a + 1) (drop p es)
+  missed_parts : with_letter a (first_of (drop p es)) ≡ None → IsSplit a (from 0 es) (missing_visit m a) (from (a + 1) (drop p es)) × Rising (a + 1) (drop p es)
   missed_parts none = split_missed t.letters m s.used a 0 es (drop p es) within_all cut (with_none a (first_of (drop p es)) high none)
 
   module _ (e : Entry) (some : with_letter a (first_of (drop p es)) ≡ Some e) where
@@ -99,7 +99,7 @@ module _ (t : Steps) (s : State) (es : List Entry) (a p : ℕ) (is : IsState t s
     found_parts = split_found t.letters m s.used a 0 es (drop p es) (drop (p + 1) es) e cut stands.1 named.1
 
 -- the same by where the list stands
-module _ (t : Steps) (v : table.Live) (limit : ℕ) (ls : Lists) (known : IsTable t) (listed : IsListed t v limit ls) (l : ℕ) (short : l < limit) (s : State) (is : IsState t s) (a : ℕ) (within_all : a < t.letters)
+module _ (t : Steps) (v : table.Live) (limit : ℕ) (ls : Lists) (known : IsTable t) (listed : AreListsOf t v limit ls) (l : ℕ) (short : l < limit) (s : State) (is : IsState t s) (a : ℕ) (within_all : a < t.letters)
     (span : Span) (there : span ≡ span_of ls l s.dir) where
   abbrev part : List Entry
   part = within ls.entries.items span.place span.end
@@ -147,7 +147,7 @@ module _ (t : Steps) (v : table.Live) (limit : ℕ) (ls : Lists) (known : IsTabl
 
         pub missed_split : IsSplit a (narrow_of t v l s) (record { letter = a; calls = r.missing; behind = None }) (rest_of t ls (frame_at (span.place + p)))
         missed_split =
-            splits (span.place + p) p (missed (missing_at t s.dir) a) (record { letter = a; calls = r.missing; behind = None }) refl (ap (λ k. missed k a) (sym (row_missing t s.dir r is.dir here)))
+            splits (span.place + p) p (missing_visit (missing_at t s.dir) a) (record { letter = a; calls = r.missing; behind = None }) refl (ap (λ k. missing_visit k a) (sym (row_missing t s.dir r is.dir here)))
             (missed_parts t s part a p is within_all part_known part_rises low high lacks).0
 
     module _ (e : Entry) (some : with_letter a (first_of (within ls.entries.items (span.place + p) span.end)) ≡ Some e) where

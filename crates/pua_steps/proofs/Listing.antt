@@ -7,7 +7,7 @@ use Rattle.std.proofs.lemmas.Bool.{cases_lt}
 use Rattle.std.specs.Prelude.{IfSome}
 use Rattle.std.specs.List.{AllByRecursion}
 use Rattle.pua_steps.specs.Live.{bound_of}
-use Rattle.pua_steps.specs.Lists.{is_useful, list_of, within, span_of, IsList, IsLayer, IsListed, IsLonger}
+use Rattle.pua_steps.specs.Lists.{is_useful, list_of, within, span_of, IsListAt, IsLayer, AreListsOf, IsLonger}
 use Rattle.pua_steps.specs.Table.{IsTable, IsEntry, Rising, entries_at, missing_at}
 use Rattle.pua_steps.specs.declared.steps.Entry.{Entry}
 use Rattle.pua_steps.specs.declared.steps.Steps.{Steps}
@@ -37,14 +37,14 @@ take_all (x ∷ xs) = ap (λ ys. x ∷ ys) (take_all xs)
 
 -- a list stays where it stands
 
-pub list_stays : (es fs : List Entry) (s : Span) (list : List Entry) → IsLonger Entry es fs → IsList es s list → IsList fs s list
+pub list_stays : (es fs : List Entry) (s : Span) (list : List Entry) → IsLonger Entry es fs → IsListAt es s list → IsListAt fs s list
 list_stays es fs s list longer is = record {
   order = is.order;
   inside = omega (arith, is.inside, longer_length es fs longer);
   same = ap (λ xs. drop s.place (take s.end xs)) longer.parts ∙ ap (drop s.place) (take-append-le s.end es longer.more is.inside) ∙ is.same;
 }
 
-pub list_last : (es fs list : List Entry) → fs ≡ es ++ list → IsList fs (record { place = length es; end = length fs }) list
+pub list_last : (es fs list : List Entry) → fs ≡ es ++ list → IsListAt fs (record { place = length es; end = length fs }) list
 list_last es fs list e = record {
   order = omega (arith, ap length e, length-append es list);
   inside = omega arith;
@@ -101,7 +101,7 @@ list_same t v k l d known many h same = filter_same v.bounds.items v.dirs k l sa
 abbrev pub no_span : Span
 no_span = record { place = 0; end = 0 }
 
-module _ (t : Steps) (v : table.Live) (left : ℕ) (a b : Lists) (listed : IsListed t v left a) (entries : IsLonger Entry a.entries.items b.entries.items) (spans : IsLonger Span a.spans.items b.spans.items)
+module _ (t : Steps) (v : table.Live) (left : ℕ) (a b : Lists) (listed : AreListsOf t v left a) (entries : IsLonger Entry a.entries.items b.entries.items) (spans : IsLonger Span a.spans.items b.spans.items)
     (x : ℕ) (pushed : b.layers.items ≡ a.layers.items ++ x ∷ []) where
   layer_stays : (l k : ℕ) → IsLayer t v a l → get_or b.layers.items k 0 ≡ get_or a.layers.items l 0 → ((d : ℕ) → d < length t.rows.items → list_of t v k d ≡ list_of t v l d) → IsLayer t v b k
   layer_stays l k layer begins same = record {
@@ -109,7 +109,7 @@ module _ (t : Steps) (v : table.Live) (left : ℕ) (a b : Lists) (listed : IsLis
     stand = λ d h.
         let there : get_or a.layers.items l 0 + d < length a.spans.items = omega (arith, layer.runs, h) in
         let span : span_of b k d ≡ span_of a l d = ap (λ n. get_or b.spans.items (n + d) no_span) begins ∙ longer_at a.spans.items b.spans.items no_span (get_or a.layers.items l 0 + d) spans there in
-        subst (λ s. IsList b.entries.items s (list_of t v k d)) (sym span) (subst (IsList b.entries.items (span_of a l d)) (sym (same d h)) (list_stays a.entries.items b.entries.items (span_of a l d) (list_of t v l d) entries (layer.stand d h)));
+        subst (λ s. IsListAt b.entries.items s (list_of t v k d)) (sym span) (subst (IsListAt b.entries.items (span_of a l d)) (sym (same d h)) (list_stays a.entries.items b.entries.items (span_of a l d) (list_of t v l d) entries (layer.stand d h)));
   }
 
   last_begins : get_or b.layers.items left 0 ≡ x
@@ -119,13 +119,13 @@ module _ (t : Steps) (v : table.Live) (left : ℕ) (a b : Lists) (listed : IsLis
   shared_layer k h shared same = layer_stays k left (listed.layers k h) (last_begins ∙ shared) same
 
   pub made_layer : x ≡ length a.spans.items → length b.spans.items ≡ length a.spans.items + length t.rows.items
-      → ((d : ℕ) → d < length t.rows.items → IsList b.entries.items (get_or b.spans.items (length a.spans.items + d) no_span) (list_of t v left d)) → IsLayer t v b left
+      → ((d : ℕ) → d < length t.rows.items → IsListAt b.entries.items (get_or b.spans.items (length a.spans.items + d) no_span) (list_of t v left d)) → IsLayer t v b left
   made_layer first many lists = record {
     runs = omega (arith, last_begins, first, many);
-    stand = λ d h. subst (λ n. IsList b.entries.items (get_or b.spans.items (n + d) no_span) (list_of t v left d)) (sym (last_begins ∙ first)) (lists d h);
+    stand = λ d h. subst (λ n. IsListAt b.entries.items (get_or b.spans.items (n + d) no_span) (list_of t v left d)) (sym (last_begins ∙ first)) (lists d h);
   }
 
-  pub listed_more : AllByRecursion (λ e. IsEntry t e) b.entries.items → IsLayer t v b left → IsListed t v (suc left) b
+  pub listed_more : AllByRecursion (λ e. IsEntry t e) b.entries.items → IsLayer t v b left → AreListsOf t v (suc left) b
   listed_more known layer = record {
     known = known;
     many = omega (arith, ap length pushed, length-append a.layers.items (x ∷ []), listed.many);

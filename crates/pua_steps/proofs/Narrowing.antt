@@ -3,7 +3,7 @@ use Rattle.std.proofs.Common.{ℕ, zero, suc, ◌+◌, ◌-◌, ◌*◌, ◌<◌
 use Rattle.std.specs.Prelude.{IfSome}
 use Rattle.std.specs.List.{AllByRecursion}
 use Rattle.std.proofs.lemmas.Bool.{cases_Bool, eqb-true, le-ltb}
-use Rattle.pua_steps.specs.Graph.{Graph, Pair, cons, alone, below, rows, reach, some_pair}
+use Rattle.pua_steps.specs.Graph.{Graph, Pair, cons, alone, below, rows, graph_reach, some_pair}
 use Rattle.pua_steps.specs.Calls.{calls_of}
 use Rattle.pua_steps.specs.Trail.{pairs_of, ahead, deeper}
 use Rattle.pua_steps.specs.Table.{visit_of, gap, visits_from, graph_of, missing_at, entries_at, IsEntry, IsState, IsTable}
@@ -126,14 +126,14 @@ prunes t v limit known sized = record {
 }
 
 -- a walk that begins has the whole reach before it
-pub whole_reach : (t : Steps) (v : table.Live) (limit calls : ℕ) (o : Option State) → IsTable t → IsSized t v limit → IfSome o (λ s. IsState t s) → pairs_of (ahead (narrow_of t v) (live_of v) limit [] (calls_of calls) o []) ≡ reach (graph_of t) limit calls o
+pub whole_reach : (t : Steps) (v : table.Live) (limit calls : ℕ) (o : Option State) → IsTable t → IsSized t v limit → IfSome o (λ s. IsState t s) → pairs_of (ahead (narrow_of t v) (live_of v) limit [] (calls_of calls) o []) ≡ graph_reach (graph_of t) limit calls o
 whole_reach t v limit calls o known sized is =
     pairs-fresh (narrow_of t v) (live_of v) limit (λ s. IsState t s) (prunes t v limit known sized) calls o is
     ∙ ap (λ ps. alone (calls_of calls) ++ ps) (narrowed t v limit known sized limit (omega arith) o is)
 
 -- the same where the state is tested first
 pub whole_tested : (t : Steps) (v : table.Live) (limit calls : ℕ) (o p : Option State) → IsTable t → IsSized t v limit → IfSome o (λ s. IsState t s) → p ≡ entrance (live_of v) limit o
-    → pairs_of (ahead (narrow_of t v) (live_of v) limit [] (calls_of calls) p []) ≡ reach (graph_of t) limit calls o
+    → pairs_of (ahead (narrow_of t v) (live_of v) limit [] (calls_of calls) p []) ≡ graph_reach (graph_of t) limit calls o
 whole_tested t v limit calls o p known sized is tested =
     let same : limit - 0 ≡ limit = omega arith in
     ap pairs_of (alike (narrow_of t v) (live_of v) limit [] [] (calls_of calls) p o

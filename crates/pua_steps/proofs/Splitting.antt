@@ -5,7 +5,7 @@ use Rattle.std.proofs.lemmas.Bool.{cases_Bool, eqb-true}
 use Rattle.std.specs.Prelude.{IfSome, take}
 use Rattle.std.specs.List.{range_with_len, AllByRecursion}
 use Rattle.pua_steps.specs.Order.{IsSplit}
-use Rattle.pua_steps.specs.Table.{visit_of, missed, gap, first_of, visits_from, Rising}
+use Rattle.pua_steps.specs.Table.{visit_of, missing_visit, gap, first_of, visits_from, Rising}
 use Rattle.pua_steps.specs.declared.visit.Visit.{Visit}
 use Rattle.pua_steps.specs.declared.steps.Entry.{Entry}
 use Rattle.pua_steps.proofs.Base.{all_joined}
@@ -23,41 +23,41 @@ range-append next (suc k) j =
     ap (range_with_len next) a ∙ ap (λ is. next ∷ is) (range-append (next + 1) k j ∙ ap (λ i. range_with_len (next + 1) k ++ range_with_len i j) b)
 
 module _ (m : ℕ) where
-  missed_low : (a next n : ℕ) → next + n ≤ a → AllByRecursion (λ (y : Visit). y.letter < a) (map (missed m) (range_with_len next n))
+  missed_low : (a next n : ℕ) → next + n ≤ a → AllByRecursion (λ (y : Visit). y.letter < a) (map (missing_visit m) (range_with_len next n))
   missed_low a next zero h = tt
   missed_low a next (suc n) h = (omega (arith, h), missed_low a (next + 1) n (omega (arith, h)))
 
-  missed_high : (a next n : ℕ) → a ≤ next → AllByRecursion (λ (y : Visit). a ≤ y.letter) (map (missed m) (range_with_len next n))
+  missed_high : (a next n : ℕ) → a ≤ next → AllByRecursion (λ (y : Visit). a ≤ y.letter) (map (missing_visit m) (range_with_len next n))
   missed_high a next zero h = tt
   missed_high a next (suc n) h = (h, missed_high a (next + 1) n (omega (arith, h)))
 
   gap_low : (a next n : ℕ) → next + n ≤ a → AllByRecursion (λ (y : Visit). y.letter < a) (gap m next n)
   unfolding gap
-  gap_low a next n h = elim (m == 0) as (λ b. AllByRecursion (λ (y : Visit). y.letter < a) (cond b [] (map (missed m) (range_with_len next n)))) [ true ↦ tt | false ↦ missed_low a next n h ]
+  gap_low a next n h = elim (m == 0) as (λ b. AllByRecursion (λ (y : Visit). y.letter < a) (cond b [] (map (missing_visit m) (range_with_len next n)))) [ true ↦ tt | false ↦ missed_low a next n h ]
 
   gap_high : (a next n : ℕ) → a ≤ next → AllByRecursion (λ (y : Visit). a ≤ y.letter) (gap m next n)
   unfolding gap
-  gap_high a next n h = elim (m == 0) as (λ b. AllByRecursion (λ (y : Visit). a ≤ y.letter) (cond b [] (map (missed m) (range_with_len next n)))) [ true ↦ tt | false ↦ missed_high a next n h ]
+  gap_high a next n h = elim (m == 0) as (λ b. AllByRecursion (λ (y : Visit). a ≤ y.letter) (cond b [] (map (missing_visit m) (range_with_len next n)))) [ true ↦ tt | false ↦ missed_high a next n h ]
 
   gap-append : (next k j : ℕ) → gap m next (k + j) ≡ gap m next k ++ gap m (next + k) j
   unfolding gap
   gap-append next k j =
-      elim (m == 0) as (λ b. cond b [] (map (missed m) (range_with_len next (k + j))) ≡ cond b [] (map (missed m) (range_with_len next k)) ++ cond b [] (map (missed m) (range_with_len (next + k) j))) [
+      elim (m == 0) as (λ b. cond b [] (map (missing_visit m) (range_with_len next (k + j))) ≡ cond b [] (map (missing_visit m) (range_with_len next k)) ++ cond b [] (map (missing_visit m) (range_with_len (next + k) j))) [
         | true ↦ refl
-        | false ↦ ap (map (missed m)) (range-append next k j) ∙ map-append (missed m) (range_with_len next k) (range_with_len (next + k) j)
+        | false ↦ ap (map (missing_visit m)) (range-append next k j) ∙ map-append (missing_visit m) (range_with_len next k) (range_with_len (next + k) j)
       ]
 
-  gap_one : (a j : ℕ) → gap m a (suc j) ≡ cond (not (m == 0)) (missed m a ∷ gap m (a + 1) j) (gap m (a + 1) j)
+  gap_one : (a j : ℕ) → gap m a (suc j) ≡ cond (not (m == 0)) (missing_visit m a ∷ gap m (a + 1) j) (gap m (a + 1) j)
   unfolding gap
   gap_one a j =
-      elim (m == 0) as (λ b. cond b [] (map (missed m) (range_with_len a (suc j))) ≡ cond (not b) (missed m a ∷ cond b [] (map (missed m) (range_with_len (a + 1) j))) (cond b [] (map (missed m) (range_with_len (a + 1) j)))) [
+      elim (m == 0) as (λ b. cond b [] (map (missing_visit m) (range_with_len a (suc j))) ≡ cond (not b) (missing_visit m a ∷ cond b [] (map (missing_visit m) (range_with_len (a + 1) j))) (cond b [] (map (missing_visit m) (range_with_len (a + 1) j)))) [
         | true ↦ refl
         | false ↦ refl
       ]
 
   gap_zero : (a : ℕ) → gap m a 0 ≡ []
   unfolding gap
-  gap_zero a = elim (m == 0) as (λ b. cond b [] (map (missed m) (range_with_len a 0)) ≡ []) [ true ↦ refl | false ↦ refl ]
+  gap_zero a = elim (m == 0) as (λ b. cond b [] (map (missing_visit m) (range_with_len a 0)) ≡ []) [ true ↦ refl | false ↦ refl ]
 
   -- letters without entries, up to one and from it on
   gap_to : (a next end : ℕ) → next ≤ a → a ≤ end → gap m next (end - next) ≡ gap m next (a - next) ++ gap m a (end - a)
@@ -66,7 +66,7 @@ module _ (m : ℕ) where
       let there : next + (a - next) ≡ a = omega (arith, low) in
       ap (gap m next) long ∙ gap-append next (a - next) (end - a) ∙ ap (λ i. gap m next (a - next) ++ gap m i (end - a)) there
 
-  gap_at : (a end : ℕ) → a < end → gap m a (end - a) ≡ cond (not (m == 0)) (missed m a ∷ gap m (a + 1) (end - (a + 1))) (gap m (a + 1) (end - (a + 1)))
+  gap_at : (a end : ℕ) → a < end → gap m a (end - a) ≡ cond (not (m == 0)) (missing_visit m a ∷ gap m (a + 1) (end - (a + 1))) (gap m (a + 1) (end - (a + 1)))
   gap_at a end h =
       let long : end - a ≡ suc (end - (a + 1)) = omega (arith, h) in
       ap (gap m a) long ∙ gap_one a (end - (a + 1))
@@ -126,12 +126,12 @@ module _ (letters m u : ℕ) where
       }
 
   -- no entry has the letter
-  missed_at : (a : ℕ) (back : List Entry) → a < letters → IfSome (first_of back) (λ e. a < e.letter) → from a back ≡ cond (not (m == 0)) (missed m a ∷ from (a + 1) back) (from (a + 1) back)
+  missed_at : (a : ℕ) (back : List Entry) → a < letters → IfSome (first_of back) (λ e. a < e.letter) → from a back ≡ cond (not (m == 0)) (missing_visit m a ∷ from (a + 1) back) (from (a + 1) back)
   unfolding visits_from
   missed_at a [] within high = gap_at m a letters within
   missed_at a (e ∷ back) within high =
       let more : List Visit = visit_of u e ∷ from (suc e.letter) back in
-      ap (λ vs. vs ++ more) (gap_at m a e.letter high) ∙ elim (not (m == 0)) as (λ b. cond b (missed m a ∷ gap m (a + 1) (e.letter - (a + 1))) (gap m (a + 1) (e.letter - (a + 1))) ++ more ≡ cond b (missed m a ∷ gap m (a + 1) (e.letter - (a + 1)) ++ more) (gap m (a + 1) (e.letter - (a + 1)) ++ more)) [ true ↦ refl | false ↦ refl ]
+      ap (λ vs. vs ++ more) (gap_at m a e.letter high) ∙ elim (not (m == 0)) as (λ b. cond b (missing_visit m a ∷ gap m (a + 1) (e.letter - (a + 1))) (gap m (a + 1) (e.letter - (a + 1))) ++ more ≡ cond b (missing_visit m a ∷ gap m (a + 1) (e.letter - (a + 1)) ++ more) (gap m (a + 1) (e.letter - (a + 1)) ++ more)) [ true ↦ refl | false ↦ refl ]
 
   -- the first entry has it
   found_at : (a : ℕ) (e : Entry) (back : List Entry) → e.letter ≡ a → from a (e ∷ back) ≡ visit_of u e ∷ from (a + 1) back
@@ -158,7 +158,7 @@ module _ (letters m u : ℕ) where
     | inr e ↦ (let bad : true ≡ false = sym (ap not e) ∙ h in absurd cc)
   ]
 
-  pub split_missed : (a next : ℕ) (es back : List Entry) → a < letters → Cut a next es back → IfSome (first_of back) (λ e. a < e.letter) → IsSplit a (from next es) (missed m a) (from (a + 1) back) × Rising (a + 1) back
+  pub split_missed : (a next : ℕ) (es back : List Entry) → a < letters → Cut a next es back → IfSome (first_of back) (λ e. a < e.letter) → IsSplit a (from next es) (missing_visit m a) (from (a + 1) back) × Rising (a + 1) back
   split_missed a next es back within cut high = (
     record {
       front = cut.front;

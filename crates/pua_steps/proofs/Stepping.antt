@@ -8,9 +8,9 @@ use Rattle.std.proofs.lemmas.List.{get_or-set_same, get_or-set_other, length-set
 use Rattle.std.proofs.lemmas.Nat.Bits.{bit_at-zero, bit_at_above}
 use Rattle.std.proofs.lemmas.Bool.{cases_eq, cases_order, cases_lt, and_parts, or_cases, eqb-true, eq-eqb, ne_eqb, leb-true, le-leb, lt-leb}
 use Rattle.pua_steps.specs.Graph.{below, some_pair}
-use Rattle.pua_steps.specs.Table.{visit_of, missed, gap, visits_from, graph_of, missing_at, entries_at, IsState, IsTable}
+use Rattle.pua_steps.specs.Table.{visit_of, missing_visit, gap, visits_from, graph_of, missing_at, entries_at, IsState, IsTable}
 use Rattle.pua_steps.specs.Live.{IsSized}
-use Rattle.pua_steps.specs.Reached.{states_behind, reached, is_same, is_among, distinct, live_among, stood, AreSets, lands, lands_some, lands_from, total}
+use Rattle.pua_steps.specs.Reached.{states_behind, states_after, is_same, is_among, distinct, live_among, has_state, AreSets, lands, lands_some, lands_from, total}
 use Rattle.pua_steps.specs.declared.state.State.{State}
 use Rattle.pua_steps.specs.declared.visit.Visit.{Visit}
 use Rattle.pua_steps.specs.declared.steps.Entry.{Entry}
@@ -77,9 +77,9 @@ leads e used d u = elim e.to [ None ↦ false | Some to ↦ (d == to) && (u == u
 
 gap_states : (m next n : ℕ) → states_behind (gap m next n) ≡ []
 unfolding gap
-gap_states m next n = elim (m == 0) as (λ b. states_behind (cond b [] (map (missed m) (range_with_len next n))) ≡ []) [ true ↦ refl | false ↦ none (range_with_len next n) ]
+gap_states m next n = elim (m == 0) as (λ b. states_behind (cond b [] (map (missing_visit m) (range_with_len next n))) ≡ []) [ true ↦ refl | false ↦ none (range_with_len next n) ]
   where
-    none : (is : List ℕ) → states_behind (map (missed m) is) ≡ []
+    none : (is : List ℕ) → states_behind (map (missing_visit m) is) ≡ []
     none [] = refl
     none (i ∷ is) = none is
 
@@ -197,7 +197,7 @@ module _ (t : Steps) (ss : List State) (sets : List ℕ) (are : AreSets (length 
           (some_any (entries_at t s.dir) (get_or sets s.dir 0) d u ∙ put (λ e. lands e (get_or sets s.dir 0) d u) (entries_at t s.dir) one.0 one.1.0 (lands_on one.0 (get_or sets s.dir 0) s.used d u one.1.1 bit))
 
 pub next_sets : (t : Steps) (ss : List State) (sets next : List ℕ) → AreSets (length t.rows.items) ss sets → AllByRecursion (Within (length t.rows.items)) ss → length next ≡ length t.rows.items
-    → ((d : ℕ) → d < length t.rows.items → get_or next d 0 < 2 ^ 33) → ((d u : ℕ) → d < length t.rows.items → u ≤ 32 → stood next d u ≡ lands_from t sets (length t.rows.items) d u)
+    → ((d : ℕ) → d < length t.rows.items → get_or next d 0 < 2 ^ 33) → ((d u : ℕ) → d < length t.rows.items → u ≤ 32 → has_state next d u ≡ lands_from t sets (length t.rows.items) d u)
     → AreSets (length t.rows.items) (flat_map (λ s. states_behind (graph_of t 0 s)) ss) next
 next_sets t ss sets next are all many small tells = record { many = many; small = small; tells = λ d u h low. tells d u h low ∙ stepped t ss sets are all d u low }
 
@@ -215,19 +215,19 @@ steps_within t known [] all = tt
 steps_within t known (s ∷ ss) all = all_joined (Within (length t.rows.items)) (states_behind (graph_of t 0 s)) (flat_map (λ s. states_behind (graph_of t 0 s)) ss)
     (behind_within t (graph_of t 0 s) (states_stay t known 0 s (record { dir = all.0.0; used = all.0.1 }))) (steps_within t known ss all.1)
 
-pub reached_more : (t : Steps) (n : ℕ) (o : Option State) → reached (graph_of t 0) (n + 1) o ≡ flat_map (λ s. states_behind (graph_of t 0 s)) (reached (graph_of t 0) n o)
-unfolding reached
-reached_more t n o = let more : n + 1 ≡ suc n = omega arith in ap (λ k. reached (graph_of t 0) k o) more
+pub reached_more : (t : Steps) (n : ℕ) (o : Option State) → states_after (graph_of t 0) (n + 1) o ≡ flat_map (λ s. states_behind (graph_of t 0 s)) (states_after (graph_of t 0) n o)
+unfolding states_after
+reached_more t n o = let more : n + 1 ≡ suc n = omega arith in ap (λ k. states_after (graph_of t 0) k o) more
 
-pub reached_first : (t : Steps) (o : Option State) → reached (graph_of t 0) 0 o ≡ option_to_list o
-unfolding reached
+pub reached_first : (t : Steps) (o : Option State) → states_after (graph_of t 0) 0 o ≡ option_to_list o
+unfolding states_after
 reached_first t o = refl
 
-pub reached_within : (t : Steps) → IsTable t → (n : ℕ) (o : Option State) → IfSome o (λ s. IsState t s) → AllByRecursion (Within (length t.rows.items)) (reached (graph_of t 0) n o)
-unfolding reached
+pub reached_within : (t : Steps) → IsTable t → (n : ℕ) (o : Option State) → IfSome o (λ s. IsState t s) → AllByRecursion (Within (length t.rows.items)) (states_after (graph_of t 0) n o)
+unfolding states_after
 reached_within t known zero None is = tt
 reached_within t known zero (Some s) is = ((is.dir, is.used), tt)
-reached_within t known (suc n) o is = steps_within t known (reached (graph_of t 0) n o) (reached_within t known n o is)
+reached_within t known (suc n) o is = steps_within t known (states_after (graph_of t 0) n o) (reached_within t known n o is)
 
 -- the members of the sets below the bounds are the live states, each once
 pub layer_counts : (t : Steps) (v : table.Live) (limit l : ℕ) (ss : List State) (sets : List ℕ) → IsSized t v limit → l ≤ limit → AreSets v.dirs ss sets → AllByRecursion (Within (length t.rows.items)) ss

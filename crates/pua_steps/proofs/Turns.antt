@@ -2,7 +2,7 @@
 use Rattle.std.proofs.Common.{ℕ, suc, ◌+◌, ◌-◌, ◌<◌, ◌≡◌, List, [], ◌∷◌, ◌++◌, Option, Some, None, true, refl, ap, arith, sym, ◌∙◌, length, length-append, append-nil}
 use Rattle.std.specs.Prelude.{option_to_list}
 use Rattle.pua_steps.specs.Graph.{Graph, Word}
-use Rattle.pua_steps.specs.Trail.{Event, Live, under_all, with_calls, deeper, pending, ahead}
+use Rattle.pua_steps.specs.Trail.{TrailEvent, Live, under_all, with_calls, deeper, pending, ahead}
 use Rattle.pua_steps.specs.declared.state.State.{State}
 use Rattle.pua_steps.specs.declared.visit.Visit.{Visit}
 use Rattle.pua_steps.proofs.Moves.{under_all-nil, under_all-line, deeper_live, pending_push, pending_back}
@@ -39,8 +39,8 @@ module _ (g : Graph) (live : Live) (limit : ℕ) where
     pub given : (o : Option State) (c : ℕ) (left : List ℕ) → ahead g live limit word (c ∷ left) o rests ≡ Some (word, c) ∷ ahead g live limit word left o rests
     unfolding ahead with_calls
     given o c left =
-        let more : List Event = with_calls left ++ deeper g live (limit - length word) o in
-        let rest : List Event = pending g live limit 0 word rests in
+        let more : List TrailEvent = with_calls left ++ deeper g live (limit - length word) o in
+        let rest : List TrailEvent = pending g live limit 0 word rests in
         ap (λ es. es ++ rest) (under_all-line word [] c more ∙ ap (λ v. Some (v, c) ∷ under_all word more) (append-nil word))
 
     -- what comes after a word counts by what it leads to

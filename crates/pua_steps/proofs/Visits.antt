@@ -4,18 +4,18 @@ use Rattle.std.specs.Prelude.{IfSome}
 use Rattle.std.specs.List.{range_with_len, AllByRecursion}
 use Rattle.std.proofs.lemmas.Bool.{and_parts, and_cases, not-true, ltb-true, ltb-false, leb-true, cases_Bool}
 use Rattle.std.proofs.lemmas.List.{get_or-map}
-use Rattle.pua_steps.specs.Table.{entries_in, missing_in, entries_at, missing_at, visit_of, missed, gap, has_gap, end_of, first_of, visits_from, IsEntry, IsVisit, IsState, Rising}
+use Rattle.pua_steps.specs.Table.{entries_in, missing_in, entries_at, missing_at, visit_of, missing_visit, gap, has_gap, end_of, first_of, visits_from, IsEntry, IsVisit, IsState, Rising}
 use Rattle.pua_steps.specs.declared.steps.Entry.{Entry}
 use Rattle.pua_steps.specs.declared.steps.Row.{Row}
 use Rattle.pua_steps.specs.declared.steps.Steps.{Steps}
 
-gap_more : (m next n : ℕ) → (m == 0) ≡ false → gap m next (suc n) ≡ missed m next ∷ gap m (next + 1) n
+gap_more : (m next n : ℕ) → (m == 0) ≡ false → gap m next (suc n) ≡ missing_visit m next ∷ gap m (next + 1) n
 unfolding gap
 gap_more m next n some = rw some refl
 
 gap_none : (m next : ℕ) → gap m next 0 ≡ []
 unfolding gap
-gap_none m next = elim (m == 0) as (λ b. cond b [] (map (missed m) (range_with_len next 0)) ≡ []) [ true ↦ refl | false ↦ refl ]
+gap_none m next = elim (m == 0) as (λ b. cond b [] (map (missing_visit m) (range_with_len next 0)) ≡ []) [ true ↦ refl | false ↦ refl ]
 
 gap_empty : (m next n : ℕ) → (m == 0) ≡ true → gap m next n ≡ []
 unfolding gap
@@ -35,7 +35,7 @@ no_gap m next end none =
     clash : {b : Bool} → b ≡ false → not b ≡ false → ⊥
     clash {b} e f = let bad : true ≡ false = sym (ap not e) ∙ f in cc
 
-some_gap : (m next end : ℕ) → has_gap m next end ≡ true → gap m next (end - next) ≡ missed m next ∷ gap m (next + 1) (end - (next + 1))
+some_gap : (m next end : ℕ) → has_gap m next end ≡ true → gap m next (end - next) ≡ missing_visit m next ∷ gap m (next + 1) (end - (next + 1))
 some_gap m next end some =
     let both = and_parts (not (m == 0)) (nat_lt next end) some in
     let less : next < end = ltb-true next end both.1 in
@@ -43,7 +43,7 @@ some_gap m next end some =
     ap (gap m next) more ∙ gap_more m next (end - (next + 1)) (not-true (m == 0) both.0)
 
 module _ (letters m u next : ℕ) where
-  pub from_gap : (es : List Entry) → has_gap m next (end_of letters (first_of es)) ≡ true → visits_from letters m u next es ≡ missed m next ∷ visits_from letters m u (next + 1) es
+  pub from_gap : (es : List Entry) → has_gap m next (end_of letters (first_of es)) ≡ true → visits_from letters m u next es ≡ missing_visit m next ∷ visits_from letters m u (next + 1) es
   unfolding visits_from
   from_gap [] some = some_gap m next letters some
   from_gap (e ∷ es) some = ap (λ vs. vs ++ visit_of u e ∷ visits_from letters m u (suc e.letter) es) (some_gap m next e.letter some)
@@ -113,7 +113,7 @@ visit_is t used e is low =
     leads (Some d) h fits = record { dir = h; used = fits }
 
 -- a letter without an entry that comes next
-pub gap_is : (t : Steps) (m next : ℕ) (es : List Entry) → m < 2 ^ 14 → AllByRecursion (λ e. IsEntry t e) es → has_gap m next (end_of t.letters (first_of es)) ≡ true → IsVisit t (missed m next)
+pub gap_is : (t : Steps) (m next : ℕ) (es : List Entry) → m < 2 ^ 14 → AllByRecursion (λ e. IsEntry t e) es → has_gap m next (end_of t.letters (first_of es)) ≡ true → IsVisit t (missing_visit m next)
 gap_is t m next es fits all some =
     let less : next < end_of t.letters (first_of es) = ltb-true next (end_of t.letters (first_of es)) (and_parts (not (m == 0)) (nat_lt next (end_of t.letters (first_of es))) some).1 in
     record { letter = omega (arith, less, end_within es all); calls = fits; behind = tt }

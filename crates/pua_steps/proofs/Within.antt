@@ -4,7 +4,7 @@ use Rattle.std.specs.Prelude.{IfSome}
 use Rattle.std.specs.List.{range_with_len, AllByRecursion}
 use Rattle.pua_steps.specs.Calls.{has_call, calls_of}
 use Rattle.pua_steps.specs.Graph.{Pair, cons, alone, below}
-use Rattle.pua_steps.specs.Table.{visit_of, missed, gap, visits_from, graph_of, missing_at, entries_at, IsEntry, IsState, IsTable}
+use Rattle.pua_steps.specs.Table.{visit_of, missing_visit, gap, visits_from, graph_of, missing_at, entries_at, IsEntry, IsState, IsTable}
 use Rattle.pua_steps.specs.Within.{IsPair, ReachIsWithin}
 use Rattle.pua_steps.specs.declared.state.State.{State}
 use Rattle.pua_steps.specs.declared.visit.Visit.{Visit}
@@ -41,14 +41,14 @@ module _ (letters : ℕ) where
   abbrev Here : Visit → Type 0
   Here v = v.letter < letters
 
-  missed_here : (m : ℕ) (is : List ℕ) → AllByRecursion (λ i. i < letters) is → AllByRecursion Here (map (missed m) is)
+  missed_here : (m : ℕ) (is : List ℕ) → AllByRecursion (λ i. i < letters) is → AllByRecursion Here (map (missing_visit m) is)
   missed_here m [] all = tt
   missed_here m (i ∷ is) all = (all.0, missed_here m is all.1)
 
   gap_here : (m next n : ℕ) → n ≤ letters - next → AllByRecursion Here (gap m next n)
   unfolding gap
   gap_here m next n h =
-      elim (m == 0) as (λ b. AllByRecursion Here (cond b [] (map (missed m) (range_with_len next n)))) [ true ↦ tt | false ↦ missed_here m (range_with_len next n) (range_below letters next n h) ]
+      elim (m == 0) as (λ b. AllByRecursion Here (cond b [] (map (missing_visit m) (range_with_len next n)))) [ true ↦ tt | false ↦ missed_here m (range_with_len next n) (range_below letters next n h) ]
 
 module _ (t : Steps) where
   visits_here : (m u next : ℕ) (es : List Entry) → u ≤ 32 → AllByRecursion (λ e. IsEntry t e) es → AllByRecursion (Here t.letters) (visits_from t.letters m u next es)

@@ -40,8 +40,8 @@ unfoldable pub rows : Graph → ℕ → List Visit → List Pair
 rows g l vs = flat_map (λ v. cons v.letter (alone (calls_of v.calls) ++ below g l v.behind)) vs
 
 -- all pairs that are allowed: the calls of the empty word are given, and the state in which the first letter stands
-abbrev pub reach : Graph → ℕ → ℕ → Option State → List Pair
-reach g limit calls base = alone (calls_of calls) ++ below g limit base
+abbrev pub graph_reach : Graph → ℕ → ℕ → Option State → List Pair
+graph_reach g limit calls base = alone (calls_of calls) ++ below g limit base
 
 -- whether there is a pair
 abbrev pub some_pair : List Pair → Bool

@@ -28,8 +28,8 @@ visit_of used e = cond (nat_le (used + e.links) most_links)
     (record { letter = e.letter; calls = e.all; behind = option_map (λ to. record { dir = to; used = used + e.links }) e.to })
     (record { letter = e.letter; calls = e.kept; behind = None })
 
-abbrev pub missed : ℕ → ℕ → Visit
-missed missing letter = record { letter = letter; calls = missing; behind = None }
+abbrev pub missing_visit : ℕ → ℕ → Visit
+missing_visit missing letter = record { letter = letter; calls = missing; behind = None }
 
 abbrev pub first_of : List Entry → Option Entry
 first_of [] = None
@@ -51,7 +51,7 @@ has_gap missing next end = not (missing == 0) && nat_lt next end
 
 -- so many letters without entries
 unfoldable pub gap : ℕ → ℕ → ℕ → List Visit
-gap missing next n = cond (missing == 0) [] (map (missed missing) (range_with_len next n))
+gap missing next n = cond (missing == 0) [] (map (missing_visit missing) (range_with_len next n))
 
 -- the letters from one on: those with entries, and between them the others if a call is allowed on them
 unfoldable pub visits_from : ℕ → ℕ → ℕ → ℕ → List Entry → List Visit

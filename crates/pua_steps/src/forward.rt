@@ -6,7 +6,7 @@ ghost use Rattle.std.specs.Int.{bit_at};
 ghost use Rattle.std.specs.List.{AllByRecursion};
 ghost use Rattle.pua_steps.specs.Limits.{most_letters, most_links, most_bound};
 ghost use Rattle.pua_steps.specs.Live.{IsSized};
-ghost use Rattle.pua_steps.specs.Reached.{stood, lands, lands_some, lands_from, total, AreSets, live_count};
+ghost use Rattle.pua_steps.specs.Reached.{has_state, lands, lands_some, lands_from, total, AreSets, live_count};
 ghost use Rattle.pua_steps.specs.Table.{IsTable, IsState, IsEntry, graph_of};
 
 use crate::live::Live;
@@ -26,7 +26,8 @@ fn spread(entries: &[Entry], set: u64, next: &mut Vec<u64>)
     ensures many { length next.new.items ≡ length next.old.items }
     ensures small { (d : ℕ) → d < length next.old.items → get_or next.new.items d 0 < 2 ^ most_bound }
     ensures tells { (d : ℕ) (u : ℕ) → d < length next.old.items → u ≤ most_links →
-        stood next.new.items d u ≡ (stood next.old.items d u || lands_some entries.now set d u) }
+        has_state next.new.items d u
+        ≡ (has_state next.old.items d u || lands_some entries.now set d u) }
 {
     for entry in entries {
         entry.land(set, next);
@@ -43,7 +44,8 @@ impl Entry {
         ensures many { length next.new.items ≡ length next.old.items }
         ensures small { (d : ℕ) → d < length next.old.items → get_or next.new.items d 0 < 2 ^ most_bound }
         ensures tells { (d : ℕ) (u : ℕ) → d < length next.old.items → u ≤ most_links →
-            stood next.new.items d u ≡ (stood next.old.items d u || lands self.now set d u) }
+            has_state next.new.items d u
+            ≡ (has_state next.old.items d u || lands self.now set d u) }
     {
         let Some(to) = self.to else {
             return;
@@ -83,7 +85,8 @@ fn step_all(alloc: Global, steps: &Steps, sets: &[u64]) -> Result<Vec<u64>, Allo
     ensures small { IfOk result (λ next. (d : ℕ) → d < length steps.now.rows.items →
         get_or next.items d 0 < 2 ^ most_bound) }
     ensures tells { IfOk result (λ next. (d : ℕ) (u : ℕ) → d < length steps.now.rows.items → u ≤ most_links →
-        stood next.items d u ≡ lands_from steps.now sets.now (length steps.now.rows.items) d u) }
+        has_state next.items d u
+        ≡ lands_from steps.now sets.now (length steps.now.rows.items) d u) }
 {
     let dirs = steps.rows.len();
     let mut next = empty_sets(alloc, dirs)?;

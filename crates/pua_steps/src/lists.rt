@@ -4,7 +4,7 @@ ghost use Rattle.std.specs.Prelude.{◌≡◌, ◌≤◌, ◌<◌, ◌+◌, ◌*
 ghost use Rattle.std.specs.List.{AllByRecursion};
 ghost use Rattle.pua_steps.specs.Limits.{most_links};
 ghost use Rattle.pua_steps.specs.Live.{IsSized};
-ghost use Rattle.pua_steps.specs.Lists.{is_useful, list_of, span_of, within, IsList, IsListed, IsLonger};
+ghost use Rattle.pua_steps.specs.Lists.{is_useful, list_of, span_of, within, IsListAt, AreListsOf, IsLonger};
 ghost use Rattle.pua_steps.specs.Table.{IsTable, IsEntry, Rising, first_of, with_letter};
 ghost use Rattle.pua_steps.specs.declared.steps.Entry.{Entry};
 ghost use Rattle.pua_steps.specs.declared.lists.Span.{Span};
@@ -61,7 +61,7 @@ impl Lists {
     ) -> Result<Lists, AllocError>
         requires table { IsTable steps.now }
         requires sized { IsSized steps.now live.now limit }
-        ensures { IfOk result (λ lists. IsListed steps.now live.now limit lists) }
+        ensures { IfOk result (λ lists. AreListsOf steps.now live.now limit lists) }
     {
         let mut lists = Lists {
             entries: Vec::new(alloc),
@@ -81,8 +81,8 @@ impl Lists {
         requires table { IsTable steps.now }
         requires dirs { live.now.dirs ≡ length steps.now.rows.items }
         requires layer { left * live.now.dirs + live.now.dirs ≤ length live.now.bounds.items }
-        requires before { IsListed steps.now live.now left self.old }
-        ensures { IfOk result (λ _. IsListed steps.now live.now (suc left) self.new) }
+        requires before { AreListsOf steps.now live.now left self.old }
+        ensures { IfOk result (λ _. AreListsOf steps.now live.now (suc left) self.new) }
     {
         if left > 0 && live.repeats(left) {
             let shared = self.layers[left - 1];
@@ -108,7 +108,7 @@ impl Lists {
         ensures many { IfOk result (λ _.
             length self.new.spans.items ≡ length self.old.spans.items + length steps.now.rows.items) }
         ensures lists { IfOk result (λ _. (d : ℕ) → d < length steps.now.rows.items →
-            IsList self.new.entries.items
+            IsListAt self.new.entries.items
             (get_or self.new.spans.items (length self.old.spans.items + d) (record { place = 0; end = 0 }))
             (list_of steps.now live.now left d)) }
     {

@@ -3,9 +3,9 @@
 ghost use Rattle.std.specs.Prelude.{◌≡◌, ◌<◌, ◌≤◌, ◌+◌, ◌*◌, ◌^◌, ℕ, suc, length, get_or, min, IfOk, IfSome};
 ghost use Rattle.pua_steps.specs.Limits.{most_letters, search_cost};
 ghost use Rattle.pua_steps.specs.Live.{IsSized, entrance, live_of};
-ghost use Rattle.pua_steps.specs.Lists.{IsListed, IsOpen, narrow_of, rest_of, span_of};
+ghost use Rattle.pua_steps.specs.Lists.{AreListsOf, IsOpen, narrow_of, rest_of, span_of};
 ghost use Rattle.pua_steps.specs.Order.{IsSplit};
-ghost use Rattle.pua_steps.specs.Ready.{IsCounted, IsGiven, IsScanned};
+ghost use Rattle.pua_steps.specs.Ready.{IsCounted, IsLetterGiven, IsScanned};
 ghost use Rattle.pua_steps.specs.Reached.{live_count};
 ghost use Rattle.pua_steps.specs.Table.{IsState, IsTable, IsVisit, graph_of};
 
@@ -31,7 +31,7 @@ pub struct Tables {
 
 /// What a letter of a state leads to, and the state open from the letter after it on.
 #[derive(Clone, Copy)]
-pub(crate) struct Found {
+pub(crate) struct NextVisit {
     pub(crate) frame: Frame,
     pub(crate) visit: Visit,
 }
@@ -45,7 +45,7 @@ impl Tables {
         requires fits { suc limit * length steps.rows.items < 2 ^ 64 }
         ensures steps { IfOk result (λ tables. tables.steps ≡ steps) }
         ensures sized { IfOk result (λ tables. IsSized steps tables.live limit) }
-        ensures listed { IfOk result (λ tables. IsListed steps tables.live limit tables.lists) }
+        ensures listed { IfOk result (λ tables. AreListsOf steps tables.live limit tables.lists) }
         ensures reads { IfOk result (λ tables. tables.reads ≡ 0) }
     {
         let live = Live::fill(alloc, &steps, limit)?;
@@ -113,14 +113,14 @@ impl Tables {
         requires table { IsTable self.old.steps }
         requires dirs { self.old.live.dirs ≡ length self.old.steps.rows.items }
         requires layer { left * self.old.live.dirs + self.old.live.dirs ≤ length self.old.live.bounds.items }
-        requires listed { IsListed self.old.steps self.old.live
+        requires listed { AreListsOf self.old.steps self.old.live
             (length self.old.lists.layers.items) self.old.lists }
         requires open { IsOpen self.old.steps self.old.lists frame.old }
         ensures steps { self.new.steps ≡ self.old.steps }
         ensures live { self.new.live ≡ self.old.live }
         ensures lists { self.new.lists ≡ self.old.lists }
         ensures open { IsOpen self.old.steps self.old.lists frame.new }
-        ensures given { IfSome result (λ v. IsGiven self.old.steps self.old.live left v) }
+        ensures given { IfSome result (λ v. IsLetterGiven self.old.steps self.old.live left v) }
         ensures next { (n : ℕ) × (IsCounted self.old.reads n self.new.reads
             × IsScanned self.old.steps self.old.live self.old.lists left frame.old result frame.new n) }
     {
@@ -136,9 +136,9 @@ impl Tables {
 
     /// Finds a letter among those of a state, by one binary search in its list, where at most `left`
     /// letters may come after it. Each letter that is read is counted.
-    pub(crate) fn find(&mut self, left: usize, state: State, letter: usize) -> Found
+    pub(crate) fn find(&mut self, left: usize, state: State, letter: usize) -> NextVisit
         requires table { IsTable self.old.steps }
-        requires listed { IsListed self.old.steps self.old.live
+        requires listed { AreListsOf self.old.steps self.old.live
             (length self.old.lists.layers.items) self.old.lists }
         requires left { left < length self.old.lists.layers.items }
         requires state { IsState self.old.steps state }
@@ -160,7 +160,7 @@ impl Tables {
         let next = letter + 1;
         let end = span.end;
         let Some(entry) = self.lists.entry_of(place, end, letter, &mut self.reads) else {
-            return Found {
+            return NextVisit {
                 frame: Frame {
                     state,
                     next,
@@ -174,7 +174,7 @@ impl Tables {
                 },
             };
         };
-        Found {
+        NextVisit {
             frame: Frame {
                 state,
                 next,

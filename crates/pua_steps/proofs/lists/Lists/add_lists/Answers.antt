@@ -3,7 +3,7 @@ use Rattle.std.proofs.lemmas.Bool.{cases_lt}
 use Rattle.std.proofs.lemmas.List.{length_push}
 use Rattle.std.proofs.Math.Seq.{get_or-append_seam}
 use Rattle.std.specs.List.{AllByRecursion}
-use Rattle.pua_steps.specs.Lists.{list_of, IsList, IsLonger}
+use Rattle.pua_steps.specs.Lists.{list_of, IsListAt, IsLonger}
 use Rattle.pua_steps.specs.Table.{IsEntry}
 use Rattle.pua_steps.specs.declared.steps.Entry.{Entry}
 use Rattle.pua_steps.specs.declared.steps.Steps.{Steps}
@@ -39,10 +39,10 @@ loop-dir-preserved c =
           elim (cases_lt k d) [
             | inl less ↦
                 let there : get_or us (first + k) no_span ≡ get_or ss (first + k) no_span = longer_at ss us no_span (first + k) added (omega (arith, less, inv.many)) in
-                subst (λ s. IsList fs s (list_of t v c.args.left k)) (sym there) (list_stays es fs (get_or ss (first + k) no_span) (list_of t v c.args.left k) grown (inv.lists k less))
+                subst (λ s. IsListAt fs s (list_of t v c.args.left k)) (sym there) (list_stays es fs (get_or ss (first + k) no_span) (list_of t v c.args.left k) grown (inv.lists k less))
             | inr past ↦
                 let same : d ≡ k = omega (arith, past, h) in
                 let last : get_or us (first + d) no_span ≡ span = ap (λ n. get_or us n no_span) (sym inv.many) ∙ ap (λ ws. get_or ws (length ss) no_span) got.spans ∙ get_or-append_seam ss span [] no_span in
-                subst (λ n. IsList fs (get_or us (first + n) no_span) (list_of t v c.args.left n)) same (subst (λ s. IsList fs s list) (sym last) (list_last es fs list got.entries))
+                subst (λ n. IsListAt fs (get_or us (first + n) no_span) (list_of t v c.args.left n)) same (subst (λ s. IsListAt fs s list) (sym last) (list_last es fs list got.entries))
           ];
     }

@@ -3,7 +3,7 @@ use Rattle.std.proofs.lemmas.List.{drop_more}
 use Rattle.std.proofs.Math.ListN.{drop_of_length-le}
 use Rattle.std.specs.Prelude.{IfSome}
 use Rattle.pua_steps.specs.Calls.{calls_of}
-use Rattle.pua_steps.specs.Order.{rest_after}
+use Rattle.pua_steps.specs.Order.{pairs_after}
 use Rattle.pua_steps.specs.Table.{IsState}
 use Rattle.pua_steps.specs.Lists.{narrow_of}
 use Rattle.pua_steps.specs.Live.{live_of}
@@ -35,7 +35,7 @@ loop-letter-init c =
       index = omega arith;
       so_far = (λ i. to_give (narrow_of t a.tables.live) (live_of a.tables.live) a.limit (fresh.0 i) a.calls a.behind (rests_of t a.tables.lists (fresh.1 i)) way call)
           ∙ give_start (narrow_of t a.tables.live) (live_of a.tables.live) a.limit (λ s. IsState t s) (prunes t a.tables.live a.limit ready.sound.table ready.sound.sized) a.calls a.behind way call stands
-          ∙ sym (λ i. rest_after (way, call) (pairs_of (ahead (narrow_of t a.tables.live) (live_of a.tables.live) a.limit (fresh.0 i) (calls_of a.calls) a.behind (rests_of t a.tables.lists (fresh.1 i)))));
+          ∙ sym (λ i. pairs_after (way, call) (pairs_of (ahead (narrow_of t a.tables.live) (live_of a.tables.live) a.limit (fresh.0 i) (calls_of a.calls) a.behind (rests_of t a.tables.lists (fresh.1 i)))));
     }
 
 pub returns-in_default-clause-left : goal.returns-in_default-clause-left

@@ -1,12 +1,12 @@
 use Rattle.std.proofs.Common.{◌≡◌, ◌≤◌, ◌-◌, ℕ, None, length}
-use Rattle.pua_steps.specs.Ready.{IsCounted, looks, left_over, AreOpen, IsSound, IsOf}
+use Rattle.pua_steps.specs.Ready.{IsCounted, looks, left_over, AreOpen, HasSoundTables, IsSameWalk}
 use Rattle.pua_steps.specs.Lists.{IsLonger}
 use Rattle.pua_steps.proofs.walk.Walk.turn.Given as goal
 
 abbrev pub invariant-loop-self : goal.invariant-loop-self
 invariant-loop-self l = record {
-  same : IsOf l.fn.self l.self;
-  sound : IsSound l.self;
+  same : IsSameWalk l.fn.self l.self;
+  sound : HasSoundTables l.self;
   states : AreOpen l.self.tables.steps l.self.tables.lists l.self.frames.items;
   calls : l.self.calls ≡ 0;
   behind : l.self.behind ≡ None;
