@@ -8,7 +8,7 @@ use Rattle.std.specs.FinMap.Entries.{is_sorted-put, is_sorted-where_key}
 use Rattle.std.proofs.lemmas.Bool.{and_from, and_parts, or_parts, not-false, false≢true, eqb-false}
 use Rattle.pua_tree.specs.Names.{is_name}
 use Rattle.pua_tree.specs.Tree.{Node, Spot, Tree, WellFormed, spot_cmp, node_at, is_dir, is_dir_kind, is_living, look, above, climb, climb_within, has_no_row, rows_of, row_fits, target_fits}
-use Rattle.pua_tree.specs.Edits.{with_row, without_row, without_node, without_unnamed, with_new, add, tie, cut, cut_found, shift, shift_found, moved, is_full_dir, is_inside, is_same_node, is_full_dir_there, has_room, has_name_room}
+use Rattle.pua_tree.specs.Edits.{with_row, without_row, without_node, without_unnamed, with_new, add, tie, cut, cut_found, shift, shift_found, with_row_moved, is_full_dir, is_inside, is_same_node, is_full_dir_there, has_room, has_name_room}
 use Rattle.pua_tree.specs.Laws.{EditsKeepTrees}
 use Rattle.pua_tree.specs.declared.fault.TreeFault.TheVariants.{Missing, Taken, NotDir, NotEmpty, Inside, Full, IsDir}
 use Rattle.pua_tree.proofs.Base.{same_Some, Some≢None, none, same_Ok, past, tested}
@@ -489,7 +489,7 @@ module _ (t : Tree) (f : Sound t) (from : ℕ) (name : List ℕ) (to : ℕ) (new
   says : (is_dir t from ≡ true) × (is_name name ≡ true) × (is_living t x ≡ true) × (x ≢ 0)
   says = row_says t f (from, name) x found
 
-  moved_keeps : (there : Option ℕ) → look t to new_name ≡ there → is_same_node x there ≡ false → is_full_dir_there t there ≡ false → Sound (moved t from name to new_name x there)
+  moved_keeps : (there : Option ℕ) → look t to new_name ≡ there → is_same_node x there ≡ false → is_full_dir_there t there ≡ false → Sound (with_row_moved t from name to new_name x there)
   moved_keeps None e apart empty =
       let loose = shift_loosens t f from name to new_name x t.next found (not_next t f x says.2) (λ z h. absurd (Some≢None z (sym h ∙ e)))
       in_dir (not_next t f to (is_living_dir t to in_dir)) is_one outside (next_not_root t f)
@@ -540,7 +540,7 @@ cutting t after dir x name w e = found (look t dir name) refl (past (not (is_dir
         let next = next_stays (without_row t dir name) y in
         subst (Kept t) same (well_formed_from left (cut_keeps t (sound_from t w) dir name y is a.0), omega arith)
 
-next_moved : (t : Tree) (from : ℕ) (name : List ℕ) (to : ℕ) (new_name : List ℕ) (x : ℕ) (there : Option ℕ) → (moved t from name to new_name x there).next ≡ t.next
+next_moved : (t : Tree) (from : ℕ) (name : List ℕ) (to : ℕ) (new_name : List ℕ) (x : ℕ) (there : Option ℕ) → (with_row_moved t from name to new_name x there).next ≡ t.next
 next_moved t from name to new_name x None = refl
 next_moved t from name to new_name x (Some y) = next_stays (with_row (without_row t from name) to new_name x) y
 
@@ -558,7 +558,7 @@ shifting t after from to name new_name w is_one e = found (look t from name) ref
     found (Some x) is h = moves (is_same_node x (look t to new_name)) refl h
       where
         left : Tree
-        left = moved t from name to new_name x (look t to new_name)
+        left = with_row_moved t from name to new_name x (look t to new_name)
 
         moves : (b : Bool) → is_same_node x (look t to new_name) ≡ b → cond b (Ok t) (cond (is_inside t x to) (Err Inside) (cond (is_full_dir_there t (look t to new_name)) (Err NotEmpty) (Ok left))) ≡ Ok after → Kept t after
         moves true same g = subst (Kept t) (same_Ok t after g) (w, omega arith)

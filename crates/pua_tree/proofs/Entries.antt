@@ -14,9 +14,9 @@ use Rattle.std.proofs.lemmas.List.Elements.{filter_map-append}
 use lib.Pointwise.{bytes_decides}
 use Rattle.pua_tree.specs.Names.{same_bytes, is_name}
 use Rattle.pua_tree.specs.Tree.{Node, Spot, spot_cmp, is_dir, is_dir_kind, is_living}
-use Rattle.pua_tree.specs.Listing.{Entry, is_taken, makes_dir, makes_other, is_earlier_dir, is_earlier_other, rows_of_entries, node_entry, root_node, last_number, tree_of}
+use Rattle.pua_tree.specs.Listing.{Entry, is_taken, makes_dir, makes_other, is_earlier_dir, is_earlier_other, rows_of_entries, made_entry, root_node, last_number, tree_of}
 use Rattle.pua_tree.specs.Grammar.{entry_fits, entries_fit, made_fits}
-use Rattle.pua_tree.specs.Reading.{grown, grown_by}
+use Rattle.pua_tree.specs.Reading.{tree_with, grown_by}
 use Rattle.pua_tree.proofs.Base.{none, nat_tie, greater}
 use Rattle.pua_tree.proofs.Content.{spots_total, exact_spots}
 
@@ -96,10 +96,10 @@ module _ (K : Option Node → Bool) (no_node : K None ≡ false) where
   or_false false = refl
 
   -- of the nodes that entries make, found or tested one by one
-  made_found : (p low : ℕ) (es : List Entry) → Rising low es → K (find nat_cmp p (filter_map node_entry es)) ≡ list_any (λ e. eqb e.number p && K e.made) es
+  made_found : (p low : ℕ) (es : List Entry) → Rising low es → K (find nat_cmp p (filter_map made_entry es)) ≡ list_any (λ e. eqb e.number p && K e.made) es
   made_found p low [] r = no_node
   made_found p low (e ∷ es) r =
-      let nodes = filter_map node_entry es in
+      let nodes = filter_map made_entry es in
       let more : Bool = list_any (λ f. eqb f.number p && K f.made) es in
       elim e.made as (λ m. K (find nat_cmp p (cons_option (option_map (λ made. (e.number, made)) m) nodes)) ≡ ((eqb e.number p && K m) || more)) [
         | None ↦ made_found p e.number es r.1 ∙ sym (ap (λ b. (eqb e.number p && b) || more) no_node ∙ ap (λ b. b || more) (and-false (eqb e.number p)))
@@ -124,7 +124,7 @@ other_made (Some n) = refl
 -- the directories and the other nodes of the entries' tree
 pub earlier_dir_is_found : (es : List Entry) (p low : ℕ) → Rising low es → is_dir (tree_of es) p ≡ is_earlier_dir es p
 earlier_dir_is_found es p low r =
-    let made : Option Node = find nat_cmp p (filter_map node_entry es) in
+    let made : Option Node = find nat_cmp p (filter_map made_entry es) in
     ap (λ b. is_dir_kind (option_map (λ n. n.kind) (cond b (Some root_node) made))) (nat_tie p 0 ∙ turned p)
     ∙ elim (eqb p 0) as (λ b. is_dir_kind (option_map (λ n. n.kind) (cond b (Some root_node) made)) ≡ (b || list_any (λ e. eqb e.number p && makes_dir e.made) es)) [
       | true ↦ refl
@@ -133,7 +133,7 @@ earlier_dir_is_found es p low r =
 
 pub earlier_other_is_found : (es : List Entry) (p low : ℕ) → Rising low es → (is_living (tree_of es) p && not (is_dir (tree_of es) p)) ≡ is_earlier_other es p
 earlier_other_is_found es p low r =
-    let made : Option Node = find nat_cmp p (filter_map node_entry es) in
+    let made : Option Node = find nat_cmp p (filter_map made_entry es) in
     let test : Option Node → Bool = λ o. is_some o && not (is_dir_kind (option_map (λ n. n.kind) o)) in
     ap (λ b. test (cond b (Some root_node) made)) (nat_tie p 0 ∙ turned p)
     ∙ elim (eqb p 0) as (λ b. eqb p 0 ≡ b → test (cond b (Some root_node) made) ≡ list_any (λ e. eqb e.number p && makes_other e.made) es) [
@@ -194,11 +194,11 @@ numbers_below low n (x ∷ y ∷ es) r h =
     let rest = numbers_below x.number n (y ∷ es) r.1 h in
     and_from _ _ (lt-ltb x.number n (omega (arith, r.1.0, ltb-true y.number n (and_parts _ _ rest).0))) rest
 
-made_below : (n : ℕ) (es : List Entry) → IsTrue (list_all (λ e. ltb e.number n) es) → IsTrue (list_all (λ e. ltb e.0 n) (filter_map node_entry es))
+made_below : (n : ℕ) (es : List Entry) → IsTrue (list_all (λ e. ltb e.number n) es) → IsTrue (list_all (λ e. ltb e.0 n) (filter_map made_entry es))
 made_below n [] h = refl
 made_below n (e ∷ es) h =
     let parts = and_parts (ltb e.number n) _ h in
-    elim e.made as (λ m. IsTrue (list_all (λ p. ltb p.0 n) (cons_option (option_map (λ made. (e.number, made)) m) (filter_map node_entry es)))) [
+    elim e.made as (λ m. IsTrue (list_all (λ p. ltb p.0 n) (cons_option (option_map (λ made. (e.number, made)) m) (filter_map made_entry es)))) [
       | None ↦ made_below n es parts.1
       | Some m ↦ and_from _ _ parts.0 (made_below n es parts.1)
     ]
@@ -230,11 +230,11 @@ pub earlier_below : (hard : Bool) (es : List Entry) (e : Entry) → Rising 0 es 
 earlier_below hard es e r f h = any_between makes_other e.node 0 e.number es r (numbers_below 0 e.number es r f.above) h
 
 -- a further entry, as what it makes of the tree
-pub tree_push : (hard : Bool) (es : List Entry) (e : Entry) → IsTrue (entries_fit hard [] es) → Fits hard es e → tree_of (es ++ e ∷ []) ≡ grown (tree_of es) e
+pub tree_push : (hard : Bool) (es : List Entry) (e : Entry) → IsTrue (entries_fit hard [] es) → Fits hard es e → tree_of (es ++ e ∷ []) ≡ tree_with (tree_of es) e
 tree_push hard es e h f = by e.made refl
   where
-    nodes_push : (tree_of (es ++ e ∷ [])).nodes ≡ (0, root_node) ∷ (filter_map node_entry es ++ cons_option (node_entry e) [])
-    nodes_push = ap (λ l. (0, root_node) ∷ l) (filter_map-append node_entry es (e ∷ []))
+    nodes_push : (tree_of (es ++ e ∷ [])).nodes ≡ (0, root_node) ∷ (filter_map made_entry es ++ cons_option (made_entry e) [])
+    nodes_push = ap (λ l. (0, root_node) ∷ l) (filter_map-append made_entry es (e ∷ []))
 
     next_push : (tree_of (es ++ e ∷ [])).next ≡ e.number + 1
     next_push = ap suc (last_number_push es e) ∙ sym (add-one e.number)
@@ -242,7 +242,7 @@ tree_push hard es e h f = by e.made refl
     by : (m : Option Node) → e.made ≡ m → tree_of (es ++ e ∷ []) ≡ grown_by (tree_of es) e m
     by None is =
         let nodes : (tree_of (es ++ e ∷ [])).nodes ≡ (tree_of es).nodes =
-        nodes_push ∙ ap (λ m. (0, root_node) ∷ (filter_map node_entry es ++ cons_option (option_map (λ made. (e.number, made)) m) [])) is ∙ ap (λ l. (0, root_node) ∷ l) (append-nil (filter_map node_entry es)) in
+        nodes_push ∙ ap (λ m. (0, root_node) ∷ (filter_map made_entry es ++ cons_option (option_map (λ made. (e.number, made)) m) [])) is ∙ ap (λ l. (0, root_node) ∷ l) (append-nil (filter_map made_entry es)) in
         λ i. record { rows = rows_push es e f.free i; nodes = nodes i; next = next_push i }
     by (Some made) is =
         let own : e.node ≡ e.number = eqb-true e.node e.number (and_parts _ _ (subst (λ m. IsTrue (made_fits hard es e m)) is f.made)).0 in
@@ -250,5 +250,5 @@ tree_push hard es e h f = by e.made refl
         let rows : (tree_of (es ++ e ∷ [])).rows ≡ put spot_cmp (e.parent, e.name) e.number (tree_of es).rows =
         rows_push es e f.free ∙ ap (λ x. put spot_cmp (e.parent, e.name) x (rows_of_entries es)) own in
         let nodes : (tree_of (es ++ e ∷ [])).nodes ≡ put nat_cmp e.number made (tree_of es).nodes =
-        nodes_push ∙ ap (λ m. (0, root_node) ∷ (filter_map node_entry es ++ cons_option (option_map (λ made. (e.number, made)) m) [])) is ∙ sym (put_last e.number made (tree_of es).nodes below) in
+        nodes_push ∙ ap (λ m. (0, root_node) ∷ (filter_map made_entry es ++ cons_option (option_map (λ made. (e.number, made)) m) [])) is ∙ sym (put_last e.number made (tree_of es).nodes below) in
         λ i. record { rows = rows i; nodes = nodes i; next = next_push i }

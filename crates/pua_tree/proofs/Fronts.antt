@@ -9,7 +9,7 @@ use Rattle.std.specs.Cmp.Lexicographic.{slice_cmp}
 use Rattle.std.specs.Int.{w64, from_be_bytes}
 use Rattle.std.specs.List.{list_all}
 use Rattle.std.proofs.lemmas.Bool.{and_parts, ltb-true}
-use Rattle.pua_tree.specs.Names.{is_name, is_name_byte, front, padded}
+use Rattle.pua_tree.specs.Names.{is_name, is_name_byte, front, padded_name}
 use Rattle.pua_tree.proofs.Base.{greater}
 
 -- eight bytes of a longer list as a number
@@ -33,7 +33,7 @@ front-zeros (suc n) a [] zero = refl
 front-zeros (suc n) a [] (suc k) = let same : a * 256 + 0 ≡ a * 256 = omega arith in ap (λ b. front n b (replicate k 0)) same ∙ front-zeros n (a * 256) [] k
 front-zeros (suc n) a (b ∷ bytes) k = front-zeros n (a * 256 + b) bytes k
 
-pub front-padded : (name : List ℕ) → front 8 0 (padded name) ≡ front 8 0 name
+pub front-padded : (name : List ℕ) → front 8 0 (padded_name name) ≡ front 8 0 name
 front-padded name = front-zeros 8 0 name (255 - length name)
 
 is_byte : (b : ℕ) → is_name_byte b ≡ true → (0 < b) × (b < 256)

@@ -4,7 +4,7 @@ use Rattle.std.specs.Borrow.{Bor}
 use Rattle.std.specs.List.{list_all}
 use Rattle.pua_tree.specs.Fields.{first_fields}
 use Rattle.pua_tree.specs.Spelling.{fields, is_field}
-use Rattle.pua_tree.specs.Listing.{Line, line_of, line_of_fields, plain_kind, long_kind}
+use Rattle.pua_tree.specs.Listing.{ListingLine, listing_line, line_of_fields, plain_kind, long_kind}
 use Rattle.pua_tree.specs.declared.node.Kind.{Kind}
 
 -- a line with six fields or more is none
@@ -22,11 +22,11 @@ by_test hard true all kept e = let same : kept ≡ take 6 all = cc in line_of_fi
 by_test hard false all kept e = cc
 
 -- the line whose first fields these are
-pub line_of-first_fields : (hard : Bool) (text : List ℕ) (kept : List (List ℕ)) → Some kept ≡ first_fields text → line_of hard text ≡ line_of_fields hard kept
+pub line_of-first_fields : (hard : Bool) (text : List ℕ) (kept : List (List ℕ)) → Some kept ≡ first_fields text → listing_line hard text ≡ line_of_fields hard kept
 line_of-first_fields hard text kept e = by_test hard (list_all is_field (fields text)) (fields text) kept e
 
 -- the line of four fields, where they lie in the text
-abbrev pub plain_line : List (Bor (List ℕ)) → Bor (List ℕ) → Kind → Line
+abbrev pub plain_line : List (Bor (List ℕ)) → Bor (List ℕ) → Kind → ListingLine
 plain_line s d kind = record { number = (get_or s 0 d).now; kind = Some kind; parent = (get_or s 2 d).now; name = (get_or s 3 d).now; last = [] }
 
 pub line_of_fields-four : (hard : Bool) (s : List (Bor (List ℕ))) (d : Bor (List ℕ)) → length s ≡ 4
@@ -49,7 +49,7 @@ line_of_fields-other hard (a ∷ b ∷ c ∷ d ∷ f ∷ []) e = elim e [ inl fe
 line_of_fields-other hard (a ∷ b ∷ c ∷ d ∷ f ∷ g ∷ more) e = refl
 
 -- the line of five fields
-abbrev pub long_line : List (Bor (List ℕ)) → Bor (List ℕ) → Option Kind → Line
+abbrev pub long_line : List (Bor (List ℕ)) → Bor (List ℕ) → Option Kind → ListingLine
 long_line s d kind = record { number = (get_or s 0 d).now; kind = kind; parent = (get_or s 2 d).now; name = (get_or s 3 d).now; last = (get_or s 4 d).now }
 
 pub line_of_fields-five : (hard : Bool) (s : List (Bor (List ℕ))) (d : Bor (List ℕ)) → length s ≡ 5

@@ -7,11 +7,11 @@ use Rattle.std.specs.Result.{result_ok}
 use Rattle.std.proofs.lemmas.Bool.{lt-ltb, ltb-true, ltb-false, le-ltb, eq-eqb, eqb-true, and_parts, and_from, cond-true, cond-false}
 use Rattle.std.proofs.lemmas.List.{length-append}
 use Rattle.pua_tree.specs.Names.{is_name, is_target, has_byte, has_short_components, same_bytes}
-use Rattle.pua_tree.specs.Spelling.{spelling, unspelled, name_of, fields, is_field, number_within}
+use Rattle.pua_tree.specs.Spelling.{spelling, bytes_spelled, name_of, fields, is_field, number_within}
 use Rattle.pua_tree.specs.Steps.{◌>>=◌}
 use Rattle.pua_tree.specs.Tree.{Node, Tree, WellFormed}
-use Rattle.pua_tree.specs.Listing.{Entry, Line, plain_kind, long_kind, line_of_fields, line_of, last_number, is_earlier_dir, is_earlier_other, only_if, number_in, parent_in, node_in, target_in, node_of, is_taken, entry_of, entries_of, tree_of, header, after_header, listing_of_lines}
-use Rattle.pua_tree.specs.Grammar.{kind_word, line_word, target_field, last_field, entry_text, target_stands, made_fits, entry_fits, entries_fit, header_text, ListingsAreRead, SecondFormsAgree, ListingsListTrees, SpellingsAreRead}
+use Rattle.pua_tree.specs.Listing.{Entry, ListingLine, plain_kind, long_kind, line_of_fields, listing_line, last_number, is_earlier_dir, is_earlier_other, only_if, number_in, parent_in, hard_node_in, target_in, node_of, is_taken, entry_of, entries_of, tree_of, header, after_header, listing_of_lines}
+use Rattle.pua_tree.specs.Grammar.{listing_kind_word, line_word, target_field, last_field, entry_text, target_stands, made_fits, entry_fits, entries_fit, header_text, ListingsAreRead, SecondFormsAgree, ListingsListTrees, SpellingsAreRead}
 use Rattle.pua_tree.specs.declared.node.Kind.{Kind}
 use Rattle.pua_tree.specs.declared.node.Kind.TheVariants.{Dir, File, Prog, Link}
 use Rattle.pua_tree.specs.declared.fault.ListingFault.{ListingFault}
@@ -29,19 +29,19 @@ last_text (Some Dir) last = []
 last_text (Some File) last = []
 last_text (Some Prog) last = []
 
-abbrev line_text : Line → List ℕ
+abbrev line_text : ListingLine → List ℕ
 line_text l = l.number ++ 32 ∷ (line_word l.kind ++ 32 ∷ (l.parent ++ 32 ∷ (l.name ++ last_text l.kind l.last)))
 
 regrouped : (a b c d t : List ℕ) → a ++ 32 ∷ b ++ 32 ∷ c ++ 32 ∷ d ++ t ≡ a ++ 32 ∷ (b ++ 32 ∷ (c ++ 32 ∷ (d ++ t)))
 regrouped a b c d t = append_assoc (a ++ 32 ∷ b ++ 32 ∷ c) (32 ∷ d) t ∙ append_assoc (a ++ 32 ∷ b) (32 ∷ c) (32 ∷ (d ++ t)) ∙ append_assoc a (32 ∷ b) (32 ∷ (c ++ 32 ∷ (d ++ t)))
 
-plain_kind_read : (word : List ℕ) (kind : Kind) → plain_kind word ≡ Some kind → (word ≡ kind_word kind) × ((last : List ℕ) → last_text (Some kind) last ≡ [])
+plain_kind_read : (word : List ℕ) (kind : Kind) → plain_kind word ≡ Some kind → (word ≡ listing_kind_word kind) × ((last : List ℕ) → last_text (Some kind) last ≡ [])
 plain_kind_read word kind e = dir (same_bytes word (codes "dir")) (same_bytes word (codes "file")) (same_bytes word (codes "prog")) refl refl refl e
   where
-    is : (k : Kind) → word ≡ kind_word k → ((last : List ℕ) → last_text (Some k) last ≡ []) → Some k ≡ Some kind → (word ≡ kind_word kind) × ((last : List ℕ) → last_text (Some kind) last ≡ [])
-    is k w l q = subst (λ x. (word ≡ kind_word x) × ((last : List ℕ) → last_text (Some x) last ≡ [])) (same_Some k kind q) (w, l)
+    is : (k : Kind) → word ≡ listing_kind_word k → ((last : List ℕ) → last_text (Some k) last ≡ []) → Some k ≡ Some kind → (word ≡ listing_kind_word kind) × ((last : List ℕ) → last_text (Some kind) last ≡ [])
+    is k w l q = subst (λ x. (word ≡ listing_kind_word x) × ((last : List ℕ) → last_text (Some x) last ≡ [])) (same_Some k kind q) (w, l)
 
-    dir : (a b c : Bool) → same_bytes word (codes "dir") ≡ a → same_bytes word (codes "file") ≡ b → same_bytes word (codes "prog") ≡ c → cond a (Some Dir) (cond b (Some File) (cond c (Some Prog) None)) ≡ Some kind → (word ≡ kind_word kind) × ((last : List ℕ) → last_text (Some kind) last ≡ [])
+    dir : (a b c : Bool) → same_bytes word (codes "dir") ≡ a → same_bytes word (codes "file") ≡ b → same_bytes word (codes "prog") ≡ c → cond a (Some Dir) (cond b (Some File) (cond c (Some Prog) None)) ≡ Some kind → (word ≡ listing_kind_word kind) × ((last : List ℕ) → last_text (Some kind) last ≡ [])
     dir true b c p q r e = is Dir (same_word word _ p) (λ last. refl) e
     dir false true c p q r e = is File (same_word word _ q) (λ last. refl) e
     dir false false true p q r e = is Prog (same_word word _ r) (λ last. refl) e
@@ -62,7 +62,7 @@ long_kind_read hard word kind e = link (same_bytes word (codes "link")) (hard &&
     link false true p q e = let parts = and_parts hard _ q in subst (IsLong hard word) (same_Some None kind e) (same_word word _ parts.1, λ z. parts.0, λ last. refl)
     link false false p q e = absurd (None≢Some kind e)
 
-fields_read : (hard : Bool) (fs : List (List ℕ)) (l : Line) → line_of_fields hard fs ≡ Some l → (join_with_byte 32 fs ≡ line_text l) × IsKnown hard l.kind
+fields_read : (hard : Bool) (fs : List (List ℕ)) (l : ListingLine) → line_of_fields hard fs ≡ Some l → (join_with_byte 32 fs ≡ line_text l) × IsKnown hard l.kind
 fields_read hard [] l e = absurd (None≢Some l e)
 fields_read hard (a ∷ []) l e = absurd (None≢Some l e)
 fields_read hard (a ∷ b ∷ []) l e = absurd (None≢Some l e)
@@ -70,16 +70,16 @@ fields_read hard (a ∷ b ∷ c ∷ []) l e = absurd (None≢Some l e)
 fields_read hard (a ∷ b ∷ c ∷ d ∷ []) l e =
     let kind = mapped (λ kind. record { number = a; kind = Some kind; parent = c; name = d; last = [] }) (plain_kind b) l e in
     let word = plain_kind_read b kind.0 kind.1 in
-    let text = (λ i. a ++ 32 ∷ (word.0 i ++ 32 ∷ (c ++ 32 ∷ (sym (append-nil d) i)))) ∙ ap (λ t. a ++ 32 ∷ (kind_word kind.0 ++ 32 ∷ (c ++ 32 ∷ (d ++ t)))) (sym (word.1 [])) in
-    (text ∙ ap line_text kind.2, subst (λ (x : Line). IsKnown hard x.kind) kind.2 (λ z. absurd (Some≢None kind.0 z)))
+    let text = (λ i. a ++ 32 ∷ (word.0 i ++ 32 ∷ (c ++ 32 ∷ (sym (append-nil d) i)))) ∙ ap (λ t. a ++ 32 ∷ (listing_kind_word kind.0 ++ 32 ∷ (c ++ 32 ∷ (d ++ t)))) (sym (word.1 [])) in
+    (text ∙ ap line_text kind.2, subst (λ (x : ListingLine). IsKnown hard x.kind) kind.2 (λ z. absurd (Some≢None kind.0 z)))
 fields_read hard (a ∷ b ∷ c ∷ d ∷ last ∷ []) l e =
     let kind = mapped (λ kind. record { number = a; kind = kind; parent = c; name = d; last = last }) (long_kind hard b) l e in
     let word = long_kind_read hard b kind.0 kind.1 in
     let text = ap (λ w. a ++ 32 ∷ (w ++ 32 ∷ (c ++ 32 ∷ (d ++ 32 ∷ last)))) word.0 ∙ ap (λ t. a ++ 32 ∷ (line_word kind.0 ++ 32 ∷ (c ++ 32 ∷ (d ++ t)))) (sym (word.2 last)) in
-    (text ∙ ap line_text kind.2, subst (λ (x : Line). IsKnown hard x.kind) kind.2 word.1)
+    (text ∙ ap line_text kind.2, subst (λ (x : ListingLine). IsKnown hard x.kind) kind.2 word.1)
 fields_read hard (a ∷ b ∷ c ∷ d ∷ f ∷ g ∷ more) l e = absurd (None≢Some l e)
 
-line_read : (hard : Bool) (text : List ℕ) (l : Line) → line_of hard text ≡ Some l → (text ≡ line_text l) × IsKnown hard l.kind
+line_read : (hard : Bool) (text : List ℕ) (l : ListingLine) → listing_line hard text ≡ Some l → (text ≡ line_text l) × IsKnown hard l.kind
 line_read hard text l e =
     let read = fields_read hard (fields text) l (go (list_all is_field (fields text)) e) in
     (sym (fields_joined text) ∙ read.0, read.1)
@@ -89,7 +89,7 @@ line_read hard text l e =
     go false e = absurd (None≢Some l e)
 
 -- the node of a line's row, as its last field tells it
-module _ (hard : Bool) (earlier : List Entry) (n number parent : ℕ) (name : List ℕ) (l : Line) where
+module _ (hard : Bool) (earlier : List Entry) (n number parent : ℕ) (name : List ℕ) (l : ListingLine) where
   abbrev entry : ℕ × Option Node → Entry
   entry p = record { number = number; parent = parent; name = name; node = p.0; made = p.1 }
 
@@ -98,8 +98,8 @@ module _ (hard : Bool) (earlier : List Entry) (n number parent : ℕ) (name : Li
 
   node_read : (kind : Option Kind) (p : ℕ × Option Node) → IsKnown hard kind → node_of earlier n number l kind ≡ Ok p → Told kind p
   node_read None p known e =
-      let read = step_read (ok_or (node_in earlier l) (BadNode n)) (λ x. Ok (x, None)) p e in
-      let node = only_if_read (is_earlier_other earlier) (number_within 1 999999 l.last) read.0 (ok_or_read (node_in earlier l) (BadNode n) read.0 read.1) in
+      let read = step_read (ok_or (hard_node_in earlier l) (BadNode n)) (λ x. Ok (x, None)) p e in
+      let node = only_if_read (is_earlier_other earlier) (number_within 1 999999 l.last) read.0 (ok_or_read (hard_node_in earlier l) (BadNode n) read.0 read.1) in
       let spelled = number_read 1 999999 l.last read.0 (omega arith) node.0 in
       subst (Told None) (same_Ok (read.0, None) p read.2) (refl, and_from hard _ (known refl) node.1, ap (λ s. 32 ∷ s) spelled.0)
   node_read (Some Dir) p known e = subst (Told (Some Dir)) (same_Ok _ p e) (refl, and_from _ _ (eq-eqb number number refl) refl, refl)
@@ -107,13 +107,13 @@ module _ (hard : Bool) (earlier : List Entry) (n number parent : ℕ) (name : Li
   node_read (Some Prog) p known e = subst (Told (Some Prog)) (same_Ok _ p e) (refl, and_from _ _ (eq-eqb number number refl) refl, refl)
   node_read (Some Link) p known e =
       let read = step_read (ok_or (target_in l) (BadTarget n)) (λ target. Ok (number, Some (record { kind = Link; target = Some target }))) p e in
-      let target = only_if_read is_target (unspelled l.last) read.0 (ok_or_read (target_in l) (BadTarget n) read.0 read.1) in
+      let target = only_if_read is_target (bytes_spelled l.last) read.0 (ok_or_read (target_in l) (BadTarget n) read.0 read.1) in
       subst (Told (Some Link)) (same_Ok _ p read.2)
       (refl, and_from _ _ (eq-eqb number number refl) (and_from _ _ target.1 (bytes_unspelled l.last read.0 target.0)), ap (λ s. 32 ∷ s) (spelling-unspelled l.last read.0 target.0))
 
 -- the parts of a line, put together
-parts_read : (hard : Bool) (earlier : List Entry) (n : ℕ) (text : List ℕ) (l : Line) (number parent : ℕ) (name : List ℕ) (p : ℕ × Option Node) (e : Entry) → n ≡ length earlier + 3
-    → line_of hard text ≡ Some l → number_in earlier l ≡ Some number → parent_in earlier l ≡ Some parent → name_of l.name ≡ Ok name → node_of earlier n number l l.kind ≡ Ok p
+parts_read : (hard : Bool) (earlier : List Entry) (n : ℕ) (text : List ℕ) (l : ListingLine) (number parent : ℕ) (name : List ℕ) (p : ℕ × Option Node) (e : Entry) → n ≡ length earlier + 3
+    → listing_line hard text ≡ Some l → number_in earlier l ≡ Some number → parent_in earlier l ≡ Some parent → name_of l.name ≡ Ok name → node_of earlier n number l l.kind ≡ Ok p
     → cond (is_taken earlier parent name) (Err (Taken n)) (cond (ltb 4097 n) (Err (TooMany n)) (Ok (record { number = number; parent = parent; name = name; node = p.0; made = p.1 }))) ≡ Ok e
     → (text ≡ entry_text e) × Fits hard earlier e
 parts_read hard earlier n text l number parent name p e place line_is number_is parent_is name_is node_is whole =
@@ -139,7 +139,7 @@ parts_read hard earlier n text l number parent name p e place line_is number_is 
 -- what a line says is spelled by that line alone, and fits the earlier lines
 pub entry_read : (hard : Bool) (earlier : List Entry) (n : ℕ) (text : List ℕ) (e : Entry) → n ≡ length earlier + 3 → entry_of hard earlier n text ≡ Ok e → (text ≡ entry_text e) × Fits hard earlier e
 entry_read hard earlier n text e place h =
-    let line = step_read (ok_or (line_of hard text) (BadLine n)) _ e h in
+    let line = step_read (ok_or (listing_line hard text) (BadLine n)) _ e h in
     let number = step_read (ok_or (number_in earlier line.0) (BadNumber n)) _ e line.2 in
     let parent = step_read (ok_or (parent_in earlier line.0) (BadParent n)) _ e number.2 in
     let name = step_read (ok_or (result_ok (name_of line.0.name)) (BadName n)) _ e parent.2 in
@@ -161,18 +161,18 @@ visible field h = (and_parts _ (list_all is_visible field) h).1
 four_fields : (a w c rest : List ℕ) → IsTrue (is_field a) → IsTrue (is_field w) → IsTrue (is_field c) → fields (a ++ 32 ∷ (w ++ 32 ∷ (c ++ 32 ∷ rest))) ≡ a ∷ w ∷ c ∷ fields rest
 four_fields a w c rest p q r = fields_cons a _ (visible a p) ∙ ap (λ l. a ∷ l) (fields_cons w _ (visible w q) ∙ ap (λ l. w ∷ l) (fields_cons c rest (visible c r)))
 
-from_fields : (hard : Bool) (text : List ℕ) (fs : List (List ℕ)) (l : Line) → fields text ≡ fs → IsTrue (list_all is_field fs) → line_of_fields hard fs ≡ Some l → line_of hard text ≡ Some l
+from_fields : (hard : Bool) (text : List ℕ) (fs : List (List ℕ)) (l : ListingLine) → fields text ≡ fs → IsTrue (list_all is_field fs) → line_of_fields hard fs ≡ Some l → listing_line hard text ≡ Some l
 from_fields hard text fs l e h g = ap (λ (xs : List (List ℕ)). cond (list_all is_field xs) (line_of_fields hard xs) None) e ∙ cond-true (list_all is_field fs) (line_of_fields hard fs) None h ∙ g
 
 plain_line : (hard : Bool) (a w c d : List ℕ) (kind : Kind) → IsTrue (is_field a) → IsTrue (is_field c) → IsTrue (is_field d) → IsTrue (is_field w) → plain_kind w ≡ Some kind
-    → line_of hard (a ++ 32 ∷ (w ++ 32 ∷ (c ++ 32 ∷ (d ++ [])))) ≡ Some (record { number = a; kind = Some kind; parent = c; name = d; last = [] })
+    → listing_line hard (a ++ 32 ∷ (w ++ 32 ∷ (c ++ 32 ∷ (d ++ [])))) ≡ Some (record { number = a; kind = Some kind; parent = c; name = d; last = [] })
 plain_line hard a w c d kind p q r s e = from_fields hard (a ++ 32 ∷ (w ++ 32 ∷ (c ++ 32 ∷ (d ++ [])))) (a ∷ w ∷ c ∷ d ∷ []) (record { number = a; kind = Some kind; parent = c; name = d; last = [] })
     (four_fields a w c (d ++ []) p s q ∙ ap (λ l. a ∷ w ∷ c ∷ l) (ap fields (append-nil d) ∙ fields_one d (visible d r)))
     (and_from (is_field a) _ p (and_from (is_field w) _ s (and_from (is_field c) _ q (and_from (is_field d) _ r refl))))
     (ap (λ (o : Option Kind). option_map (λ k. record { number = a; kind = Some k; parent = c; name = d; last = [] }) o) e)
 
 long_line : (hard : Bool) (a w c d f : List ℕ) (kind : Option Kind) → IsTrue (is_field a) → IsTrue (is_field c) → IsTrue (is_field d) → IsTrue (is_field f) → IsTrue (is_field w) → long_kind hard w ≡ Some kind
-    → line_of hard (a ++ 32 ∷ (w ++ 32 ∷ (c ++ 32 ∷ (d ++ 32 ∷ f)))) ≡ Some (record { number = a; kind = kind; parent = c; name = d; last = f })
+    → listing_line hard (a ++ 32 ∷ (w ++ 32 ∷ (c ++ 32 ∷ (d ++ 32 ∷ f)))) ≡ Some (record { number = a; kind = kind; parent = c; name = d; last = f })
 long_line hard a w c d f kind p q r s t e = from_fields hard (a ++ 32 ∷ (w ++ 32 ∷ (c ++ 32 ∷ (d ++ 32 ∷ f)))) (a ∷ w ∷ c ∷ d ∷ f ∷ []) (record { number = a; kind = kind; parent = c; name = d; last = f })
     (four_fields a w c (d ++ 32 ∷ f) p t q ∙ ap (λ l. a ∷ w ∷ c ∷ l) (fields_cons d f (visible d r) ∙ ap (λ l. d ∷ l) (fields_one f (visible f s))))
     (and_from (is_field a) _ p (and_from (is_field w) _ t (and_from (is_field c) _ q (and_from (is_field d) _ r (and_from (is_field f) _ s refl)))))
@@ -185,22 +185,22 @@ target_parts target h =
 
 -- an entry's line is that of its fields
 line_made : (hard : Bool) (a c d : List ℕ) (node : ℕ) (kind : Kind) (target : Option (List ℕ)) → IsTrue (is_field a) → IsTrue (is_field c) → IsTrue (is_field d) → IsTrue (target_stands kind target)
-    → line_of hard (a ++ 32 ∷ (kind_word kind ++ 32 ∷ (c ++ 32 ∷ (d ++ target_field target)))) ≡ Some (record { number = a; kind = Some kind; parent = c; name = d; last = spelled_last node (Some (record { kind = kind; target = target })) })
-line_made hard a c d node Dir None p q r h = plain_line hard a (kind_word Dir) c d Dir p q r refl refl
-line_made hard a c d node File None p q r h = plain_line hard a (kind_word File) c d File p q r refl refl
-line_made hard a c d node Prog None p q r h = plain_line hard a (kind_word Prog) c d Prog p q r refl refl
+    → listing_line hard (a ++ 32 ∷ (listing_kind_word kind ++ 32 ∷ (c ++ 32 ∷ (d ++ target_field target)))) ≡ Some (record { number = a; kind = Some kind; parent = c; name = d; last = spelled_last node (Some (record { kind = kind; target = target })) })
+line_made hard a c d node Dir None p q r h = plain_line hard a (listing_kind_word Dir) c d Dir p q r refl refl
+line_made hard a c d node File None p q r h = plain_line hard a (listing_kind_word File) c d File p q r refl refl
+line_made hard a c d node Prog None p q r h = plain_line hard a (listing_kind_word Prog) c d Prog p q r refl refl
 line_made hard a c d node Link None p q r h = absurd (true≢false (sym h))
 line_made hard a c d node Dir (Some t) p q r h = absurd (true≢false (sym h))
 line_made hard a c d node File (Some t) p q r h = absurd (true≢false (sym h))
 line_made hard a c d node Prog (Some t) p q r h = absurd (true≢false (sym h))
-line_made hard a c d node Link (Some t) p q r h = let parts = target_parts t h in long_line hard a (kind_word Link) c d (spelling t) (Some Link) p q r (is_field-spelling t parts.0 parts.2) refl refl
+line_made hard a c d node Link (Some t) p q r h = let parts = target_parts t h in long_line hard a (listing_kind_word Link) c d (spelling t) (Some Link) p q r (is_field-spelling t parts.0 parts.2) refl refl
 
 line_tied : (hard : Bool) (a c d : List ℕ) (node : ℕ) → IsTrue hard → IsTrue (is_field a) → IsTrue (is_field c) → IsTrue (is_field d) → IsTrue (is_field (decimal node))
-    → line_of hard (a ++ 32 ∷ (codes "hard" ++ 32 ∷ (c ++ 32 ∷ (d ++ 32 ∷ decimal node)))) ≡ Some (record { number = a; kind = None; parent = c; name = d; last = decimal node })
+    → listing_line hard (a ++ 32 ∷ (codes "hard" ++ 32 ∷ (c ++ 32 ∷ (d ++ 32 ∷ decimal node)))) ≡ Some (record { number = a; kind = None; parent = c; name = d; last = decimal node })
 line_tied hard a c d node known p q r s = long_line hard a (codes "hard") c d (decimal node) None p q r s refl (ap (λ b. long_kind b (codes "hard")) known)
 
 -- what it makes is read from its last field
-node_made : (earlier : List Entry) (n number node : ℕ) (l : Line) (kind : Kind) (target : Option (List ℕ)) → l.last ≡ spelled_last node (Some (record { kind = kind; target = target })) → node ≡ number → IsTrue (target_stands kind target)
+node_made : (earlier : List Entry) (n number node : ℕ) (l : ListingLine) (kind : Kind) (target : Option (List ℕ)) → l.last ≡ spelled_last node (Some (record { kind = kind; target = target })) → node ≡ number → IsTrue (target_stands kind target)
     → node_of earlier n number l (Some kind) ≡ Ok (node, Some (record { kind = kind; target = target }))
 node_made earlier n number node l Dir None e own h = ap (λ x. Ok (x, Some (record { kind = Dir; target = None }))) (sym own)
 node_made earlier n number node l File None e own h = ap (λ x. Ok (x, Some (record { kind = File; target = None }))) (sym own)
@@ -212,11 +212,11 @@ node_made earlier n number node l Prog (Some t) e own h = absurd (true≢false (
 node_made earlier n number node l Link (Some t) e own h =
     let parts = target_parts t h in
     step_from (ok_or (target_in l) (BadTarget n)) (λ target. Ok (number, Some (record { kind = Link; target = Some target }))) t (node, Some (record { kind = Link; target = Some t }))
-    (ap (λ o. ok_or (only_if is_target o) (BadTarget n)) (ap unspelled e ∙ unspelled-spelling t parts.2) ∙ ap (λ o. ok_or o (BadTarget n)) (cond-true (is_target t) (Some t) None parts.1))
+    (ap (λ o. ok_or (only_if is_target o) (BadTarget n)) (ap bytes_spelled e ∙ unspelled-spelling t parts.2) ∙ ap (λ o. ok_or o (BadTarget n)) (cond-true (is_target t) (Some t) None parts.1))
     (ap (λ x. Ok (x, Some (record { kind = Link; target = Some t }))) (sym own))
 
-node_tied : (earlier : List Entry) (n number node : ℕ) (l : Line) → l.last ≡ decimal node → IsTrue (is_earlier_other earlier node) → 1 ≤ node → node ≤ 999999 → node_of earlier n number l None ≡ Ok (node, None)
-node_tied earlier n number node l e h low high = step_from (ok_or (node_in earlier l) (BadNode n)) (λ x. Ok (x, None)) node (node, None)
+node_tied : (earlier : List Entry) (n number node : ℕ) (l : ListingLine) → l.last ≡ decimal node → IsTrue (is_earlier_other earlier node) → 1 ≤ node → node ≤ 999999 → node_of earlier n number l None ≡ Ok (node, None)
+node_tied earlier n number node l e h low high = step_from (ok_or (hard_node_in earlier l) (BadNode n)) (λ x. Ok (x, None)) node (node, None)
     (ap (λ o. ok_or (only_if (is_earlier_other earlier) o) (BadNode n)) (ap (number_within 1 999999) e ∙ decimal_within 1 999999 node low high (omega (arith, high)))
     ∙ ap (λ o. ok_or o (BadNode n)) (cond-true (is_earlier_other earlier node) (Some node) None h))
     refl
@@ -226,33 +226,33 @@ name_some [] h = absurd (true≢false (sym h))
 name_some (b ∷ n) h = omega arith
 
 -- the line and the node of an entry that fits
-abbrev line_by : Entry → Option Node → Line
+abbrev line_by : Entry → Option Node → ListingLine
 line_by e m = record { number = decimal e.number; kind = option_map (λ made. made.kind) m; parent = decimal e.parent; name = spelling e.name; last = spelled_last e.node m }
 
-abbrev line_for : Entry → Line
+abbrev line_for : Entry → ListingLine
 line_for e = line_by e e.made
 
 abbrev Written : Bool → List Entry → ℕ → Entry → Option Node → Type 0
 Written hard earlier n e m =
-    (line_of hard (decimal e.number ++ 32 ∷ line_word (option_map (λ made. made.kind) m) ++ 32 ∷ decimal e.parent ++ 32 ∷ spelling e.name ++ last_field e.node m) ≡ Some (line_by e m))
+    (listing_line hard (decimal e.number ++ 32 ∷ line_word (option_map (λ made. made.kind) m) ++ 32 ∷ decimal e.parent ++ 32 ∷ spelling e.name ++ last_field e.node m) ≡ Some (line_by e m))
     × (node_of earlier n e.number (line_by e m) (option_map (λ made. made.kind) m) ≡ Ok (e.node, m))
 
 last_written : (hard : Bool) (earlier : List Entry) (n : ℕ) (e : Entry) → IsTrue (entries_fit hard [] earlier) → Fits hard earlier e
     → IsTrue (is_field (decimal e.number)) → IsTrue (is_field (decimal e.parent)) → IsTrue (is_field (spelling e.name))
-    → (line_of hard (entry_text e) ≡ Some (line_for e)) × (node_of earlier n e.number (line_for e) (line_for e).kind ≡ Ok (e.node, e.made))
+    → (listing_line hard (entry_text e) ≡ Some (line_for e)) × (node_of earlier n e.number (line_for e) (line_for e).kind ≡ Ok (e.node, e.made))
 last_written hard earlier n e h f p q r = by e.made refl
   where
     by : (m : Option Node) → e.made ≡ m → Written hard earlier n e m
     by None is =
         let fits = and_parts hard _ (subst (λ m. IsTrue (made_fits hard earlier e m)) is f.made) in
         let between = earlier_below hard earlier e (entries_rise hard [] earlier h) f fits.1 in (
-          ap (line_of hard) (regrouped (decimal e.number) (codes "hard") (decimal e.parent) (spelling e.name) (32 ∷ decimal e.node))
+          ap (listing_line hard) (regrouped (decimal e.number) (codes "hard") (decimal e.parent) (spelling e.name) (32 ∷ decimal e.node))
               ∙ line_tied hard (decimal e.number) (decimal e.parent) (spelling e.name) e.node fits.0 p q r (is_field-decimal e.node (omega (arith, between.1, f.small))),
           node_tied earlier n e.number e.node (line_by e None) refl fits.1 (omega (arith, between.0)) (omega (arith, between.1, f.small)),
         )
     by (Some made) is =
         let fits = and_parts _ (target_stands made.kind made.target) (subst (λ m. IsTrue (made_fits hard earlier e m)) is f.made) in (
-          ap (line_of hard) (regrouped (decimal e.number) (kind_word made.kind) (decimal e.parent) (spelling e.name) (target_field made.target))
+          ap (listing_line hard) (regrouped (decimal e.number) (listing_kind_word made.kind) (decimal e.parent) (spelling e.name) (target_field made.target))
               ∙ line_made hard (decimal e.number) (decimal e.parent) (spelling e.name) e.node made.kind made.target p q r fits.1,
           node_made earlier n e.number e.node (line_by e (Some made)) made.kind made.target refl (eqb-true e.node e.number fits.0) fits.1,
         )
@@ -260,7 +260,7 @@ last_written hard earlier n e h f p q r = by e.made refl
 -- an entry that fits is read from its line
 pub entry_written : (hard : Bool) (earlier : List Entry) (n : ℕ) (e : Entry) → n ≡ length earlier + 3 → IsTrue (entries_fit hard [] earlier) → Fits hard earlier e → entry_of hard earlier n (entry_text e) ≡ Ok e
 entry_written hard earlier n e place h f =
-    let l : Line = line_for e in
+    let l : ListingLine = line_for e in
     let below : e.parent < e.number = parent_below hard earlier e (entries_rise hard [] earlier h) f in
     let name_field : IsTrue (is_field (spelling e.name)) = is_field-spelling e.name (name_some e.name f.named) (name_is_bytes e.name f.named) in
     let number_field : IsTrue (is_field (decimal e.number)) = is_field-decimal e.number (omega (arith, f.small)) in
@@ -272,7 +272,7 @@ entry_written hard earlier n e place h f =
     let parent_is : parent_in earlier l ≡ Some e.parent =
     ap (only_if (is_earlier_dir earlier)) (decimal_within 0 999999 e.parent (omega arith) (omega (arith, f.small, below)) (omega (arith, f.small, below)))
     ∙ cond-true (is_earlier_dir earlier e.parent) (Some e.parent) None f.in_dir in
-    step_from (ok_or (line_of hard (entry_text e)) (BadLine n)) _ l e (ap (λ o. ok_or o (BadLine n)) written.0)
+    step_from (ok_or (listing_line hard (entry_text e)) (BadLine n)) _ l e (ap (λ o. ok_or o (BadLine n)) written.0)
     (step_from (ok_or (number_in earlier l) (BadNumber n)) _ e.number e (ap (λ o. ok_or o (BadNumber n)) number_is)
     (step_from (ok_or (parent_in earlier l) (BadParent n)) _ e.parent e (ap (λ o. ok_or o (BadParent n)) parent_is)
     (step_from (ok_or (result_ok (name_of (spelling e.name))) (BadName n)) _ e.name e (ap (λ r. ok_or (result_ok r) (BadName n)) (name_of-spelling e.name f.named))
@@ -369,4 +369,4 @@ listings_list_trees bytes t l = subst WellFormed (sym l.4) (well_formed l.0 l.1 
 
 -- what was read is a tree
 pub spellings_are_read : SpellingsAreRead
-spellings_are_read text bytes = (λ h. (bytes_unspelled text bytes h, spelling-unspelled text bytes h), λ s. ap unspelled s.1 ∙ unspelled-spelling bytes s.0)
+spellings_are_read text bytes = (λ h. (bytes_unspelled text bytes h, spelling-unspelled text bytes h), λ s. ap bytes_spelled s.1 ∙ unspelled-spelling bytes s.0)

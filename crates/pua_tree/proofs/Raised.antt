@@ -2,7 +2,7 @@
 use Rattle.std.proofs.Common.{◌≤◌, ◌+◌, ℕ, zero, suc, Option, Some, None, refl, arith}
 use Rattle.pua_tree.specs.Tree.{Node, Tree, WellFormed, above}
 use Rattle.pua_tree.specs.Listing.{Entry}
-use Rattle.pua_tree.specs.Reading.{Follows, Enters, grown, grown_by}
+use Rattle.pua_tree.specs.Reading.{Follows, Enters, tree_with, grown_by}
 use Rattle.pua_tree.proofs.EditsKeep.{edits_keep_trees}
 use Rattle.pua_tree.proofs.Sound.{Sound, Reaches, sound_from, well_formed_from}
 
@@ -27,7 +27,7 @@ raised_keeps t next w le =
     })
 
 -- so is a tree with an entry more that may follow
-pub grown_keeps : (t : Tree) (e : Entry) → WellFormed t → Follows t e → WellFormed (grown t e)
+pub grown_keeps : (t : Tree) (e : Entry) → WellFormed t → Follows t e → WellFormed (tree_with t e)
 grown_keeps t e w f = by e.made f.enters
   where
     by : (m : Option Node) → Enters t e m → WellFormed (grown_by t e m)

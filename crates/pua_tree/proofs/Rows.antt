@@ -15,7 +15,7 @@ use Rattle.pua_tree.specs.Tree.{Spot, Tree, with_name, distinct_names, spot_cmp,
 use Rattle.pua_tree.specs.Names.{is_name}
 use Rattle.pua_tree.specs.ListTree.{row_entry}
 use Rattle.pua_tree.specs.LentRows.{lent_entry}
-use Rattle.pua_tree.specs.declared.list.Row.{Row}
+use Rattle.pua_tree.specs.declared.list.ListRow.{ListRow}
 use Rattle.pua_tree.specs.declared.tree.LentRow.{LentRow}
 use Rattle.pua_tree.proofs.Base.{find-map}
 use Rattle.pua_tree.proofs.Content.{spots_total}
@@ -34,7 +34,7 @@ not_lower a b e =
 index_rises : (a b d : ℕ) → a ≤ b → ordering_index (nat_cmp a d) ≤ ordering_index (nat_cmp b d)
 index_rises a b d le = grind (arith, nat_tests)
 
-dirs_searchable : (rows : List Row) (d : ℕ) → IsTrue (is_sorted spot_cmp (map row_entry rows)) → IsNonDecreasingBy (λ row. ordering_index (nat_cmp row.dir d)) rows
+dirs_searchable : (rows : List ListRow) (d : ℕ) → IsTrue (is_sorted spot_cmp (map row_entry rows)) → IsNonDecreasingBy (λ row. ordering_index (nat_cmp row.dir d)) rows
 dirs_searchable rows d h i j row le lt =
     elim (cases_lt i j) [
       | inl less ↦ index_rises _ _ d (not_lower (row_entry (get_or rows i row)).0 (row_entry (get_or rows j row)).0 (rises spots_total row_entry rows i j row (passes _ h) less lt))
@@ -44,7 +44,7 @@ dirs_searchable rows d h i j row le lt =
 differs : (a b : ℕ) → a ≢ b → (a == b) ≡ false
 differs a b ne = grind (arith, nat_tests)
 
-any_at : (rows : List Row) (d i : ℕ) (row : Row) → i < length rows → nat_cmp (get_or rows i row).dir d ≡ Equal → list_any (λ r. r.0.0 == d) (map row_entry rows) ≡ true
+any_at : (rows : List ListRow) (d i : ℕ) (row : ListRow) → i < length rows → nat_cmp (get_or rows i row).dir d ≡ Equal → list_any (λ r. r.0.0 == d) (map row_entry rows) ≡ true
 any_at [] d i row lt e = absurd (omega arith)
 any_at (x ∷ xs) d zero row lt e =
     let same : x.dir ≡ d = nat_cmp-IsAntisymmetric _ _ e in
@@ -52,14 +52,14 @@ any_at (x ∷ xs) d zero row lt e =
     rw here refl
 any_at (x ∷ xs) d (suc i) row lt e = rw (any_at xs d i row (omega arith) e) (elim (x.dir == d) as (λ b. (b || true) ≡ true) [ true ↦ refl | false ↦ refl ])
 
-none_at : (rows : List Row) (d : ℕ) → ((i : ℕ) (row : Row) → i < length rows → (get_or rows i row).dir ≢ d) → list_any (λ r. r.0.0 == d) (map row_entry rows) ≡ false
+none_at : (rows : List ListRow) (d : ℕ) → ((i : ℕ) (row : ListRow) → i < length rows → (get_or rows i row).dir ≢ d) → list_any (λ r. r.0.0 == d) (map row_entry rows) ≡ false
 none_at [] d h = refl
 none_at (x ∷ xs) d h =
     let here : (x.dir == d) ≡ false = differs x.dir d (h 0 x (omega arith)) in
     rw here (none_at xs d (λ i row lt. h (suc i) row (omega arith)))
 
 -- a search by directory finds whether one of them is this
-pub any_row : (rows : List Row) (d : ℕ) (r : Result ℕ ℕ) → IsTrue (is_sorted spot_cmp (map row_entry rows)) → IsSearchInRange r (length rows) → IsBinarySearchResult (λ row. nat_cmp row.dir d) rows r
+pub any_row : (rows : List ListRow) (d : ℕ) (r : Result ℕ ℕ) → IsTrue (is_sorted spot_cmp (map row_entry rows)) → IsSearchInRange r (length rows) → IsBinarySearchResult (λ row. nat_cmp row.dir d) rows r
     → is_ok r ≡ list_any (λ row. row.0.0 == d) (map row_entry rows)
 any_row [] d (Ok i) h bound p = absurd (omega (arith, bound))
 any_row (x ∷ xs) d (Ok i) h bound p = sym (any_at (x ∷ xs) d i x bound (p x))
@@ -70,7 +70,7 @@ any_row rows d (Err i) h bound p =
       | inr more ↦ let other : nat_cmp (get_or rows k row).dir d ≡ Greater = parts.1 k row more lt in grind (arith, nat_tests)
     ]))
 
-found_row : (rows : List Row) (x : ℕ) → option_map (λ spot. spot.0) (option_map (λ row. row.0) (find (λ row. row.1 == x) (map row_entry rows))) ≡ option_map (λ row. row.dir) (find (λ row. row.node == x) rows)
+found_row : (rows : List ListRow) (x : ℕ) → option_map (λ spot. spot.0) (option_map (λ row. row.0) (find (λ row. row.1 == x) (map row_entry rows))) ≡ option_map (λ row. row.dir) (find (λ row. row.node == x) rows)
 found_row [] x = refl
 found_row (r ∷ rows) x = elim (r.node == x) as (λ b. option_map (λ spot. spot.0) (option_map (λ row. row.0) (cond b (Some (row_entry r)) (find (λ row. row.1 == x) (map row_entry rows)))) ≡ option_map (λ row. row.dir) (cond b (Some r) (find (λ row. row.node == x) rows))) [
   | true ↦ refl
@@ -84,7 +84,7 @@ denied : (b : Bool) → T (not b) → b ≡ false
 denied true h = absurd h
 denied false h = refl
 
-root_missing : (t : Tree) (rows : List Row) → T (list_all (row_fits t) (map row_entry rows)) → find (λ row. row.node == 0) rows ≡ None
+root_missing : (t : Tree) (rows : List ListRow) → T (list_all (row_fits t) (map row_entry rows)) → find (λ row. row.node == 0) rows ≡ None
 root_missing t [] h = refl
 root_missing t (r ∷ rows) h =
     let fits : T (row_fits t (row_entry r)) = left (row_fits t (row_entry r)) (list_all (row_fits t) (map row_entry rows)) h in
@@ -92,7 +92,7 @@ root_missing t (r ∷ rows) h =
     rw here (root_missing t rows (right (row_fits t (row_entry r)) (list_all (row_fits t) (map row_entry rows)) h))
 
 -- the directory above is that of the first row of the number
-pub above_row : (t : Tree) (rows : List Row) (d : ℕ) → t.rows ≡ map row_entry rows → IsTrue (list_all (row_fits t) t.rows) → unwrap_or (option_map (λ row. row.dir) (find (λ row. row.node == d) rows)) 0 ≡ above t d
+pub above_row : (t : Tree) (rows : List ListRow) (d : ℕ) → t.rows ≡ map row_entry rows → IsTrue (list_all (row_fits t) t.rows) → unwrap_or (option_map (λ row. row.dir) (find (λ row. row.node == d) rows)) 0 ≡ above t d
 above_row t rows zero e h = ap (λ o. unwrap_or (option_map (λ row. row.dir) o) 0) (root_missing t rows (passes _ (rw e at h)))
 above_row t rows (suc d) e h = rw e (ap (λ o. unwrap_or o 0) (sym (found_row rows (suc d))))
 
@@ -106,14 +106,14 @@ with_name_is n (m ∷ ms) =
     ]
 
 -- the names of rows from the last one on, with the name of one row more
-pub one_name_more : (rows : List (Bor Row)) (row : Bor Row) (names more : List (List ℕ)) → names ≡ distinct_names (map (λ r. r.name) (reverse (map (λ r. r.now) rows))) → more ≡ insert_key name_cmp names row.now.name
+pub one_name_more : (rows : List (Bor ListRow)) (row : Bor ListRow) (names more : List (List ℕ)) → names ≡ distinct_names (map (λ r. r.name) (reverse (map (λ r. r.now) rows))) → more ≡ insert_key name_cmp names row.now.name
     → more ≡ distinct_names (map (λ r. r.name) (reverse (map (λ r. r.now) (rows ++ row ∷ []))))
 one_name_more rows row names more so_far new =
     new ∙ with_name_is row.now.name names ∙ ap (with_name row.now.name) so_far
-    ∙ sym (ap (λ (rs : List Row). distinct_names (map (λ r. r.name) (reverse rs))) (map-append (λ r. r.now) rows (row ∷ [])) ∙ ap (λ (rs : List Row). distinct_names (map (λ r. r.name) rs)) (reverse-append (map (λ r. r.now) rows) (row.now ∷ [])))
+    ∙ sym (ap (λ (rs : List ListRow). distinct_names (map (λ r. r.name) (reverse rs))) (map-append (λ r. r.now) rows (row ∷ [])) ∙ ap (λ (rs : List ListRow). distinct_names (map (λ r. r.name) rs)) (reverse-append (map (λ r. r.now) rows) (row.now ∷ [])))
 
 -- the names of rows by their entries
-pub entry_names : (rows : List Row) → map (λ entry. entry.0.1) (map row_entry rows) ≡ map (λ row. row.name) rows
+pub entry_names : (rows : List ListRow) → map (λ entry. entry.0.1) (map row_entry rows) ≡ map (λ row. row.name) rows
 entry_names [] = refl
 entry_names (r ∷ rows) = ap (λ names. r.name ∷ names) (entry_names rows)
 

@@ -12,13 +12,13 @@ use Rattle.pua_tree.specs.Tree.{Tree, WellFormed, spot_cmp, is_dir, is_dir_kind,
 use Rattle.pua_tree.specs.Edits.{add, tie}
 use Rattle.pua_tree.specs.Listing.{Entry}
 use Rattle.pua_tree.specs.Reading.{Enters, grown_by, said_node}
-use Rattle.pua_tree.specs.declared.gathered.Made.{Made}
+use Rattle.pua_tree.specs.declared.gathered.MadeNode.{MadeNode}
 use Rattle.pua_tree.proofs.Raised.{raised_keeps}
 use Rattle.pua_tree.specs.declared.fault.TreeFault.TheVariants.{NotDir, Taken, Missing, IsDir}
-use Rattle.pua_tree.specs.Slots.{row_at, slot_of, node_in, made_of, held_rows, held_nodes, held_in_slots, rows_in, names_of, one_at, IsKept, IsNew, MayStand, with_made}
+use Rattle.pua_tree.specs.Slots.{row_at, slot_of, node_in, made_of, held_rows, held_nodes, held_in_slots, rows_in, names_of, one_at, AreConsistent, IsNew, MayStand, with_made}
 use Rattle.pua_tree.specs.declared.node.Kind.TheVariants.{Dir}
 use Rattle.pua_tree.specs.declared.slots.Slots.{Slots}
-use Rattle.pua_tree.specs.declared.slots.Node.{Node}
+use Rattle.pua_tree.specs.declared.slots.SlotNode.{SlotNode}
 use Rattle.pua_tree.proofs.Base.{mapped, none, past}
 use Rattle.pua_tree.proofs.Content.{spots_total, exact_spots}
 use Rattle.pua_tree.proofs.Tallies.{tally_counts, all_from_found, same_or_other, put_here, put_elsewhere, without_here, without_elsewhere, without_at}
@@ -35,15 +35,15 @@ found_row s next t dir name o e l = sym (rows_found s (dir, name)) ∙ ap (λ (u
 pub living_in : (s : Slots) (x : ℕ) → is_some (find nat_cmp x (held_nodes s)) ≡ true → IsSome (node_in s x)
 living_in s x h = fused (node_in s x) ∙ ap is_some (sym (nodes_found s x)) ∙ h
   where
-    fused : (o : Option Node) → is_some o ≡ is_some (option_map made_of o)
+    fused : (o : Option SlotNode) → is_some o ≡ is_some (option_map made_of o)
     fused None = refl
     fused (Some n) = refl
 
 pub row_living : (s : Slots) (next dir x : ℕ) (name : List ℕ) → WellFormed (held_in_slots s next) → row_at s (dir, name) ≡ Some x → is_some (find nat_cmp x (held_nodes s)) ≡ true
 row_living s next dir x name w e = (row_says (held_in_slots s next) (sound_from (held_in_slots s next) w) (dir, name) x (rows_found s (dir, name) ∙ e)).2
 
-pub dir_found : (s : Slots) (next x : ℕ) (n : Node) → node_in s x ≡ Some n → n.kind ≡ Dir → is_dir (held_in_slots s next) x ≡ true
-dir_found s next x n e k = ap (λ (o : Option tree.Node). is_dir_kind (option_map (λ m. m.kind) o)) (nodes_found s x ∙ ap (λ (o : Option Node). option_map made_of o) e) ∙ ap (λ j. is_dir_kind (Some j)) k
+pub dir_found : (s : Slots) (next x : ℕ) (n : SlotNode) → node_in s x ≡ Some n → n.kind ≡ Dir → is_dir (held_in_slots s next) x ≡ true
+dir_found s next x n e k = ap (λ (o : Option tree.Node). is_dir_kind (option_map (λ m. m.kind) o)) (nodes_found s x ∙ ap (λ (o : Option SlotNode). option_map made_of o) e) ∙ ap (λ j. is_dir_kind (Some j)) k
 
 -- what is no directory may have further names
 pub no_dir_may : (s : Slots) (next x : ℕ) → WellFormed (held_in_slots s next) → is_dir (held_in_slots s next) x ≡ false → MayStand s x
@@ -53,7 +53,7 @@ no_dir_may s next x w other = record {
 }
 
 -- the next number is new in every way
-module _ (s : Slots) (next : ℕ) (w : WellFormed (held_in_slots s next)) (kept : IsKept s) where
+module _ (s : Slots) (next : ℕ) (w : WellFormed (held_in_slots s next)) (kept : AreConsistent s) where
   new_number : is_living (held_in_slots s next) next ≡ false
   new_number = next_is_new (held_in_slots s next) (sound_from (held_in_slots s next) w)
 
@@ -64,7 +64,7 @@ module _ (s : Slots) (next : ℕ) (w : WellFormed (held_in_slots s next)) (kept 
         | Some slot ↦ λ e. absurd (false≢true (sym new_number ∙ ap is_some (nodes_found s next) ∙ mapped (node_in s next) (ap (λ (o : Option ℕ). is_some (option_and_then (slot_get s.nodes) o)) e ∙ kept.filed.filled next slot e)))
       ] refl
     where
-      mapped : (o : Option Node) → is_some o ≡ true → is_some (option_map made_of o) ≡ true
+      mapped : (o : Option SlotNode) → is_some o ≡ true → is_some (option_map made_of o) ≡ true
       mapped None h = h
       mapped (Some n) h = refl
 
@@ -112,14 +112,14 @@ module _ (old new : Slots) (at : tree.Spot) (rows : held_rows new ≡ where_key 
       ∙ counted-without spot_cmp spots_total exact_spots (λ row. row.1 == y) at x (held_rows old) (rows_sorted old) (rows_found old at ∙ there)
 
 -- nodes that are held alike are of one kind
-pub kind_was : (old new : Slots) (x : ℕ) (n : Node) → held_nodes new ≡ held_nodes old → node_in new x ≡ Some n → n.kind ≡ Dir → (m : Node) × (node_in old x ≡ Some m) × (m.kind ≡ Dir)
+pub kind_was : (old new : Slots) (x : ℕ) (n : SlotNode) → held_nodes new ≡ held_nodes old → node_in new x ≡ Some n → n.kind ≡ Dir → (m : SlotNode) × (node_in old x ≡ Some m) × (m.kind ≡ Dir)
 kind_was old new x n nodes e k =
-    let m = mapped made_of (node_in old x) (made_of n) (sym (nodes_found old x) ∙ ap (find nat_cmp x) (sym nodes) ∙ nodes_found new x ∙ ap (λ (o : Option Node). option_map made_of o) e) in
+    let m = mapped made_of (node_in old x) (made_of n) (sym (nodes_found old x) ∙ ap (find nat_cmp x) (sym nodes) ∙ nodes_found new x ∙ ap (λ (o : Option SlotNode). option_map made_of o) e) in
     (m.0, m.1, ap (λ (made : tree.Node). made.kind) m.2 ∙ k)
 
 -- a directory that stood in one row stands in none after that row goes
 pub stands_no_more : (old new : Slots) (at : tree.Spot) (x : ℕ) → held_rows new ≡ where_key spot_cmp (λ spot. not (is_eq (spot_cmp at spot))) (held_rows old) → held_nodes new ≡ held_nodes old → row_at old at ≡ Some x → x ≢ 0
-    → ((n : Node) → node_in old x ≡ Some n → n.kind ≡ Dir → names_of (held_rows old) x ≡ 1) → MayStand new x
+    → ((n : SlotNode) → node_in old x ≡ Some n → n.kind ≡ Dir → names_of (held_rows old) x ≡ 1) → MayStand new x
 stands_no_more old new at x rows nodes there not_root once = record {
   not_root = not_root;
   dir_once = λ n e k. (let was = kind_was old new x n nodes e k in
@@ -129,12 +129,12 @@ stands_no_more old new at x rows nodes there not_root once = record {
 }
 
 -- a directory of a tree has one name
-pub named_once : (s : Slots) (next x : ℕ) → WellFormed (held_in_slots s next) → x ≢ 0 → (n : Node) → node_in s x ≡ Some n → n.kind ≡ Dir → names_of (held_rows s) x ≡ 1
+pub named_once : (s : Slots) (next x : ℕ) → WellFormed (held_in_slots s next) → x ≢ 0 → (n : SlotNode) → node_in s x ≡ Some n → n.kind ≡ Dir → names_of (held_rows s) x ≡ 1
 named_once s next x w nz n e k = sym (tally_counts {K = tree.Spot} (λ y. y == x) (held_rows s)) ∙ (sound_from (held_in_slots s next) w).once x (dir_found s next x n e k) nz
 
 -- and keeps it where another node's row goes
 pub named_once_still : (old new : Slots) (next : ℕ) (at : tree.Spot) (y x : ℕ) → WellFormed (held_in_slots old next) → held_rows new ≡ where_key spot_cmp (λ spot. not (is_eq (spot_cmp at spot))) (held_rows old)
-    → held_nodes new ≡ held_nodes old → row_at old at ≡ Some y → y ≢ x → x ≢ 0 → (n : Node) → node_in new x ≡ Some n → n.kind ≡ Dir → names_of (held_rows new) x ≡ 1
+    → held_nodes new ≡ held_nodes old → row_at old at ≡ Some y → y ≢ x → x ≢ 0 → (n : SlotNode) → node_in new x ≡ Some n → n.kind ≡ Dir → names_of (held_rows new) x ≡ 1
 named_once_still old new next at y x w rows nodes there other nz n e k =
     let was = kind_was old new x n nodes e k in
     let once = named_once old next x w nz was.0 was.1 was.2 in
@@ -187,7 +187,7 @@ tie_free t dir x name after e =
     (none (look t dir name) free.0, other.0)
 
 -- what the slots have of an entry that may follow
-module _ (s : Slots) (next : ℕ) (w : WellFormed (held_in_slots s next)) (kept : IsKept s) (e : Entry) (later : next ≤ e.number) where
+module _ (s : Slots) (next : ℕ) (w : WellFormed (held_in_slots s next)) (kept : AreConsistent s) (e : Entry) (later : next ≤ e.number) where
   raised : WellFormed (held_in_slots s e.number)
   raised = raised_keeps (held_in_slots s next) e.number w later
 
@@ -202,7 +202,7 @@ module _ (s : Slots) (next : ℕ) (w : WellFormed (held_in_slots s next)) (kept 
     no_names = ap (names_of (held_rows s)) same ∙ next_no_names s e.number raised kept;
   }
 
-  pub new_where_made : (made : Option Made) → Enters (held_in_slots s next) e (option_map said_node made) → IfSome made (λ _. IsNew s e.node)
+  pub new_where_made : (made : Option MadeNode) → Enters (held_in_slots s next) e (option_map said_node made) → IfSome made (λ _. IsNew s e.node)
   new_where_made None tied = tt
   new_where_made (Some made) added = new_node added.0
 

@@ -16,7 +16,7 @@ use Rattle.pua_tree.specs.Tree.{spot_cmp}
 use Rattle.pua_tree.specs.Slots.{made_of, in_order, with_entry, held_rows, held_nodes, IsFiled}
 use Rattle.pua_tree.specs.declared.spot.Spot.{Spot}
 use Rattle.pua_tree.specs.declared.slots.Slots.{Slots}
-use Rattle.pua_tree.specs.declared.slots.Node.{Node}
+use Rattle.pua_tree.specs.declared.slots.SlotNode.{SlotNode}
 use Rattle.pua_tree.specs.contracts.spot.SpotPartialEq.TheImpl.{ghosts as spot_ghosts}
 use Rattle.pua_tree.specs.contracts.node.NodeIdPartialEq.TheImpl.{ghosts as number_ghosts}
 use Rattle.pua_tree.proofs.Base.{Some≢None}
@@ -49,7 +49,7 @@ some_value : {X : Type 0} (o : Option X) → IsSome o → (x : X) × (o ≡ Some
 some_value None h = absurd (true≢false (sym h))
 some_value (Some x) h = (x, refl)
 
-nodes_as_many : (slots : Slab Node) (es : List (ℕ × ℕ)) → IsDistinct number_ghosts.eq (keys_of es) → ((x slot : ℕ) → lookup (number_ghosts.eq x) es ≡ Some slot → IsSome (slot_get slots slot))
+nodes_as_many : (slots : Slab SlotNode) (es : List (ℕ × ℕ)) → IsDistinct number_ghosts.eq (keys_of es) → ((x slot : ℕ) → lookup (number_ghosts.eq x) es ≡ Some slot → IsSome (slot_get slots slot))
     → length (in_order nat_cmp (map {B = ℕ × Option tree.Node} (λ e. (e.0, option_map made_of (slot_get slots e.1))) es)) ≡ length es
 nodes_as_many slots [] d filled = refl
 nodes_as_many slots (e ∷ es) d filled =

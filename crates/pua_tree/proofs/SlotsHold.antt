@@ -16,7 +16,7 @@ use Rattle.pua_tree.specs.Tree.{spot_cmp}
 use Rattle.pua_tree.specs.Slots.{row_at, node_in, made_of, in_order, with_entry, held_rows, held_nodes}
 use Rattle.pua_tree.specs.declared.spot.Spot.{Spot}
 use Rattle.pua_tree.specs.declared.slots.Slots.{Slots}
-use Rattle.pua_tree.specs.declared.slots.Node.{Node}
+use Rattle.pua_tree.specs.declared.slots.SlotNode.{SlotNode}
 use Rattle.pua_tree.specs.contracts.spot.SpotPartialEq.TheImpl.{ghosts as spot_ghosts}
 use Rattle.pua_tree.specs.contracts.node.NodeIdPartialEq.TheImpl.{ghosts as number_ghosts}
 use Rattle.pua_tree.proofs.Content.{spots_total, exact_spots}
@@ -95,7 +95,7 @@ turned_number x y = same_from_decides {P = x ≡ y} _ _
     (λ e. nat_cmp-IsAntisymmetric x y ((Equal-is _).0 e), λ s. subst (λ c. is_eq (nat_cmp x c) ≡ true) s (ap is_eq (tied_itself nat_cmp_total x)))
     (λ e. sym (eqb-true y x e), λ e. eq-eqb y x (sym e))
 
-pub nodes_found_in : (slots : Slab Node) (es : List (ℕ × ℕ)) (x : ℕ)
+pub nodes_found_in : (slots : Slab SlotNode) (es : List (ℕ × ℕ)) (x : ℕ)
     → find nat_cmp x (in_order nat_cmp (map {B = ℕ × Option tree.Node} (λ e. (e.0, option_map made_of (slot_get slots e.1))) es)) ≡ option_map made_of (option_and_then (slot_get slots) (lookup (number_ghosts.eq x) es))
 nodes_found_in slots [] x = refl
 nodes_found_in slots (e ∷ es) x =
@@ -112,12 +112,12 @@ nodes_found_in slots (e ∷ es) x =
   where
     emptied : (b : Bool) → slot_get slots e.1 ≡ None
         → cond (not b) (option_map made_of (option_and_then (slot_get slots) (lookup (number_ghosts.eq x) es))) None ≡ option_map made_of (option_and_then (slot_get slots) (cond b (Some e.1) (lookup (number_ghosts.eq x) es)))
-    emptied true g = ap (λ (v : Option Node). option_map made_of v) (sym g)
+    emptied true g = ap (λ (v : Option SlotNode). option_map made_of v) (sym g)
     emptied false g = refl
 
-    filled : (n : Node) (b : Bool) → slot_get slots e.1 ≡ Some n
+    filled : (n : SlotNode) (b : Bool) → slot_get slots e.1 ≡ Some n
         → cond b (Some (made_of n)) (option_map made_of (option_and_then (slot_get slots) (lookup (number_ghosts.eq x) es))) ≡ option_map made_of (option_and_then (slot_get slots) (cond b (Some e.1) (lookup (number_ghosts.eq x) es)))
-    filled n true g = ap (λ (v : Option Node). option_map made_of v) (sym g)
+    filled n true g = ap (λ (v : Option SlotNode). option_map made_of v) (sym g)
     filled n false g = refl
 
 -- nodes are found where they are held
@@ -131,15 +131,15 @@ nodes_same old new same =
     (λ q. nodes_found new q ∙ same q ∙ sym (nodes_found old q))
 
 -- a node put
-pub nodes_put : (old new : Slots) (x : ℕ) (node : Node) → ((q : ℕ) → node_in new q ≡ cond (q == x) (Some node) (node_in old q)) → held_nodes new ≡ put nat_cmp x (made_of node) (held_nodes old)
+pub nodes_put : (old new : Slots) (x : ℕ) (node : SlotNode) → ((q : ℕ) → node_in new q ≡ cond (q == x) (Some node) (node_in old q)) → held_nodes new ≡ put nat_cmp x (made_of node) (held_nodes old)
 nodes_put old new x node found =
     same_entries nat_cmp nat_cmp_total nat_cmp-IsAntisymmetric (held_nodes new) (put nat_cmp x (made_of node) (held_nodes old)) (nodes_sorted new) (is_sorted-put nat_cmp nat_cmp_total x (made_of node) (held_nodes old) (nodes_sorted old))
-    (λ q. nodes_found new q ∙ ap (λ (v : Option Node). option_map made_of v) (found q)
+    (λ q. nodes_found new q ∙ ap (λ (v : Option SlotNode). option_map made_of v) (found q)
     ∙ inside (q == x) (node_in old q)
     ∙ (λ i. cond (sym (number_tie q x) i) (Some (made_of node)) (sym (nodes_found old q) i))
     ∙ sym (find-put nat_cmp nat_cmp_total q x (made_of node) (held_nodes old)))
   where
-    inside : (b : Bool) (v : Option Node) → option_map made_of (cond b (Some node) v) ≡ cond b (Some (made_of node)) (option_map made_of v)
+    inside : (b : Bool) (v : Option SlotNode) → option_map made_of (cond b (Some node) v) ≡ cond b (Some (made_of node)) (option_map made_of v)
     inside true v = refl
     inside false v = refl
 
@@ -148,12 +148,12 @@ pub nodes_taken : (old new : Slots) (x : ℕ) → ((q : ℕ) → node_in new q �
     → held_nodes new ≡ where_key nat_cmp (λ other. not (is_eq (nat_cmp x other))) (held_nodes old)
 nodes_taken old new x found =
     same_entries nat_cmp nat_cmp_total nat_cmp-IsAntisymmetric (held_nodes new) (where_key nat_cmp (λ other. not (is_eq (nat_cmp x other))) (held_nodes old)) (nodes_sorted new) (is_sorted-where_key nat_cmp _ (held_nodes old) (nodes_sorted old))
-    (λ q. nodes_found new q ∙ ap (λ (v : Option Node). option_map made_of v) (found q)
+    (λ q. nodes_found new q ∙ ap (λ (v : Option SlotNode). option_map made_of v) (found q)
     ∙ inside (q == x) (node_in old q)
     ∙ (λ i. cond (not (sym (turned_number x q) i)) (sym (nodes_found old q) i) None)
     ∙ sym (without_at nat_cmp nat_cmp_total nat_cmp-IsAntisymmetric q x (held_nodes old)))
   where
-    inside : (b : Bool) (v : Option Node) → option_map made_of (cond b None v) ≡ cond (not b) (option_map made_of v) None
+    inside : (b : Bool) (v : Option SlotNode) → option_map made_of (cond b None v) ≡ cond (not b) (option_map made_of v) None
     inside true v = refl
     inside false v = refl
 

@@ -6,14 +6,14 @@ use Rattle.std.proofs.lemmas.Bool.{eqb-false}
 use Rattle.indexmap.specs.IndexMap.{index_map_len}
 use Rattle.slab.specs.Slab.{get as slot_get, slab_len, Updates}
 use Rattle.pua_tree.specs.Tree.{spot_cmp}
-use Rattle.pua_tree.specs.Slots.{slot_of, node_in, held_rows, rows_in, names_of, IsFiled, IsKept}
+use Rattle.pua_tree.specs.Slots.{slot_of, node_in, held_rows, rows_in, names_of, IsFiled, AreConsistent}
 use Rattle.pua_tree.specs.declared.slots.Slots.{Slots}
-use Rattle.pua_tree.specs.declared.slots.Node.{Node}
+use Rattle.pua_tree.specs.declared.slots.SlotNode.{SlotNode}
 use Rattle.pua_tree.proofs.Base.{same_Some, None≢Some}
 use Rattle.pua_tree.proofs.SlotsKeep.{named}
 
 -- what is found alike is kept alike
-pub kept_alike : (old new : Slots) → held_rows new ≡ held_rows old → ((x : ℕ) → node_in new x ≡ node_in old x) → IsFiled new → IsKept old → IsKept new
+pub kept_alike : (old new : Slots) → held_rows new ≡ held_rows old → ((x : ℕ) → node_in new x ≡ node_in old x) → IsFiled new → AreConsistent old → AreConsistent new
 kept_alike old new rows found filed kept = record {
   filed = filed;
   standing = record {
@@ -41,7 +41,7 @@ found_alike old new slots got x =
     by (Some slot) = got slot
 
 -- a node put into a slot that had none, under a number that had none
-module _ (old new : Slots) (x slot : ℕ) (node : Node) (f : IsFiled old) (free : slot_of old x ≡ None)
+module _ (old new : Slots) (x slot : ℕ) (node : SlotNode) (f : IsFiled old) (free : slot_of old x ≡ None)
     (numbered : (q : ℕ) → slot_of new q ≡ cond (x == q) (Some slot) (slot_of old q)) (vacant : slot_get old.nodes slot ≡ None)
     (put : Updates old.nodes new.nodes slot (Some node)) (more_nodes : slab_len new.nodes ≡ slab_len old.nodes + 1) (more_numbers : index_map_len new.numbers ≡ index_map_len old.numbers + 1) where
   not_vacant : (q s : ℕ) → slot_of old q ≡ Some s → s ≢ slot
@@ -86,8 +86,8 @@ module _ (old new : Slots) (x slot : ℕ) (node : Node) (f : IsFiled old) (free 
     no_other = more_nodes ∙ ap (λ n. n + 1) f.no_other ∙ sym more_numbers;
   }
 
-  pub kept_added : IsKept old → held_rows new ≡ held_rows old → rows_in (held_rows old) x ≡ 0 → names_of (held_rows old) x ≡ 0
-      → node.standing.rows ≡ 0 → node.standing.names ≡ 0 → node.standing.above ≡ 0 → IsKept new
+  pub kept_added : AreConsistent old → held_rows new ≡ held_rows old → rows_in (held_rows old) x ≡ 0 → names_of (held_rows old) x ≡ 0
+      → node.standing.rows ≡ 0 → node.standing.names ≡ 0 → node.standing.above ≡ 0 → AreConsistent new
   kept_added kept rows no_rows no_names zero_rows zero_names zero_above = record {
     filed = filed_added;
     standing = record {
@@ -99,7 +99,7 @@ module _ (old new : Slots) (x slot : ℕ) (node : Node) (f : IsFiled old) (free 
     };
   }
     where
-      by : (q : ℕ) (n : Node) → node_in new q ≡ Some n → (P : Node → Type 0) → (q ≡ x → P node) → (node_in old q ≡ Some n → P n) → P n
+      by : (q : ℕ) (n : SlotNode) → node_in new q ≡ Some n → (P : SlotNode → Type 0) → (q ≡ x → P node) → (node_in old q ≡ Some n → P n) → P n
       by q n e P here there =
           elim (q == x) as (λ b. (q == x) ≡ b → P n) [
             | true ↦ λ t. subst P (same_Some node n (sym (found_added q ∙ ap (λ b. cond b (Some node) (node_in old q)) t) ∙ e)) (here (eqb-true q x t))
@@ -141,7 +141,7 @@ module _ (old new : Slots) (x slot : ℕ) (f : IsFiled old) (had : slot_of old x
   }
 
 -- what is left is kept
-pub kept_dropped : (old new : Slots) (x : ℕ) → IsKept old → held_rows new ≡ held_rows old → ((q : ℕ) → node_in new q ≡ cond (q == x) None (node_in old q)) → IsFiled new → IsKept new
+pub kept_dropped : (old new : Slots) (x : ℕ) → AreConsistent old → held_rows new ≡ held_rows old → ((q : ℕ) → node_in new q ≡ cond (q == x) None (node_in old q)) → IsFiled new → AreConsistent new
 kept_dropped old new x kept rows found filed = record {
   filed = filed;
   standing = record {
@@ -152,7 +152,7 @@ kept_dropped old new x kept rows found filed = record {
   };
 }
   where
-    was : (q : ℕ) (n : Node) → node_in new q ≡ Some n → node_in old q ≡ Some n
+    was : (q : ℕ) (n : SlotNode) → node_in new q ≡ Some n → node_in old q ≡ Some n
     was q n e = elim (q == x) as (λ b. (q == x) ≡ b → node_in old q ≡ Some n) [
       | true ↦ λ t. absurd (None≢Some n (sym (found q ∙ ap (λ b. cond b None (node_in old q)) t) ∙ e))
       | false ↦ λ t. sym (found q ∙ ap (λ b. cond b None (node_in old q)) t) ∙ e

@@ -9,7 +9,7 @@ use Rattle.std.proofs.lemmas.List.Splits.{join_with_byte-slice_split}
 use Rattle.std.proofs.lemmas.Str.Parse.{IsNumeralModel, numerals_by_fold}
 use Rattle.std.proofs.lemmas.Fmt.{decimal_digit, digits_decimal, digits_value-decimal, decimal-digits_value, decimal_nonempty, first_decimal}
 use Rattle.pua_tree.specs.Names.{is_name, same_bytes, has_byte, is_name_byte}
-use Rattle.pua_tree.specs.Spelling.{is_plain, byte_spelling, spelling, is_octal, escaped_byte, front_byte, with_front, unspelled_from, unspelled, name_of, name_of_bytes, fields, is_field, is_digit, is_decimal, decimal_value, number_within}
+use Rattle.pua_tree.specs.Spelling.{is_plain, byte_spelling, spelling, is_octal, escaped_byte, front_byte, with_front, unspelled_from, bytes_spelled, name_of, name_of_bytes, fields, is_field, is_digit, is_decimal, decimal_value, number_within}
 use Rattle.pua_tree.specs.declared.fault.NameFault.TheVariants.{BadSpelling, Empty, TooLong, NotAName}
 pub use Rattle.pua_tree.proofs.Base.{same_Some, None≢Some, guarded, Err≢Ok, same_Ok, passed, tested}
 
@@ -28,20 +28,20 @@ octal : (d : ℕ) → d < 8 → IsTrue (is_octal (48 + d))
 octal d h = and_from _ _ (le-leb 48 (48 + d) (omega arith)) (le-leb (48 + d) 55 (omega (arith, h)))
 
 -- the front of a spelling gives its byte
-unspelled_plain : (b : ℕ) (more : List ℕ) → IsTrue (is_plain b) → unspelled (b ∷ more) ≡ with_front (Some b) (unspelled more)
+unspelled_plain : (b : ℕ) (more : List ℕ) → IsTrue (is_plain b) → bytes_spelled (b ∷ more) ≡ with_front (Some b) (bytes_spelled more)
 unspelled_plain b more h =
     ap (λ t. with_front (cond t (escaped_byte more) (cond (is_plain b) (Some b) None)) (unspelled_from (cond t 3 0) more)) (no_backslash b h)
     ∙ ap (λ t. with_front (cond t (Some b) None) (unspelled_from 0 more)) h
 
 -- a text of plain bytes spells itself
-pub unspelled_as_it_stands : (text : List ℕ) → IsTrue (list_all is_plain text) → unspelled text ≡ Some text
+pub unspelled_as_it_stands : (text : List ℕ) → IsTrue (list_all is_plain text) → bytes_spelled text ≡ Some text
 unspelled_as_it_stands [] h = refl
 unspelled_as_it_stands (b ∷ more) h =
     let parts = and_parts (is_plain b) (list_all is_plain more) h in
     unspelled_plain b more parts.0 ∙ ap (with_front (Some b)) (unspelled_as_it_stands more parts.1)
 
-unspelled_escaped : (b : ℕ) (more : List ℕ) → b < 256 → is_plain b ≡ false → unspelled ((92 ∷ (48 + b / 64) ∷ (48 + b / 8 % 8) ∷ (48 + b % 8) ∷ []) ++ more) ≡ with_front (Some b) (unspelled more)
-unspelled_escaped b more h p = ap (λ o. with_front o (unspelled more)) (go _ value)
+unspelled_escaped : (b : ℕ) (more : List ℕ) → b < 256 → is_plain b ≡ false → bytes_spelled ((92 ∷ (48 + b / 64) ∷ (48 + b / 8 % 8) ∷ (48 + b % 8) ∷ []) ++ more) ≡ with_front (Some b) (bytes_spelled more)
+unspelled_escaped b more h p = ap (λ o. with_front o (bytes_spelled more)) (go _ value)
   where
     value : 64 * ((48 + b / 64) - 48) + 8 * ((48 + b / 8 % 8) - 48) + ((48 + b % 8) - 48) ≡ b
     value = omega arith
@@ -52,15 +52,15 @@ unspelled_escaped b more h p = ap (λ o. with_front o (unspelled more)) (go _ va
         (and_from _ _ (le-leb v 255 (omega (arith, e, h))) (not_from_false _ (ap is_plain e ∙ p))))))
         ∙ ap Some e
 
-unspelled_front : (b : ℕ) (more : List ℕ) → b < 256 → unspelled (byte_spelling b ++ more) ≡ with_front (Some b) (unspelled more)
+unspelled_front : (b : ℕ) (more : List ℕ) → b < 256 → bytes_spelled (byte_spelling b ++ more) ≡ with_front (Some b) (bytes_spelled more)
 unspelled_front b more h =
-    elim (is_plain b) as (λ t. is_plain b ≡ t → unspelled (cond t (b ∷ []) (92 ∷ (48 + b / 64) ∷ (48 + b / 8 % 8) ∷ (48 + b % 8) ∷ []) ++ more) ≡ with_front (Some b) (unspelled more)) [
+    elim (is_plain b) as (λ t. is_plain b ≡ t → bytes_spelled (cond t (b ∷ []) (92 ∷ (48 + b / 64) ∷ (48 + b / 8 % 8) ∷ (48 + b % 8) ∷ []) ++ more) ≡ with_front (Some b) (bytes_spelled more)) [
       | true ↦ λ p. unspelled_plain b more p
       | false ↦ λ p. unspelled_escaped b more h p
     ] refl
 
 -- a spelling is read back
-pub unspelled-spelling : (bs : List ℕ) → IsTrue (list_all is_byte bs) → unspelled (spelling bs) ≡ Some bs
+pub unspelled-spelling : (bs : List ℕ) → IsTrue (list_all is_byte bs) → bytes_spelled (spelling bs) ≡ Some bs
 unspelled-spelling [] h = refl
 unspelled-spelling (b ∷ bs) h =
     let parts = and_parts (is_byte b) (list_all is_byte bs) h in
@@ -118,15 +118,15 @@ text_read zero (b ∷ more) bs e =
     (front.1 ∙ ap (λ l. byte_spelling both.0 ++ l) rest.0, and_from _ _ (lt-ltb both.0 256 front.0) rest.1)
 
 -- what a text spells is spelled by that text alone, and is made of bytes
-pub spelling-unspelled : (text bs : List ℕ) → unspelled text ≡ Some bs → text ≡ spelling bs
+pub spelling-unspelled : (text bs : List ℕ) → bytes_spelled text ≡ Some bs → text ≡ spelling bs
 spelling-unspelled text bs e = (text_read 0 text bs e).0
 
-pub bytes_unspelled : (text bs : List ℕ) → unspelled text ≡ Some bs → IsTrue (list_all is_byte bs)
+pub bytes_unspelled : (text bs : List ℕ) → bytes_spelled text ≡ Some bs → IsTrue (list_all is_byte bs)
 bytes_unspelled text bs e = (text_read 0 text bs e).1
 
 -- bytes that have one spelling are the same
 pub spelling_tells : (bs cs : List ℕ) → IsTrue (list_all is_byte bs) → IsTrue (list_all is_byte cs) → spelling bs ≡ spelling cs → bs ≡ cs
-spelling_tells bs cs h k e = same_Some bs cs (sym (unspelled-spelling bs h) ∙ ap unspelled e ∙ unspelled-spelling cs k)
+spelling_tells bs cs h k e = same_Some bs cs (sym (unspelled-spelling bs h) ∙ ap bytes_spelled e ∙ unspelled-spelling cs k)
 
 -- a name is made of bytes, and has neither a slash nor a NUL
 name_bytes : (n : List ℕ) → IsTrue (list_all is_name_byte n) → IsTrue (list_all is_byte n) × (has_byte 47 n ≡ false)
@@ -158,9 +158,9 @@ name_of-spelling n h =
 
 -- a text that is read as a name is its spelling
 pub name_read : (text n : List ℕ) → name_of text ≡ Ok n → (text ≡ spelling n) × IsTrue (is_name n)
-name_read text n e = go (unspelled text) refl e
+name_read text n e = go (bytes_spelled text) refl e
   where
-    go : (o : Option (List ℕ)) → unspelled text ≡ o → name_of_bytes o ≡ Ok n → (text ≡ spelling n) × IsTrue (is_name n)
+    go : (o : Option (List ℕ)) → bytes_spelled text ≡ o → name_of_bytes o ≡ Ok n → (text ≡ spelling n) × IsTrue (is_name n)
     go None q e = absurd (Err≢Ok BadSpelling n e)
     go (Some m) q e =
         let named = tested (is_name m) NotAName m n (passed (ltb 255 (length m)) TooLong _ n (passed (eqb (length m) 0) Empty _ n (passed (has_byte 47 m) BadSpelling _ n e))) in

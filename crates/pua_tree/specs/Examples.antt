@@ -3,7 +3,7 @@ use Rattle.std.specs.Prelude.{◌≡◌, ℕ, List, [], ◌∷◌, ◌++◌, Som
 use Rattle.pua_tree.specs.Tree.{Node, Tree, WellFormed}
 use Rattle.pua_tree.specs.Edits.{add, tie, cut, shift}
 use Rattle.pua_tree.specs.Spelling.{name_of}
-use Rattle.pua_tree.specs.Listing.{Entry, listing, admitted}
+use Rattle.pua_tree.specs.Listing.{Entry, listing, entry_or_fault}
 use Rattle.pua_tree.specs.declared.node.Kind.TheVariants.{Dir, File, Prog, Link}
 use Rattle.pua_tree.specs.declared.fault.ListingFault.TheVariants.{BadHeader, BadLine, BadNumber, BadParent, BadName, BadTarget, Taken, TooMany, BadNode}
 use Rattle.pua_tree.specs.declared.fault.NameFault.TheVariants.{BadSpelling, Empty, TooLong, NotAName}
@@ -86,9 +86,9 @@ pub record FaultOrderRows : Type 0 where
   pub target_before_taken : listing (text_of_lines (codes "tree 1" ∷ codes "0 dir" ∷ codes "1 dir 0 a" ∷ codes "2 link 0 a \\000" ∷ [])) ≡ Err (BadTarget 4)
   pub name_before_node : listing (text_of_lines (codes "tree 2" ∷ codes "0 dir" ∷ codes "1 hard 0 .. 0" ∷ [])) ≡ Err (BadName 3)
   pub node_before_taken : listing (text_of_lines (codes "tree 2" ∷ codes "0 dir" ∷ codes "1 dir 0 a" ∷ codes "2 hard 0 a 1" ∷ [])) ≡ Err (BadNode 4)
-  pub taken_before_room : admitted (example_entry ∷ []) 4098 example_entry ≡ Err (Taken 4098)
-  pub no_room : admitted [] 4098 example_entry ≡ Err (TooMany 4098)
-  pub last_room : admitted [] 4097 example_entry ≡ Ok example_entry
+  pub taken_before_room : entry_or_fault (example_entry ∷ []) 4098 example_entry ≡ Err (Taken 4098)
+  pub no_room : entry_or_fault [] 4098 example_entry ≡ Err (TooMany 4098)
+  pub last_room : entry_or_fault [] 4097 example_entry ≡ Ok example_entry
   pub earlier_line_first : listing (text_of_lines (codes "tree 1" ∷ codes "0 dir" ∷ codes "1 dir 0 .." ∷ codes "x" ∷ [])) ≡ Err (BadName 3)
 
 pub fault_order_rows : FaultOrderRows

@@ -43,8 +43,8 @@ unspelled_from skipped [] = Some []
 unspelled_from zero (b ∷ more) = with_front (front_byte b more) (unspelled_from (if b == 92 then 3 else 0) more)
 unspelled_from (suc skipped) (b ∷ more) = unspelled_from skipped more
 
-abbrev pub unspelled : List ℕ → Option (List ℕ)
-unspelled text = unspelled_from 0 text
+abbrev pub bytes_spelled : List ℕ → Option (List ℕ)
+bytes_spelled text = unspelled_from 0 text
 
 -- the name that a text spells, or the first fault
 abbrev pub name_of_bytes : Option (List ℕ) → Result (List ℕ) NameFault
@@ -56,7 +56,7 @@ name_of_bytes (Some n) =
     else (if is_name n then Ok n else Err NotAName)))
 
 abbrev pub name_of : List ℕ → Result (List ℕ) NameFault
-name_of text = name_of_bytes (unspelled text)
+name_of text = name_of_bytes (bytes_spelled text)
 
 -- the fields of a line: what stands between single spaces
 abbrev pub fields : List ℕ → List (List ℕ)

@@ -55,7 +55,7 @@ ghost use Rattle.std.specs.List.{list_any};
 ghost use Rattle.pua_tree.specs.Limits.{number_end};
 ghost use Rattle.pua_tree.specs.Names.{is_name};
 ghost use Rattle.pua_tree.specs.Tree.{Node, is_dir, look, found_at, climb};
-ghost use Rattle.pua_tree.specs.Edits.{add, tie, cut, shift, is_full_dir, has_name_room, has_room, with_row, with_new, without_row, without_unnamed, moved};
+ghost use Rattle.pua_tree.specs.Edits.{add, tie, cut, shift, is_full_dir, has_name_room, has_room, with_row, with_new, without_row, without_unnamed, with_row_moved};
 
 /// The node whose name in a directory has these bytes, and its kind.
 pub(crate) fn find<T: Judged>(tree: &T, dir: NodeId, bytes: &[u8]) -> Option<(NodeId, Kind)>
@@ -152,7 +152,7 @@ pub(crate) fn may_shift<T: Judged>(
 ) -> Result<Option<NodeId>, TreeFault>
     ensures exact { let held = T.held tree.now in MatchResult result
         (λ moves. MatchOption moves (shift held from name.now to new_name.now ≡ Ok held)
-        (λ node. shift held from name.now to new_name.now ≡ Ok (moved held from name.now to new_name.now node (look held to new_name.now))))
+        (λ node. shift held from name.now to new_name.now ≡ Ok (with_row_moved held from name.now to new_name.now node (look held to new_name.now))))
         (λ fault. (fault ≢ TreeFault.OutOfMemory) × (shift held from name.now to new_name.now ≡ Err fault)) }
     ensures found { let held = T.held tree.now in IfOk result (λ moves. IfSome moves (λ node. (look held from name.now ≡ Some node) × (look held to new_name.now ≢ Some node))) }
     ensures name { IsTrue (is_name new_name.now) }

@@ -7,13 +7,13 @@ ghost use Rattle.pua_tree.specs.Limits.{highest_listed};
 ghost use Rattle.pua_tree.specs.Spelling.{number_within};
 ghost use Rattle.pua_tree.specs.Tree.{is_dir, is_living};
 ghost use Rattle.pua_tree.specs.Lines.{line_read};
-ghost use Rattle.pua_tree.specs.Listing.{listing, listing_of_lines, after_header, entry_of, entries_of, admitted, only_if, node_of, Entry as Said};
-ghost use Rattle.pua_tree.specs.Reading.{Gathers, IsGathered, said, said_node};
+ghost use Rattle.pua_tree.specs.Listing.{listing, listing_of_lines, after_header, entry_of, entries_of, entry_or_fault, only_if, node_of, Entry as Said};
+ghost use Rattle.pua_tree.specs.Reading.{Gathers, IsGathered, entry_said, said_node};
 
 use crate::fault::{ListingFault, OutOfMemory};
 use crate::field::number_within;
-use crate::gathered::{Entry, Gathered, Made};
-use crate::line::{Line, read_line};
+use crate::gathered::{Gathered, LineEntry, MadeNode};
+use crate::line::{ListingLine, read_line};
 use crate::link_target::is_target;
 use crate::list::ListTree;
 use crate::name::Name;
@@ -182,11 +182,11 @@ impl<T: Gathered> Reading<T> {
     }
 
     /// What line `n` says, whether or not its name is free and there is room for it.
-    fn entry(&self, alloc: Global, n: u32, text: &[u8]) -> Result<Entry, ListingFault>
+    fn entry(&self, alloc: Global, n: u32, text: &[u8]) -> Result<LineEntry, ListingFault>
         ensures { (es : List Said)
             → Gathers self.now.hard (T.content self.now.tree) self.now.greatest es
             → MatchResult result
-            (λ e. entry_of self.now.hard es n text.now ≡ admitted es n (said e))
+            (λ e. entry_of self.now.hard es n text.now ≡ entry_or_fault es n (entry_said e))
             (λ fault. fault ≢ ListingFault.OutOfMemory
             → entry_of self.now.hard es n text.now ≡ Err fault) }
     {
@@ -203,7 +203,7 @@ impl<T: Gathered> Reading<T> {
             return Err(ListingFault::BadName(n));
         };
         let (node, made) = self.node_of(alloc, n, number, &line)?;
-        Ok(Entry {
+        Ok(LineEntry {
             number,
             parent,
             name,
@@ -218,8 +218,8 @@ impl<T: Gathered> Reading<T> {
         alloc: Global,
         n: u32,
         number: u32,
-        line: &Line<'_>,
-    ) -> Result<(NodeId, Option<Made>), ListingFault>
+        line: &ListingLine<'_>,
+    ) -> Result<(NodeId, Option<MadeNode>), ListingFault>
         ensures { (es : List Said)
             → Gathers self.now.hard (T.content self.now.tree) self.now.greatest es
             → MatchResult result
@@ -235,7 +235,7 @@ impl<T: Gathered> Reading<T> {
             },
             Some(kind) => {
                 let target = target_of(alloc, n, kind, line)?;
-                Ok((NodeId::new(number), Some(Made { kind, target })))
+                Ok((NodeId::new(number), Some(MadeNode { kind, target })))
             }
         }
     }
@@ -275,7 +275,7 @@ fn target_of(
     alloc: Global,
     n: u32,
     kind: Kind,
-    line: &Line<'_>,
+    line: &ListingLine<'_>,
 ) -> Result<Option<Vec<u8>>, ListingFault>
     ensures ok { IfOk result (λ target. (es : List Said) (number : ℕ)
         → node_of es n number (line_read line.now) (Some kind)

@@ -1,7 +1,7 @@
 //! A tree that uses slots again: rows by their spots, and nodes in slots that are found by number.
 
 use crate::fault::{OutOfMemory, TreeFault};
-use crate::gathered::{Entry, Gathered, Made};
+use crate::gathered::{Gathered, LineEntry, MadeNode};
 use crate::judgement::{self, Judged, may_add, may_cut, may_shift, may_tie};
 use crate::list_edits::copied_target;
 use crate::name::Name;
@@ -24,13 +24,13 @@ pub struct SlabTree {
 
 impl Model for SlabTree {
     ghost use Rattle.pua_tree.specs.Tree.{Tree, WellFormed};
-    ghost use Rattle.pua_tree.specs.Slots.{IsKept, held_in_slots};
+    ghost use Rattle.pua_tree.specs.Slots.{AreConsistent, held_in_slots};
 
     ghost Value = { Tree };
 
     ghost view = { λ a. held_in_slots a.slots a.next };
 
-    ghost invariant = { λ a. WellFormed (held_in_slots a.slots a.next) × IsKept a.slots };
+    ghost invariant = { λ a. WellFormed (held_in_slots a.slots a.next) × AreConsistent a.slots };
 }
 
 ghost use Rattle.std.specs.Prelude.{◌≡◌};
@@ -88,12 +88,12 @@ impl FileTree for SlabTree {
         let target = copied_target(alloc, target).map_err(|_| TreeFault::OutOfMemory)?;
         let number = self.next;
         let node = NodeId::new(number);
-        let entry = Entry {
+        let entry = LineEntry {
             number,
             parent: dir,
             name,
             node,
-            made: Some(Made { kind, target }),
+            made: Some(MadeNode { kind, target }),
         };
         match self.put(entry) {
             Ok(()) => Ok(node),
@@ -154,11 +154,11 @@ impl Gathered for SlabTree {
         }
     }
 
-    fn put(&mut self, entry: Entry) -> Result<(), OutOfMemory> {
+    fn put(&mut self, entry: LineEntry) -> Result<(), OutOfMemory> {
         if self.slots.reserve_node().is_err() {
             return Err(OutOfMemory);
         }
-        let Entry {
+        let LineEntry {
             number,
             parent: dir,
             name,

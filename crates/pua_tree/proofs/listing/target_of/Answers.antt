@@ -1,5 +1,5 @@
 use Rattle.std.proofs.Common.{◌≡◌, Some, sym, rules, IsTrue}
-use Rattle.pua_tree.specs.Spelling.{unspelled}
+use Rattle.pua_tree.specs.Spelling.{bytes_spelled}
 use Rattle.pua_tree.specs.Names.{is_target}
 use Rattle.pua_tree.specs.declared.node.Kind.TheVariants.{Link}
 use Rattle.pua_tree.specs.Lines.{line_read}
@@ -10,7 +10,7 @@ pub returns-in-Ok-Some-clause-ok : goal.returns-in-Ok-Some-clause-ok
 returns-in-Ok-Some-clause-ok c = λ es number.
     let line = line_read c.args.line.now in
     let target = c.in-Ok-Some.target.items in
-    let spelled : unspelled line.last ≡ Some target = sym (rw (c.in-Ok-Some.is, c.in-Ok-Some.field-0-is) at c.unspelled.ensures) in
+    let spelled : bytes_spelled line.last ≡ Some target = sym (rw (c.in-Ok-Some.is, c.in-Ok-Some.field-0-is) at c.unspelled.ensures) in
     let tested : IsTrue (is_target target) = cc in
     let is_link : c.args.kind ≡ Link = search rules in
     link_target es c.args.n number line c.args.kind target is_link spelled tested

@@ -1,15 +1,15 @@
 use Rattle.std.proofs.Common.{◌≡◌, ℕ, List, length, Option, Some, None, sym, ap, ◌∙◌, arith, MatchOption}
 use Rattle.std.proofs.lemmas.List.{take_at}
-use Rattle.pua_tree.specs.Spelling.{unspelled}
-use Rattle.pua_tree.specs.Writes.{overwritten}
+use Rattle.pua_tree.specs.Spelling.{bytes_spelled}
+use Rattle.pua_tree.specs.Writes.{room_after}
 use Rattle.pua_tree.proofs.Overwriting.{overwritten_whole}
 use Rattle.pua_tree.proofs.spelling.unspelled.Goals as goal
 
 -- a room of the length that a first reading answered is left with just the bytes
 whole : (text room left : List ℕ) (len : ℕ) (again : Option ℕ)
-    → (bytes : List ℕ) × (unspelled text ≡ Some bytes) × (len ≡ length bytes)
-    → MatchOption again (unspelled text ≡ None) (λ n. (bytes : List ℕ) × (unspelled text ≡ Some bytes) × (n ≡ length bytes) × (left ≡ overwritten room 0 bytes))
-    → length room ≡ len → unspelled text ≡ Some left
+    → (bytes : List ℕ) × (bytes_spelled text ≡ Some bytes) × (len ≡ length bytes)
+    → MatchOption again (bytes_spelled text ≡ None) (λ n. (bytes : List ℕ) × (bytes_spelled text ≡ Some bytes) × (n ≡ length bytes) × (left ≡ room_after room 0 bytes))
+    → length room ≡ len → bytes_spelled text ≡ Some left
 whole text room left len None first second fits = cc
 whole text room left len (Some n) first second fits =
     let same : first.0 ≡ second.0 = cc in

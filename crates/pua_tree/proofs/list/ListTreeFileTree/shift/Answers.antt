@@ -1,7 +1,7 @@
 use Rattle.std.proofs.Common.{◌≡◌, ◌∙◌, ℕ, Option, Some, None, Ok, sym, ap, subst, map}
 use Rattle.pua_tree.specs.Tree as tree
 use Rattle.pua_tree.specs.Tree.{WellFormed, look}
-use Rattle.pua_tree.specs.Edits.{with_row, without_row, without_unnamed, moved}
+use Rattle.pua_tree.specs.Edits.{with_row, without_row, without_unnamed, with_row_moved}
 use Rattle.pua_tree.specs.ListTree.{held_tree, row_entry}
 use Rattle.pua_tree.proofs.EditsKeep.{edits_keep_trees}
 use Rattle.pua_tree.proofs.ListEdits.{row_moved, sorted_without}
@@ -15,7 +15,7 @@ pub returns-in-Some-displaced-clause-exact : goal.returns-in-Some-displaced-clau
 returns-in-Some-displaced-clause-exact c =
     let next = c.self.inside.next in
     let change = λ (t : tree.Tree). with_row (without_row t c.args.from c.args.name.now) c.args.to c.args.new_name c.in-Some.node in
-    let after = λ (there : Option ℕ). moved c.args.self.now c.args.from c.args.name.now c.args.to c.args.new_name c.in-Some.node there in
+    let after = λ (there : Option ℕ). with_row_moved c.args.self.now c.args.from c.args.name.now c.args.to c.args.new_name c.in-Some.node there in
     let came : held_tree c.put_row.new.rows.items c.self.inside.nodes.items next ≡ change c.args.self.now =
     row_moved c.self.inside.rows.items c.take_row.new.rows.items c.put_row.new.rows.items c.self.inside.nodes.items next c.args.from c.args.name.now c.args.to c.args.new_name c.in-Some.node c.take_row.ensures.rows c.put_row.ensures
     ∙ ap change c.self.view_is in
@@ -33,7 +33,7 @@ pub returns-in_default-displaced-clause-exact : goal.returns-in_default-displace
 returns-in_default-displaced-clause-exact c =
     let next = c.self.inside.next in
     let change = λ (t : tree.Tree). with_row (without_row t c.args.from c.args.name.now) c.args.to c.args.new_name c.in-Some.node in
-    let after = λ (there : Option ℕ). moved c.args.self.now c.args.from c.args.name.now c.args.to c.args.new_name c.in-Some.node there in
+    let after = λ (there : Option ℕ). with_row_moved c.args.self.now c.args.from c.args.name.now c.args.to c.args.new_name c.in-Some.node there in
     let came : held_tree c.put_row.new.rows.items c.self.inside.nodes.items next ≡ after None =
     row_moved c.self.inside.rows.items c.take_row.new.rows.items c.put_row.new.rows.items c.self.inside.nodes.items next c.args.from c.args.name.now c.args.to c.args.new_name c.in-Some.node c.take_row.ensures.rows c.put_row.ensures
     ∙ ap change c.self.view_is in

@@ -3,7 +3,7 @@ use Rattle.std.specs.Ordering.{nat_cmp}
 use Rattle.std.specs.FinMap.{find}
 use Rattle.pua_tree.specs.Tree as tree
 use Rattle.pua_tree.specs.Tree.{WellFormed, look}
-use Rattle.pua_tree.specs.Edits.{with_row, without_row, without_unnamed, moved}
+use Rattle.pua_tree.specs.Edits.{with_row, without_row, without_unnamed, with_row_moved}
 use Rattle.pua_tree.specs.Slots.{held_in_slots, held_rows, row_at}
 use Rattle.pua_tree.proofs.EditsKeep.{edits_keep_trees}
 use Rattle.pua_tree.proofs.SlotsHold.{rows_found, rows_sorted}
@@ -69,7 +69,7 @@ returns-in-Some-row-clause-exact c =
     let same : held_in_slots s next ≡ c.args.self.now = c.reserve_row.ensures.same next ∙ c.self.view_is in
     let look_is : look c.args.self.now c.args.to c.args.new_name ≡ Some c.in-Some-row.displaced = sym (ap (λ (t : tree.Tree). look t c.args.to c.args.new_name) same) ∙ rows_found s (c.args.to, c.args.new_name) ∙ there in
     let change = λ (t : tree.Tree). with_row (without_row t c.args.from c.args.name.now) c.args.to c.args.new_name c.in-Some.node in
-    let after = λ (o : Option ℕ). moved c.args.self.now c.args.from c.args.name.now c.args.to c.args.new_name c.in-Some.node o in
+    let after = λ (o : Option ℕ). with_row_moved c.args.self.now c.args.from c.args.name.now c.args.to c.args.new_name c.in-Some.node o in
     let first : held_in_slots c.take_row.new.self next ≡ without_row (held_in_slots s next) c.args.to c.args.new_name = λ i. record { rows = c.take_row.ensures.rows i; nodes = c.take_row.ensures.nodes i; next = next } in
     let second : held_in_slots c.move_row.new.self next ≡ change (held_in_slots c.take_row.new.self next) = λ i. record { rows = c.move_row.ensures.rows i; nodes = c.move_row.ensures.nodes i; next = next } in
     let over : change (without_row (held_in_slots s next) c.args.to c.args.new_name) ≡ change (held_in_slots s next) =
@@ -114,7 +114,7 @@ returns-in-None-clause-exact c =
     let same : held_in_slots s next ≡ c.args.self.now = c.reserve_row.ensures.same next ∙ c.self.view_is in
     let look_is : look c.args.self.now c.args.to c.args.new_name ≡ None = sym (ap (λ (t : tree.Tree). look t c.args.to c.args.new_name) same) ∙ rows_found s (c.args.to, c.args.new_name) ∙ there in
     let change = λ (t : tree.Tree). with_row (without_row t c.args.from c.args.name.now) c.args.to c.args.new_name c.in-Some.node in
-    let after = λ (o : Option ℕ). moved c.args.self.now c.args.from c.args.name.now c.args.to c.args.new_name c.in-Some.node o in
+    let after = λ (o : Option ℕ). with_row_moved c.args.self.now c.args.from c.args.name.now c.args.to c.args.new_name c.in-Some.node o in
     let second : held_in_slots c.move_row-in-None.new.self next ≡ change (held_in_slots s next) = λ i. record { rows = c.move_row-in-None.ensures.rows i; nodes = c.move_row-in-None.ensures.nodes i; next = next } in
     let came : held_in_slots c.move_row-in-None.new.self next ≡ after None = second ∙ ap change same in
     (rw c.in-Some.is at c.in_ok-node.ensures.exact) ∙ ap (λ (o : Option ℕ). Ok (after o)) look_is ∙ ap (λ (t : tree.Tree). Ok t) (sym came)

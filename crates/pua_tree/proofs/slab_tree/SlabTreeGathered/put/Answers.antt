@@ -2,7 +2,7 @@ use Rattle.std.proofs.Common.{◌≡◌, ◌∙◌, sym, ap, subst}
 use Rattle.std.specs.FinMap.{put, find}
 use Rattle.pua_tree.specs.Tree as tree
 use Rattle.pua_tree.specs.Tree.{WellFormed, spot_cmp}
-use Rattle.pua_tree.specs.Reading.{Follows, grown, said}
+use Rattle.pua_tree.specs.Reading.{Follows, tree_with, entry_said}
 use Rattle.pua_tree.specs.Slots.{held_in_slots, held_rows}
 use Rattle.pua_tree.proofs.Raised.{grown_keeps}
 use Rattle.pua_tree.proofs.SlotsKeep.{rows_by}
@@ -19,7 +19,7 @@ returns-then-is_err-clause-unchanged c = c.reserve_node.ensures.same c.self.insi
 pub add_made-requires-clause-new : goal.add_made-requires-clause-new
 add_made-requires-clause-new c =
     let s = c.reserve_node.new.self in
-    let e = said c.args.entry in
+    let e = entry_said c.args.entry in
     let next = c.self.inside.next in
     let formed : WellFormed (held_in_slots s next) = subst WellFormed (sym (c.reserve_node.ensures.same next)) c.self.invariant.0 in
     let follows : Follows (held_in_slots s next) e = subst (λ (t : tree.Tree). Follows t e) (sym (c.reserve_node.ensures.same next ∙ c.self.view_is)) c.requires in
@@ -28,7 +28,7 @@ add_made-requires-clause-new c =
 pub put_row-requires-clause-free : goal.put_row-requires-clause-free
 put_row-requires-clause-free c =
     let s = c.reserve_node.new.self in
-    let e = said c.args.entry in
+    let e = entry_said c.args.entry in
     let next = c.self.inside.next in
     let formed : WellFormed (held_in_slots s next) = subst WellFormed (sym (c.reserve_node.ensures.same next)) c.self.invariant.0 in
     let follows : Follows (held_in_slots s next) e = subst (λ (t : tree.Tree). Follows t e) (sym (c.reserve_node.ensures.same next ∙ c.self.view_is)) c.requires in
@@ -38,7 +38,7 @@ put_row-requires-clause-free c =
 pub put_row-requires-clause-dir_once : goal.put_row-requires-clause-dir_once
 put_row-requires-clause-dir_once c =
     let s = c.reserve_node.new.self in
-    let e = said c.args.entry in
+    let e = entry_said c.args.entry in
     let next = c.self.inside.next in
     let formed : WellFormed (held_in_slots s next) = subst WellFormed (sym (c.reserve_node.ensures.same next)) c.self.invariant.0 in
     let follows : Follows (held_in_slots s next) e = subst (λ (t : tree.Tree). Follows t e) (sym (c.reserve_node.ensures.same next ∙ c.self.view_is)) c.requires in
@@ -47,7 +47,7 @@ put_row-requires-clause-dir_once c =
 pub returns-clause-grown : goal.returns-clause-grown
 returns-clause-grown c =
     let s = c.reserve_node.new.self in
-    let e = said c.args.entry in
+    let e = entry_said c.args.entry in
     let next = c.self.inside.next in
     let same : held_in_slots s next ≡ c.args.self.now = c.reserve_node.ensures.same next ∙ c.self.view_is in
     let formed : WellFormed (held_in_slots s next) = subst WellFormed (sym (c.reserve_node.ensures.same next)) c.self.invariant.0 in
@@ -55,10 +55,10 @@ returns-clause-grown c =
     let rows : held_rows c.put_row.new.self ≡ put spot_cmp (e.parent, e.name) e.node (held_rows s) =
     c.put_row.ensures.rows ∙ ap (put spot_cmp (e.parent, e.name) e.node) (rows_by c.add_made.new.self s c.add_made.ensures.rows) in
     grown_held s next formed c.reserve_node.ensures.kept e follows.number c.put_row.new.self e.made follows.enters rows (c.put_row.ensures.nodes ∙ c.add_made.ensures.nodes)
-    ∙ ap (λ (t : tree.Tree). grown t e) same
+    ∙ ap (λ (t : tree.Tree). tree_with t e) same
 
 pub invariant_of-self-2 : goal.invariant_of-self-2
 invariant_of-self-2 c =
     let t = c.args.self.now in
-    let e = said c.args.entry in
+    let e = entry_said c.args.entry in
     (subst WellFormed (sym (returns-clause-grown c)) (grown_keeps t e (subst WellFormed c.self.view_is c.self.invariant.0) c.requires), c.put_row.ensures.kept)
