@@ -3,7 +3,7 @@ use Rattle.std.proofs.Common.{◌≡◌, ℕ, zero, suc, Bool, true, false, List
 use Rattle.std.specs.Prelude.{if◌then◌else◌, not, ◌&&◌, Option, option_map}
 use Rattle.pua_tree.specs.Tree.{Tree, Spot, is_dir}
 use Rattle.pua_tree.specs.Steps.{◌>>=◌}
-use Rattle.pua_path.specs.Limits.{link_limit}
+use Rattle.pua_path.specs.Limits.{most_links}
 use Rattle.pua_path.specs.Paths.{parts_of, is_absolute, text_errno, text_fault}
 use Rattle.pua_path.specs.Resolution.{Resolved, Directory, Linked, Plain, Nothing, standing_at, is_followed, slot_or, walk, start_of, resolve_parts, resolution}
 use Rattle.pua_path.specs.declared.errno.Errno.{Errno}
@@ -21,7 +21,7 @@ use Rattle.pua_path.specs.declared.traced.Stop.{Stop}
 use Rattle.pua_path.specs.declared.traced.Stop.TheVariants.{NoEntry, NoDirectory, LinkBeyond}
 use Rattle.pua_path.specs.declared.traced.TextFault.{TextFault}
 use Rattle.pua_path.specs.declared.traced.PathFault.TheVariants.{InText, NoStart}
-use Rattle.pua_path.specs.Traces.{stop_errno, Trace, at_once, behind, slot_or_stop, walk_traced, trace_parts, resolved_as, named_or_stopped, as_path_trace, PathTrace, fails_in, trace_from, object_or_errno}
+use Rattle.pua_path.specs.Traces.{stop_errno, Trace, at_once, after_links, slot_or_stop, walk_traced, trace_parts, resolved_as, named_or_stopped, as_path_trace, PathTrace, fails_in, trace_from, object_or_errno}
 use Rattle.pua_path.specs.TraceLaws.{TracesAnswer, TextTracesAnswer}
 
 slot_answers : (rest : List Part) (found : Found) (stop : Stop) (links : ℕ) → resolved_as (slot_or_stop rest found stop links).outcome ≡ slot_or rest found (stop_errno stop) links
@@ -62,7 +62,7 @@ pub traces_answer : TracesAnswer
 traces_answer t mode zero dir way ps = walk_answers t mode 0 (λ spot target rest. at_once (Err (LinkBeyond spot))) (λ from target rest. Err ELOOP) (λ dir name target rest. refl) ps dir way
 traces_answer t mode (suc links) dir way ps =
     walk_answers t mode (suc links)
-    (λ spot target rest. behind (spot ∷ []) (trace_parts links t mode (start_of target spot.0) Top (parts_of ending.Dot target ++ rest)))
+    (λ spot target rest. after_links (spot ∷ []) (trace_parts links t mode (start_of target spot.0) Top (parts_of ending.Dot target ++ rest)))
     (λ from target rest. resolve_parts links t mode (start_of target from) Top (parts_of ending.Dot target ++ rest))
     (λ dir name target rest. traces_answer t mode links (start_of target dir) Top (parts_of ending.Dot target ++ rest)) ps dir way
 
@@ -75,11 +75,11 @@ pub from_answers : (t : Tree) (from : ℕ) (ending : Ending) (text : List ℕ) (
 unfolding trace_from
 from_answers t from ending text mode = by (not (is_absolute text) && not (is_dir t from))
   where
-    by : (v : Bool) → object_or_errno (PathTrace.outcome (if v then fails_in NoStart else as_path_trace (trace_parts link_limit t mode (start_of text from) Top (parts_of ending text))))
-        ≡ (if v then Err ENOENT else (resolve_parts link_limit t mode (start_of text from) Top (parts_of ending text) >>= λ found. Ok found.0))
+    by : (v : Bool) → object_or_errno (PathTrace.outcome (if v then fails_in NoStart else as_path_trace (trace_parts most_links t mode (start_of text from) Top (parts_of ending text))))
+        ≡ (if v then Err ENOENT else (resolve_parts most_links t mode (start_of text from) Top (parts_of ending text) >>= λ found. Ok found.0))
     by true = refl
-    by false = forgets (trace_parts link_limit t mode (start_of text from) Top (parts_of ending text)).outcome
-        ∙ ap (λ r. r >>= λ found. Ok found.0) (traces_answer t mode link_limit (start_of text from) Top (parts_of ending text))
+    by false = forgets (trace_parts most_links t mode (start_of text from) Top (parts_of ending text)).outcome
+        ∙ ap (λ r. r >>= λ found. Ok found.0) (traces_answer t mode most_links (start_of text from) Top (parts_of ending text))
 
 pub text_traces_answer : TextTracesAnswer
 text_traces_answer t from ending text mode = by (text_fault text)

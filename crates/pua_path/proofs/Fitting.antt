@@ -10,7 +10,7 @@ use Rattle.pua_tree.proofs.ForCallers.{exact_spots}
 use Rattle.pua_tree.specs.declared.node.Kind.{Kind}
 use Rattle.pua_tree.specs.declared.node.Kind.TheVariants as kinds
 use Rattle.pua_path.specs.Paths.{parts_of, is_absolute}
-use Rattle.pua_path.specs.Resolution.{Resolved, Standing, Directory, Linked, Plain, Nothing, standing_of, standing_at, is_followed, slot_or, walk, start_of, resolve_parts, reached, resolution, link_limit}
+use Rattle.pua_path.specs.Resolution.{Resolved, Standing, Directory, Linked, Plain, Nothing, standing_of, standing_at, is_followed, slot_or, walk, start_of, resolve_parts, dir_with_links, resolution, most_links}
 use Rattle.pua_path.specs.Fits.{FoundFits, FoundsFit, StandsAsNamed, IsOf, is_link_kind}
 use Rattle.pua_path.specs.Laws.{Lands, ResolutionsFit}
 use Rattle.pua_path.specs.declared.errno.Errno.{Errno}
@@ -123,7 +123,7 @@ module _ (t : Tree) (fits : WellFormed t) where
     lands : (links : ℕ) (ps : List Part) (dir : ℕ) → is_dir t dir ≡ true → Lands t mode links (resolve_parts links t mode dir Top ps)
     lands links ps dir living = landed links (resolve_parts links t mode dir Top ps) (resolve_fits links ps dir living) (shrinks t mode links dir Top ps)
 
-  reached_is_dir : (r : Resolved) (next : ℕ × ℕ) → IsFitting Followed r → (r >>= reached) ≡ Ok next → is_dir t next.0 ≡ true
+  reached_is_dir : (r : Resolved) (next : ℕ × ℕ) → IsFitting Followed r → (r >>= dir_with_links) ≡ Ok next → is_dir t next.0 ≡ true
   reached_is_dir (Ok (Whole dir way, links)) next right e = let same : dir ≡ next.0 = cc in ap (is_dir t) (sym same) ∙ right.fits
   reached_is_dir (Ok (Slot dir name _, links)) next right e = cc
   reached_is_dir (Err errno) next right e = cc
@@ -131,19 +131,19 @@ module _ (t : Tree) (fits : WellFormed t) where
   whole_fits : (from : ℕ) (ending : Ending) (text : List ℕ) (mode : Last) (object : Found) → resolution t from ending text mode ≡ Ok object → IsOf t mode object
   whole_fits from ending text mode object = by (is_absolute text) (is_dir t from) refl
     where
-      go : (start : ℕ) → is_dir t start ≡ true → (resolve_parts link_limit t mode start Top (parts_of ending text) >>= λ found. Ok found.0) ≡ Ok object → IsOf t mode object
-      go start living e = found_fits mode (resolve_parts link_limit t mode start Top (parts_of ending text)) object (resolve_fits mode link_limit (parts_of ending text) start living) e
+      go : (start : ℕ) → is_dir t start ≡ true → (resolve_parts most_links t mode start Top (parts_of ending text) >>= λ found. Ok found.0) ≡ Ok object → IsOf t mode object
+      go start living e = found_fits mode (resolve_parts most_links t mode start Top (parts_of ending text)) object (resolve_fits mode most_links (parts_of ending text) start living) e
 
       by : (absolute living : Bool) → is_dir t from ≡ living →
-          (if not absolute && not living then Err ENOENT else (resolve_parts link_limit t mode (if absolute then 0 else from) Top (parts_of ending text) >>= λ found. Ok found.0)) ≡ Ok object → IsOf t mode object
+          (if not absolute && not living then Err ENOENT else (resolve_parts most_links t mode (if absolute then 0 else from) Top (parts_of ending text) >>= λ found. Ok found.0)) ≡ Ok object → IsOf t mode object
       by true true is e = go 0 fits.root e
       by true false is e = go 0 fits.root e
       by false true is e = go from is e
       by false false is e = cc
 
 -- a step uses no more links than may be followed
-reached_used : (r : Resolved) (next : ℕ × ℕ) → (r >>= reached) ≡ Ok next → next.1 ≤ link_limit
-reached_used (Ok (Whole dir way, links)) next e = let same : (dir, link_limit - links) ≡ next = cc in omega (arith, ap (λ (n : ℕ × ℕ). n.1) same)
+reached_used : (r : Resolved) (next : ℕ × ℕ) → (r >>= dir_with_links) ≡ Ok next → next.1 ≤ most_links
+reached_used (Ok (Whole dir way, links)) next e = let same : (dir, most_links - links) ≡ next = cc in omega (arith, ap (λ (n : ℕ × ℕ). n.1) same)
 reached_used (Ok (Slot dir name _, links)) next e = cc
 reached_used (Err errno) next e = cc
 
@@ -151,9 +151,9 @@ pub resolutions_fit : ResolutionsFit
 resolutions_fit t fits = record {
   parts = λ links dir mode ps living. lands t fits mode links ps dir living;
   whole = whole_fits t fits;
-  last = λ dir used part mode object living e. found_fits t fits mode (resolve_parts (link_limit - used) t mode dir Top (part ∷ [])) object (resolve_fits t fits mode (link_limit - used) (part ∷ []) dir living) e;
-  step = λ dir used part next living e. reached_is_dir t fits (resolve_parts (link_limit - used) t Followed dir Top (part ∷ parts.Dot ∷ [])) next (resolve_fits t fits Followed (link_limit - used) (part ∷ parts.Dot ∷ []) dir living) e;
-  used = λ dir used part next e. reached_used (resolve_parts (link_limit - used) t Followed dir Top (part ∷ parts.Dot ∷ [])) next e;
+  last = λ dir used part mode object living e. found_fits t fits mode (resolve_parts (most_links - used) t mode dir Top (part ∷ [])) object (resolve_fits t fits mode (most_links - used) (part ∷ []) dir living) e;
+  step = λ dir used part next living e. reached_is_dir t fits (resolve_parts (most_links - used) t Followed dir Top (part ∷ parts.Dot ∷ [])) next (resolve_fits t fits Followed (most_links - used) (part ∷ parts.Dot ∷ []) dir living) e;
+  used = λ dir used part next e. reached_used (resolve_parts (most_links - used) t Followed dir Top (part ∷ parts.Dot ∷ [])) next e;
 }
 
 -- what parts name is of the tree, and stands at the name by which it was found

@@ -10,8 +10,8 @@ use Rattle.pua_tree.proofs.ForCallers.{None≢Some, same_Some}
 use Rattle.pua_tree.specs.Steps.{◌>>=◌}
 use Rattle.pua_path.specs.Kinds.{is_file}
 use Rattle.pua_path.specs.Paths.{parts_of}
-use Rattle.pua_path.specs.Resolution.{Resolved, Standing, Directory, Linked, Plain, Nothing, standing_of, standing_at, start_of, resolve_parts, counted, step, last, follow, link_limit}
-use Rattle.pua_path.specs.Laws.{IsDecidedByLinks, FollowsLinks, entered, IsFollowed, Fails, IsToldBy, FollowDecides, KeptFollowsNone}
+use Rattle.pua_path.specs.Resolution.{Resolved, Standing, Directory, Linked, Plain, Nothing, standing_of, standing_at, start_of, resolve_parts, found_with_links, step, last, follow, most_links}
+use Rattle.pua_path.specs.Laws.{IsDecidedByLinks, FollowsLinks, dir_entered, IsFollowed, Fails, IsToldBy, FollowDecides, KeptFollowsNone}
 use Rattle.pua_path.specs.declared.errno.Errno.{Errno}
 use Rattle.pua_path.specs.declared.errno.Errno.TheVariants.{ELOOP}
 use Rattle.pua_path.specs.declared.text.Ending.TheVariants as ending
@@ -29,45 +29,45 @@ false≢true : ◌≡◌ {A = Bool} false true → ⊥
 false≢true e = cc
 
 -- what is arrived at with links left is entered with the others used
-arrives_entered : (found : Found) (left used : ℕ) → link_limit - left ≡ used → arrived (found, left) ≡ entered used found
+arrives_entered : (found : Found) (left used : ℕ) → most_links - left ≡ used → arrived (found, left) ≡ dir_entered used found
 arrives_entered (Whole dir way) left used e = ap (λ n. Ok (dir, n)) e
 arrives_entered (Slot dir name found) left used e = refl
 
-module _ (t : Tree) (dir used : ℕ) (part : Part) (low : used ≤ link_limit) where
+module _ (t : Tree) (dir used : ℕ) (part : Part) (low : used ≤ most_links) where
   abbrev answer : ℕ → Resolved
   answer links = resolve_parts links t Followed dir ways.Top (part ∷ [])
 
-  last_by : (r : Resolved) → answer (link_limit - used) ≡ r → last t dir used part Followed ≡ (r >>= λ found. Ok found.0)
+  last_by : (r : Resolved) → answer (most_links - used) ≡ r → last t dir used part Followed ≡ (r >>= λ found. Ok found.0)
   last_by r e = ap (λ (r : Resolved). r >>= λ found. Ok found.0) e
 
-  step_by : (r : Resolved) → answer (link_limit - used) ≡ r → step t dir used part ≡ (r >>= arrived)
+  step_by : (r : Resolved) → answer (most_links - used) ≡ r → step t dir used part ≡ (r >>= arrived)
   step_by r e = sym (step_arrives t dir used part r (sym e))
 
-  fails : (errno : Errno) → answer (link_limit - used) ≡ Err errno → Fails t dir used part
+  fails : (errno : Errno) → answer (most_links - used) ≡ Err errno → Fails t dir used part
   fails errno e = record { errno = errno; last_fails = last_by (Err errno) e; step_fails = step_by (Err errno) e }
 
-  follows : (found : Found) (count : ℕ) → count ≤ link_limit → FollowsLinks answer count (Ok found) → IsFollowed t dir used part found count
+  follows : (found : Found) (count : ℕ) → count ≤ most_links → FollowsLinks answer count (Ok found) → IsFollowed t dir used part found count
   follows found count within h = record {
     within = within;
-    last_within = λ le. last_by (Ok (found, link_limit - used - count)) (h.enough (link_limit - used) (omega (arith, le)));
-    step_within = λ le. step_by (Ok (found, link_limit - used - count)) (h.enough (link_limit - used) (omega (arith, le))) ∙ arrives_entered found (link_limit - used - count) (used + count) (omega (arith, le));
-    last_beyond = λ lt. last_by (Err ELOOP) (h.too_few (link_limit - used) (omega (arith, lt, low)));
-    step_beyond = λ lt. step_by (Err ELOOP) (h.too_few (link_limit - used) (omega (arith, lt, low)));
+    last_within = λ le. last_by (Ok (found, most_links - used - count)) (h.enough (most_links - used) (omega (arith, le)));
+    step_within = λ le. step_by (Ok (found, most_links - used - count)) (h.enough (most_links - used) (omega (arith, le))) ∙ arrives_entered found (most_links - used - count) (used + count) (omega (arith, le));
+    last_beyond = λ lt. last_by (Err ELOOP) (h.too_few (most_links - used) (omega (arith, lt, low)));
+    step_beyond = λ lt. step_by (Err ELOOP) (h.too_few (most_links - used) (omega (arith, lt, low)));
   }
 
-  told_by : (count : ℕ) (outcome : Result Found Errno) → count ≤ link_limit → FollowsLinks answer count outcome → IsToldBy t dir used part ((outcome >>= λ found. Ok (found, link_limit - count)) >>= counted)
-  told_by count (Ok found) within h = let same : count ≡ link_limit - (link_limit - count) = omega (arith, within) in subst (IsFollowed t dir used part found) same (follows found count within h)
-  told_by count (Err errno) within h = elim (cases_lt (link_limit - used) count) [
-    | inl few ↦ fails ELOOP (h.too_few (link_limit - used) few)
-    | inr enough ↦ fails errno (h.enough (link_limit - used) enough)
+  told_by : (count : ℕ) (outcome : Result Found Errno) → count ≤ most_links → FollowsLinks answer count outcome → IsToldBy t dir used part ((outcome >>= λ found. Ok (found, most_links - count)) >>= found_with_links)
+  told_by count (Ok found) within h = let same : count ≡ most_links - (most_links - count) = omega (arith, within) in subst (IsFollowed t dir used part found) same (follows found count within h)
+  told_by count (Err errno) within h = elim (cases_lt (most_links - used) count) [
+    | inl few ↦ fails ELOOP (h.too_few (most_links - used) few)
+    | inr enough ↦ fails errno (h.enough (most_links - used) enough)
   ]
 
-  told : IsDecidedByLinks answer link_limit → IsToldBy t dir used part (answer link_limit >>= counted)
-  told (inl loops) = subst (λ r. IsToldBy t dir used part (r >>= counted)) (sym (loops link_limit (omega arith))) (fails ELOOP (loops (link_limit - used) (omega arith)))
-  told (inr (count, (outcome, (within, h)))) = subst (λ r. IsToldBy t dir used part (r >>= counted)) (sym (h.enough link_limit within)) (told_by count outcome within h)
+  told : IsDecidedByLinks answer most_links → IsToldBy t dir used part (answer most_links >>= found_with_links)
+  told (inl loops) = subst (λ r. IsToldBy t dir used part (r >>= found_with_links)) (sym (loops most_links (omega arith))) (fails ELOOP (loops (most_links - used) (omega arith)))
+  told (inr (count, (outcome, (within, h)))) = subst (λ r. IsToldBy t dir used part (r >>= found_with_links)) (sym (h.enough most_links within)) (told_by count outcome within h)
 
 pub follow_decides : FollowDecides
-follow_decides t dir used part low = told t dir used part low (links_decide t Followed dir ways.Top (part ∷ []) link_limit)
+follow_decides t dir used part low = told t dir used part low (links_decide t Followed dir ways.Top (part ∷ []) most_links)
 
 -- what a name is where the last part is kept
 kept_at : ℕ → List ℕ → Standing → Found
@@ -98,11 +98,11 @@ module _ (t : Tree) (links dir : ℕ) where
 pub kept_follows_none : KeptFollowsNone
 kept_follows_none t dir used part =
     let after : (links : ℕ) → (resolve_parts links t Kept dir ways.Top (part ∷ []) >>= λ found. Ok found.0) ≡ Ok (kept_found t dir part) = λ links. ap (λ (r : Resolved). r >>= λ found. Ok found.0) (kept_free t links dir part) in
-    after (link_limit - used) ∙ sym (after (link_limit - 0))
+    after (most_links - used) ∙ sym (after (most_links - 0))
 
 -- a name where nothing stands is found as such, by no link
 pub missing_follows : (t : Tree) (dir : ℕ) (name : List ℕ) → look t dir name ≡ None → follow t dir (parts.Name name) ≡ Ok (Slot dir name None, 0)
-missing_follows t dir name none = ap (λ (r : Resolved). r >>= counted) (resolve_name t Followed link_limit dir ways.Top name [] Nothing (by none))
+missing_follows t dir name none = ap (λ (r : Resolved). r >>= found_with_links) (resolve_name t Followed most_links dir ways.Top name [] Nothing (by none))
   where
     by : look t dir name ≡ None → Nothing ≡ standing_at t dir name
     by e = rw e refl
@@ -127,7 +127,7 @@ module _ (t : Tree) (dir : ℕ) (name : List ℕ) (x : ℕ) (kind : Kind) (file 
 
   -- a file is found at its name, by no link
   pub file_follows : tree.found_at t dir name ≡ Some (x, kind) → follow t dir (parts.Name name) ≡ Ok (Slot dir name (Some x), 0)
-  file_follows e = ap (λ (r : Resolved). r >>= counted) (resolve_name t Followed link_limit dir ways.Top name [] (Plain x) (by_row (look t dir name) refl e))
+  file_follows e = ap (λ (r : Resolved). r >>= found_with_links) (resolve_name t Followed most_links dir ways.Top name [] (Plain x) (by_row (look t dir name) refl e))
 
 -- the kind of what is found at a name
 pub found_kind : (t : Tree) (dir : ℕ) (name : List ℕ) (x : ℕ) (kind : Kind) → tree.found_at t dir name ≡ Some (x, kind) → kind_at t x ≡ Some kind
@@ -149,16 +149,16 @@ count_of (Ok found) = found.1
 count_of (Err errno) = 1
 
 module _ (t : Tree) (from : ℕ) (ps : List Part) where
-  counts_some : (outcome : Result Found Errno) (count : ℕ) → count_of ((outcome >>= λ found. Ok (found, 31 - count)) >>= counted) ≡ 0 → ⊥
+  counts_some : (outcome : Result Found Errno) (count : ℕ) → count_of ((outcome >>= λ found. Ok (found, 31 - count)) >>= found_with_links) ≡ 0 → ⊥
   counts_some (Ok found) count e = omega (arith, e)
   counts_some (Err errno) count e = omega (arith, e)
 
-  link_counts : count_of (resolve_parts 31 t Followed from ways.Top ps >>= counted) ≡ 0 → ⊥
+  link_counts : count_of (resolve_parts 31 t Followed from ways.Top ps >>= found_with_links) ≡ 0 → ⊥
   link_counts = by (links_decide t Followed from ways.Top ps 31)
     where
-      by : IsDecidedByLinks (λ links. resolve_parts links t Followed from ways.Top ps) 31 → count_of (resolve_parts 31 t Followed from ways.Top ps >>= counted) ≡ 0 → ⊥
-      by (inl loops) e = let no : 1 ≡ 0 = sym (ap (λ (r : Resolved). count_of (r >>= counted)) (loops 31 (omega arith))) ∙ e in omega (arith, no)
-      by (inr (count, (outcome, (within, h)))) e = counts_some outcome count (sym (ap (λ (r : Resolved). count_of (r >>= counted)) (h.enough 31 within)) ∙ e)
+      by : IsDecidedByLinks (λ links. resolve_parts links t Followed from ways.Top ps) 31 → count_of (resolve_parts 31 t Followed from ways.Top ps >>= found_with_links) ≡ 0 → ⊥
+      by (inl loops) e = let no : 1 ≡ 0 = sym (ap (λ (r : Resolved). count_of (r >>= found_with_links)) (loops 31 (omega arith))) ∙ e in omega (arith, no)
+      by (inr (count, (outcome, (within, h)))) e = counts_some outcome count (sym (ap (λ (r : Resolved). count_of (r >>= found_with_links)) (h.enough 31 within)) ∙ e)
 
 abbrev without_count : Result (Found × ℕ) Errno → Result Found Errno
 without_count (Ok found) = Ok found.0
@@ -169,17 +169,17 @@ module _ (t : Tree) (dir : ℕ) where
   found_at : (name : List ℕ) (found : Found) (s : Standing) → s ≡ standing_at t dir name → follow t dir (parts.Name name) ≡ Ok (found, 0) → ◌≡◌ {A = Result Found Errno} (Ok found) (Ok (kept_at dir name s))
   unfolding kept_at
   found_at name found (Directory x) same e =
-      ap without_count (sym e ∙ ap (λ (r : Resolved). r >>= counted) (resolve_directory t Followed link_limit dir ways.Top name [] x same ∙ resolve_end t Followed link_limit x (ways.Named dir name)))
+      ap without_count (sym e ∙ ap (λ (r : Resolved). r >>= found_with_links) (resolve_directory t Followed most_links dir ways.Top name [] x same ∙ resolve_end t Followed most_links x (ways.Named dir name)))
   found_at name found (Linked x target) same e =
-      absurd (link_counts t (start_of target dir) (parts_of ending.Dot target ++ []) (ap count_of (sym (ap (λ (r : Resolved). r >>= counted) (resolve_linked t Followed link_limit dir ways.Top name [] x target same refl)) ∙ e)))
-  found_at name found (Plain x) same e = ap without_count (sym e ∙ ap (λ (r : Resolved). r >>= counted) (resolve_name t Followed link_limit dir ways.Top name [] (Plain x) same))
-  found_at name found Nothing same e = ap without_count (sym e ∙ ap (λ (r : Resolved). r >>= counted) (resolve_name t Followed link_limit dir ways.Top name [] Nothing same))
+      absurd (link_counts t (start_of target dir) (parts_of ending.Dot target ++ []) (ap count_of (sym (ap (λ (r : Resolved). r >>= found_with_links) (resolve_linked t Followed most_links dir ways.Top name [] x target same refl)) ∙ e)))
+  found_at name found (Plain x) same e = ap without_count (sym e ∙ ap (λ (r : Resolved). r >>= found_with_links) (resolve_name t Followed most_links dir ways.Top name [] (Plain x) same))
+  found_at name found Nothing same e = ap without_count (sym e ∙ ap (λ (r : Resolved). r >>= found_with_links) (resolve_name t Followed most_links dir ways.Top name [] Nothing same))
 
   found_kept : (part : Part) (found : Found) → follow t dir part ≡ Ok (found, 0) → ◌≡◌ {A = Result Found Errno} (Ok found) (Ok (kept_found t dir part))
   unfolding kept_found
-  found_kept parts.Dot found e = ap without_count (sym e ∙ ap (λ (r : Resolved). r >>= counted) (resolve_dot t Followed link_limit dir ways.Top [] ∙ resolve_end t Followed link_limit dir ways.Dot))
-  found_kept parts.DotDot found e = ap without_count (sym e ∙ ap (λ (r : Resolved). r >>= counted) (resolve_dotdot t Followed link_limit dir ways.Top [] ∙ resolve_end t Followed link_limit (above t dir) ways.DotDot))
+  found_kept parts.Dot found e = ap without_count (sym e ∙ ap (λ (r : Resolved). r >>= found_with_links) (resolve_dot t Followed most_links dir ways.Top [] ∙ resolve_end t Followed most_links dir ways.Dot))
+  found_kept parts.DotDot found e = ap without_count (sym e ∙ ap (λ (r : Resolved). r >>= found_with_links) (resolve_dotdot t Followed most_links dir ways.Top [] ∙ resolve_end t Followed most_links (above t dir) ways.DotDot))
   found_kept (parts.Name name) found e = found_at name found (standing_at t dir name) refl e
 
 pub unlinked_alike : (t : Tree) (dir : ℕ) (part : Part) (found : Found) → follow t dir part ≡ Ok (found, 0) → last t dir 0 part Kept ≡ Ok found
-unlinked_alike t dir part found e = ap (λ (r : Resolved). r >>= λ found. Ok found.0) (kept_free t link_limit dir part) ∙ sym (found_kept t dir part found e)
+unlinked_alike t dir part found e = ap (λ (r : Resolved). r >>= λ found. Ok found.0) (kept_free t most_links dir part) ∙ sym (found_kept t dir part found e)

@@ -3,7 +3,7 @@ use Rattle.std.proofs.Common.{◌≡◌, ℕ, zero, suc, Bool, true, false, List
 use Rattle.std.specs.Prelude.{if◌then◌else◌}
 use Rattle.pua_tree.specs.Tree.{Tree, Spot, above}
 use Rattle.pua_path.specs.Paths.{parts_of}
-use Rattle.pua_path.specs.Remaining.{is_done}
+use Rattle.pua_path.specs.Remaining.{has_no_part}
 use Rattle.pua_path.specs.Resolution.{Standing, Directory, Linked, Plain, Nothing, standing_at, is_followed, start_of, resolve_parts}
 use Rattle.pua_path.specs.declared.text.Ending.TheVariants as ending
 use Rattle.pua_path.specs.declared.found.Part.{Part}
@@ -17,7 +17,7 @@ use Rattle.pua_path.specs.declared.found.Found.TheVariants.{Whole, Slot}
 use Rattle.pua_path.proofs.Steps.{resolve_dot, resolve_dotdot, resolve_directory, resolve_linked, resolve_passed}
 use Rattle.pua_path.specs.declared.traced.Stop.{Stop}
 use Rattle.pua_path.specs.declared.traced.Stop.TheVariants.{NoEntry, NoDirectory, LinkBeyond}
-use Rattle.pua_path.specs.Traces.{stop_spot, Trace, at_once, behind, slot_or_stop, walk_traced, trace_parts}
+use Rattle.pua_path.specs.Traces.{stop_spot, Trace, at_once, after_links, slot_or_stop, walk_traced, trace_parts}
 use Rattle.pua_path.specs.Goes.{Comes, there, by_dot, by_dots, by_directory, by_target, StopsFor, IsFoundBy, EndsAt, Arrives, TracesArrive, ComingResolves}
 use Rattle.pua_path.proofs.TraceSteps.{met_traced, traced_name}
 
@@ -38,7 +38,7 @@ module _ (t : Tree) (mode : Last) (links dir links_on dir_on : ℕ) (ps on : Lis
 
 -- where nothing but a last name is left
 slot_arrives : (t : Tree) (mode : Last) (links dir : ℕ) (name : List ℕ) (rest : List Part) (x : Option ℕ) (stop : Stop) → stop_spot stop ≡ (dir, name) → IsFoundBy (standing_at t dir name) x →
-    (is_done rest ≡ false → StopsFor t mode links rest stop) → Arrives t mode links dir (parts.Name name ∷ rest) (slot_or_stop rest (Slot dir name x) stop links)
+    (has_no_part rest ≡ false → StopsFor t mode links rest stop) → Arrives t mode links dir (parts.Name name ∷ rest) (slot_or_stop rest (Slot dir name x) stop links)
 slot_arrives t mode links dir name [] x stop at found why = (there, found)
 slot_arrives t mode links dir name (p ∷ rest) x stop at found why =
     record { left = links; rest = p ∷ rest; comes = subst (λ (spot : Spot). Comes t mode links dir (parts.Name name ∷ p ∷ rest) [] links spot.0 (parts.Name spot.1 ∷ p ∷ rest)) (sym at) there; why = why refl }
@@ -80,13 +80,13 @@ traces_arrive t mode zero dir way ps =
     (λ dir x name target rest e k. record { left = 0; rest = rest; comes = there; why = (x, target, e, k, refl) }) ps dir way
 traces_arrive t mode (suc links) dir way ps =
     walk_arrives t mode (suc links)
-    (λ spot target rest. behind (spot ∷ []) (trace_parts links t mode (start_of target spot.0) Top (parts_of ending.Dot target ++ rest)))
+    (λ spot target rest. after_links (spot ∷ []) (trace_parts links t mode (start_of target spot.0) Top (parts_of ending.Dot target ++ rest)))
     (λ dir x name target rest e k.
     arrives_behind t mode (suc links) dir links (start_of target dir) (parts.Name name ∷ rest) (parts_of ending.Dot target ++ rest) (λ spots. (dir, name) ∷ spots) (λ spots left at qs c. by_target x target e k c) _
     (traces_arrive t mode links (start_of target dir) Top (parts_of ending.Dot target ++ rest))) ps dir way
 
 -- the same with the way that was come by an equation, for the cases
-resolves : (t : Tree) (mode : Last) {links dir : ℕ} {ps : List Part} {spots : List Spot} {left at : ℕ} {rs : List Part} → Comes t mode links dir ps spots left at rs → is_done rs ≡ false →
+resolves : (t : Tree) (mode : Last) {links dir : ℕ} {ps : List Part} {spots : List Spot} {left at : ℕ} {rs : List Part} → Comes t mode links dir ps spots left at rs → has_no_part rs ≡ false →
     (way other : Way) → resolve_parts links t mode dir way ps ≡ resolve_parts left t mode at other rs
 resolves t mode {links} {dir} {ps} there d way other = resolve_passed t mode links dir way other ps d
 resolves t mode {links} {dir} (by_dot {ps = ps} c) d way other = resolve_dot t mode links dir way ps ∙ resolves t mode c d Dot other

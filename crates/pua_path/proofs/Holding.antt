@@ -14,7 +14,7 @@ use Rattle.pua_path.specs.declared.found.Found.{Found}
 use Rattle.pua_path.specs.declared.found.Found.TheVariants.{Slot}
 use Rattle.pua_path.specs.declared.traced.Stop.{Stop}
 use Rattle.pua_path.specs.declared.traced.Stop.TheVariants.{NoEntry, NoDirectory, LinkBeyond}
-use Rattle.pua_path.specs.Traces.{Trace, at_once, behind, slot_or_stop, walk_traced, trace_parts}
+use Rattle.pua_path.specs.Traces.{Trace, at_once, after_links, slot_or_stop, walk_traced, trace_parts}
 use Rattle.pua_path.proofs.TraceSteps.{met_traced, traced_name}
 use Rattle.pua_path.specs.TraceLaws.{StopHolds, IsLinkAt, CountsLinks, TraceHolds, TracesHold}
 
@@ -43,7 +43,7 @@ module _ (t : Tree) (mode : Last) (links : ℕ) (follow : Spot → List ℕ → 
       rw (traced_name t mode links follow dir way name ps) (met_holds ps dir name (standing_at t dir name) refl (λ x. walk_holds ps x (Named dir name)))
 
 -- one link more, in front
-one_more : (t : Tree) (links : ℕ) (spot : Spot) (trace : Trace) → IsLinkAt t spot → TraceHolds t links trace → TraceHolds t (suc links) (behind (spot ∷ []) trace)
+one_more : (t : Tree) (links : ℕ) (spot : Spot) (trace : Trace) → IsLinkAt t spot → TraceHolds t links trace → TraceHolds t (suc links) (after_links (spot ∷ []) trace)
 one_more t links spot trace is h = record { stop = h.stop; are_links = (is, h.are_links); count = by trace.outcome trace.links h.count }
   where
     by : (outcome : Result (Found × ℕ) Stop) (ls : List Spot) → CountsLinks links (record { links = ls; outcome = outcome }) → CountsLinks (suc links) (record { links = spot ∷ ls; outcome = outcome })
@@ -57,5 +57,5 @@ traces_hold t mode zero dir way ps =
     walk_holds t mode 0 (λ spot target rest. at_once (Err (LinkBeyond spot))) (λ dir name target rest is. record { stop = is; are_links = tt; count = refl }) ps dir way
 traces_hold t mode (suc links) dir way ps =
     walk_holds t mode (suc links)
-    (λ spot target rest. behind (spot ∷ []) (trace_parts links t mode (start_of target spot.0) Top (parts_of ending.Dot target ++ rest)))
+    (λ spot target rest. after_links (spot ∷ []) (trace_parts links t mode (start_of target spot.0) Top (parts_of ending.Dot target ++ rest)))
     (λ dir name target rest is. one_more t links (dir, name) _ is (traces_hold t mode links (start_of target dir) Top (parts_of ending.Dot target ++ rest))) ps dir way

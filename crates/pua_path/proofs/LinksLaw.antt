@@ -3,7 +3,7 @@ use Rattle.std.proofs.Common.{◌≡◌, ℕ, zero, suc, Bool, true, false, List
 use Rattle.pua_tree.specs.Tree.{Tree}
 use Rattle.pua_tree.specs.Steps.{◌>>=◌}
 use Rattle.pua_path.specs.Paths.{parts_of}
-use Rattle.pua_path.specs.Resolution.{Resolved, Standing, Directory, Linked, Plain, Nothing, standing_at, is_followed, slot_or, start_of, resolve_parts, reached, step, last, link_limit}
+use Rattle.pua_path.specs.Resolution.{Resolved, Standing, Directory, Linked, Plain, Nothing, standing_at, is_followed, slot_or, start_of, resolve_parts, dir_with_links, step, last, most_links}
 use Rattle.pua_path.specs.Laws.{IsDecidedByLinks, LinksDecide, StepFollows, StepsFollow, LastFollows, LastsFollow}
 use Rattle.pua_path.specs.declared.errno.Errno.{Errno}
 use Rattle.pua_path.specs.declared.errno.Errno.TheVariants.{ENOENT, ENOTDIR, ELOOP}
@@ -97,27 +97,27 @@ place : Found → Result ℕ Errno
 place (Whole dir way) = Ok dir
 place (Slot dir name _) = Err ENOTDIR
 
-reached_after : (outcome : Result Found Errno) (left total : ℕ) → link_limit - left ≡ total → ((outcome >>= λ found. Ok (found, left)) >>= reached) ≡ ((outcome >>= place) >>= λ dir. Ok (dir, total))
+reached_after : (outcome : Result Found Errno) (left total : ℕ) → most_links - left ≡ total → ((outcome >>= λ found. Ok (found, left)) >>= dir_with_links) ≡ ((outcome >>= place) >>= λ dir. Ok (dir, total))
 unfolding place
 reached_after (Err errno) left total e = refl
 reached_after (Ok (Whole dir way)) left total e = ap (λ n. Ok (dir, n)) e
 reached_after (Ok (Slot dir name _)) left total e = refl
 
 pub steps_follow : StepsFollow
-steps_follow t dir part = by (links_decide t Followed dir ways.Top (part ∷ parts.Dot ∷ []) link_limit)
+steps_follow t dir part = by (links_decide t Followed dir ways.Top (part ∷ parts.Dot ∷ []) most_links)
   where
-    by : IsDecidedByLinks (λ links. resolve_parts links t Followed dir ways.Top (part ∷ parts.Dot ∷ [])) link_limit →
-        ((used : ℕ) → used ≤ link_limit → step t dir used part ≡ Err ELOOP) ⊎ ((count : ℕ) × ((outcome : Result ℕ Errno) × StepFollows t dir part count outcome))
-    by (inl loops) = inl (λ used l. ap (λ r. r >>= reached) (loops (link_limit - used) (omega arith)))
+    by : IsDecidedByLinks (λ links. resolve_parts links t Followed dir ways.Top (part ∷ parts.Dot ∷ [])) most_links →
+        ((used : ℕ) → used ≤ most_links → step t dir used part ≡ Err ELOOP) ⊎ ((count : ℕ) × ((outcome : Result ℕ Errno) × StepFollows t dir part count outcome))
+    by (inl loops) = inl (λ used l. ap (λ r. r >>= dir_with_links) (loops (most_links - used) (omega arith)))
     by (inr (count, (outcome, (l, h)))) = inr (
       count,
       (
         (outcome >>= place),
         record {
           enough = λ used k.
-              ap (λ r. r >>= reached) (h.enough (link_limit - used) (omega (arith, k)))
-              ∙ reached_after outcome (link_limit - used - count) (used + count) (omega (arith, k));
-          too_few = λ used m k. ap (λ r. r >>= reached) (h.too_few (link_limit - used) (omega (arith, m, k)));
+              ap (λ r. r >>= dir_with_links) (h.enough (most_links - used) (omega (arith, k)))
+              ∙ reached_after outcome (most_links - used - count) (used + count) (omega (arith, k));
+          too_few = λ used m k. ap (λ r. r >>= dir_with_links) (h.too_few (most_links - used) (omega (arith, m, k)));
         },
       ),
     )
@@ -127,18 +127,18 @@ found_after (Err errno) left answer e = ap (λ (r : Resolved). r >>= λ found. O
 found_after (Ok found) left answer e = ap (λ (r : Resolved). r >>= λ found. Ok found.0) e
 
 pub lasts_follow : LastsFollow
-lasts_follow t dir part mode = by (links_decide t mode dir ways.Top (part ∷ []) link_limit)
+lasts_follow t dir part mode = by (links_decide t mode dir ways.Top (part ∷ []) most_links)
   where
-    by : IsDecidedByLinks (λ links. resolve_parts links t mode dir ways.Top (part ∷ [])) link_limit →
-        ((used : ℕ) → used ≤ link_limit → last t dir used part mode ≡ Err ELOOP) ⊎ ((count : ℕ) × ((outcome : Result Found Errno) × LastFollows t dir part mode count outcome))
-    by (inl loops) = inl (λ used l. ap (λ r. r >>= λ found. Ok found.0) (loops (link_limit - used) (omega arith)))
+    by : IsDecidedByLinks (λ links. resolve_parts links t mode dir ways.Top (part ∷ [])) most_links →
+        ((used : ℕ) → used ≤ most_links → last t dir used part mode ≡ Err ELOOP) ⊎ ((count : ℕ) × ((outcome : Result Found Errno) × LastFollows t dir part mode count outcome))
+    by (inl loops) = inl (λ used l. ap (λ r. r >>= λ found. Ok found.0) (loops (most_links - used) (omega arith)))
     by (inr (count, (outcome, (l, h)))) = inr (
       count,
       (
         outcome,
         record {
-          enough = λ used k. found_after outcome (link_limit - used - count) _ (h.enough (link_limit - used) (omega (arith, k)));
-          too_few = λ used m k. ap (λ r. r >>= λ found. Ok found.0) (h.too_few (link_limit - used) (omega (arith, m, k)));
+          enough = λ used k. found_after outcome (most_links - used - count) _ (h.enough (most_links - used) (omega (arith, k)));
+          too_few = λ used m k. ap (λ r. r >>= λ found. Ok found.0) (h.too_few (most_links - used) (omega (arith, m, k)));
         },
       ),
     )

@@ -14,9 +14,9 @@ use Rattle.std.proofs.lemmas.Bool.Decides.{nat_tests}
 use Rattle.std.proofs.Math.Bool.{or-false}
 use Rattle.pua_tree.specs.Names.{is_name, is_name_byte, same_bytes, has_byte, components, has_short_components}
 use Rattle.pua_path.specs.Paths.{part_of, ends_in_slash, ending_parts, parts_of, path_fault, text_errno}
-use Rattle.pua_path.specs.Limits.{path_limit}
+use Rattle.pua_path.specs.Limits.{most_path}
 use Rattle.pua_path.specs.Pieces.{begins_slash, IsCutAtSlash}
-use Rattle.pua_path.specs.Remaining.{slash_part, rest_parts, is_readable, is_piece, is_done, after_slashes}
+use Rattle.pua_path.specs.Remaining.{slash_part, rest_parts, is_readable, is_piece, has_no_part, after_slashes}
 use Rattle.pua_path.specs.declared.traced.TextFault.TheVariants.{LongText, LongComponent, NulInText}
 use Rattle.pua_path.specs.declared.text.Ending.TheVariants as ending
 use Rattle.pua_path.specs.declared.found.Part.{Part}
@@ -121,8 +121,8 @@ ending_parts-some : (y : ℕ) (ys : List ℕ) (at_end : Bool) → (y == 47) ≡ 
 ending_parts-some y ys at_end e = rw e (elim (slice_split slash ys) as (λ s. ending_parts ending.Dot (filter (λ piece. nat_lt 0 (length piece)) (onto_first y s)) at_end ≡ slash_part at_end) [ [] ↦ refl | piece ∷ pieces ↦ rw (some y piece) refl ])
 
 -- it has a part
-some_component : (y : ℕ) (ys : List ℕ) (more : List Part) → (y == 47) ≡ false → is_done (map part_of (components (y ∷ ys)) ++ more) ≡ false
-some_component y ys more e = rw e (elim (slice_split slash ys) as (λ s. is_done (map part_of (filter (λ piece. nat_lt 0 (length piece)) (onto_first y s)) ++ more) ≡ false) [ [] ↦ refl | piece ∷ pieces ↦ rw (some y piece) refl ])
+some_component : (y : ℕ) (ys : List ℕ) (more : List Part) → (y == 47) ≡ false → has_no_part (map part_of (components (y ∷ ys)) ++ more) ≡ false
+some_component y ys more e = rw e (elim (slice_split slash ys) as (λ s. has_no_part (map part_of (filter (λ piece. nat_lt 0 (length piece)) (onto_first y s)) ++ more) ≡ false) [ [] ↦ refl | piece ∷ pieces ↦ rw (some y piece) refl ])
 
 -- a text's parts are those behind its first slashes
 pub parts_of-begin : (text : List ℕ) → parts_of ending.Dot text ≡ rest_parts (after_slashes text)
@@ -313,14 +313,14 @@ only_dot (x ∷ xs) [] l e n = rest_parts-slashes x xs (sym e)
 only_dot (x ∷ xs) (y ∷ ys) l e n = absurd (omega (arith, eqb-true (length (y ∷ ys)) 0 n))
 
 -- what is left of a text has a part, unless it is empty
-pub rest_parts-some : (x : ℕ) (xs : List ℕ) → is_done (rest_parts (x ∷ xs)) ≡ false
+pub rest_parts-some : (x : ℕ) (xs : List ℕ) → has_no_part (rest_parts (x ∷ xs)) ≡ false
 rest_parts-some x xs = by (after_slashes (x ∷ xs)) refl
   where
-    by : (s : List ℕ) → after_slashes (x ∷ xs) ≡ s → is_done (rest_parts (x ∷ xs)) ≡ false
-    by [] e = ap is_done (rest_parts-slashes x xs e)
+    by : (s : List ℕ) → after_slashes (x ∷ xs) ≡ s → has_no_part (rest_parts (x ∷ xs)) ≡ false
+    by [] e = ap has_no_part (rest_parts-slashes x xs e)
     by (y ∷ ys) e =
         let pieces : components (x ∷ xs) ≡ components (y ∷ ys) = sym (components-after_slashes (x ∷ xs)) ∙ ap components e in
-        ap (λ p. is_done (map part_of p ++ slash_part (ends_in_slash (x ∷ xs)))) pieces
+        ap (λ p. has_no_part (map part_of p ++ slash_part (ends_in_slash (x ∷ xs)))) pieces
         ∙ some_component y ys (slash_part (ends_in_slash (x ∷ xs))) (head-after_slashes (x ∷ xs) y ys e)
 
 -- a target of slashes alone has no parts
@@ -337,7 +337,7 @@ fault_free false true false h = refl
 
 pub path_readable : (text : List ℕ) → path_fault text ≡ None → is_readable text ≡ true
 path_readable [] h = cc
-path_readable (b ∷ more) h = fault_free (nat_lt path_limit (length (b ∷ more))) (has_short_components (b ∷ more)) (has_byte 0 (b ∷ more)) h
+path_readable (b ∷ more) h = fault_free (nat_lt most_path (length (b ∷ more))) (has_short_components (b ∷ more)) (has_byte 0 (b ∷ more)) h
 
 pub begin_readable : (path text : List ℕ) → path_fault path ≡ None → text ≡ after_slashes path → is_readable text ≡ true
 begin_readable path text h e = ap is_readable e ∙ is_readable-after_slashes path ∙ path_readable path h

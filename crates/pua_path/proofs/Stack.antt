@@ -7,22 +7,22 @@ use Rattle.std.proofs.Math.Seq.{take-suc}
 use Rattle.std.proofs.lemmas.List.{take_more_set}
 use Rattle.std.proofs.lemmas.List.Folds.{list_all-append}
 use Rattle.pua_path.specs.Paths.{parts_of}
-use Rattle.pua_path.specs.Remaining.{rest_parts, pending, is_readable, can_wait, is_stack, is_done, after_slashes}
+use Rattle.pua_path.specs.Remaining.{rest_parts, pending_parts, is_readable, can_wait, is_stack, has_no_part, after_slashes}
 use Rattle.std.proofs.lemmas.Bool.{and_parts}
 use Rattle.pua_path.proofs.Pieces.{rest_parts-some, parts_of-begin}
 use Rattle.pua_path.specs.declared.text.Ending.TheVariants as ending
 use Rattle.pua_path.specs.declared.found.Part.{Part}
 
-pub pending_last : (texts : List (Bor (List ℕ))) (text : Bor (List ℕ)) → pending (texts ++ text ∷ []) ≡ rest_parts text.now ++ pending texts
+pub pending_last : (texts : List (Bor (List ℕ))) (text : Bor (List ℕ)) → pending_parts (texts ++ text ∷ []) ≡ rest_parts text.now ++ pending_parts texts
 pending_last [] text = sym (append-nil (rest_parts text.now))
-pending_last (t ∷ texts) text = rw (pending_last texts text) (append_assoc (rest_parts text.now) (pending texts) (rest_parts t.now))
+pending_last (t ∷ texts) text = rw (pending_last texts text) (append_assoc (rest_parts text.now) (pending_parts texts) (rest_parts t.now))
 
 -- the stack of texts below, one lower
-pub pending_popped : (depth : ℕ) (below : List (Bor (List ℕ))) (text : Bor (List ℕ)) → 0 < depth → depth ≤ length below → pending (take depth below) ≡ rest_parts (get_or below (depth - 1) text).now ++ pending (take (depth - 1) below)
+pub pending_popped : (depth : ℕ) (below : List (Bor (List ℕ))) (text : Bor (List ℕ)) → 0 < depth → depth ≤ length below → pending_parts (take depth below) ≡ rest_parts (get_or below (depth - 1) text).now ++ pending_parts (take (depth - 1) below)
 pending_popped zero below text p l = absurd (omega (arith, p))
 pending_popped (suc depth) below text p l = let lt : depth < length below = omega arith in rw (sub-one, take-suc below depth text, pending_last) refl
 
-pub pending_pushed : (depth : ℕ) (below : List (Bor (List ℕ))) (text : Bor (List ℕ)) → depth < length below → pending (take (depth + 1) (set below depth text)) ≡ rest_parts text.now ++ pending (take depth below)
+pub pending_pushed : (depth : ℕ) (below : List (Bor (List ℕ))) (text : Bor (List ℕ)) → depth < length below → pending_parts (take (depth + 1) (set below depth text)) ≡ rest_parts text.now ++ pending_parts (take depth below)
 pending_pushed depth below text l = rw (take_more_set below depth text l, pending_last) refl
 
 -- what a stack of texts is, in facts
@@ -41,27 +41,27 @@ pub stack_of : (top : List ℕ) (waiting : List (Bor (List ℕ))) → is_readabl
 stack_of top waiting r w e = rw (r, w, e) refl
 
 -- an empty text on top has none below
-pub nothing_below : (top : List ℕ) (waiting : List (Bor (List ℕ))) → is_stack top waiting ≡ true → (length top == 0) ≡ true → rest_parts top ++ pending waiting ≡ []
+pub nothing_below : (top : List ℕ) (waiting : List (Bor (List ℕ))) → is_stack top waiting ≡ true → (length top == 0) ≡ true → rest_parts top ++ pending_parts waiting ≡ []
 nothing_below (x ∷ xs) waiting h e = absurd (omega (arith, eqb-true (length (x ∷ xs)) 0 e))
 nothing_below [] [] h e = refl
 nothing_below [] (text ∷ texts) h e = absurd (omega (arith, eqb-true (length (text ∷ texts)) 0 (stack_facts [] (text ∷ texts) h).reached))
 
-is_done-append : (ps qs : List Part) → is_done ps ≡ false → is_done (ps ++ qs) ≡ false
+is_done-append : (ps qs : List Part) → has_no_part ps ≡ false → has_no_part (ps ++ qs) ≡ false
 is_done-append [] qs h = cc
 is_done-append (p ∷ ps) qs h = refl
 
 -- no part is left exactly where the text on top is empty
-pub done_where_empty : (top : List ℕ) (waiting : List (Bor (List ℕ))) → is_stack top waiting ≡ true → (length top == 0) ≡ is_done (rest_parts top ++ pending waiting)
-done_where_empty [] waiting h = sym (ap is_done (nothing_below [] waiting h refl))
-done_where_empty (x ∷ xs) waiting h = ne_eqb (length (x ∷ xs)) 0 (λ e. omega (arith, e)) ∙ sym (is_done-append (rest_parts (x ∷ xs)) (pending waiting) (rest_parts-some x xs))
+pub done_where_empty : (top : List ℕ) (waiting : List (Bor (List ℕ))) → is_stack top waiting ≡ true → (length top == 0) ≡ has_no_part (rest_parts top ++ pending_parts waiting)
+done_where_empty [] waiting h = sym (ap has_no_part (nothing_below [] waiting h refl))
+done_where_empty (x ∷ xs) waiting h = ne_eqb (length (x ∷ xs)) 0 (λ e. omega (arith, e)) ∙ sym (is_done-append (rest_parts (x ∷ xs)) (pending_parts waiting) (rest_parts-some x xs))
 
 -- the first part is taken off, and the text has more
-pub taken_off : (top rest : List ℕ) (part : Part) (waiting : List (Bor (List ℕ))) → rest_parts top ≡ part ∷ rest_parts rest → rest_parts top ++ pending waiting ≡ part ∷ (rest_parts rest ++ pending waiting)
-taken_off top rest part waiting e = ap (λ parts. parts ++ pending waiting) e
+pub taken_off : (top rest : List ℕ) (part : Part) (waiting : List (Bor (List ℕ))) → rest_parts top ≡ part ∷ rest_parts rest → rest_parts top ++ pending_parts waiting ≡ part ∷ (rest_parts rest ++ pending_parts waiting)
+taken_off top rest part waiting e = ap (λ parts. parts ++ pending_parts waiting) e
 
 -- the same, where the text is read to its end and another lies below
 pub taken_off_last : (top rest : List ℕ) (part : Part) (depth : ℕ) (below : List (Bor (List ℕ))) (text : Bor (List ℕ)) → rest_parts top ≡ part ∷ rest_parts rest → (length rest == 0) ≡ true → 0 < depth → depth ≤ length below →
-    rest_parts top ++ pending (take depth below) ≡ part ∷ (rest_parts (get_or below (depth - 1) text).now ++ pending (take (depth - 1) below))
+    rest_parts top ++ pending_parts (take depth below) ≡ part ∷ (rest_parts (get_or below (depth - 1) text).now ++ pending_parts (take (depth - 1) below))
 taken_off_last top (x ∷ xs) part depth below text e n p l = absurd (omega (arith, eqb-true (length (x ∷ xs)) 0 n))
 taken_off_last top [] part depth below text e n p l = taken_off top [] part (take depth below) e ∙ ap (λ parts. part ∷ parts) (pending_popped depth below text p l)
 
@@ -90,11 +90,11 @@ stack_popped top (suc depth) below text h p l =
 
 -- a target's parts come before those of the text that was on top
 pub parts_pushed : (target text : List ℕ) (top : Bor (List ℕ)) (depth : ℕ) (below : List (Bor (List ℕ))) → text ≡ after_slashes target → depth < length below →
-    rest_parts text ++ pending (take (depth + 1) (set below depth top)) ≡ parts_of ending.Dot target ++ (rest_parts top.now ++ pending (take depth below))
+    rest_parts text ++ pending_parts (take (depth + 1) (set below depth top)) ≡ parts_of ending.Dot target ++ (rest_parts top.now ++ pending_parts (take depth below))
 parts_pushed target text top depth below e l =
     ap (λ parts. rest_parts text ++ parts) (pending_pushed depth below top l)
-    ∙ ap (λ parts. parts ++ (rest_parts top.now ++ pending (take depth below))) (ap rest_parts e ∙ sym (parts_of-begin target))
+    ∙ ap (λ parts. parts ++ (rest_parts top.now ++ pending_parts (take depth below))) (ap rest_parts e ∙ sym (parts_of-begin target))
 
-pub parts_on_empty : (target text top : List ℕ) (waiting : List (Bor (List ℕ))) → text ≡ after_slashes target → (length top == 0) ≡ true → rest_parts text ++ pending waiting ≡ parts_of ending.Dot target ++ (rest_parts top ++ pending waiting)
+pub parts_on_empty : (target text top : List ℕ) (waiting : List (Bor (List ℕ))) → text ≡ after_slashes target → (length top == 0) ≡ true → rest_parts text ++ pending_parts waiting ≡ parts_of ending.Dot target ++ (rest_parts top ++ pending_parts waiting)
 parts_on_empty target text (x ∷ xs) waiting e n = absurd (omega (arith, eqb-true (length (x ∷ xs)) 0 n))
-parts_on_empty target text [] waiting e n = ap (λ parts. parts ++ pending waiting) (ap rest_parts e ∙ sym (parts_of-begin target))
+parts_on_empty target text [] waiting e n = ap (λ parts. parts ++ pending_parts waiting) (ap rest_parts e ∙ sym (parts_of-begin target))

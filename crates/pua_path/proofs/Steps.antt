@@ -3,7 +3,7 @@ use Rattle.std.proofs.Common.{◌≡◌, ℕ, zero, suc, true, false, List, [], 
 use Rattle.std.specs.Prelude.{if◌then◌else◌}
 use Rattle.pua_tree.specs.Tree.{Tree, above}
 use Rattle.pua_path.specs.Paths.{parts_of}
-use Rattle.pua_path.specs.Remaining.{is_done}
+use Rattle.pua_path.specs.Remaining.{has_no_part}
 use Rattle.pua_path.specs.Resolution.{Resolved, Standing, Directory, Linked, Plain, Nothing, standing_at, is_followed, slot_or, walk, start_of, resolve_parts}
 use Rattle.pua_path.specs.Walks.{goes_on}
 use Rattle.pua_path.specs.declared.errno.Errno.{Errno}
@@ -46,7 +46,7 @@ walk_name t mode links follow dir way name rest = elim (standing_at t dir name) 
 
 -- what is no directory, as the answer of one part
 ends : (ps : List Part) (found : Found) (errno : Errno) (links : ℕ) (further : Resolved) →
-    goes_on (if is_done ps then Ok (Some found) else Err errno) links further ≡ slot_or ps found errno links
+    goes_on (if has_no_part ps then Ok (Some found) else Err errno) links further ≡ slot_or ps found errno links
 ends [] found errno links further = refl
 ends (p ∷ ps) found errno links further = refl
 
@@ -88,17 +88,17 @@ module _ (t : Tree) (mode : Last) where
       resolve_name links dir way name rest (Linked x target) e ∙ ap (λ v. if v then followed links t mode dir target rest else Ok (Slot dir name (Some x), links)) k
 
   pub resolve_plain : (links dir : ℕ) (way : Way) (name : List ℕ) (rest : List Part) (x : ℕ) (r : Result (Option Found) Errno) (further : Resolved) → Plain x ≡ standing_at t dir name →
-      r ≡ (if is_done rest then Ok (Some (Slot dir name (Some x))) else Err ENOTDIR) → resolve_parts links t mode dir way (parts.Name name ∷ rest) ≡ goes_on r links further
+      r ≡ (if has_no_part rest then Ok (Some (Slot dir name (Some x))) else Err ENOTDIR) → resolve_parts links t mode dir way (parts.Name name ∷ rest) ≡ goes_on r links further
   resolve_plain links dir way name rest x r further e k =
       resolve_name links dir way name rest (Plain x) e ∙ sym (ap (λ a. goes_on a links further) k ∙ ends rest (Slot dir name (Some x)) ENOTDIR links further)
 
   pub resolve_nothing : (links dir : ℕ) (way : Way) (name : List ℕ) (rest : List Part) (r : Result (Option Found) Errno) (further : Resolved) → Nothing ≡ standing_at t dir name →
-      r ≡ (if is_done rest then Ok (Some (Slot dir name None)) else Err ENOENT) → resolve_parts links t mode dir way (parts.Name name ∷ rest) ≡ goes_on r links further
+      r ≡ (if has_no_part rest then Ok (Some (Slot dir name None)) else Err ENOENT) → resolve_parts links t mode dir way (parts.Name name ∷ rest) ≡ goes_on r links further
   resolve_nothing links dir way name rest r further e k =
       resolve_name links dir way name rest Nothing e ∙ sym (ap (λ a. goes_on a links further) k ∙ ends rest (Slot dir name None) ENOENT links further)
 
   -- how a directory was named matters where no part is left alone
-  pub resolve_passed : (links dir : ℕ) (way other : Way) (rest : List Part) → is_done rest ≡ false → resolve_parts links t mode dir way rest ≡ resolve_parts links t mode dir other rest
+  pub resolve_passed : (links dir : ℕ) (way other : Way) (rest : List Part) → has_no_part rest ≡ false → resolve_parts links t mode dir way rest ≡ resolve_parts links t mode dir other rest
   resolve_passed links dir way other [] d = cc
   resolve_passed links dir way other (parts.Dot ∷ rest) d = resolve_dot links dir way rest ∙ sym (resolve_dot links dir other rest)
   resolve_passed links dir way other (parts.DotDot ∷ rest) d = resolve_dotdot links dir way rest ∙ sym (resolve_dotdot links dir other rest)

@@ -4,7 +4,7 @@ use Rattle.std.specs.Prelude.{if◌then◌else◌}
 use Rattle.pua_tree.specs.Tree.{Tree}
 use Rattle.pua_tree.specs.Steps.{◌>>=◌}
 use Rattle.pua_path.specs.Paths.{parts_of}
-use Rattle.pua_path.specs.Resolution.{Resolved, Standing, Directory, Linked, Plain, Nothing, standing_at, is_followed, slot_or, walk, start_of, resolve_parts, reached, step, last, link_limit}
+use Rattle.pua_path.specs.Resolution.{Resolved, Standing, Directory, Linked, Plain, Nothing, standing_at, is_followed, slot_or, walk, start_of, resolve_parts, dir_with_links, step, last, most_links}
 use Rattle.pua_path.specs.Laws.{onwards, steps, StepsCompose}
 use Rattle.pua_path.specs.declared.errno.Errno.{Errno}
 use Rattle.pua_path.specs.declared.errno.Errno.TheVariants.{ENOENT, ENOTDIR, ELOOP}
@@ -59,15 +59,15 @@ shrinks t mode (suc links) dir way ps =
     (λ from target rest. fewer links _ (shrinks t mode links (start_of target from) ways.Top (parts_of ending.Dot target ++ rest))) ps dir way
 
 -- what comes after a first part, by the directory and the links used there
-then_on : (t : Tree) (mode : Last) (links : ℕ) (r : Resolved) (next : Part) (rest : List Part) (further : ℕ × ℕ → Result Found Errno) → links ≤ link_limit → Shrinks links r →
-    ((dir used : ℕ) → used ≤ link_limit → (resolve_parts (link_limit - used) t mode dir ways.Top (next ∷ rest) >>= λ found. Ok found.0) ≡ further (dir, used)) →
-    ((r >>= onwards t mode (next ∷ rest)) >>= λ found. Ok found.0) ≡ ((r >>= reached) >>= further)
+then_on : (t : Tree) (mode : Last) (links : ℕ) (r : Resolved) (next : Part) (rest : List Part) (further : ℕ × ℕ → Result Found Errno) → links ≤ most_links → Shrinks links r →
+    ((dir used : ℕ) → used ≤ most_links → (resolve_parts (most_links - used) t mode dir ways.Top (next ∷ rest) >>= λ found. Ok found.0) ≡ further (dir, used)) →
+    ((r >>= onwards t mode (next ∷ rest)) >>= λ found. Ok found.0) ≡ ((r >>= dir_with_links) >>= further)
 then_on t mode links (Err errno) next rest further l h k = refl
 then_on t mode links (Ok (Slot dir name _, left)) next rest further l h k = refl
 then_on t mode links (Ok (Whole dir way, left)) next rest further l h k =
-    let same : link_limit - (link_limit - left) ≡ left = omega (arith, h, l) in
-    let fits : link_limit - left ≤ link_limit = omega arith in
-    ap (λ n. resolve_parts n t mode dir ways.Top (next ∷ rest) >>= λ found. Ok found.0) (sym same) ∙ k dir (link_limit - left) fits
+    let same : most_links - (most_links - left) ≡ left = omega (arith, h, l) in
+    let fits : most_links - left ≤ most_links = omega arith in
+    ap (λ n. resolve_parts n t mode dir ways.Top (next ∷ rest) >>= λ found. Ok found.0) (sym same) ∙ k dir (most_links - left) fits
 
 bind_assoc : {A B C : Type 0} (r : Result A Errno) (f : A → Result B Errno) (g : B → Result C Errno) → ((r >>= f) >>= g) ≡ (r >>= λ x. f x >>= g)
 bind_assoc (Ok x) f g = refl
@@ -76,13 +76,13 @@ bind_assoc (Err e) f g = refl
 pub steps_compose : StepsCompose
 steps_compose t mode dir used [] q l = refl
 steps_compose t mode dir used (p ∷ []) q l =
-    ap (λ r. r >>= λ found. Ok found.0) (composes t mode (link_limit - used) dir ways.Top (p ∷ []) q [])
-    ∙ then_on t mode (link_limit - used) (resolve_parts (link_limit - used) t Followed dir ways.Top (p ∷ parts.Dot ∷ [])) q [] (λ at. last t at.0 at.1 q mode)
-    (omega arith) (shrinks t Followed (link_limit - used) dir ways.Top (p ∷ parts.Dot ∷ [])) (λ dir used l. refl)
+    ap (λ r. r >>= λ found. Ok found.0) (composes t mode (most_links - used) dir ways.Top (p ∷ []) q [])
+    ∙ then_on t mode (most_links - used) (resolve_parts (most_links - used) t Followed dir ways.Top (p ∷ parts.Dot ∷ [])) q [] (λ at. last t at.0 at.1 q mode)
+    (omega arith) (shrinks t Followed (most_links - used) dir ways.Top (p ∷ parts.Dot ∷ [])) (λ dir used l. refl)
     ∙ sym (bind_assoc (step t dir used p) (λ at. Ok at) (λ at. last t at.0 at.1 q mode))
 steps_compose t mode dir used (p ∷ next ∷ ps) q l =
-    ap (λ r. r >>= λ found. Ok found.0) (composes t mode (link_limit - used) dir ways.Top (p ∷ []) next (ps ++ q ∷ []))
-    ∙ then_on t mode (link_limit - used) (resolve_parts (link_limit - used) t Followed dir ways.Top (p ∷ parts.Dot ∷ [])) next (ps ++ q ∷ [])
+    ap (λ r. r >>= λ found. Ok found.0) (composes t mode (most_links - used) dir ways.Top (p ∷ []) next (ps ++ q ∷ []))
+    ∙ then_on t mode (most_links - used) (resolve_parts (most_links - used) t Followed dir ways.Top (p ∷ parts.Dot ∷ [])) next (ps ++ q ∷ [])
     (λ at. steps t (next ∷ ps) at >>= λ at. last t at.0 at.1 q mode)
-    (omega arith) (shrinks t Followed (link_limit - used) dir ways.Top (p ∷ parts.Dot ∷ [])) (λ dir used l. steps_compose t mode dir used (next ∷ ps) q l)
+    (omega arith) (shrinks t Followed (most_links - used) dir ways.Top (p ∷ parts.Dot ∷ [])) (λ dir used l. steps_compose t mode dir used (next ∷ ps) q l)
     ∙ sym (bind_assoc (step t dir used p) (steps t (next ∷ ps)) (λ at. last t at.0 at.1 q mode))

@@ -2,7 +2,7 @@
 use Rattle.std.proofs.Common.{◌≡◌, ℕ, Bool, true, false, List, [], Some, None, Err, refl, sym, ap, ◌∙◌, Option}
 use Rattle.std.specs.Prelude.{if◌then◌else◌, not, ◌&&◌}
 use Rattle.pua_tree.specs.Tree.{Tree, Spot, is_dir}
-use Rattle.pua_path.specs.Limits.{link_limit}
+use Rattle.pua_path.specs.Limits.{most_links}
 use Rattle.pua_path.specs.Paths.{parts_of, is_absolute}
 use Rattle.pua_path.specs.Resolution.{start_of}
 use Rattle.pua_path.specs.Traces.{Trace, trace_parts, PathTrace, fails_in, as_path_trace, trace_from}
@@ -23,7 +23,7 @@ begins t from text mode start most ps trace false s e =
 
 -- a walk that was begun with these
 pub record IsBegun (ending : Ending) (text : List ℕ) (start : ℕ) (most : ℕ) (here : ℕ) (way : Way) (ps : List Part) : Type 0 where
-  pub all_links : most ≡ link_limit
+  pub all_links : most ≡ most_links
   pub at_start : here ≡ start
   pub no_way : way ≡ Top
   pub all_parts : ps ≡ parts_of ending text
@@ -43,7 +43,7 @@ pub trace_starts_nowhere : (t : Tree) (from : ℕ) (ending : Ending) (text : Lis
     ◌≡◌ {A = PathTrace} (record { links = links; outcome = Err NoStart }) (trace_from t from ending text mode)
 unfolding trace_from
 trace_starts_nowhere t from ending text mode links none s =
-    ap (λ spots. as_failed spots) none ∙ sym (by link_limit (not (is_absolute text) && not (is_dir t from)) s)
+    ap (λ spots. as_failed spots) none ∙ sym (by most_links (not (is_absolute text) && not (is_dir t from)) s)
   where
     as_failed : List Spot → PathTrace
     as_failed spots = record { links = spots; outcome = Err NoStart }

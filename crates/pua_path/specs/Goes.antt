@@ -2,7 +2,7 @@
 use Rattle.std.specs.Prelude.{◌≡◌, ℕ, suc, true, false, List, [], ◌∷◌, ◌++◌, Option, Some, None, Result, Ok, Err}
 use Rattle.pua_tree.specs.Tree.{Tree, Spot, above}
 use Rattle.pua_path.specs.Paths.{parts_of}
-use Rattle.pua_path.specs.Remaining.{is_done}
+use Rattle.pua_path.specs.Remaining.{has_no_part}
 use Rattle.pua_path.specs.Resolution.{Standing, Directory, Linked, Plain, Nothing, standing_at, is_followed, start_of, resolve_parts}
 use Rattle.pua_path.specs.declared.text.Ending.TheVariants as ending
 use Rattle.pua_path.specs.declared.found.Part.{Part}
@@ -30,8 +30,8 @@ pub data Comes (t : Tree) (mode : Last) : ℕ → ℕ → List Part → List Spo
 
 -- why it goes no further: nothing stands at the next name, or no directory, though a part is left behind it; or a link that may not be followed any more
 abbrev pub StopsFor : Tree → Last → ℕ → List Part → Stop → Type 0
-StopsFor t mode left rest (NoEntry spot) = (standing_at t spot.0 spot.1 ≡ Nothing) × (is_done rest ≡ false)
-StopsFor t mode left rest (NoDirectory spot) = ((x : ℕ) × (standing_at t spot.0 spot.1 ≡ Plain x)) × (is_done rest ≡ false)
+StopsFor t mode left rest (NoEntry spot) = (standing_at t spot.0 spot.1 ≡ Nothing) × (has_no_part rest ≡ false)
+StopsFor t mode left rest (NoDirectory spot) = ((x : ℕ) × (standing_at t spot.0 spot.1 ≡ Plain x)) × (has_no_part rest ≡ false)
 StopsFor t mode left rest (LinkBeyond spot) = (x : ℕ) × (target : List ℕ) × (standing_at t spot.0 spot.1 ≡ Linked x target) × (is_followed mode rest ≡ true) × (left ≡ 0)
 
 pub record StopsAt (t : Tree) (mode : Last) (links dir : ℕ) (ps : List Part) (spots : List Spot) (stop : Stop) : Type 0 where

@@ -10,14 +10,14 @@ ghost use Rattle.pua_tree.specs.Names.{is_name};
 ghost use Rattle.pua_tree.specs.Tree.{above, is_dir};
 ghost use Rattle.pua_path.specs.Resolution.{resolution, resolve_parts, step, last, follow};
 ghost use Rattle.pua_path.specs.Resolution.{standing_at, is_followed, start_of};
-ghost use Rattle.pua_path.specs.Limits.{link_limit};
+ghost use Rattle.pua_path.specs.Limits.{most_links};
 ghost use Rattle.pua_path.specs.Paths.{is_absolute, part_of, parts_of};
-ghost use Rattle.pua_path.specs.Walks.{way_of, lent_name, found_of, all_found, standing_seen};
-ghost use Rattle.pua_path.specs.Walks.{IsNamed, AreNamed, StandsIn, CanGoOn, LeadsOn, TracesOn};
-ghost use Rattle.pua_path.specs.Walks.{ended, walk_end, potential_of};
+ghost use Rattle.pua_path.specs.Walks.{way_of, lent_name, found_seen, all_found, standing_seen};
+ghost use Rattle.pua_path.specs.Walks.{IsNamed, AreNamed, IsSeenIn, CanGoOn, LeadsOn, TracesOn};
+ghost use Rattle.pua_path.specs.Walks.{resolved_of, walk_end, potential_of};
 ghost use Rattle.pua_path.specs.Bounds.{part_cost};
 ghost use Rattle.pua_path.specs.Fits.{FoundFits, FoundsFit, StandsAsNamed};
-ghost use Rattle.pua_path.specs.Remaining.{Remaining, is_done, is_piece, is_readable};
+ghost use Rattle.pua_path.specs.Remaining.{Remaining, has_no_part, is_piece, is_readable};
 ghost use Rattle.pua_path.specs.declared.errno.Errno.TheVariants.{ELOOP, ENOENT, ENOTDIR};
 ghost use Rattle.pua_path.specs.declared.found.Way.TheVariants as ways;
 ghost use Rattle.pua_path.specs.declared.resolver.Nameless.TheVariants as nameless;
@@ -27,7 +27,7 @@ ghost use Rattle.pua_path.specs.declared.text.Ending.TheVariants as ending;
 
 use crate::errno::Errno;
 use crate::found::{Found, Last, Part, Way};
-use crate::limits::LINK_LIMIT;
+use crate::limits::MOST_LINKS;
 use crate::probe::Probe;
 use crate::rest::Rest;
 use crate::text::PathText;
@@ -56,7 +56,7 @@ pub fn resolve<'t, P: Probe<'t>>(
     let Some(start) = start_of(probe, from, text.bytes()) else {
         return Err(Errno::ENOENT);
     };
-    let mut walk = Walk::new(start, LINK_LIMIT, Rest::of_text(text));
+    let mut walk = Resolving::new(start, MOST_LINKS, Rest::of_text(text));
     walk.finish(probe, mode)
 }
 
@@ -72,16 +72,16 @@ pub fn step<'t, P: Probe<'t>>(
     part: &Part,
 ) -> Result<(NodeId, u8), Errno>
     requires dir { IsTrue (is_dir (P.tree probe.old) dir) }
-    requires used { used ≤ link_limit }
+    requires used { used ≤ most_links }
     ensures exact { result ≡ step (P.tree probe.old) dir used part.now }
     ensures lives { IfOk result (λ next. IsTrue (is_dir (P.tree probe.old) next.0)) }
-    ensures used { IfOk result (λ next. next.1 ≤ link_limit) }
+    ensures used { IfOk result (λ next. next.1 ≤ most_links) }
     ensures tree { P.tree probe.new ≡ P.tree probe.old }
     ensures cost { P.count probe.new ≤ P.count probe.old + part_cost (P.tree probe.old) }
 {
-    let (found, left) = resolve_part(probe, dir, LINK_LIMIT - used, part, Last::Followed)?;
+    let (found, left) = resolve_part(probe, dir, MOST_LINKS - used, part, Last::Followed)?;
     match found {
-        Found::Whole { dir, .. } => Ok((dir, LINK_LIMIT - left)),
+        Found::Whole { dir, .. } => Ok((dir, MOST_LINKS - left)),
         Found::Slot { node, .. } => Err(not_entered(node)),
     }
 }
@@ -109,14 +109,14 @@ pub fn last<'t, P: Probe<'t>>(
     mode: Last,
 ) -> Result<Found, Errno>
     requires dir { IsTrue (is_dir (P.tree probe.old) dir) }
-    requires used { used ≤ link_limit }
+    requires used { used ≤ most_links }
     ensures exact { result ≡ last (P.tree probe.old) dir used part.now mode }
     ensures fits { FoundsFit (P.tree probe.old) result }
     ensures named { IfOk result (StandsAsNamed (P.tree probe.old)) }
     ensures tree { P.tree probe.new ≡ P.tree probe.old }
     ensures cost { P.count probe.new ≤ P.count probe.old + part_cost (P.tree probe.old) }
 {
-    let (found, _) = resolve_part(probe, dir, LINK_LIMIT - used, part, mode)?;
+    let (found, _) = resolve_part(probe, dir, MOST_LINKS - used, part, mode)?;
     Ok(found)
 }
 
@@ -135,12 +135,12 @@ pub fn follow<'t, P: Probe<'t>>(
     ensures exact { result ≡ follow (P.tree probe.old) dir part.now }
     ensures fits { IfOk result (λ found. FoundFits (P.tree probe.old) found.0) }
     ensures named { IfOk result (λ found. StandsAsNamed (P.tree probe.old) found.0) }
-    ensures links { IfOk result (λ found. found.1 ≤ link_limit) }
+    ensures links { IfOk result (λ found. found.1 ≤ most_links) }
     ensures tree { P.tree probe.new ≡ P.tree probe.old }
     ensures cost { P.count probe.new ≤ P.count probe.old + part_cost (P.tree probe.old) }
 {
-    let (found, left) = resolve_part(probe, dir, LINK_LIMIT, part, Last::Followed)?;
-    Ok((found, LINK_LIMIT - left))
+    let (found, left) = resolve_part(probe, dir, MOST_LINKS, part, Last::Followed)?;
+    Ok((found, MOST_LINKS - left))
 }
 
 fn resolve_part<'t, P: Probe<'t>>(
@@ -151,7 +151,7 @@ fn resolve_part<'t, P: Probe<'t>>(
     mode: Last,
 ) -> Result<(Found, u8), Errno>
     requires dir { IsTrue (is_dir (P.tree probe.old) dir) }
-    requires left { left ≤ link_limit }
+    requires left { left ≤ most_links }
     ensures exact { result ≡ resolve_parts left (P.tree probe.old) mode dir ways.Top (part.now ∷ []) }
     ensures fits { IfOk result (λ found. FoundFits (P.tree probe.old) found.0) }
     ensures named { IfOk result (λ found. StandsAsNamed (P.tree probe.old) found.0) }
@@ -160,7 +160,7 @@ fn resolve_part<'t, P: Probe<'t>>(
     ensures cost { P.count probe.new ≤ P.count probe.old + part_cost (P.tree probe.old) }
 {
     probe.known();
-    let mut walk = Walk::new(dir, left, Rest::none());
+    let mut walk = Resolving::new(dir, left, Rest::none());
     match walk.enter(probe, part, mode) {
         Ok(Some(lent)) => Ok((lent.found(), walk.left)),
         Ok(None) => walk.finish_counted(probe, mode),
@@ -174,7 +174,7 @@ fn start_of<'t, P: Probe<'t>>(probe: &mut P, from: NodeId, text: &[u8]) -> Optio
         (if not (is_absolute text.now) && not (is_dir (P.tree probe.old) from) then None
         else Some (start_of text.now from)) }
     ensures ready { IfSome result (λ start.
-        (rest : Remaining) → rest.depth ≡ 0 → CanGoOn (P.tree probe.old) start link_limit rest) }
+        (rest : Remaining) → rest.depth ≡ 0 → CanGoOn (P.tree probe.old) start most_links rest) }
     ensures tree { P.tree probe.new ≡ P.tree probe.old }
 {
     probe.known();
@@ -212,7 +212,7 @@ enum Standing<'t> {
 
 fn standing_at<'t, P: Probe<'t>>(probe: &mut P, dir: NodeId, name: &[u8]) -> Standing<'t>
     ensures standing { standing_seen result ≡ standing_at (P.tree probe.old) dir name.now }
-    ensures stands { StandsIn (P.tree probe.old) result }
+    ensures stands { IsSeenIn (P.tree probe.old) result }
     ensures tree { P.tree probe.new ≡ P.tree probe.old }
     ensures count { P.count probe.new ≤ P.count probe.old + 3 }
 {
@@ -247,7 +247,7 @@ impl LentFound<'_> {
     #[inline(always)]
     fn found(&self) -> Found
         requires { IsNamed self.now }
-        ensures { result ≡ found_of self.now }
+        ensures { result ≡ found_seen self.now }
     {
         let name = name_of(self.name());
         match *self {
@@ -292,19 +292,19 @@ impl Nameless {
 /// A resolution on its way: the directory where it is, how that was named, how many links it may
 /// still follow, and the parts that are left.
 #[derive(Drop)]
-struct Walk<'a> {
+struct Resolving<'a> {
     here: NodeId,
     way: Nameless,
     left: u8,
     rest: Rest<'a>,
 }
 
-impl<'a> Walk<'a> {
+impl<'a> Resolving<'a> {
     #[inline(always)]
-    fn new(dir: NodeId, left: u8, rest: Rest<'a>) -> Walk<'a>
+    fn new(dir: NodeId, left: u8, rest: Rest<'a>) -> Resolving<'a>
         ensures { result ≡ record { here = dir; way = nameless.Top; left = left; rest = rest.entry } }
     {
-        Walk {
+        Resolving {
             here: dir,
             way: Nameless::Top,
             left,
@@ -315,7 +315,8 @@ impl<'a> Walk<'a> {
     /// Resolves the parts that are left.
     fn finish<'t: 'a, P: Probe<'t>>(&mut self, probe: &mut P, mode: Last) -> Result<Found, Errno>
         requires ready { CanGoOn (P.tree probe.old) self.old.here self.old.left self.old.rest }
-        ensures exact { ended result self.new.left ≡ walk_end (P.tree probe.old) mode self.old }
+        ensures exact { resolved_of result self.new.left
+            ≡ walk_end (P.tree probe.old) mode self.old }
         ensures left { self.new.left ≤ self.old.left }
         ensures tree { P.tree probe.new ≡ P.tree probe.old }
         ensures count { P.count probe.new
@@ -501,7 +502,7 @@ impl<'a> Walk<'a> {
     ) -> Result<Option<LentFound<'n>>, Errno>
         requires { IsTrue (is_name name.now) }
         ensures exact { all_found result ≡
-            (if is_done self.now.rest.parts then Ok (Some (Slot self.now.here name.now node))
+            (if has_no_part self.now.rest.parts then Ok (Some (Slot self.now.here name.now node))
             else Err errno) }
         ensures named { IfOk result AreNamed }
     {
@@ -518,7 +519,7 @@ impl<'a> Walk<'a> {
     /// Follows a link: its target comes before the parts that are left.
     fn follow(&mut self, target: &'a [u8]) -> Result<(), Errno>
         requires readable { IsTrue (is_readable target.now) }
-        requires room { self.old.rest.depth + self.old.left ≤ link_limit }
+        requires room { self.old.rest.depth + self.old.left ≤ most_links }
         ensures ok { OnOk result (0 < self.old.left) }
         ensures err { IfErr result (λ errno. (errno ≡ ELOOP) × (self.old.left ≡ 0)) }
         ensures left { self.new.left ≡ self.old.left - 1 }
@@ -527,7 +528,7 @@ impl<'a> Walk<'a> {
         ensures way { 0 < self.old.left → self.new.way ≡ nameless.Top }
         ensures parts { 0 < self.old.left →
             self.new.rest.parts ≡ parts_of ending.Dot target.now ++ self.old.rest.parts }
-        ensures room { self.new.rest.depth + self.new.left ≤ link_limit }
+        ensures room { self.new.rest.depth + self.new.left ≤ most_links }
     {
         if self.left == 0 {
             return Err(Errno::ELOOP);

@@ -1,7 +1,7 @@
 //! Path texts.
 
 use crate::errno::Errno;
-use crate::limits::PATH_LIMIT;
+use crate::limits::MOST_PATH;
 use crate::traced::TextFault;
 use pua_tree::has_short_components;
 use std::marker::Model;
@@ -77,7 +77,7 @@ pub fn text_fault(bytes: &[u8]) -> Option<TextFault>
     if bytes.is_empty() {
         return Some(TextFault::EmptyText);
     }
-    if bytes.len() > PATH_LIMIT {
+    if bytes.len() > MOST_PATH {
         return Some(TextFault::LongText);
     }
     if !has_short_components(bytes) {

@@ -2,7 +2,7 @@ use Rattle.std.proofs.Common.{◌≡◌, rules, arith, ap, sym, ◌∙◌, List,
 use Rattle.std.specs.Prelude.{Ok}
 use Rattle.pua_tree.specs.Tree.{Spot}
 use Rattle.pua_path.specs.Walks.{way_of, walk_trace}
-use Rattle.pua_path.specs.Traces.{PathTrace, as_path_trace, behind, object_or_errno}
+use Rattle.pua_path.specs.Traces.{PathTrace, as_path_trace, after_links, object_or_errno}
 use Rattle.pua_path.proofs.Answering.{from_answers}
 use Rattle.pua_path.proofs.Fitting.{founds_fit, founds_named}
 use Rattle.pua_path.proofs.TraceStart.{trace_begins, trace_starts_nowhere}
@@ -27,14 +27,14 @@ loop-piece-init g c =
       tree = c.start_of.ensures.tree;
       ready = rw (c.new-walk.ensures) (c.in-Some.ensures.ready c.of_text.result c.of_text.ensures.depth);
       so_far = sym (trace_begins t c.args.from text.ending text.bytes c.args.mode c.in-Some.start walk.left walk.here (way_of walk.way) walk.rest.parts
-          (behind spots.items (walk_trace t c.args.mode walk))
+          (after_links spots.items (walk_trace t c.args.mode walk))
           (record {
             all_links = ap (λ w. w.left) c.new-walk.ensures;
             at_start = ap (λ w. w.here) c.new-walk.ensures;
             no_way = ap (λ w. way_of w.way) c.new-walk.ensures;
             all_parts = ap (λ w. w.rest.parts) c.new-walk.ensures ∙ c.of_text.ensures.parts;
           })
-          start (ap (λ (links : List Spot). behind links (walk_trace t c.args.mode walk)) none));
+          start (ap (λ (links : List Spot). after_links links (walk_trace t c.args.mode walk)) none));
       room = rw (c.new-walk.ensures) (omega (arith, spots.ok.0 ∙ ap length none, c.links.invariant));
       all_room = c.links.invariant;
     }
@@ -64,7 +64,7 @@ loop-piece-preserved-then-walk-left g c = record {
       let t = g.P.Probe.tree c.args.probe.now in
       let spot : Spot = (c.loop-piece.walk.here, c.name_of.result) in
       let further = walk_trace t c.args.mode c.enter_piece.new.self in
-      let step : walk_trace t c.args.mode c.loop-piece.walk ≡ behind (spot ∷ []) further = search rules in
+      let step : walk_trace t c.args.mode c.loop-piece.walk ≡ after_links (spot ∷ []) further = search rules in
       ap as_path_trace (link_followed c.loop-piece.links-inside.spots.items c.push_reserved.new.self.items spot (walk_trace t c.args.mode c.loop-piece.walk) further c.push_reserved.ensures.items step)
       ∙ c.loop-piece.invariant.so_far;
   room = omega arith;

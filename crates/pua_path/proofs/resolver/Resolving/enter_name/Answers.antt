@@ -6,7 +6,7 @@ use Rattle.pua_path.specs.declared.found.Way.TheVariants.{Named}
 use Rattle.pua_path.proofs.Living.{start_lives, potential_linked}
 use Rattle.pua_path.proofs.Steps.{resolve_plain, resolve_nothing, resolve_directory, resolve_passed}
 use Rattle.pua_path.proofs.TraceSteps.{trace_plain, trace_nothing}
-use Rattle.pua_path.proofs.resolver.Walk.enter_name.Goals as goal
+use Rattle.pua_path.proofs.resolver.Resolving.enter_name.Goals as goal
 
 pub returns-in_ok-follow-in-Linked-clause-ready : goal.returns-in_ok-follow-in-Linked-clause-ready
 returns-in_ok-follow-in-Linked-clause-ready g c = record {

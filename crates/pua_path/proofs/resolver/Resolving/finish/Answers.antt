@@ -4,7 +4,7 @@ use Rattle.pua_path.specs.Walks.{way_of}
 use Rattle.pua_path.specs.declared.found.Way.{Way}
 use Rattle.pua_path.specs.declared.found.Found.TheVariants.{Whole}
 use Rattle.pua_path.proofs.Steps.{resolve_end}
-use Rattle.pua_path.proofs.resolver.Walk.finish.Goals as goal
+use Rattle.pua_path.proofs.resolver.Resolving.finish.Goals as goal
 
 abbrev whole : ℕ → ℕ → Way → Resolved
 whole left dir way = Ok (Whole dir way, left)

@@ -1,5 +1,5 @@
 use Rattle.pua_path.proofs.Living.{parent_lives}
-use Rattle.pua_path.proofs.resolver.Walk.climb.Goals as goal
+use Rattle.pua_path.proofs.resolver.Resolving.climb.Goals as goal
 
 pub returns-clause-ready : goal.returns-clause-ready
 returns-clause-ready g c = record {

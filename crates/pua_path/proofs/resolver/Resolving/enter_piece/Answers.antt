@@ -5,7 +5,7 @@ use Rattle.pua_path.specs.declared.found.Part.TheVariants.{DotDot}
 use Rattle.pua_path.proofs.Pieces.{pieces}
 use Rattle.pua_path.proofs.Steps.{resolve_dotdot}
 use Rattle.pua_path.proofs.TraceSteps.{trace_dotdot}
-use Rattle.pua_path.proofs.resolver.Walk.enter_piece.Goals as goal
+use Rattle.pua_path.proofs.resolver.Resolving.enter_piece.Goals as goal
 
 pub returns-then-eq-2-clause-exact : goal.returns-then-eq-2-clause-exact
 returns-then-eq-2-clause-exact g c =

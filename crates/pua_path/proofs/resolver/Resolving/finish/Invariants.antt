@@ -1,7 +1,7 @@
 use Rattle.std.proofs.Common.{◌≡◌, ◌≤◌, ◌+◌, ◌*◌}
 use Rattle.pua_path.specs.Resolution.{resolve_parts}
 use Rattle.pua_path.specs.Walks.{CanGoOn, potential, way_of}
-use Rattle.pua_path.proofs.resolver.Walk.finish.Given as goal
+use Rattle.pua_path.proofs.resolver.Resolving.finish.Given as goal
 
 abbrev pub invariant-loop-piece : goal.invariant-loop-piece
 invariant-loop-piece g l =
