@@ -6,7 +6,7 @@ use Rattle.std.specs.Prelude.{Option, None, Some, Result, Ok, Err, ok_or, bit_or
 use Rattle.toml.specs.Data.{Data, as_str, Items, no_items, item, Members, no_members, member}
 use Rattle.pua_tree.proofs.ForCallers.{step_read}
 use Rattle.pua_path.specs.declared.errno.Errno.{Errno}
-use Rattle.pua_calls.specs.Promises.{holds, error, promise_of, promises_of, perms_of, joined, union_of}
+use Rattle.pua_calls.specs.Promises.{holds, error, promise_of, promises_of, perms_of, union_or_fault, union_of}
 use Rattle.pua_calls.specs.Calls.{CallTable, Rule, standard_rule, call_named}
 use Rattle.pua_calls.specs.Tables.{NamesNoError, NeedsNoError, NoCallNeedsError, HasPairsOf}
 use Rattle.pua_calls.specs.TableTexts.{alternative_of, alternatives_of, veil_of, row_of, rule_in, rules_with, with_rule, document_of, table_of_document, table_over}
@@ -16,7 +16,7 @@ use Rattle.pua_calls.proofs.Keywords.{promise_of-below}
 use Rattle.pua_calls.proofs.TableTexts.{no_error_in}
 
 -- what joins two sets of keywords is one
-joined_below : (bits : ℕ) (more : Result ℕ Errno) (set : ℕ) → bits < 2 ^ 36 → ((s : ℕ) → more ≡ Ok s → s < 2 ^ 36) → joined bits more ≡ Ok set → set < 2 ^ 36
+joined_below : (bits : ℕ) (more : Result ℕ Errno) (set : ℕ) → bits < 2 ^ 36 → ((s : ℕ) → more ≡ Ok s → s < 2 ^ 36) → union_or_fault bits more ≡ Ok set → set < 2 ^ 36
 joined_below bits (Ok more) set low rest is =
     let same : bit_or bits more ≡ set = cc in
     subst (λ s. s < 2 ^ 36) same (or_lt 36 bits more low (rest more refl))

@@ -63,15 +63,15 @@ abbrev pub promise_of : List ℕ → Option ℕ
 promise_of word = option_map (λ row. row.1) (find (λ row. same_bytes row.0 word) keyword_rows)
 
 -- a set and further members, unless one of them is unknown
-abbrev pub joined : ℕ → Result ℕ Errno → Result ℕ Errno
-joined set (Ok more) = Ok (bit_or set more)
-joined set (Err errno) = Err errno
+abbrev pub union_or_fault : ℕ → Result ℕ Errno → Result ℕ Errno
+union_or_fault set (Ok more) = Ok (bit_or set more)
+union_or_fault set (Err errno) = Err errno
 
 -- the members that words name, unless one is unknown
 abbrev pub union_of : List (Option ℕ) → Result ℕ Errno
 union_of [] = Ok 0
 union_of (None ∷ words) = Err EINVAL
-union_of (Some bits ∷ words) = joined bits (union_of words)
+union_of (Some bits ∷ words) = union_or_fault bits (union_of words)
 
 -- keywords between commas; no text is the empty set
 abbrev pub promises_of : List ℕ → Result ℕ Errno
@@ -114,6 +114,6 @@ abbrev pub creating : ℕ
 creating = 8
 
 -- the letters of a set of permissions, in their order
-abbrev pub letters_of : ℕ → List ℕ
-letters_of perms = (if holds perms reading then codes "r" else []) ++ (if holds perms writing then codes "w" else [])
+abbrev pub perm_letters : ℕ → List ℕ
+perm_letters perms = (if holds perms reading then codes "r" else []) ++ (if holds perms writing then codes "w" else [])
     ++ (if holds perms executing then codes "x" else []) ++ (if holds perms creating then codes "c" else [])

@@ -3,7 +3,7 @@ use Rattle.std.specs.Prelude.{◌≡◌, ℕ, ◌+◌, List, [], ◌∷◌, ◌+
 use Rattle.pua_tree.specs.Examples.{text_of_lines}
 use Rattle.pua_calls.specs.Promises.{rpath, cpath}
 use Rattle.pua_calls.specs.Calls.{standard_table, openbsd_table, rule_of}
-use Rattle.pua_calls.specs.Tables.{IsTable}
+use Rattle.pua_calls.specs.Tables.{IsCallTable}
 use Rattle.pua_calls.specs.TableTexts.{table_of, table_over, with_rule}
 use Rattle.pua_calls.specs.declared.call.Call.TheVariants.{Stat, Mkdir, Unlink}
 use Rattle.pua_calls.specs.declared.table.read.TableFault.TheVariants.{BadToml, BadKey, BadRow, BadPromises, BadVeil}
@@ -44,7 +44,7 @@ pub record TableRows : Type 0 where
 -- OpenBSD's rules as a table
 pub record OpenbsdRows : Type 0 where
   -- they are a table that may be kept
-  pub kept : IsTable openbsd_table
+  pub kept : IsCallTable openbsd_table
   pub other_call : rule_of openbsd_table Unlink ≡ rule_of standard_table Unlink
   -- a text's rows stand over them, and what no text gives is theirs
   pub no_text : table_over openbsd_table [] ≡ Ok openbsd_table

@@ -11,7 +11,7 @@ use Rattle.pua_policy.specs.declared.place.Place.TheVariants as place
 use Rattle.pua_policy.specs.declared.answer.Cover.TheVariants.{All}
 use Rattle.pua_policy.specs.declared.reason.Covering.{Covering}
 use Rattle.pua_policy.specs.declared.reason.Covering.TheVariants.{InView, By}
-use Rattle.pua_policy.specs.History.{History, ProcessState, StandsFor, kept, veil_at, has_veil}
+use Rattle.pua_policy.specs.History.{History, ProcessState, StandsFor, perms_kept, veil_at, has_veil}
 use Rattle.pua_policy.specs.Verdict.{cover, nearest, is_unveil, place_of, directories_over}
 use Rattle.pua_policy.specs.Laws.{places_over}
 use Rattle.pua_policy.specs.Reasons.{kept_or, or_farther, first_kept, first_veiled, covering, covering_at, cover_of}
@@ -35,9 +35,9 @@ at_dirs kept_at (d ∷ ds) = ap (λ more. kept_at (place.Dir d) ∷ more) (at_di
 pub coverings_cover : (t : Tree) (h : History) (object : Found) → cover_of (covering t h object) ≡ cover t h object
 coverings_cover t h object = by (list_any is_unveil h)
   where
-    by : (v : Bool) → cover_of (if v then first_kept (kept h) (places_over t object) else InView)
-        ≡ (if v then nearest (kept h (place_of object) ∷ map (λ dir. kept h (place.Dir dir)) (directories_over t object)) else All)
-    by true = first_covers (kept h) (places_over t object) ∙ ap (λ more. nearest (kept h (place_of object) ∷ more)) (at_dirs (kept h) (directories_over t object))
+    by : (v : Bool) → cover_of (if v then first_kept (perms_kept h) (places_over t object) else InView)
+        ≡ (if v then nearest (perms_kept h (place_of object) ∷ map (λ dir. perms_kept h (place.Dir dir)) (directories_over t object)) else All)
+    by true = first_covers (perms_kept h) (places_over t object) ∙ ap (λ more. nearest (perms_kept h (place_of object) ∷ more)) (at_dirs (perms_kept h) (directories_over t object))
     by false = refl
 
 -- the first of some directories is the first of their places

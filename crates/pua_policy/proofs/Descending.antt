@@ -5,7 +5,7 @@ use Rattle.std.specs.List.{list_any}
 use Rattle.pua_tree.specs.Tree.{Tree, WellFormed, look, is_dir, above, climb}
 use Rattle.pua_tree.proofs.ForCallers.{Sound, sound_from, row_says, above_is}
 use Rattle.pua_path.specs.declared.found.Found.TheVariants.{Slot}
-use Rattle.pua_policy.specs.History.{History, kept}
+use Rattle.pua_policy.specs.History.{History, perms_kept}
 use Rattle.pua_policy.specs.Verdict.{nearest, is_unveil, cover}
 use Rattle.pua_policy.specs.declared.place.Place.TheVariants as place
 use Rattle.pua_policy.specs.declared.answer.Cover.{Cover}
@@ -20,7 +20,7 @@ if_any any over = if any then over else All
 
 module _ (t : Tree) (h : History) (fits : WellFormed t) (sound : Sound t) where
   abbrev kept_in : ℕ → Option ℕ
-  kept_in dir = kept h (place.Dir dir)
+  kept_in dir = perms_kept h (place.Dir dir)
 
   root_cover : (o : Option ℕ) → kept_in 0 ≡ o → cover_in t h 0 ≡ own_or o (if list_any is_unveil h then Nothing else All)
   root_cover None e = ap (if_any (list_any is_unveil h)) (nearest_root t fits kept_in e)
@@ -41,17 +41,17 @@ module _ (t : Tree) (h : History) (fits : WellFormed t) (sound : Sound t) where
   over_cover dir living (Some perms) e =
       ap (λ b. if_any b (nearest (map kept_in (climb t dir)))) (unveil_from_kept h (place.Dir dir) perms e) ∙ nearest_here t fits kept_in dir perms living e
 
-  name_cover : (dir : ℕ) (name : List ℕ) (node : Option ℕ) (o : Option ℕ) → kept h (place.Slot dir name) ≡ o → cover t h (Slot dir name node) ≡ own_or o (cover_in t h dir)
+  name_cover : (dir : ℕ) (name : List ℕ) (node : Option ℕ) (o : Option ℕ) → perms_kept h (place.Slot dir name) ≡ o → cover t h (Slot dir name node) ≡ own_or o (cover_in t h dir)
   name_cover dir name there None e = ap (λ k. if_any (list_any is_unveil h) (nearest (k ∷ map kept_in (climb t dir)))) e
   name_cover dir name there (Some perms) e =
-      ap (λ b. if_any b (nearest (kept h (place.Slot dir name) ∷ map kept_in (climb t dir)))) (unveil_from_kept h (place.Slot dir name) perms e)
+      ap (λ b. if_any b (nearest (perms_kept h (place.Slot dir name) ∷ map kept_in (climb t dir)))) (unveil_from_kept h (place.Slot dir name) perms e)
       ∙ ap (λ k. nearest (k ∷ map kept_in (climb t dir))) e
 
 pub covers_descend : CoversDescend
 covers_descend t h fits = record {
-  root = root_cover t h fits (sound_from t fits) (kept h (place.Dir 0)) refl;
-  below = λ dir name x row living. below_cover t h fits (sound_from t fits) dir name x row living (kept h (place.Dir x)) refl;
-  over = λ dir living. over_cover t h fits (sound_from t fits) dir living (kept h (place.Dir dir)) refl;
-  directory = λ dir way living. ap (if_any (list_any is_unveil h)) (nearest_whole t fits (λ d. kept h (place.Dir d)) dir living);
-  at_name = λ dir name node. name_cover t h fits (sound_from t fits) dir name node (kept h (place.Slot dir name)) refl;
+  root = root_cover t h fits (sound_from t fits) (perms_kept h (place.Dir 0)) refl;
+  below = λ dir name x row living. below_cover t h fits (sound_from t fits) dir name x row living (perms_kept h (place.Dir x)) refl;
+  over = λ dir living. over_cover t h fits (sound_from t fits) dir living (perms_kept h (place.Dir dir)) refl;
+  directory = λ dir way living. ap (if_any (list_any is_unveil h)) (nearest_whole t fits (λ d. perms_kept h (place.Dir d)) dir living);
+  at_name = λ dir name node. name_cover t h fits (sound_from t fits) dir name node (perms_kept h (place.Slot dir name)) refl;
 }

@@ -4,20 +4,20 @@ use Rattle.std.specs.Prelude.{Option, Some, None}
 use Rattle.pua_calls.specs.declared.rules.ExecPromises.{ExecPromises}
 use Rattle.pua_calls.specs.declared.rules.ExecPromises.TheVariants.{Unset}
 use Rattle.pua_policy.specs.declared.place.Place.{Place}
-use Rattle.pua_policy.specs.History.{History, ProcessState, HasHistory, Pledged, Unveiled, Locked, Moved, Ended, narrowed, meet, pledged, held_for_exec, with_veil, left_for_exec, after_exec}
+use Rattle.pua_policy.specs.History.{History, ProcessState, HasHistory, Pledged, Unveiled, Locked, Moved, Ended, narrowed_set, meet, pledged_set, held_for_exec, with_veil, left_for_exec, after_exec}
 use Rattle.pua_policy.proofs.Exec.{stands_given, stands_alone}
 
-narrows_promises : (h : History) (request execrequest given : Option ℕ) → given ≡ pledged h → narrowed given request ≡ pledged (Pledged request execrequest ∷ h)
+narrows_promises : (h : History) (request execrequest given : Option ℕ) → given ≡ pledged_set h → narrowed_set given request ≡ pledged_set (Pledged request execrequest ∷ h)
 narrows_promises h None execrequest given is = is
 narrows_promises h (Some request) execrequest given is = ap (λ g. Some (meet request g)) is
 
-narrows_execpromises : (h : History) (request execrequest given : Option ℕ) → given ≡ held_for_exec h → narrowed given execrequest ≡ held_for_exec (Pledged request execrequest ∷ h)
+narrows_execpromises : (h : History) (request execrequest given : Option ℕ) → given ≡ held_for_exec h → narrowed_set given execrequest ≡ held_for_exec (Pledged request execrequest ∷ h)
 narrows_execpromises h request None given is = is
 narrows_execpromises h request (Some execrequest) given is = ap (λ g. Some (meet execrequest g)) is
 
 module _ (p : ProcessState) (led : HasHistory p) where
   pub led_by_pledge : (request execrequest : Option ℕ)
-      → HasHistory (record { promises = narrowed p.promises request; execpromises = narrowed p.execpromises execrequest; veils = p.veils; locked = p.locked; dir = p.dir; ended = p.ended })
+      → HasHistory (record { promises = narrowed_set p.promises request; execpromises = narrowed_set p.execpromises execrequest; veils = p.veils; locked = p.locked; dir = p.dir; ended = p.ended })
   led_by_pledge request execrequest = record {
     history = Pledged request execrequest ∷ led.history;
     stands = record {

@@ -6,7 +6,7 @@ use Rattle.std.specs.Int.{bit_at}
 use Rattle.std.proofs.lemmas.Bool.{eqb-true, eq-eqb}
 use Rattle.std.proofs.lemmas.Nat.Bits.{bit_at_and, bit_at_or, bit_at_xor, bit_at-lt, same_from_bits}
 use Rattle.pua_calls.specs.Promises.{holds, lacking}
-use Rattle.pua_policy.specs.History.{History, held, has_error, is_ended}
+use Rattle.pua_policy.specs.History.{History, held_set, has_error, is_ended}
 use Rattle.pua_policy.specs.Reasons.{HasEnded, Lacks, holds_or, may_of}
 use Rattle.pua_policy.specs.ReasonLaws.{LackingsHold, LackSome, PromisingHolds, PromisingsHold, PromisingsAnswer}
 use Rattle.pua_policy.specs.declared.answer.May.TheVariants as may
@@ -42,14 +42,14 @@ lackings_hold set wanted = record {
 }
 
 -- where no set is found, none is held
-none_found : (h : History) (sets : List ℕ) → find (holds (held h)) sets ≡ None → LackSome h sets (map (lacking (held h)) sets)
+none_found : (h : History) (sets : List ℕ) → find (holds (held_set h)) sets ≡ None → LackSome h sets (map (lacking (held_set h)) sets)
 none_found h [] e = tt
-none_found h (set ∷ sets) e = by (holds (held h) set) refl e (none_found h sets)
+none_found h (set ∷ sets) e = by (holds (held_set h) set) refl e (none_found h sets)
   where
-    by : (v : Bool) → holds (held h) set ≡ v → (if v then Some set else find (holds (held h)) sets) ≡ None → (find (holds (held h)) sets ≡ None → LackSome h sets (map (lacking (held h)) sets)) →
-        LackSome h (set ∷ sets) (lacking (held h) set ∷ map (lacking (held h)) sets)
+    by : (v : Bool) → holds (held_set h) set ≡ v → (if v then Some set else find (holds (held_set h)) sets) ≡ None → (find (holds (held_set h)) sets ≡ None → LackSome h sets (map (lacking (held_set h)) sets)) →
+        LackSome h (set ∷ sets) (lacking (held_set h) set ∷ map (lacking (held_set h)) sets)
     by true is e more = cc
-    by false is e more = (record { not_held = is; were_held = eq-eqb _ _ (suffices (held h) set); of_it = refl }, more e)
+    by false is e more = (record { not_held = is; were_held = eq-eqb _ _ (suffices (held_set h) set); of_it = refl }, more e)
 
 some_found : (test : ℕ → Bool) (sets : List ℕ) (set : ℕ) → find test sets ≡ Some set → test set ≡ true
 some_found test [] set e = cc
@@ -60,12 +60,12 @@ some_found test (x ∷ sets) set e = by (test x) refl e (some_found test sets se
     by false is e more = more e
 
 pub promisings_hold : PromisingsHold
-promisings_hold h sets = by (is_ended h) refl (find (holds (held h)) sets) refl
+promisings_hold h sets = by (is_ended h) refl (find (holds (held_set h)) sets) refl
   where
-    by : (v : Bool) → is_ended h ≡ v → (o : Option ℕ) → find (holds (held h)) sets ≡ o →
-        PromisingHolds h sets (if v then HasEnded else holds_or o (Lacks (has_error h) (map (lacking (held h)) sets)))
+    by : (v : Bool) → is_ended h ≡ v → (o : Option ℕ) → find (holds (held_set h)) sets ≡ o →
+        PromisingHolds h sets (if v then HasEnded else holds_or o (Lacks (has_error h) (map (lacking (held_set h)) sets)))
     by true ended o e = ended
-    by false living (Some set) e = (some_found (holds (held h)) sets set e, living)
+    by false living (Some set) e = (some_found (holds (held_set h)) sets set e, living)
     by false living None e = none_found h sets e
 
 -- a test finds something exactly where something passes it
@@ -78,10 +78,10 @@ any_found test (set ∷ sets) = by (test set) (any_found test sets)
     by false h = h
 
 pub promisings_answer : PromisingsAnswer
-promisings_answer h sets = by (is_ended h) (find (holds (held h)) sets) (list_any (holds (held h)) sets) (has_error h) (any_found (holds (held h)) sets)
+promisings_answer h sets = by (is_ended h) (find (holds (held_set h)) sets) (list_any (holds (held_set h)) sets) (has_error h) (any_found (holds (held_set h)) sets)
   where
     by : (ended : Bool) (found : Option ℕ) (any error : Bool) → is_some found ≡ any →
-        may_of (if ended then HasEnded else holds_or found (Lacks error (map (lacking (held h)) sets))) ≡ (if ended then may.Death else (if any then may.Yes else (if error then may.Enosys else may.Death)))
+        may_of (if ended then HasEnded else holds_or found (Lacks error (map (lacking (held_set h)) sets))) ≡ (if ended then may.Death else (if any then may.Yes else (if error then may.Enosys else may.Death)))
     by true found any error e = refl
     by false (Some set) true error e = refl
     by false (Some set) false error e = cc

@@ -6,7 +6,7 @@ use Rattle.pua_tree.specs.Tree.{Tree}
 use Rattle.pua_path.specs.declared.found.Found.{Found}
 use Rattle.pua_policy.specs.declared.place.Place.{Place}
 use Rattle.pua_policy.specs.declared.place.Place.TheVariants.{Dir}
-use Rattle.pua_policy.specs.History.{History, Pledged, Unveiled, Locked, Moved, Ended, kept, veils, with_veil, veil_at, has_veil, same_place, pledged, held_for_exec, is_locked, is_ended, working_dir}
+use Rattle.pua_policy.specs.History.{History, Pledged, Unveiled, Locked, Moved, Ended, perms_kept, veils, with_veil, veil_at, has_veil, same_place, pledged_set, held_for_exec, is_locked, is_ended, working_dir}
 use Rattle.pua_policy.specs.History.{is_within, place_fault, may_any, unveil_fault, ProcessState, StandsFor}
 use Rattle.pua_policy.specs.Verdict.{is_unveil, cover, nearest, place_of, directories_over, cover_fault, or_fault, object_fault, object_of, allowed_unless, if_promised, verdict_of}
 use Rattle.pua_calls.specs.Promises.{holds, all_promises, error}
@@ -56,7 +56,7 @@ cover_of any kept_at t object = if any then nearest (kept_at (place_of object) �
 
 module _ (p : ProcessState) (h : History) (s : StandsFor p h) where
   -- what a process has at a place is what its history keeps there
-  pub kept_by : (place : Place) → kept h place ≡ veil_at p.veils place
+  pub kept_by : (place : Place) → perms_kept h place ≡ veil_at p.veils place
   kept_by place = sym (veils_are_kept h place) ∙ ap (λ vs. veil_at vs place) (sym s.veils)
 
   -- what a process keeps decides what it answers to an unveil
@@ -75,13 +75,13 @@ verdict_alike h k may covered t table call (Err errno) = λ i. if_promised (may 
 
 pub processes_decide : ProcessesDecide
 processes_decide p h k sh sk =
-    let given : pledged h ≡ pledged k = sym sh.promises ∙ sk.promises in
+    let given : pledged_set h ≡ pledged_set k = sym sh.promises ∙ sk.promises in
     let given_for_exec : held_for_exec h ≡ held_for_exec k = sym sh.execpromises ∙ sk.execpromises in
     let placed : veils h ≡ veils k = sym sh.veils ∙ sk.veils in
     let locked : is_locked h ≡ is_locked k = sym sh.locked ∙ sk.locked in
     let dir : working_dir h ≡ working_dir k = sym sh.dir ∙ sk.dir in
     let ended : is_ended h ≡ is_ended k = sym sh.ended ∙ sk.ended in
-    let kept_alike : (place : Place) → kept h place ≡ kept k place = λ place. sym (veils_are_kept h place) ∙ ap (λ vs. veil_at vs place) placed ∙ veils_are_kept k place in
+    let kept_alike : (place : Place) → perms_kept h place ≡ perms_kept k place = λ place. sym (veils_are_kept h place) ∙ ap (λ vs. veil_at vs place) placed ∙ veils_are_kept k place in
     let any : list_any is_unveil h ≡ list_any is_unveil k = any_veil h ∙ ap has_veil placed ∙ sym (any_veil k) in
     let may : (sets : List ℕ) → may_any h sets ≡ may_any k sets = λ sets i. may_by (ended i) (given i) sets in
     let covered : (t : Tree) (object : Found) → cover t h object ≡ cover t k object = λ t object i. cover_of (any i) (λ place. kept_alike place i) t object in

@@ -8,7 +8,7 @@ use Rattle.indexmap.specs.IndexMap.{insert_entry}
 use Rattle.pua_tree.specs.Names.{same_bytes}
 use Rattle.pua_policy.specs.declared.place.Place.{Place}
 use Rattle.pua_policy.specs.declared.place.Place.TheVariants.{Dir, Slot}
-use Rattle.pua_policy.specs.History.{History, Pledged, Unveiled, Locked, Moved, Ended, veils, kept, is_locked, place_fault, with_veil, veil_at, same_place}
+use Rattle.pua_policy.specs.History.{History, Pledged, Unveiled, Locked, Moved, Ended, veils, perms_kept, is_locked, place_fault, with_veil, veil_at, same_place}
 use Rattle.std.proofs.lemmas.Bool.{and_parts}
 use Rattle.std.proofs.lemmas.List.{map-append}
 use Rattle.std.proofs.lemmas.List.Folds.{list_all-map}
@@ -117,7 +117,7 @@ nearest-append (None ∷ near) far perms e = nearest-append near far perms e
 nearest-append (Some other ∷ near) far perms e = cc
 
 -- a veil is kept where some place keeps permissions
-pub unveil_from_kept : (h : History) (place : Place) (perms : ℕ) → kept h place ≡ Some perms → list_any is_unveil h ≡ true
+pub unveil_from_kept : (h : History) (place : Place) (perms : ℕ) → perms_kept h place ≡ Some perms → list_any is_unveil h ≡ true
 unveil_from_kept [] place perms e = cc
 unveil_from_kept (Unveiled other p ∷ h) place perms e = refl
 unveil_from_kept (Pledged p x ∷ h) place perms e = unveil_from_kept h place perms e
@@ -126,21 +126,21 @@ unveil_from_kept (Moved d ∷ h) place perms e = unveil_from_kept h place perms 
 unveil_from_kept (Ended ∷ h) place perms e = unveil_from_kept h place perms e
 
 -- a cover where a veil is kept, by the places where it is looked for
-cover-places : (t : Tree) (h : History) (object : Found) → list_any is_unveil h ≡ true → cover t h object ≡ nearest (map (kept h) (places_over t object))
+cover-places : (t : Tree) (h : History) (object : Found) → list_any is_unveil h ≡ true → cover t h object ≡ nearest (map (perms_kept h) (places_over t object))
 cover-places t h object e =
-    ap (λ b. cond b (nearest (kept h (place_of object) ∷ map (λ dir. kept h (Dir dir)) (directories_over t object))) All) e
-    ∙ ap (λ more. nearest (kept h (place_of object) ∷ more)) (at_dirs (directories_over t object))
+    ap (λ b. cond b (nearest (perms_kept h (place_of object) ∷ map (λ dir. perms_kept h (Dir dir)) (directories_over t object))) All) e
+    ∙ ap (λ more. nearest (perms_kept h (place_of object) ∷ more)) (at_dirs (directories_over t object))
   where
-    at_dirs : (ds : List ℕ) → map (λ dir. kept h (Dir dir)) ds ≡ map (kept h) (map Dir ds)
+    at_dirs : (ds : List ℕ) → map (λ dir. perms_kept h (Dir dir)) ds ≡ map (perms_kept h) (map Dir ds)
     at_dirs [] = refl
-    at_dirs (d ∷ ds) = ap (λ more. kept h (Dir d) ∷ more) (at_dirs ds)
+    at_dirs (d ∷ ds) = ap (λ more. perms_kept h (Dir d) ∷ more) (at_dirs ds)
 
 pub nearest_counts : NearestCounts
 nearest_counts t h object near far place perms split none here =
     cover-places t h object (unveil_from_kept h place perms here)
-    ∙ ap (λ places. nearest (map (kept h) places)) split
-    ∙ ap nearest (map-append (kept h) near (place ∷ far) ∙ ap (λ o. map (kept h) near ++ o ∷ map (kept h) far) here)
-    ∙ nearest-append (map (kept h) near) (map (kept h) far) perms (list_all-map is_none (kept h) near ∙ none)
+    ∙ ap (λ places. nearest (map (perms_kept h) places)) split
+    ∙ ap nearest (map-append (perms_kept h) near (place ∷ far) ∙ ap (λ o. map (perms_kept h) near ++ o ∷ map (perms_kept h) far) here)
+    ∙ nearest-append (map (perms_kept h) near) (map (perms_kept h) far) perms (list_all-map is_none (perms_kept h) near ∙ none)
 
 -- what a set holds, a set that holds it holds
 pub holds_through : (old perms wanted : ℕ) → holds old perms ≡ true → holds perms wanted ≡ true → holds old wanted ≡ true
@@ -151,17 +151,17 @@ if_none : (b : Bool) (fault : Errno) → cond b None (Some fault) ≡ None → b
 if_none true fault e = refl
 if_none false fault e = cc
 
-nearest_narrows : (h : History) (place : Place) (old perms wanted : ℕ) → kept h place ≡ Some old → holds old perms ≡ true → (places : List Place) →
-    cover_fault (nearest (map (kept (Unveiled place perms ∷ h)) places)) wanted ≡ None → cover_fault (nearest (map (kept h) places)) wanted ≡ None
+nearest_narrows : (h : History) (place : Place) (old perms wanted : ℕ) → perms_kept h place ≡ Some old → holds old perms ≡ true → (places : List Place) →
+    cover_fault (nearest (map (perms_kept (Unveiled place perms ∷ h)) places)) wanted ≡ None → cover_fault (nearest (map (perms_kept h) places)) wanted ≡ None
 nearest_narrows h place old perms wanted is less [] e = e
 nearest_narrows h place old perms wanted is less (p ∷ ps) e =
     elim (same_place place p) as (λ b. same_place place p ≡ b →
-    cover_fault (nearest (cond b (Some perms) (kept h p) ∷ map (kept (Unveiled place perms ∷ h)) ps)) wanted ≡ None → cover_fault (nearest (kept h p ∷ map (kept h) ps)) wanted ≡ None) [
+    cover_fault (nearest (cond b (Some perms) (perms_kept h p) ∷ map (perms_kept (Unveiled place perms ∷ h)) ps)) wanted ≡ None → cover_fault (nearest (perms_kept h p ∷ map (perms_kept h) ps)) wanted ≡ None) [
       | true ↦ λ same fits.
-          let here : kept h p ≡ Some old = ap (kept h) (sym (same_place_is place p same)) ∙ is in
-          ap (λ o. cover_fault (nearest (o ∷ map (kept h) ps)) wanted) here
+          let here : perms_kept h p ≡ Some old = ap (perms_kept h) (sym (same_place_is place p same)) ∙ is in
+          ap (λ o. cover_fault (nearest (o ∷ map (perms_kept h) ps)) wanted) here
           ∙ ap (λ b. cond b None (Some EACCES)) (holds_through old perms wanted less (if_none (holds perms wanted) EACCES fits))
-      | false ↦ λ other fits. elim (kept h p) as (λ o. cover_fault (nearest (o ∷ map (kept (Unveiled place perms ∷ h)) ps)) wanted ≡ None → cover_fault (nearest (o ∷ map (kept h) ps)) wanted ≡ None) [
+      | false ↦ λ other fits. elim (perms_kept h p) as (λ o. cover_fault (nearest (o ∷ map (perms_kept (Unveiled place perms ∷ h)) ps)) wanted ≡ None → cover_fault (nearest (o ∷ map (perms_kept h) ps)) wanted ≡ None) [
         | None ↦ nearest_narrows h place old perms wanted is less ps
         | Some kept_there ↦ λ same. same
       ] fits
@@ -173,7 +173,7 @@ kept_places_narrow h place old perms is accepted t object wanted e =
     ∙ nearest_narrows h place old perms wanted is (less (is_locked h) accepted) (places_over t object)
     (ap (λ c. cover_fault c wanted) (sym (cover-places t (Unveiled place perms ∷ h) object refl)) ∙ e)
   where
-    less : (locked : Bool) → cond locked (Some NotPermitted) (place_fault (kept h place) (length (veils h)) perms) ≡ None → holds old perms ≡ true
+    less : (locked : Bool) → cond locked (Some NotPermitted) (place_fault (perms_kept h place) (length (veils h)) perms) ≡ None → holds old perms ≡ true
     less true e = cc
     less false fits = unless (holds old perms) (ap (λ o. place_fault o (length (veils h)) perms) (sym is) ∙ fits)
       where

@@ -6,7 +6,7 @@ use Rattle.pua_calls.specs.Promises.{promises_of, perms_of, lacking, reading, wr
 use Rattle.pua_calls.specs.Calls.{calls, standard_table, openbsd_table}
 use Rattle.pua_calls.specs.CallSets.{calls_in, keeps_link}
 use Rattle.pua_policy.specs.Objects.{object_seen}
-use Rattle.pua_policy.specs.History.{History, Pledged, Unveiled, Locked, Ended, new_history, held, held_for_exec, pledge_fault, unveil_fault, veils, may_any, pledged, after_exec}
+use Rattle.pua_policy.specs.History.{History, Pledged, Unveiled, Locked, Ended, new_history, held_set, held_for_exec, pledge_fault, unveil_fault, veils, may_any, pledged_set, after_exec}
 use Rattle.pua_policy.specs.Misfits.{misfit}
 use Rattle.pua_policy.specs.Reasons.{Holds, HasEnded, Lacks, promising, covering}
 use Rattle.pua_policy.specs.Verdict.{cover, verdict_on, object_fault, rmdir_fault, IsDir, IsFile, IsProg, IsLink, IsMissing}
@@ -42,25 +42,25 @@ pub cover_rows : CoverRows
 cover_rows = record { beneath_root = refl; beneath_nearer = refl; own = refl; missing = refl; own_alone = refl; increase = refl; locked = refl; reduction = refl; replaced = refl }
 
 -- a veil on the root and none of its permissions on a directory
-abbrev pub root_alone : History
-root_alone = Unveiled (Dir 3) 0 ∷ Unveiled (Dir 0) reading ∷ new_history
+abbrev pub root_veiled : History
+root_veiled = Unveiled (Dir 3) 0 ∷ Unveiled (Dir 0) reading ∷ new_history
 
 -- a pledge that keeps `error`, and one that is narrowed by it
 abbrev pub with_error : History
 with_error = Pledged (Some (rpath + error)) None ∷ Pledged None (Some rpath) ∷ new_history
 
-abbrev pub narrowed : History
-narrowed = Pledged (Some (rpath + wpath)) (Some wpath) ∷ with_error
+abbrev pub narrowed_history : History
+narrowed_history = Pledged (Some (rpath + wpath)) (Some wpath) ∷ with_error
 
 pub record VerdictRows : Type 0 where
-  pub veiled : verdict_on example_tree standard_table root_alone Stat (codes "/tmp/sh") ≡ Failed EACCES
-  pub unveiled : verdict_on example_tree standard_table root_alone Stat (codes "/etc") ≡ Allowed
+  pub veiled : verdict_on example_tree standard_table root_veiled Stat (codes "/tmp/sh") ≡ Failed EACCES
+  pub unveiled : verdict_on example_tree standard_table root_veiled Stat (codes "/etc") ≡ Allowed
   pub exec_increase : pledge_fault (Pledged None (Some rpath) ∷ new_history) None (Some (rpath + wpath)) ≡ Some EPERM
   pub first_promises : pledge_fault (Pledged None (Some rpath) ∷ new_history) (Some (rpath + error)) None ≡ None
   pub under_error : pledge_fault with_error (Some (rpath + wpath)) (Some wpath) ≡ None
-  pub promises : held narrowed ≡ rpath
-  pub execpromises : held_for_exec narrowed ≡ Some 0
-  pub lacking : may_any narrowed (wpath ∷ []) ≡ may.Death
+  pub promises : held_set narrowed_history ≡ rpath
+  pub execpromises : held_for_exec narrowed_history ≡ Some 0
+  pub lacking : may_any narrowed_history (wpath ∷ []) ≡ may.Death
   pub keywords : promises_of (codes "stdio,rpath,error,rpath") ≡ Ok (2 ^ 25 + rpath + error)
   pub unknown_keyword : promises_of (codes "stdio,zpath") ≡ Err EINVAL
   pub letters : perms_of (codes "wrr") ≡ Ok (reading + writing)
@@ -136,10 +136,10 @@ set_rows = record {
 -- why something is allowed or not
 pub record ReasonRows : Type 0 where
   pub lacks : lacking (reading + 4) (reading + writing + 8) ≡ writing + 8
-  pub first_held : promising narrowed (wpath ∷ rpath ∷ 0 ∷ []) ≡ Holds rpath
+  pub first_held : promising narrowed_history (wpath ∷ rpath ∷ 0 ∷ []) ≡ Holds rpath
   pub none_held : promising with_error (wpath ∷ (rpath + wpath) ∷ []) ≡ Lacks true (wpath ∷ wpath ∷ [])
-  pub no_error : promising narrowed (wpath ∷ []) ≡ Lacks false (wpath ∷ [])
-  pub ended : promising (Ended ∷ narrowed) (rpath ∷ []) ≡ HasEnded
+  pub no_error : promising narrowed_history (wpath ∷ []) ≡ Lacks false (wpath ∷ [])
+  pub ended : promising (Ended ∷ narrowed_history) (rpath ∷ []) ≡ HasEnded
   pub in_view : covering example_tree new_history (found.Whole 1 (way.Named 0 (codes "etc"))) ≡ InView
   pub own_veil : covering example_tree three_veils (found.Slot 1 (codes "passwd") (Some 2)) ≡ By (Slot 1 (codes "passwd")) (reading + writing)
   pub nearer_veil : covering example_tree three_veils (found.Slot 3 (codes "sh") (Some 7)) ≡ By (Dir 3) 0
@@ -176,9 +176,9 @@ pub record RuleRows : Type 0 where
   pub chmod : verdict_on example_tree openbsd_table fattr_alone Chmod (codes "/etc") ≡ Death
   pub standard_chmod : verdict_on example_tree standard_table fattr_alone Chmod (codes "/etc") ≡ Allowed
   -- execpromises stay after an exec, for the next one
-  pub exec_promises : pledged (after_exec openbsd_table.execpromises both_for_exec) ≡ Some (rpath + cpath)
+  pub exec_promises : pledged_set (after_exec openbsd_table.execpromises both_for_exec) ≡ Some (rpath + cpath)
   pub exec_stay : held_for_exec (after_exec openbsd_table.execpromises both_for_exec) ≡ Some (rpath + cpath)
-  pub standard_exec_promises : pledged (after_exec standard_table.execpromises both_for_exec) ≡ Some (rpath + cpath)
+  pub standard_exec_promises : pledged_set (after_exec standard_table.execpromises both_for_exec) ≡ Some (rpath + cpath)
   pub standard_exec_unset : held_for_exec (after_exec standard_table.execpromises both_for_exec) ≡ None
   pub none_given : after_exec openbsd_table.execpromises new_history ≡ new_history
 

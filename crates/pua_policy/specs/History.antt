@@ -2,7 +2,7 @@
 use Rattle.std.specs.Prelude.{◌≡◌, ℕ, ◌-◌, Bool, true, false, not, ◌&&◌, ◌||◌, if◌then◌else◌, List, [], ◌∷◌, length, nat_le, ◌==◌, Option, Some, None, bit_and, unwrap_or, filter, filter_map}
 use Rattle.std.specs.List.{list_any}
 use Rattle.pua_tree.specs.Names.{same_bytes}
-pub use Rattle.pua_policy.specs.Limits.{place_limit}
+pub use Rattle.pua_policy.specs.Limits.{most_places}
 use Rattle.pua_calls.specs.Promises.{holds, all_promises, error}
 use Rattle.pua_path.specs.declared.errno.Errno.{Errno}
 use Rattle.pua_path.specs.declared.errno.Errno.TheVariants.{EPERM}
@@ -49,18 +49,18 @@ common [] = None
 common (set ∷ sets) = Some (meet set (common sets))
 
 -- the promises that every event which gave some names; before the first, all but `error`
-abbrev pub pledged : History → Option ℕ
-pledged h = common (filter_map promises_in h)
+abbrev pub pledged_set : History → Option ℕ
+pledged_set h = common (filter_map promises_in h)
 
-abbrev pub held : History → ℕ
-held h = unwrap_or (pledged h) (all_promises - error)
+abbrev pub held_set : History → ℕ
+held_set h = unwrap_or (pledged_set h) (all_promises - error)
 
 -- the execpromises that every event which gave some names, if one did
 abbrev pub held_for_exec : History → Option ℕ
 held_for_exec h = common (filter_map execpromises_in h)
 
 abbrev pub has_error : History → Bool
-has_error h = holds (held h) error
+has_error h = holds (held_set h) error
 
 -- a request names nothing beyond what was given before; before the first it may name anything
 abbrev pub is_within : Option ℕ → Option ℕ → Bool
@@ -69,14 +69,14 @@ is_within (Some request) None = true
 is_within (Some request) (Some given) = holds given request
 
 -- what is given after a request: what both name, and before the first what it names
-abbrev pub narrowed : Option ℕ → Option ℕ → Option ℕ
-narrowed given None = given
-narrowed given (Some request) = Some (meet request given)
+abbrev pub narrowed_set : Option ℕ → Option ℕ → Option ℕ
+narrowed_set given None = given
+narrowed_set given (Some request) = Some (meet request given)
 
 -- a pledge is refused if it asks for more in either argument, unless `error` is held
 abbrev pub pledge_fault : History → Option ℕ → Option ℕ → Option Errno
 pledge_fault h promises execpromises =
-    if has_error h || (is_within promises (pledged h) && is_within execpromises (held_for_exec h)) then None else Some EPERM
+    if has_error h || (is_within promises (pledged_set h) && is_within execpromises (held_for_exec h)) then None else Some EPERM
 
 abbrev pub same_place : Place → Place → Bool
 same_place (Dir a) (Dir b) = a == b
@@ -85,10 +85,10 @@ same_place (Dir a) (Slot b m) = false
 same_place (Slot a n) (Dir b) = false
 
 -- the permissions kept at a place: those of the last event on it
-abbrev pub kept : History → Place → Option ℕ
-kept [] place = None
-kept (Unveiled other perms ∷ h) place = if same_place other place then Some perms else kept h place
-kept (_ ∷ h) place = kept h place
+abbrev pub perms_kept : History → Place → Option ℕ
+perms_kept [] place = None
+perms_kept (Unveiled other perms ∷ h) place = if same_place other place then Some perms else perms_kept h place
+perms_kept (_ ∷ h) place = perms_kept h place
 
 abbrev pub first : {A : Type 0} → List A → Option A
 first [] = None
@@ -140,10 +140,10 @@ working_dir h = unwrap_or (first (filter_map dir_in h)) 0
 -- why permissions may not be kept at a place, by what is kept there and by the number of places: they may only be reduced, and there is a limit of places
 abbrev pub place_fault : Option ℕ → ℕ → ℕ → Option UnveilFault
 place_fault (Some old) places perms = if holds old perms then None else Some NotPermitted
-place_fault None places perms = if nat_le place_limit places then Some TooManyPlaces else None
+place_fault None places perms = if nat_le most_places places then Some TooManyPlaces else None
 
 abbrev pub unveil_fault : History → Place → ℕ → Option UnveilFault
-unveil_fault h place perms = if is_locked h then Some NotPermitted else place_fault (kept h place) (length (veils h)) perms
+unveil_fault h place perms = if is_locked h then Some NotPermitted else place_fault (perms_kept h place) (length (veils h)) perms
 
 abbrev pub is_pledge : Event → Bool
 is_pledge (Pledged promises execpromises) = true
@@ -166,7 +166,7 @@ after_exec left h = by_given (held_for_exec h)
 abbrev pub may_any : History → List ℕ → May
 may_any h alternatives =
     if is_ended h then Death
-    else (if list_any (holds (held h)) alternatives then Yes
+    else (if list_any (holds (held_set h)) alternatives then Yes
     else (if has_error h then Enosys else Death))
 
 -- what a process keeps of its history; its promises are None until a pledge gives some, since that pledge alone may name any
@@ -180,7 +180,7 @@ pub record ProcessState : Type 0 where
 
 -- the process stands for the history
 pub record StandsFor (process : ProcessState) (h : History) : Type 0 where
-  pub promises : process.promises ≡ pledged h
+  pub promises : process.promises ≡ pledged_set h
   pub execpromises : process.execpromises ≡ held_for_exec h
   pub veils : process.veils ≡ veils h
   pub locked : process.locked ≡ is_locked h

@@ -4,7 +4,7 @@ use Rattle.std.specs.List.{list_any}
 use Rattle.pua_tree.specs.Tree.{Tree}
 use Rattle.pua_path.specs.declared.found.Found.{Found}
 use Rattle.pua_calls.specs.Promises.{holds, lacking}
-use Rattle.pua_policy.specs.History.{History, held, has_error, is_ended, kept}
+use Rattle.pua_policy.specs.History.{History, held_set, has_error, is_ended, perms_kept}
 use Rattle.pua_policy.specs.Laws.{places_over}
 use Rattle.pua_policy.specs.Verdict.{is_unveil}
 use Rattle.pua_policy.specs.declared.place.Place.{Place}
@@ -30,7 +30,7 @@ holds_or None lacks = lacks
 
 -- the first set that is held
 abbrev pub promising : History → List ℕ → Promising
-promising h sets = if is_ended h then HasEnded else holds_or (find (holds (held h)) sets) (Lacks (has_error h) (map (lacking (held h)) sets))
+promising h sets = if is_ended h then HasEnded else holds_or (find (holds (held_set h)) sets) (Lacks (has_error h) (map (lacking (held_set h)) sets))
 
 -- as a process tells it, which names what it holds beside the sets
 abbrev pub promising_seen : seen.Promising → Promising
@@ -57,7 +57,7 @@ first_kept kept_at (place ∷ places) = kept_or place (kept_at place) (first_kep
 
 -- what covers an object: no veil is kept, none of those that are kept stands over it, or the nearest one, by its place and permissions
 abbrev pub covering : Tree → History → Found → Covering
-covering t h object = if list_any is_unveil h then first_kept (kept h) (places_over t object) else InView
+covering t h object = if list_any is_unveil h then first_kept (perms_kept h) (places_over t object) else InView
 
 -- the first of some directories that has permissions, with them
 abbrev pub or_farther : ℕ → Option ℕ → Option (ℕ × ℕ) → Option (ℕ × ℕ)

@@ -8,7 +8,7 @@ pub use Rattle.pua_policy.specs.Misfits.{Object, IsDir, IsFile, IsProg, IsLink, 
 use Rattle.pua_policy.specs.Misfits.{rmdir_misfit, misfit, misfit_errno}
 use Rattle.pua_calls.specs.Promises.{holds}
 use Rattle.pua_calls.specs.Calls.{CallTable, rule_of, last_of, ending_of}
-use Rattle.pua_policy.specs.History.{History, Event, Unveiled, kept, may_any, working_dir}
+use Rattle.pua_policy.specs.History.{History, Event, Unveiled, perms_kept, may_any, working_dir}
 use Rattle.pua_tree.specs.declared.node.Kind.{Kind}
 use Rattle.pua_tree.specs.declared.node.Kind.TheVariants as kind
 use Rattle.pua_path.specs.declared.errno.Errno.{Errno}
@@ -51,7 +51,7 @@ is_unveil _ = false
 -- everything, where no veil is kept; else the permissions at the object's own place, or those of the nearest directory over it
 abbrev pub cover : Tree → History → Found → Cover
 cover t h object =
-    if list_any is_unveil h then nearest (kept h (place_of object) ∷ map (λ dir. kept h (Dir dir)) (directories_over t object)) else All
+    if list_any is_unveil h then nearest (perms_kept h (place_of object) ∷ map (λ dir. perms_kept h (Dir dir)) (directories_over t object)) else All
 
 abbrev pub object_of_kind : Option Kind → Object
 object_of_kind (Some kind.Prog) = IsProg
@@ -94,9 +94,9 @@ refusal_of may.Enosys = Some (refusal.Failed ENOSYS)
 refusal_of may.Death = Some refusal.Killed
 
 -- a refusal as a verdict
-abbrev pub refused : Refusal → Verdict
-refused (refusal.Failed errno) = Failed errno
-refused refusal.Killed = Death
+abbrev pub refusal_verdict : Refusal → Verdict
+refusal_verdict (refusal.Failed errno) = Failed errno
+refusal_verdict refusal.Killed = Death
 
 -- promises before everything else: without them the call fails or the process ends
 abbrev pub if_promised : May → Verdict → Verdict

@@ -3,7 +3,7 @@
 ghost use Rattle.std.specs.Prelude.{◌≡◌, ◌+◌, ◌≤◌, length, map, IsTrue};
 ghost use Rattle.pua_tree.specs.Tree.{is_dir, climb};
 ghost use Rattle.pua_policy.specs.Descent.{own_or};
-ghost use Rattle.pua_policy.specs.History.{History, StandsFor, kept, veil_at};
+ghost use Rattle.pua_policy.specs.History.{History, StandsFor, perms_kept, veil_at};
 ghost use Rattle.pua_policy.specs.Reasons.{covering, first_veiled, covering_at};
 ghost use Rattle.pua_policy.specs.Verdict.{FoundFits, cover, nearest};
 
@@ -69,7 +69,8 @@ impl Process {
     /// The permissions kept at this very place, or where it has no veil the cover of the names in the
     /// directory over it, which the caller hands on. The tree is not asked.
     pub fn own_cover(&self, place: &Place, over: Cover) -> Cover
-        ensures { (h : History) → StandsFor self.now h → result ≡ own_or (kept h place.now) over }
+        ensures { (h : History) → StandsFor self.now h →
+            result ≡ own_or (perms_kept h place.now) over }
     {
         match self.kept(place) {
             Some(own) => Cover::Only(own),

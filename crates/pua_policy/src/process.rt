@@ -10,7 +10,7 @@ use std::alloc::{AllocError, Global};
 use std::marker::Model;
 
 /// A process keeps veils at no more places than so many (this profile; `E2BIG` is unveil(2)'s).
-pub const PLACE_LIMIT: usize = 128;
+pub const MOST_PLACES: usize = 128;
 
 /// How many places a new process has room for.
 const FIRST_PLACES: usize = 8;
@@ -60,9 +60,9 @@ ghost use Rattle.pua_calls.specs.declared.rules.ExecPromises.TheVariants.{Unset}
 ghost use Rattle.pua_policy.specs.History.{History, StandsFor, new_history, HasHistory, after_exec};
 ghost use Rattle.pua_policy.specs.History.{Pledged, Unveiled, Locked, Moved, Ended};
 ghost use Rattle.pua_policy.specs.History.{pledge_fault, unveil_fault, place_fault, is_within};
-ghost use Rattle.pua_policy.specs.History.{narrowed, may_any, is_locked, is_ended, working_dir};
-ghost use Rattle.pua_policy.specs.History.{pledged, held, held_for_exec, left_for_exec};
-ghost use Rattle.pua_policy.specs.History.{kept, veils, veil_at, has_veil};
+ghost use Rattle.pua_policy.specs.History.{narrowed_set, may_any, is_locked, is_ended, working_dir};
+ghost use Rattle.pua_policy.specs.History.{pledged_set, held_set, held_for_exec, left_for_exec};
+ghost use Rattle.pua_policy.specs.History.{perms_kept, veils, veil_at, has_veil};
 
 impl Process {
     /// A new process, in the root: it holds every promise but `error`, and has no veil (this
@@ -151,7 +151,7 @@ impl Process {
     /// one but `error`.
     pub fn promises(&self) -> Option<Promises>
         ensures state { result ≡ self.now.promises }
-        ensures history { (h : History) → StandsFor self.now h → result ≡ pledged h }
+        ensures history { (h : History) → StandsFor self.now h → result ≡ pledged_set h }
     {
         self.promises
     }
@@ -287,7 +287,7 @@ impl Process {
         match self.kept(place) {
             Some(kept) if kept.contains(perms) => None,
             Some(_) => Some(UnveilFault::NotPermitted),
-            None if self.veils.len() < PLACE_LIMIT => None,
+            None if self.veils.len() < MOST_PLACES => None,
             None => Some(UnveilFault::TooManyPlaces),
         }
     }
@@ -296,7 +296,7 @@ impl Process {
     /// promises every one but `error`. Whether it has ended is not asked.
     pub fn held(&self) -> Promises
         ensures state { result ≡ unwrap_or self.now.promises (all_promises - error) }
-        ensures history { (h : History) → StandsFor self.now h → result ≡ held h }
+        ensures history { (h : History) → StandsFor self.now h → result ≡ held_set h }
     {
         self.promises.unwrap_or(Promises::ALL_BUT_ERROR)
     }
@@ -332,7 +332,7 @@ impl Process {
     /// it are not asked.
     pub fn kept(&self, place: &Place) -> Option<Perms>
         ensures state { result ≡ veil_at self.now.veils place.now }
-        ensures history { (h : History) → StandsFor self.now h → result ≡ kept h place.now }
+        ensures history { (h : History) → StandsFor self.now h → result ≡ perms_kept h place.now }
     {
         self.veils.get(place).copied()
     }
@@ -377,7 +377,7 @@ fn is_within(request: Option<Promises>, given: Option<Promises>) -> bool
 
 /// What is given after a request.
 fn narrowed(given: Option<Promises>, request: Option<Promises>) -> Option<Promises>
-    ensures { result ≡ narrowed given request }
+    ensures { result ≡ narrowed_set given request }
 {
     match (given, request) {
         (Some(given), Some(request)) => Some(request.intersection(given)),
