@@ -29,13 +29,13 @@ use Rattle.pua_script.specs.declared.answer.Answer.{Answer}
 use Rattle.pua_script.specs.declared.answer.Answer.TheVariants.{Gone}
 use Rattle.pua_script.specs.declared.request.Action.{Action}
 use Rattle.pua_script.specs.declared.request.Action.TheVariants.{OnPath, Symlink, Rename, Link, Pledge, Unveil, Lock, Fork, Exit}
-use Rattle.pua_script.specs.Decide.{fault_if, link_node, unveil_errno, given_set, is_unknown, Change, NoChange, AddNode, CutRow, ShiftRow, TieRow, BeginProgram, AddEvent, CopyAs, Decision, promised, checked, named, adding, change_by, decide_pair, decide_veil, decide}
-use Rattle.pua_script.specs.Replay.{World, Effect, Fails, Kills, Leaves, Copies, history_of, effect, edited, edited_tree, answer_to, left_by, served, apply, answers, world_after, made, come_of}
+use Rattle.pua_script.specs.Decide.{fault_if, link_node, unveil_errno, given_set, is_unknown, Change, NoChange, AddNode, CutRow, ShiftRow, TieRow, BeginProgram, AddEvent, CopyAs, Decision, if_may, unless_fault, if_named, adding, change_by, decide_pair, decide_veil, decide}
+use Rattle.pua_script.specs.Replay.{World, Effect, Fails, Kills, Leaves, Copies, history_of, effect, edit_effect, edited_tree, answer_to, left_by, answer_and_world, apply, answers_to, world_after, change_effect, come_of}
 use Rattle.pua_tree.specs.Edits.{add, cut, shift, tie}
 use Rattle.pua_policy.specs.History.{after_exec}
 use Rattle.pua_policy.specs.Verdict.{found_fault}
 use Rattle.pua_policy.specs.declared.answer.Refusal.TheVariants.{Failed, Killed}
-use Rattle.pua_script.specs.Limits.{process_limit}
+use Rattle.pua_script.specs.Limits.{most_processes}
 use Rattle.pua_script.specs.Worlds.{WorldState, StandsAt, StandsForWorld, WorldsAnswerAlike, process_at}
 use Rattle.pua_script.proofs.StoodFor.{nat_turned}
 use Rattle.pua_script.proofs.Histories.{Same, state_of, same_self, same_from_standing, stands_from_same, same_more, same_after_exec}
@@ -55,35 +55,35 @@ module _ (h k : History) (a : Same h k) where
 
   -- a decision rests on what a process keeps of its history
   call_alike : (table : CallTable) (t : Tree) (c : Call) (path : List ℕ) (f : Found → Change)
-      → (named (object_named t h c path) λ x. checked (found_fault t table h c x) (Ok (f x))) ≡ (named (object_named t k c path) λ x. checked (found_fault t table k c x) (Ok (f x)))
-  call_alike table t c path f i = named (resolution_of_text t (a.dir i) (ending_of c) path (last_of c))
-      λ x. checked (or_fault (cover_fault (allow.covers t x i) (rule_of table c).perms) (object_fault t c (object_of t x))) (Ok (f x))
+      → (if_named (object_named t h c path) λ x. unless_fault (found_fault t table h c x) (Ok (f x))) ≡ (if_named (object_named t k c path) λ x. unless_fault (found_fault t table k c x) (Ok (f x)))
+  call_alike table t c path f i = if_named (resolution_of_text t (a.dir i) (ending_of c) path (last_of c))
+      λ x. unless_fault (or_fault (cover_fault (allow.covers t x i) (rule_of table c).perms) (object_fault t c (object_of t x))) (Ok (f x))
 
   pair_alike : (pair : PairRule) (t : Tree) (end : Ending) (old new : List ℕ) (f : Found → Found → Decision) → decide_pair pair t h end old new f ≡ decide_pair pair t k end old new f
   pair_alike pair t end old new f i =
-      promised (allow.promises pair.old.needs.alternatives i) (promised (allow.promises pair.new.needs.alternatives i)
-      (named (resolution_of_text t (a.dir i) end old pair.old.last) λ x. named (resolution_of_text t (a.dir i) end new pair.new.last) λ y.
-      checked (or_fault (cover_fault (allow.covers t x i) pair.old.needs.perms) (cover_fault (allow.covers t y i) pair.new.needs.perms)) (f x y)))
+      if_may (allow.promises pair.old.needs.alternatives i) (if_may (allow.promises pair.new.needs.alternatives i)
+      (if_named (resolution_of_text t (a.dir i) end old pair.old.last) λ x. if_named (resolution_of_text t (a.dir i) end new pair.new.last) λ y.
+      unless_fault (or_fault (cover_fault (allow.covers t x i) pair.old.needs.perms) (cover_fault (allow.covers t y i) pair.new.needs.perms)) (f x y)))
 
   veil_alike : (t : Tree) (path : List ℕ) (letters : Option ℕ) → decide_veil t h path letters ≡ decide_veil t k path letters
   veil_alike t path None = refl
-  veil_alike t path (Some perms) = λ i. named (resolution_of_text t (a.dir i) ending.Dot path Followed) λ x. checked (unveil_errno (allow.unveils (place_of x) perms i)) (Ok (AddEvent (Unveiled (place_of x) perms)))
+  veil_alike t path (Some perms) = λ i. if_named (resolution_of_text t (a.dir i) ending.Dot path Followed) λ x. unless_fault (unveil_errno (allow.unveils (place_of x) perms i)) (Ok (AddEvent (Unveiled (place_of x) perms)))
 
   decide_alike : (table : CallTable) (t : Tree) (action : Action) → decide table t h action ≡ decide table t k action
-  decide_alike table t (OnPath c path) = λ i. promised (allow.promises (rule_of table c).alternatives i) (call_alike table t c path (change_by table c) i)
-  decide_alike table t (Symlink target path) = λ i. promised (allow.promises (rule_of table call.Symlink).alternatives i) (checked (path_fault target) (call_alike table t call.Symlink path (adding (link_node target)) i))
+  decide_alike table t (OnPath c path) = λ i. if_may (allow.promises (rule_of table c).alternatives i) (call_alike table t c path (change_by table c) i)
+  decide_alike table t (Symlink target path) = λ i. if_may (allow.promises (rule_of table call.Symlink).alternatives i) (unless_fault (path_fault target) (call_alike table t call.Symlink path (adding (link_node target)) i))
   decide_alike table t (Rename old new) = pair_alike table.rename t ending.Dropped old new _
   decide_alike table t (Link old new) = pair_alike table.link t ending.Dot old new _
-  decide_alike table t (Pledge p x) = λ i. checked (fault_if (is_unknown p || is_unknown x) EINVAL) (checked (allow.pledges (given_set p) (given_set x) i) (Ok (AddEvent (Pledged (given_set p) (given_set x)))))
-  decide_alike table t (Unveil path perms) = λ i. promised (allow.promises (unveil ∷ []) i) (checked (fault_if (a.locked i) EPERM) (veil_alike t path perms i))
-  decide_alike table t Lock = λ i. promised (allow.promises (unveil ∷ []) i) (Ok (AddEvent Locked))
-  decide_alike table t (Fork new) = λ i. promised (allow.promises (proc ∷ []) i) (Ok (CopyAs new))
+  decide_alike table t (Pledge p x) = λ i. unless_fault (fault_if (is_unknown p || is_unknown x) EINVAL) (unless_fault (allow.pledges (given_set p) (given_set x) i) (Ok (AddEvent (Pledged (given_set p) (given_set x)))))
+  decide_alike table t (Unveil path perms) = λ i. if_may (allow.promises (unveil ∷ []) i) (unless_fault (fault_if (a.locked i) EPERM) (veil_alike t path perms i))
+  decide_alike table t Lock = λ i. if_may (allow.promises (unveil ∷ []) i) (Ok (AddEvent Locked))
+  decide_alike table t (Fork new) = λ i. if_may (allow.promises (proc ∷ []) i) (Ok (CopyAs new))
   decide_alike table t Exit = refl
 
-  same_edited : (r s : Result (ℕ × Tree) TreeFault) → r ≡ s → SameEffect (edited h r) (edited k s)
-  same_edited r s e = subst (λ o. SameEffect (edited h r) (edited k o)) e (by r)
+  same_edited : (r s : Result (ℕ × Tree) TreeFault) → r ≡ s → SameEffect (edit_effect h r) (edit_effect k s)
+  same_edited r s e = subst (λ o. SameEffect (edit_effect h r) (edit_effect k o)) e (by r)
     where
-      by : (r : Result (ℕ × Tree) TreeFault) → SameEffect (edited h r) (edited k r)
+      by : (r : Result (ℕ × Tree) TreeFault) → SameEffect (edit_effect h r) (edit_effect k r)
       by (Ok x) = leaves a
       by (Err fault) = fails
 
@@ -139,7 +139,7 @@ module _ (v w : World) (same : SameWorlds v w) where
         second_order = holds _ (is_sorted-put nat_cmp nat_cmp_total n k w.histories sorted_w);
       }
 
-  same_made : (h k : History) → Same h k → (c : Change) → SameEffect (made v h c) (made w k c)
+  same_made : (h k : History) → Same h k → (c : Change) → SameEffect (change_effect v h c) (change_effect w k c)
   same_made h k a NoChange = same_left_as h k a v.tree w.tree h k same.tree a
   same_made h k a (AddNode spot node) = same_edited h k a _ _ (ap (λ t. add t spot.0 spot.1 node) same.tree)
   same_made h k a (CutRow spot) = same_edited h k a _ _ (ap (λ t. cut t spot.0 spot.1) same.tree)
@@ -147,8 +147,8 @@ module _ (v w : World) (same : SameWorlds v w) where
   same_made h k a (TieRow spot x) = same_edited_tree h k a _ _ (ap (λ t. tie t spot.0 spot.1 x) same.tree)
   same_made h k a (BeginProgram left) = same_left_as h k a v.tree w.tree (after_exec left h) (after_exec left k) same.tree (same_after_exec left h k a)
   same_made h k a (AddEvent event) = same_left_as h k a v.tree w.tree (event ∷ h) (event ∷ k) same.tree (same_more event h k a)
-  same_made h k a (CopyAs new) = subst (λ b. SameEffect (made v h (CopyAs new)) (cond b (Fails EAGAIN) (Copies new)))
-      (λ i. same_known _ _ (same.at new) i || nat_le process_limit (same.count i)) (by (is_some (history_of v new) || nat_le process_limit (length v.histories)))
+  same_made h k a (CopyAs new) = subst (λ b. SameEffect (change_effect v h (CopyAs new)) (cond b (Fails EAGAIN) (Copies new)))
+      (λ i. same_known _ _ (same.at new) i || nat_le most_processes (same.count i)) (by (is_some (history_of v new) || nat_le most_processes (length v.histories)))
     where
       by : (full : Bool) → SameEffect (cond full (Fails EAGAIN) (Copies new)) (cond full (Fails EAGAIN) (Copies new))
       by true = fails
@@ -178,21 +178,21 @@ module _ (v w : World) (same : SameWorlds v w) where
   same_gone_if true c d done = (refl, same)
   same_gone_if false c d done = done
 
-  same_served : (table : CallTable) (ask : Asked) (o g : Option History) → SameAt o g → SameDone (served table v ask o) (served table w ask g)
+  same_served : (table : CallTable) (ask : Asked) (o g : Option History) → SameAt o g → SameDone (answer_and_world table v ask o) (answer_and_world table w ask g)
   same_served table ask None None at = (refl, same)
   same_served table ask None (Some k) at = absurd at
   same_served table ask (Some h) None at = absurd at
   same_served table ask (Some h) (Some k) at =
       let d = effect table v h ask.action in
       let e = effect table w k ask.action in
-      subst (λ b. SameDone (cond b (Gone, v) (answer_to d, left_by v ask.process h d)) (served table w ask (Some k))) (sym at.ended)
+      subst (λ b. SameDone (cond b (Gone, v) (answer_to d, left_by v ask.process h d)) (answer_and_world table w ask (Some k))) (sym at.ended)
       (same_gone_if (is_ended k) _ _ (same_left ask.process h k at d e (same_effect table h k at ask.action)))
 
   same_step : (table : CallTable) (ask : Asked) → SameDone (apply table v ask) (apply table w ask)
   same_step table ask = same_served table ask _ _ (same.at ask.process)
 
 record SameEnd (table : CallTable) (v w : World) (asks : List Asked) : Type 0 where
-  told : answers table v asks ≡ answers table w asks
+  told : answers_to table v asks ≡ answers_to table w asks
   left : SameWorlds (world_after table v asks) (world_after table w asks)
 
 same_run : (table : CallTable) (asks : List Asked) (v w : World) → SameWorlds v w → SameEnd table v w asks

@@ -5,7 +5,7 @@ use Rattle.std.specs.Prelude.{Option, Some, None, Result, Ok, Err, filter}
 use Rattle.pua_tree.specs.Tree.{Tree, is_dir}
 use Rattle.pua_tree.specs.Steps.{◌>>=◌}
 use Rattle.pua_path.specs.Paths.{is_absolute, path_fault, parts_of}
-use Rattle.pua_path.specs.Resolution.{resolution, resolution_of_text, resolve_parts, link_limit}
+use Rattle.pua_path.specs.Resolution.{resolution, resolution_of_text, resolve_parts, most_links}
 use Rattle.pua_path.specs.declared.errno.Errno.{Errno}
 use Rattle.pua_path.specs.declared.errno.Errno.TheVariants.{ENOENT}
 use Rattle.pua_path.specs.declared.text.Ending.{Ending}
@@ -14,7 +14,7 @@ use Rattle.pua_path.specs.declared.found.Way.TheVariants.{Top}
 use Rattle.pua_path.specs.declared.found.Found.{Found}
 use Rattle.pua_calls.specs.Promises.{holds}
 use Rattle.pua_calls.specs.Calls.{CallTable, rule_of, ending_of, last_of}
-use Rattle.pua_policy.specs.History.{History, Pledged, Unveiled, Locked, Moved, Ended, kept, held, has_error, is_ended, may_any, working_dir, same_place}
+use Rattle.pua_policy.specs.History.{History, Pledged, Unveiled, Locked, Moved, Ended, perms_kept, held_set, has_error, is_ended, may_any, working_dir, same_place}
 use Rattle.pua_policy.specs.Verdict.{cover, nearest, is_unveil, place_of, directories_over, cover_fault, or_fault, object_fault, object_of, allowed_unless, if_promised, verdict_of, is_allowed, found_fault, object_named}
 use Rattle.pua_calls.specs.declared.call.Call.{Call}
 use Rattle.pua_policy.specs.declared.place.Place.{Place}
@@ -27,7 +27,7 @@ use Rattle.pua_policy.specs.declared.answer.Verdict.TheVariants as verdicts
 use Rattle.pua_script.specs.Tightening.{NamesNoError, NoCallNeedsError, Tightens, AllowsNoMore}
 
 -- what is kept at a place is kept by the unveils alone
-kept_by_unveils : (h : History) (place : Place) → kept h place ≡ kept (filter is_unveil h) place
+kept_by_unveils : (h : History) (place : Place) → perms_kept h place ≡ perms_kept (filter is_unveil h) place
 kept_by_unveils [] place = refl
 kept_by_unveils (Unveiled other perms ∷ h) place = ap (cond (same_place other place) (Some perms)) (kept_by_unveils h place)
 kept_by_unveils (Pledged p e ∷ h) place = kept_by_unveils h place
@@ -49,8 +49,8 @@ same_cover a b e t object =
     let any : list_any is_unveil a ≡ list_any is_unveil b = any_by_unveils a ∙ ap (list_any is_unveil) e ∙ sym (any_by_unveils b) in
     λ i. cond (any i) (nearest (same_kept (place_of object) i ∷ map (λ dir. same_kept (Dir dir) i) (directories_over t object))) All
   where
-    same_kept : (place : Place) → kept a place ≡ kept b place
-    same_kept place = kept_by_unveils a place ∙ ap (λ h. kept h place) e ∙ sym (kept_by_unveils b place)
+    same_kept : (place : Place) → perms_kept a place ≡ perms_kept b place
+    same_kept place = kept_by_unveils a place ∙ ap (λ h. perms_kept h place) e ∙ sym (kept_by_unveils b place)
 
 -- the later history is tightened, and one that has ended stays so
 pub record IsWithin (before after : History) : Type 0 where
@@ -58,25 +58,25 @@ pub record IsWithin (before after : History) : Type 0 where
   pub ended : is_ended after ≡ false → is_ended before ≡ false
 
 module _ (before after : History) (within : IsWithin before after) where
-  any_held : (alternatives : List ℕ) → AllByRecursion NamesNoError alternatives → list_any (holds (held after)) alternatives ≡ true → list_any (holds (held before)) alternatives ≡ true
+  any_held : (alternatives : List ℕ) → AllByRecursion NamesNoError alternatives → list_any (holds (held_set after)) alternatives ≡ true → list_any (holds (held_set before)) alternatives ≡ true
   any_held [] sound e = e
-  any_held (set ∷ sets) sound e = by (holds (held after) set) refl (any_held sets sound.1) e
+  any_held (set ∷ sets) sound e = by (holds (held_set after) set) refl (any_held sets sound.1) e
     where
-      by : (b : Bool) → holds (held after) set ≡ b → (list_any (holds (held after)) sets ≡ true → list_any (holds (held before)) sets ≡ true) → (b || list_any (holds (held after)) sets) ≡ true → (holds (held before) set || list_any (holds (held before)) sets) ≡ true
-      by true is rest _ = ap (λ b. b || list_any (holds (held before)) sets) (within.tightens.promises set sound.0 is)
-      by false is rest e = or_right (holds (held before) set) (rest e)
+      by : (b : Bool) → holds (held_set after) set ≡ b → (list_any (holds (held_set after)) sets ≡ true → list_any (holds (held_set before)) sets ≡ true) → (b || list_any (holds (held_set after)) sets) ≡ true → (holds (held_set before) set || list_any (holds (held_set before)) sets) ≡ true
+      by true is rest _ = ap (λ b. b || list_any (holds (held_set before)) sets) (within.tightens.promises set sound.0 is)
+      by false is rest e = or_right (holds (held_set before) set) (rest e)
         where
           or_right : (a : Bool) {b : Bool} → b ≡ true → (a || b) ≡ true
           or_right true e = refl
           or_right false e = e
 
   pub may_yes : (alternatives : List ℕ) → AllByRecursion NamesNoError alternatives → may_any after alternatives ≡ Yes → may_any before alternatives ≡ Yes
-  may_yes alternatives sound e = by (is_ended after) (list_any (holds (held after)) alternatives) (has_error after) refl refl e
+  may_yes alternatives sound e = by (is_ended after) (list_any (holds (held_set after)) alternatives) (has_error after) refl refl e
     where
-      by : (a b c : Bool) → is_ended after ≡ a → list_any (holds (held after)) alternatives ≡ b → cond a Death (cond b Yes (cond c Enosys Death)) ≡ Yes → may_any before alternatives ≡ Yes
+      by : (a b c : Bool) → is_ended after ≡ a → list_any (holds (held_set after)) alternatives ≡ b → cond a Death (cond b Yes (cond c Enosys Death)) ≡ Yes → may_any before alternatives ≡ Yes
       by true b c ends some is = cc
       by false true c ends some is =
-          ap (λ x. cond x Death (cond (list_any (holds (held before)) alternatives) Yes (cond (has_error before) Enosys Death))) (within.ended ends)
+          ap (λ x. cond x Death (cond (list_any (holds (held_set before)) alternatives) Yes (cond (has_error before) Enosys Death))) (within.ended ends)
           ∙ ap (λ x. cond x Yes (cond (has_error before) Enosys Death)) (any_held alternatives sound some)
       by false false true ends some is = cc
       by false false false ends some is = cc
@@ -101,8 +101,8 @@ module _ (before after : History) (within : IsWithin before after) where
 from_root_alike : (t : Tree) (a b : ℕ) (ending : Ending) (text : List ℕ) (mode : Last) → is_absolute text ≡ true → resolution t a ending text mode ≡ resolution t b ending text mode
 from_root_alike t a b ending text mode e = from a ∙ sym (from b)
   where
-    from : (d : ℕ) → resolution t d ending text mode ≡ (resolve_parts link_limit t mode 0 Top (parts_of ending text) >>= λ found. Ok found.0)
-    from d = ap (λ x. cond {A = Result Found Errno} (not x && not (is_dir t d)) (Err ENOENT) (resolve_parts link_limit t mode (cond x 0 d) Top (parts_of ending text) >>= λ found. Ok found.0)) e
+    from : (d : ℕ) → resolution t d ending text mode ≡ (resolve_parts most_links t mode 0 Top (parts_of ending text) >>= λ found. Ok found.0)
+    from d = ap (λ x. cond {A = Result Found Errno} (not x && not (is_dir t d)) (Err ENOENT) (resolve_parts most_links t mode (cond x 0 d) Top (parts_of ending text) >>= λ found. Ok found.0)) e
 
 named_alike : (t : Tree) (a b : ℕ) (ending : Ending) (text : List ℕ) (mode : Last) → is_absolute text ≡ true → resolution_of_text t a ending text mode ≡ resolution_of_text t b ending text mode
 named_alike t a b ending text mode e = by (path_fault text) refl

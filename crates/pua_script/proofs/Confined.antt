@@ -5,7 +5,7 @@ use Rattle.std.proofs.lemmas.Bool.{false≢true, and_parts, not-true}
 use Rattle.pua_tree.specs.Tree.{Tree, WellFormed}
 use Rattle.pua_calls.specs.Promises.{holds, cpath}
 use Rattle.pua_calls.specs.Calls.{CallTable}
-use Rattle.pua_policy.specs.History.{History, held}
+use Rattle.pua_policy.specs.History.{History, held_set}
 use Rattle.pua_policy.specs.Verdict.{is_unveil}
 use Rattle.pua_script.specs.Requests.{Asked}
 use Rattle.pua_script.specs.Replay.{World, apply, world_after}
@@ -44,14 +44,14 @@ module _ (table : CallTable) (now : History) where
       (spares_along needs asks after (family_then table w ask members)
       (members_then table now w ask members false are (not-true (is_done is_exec table w ask members) parts.0)) parts.1 asked.1 trees.1)
 
-  lacking : (h : History) → IsWithin now h → holds (held now) cpath ≡ false → holds (held h) cpath ≡ false
-  lacking h within lacks = by (holds (held h) cpath) refl
+  lacking : (h : History) → IsWithin now h → holds (held_set now) cpath ≡ false → holds (held_set h) cpath ≡ false
+  lacking h within lacks = by (holds (held_set h) cpath) refl
     where
-      by : (b : Bool) → holds (held h) cpath ≡ b → holds (held h) cpath ≡ false
+      by : (b : Bool) → holds (held_set h) cpath ≡ b → holds (held_set h) cpath ≡ false
       by false e = e
       by true e = absurd (false≢true (sym lacks ∙ within.tightens.promises cpath (lit< tt, refl) e))
 
-  unchanged_along : ChangingNeedsCpath table → holds (held now) cpath ≡ false → (asks : List Asked) (w : World) (members : List ℕ) → Members w members now false
+  unchanged_along : ChangingNeedsCpath table → holds (held_set now) cpath ≡ false → (asks : List Asked) (w : World) (members : List ℕ) → Members w members now false
       → none_done is_exec table w asks members ≡ true → members_alone table w asks members ≡ true → (world_after table w asks).tree ≡ w.tree
   unchanged_along needs lacks [] w members are none alone = refl
   unchanged_along needs lacks (ask ∷ asks) w members are none alone =

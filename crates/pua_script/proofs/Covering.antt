@@ -7,7 +7,7 @@ use Rattle.pua_tree.specs.Tree.{Tree, WellFormed, Spot, is_dir, is_dir_kind, loo
 use Rattle.pua_tree.proofs.ForCallers.{Sound, Reaches, row_says, row_of, above_is, above_dir, sound_from}
 use Rattle.pua_path.specs.declared.found.Found.TheVariants.{Whole, Slot}
 use Rattle.pua_path.specs.declared.found.Way.TheVariants.{Named}
-use Rattle.pua_policy.specs.History.{History, kept}
+use Rattle.pua_policy.specs.History.{History, perms_kept}
 use Rattle.pua_policy.specs.Verdict.{cover, nearest, is_unveil, place_of, directories_over}
 use Rattle.pua_policy.specs.declared.answer.Cover.{Cover}
 use Rattle.pua_policy.specs.declared.answer.Cover.TheVariants.{All}
@@ -27,7 +27,7 @@ module _ (t u : Tree) (well : WellFormed t) (well_then : WellFormed u) (h : Hist
   fu = sound_from u well_then
 
   abbrev veil : ℕ → Option ℕ
-  veil d = kept h (place.Dir d)
+  veil d = perms_kept h (place.Dir d)
 
   abbrev over : Tree → ℕ → Cover
   over v d = nearest (map veil (climb v d))
@@ -45,10 +45,10 @@ module _ (t u : Tree) (well : WellFormed t) (well_then : WellFormed u) (h : Hist
         ∙ ap (λ b. cond b (dir_cover v d) All) some
         ∙ nearest_whole v w veil d is
 
-    cover_slot : (v : Tree) (s : Spot) (x : ℕ) → is_dir v x ≡ false → cover v h (object_in v s x) ≡ nearest (kept h (place.Slot s.0 s.1) ∷ map veil (climb v s.0))
+    cover_slot : (v : Tree) (s : Spot) (x : ℕ) → is_dir v x ≡ false → cover v h (object_in v s x) ≡ nearest (perms_kept h (place.Slot s.0 s.1) ∷ map veil (climb v s.0))
     cover_slot v s x is =
         ap (λ b. cover v h (cond b (Whole x (Named s.0 s.1)) (Slot s.0 s.1 (Some x)))) is
-        ∙ ap (λ b. cond b (nearest (kept h (place.Slot s.0 s.1) ∷ map veil (climb v s.0))) All) some
+        ∙ ap (λ b. cond b (nearest (perms_kept h (place.Slot s.0 s.1) ∷ map veil (climb v s.0))) All) some
 
     same_over : (k d : ℕ) → Reaches t k d → is_dir t d ≡ true → has_c (over t d) ≡ false → over u d ≡ over t d
     same_over zero d r is lacks =
@@ -86,7 +86,7 @@ module _ (t u : Tree) (well : WellFormed t) (well_then : WellFormed u) (h : Hist
         dir : is_dir t s.0 ≡ true
         dir = (row_says t ft s x here).0
 
-        at_slot : (o : Option ℕ) → kept h (place.Slot s.0 s.1) ≡ o → has_c (nearest (o ∷ map veil (climb t s.0))) ≡ false →
+        at_slot : (o : Option ℕ) → perms_kept h (place.Slot s.0 s.1) ≡ o → has_c (nearest (o ∷ map veil (climb t s.0))) ≡ false →
             nearest (o ∷ map veil (climb u s.0)) ≡ nearest (o ∷ map veil (climb t s.0))
         at_slot (Some perms) e lacking = refl
         at_slot None e lacking = let way = way_up s.0 dir in same_over way.0 s.0 way.1 dir lacking
@@ -99,12 +99,12 @@ module _ (t u : Tree) (well : WellFormed t) (well_then : WellFormed u) (h : Hist
             ∙ sym (cover_dir t well s x is)
         by false is =
             cover_slot u s x (same_dir x there.1 ∙ is)
-            ∙ at_slot (kept h (place.Slot s.0 s.1)) refl (ap has_c (sym (cover_slot t s x is)) ∙ lacks)
+            ∙ at_slot (perms_kept h (place.Slot s.0 s.1)) refl (ap has_c (sym (cover_slot t s x is)) ∙ lacks)
             ∙ sym (cover_slot t s x is)
 
   -- without a veil everything is covered with `c`
   no_veils : (s : Spot) (x : ℕ) → list_any is_unveil h ≡ false → has_c (cover t h (object_in t s x)) ≡ true
-  no_veils s x none = ap (λ b. has_c (cond b (nearest (kept h (place_of (object_in t s x)) ∷ map veil (directories_over t (object_in t s x)))) All)) none
+  no_veils s x none = ap (λ b. has_c (cond b (nearest (perms_kept h (place_of (object_in t s x)) ∷ map veil (directories_over t (object_in t s x)))) All)) none
 
   pub covers_stay : ((s : Spot) (x : ℕ) → look t s.0 s.1 ≡ Some x → has_c (cover t h (object_in t s x)) ≡ false → IsThere t u s x) → UncoveredStay h t u
   covers_stay stays s x here lacks = by (list_any is_unveil h) refl

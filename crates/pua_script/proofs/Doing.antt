@@ -7,12 +7,12 @@ use Rattle.pua_policy.specs.declared.answer.May.{May}
 use Rattle.pua_policy.specs.declared.answer.Refusal.{Refusal}
 use Rattle.pua_script.specs.declared.answer.Answer.{Answer}
 use Rattle.pua_script.specs.declared.fault.WorldFault.{WorldFault}
-use Rattle.pua_script.specs.Decide.{Decision, promised, unless_refused}
+use Rattle.pua_script.specs.Decide.{Decision, if_may, unless_refused}
 use Rattle.pua_script.specs.Replay.{Effect}
 use Rattle.pua_script.specs.Worlds.{Does, Edits, Attempts, AttemptsEdit}
 
 -- where promises refuse, the decision is the refusal
-pub promises_refuse : (m : May) (refusal : Refusal) (d : Decision) → refusal_of m ≡ Some refusal → promised m d ≡ Err refusal
+pub promises_refuse : (m : May) (refusal : Refusal) (d : Decision) → refusal_of m ≡ Some refusal → if_may m d ≡ Err refusal
 promises_refuse m refusal d is = ap (λ o. unless_refused o d) is
 
 module _ (t u : Tree) (h : History) (a : Answer) (q : ProcessState) where

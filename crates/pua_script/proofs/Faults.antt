@@ -4,7 +4,7 @@ use Rattle.std.specs.Prelude.{Option, Some, None, option_map, Result, Ok, Err, n
 use Rattle.pua_tree.specs.Steps.{◌>>=◌}
 use Rattle.pua_tree.specs.Tree.{Tree, is_dir, is_empty, above}
 use Rattle.pua_path.specs.Paths.{parts_of, is_absolute, path_fault, text_fault, text_errno}
-use Rattle.pua_path.specs.Resolution.{Resolved, Directory, Linked, Plain, Nothing, standing_at, is_followed, slot_or, walk, start_of, resolve_parts, resolution_of_text, link_limit}
+use Rattle.pua_path.specs.Resolution.{Resolved, Directory, Linked, Plain, Nothing, standing_at, is_followed, slot_or, walk, start_of, resolve_parts, resolution_of_text, most_links}
 use Rattle.pua_path.specs.Fits.{node_named}
 use Rattle.pua_path.specs.declared.errno.Errno.{Errno}
 use Rattle.pua_path.specs.declared.errno.Errno.TheVariants.{EPERM, ENOENT, EACCES, EINVAL, ENOTEMPTY, ENOSPC, ENOTDIR, ELOOP}
@@ -41,7 +41,7 @@ use Rattle.pua_path.specs.declared.found.Found.TheVariants.{Whole}
 use Rattle.pua_tree.specs.Tree.{Spot}
 use Rattle.pua_policy.specs.Verdict.{or_fault}
 use Rattle.pua_policy.specs.declared.answer.Refusal.TheVariants.{Failed}
-use Rattle.pua_script.specs.Decide.{Change, NoChange, Decision, fails, promised, checked, named as decide_named, decide_object, decide_pair, decide_rename, decide_link, decide_veil, shifting, named_by, dots_fault, top_fault, is_whole, fault_if, kinds_fault, inside_fault, unveil_errno}
+use Rattle.pua_script.specs.Decide.{Change, NoChange, Decision, fails, if_may, unless_fault, if_named as decide_named, decide_object, decide_pair, decide_rename, decide_link, decide_veil, shifting, named_by, dots_fault, top_fault, is_whole, fault_if, kinds_fault, inside_fault, unveil_errno}
 
 -- faults other than ENOSPC
 abbrev pub Apart : Option Errno → Type 0
@@ -156,7 +156,7 @@ named t from end text mode = by (path_fault text) refl (path_apart text)
   where
     by : (o : Option Errno) → path_fault text ≡ o → Apart (path_fault text) → Named (resolution_of_text t from end text mode)
     by None e apart = rw e
-        (named_if (not (is_absolute text) && not (is_dir t from)) _ (named_from _ (resolve_apart link_limit t mode (start_of text from) way.Top (parts_of end text))))
+        (named_if (not (is_absolute text) && not (is_dir t from)) _ (named_from _ (resolve_apart most_links t mode (start_of text from) way.Top (parts_of end text))))
     by (Some errno) e apart = rw e (λ is. apart (e ∙ ap (λ r. Some (errno_of r)) is))
 
 -- faults of covers and of what was found
@@ -199,12 +199,12 @@ fails_apart errno other e = other (ap errno_in e)
     errno_in (Err (Failed errno)) = errno
     errno_in _ = ENOSPC
 
-pub promised_apart : (m : May) (d : Decision) → HasRoom d → HasRoom (promised m d)
+pub promised_apart : (m : May) (d : Decision) → HasRoom d → HasRoom (if_may m d)
 promised_apart may.Yes d has = has
 promised_apart may.Enosys d has = λ e. cc
 promised_apart may.Death d has = λ e. cc
 
-pub checked_apart : (o : Option Errno) (d : Decision) → Apart o → HasRoom d → HasRoom (checked o d)
+pub checked_apart : (o : Option Errno) (d : Decision) → Apart o → HasRoom d → HasRoom (unless_fault o d)
 checked_apart None d apart has = has
 checked_apart (Some errno) d apart has = fails_apart errno (λ same. apart (ap Some same))
 
@@ -233,7 +233,7 @@ rename_has_room t old new (Some x) =
     checked_apart _ _ (or_apart _ _ (dots_apart old) (or_apart _ _ (dots_apart new) (or_apart _ _ (top_apart old) (top_apart new))))
     (by (is_same_node x (node_named new)))
   where
-    by : (same : Bool) → HasRoom (cond {A = Decision} same (Ok NoChange) (checked (or_fault (inside_fault t x (spot_named new)) (kinds_fault t x old new)) (Ok (shifting (spot_named old) (spot_named new)))))
+    by : (same : Bool) → HasRoom (cond {A = Decision} same (Ok NoChange) (unless_fault (or_fault (inside_fault t x (spot_named new)) (kinds_fault t x old new)) (Ok (shifting (spot_named old) (spot_named new)))))
     by true = granted_apart NoChange
     by false = checked_apart _ _ (or_apart _ _ (inside_apart t x (spot_named new)) (kinds_apart t x old new)) (granted_apart _)
 

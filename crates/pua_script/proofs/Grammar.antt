@@ -9,7 +9,7 @@ use Rattle.pua_script.specs.Bytes.{is_bytes, is_in_bytes}
 use Rattle.std.proofs.lemmas.List.{take_all}
 use lib.Pointwise.{bytes_decides}
 use Rattle.pua_tree.specs.Names.{same_bytes}
-use Rattle.pua_tree.specs.Spelling.{unspelled, fields, is_field, number_within}
+use Rattle.pua_tree.specs.Spelling.{bytes_spelled, fields, is_field, number_within}
 use Rattle.pua_tree.specs.Steps.{◌>>=◌}
 use Rattle.pua_tree.specs.Listing.{only_if}
 use Rattle.pua_tree.proofs.ForCallers.{same_Some, None≢Some, guarded, Err≢Ok, same_Ok, unspelled-spelling, spelling-unspelled, bytes_unspelled, decimal_within, number_read, mapped, only_if_read, first_passes, other_word, same_word, ok_or_read, step_read}
@@ -38,17 +38,17 @@ apart_from a b e is = true≢false (sym (same_to a b is) ∙ e)
 path_read : (field text : List ℕ) → path_in field ≡ Some text → SpellsPath field text
 path_read field text = by (is_equals field) refl
   where
-    by : (b : Bool) → is_equals field ≡ b → cond b (Some []) (only_if has_no_nul (unspelled field)) ≡ Some text → SpellsPath field text
+    by : (b : Bool) → is_equals field ≡ b → cond b (Some []) (only_if has_no_nul (bytes_spelled field)) ≡ Some text → SpellsPath field text
     by true e is = subst (SpellsPath field) (same_Some [] text is) (empty (same_word field (codes "=") e))
     by false e is =
-        let parts = only_if_read has_no_nul (unspelled field) text is in
+        let parts = only_if_read has_no_nul (bytes_spelled field) text is in
         spelled (apart_from field (codes "=") e) (bytes_unspelled field text parts.0) parts.1 (spelling-unspelled field text parts.0)
 
 path_told : (field text : List ℕ) → SpellsPath field text → path_in field ≡ Some text
-path_told field _ (empty e) = ap (λ b. cond b (Some []) (only_if has_no_nul (unspelled field))) (same_to field (codes "=") e)
+path_told field _ (empty e) = ap (λ b. cond b (Some []) (only_if has_no_nul (bytes_spelled field))) (same_to field (codes "=") e)
 path_told field text (spelled ne small clean e) =
-    ap (λ b. cond b (Some []) (only_if has_no_nul (unspelled field))) (other_word field (codes "=") ne)
-    ∙ ap (only_if has_no_nul) (ap unspelled e ∙ unspelled-spelling text small)
+    ap (λ b. cond b (Some []) (only_if has_no_nul (bytes_spelled field))) (other_word field (codes "=") ne)
+    ∙ ap (only_if has_no_nul) (ap bytes_spelled e ∙ unspelled-spelling text small)
     ∙ cond-true (has_no_nul text) (Some text) None clean
 
 -- fields that stand for what is given

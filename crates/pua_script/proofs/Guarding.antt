@@ -20,7 +20,7 @@ use Rattle.pua_calls.specs.declared.call.Call.{Call}
 use Rattle.pua_calls.specs.declared.call.Call.TheVariants as call
 use Rattle.pua_policy.specs.declared.answer.May.{May}
 use Rattle.pua_policy.specs.declared.answer.May.TheVariants as may
-use Rattle.pua_script.specs.Decide.{fault_if, is_whole, link_node, unveil_errno, given_set, is_unknown, inside_fault, kinds_fault, Change, NoChange, Decision, promised, checked, named, adding, change_by, decide_rename, decide_link, decide_veil, decide_pair, shifting, ways_fault, covers_fault, named_by}
+use Rattle.pua_script.specs.Decide.{fault_if, is_whole, link_node, unveil_errno, given_set, is_unknown, inside_fault, kinds_fault, Change, NoChange, Decision, if_may, unless_fault, if_named, adding, change_by, decide_rename, decide_link, decide_veil, decide_pair, shifting, ways_fault, covers_fault, named_by}
 use Rattle.pua_script.specs.declared.request.Action.TheVariants.{OnPath, Symlink, Rename, Link, Pledge, Unveil, Lock, Fork, Exit}
 use Rattle.pua_script.specs.Guards.{OnOne, OnTwo, IsShift, IsVeil, DecisionsAreGuarded}
 use Rattle.std.proofs.lemmas.Bool.{and_parts}
@@ -33,16 +33,16 @@ use Rattle.pua_script.proofs.Faults.{promised_apart, checked_apart, if_apart, no
 use Rattle.pua_script.proofs.Grounds.{Grounds, on_adding, on_call, on_rename, on_link, link_leads}
 use Rattle.pua_script.proofs.Linking.{target_is}
 
-from_promised : (m : May) (d : Decision) (c : Change) → promised m d ≡ Ok c → (m ≡ may.Yes) × (d ≡ Ok c)
+from_promised : (m : May) (d : Decision) (c : Change) → if_may m d ≡ Ok c → (m ≡ may.Yes) × (d ≡ Ok c)
 from_promised may.Yes d c e = (refl, e)
 from_promised may.Enosys d c e = cc
 from_promised may.Death d c e = cc
 
-from_checked : (o : Option Errno) (d : Decision) (c : Change) → checked o d ≡ Ok c → (o ≡ None) × (d ≡ Ok c)
+from_checked : (o : Option Errno) (d : Decision) (c : Change) → unless_fault o d ≡ Ok c → (o ≡ None) × (d ≡ Ok c)
 from_checked None d c e = (refl, e)
 from_checked (Some errno) d c e = cc
 
-from_named : (r : Result Found Errno) (g : Found → Decision) (c : Change) → named r g ≡ Ok c → (x : Found) × (r ≡ Ok x) × (g x ≡ Ok c)
+from_named : (r : Result Found Errno) (g : Found → Decision) (c : Change) → if_named r g ≡ Ok c → (x : Found) × (r ≡ Ok x) × (g x ≡ Ok c)
 from_named (Ok x) g c e = (x, refl, e)
 from_named (Err errno) g c e = cc
 
@@ -67,10 +67,10 @@ second_none (Some errno) b e = cc
 module _ (t : Tree) (h : History) where
   -- a call's object, once its promises are held
   one : (table : CallTable) (c : Call) (path : List ℕ) (g : Found → Change) (change : Change) → may_any h (rule_of table c).alternatives ≡ may.Yes
-      → (named (object_named t h c path) λ x. checked (found_fault t table h c x) (Ok (g x))) ≡ Ok change
+      → (if_named (object_named t h c path) λ x. unless_fault (found_fault t table h c x) (Ok (g x))) ≡ Ok change
       → (object : Found) × OnOne table t h c path object × (change ≡ g object)
   one table c path g change may e =
-      let at = from_named (object_named t h c path) (λ x. checked (found_fault t table h c x) (Ok (g x))) change e in
+      let at = from_named (object_named t h c path) (λ x. unless_fault (found_fault t table h c x) (Ok (g x))) change e in
       let free = from_checked (found_fault t table h c at.0) (Ok (g at.0)) change at.2 in
       let a = cover_fault (cover t h at.0) (rule_of table c).perms in
       let b = object_fault t c (object_of t at.0) in
@@ -85,9 +85,9 @@ module _ (t : Tree) (h : History) where
   pair rules end old new f change never e =
       let may_old = from_promised (may_any h rules.old.needs.alternatives) _ change e in
       let may_new = from_promised (may_any h rules.new.needs.alternatives) _ change may_old.1 in
-      let first = from_named (named_by rules.old t h end old) (λ a. named (named_by rules.new t h end new) λ b. checked (covers_fault rules t h a b) (f a b (node_named a))) change may_new.1 in
+      let first = from_named (named_by rules.old t h end old) (λ a. if_named (named_by rules.new t h end new) λ b. unless_fault (covers_fault rules t h a b) (f a b (node_named a))) change may_new.1 in
       let a = first.0 in
-      let second = from_named (named_by rules.new t h end new) (λ b. checked (covers_fault rules t h a b) (f a b (node_named a))) change first.2 in
+      let second = from_named (named_by rules.new t h end new) (λ b. unless_fault (covers_fault rules t h a b) (f a b (node_named a))) change first.2 in
       let b = second.0 in
       let free = from_checked (covers_fault rules t h a b) (f a b (node_named a)) change second.2 in
       by a b (node_named a) refl may_old.0 may_new.0 first.1 second.1 free.0 free.1
@@ -119,7 +119,7 @@ module _ (t : Tree) (h : History) where
       kinds : Option Errno
       kinds = or_fault (inside_fault t x (spot_named b)) (kinds_fault t x a b)
 
-      by : (same : Bool) → is_same_node x (node_named b) ≡ same → cond {A = Decision} same (Ok NoChange) (checked kinds (Ok (shifting (spot_named a) (spot_named b)))) ≡ Ok change → (change ≡ NoChange) ⊎ IsShift t a b x change
+      by : (same : Bool) → is_same_node x (node_named b) ≡ same → cond {A = Decision} same (Ok NoChange) (unless_fault kinds (Ok (shifting (spot_named a) (spot_named b)))) ≡ Ok change → (change ≡ NoChange) ⊎ IsShift t a b x change
       by true is e = inl (is_ok _ _ e)
       by false is e =
           let last = from_checked kinds (Ok (shifting (spot_named a) (spot_named b))) change e in

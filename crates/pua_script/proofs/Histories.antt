@@ -1,18 +1,18 @@
 -- Histories that one process stands for go on to be such.
 use Rattle.std.proofs.Common.{◌≡◌, ℕ, [], ◌∷◌, refl, sym, ap, subst, ◌∙◌}
 use Rattle.std.specs.Prelude.{Option, Some, None, unwrap_or}
-use Rattle.pua_policy.specs.History.{History, Event, Pledged, Unveiled, Locked, Moved, Ended, ProcessState, StandsFor, pledged, held_for_exec, veils, with_veil, is_locked, is_ended, working_dir, meet, common, left_for_exec, after_exec, first}
+use Rattle.pua_policy.specs.History.{History, Event, Pledged, Unveiled, Locked, Moved, Ended, ProcessState, StandsFor, pledged_set, held_for_exec, veils, with_veil, is_locked, is_ended, working_dir, meet, common, left_for_exec, after_exec, first}
 use Rattle.pua_calls.specs.declared.rules.ExecPromises.{ExecPromises}
 use Rattle.pua_calls.specs.declared.rules.ExecPromises.TheVariants.{Unset, Stay}
 use Rattle.pua_policy.proofs.ForCallers.{others, no_promises, no_execpromises, same_veils, same_lock, same_dirs, same_end}
 
 -- what a process that stands for a history keeps
 abbrev pub state_of : History → ProcessState
-state_of h = record { promises = pledged h; execpromises = held_for_exec h; veils = veils h; locked = is_locked h; dir = working_dir h; ended = is_ended h }
+state_of h = record { promises = pledged_set h; execpromises = held_for_exec h; veils = veils h; locked = is_locked h; dir = working_dir h; ended = is_ended h }
 
 -- one process stands for both
 pub record Same (h k : History) : Type 0 where
-  pub promises : pledged h ≡ pledged k
+  pub promises : pledged_set h ≡ pledged_set k
   pub execpromises : held_for_exec h ≡ held_for_exec k
   pub veils : veils h ≡ veils k
   pub locked : is_locked h ≡ is_locked k
@@ -35,7 +35,7 @@ same_from_standing s h k a b = record {
 pub stands_from_same : (h k : History) → Same h k → StandsFor (state_of h) k
 stands_from_same h k a = record { promises = a.promises; execpromises = a.execpromises; veils = a.veils; locked = a.locked; dir = a.dir; ended = a.ended }
 
-more_pledged : (p e : Option ℕ) (h k : History) → pledged h ≡ pledged k → pledged (Pledged p e ∷ h) ≡ pledged (Pledged p e ∷ k)
+more_pledged : (p e : Option ℕ) (h k : History) → pledged_set h ≡ pledged_set k → pledged_set (Pledged p e ∷ h) ≡ pledged_set (Pledged p e ∷ k)
 more_pledged None e h k is = is
 more_pledged (Some p) e h k is = ap (λ o. Some (meet p o)) is
 

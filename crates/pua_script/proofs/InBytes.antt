@@ -9,7 +9,7 @@ use Rattle.std.specs.Str.Lines.{lines}
 use Rattle.std.proofs.lemmas.Bool.{and_parts, and_from}
 use Rattle.pua_tree.specs.Names.{is_target}
 use Rattle.pua_tree.specs.Tree.{Tree, Node, node_at, target_at}
-use Rattle.pua_tree.specs.Listing.{Entry, node_entry}
+use Rattle.pua_tree.specs.Listing.{Entry, made_entry}
 use Rattle.pua_tree.specs.Grammar.{entry_fits, entries_fit, made_fits, target_stands}
 use Rattle.pua_tree.specs.declared.node.Kind.{Kind}
 use Rattle.pua_tree.specs.declared.node.Kind.TheVariants.{Dir, File, Prog, Link as LinkKind}
@@ -42,11 +42,11 @@ made_leads hard earlier e None rest fits all = all
 made_leads hard earlier e (Some node) rest fits all =
     and_from (leads_to_bytes node.target) _ (stands_in_bytes node.kind node.target (and_parts _ (target_stands node.kind node.target) fits).1) all
 
-entries_lead : (hard : Bool) (earlier es : List Entry) → entries_fit hard earlier es ≡ true → list_all node_leads (filter_map node_entry es) ≡ true
+entries_lead : (hard : Bool) (earlier es : List Entry) → entries_fit hard earlier es ≡ true → list_all node_leads (filter_map made_entry es) ≡ true
 entries_lead hard earlier [] fit = refl
 entries_lead hard earlier (e ∷ es) fit =
     let parts = and_parts (entry_fits hard earlier e) (entries_fit hard (earlier ++ e ∷ []) es) fit in
-    made_leads hard earlier e e.made (filter_map node_entry es) (fits_parts hard earlier e parts.0).made (entries_lead hard (earlier ++ e ∷ []) es parts.1)
+    made_leads hard earlier e e.made (filter_map made_entry es) (fits_parts hard earlier e parts.0).made (entries_lead hard (earlier ++ e ∷ []) es parts.1)
 
 targets_lead : (t : Tree) → list_all node_leads t.nodes ≡ true → (x : ℕ) (target : List ℕ) → target_at t x ≡ Some target → is_bytes target ≡ true
 targets_lead t all x target = by (node_at t x) refl

@@ -7,7 +7,7 @@ use Rattle.std.specs.Cmp.{nat_cmp_total}
 use Rattle.std.specs.FinMap.{nat_cmp-IsAntisymmetric}
 use Rattle.pua_tree.specs.Names.{is_name}
 use Rattle.pua_tree.specs.Tree.{Tree, Node, WellFormed, Spot, is_dir, is_living, look, node_at, target_at, target_fits, rows_of}
-use Rattle.pua_tree.specs.Edits.{with_row, without_row, without_node, without_unnamed, with_new, add, tie, cut, cut_found, shift, shift_found, moved, is_full_dir, is_full_dir_there, is_inside, is_same_node, has_room, has_name_room}
+use Rattle.pua_tree.specs.Edits.{with_row, without_row, without_node, without_unnamed, with_new, add, tie, cut, cut_found, shift, shift_found, with_row_moved, is_full_dir, is_full_dir_there, is_inside, is_same_node, has_room, has_name_room}
 use Rattle.pua_tree.specs.declared.fault.TreeFault.{TreeFault}
 use Rattle.pua_tree.specs.declared.fault.TreeFault.TheVariants.{Missing, Taken, NotDir, NotEmpty, Inside, Full, IsDir}
 use Rattle.pua_tree.proofs.ForCallers.{edits_keep_trees, same_or_other, put_here, put_elsewhere, without_here, without_elsewhere, None≢Some}
@@ -21,10 +21,10 @@ use Rattle.pua_path.specs.declared.found.Found.TheVariants.{Whole, Slot}
 use Rattle.pua_path.specs.declared.found.Way.TheVariants as way
 use Rattle.pua_calls.specs.Calls.{CallTable, ending_of, last_of}
 use Rattle.pua_policy.specs.History.{History, working_dir}
-use Rattle.pua_script.specs.Limits.{process_limit}
+use Rattle.pua_script.specs.Limits.{most_processes}
 use Rattle.pua_script.specs.Bytes.{is_bytes, is_in_bytes, are_in_bytes, IsByteTree, RequestsKeepTrees, ReplaysKeepTrees}
 use Rattle.pua_script.specs.Decide.{Change, AddNode, CutRow, ShiftRow, TieRow, CopyAs}
-use Rattle.pua_script.specs.Replay.{World, Fails, Copies, edited, edited_tree, history_of, apply, made}
+use Rattle.pua_script.specs.Replay.{World, Fails, Copies, edit_effect, edited_tree, history_of, apply, change_effect}
 use Rattle.pua_script.specs.Worlds.{tree_left}
 use Rattle.pua_script.specs.declared.request.Action.{Action}
 use Rattle.pua_path.specs.declared.found.Last.{Last}
@@ -58,14 +58,14 @@ module _ (t : Tree) (is_tree : IsByteTree t) (h : History) where
   fewer_self : Fewer t
   fewer_self x n is = is
 
-  fewer_cut : (dir : ℕ) (name : List ℕ) → Fewer (tree_left t (edited h (cut t dir name)))
+  fewer_cut : (dir : ℕ) (name : List ℕ) → Fewer (tree_left t (edit_effect h (cut t dir name)))
   fewer_cut dir name = by (is_dir t dir) (look t dir name)
     where
-      found : (y : ℕ) (full : Bool) → Fewer (tree_left t (edited h (cond full (Err NotEmpty) (Ok (y, without_unnamed (without_row t dir name) y)))))
+      found : (y : ℕ) (full : Bool) → Fewer (tree_left t (edit_effect h (cond full (Err NotEmpty) (Ok (y, without_unnamed (without_row t dir name) y)))))
       found y true = fewer_self
       found y false = fewer_unnamed (without_row t dir name) y fewer_self
 
-      by : (a : Bool) (o : Option ℕ) → Fewer (tree_left t (edited h (cond (not a) (Err NotDir) (cut_found t dir name o))))
+      by : (a : Bool) (o : Option ℕ) → Fewer (tree_left t (edit_effect h (cond (not a) (Err NotDir) (cut_found t dir name o))))
       by false o = fewer_self
       by true None = fewer_self
       by true (Some y) = found y (is_full_dir t y)
@@ -87,11 +87,11 @@ module _ (t : Tree) (is_tree : IsByteTree t) (h : History) where
       turned : ℕ → Tree
       turned x = with_row (without_row t from name) to new_name x
 
-      shifts : (x : ℕ) (there : Option ℕ) → Fewer (moved t from name to new_name x there)
+      shifts : (x : ℕ) (there : Option ℕ) → Fewer (with_row_moved t from name to new_name x there)
       shifts x None = fewer_self
       shifts x (Some y) = fewer_unnamed (with_row (without_row t from name) to new_name x) y fewer_self
 
-      found : (x : ℕ) (a b c : Bool) (there : Option ℕ) → Fewer (tree_left t (edited_tree h (cond a (Ok t) (cond b (Err Inside) (cond c (Err NotEmpty) (Ok (moved t from name to new_name x there)))))))
+      found : (x : ℕ) (a b c : Bool) (there : Option ℕ) → Fewer (tree_left t (edited_tree h (cond a (Ok t) (cond b (Err Inside) (cond c (Err NotEmpty) (Ok (with_row_moved t from name to new_name x there)))))))
       found x true b c there = fewer_self
       found x false true c there = fewer_self
       found x false false true there = fewer_self
@@ -110,16 +110,16 @@ module _ (t : Tree) (is_tree : IsByteTree t) (h : History) where
       | inr other ↦ is_tree.targets x target (sym (ap (option_and_then (λ m. m.target)) (put_elsewhere nat_cmp nat_cmp_total nat_cmp-IsAntisymmetric x t.next node t.nodes other.0)) ∙ is)
     ]
 
-    added_targets : (x : ℕ) (target : List ℕ) → target_at (tree_left t (edited h (add t dir name node))) x ≡ Some target → is_bytes target ≡ true
+    added_targets : (x : ℕ) (target : List ℕ) → target_at (tree_left t (edit_effect h (add t dir name node))) x ≡ Some target → is_bytes target ≡ true
     added_targets = by (is_dir t dir) (is_some (look t dir name)) (has_room t)
       where
-        by : (a b room : Bool) (x : ℕ) (target : List ℕ) → target_at (tree_left t (edited h (cond (not a) (Err NotDir) (cond b (Err Taken) (cond room (Ok (t.next, with_new t dir name node)) (Err Full)))))) x ≡ Some target → is_bytes target ≡ true
+        by : (a b room : Bool) (x : ℕ) (target : List ℕ) → target_at (tree_left t (edit_effect h (cond (not a) (Err NotDir) (cond b (Err Taken) (cond room (Ok (t.next, with_new t dir name node)) (Err Full)))))) x ≡ Some target → is_bytes target ≡ true
         by false b room = is_tree.targets
         by true true room = is_tree.targets
         by true false false = is_tree.targets
         by true false true = grown_targets
 
-  well_edited : (r : Result (ℕ × Tree) TreeFault) → ((x : ℕ) (u : Tree) → r ≡ Ok (x, u) → WellFormed u) → WellFormed (tree_left t (edited h r))
+  well_edited : (r : Result (ℕ × Tree) TreeFault) → ((x : ℕ) (u : Tree) → r ≡ Ok (x, u) → WellFormed u) → WellFormed (tree_left t (edit_effect h r))
   well_edited (Ok p) each = each p.0 p.1 refl
   well_edited (Err fault) each = is_tree.tree
 
@@ -143,24 +143,24 @@ FitsBytes (TieRow spot x) = is_name spot.1 ≡ true
 FitsBytes _ = Unit {0}
 
 module _ (w : World) (is_tree : IsByteTree w.tree) (h : History) where
-  keeps : (c : Change) → FitsBytes c → IsByteTree (tree_left w.tree (made w h c))
+  keeps : (c : Change) → FitsBytes c → IsByteTree (tree_left w.tree (change_effect w h c))
   keeps (AddNode spot node) fits = record {
     tree = well_edited w.tree is_tree h (add w.tree spot.0 spot.1 node) (λ x u e. (edits_keep_trees.adding w.tree u spot.0 x spot.1 node is_tree.tree fits.0 fits.1 e).0);
     targets = added_targets w.tree is_tree h spot.0 spot.1 node fits.2;
   }
   keeps (CutRow spot) fits = record {
     tree = well_edited w.tree is_tree h (cut w.tree spot.0 spot.1) (λ x u e. (edits_keep_trees.cutting w.tree u spot.0 x spot.1 is_tree.tree e).0);
-    targets = fewer_targets w.tree is_tree h (tree_left w.tree (made w h (CutRow spot))) (fewer_cut w.tree is_tree h spot.0 spot.1);
+    targets = fewer_targets w.tree is_tree h (tree_left w.tree (change_effect w h (CutRow spot))) (fewer_cut w.tree is_tree h spot.0 spot.1);
   }
   keeps (ShiftRow old new) fits = record {
     tree = well_edited_tree w.tree is_tree h (shift w.tree old.0 old.1 new.0 new.1) (λ u e. (edits_keep_trees.shifting w.tree u old.0 new.0 old.1 new.1 is_tree.tree fits e).0);
-    targets = fewer_targets w.tree is_tree h (tree_left w.tree (made w h (ShiftRow old new))) (fewer_shift w.tree is_tree h old.0 new.0 old.1 new.1);
+    targets = fewer_targets w.tree is_tree h (tree_left w.tree (change_effect w h (ShiftRow old new))) (fewer_shift w.tree is_tree h old.0 new.0 old.1 new.1);
   }
   keeps (TieRow spot x) fits = record {
     tree = well_edited_tree w.tree is_tree h (tie w.tree spot.0 spot.1 x) (λ u e. (edits_keep_trees.tying w.tree u spot.0 x spot.1 is_tree.tree fits e).0);
-    targets = fewer_targets w.tree is_tree h (tree_left w.tree (made w h (TieRow spot x))) (fewer_tie w.tree is_tree h spot.0 spot.1 x);
+    targets = fewer_targets w.tree is_tree h (tree_left w.tree (change_effect w h (TieRow spot x))) (fewer_tie w.tree is_tree h spot.0 spot.1 x);
   }
-  keeps (CopyAs new) fits = by (is_some (history_of w new) || nat_le process_limit (length w.histories))
+  keeps (CopyAs new) fits = by (is_some (history_of w new) || nat_le most_processes (length w.histories))
     where
       by : (full : Bool) → IsByteTree (tree_left w.tree (cond full (Fails EAGAIN) (Copies new)))
       by true = is_tree

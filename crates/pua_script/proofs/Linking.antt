@@ -12,7 +12,7 @@ use Rattle.pua_path.specs.declared.found.Found.TheVariants.{Whole, Slot}
 use Rattle.pua_script.specs.Judged.{NameFits}
 use Rattle.pua_tree.specs.Limits.{most_target}
 use Rattle.pua_tree.specs.Names.{is_target, has_byte, has_short_components}
-use Rattle.pua_path.specs.Limits.{path_limit}
+use Rattle.pua_path.specs.Limits.{most_path}
 use Rattle.pua_path.specs.Paths.{path_fault, text_errno}
 use Rattle.pua_path.specs.declared.traced.TextFault.TheVariants.{LongText, LongComponent, NulInText}
 
@@ -42,7 +42,7 @@ target_free false true false some e = (refl, refl, refl)
 pub target_is : (target : List ℕ) → path_fault target ≡ None → is_target target ≡ true
 target_is [] e = cc
 target_is (b ∷ more) e =
-    let free = target_free (nat_lt path_limit (length (b ∷ more))) (has_short_components (b ∷ more)) (has_byte 0 (b ∷ more)) true e in
+    let free = target_free (nat_lt most_path (length (b ∷ more))) (has_short_components (b ∷ more)) (has_byte 0 (b ∷ more)) true e in
     and_from (nat_lt 0 (length (b ∷ more))) _ (lt-ltb 0 (length (b ∷ more)) (omega arith))
-    (and_from (nat_le (length (b ∷ more)) most_target) _ (le-leb (length (b ∷ more)) path_limit (ltb-false path_limit (length (b ∷ more)) free.0))
+    (and_from (nat_le (length (b ∷ more)) most_target) _ (le-leb (length (b ∷ more)) most_path (ltb-false most_path (length (b ∷ more)) free.0))
     (and_from (not (has_byte 0 (b ∷ more))) _ (ap not free.2) free.1))

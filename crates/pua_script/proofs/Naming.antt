@@ -11,9 +11,9 @@ use Rattle.pua_tree.specs.Tree.{Tree, Node, is_dir, look, node_at, above, target
 use Rattle.pua_tree.specs.declared.node.Kind.{Kind}
 use Rattle.pua_tree.specs.declared.node.Kind.TheVariants as kind
 use Rattle.pua_tree.proofs.ForCallers.{sound_from}
-use Rattle.pua_path.specs.Limits.{path_limit}
+use Rattle.pua_path.specs.Limits.{most_path}
 use Rattle.pua_path.specs.Paths.{part_of, parts_of, ending_parts, ends_in_slash, is_absolute, path_fault, text_errno}
-use Rattle.pua_path.specs.Resolution.{Resolved, Directory, Linked, Plain, Nothing, standing_at, standing_of, is_followed, slot_or, walk, start_of, resolve_parts, resolution_of_text, link_limit}
+use Rattle.pua_path.specs.Resolution.{Resolved, Directory, Linked, Plain, Nothing, standing_at, standing_of, is_followed, slot_or, walk, start_of, resolve_parts, resolution_of_text, most_links}
 use Rattle.pua_path.specs.declared.errno.Errno.{Errno}
 use Rattle.pua_path.specs.declared.errno.Errno.TheVariants.{ENOENT, ENOTDIR, ELOOP}
 use Rattle.pua_path.specs.declared.traced.TextFault.TheVariants.{LongText, LongComponent, NulInText}
@@ -212,9 +212,9 @@ module _ (t : Tree) (is_tree : IsByteTree t) where
     where
       fits : (text : List ℕ) → path_fault text ≡ None → (has_byte 0 text ≡ false) × (has_short_components text ≡ true)
       fits [] e = cc
-      fits (b ∷ more) e = fault_free (nat_lt path_limit (length (b ∷ more))) (has_short_components (b ∷ more)) (has_byte 0 (b ∷ more)) e
+      fits (b ∷ more) e = fault_free (nat_lt most_path (length (b ∷ more))) (has_short_components (b ∷ more)) (has_byte 0 (b ∷ more)) e
 
       by : (o : Option Errno) → path_fault text ≡ o → FoundNamed (resolution_of_text t from end text mode)
       by None e = let two = fits text e in rw e
-          (named_if (not (is_absolute text) && not (is_dir t from)) _ (named_from _ (resolve_named mode link_limit (start_of text from) way.Top (parts_of end text) (text_parts end text two.0 two.1 small) refl)))
+          (named_if (not (is_absolute text) && not (is_dir t from)) _ (named_from _ (resolve_named mode most_links (start_of text from) way.Top (parts_of end text) (text_parts end text two.0 two.1 small) refl)))
       by (Some errno) e = rw e tt

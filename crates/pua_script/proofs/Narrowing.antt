@@ -13,8 +13,8 @@ use Rattle.pua_policy.proofs.ForCallers.{held_never_grows}
 use Rattle.pua_policy.specs.declared.answer.May.TheVariants as may
 use Rattle.pua_script.specs.declared.request.Action.{Action}
 use Rattle.pua_script.specs.Decide.{Change, NoChange, AddNode, CutRow, ShiftRow, TieRow, BeginProgram, AddEvent, CopyAs, decide}
-use Rattle.pua_script.specs.Replay.{World, Effect, Fails, Kills, Leaves, Copies, history_of, effect, edited, edited_tree, made, refused}
-use Rattle.pua_script.specs.Limits.{process_limit}
+use Rattle.pua_script.specs.Replay.{World, Effect, Fails, Kills, Leaves, Copies, history_of, effect, edit_effect, edited_tree, change_effect, refusal_effect}
+use Rattle.pua_script.specs.Limits.{most_processes}
 use Rattle.pua_policy.specs.declared.answer.Refusal.{Refusal}
 use Rattle.pua_policy.specs.declared.answer.Refusal.TheVariants.{Failed, Killed}
 use Rattle.pua_script.proofs.Guarding.{decisions_are_guarded, grounds}
@@ -47,7 +47,7 @@ StepsOn m (AddEvent event) = IsTrue (is_step m event)
 StepsOn m _ = Unit {0}
 
 module _ (m : Bool) (w : World) (h : History) where
-  fine_edited : (r : Result (ℕ × Tree) TreeFault) → Fine m h (edited h r)
+  fine_edited : (r : Result (ℕ × Tree) TreeFault) → Fine m h (edit_effect h r)
   fine_edited (Ok x) = leaves (inl refl)
   fine_edited (Err fault) = fails
 
@@ -55,7 +55,7 @@ module _ (m : Bool) (w : World) (h : History) where
   fine_edited_tree (Ok x) = leaves (inl refl)
   fine_edited_tree (Err fault) = fails
 
-  fine_made : (c : Change) → StepsOn m c → Fine m h (made w h c)
+  fine_made : (c : Change) → StepsOn m c → Fine m h (change_effect w h c)
   fine_made NoChange steps = leaves (inl refl)
   fine_made (AddNode spot node) steps = fine_edited _
   fine_made (CutRow spot) steps = fine_edited _
@@ -63,13 +63,13 @@ module _ (m : Bool) (w : World) (h : History) where
   fine_made (TieRow spot x) steps = fine_edited_tree _
   fine_made (BeginProgram left) steps = absurd steps
   fine_made (AddEvent event) steps = leaves (inr (event, steps, refl))
-  fine_made (CopyAs new) steps = by (is_some (history_of w new) || nat_le process_limit (length w.histories))
+  fine_made (CopyAs new) steps = by (is_some (history_of w new) || nat_le most_processes (length w.histories))
     where
       by : (full : Bool) → Fine m h (cond full (Fails EAGAIN) (Copies new))
       by true = fails
       by false = copies
 
-  fine_refused : (r : Refusal) → Fine m h (refused r)
+  fine_refused : (r : Refusal) → Fine m h (refusal_effect r)
   fine_refused (Failed errno) = fails
   fine_refused Killed = kills
 

@@ -14,13 +14,13 @@ use Rattle.pua_calls.specs.Promises.{proc}
 use Rattle.pua_policy.specs.declared.answer.May.{May}
 use Rattle.pua_policy.specs.declared.answer.May.TheVariants as may
 use Rattle.pua_policy.specs.declared.answer.Refusal.TheVariants.{Failed, Killed}
-use Rattle.pua_script.specs.Decide.{Change, AddNode, CutRow, ShiftRow, TieRow, CopyAs, Decision, promised, decide}
-use Rattle.pua_script.specs.Replay.{World, Effect, Fails, Kills, Leaves, Copies, effect, history_of, apply, left_by, answer_to, edited, edited_tree, made, come_of, do_decided}
+use Rattle.pua_script.specs.Decide.{Change, AddNode, CutRow, ShiftRow, TieRow, CopyAs, Decision, if_may, decide}
+use Rattle.pua_script.specs.Replay.{World, Effect, Fails, Kills, Leaves, Copies, effect, history_of, apply, left_by, answer_to, edit_effect, edited_tree, change_effect, come_of, do_decided}
 use Rattle.pua_script.specs.declared.answer.Answer.{Answer}
 use Rattle.pua_script.specs.declared.answer.Answer.TheVariants.{Okay}
 use Rattle.pua_script.specs.declared.request.Action.{Action}
 use Rattle.pua_script.specs.declared.request.Action.TheVariants.{Fork}
-use Rattle.pua_script.specs.Limits.{process_limit}
+use Rattle.pua_script.specs.Limits.{most_processes}
 use Rattle.pua_script.specs.Tightening.{OthersLeave, OthersLeaveAlways, ForksCopy}
 use Rattle.pua_script.proofs.Applied.{by_request, by_living}
 
@@ -47,7 +47,7 @@ pub copied_apart : (w : World) (process made : ℕ) (h : History) → IsNew w (C
 copied_apart w process made h new here = found_elsewhere process made h h w (not_made w process made h new here) here
 
 module _ (w : World) (h : History) where
-  new_edited : (r : Result (ℕ × Tree) TreeFault) → IsNew w (edited h r)
+  new_edited : (r : Result (ℕ × Tree) TreeFault) → IsNew w (edit_effect h r)
   new_edited (Ok x) = tt
   new_edited (Err fault) = tt
 
@@ -55,12 +55,12 @@ module _ (w : World) (h : History) where
   new_edited_tree (Ok x) = tt
   new_edited_tree (Err fault) = tt
 
-  new_made : (c : Change) → IsNew w (made w h c)
+  new_made : (c : Change) → IsNew w (change_effect w h c)
   new_made (AddNode spot node) = new_edited _
   new_made (CutRow spot) = new_edited _
   new_made (ShiftRow old new) = new_edited_tree _
   new_made (TieRow spot x) = new_edited_tree _
-  new_made (CopyAs new) = by (is_some (history_of w new)) (nat_le process_limit (length w.histories)) refl
+  new_made (CopyAs new) = by (is_some (history_of w new)) (nat_le most_processes (length w.histories)) refl
     where
       by : (b full : Bool) → is_some (history_of w new) ≡ b → IsNew w (cond (b || full) (Fails EAGAIN) (Copies new))
       by true full is = tt
@@ -91,8 +91,8 @@ module _ (w : World) (h : History) (process new : ℕ) where
   copied true told = cc
   copied false told = put_here nat_cmp nat_cmp_total nat_cmp-IsAntisymmetric new h w.histories
 
-  copied_promised : (m : May) → let done : Answer × World = do_decided w process h (promised m (Ok (CopyAs new))) in done.0 ≡ Okay → history_of done.1 new ≡ Some h
-  copied_promised may.Yes told = copied (is_some (history_of w new) || nat_le process_limit (length w.histories)) told
+  copied_promised : (m : May) → let done : Answer × World = do_decided w process h (if_may m (Ok (CopyAs new))) in done.0 ≡ Okay → history_of done.1 new ≡ Some h
+  copied_promised may.Yes told = copied (is_some (history_of w new) || nat_le most_processes (length w.histories)) told
   copied_promised may.Enosys told = cc
   copied_promised may.Death told = cc
 

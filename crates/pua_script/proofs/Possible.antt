@@ -5,7 +5,7 @@ use Rattle.std.specs.Option.{option_eq}
 use Rattle.std.proofs.lemmas.Bool.{and_parts, not-true, not-false}
 use Rattle.std.proofs.lemmas.Option.{same_Some}
 use Rattle.pua_tree.specs.Tree.{Tree, WellFormed, Spot, is_dir, is_empty, look, has_no_row}
-use Rattle.pua_tree.specs.Edits.{shift, shift_found, moved, is_inside, is_same_node, is_full_dir_there}
+use Rattle.pua_tree.specs.Edits.{shift, shift_found, with_row_moved, is_inside, is_same_node, is_full_dir_there}
 use Rattle.pua_tree.specs.declared.fault.TreeFault.TheVariants as faults
 use Rattle.pua_path.specs.Paths.{path_fault}
 use Rattle.pua_path.specs.Resolution.{resolution_of_text}
@@ -46,9 +46,9 @@ name_fits t well from end text mode object = by (path_fault text) refl
 shift_ok : (t : Tree) (from to : Spot) (x : ℕ) (there : Option ℕ) → is_dir t from.0 ≡ true → look t from.0 from.1 ≡ Some x → is_dir t to.0 ≡ true → look t to.0 to.1 ≡ there
     → is_same_node x there ≡ false → is_inside t x to.0 ≡ false → is_full_dir_there t there ≡ false → IsOk (shift t from.0 from.1 to.0 to.1)
 shift_ok t from to x there lives stands lives_there stands_there other outside alone =
-    let is : shift t from.0 from.1 to.0 to.1 ≡ Ok (moved t from.0 from.1 to.0 to.1 x there) =
+    let is : shift t from.0 from.1 to.0 to.1 ≡ Ok (with_row_moved t from.0 from.1 to.0 to.1 x there) =
     (λ i. cond (not (lives i && lives_there i)) (Err faults.NotDir) (shift_found t from.0 from.1 to.0 to.1 (stands i) (stands_there i)))
-    ∙ (λ i. cond (other i) (Ok t) (cond (outside i) (Err faults.Inside) (cond (alone i) (Err faults.NotEmpty) (Ok (moved t from.0 from.1 to.0 to.1 x there))))) in
+    ∙ (λ i. cond (other i) (Ok t) (cond (outside i) (Err faults.Inside) (cond (alone i) (Err faults.NotEmpty) (Ok (with_row_moved t from.0 from.1 to.0 to.1 x there))))) in
     subst IsOk (sym is) refl
 
 module _ (t : Tree) where

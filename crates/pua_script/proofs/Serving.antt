@@ -16,9 +16,9 @@ use Rattle.pua_script.specs.declared.fault.WorldFault.{WorldFault}
 use Rattle.pua_script.specs.declared.answer.Answer.TheVariants.{Okay, Gone}
 use Rattle.pua_script.specs.declared.request.Action.{Action}
 use Rattle.pua_script.specs.declared.request.Action.TheVariants.{Fork}
-use Rattle.pua_script.specs.Decide.{CopyAs, promised}
-use Rattle.pua_script.specs.Replay.{World, Effect, come_of, Fails, Kills, Leaves, Copies, history_of, effect, answer_to, left_by, served, apply, world_after}
-use Rattle.pua_script.specs.Limits.{process_limit}
+use Rattle.pua_script.specs.Decide.{CopyAs, if_may}
+use Rattle.pua_script.specs.Replay.{World, Effect, come_of, Fails, Kills, Leaves, Copies, history_of, effect, answer_to, left_by, answer_and_world, apply, world_after}
+use Rattle.pua_script.specs.Limits.{most_processes}
 use Rattle.pua_script.specs.Worlds.{WorldState, StandsAt, StandsForWorld, HasReplay, process_at, IsOkay, IsServed, AreServed, Does, Acts}
 use Rattle.pua_script.proofs.Composition.{replay_composes}
 use Rattle.pua_script.proofs.StoodFor.{same_numbers, stands_changed, stands_made}
@@ -66,7 +66,7 @@ module _ (s : WorldState) (ask : Asked) (answer : Answer) (t : Tree) (p q : Proc
       lives h true d e done = absurd (true≢false e)
       lives h false d e done = (done.0, done.1, refl)
 
-      by : (g : Option History) → history_of w ask.process ≡ g → StandsAt (process_at s ask.process) g → (answer ≡ (served s.table w ask g).0) × StandsForWorld left_world (served s.table w ask g).1 × (s.table ≡ s.table)
+      by : (g : Option History) → history_of w ask.process ≡ g → StandsAt (process_at s ask.process) g → (answer ≡ (answer_and_world s.table w ask g).0) × StandsForWorld left_world (answer_and_world s.table w ask g).1 × (s.table ≡ s.table)
       by None known at = absurd (subst (λ o. StandsAt o None) there at)
       by (Some h) known at =
           let own : StandsFor p h = subst (λ o. StandsAt o (Some h)) there at in
@@ -82,18 +82,18 @@ module _ (s : WorldState) (ask : Asked) (p : ProcessState) (there : process_at s
       lives true d e done = absurd (true≢false e)
       lives false d e done = done
 
-      by : (g : Option History) → StandsAt (process_at s ask.process) g → (served s.table w ask g).0 ≡ Okay
+      by : (g : Option History) → StandsAt (process_at s ask.process) g → (answer_and_world s.table w ask g).0 ≡ Okay
       by None at = absurd (subst (λ o. StandsAt o None) there at)
       by (Some h) at =
           let own : StandsFor p h = subst (λ o. StandsAt o (Some h)) there at in
           lives (is_ended h) _ (sym own.ended ∙ living) (okay w h stands own)
 
 -- a fork whose promise is held fails where the world has the number, or the most processes
-pub fork_alike : (s : WorldState) (w : World) → StandsForWorld s w → (h : History) (new : ℕ) (b : Bool) → may_any h (proc ∷ []) ≡ may.Yes → b ≡ (is_some (process_at s new) || nat_le process_limit (length s.processes))
+pub fork_alike : (s : WorldState) (w : World) → StandsForWorld s w → (h : History) (new : ℕ) (b : Bool) → may_any h (proc ∷ []) ≡ may.Yes → b ≡ (is_some (process_at s new) || nat_le most_processes (length s.processes))
     → effect s.table w h (Fork new) ≡ cond b (Fails EAGAIN) (Copies new)
 fork_alike s w stands h new b may is =
-    ap (λ m. come_of w h (promised m (Ok (CopyAs new)))) may
-    ∙ (λ i. cond (sym (is ∙ (λ j. same_numbers _ _ (stands.processes new) j || nat_le process_limit (stands.count j))) i) (Fails EAGAIN) (Copies new))
+    ap (λ m. come_of w h (if_may m (Ok (CopyAs new)))) may
+    ∙ (λ i. cond (sym (is ∙ (λ j. same_numbers _ _ (stands.processes new) j || nat_le most_processes (stands.count j))) i) (Fails EAGAIN) (Copies new))
 
 unset : (b c : Bool) → (b || c) ≡ false → b ≡ false
 unset true c is = is
@@ -103,7 +103,7 @@ unset false c is = refl
 module _ (s : WorldState) (number new : ℕ) (p copy : ProcessState) (mid more : List (ℕ × ProcessState)) (old : Option ProcessState)
     (there : process_at s number ≡ Some p) (living : p.ended ≡ false)
     (may_fork : (h : History) → StandsFor p h → may_any h (proc ∷ []) ≡ may.Yes)
-    (free : (is_some (process_at s new) || nat_le process_limit (length s.processes)) ≡ false)
+    (free : (is_some (process_at s new) || nat_le most_processes (length s.processes)) ≡ false)
     (copied : copy ≡ p) (same : mid ≡ s.processes) (puts : (n : ℕ) → lookup (nat_eq n) more ≡ cond (nat_eq new n) (Some copy) (lookup (nat_eq n) mid))
     (was : old ≡ lookup (nat_eq new) mid) (counted : length more ≡ length mid + cond (is_some old) 0 1) where
   copied_at : (n : ℕ) → lookup (nat_eq n) more ≡ cond (nat_eq new n) (Some p) (process_at s n)
@@ -130,7 +130,7 @@ module _ (s : WorldState) (number new : ℕ) (p copy : ProcessState) (mid more :
           )
 
       by : (g : Option History) → StandsAt (process_at s number) g
-          → (Okay ≡ (served s.table w (record { process = number; action = Fork new }) g).0) × StandsForWorld (record { tree = s.tree; table = s.table; processes = more }) (served s.table w (record { process = number; action = Fork new }) g).1 × (s.table ≡ s.table)
+          → (Okay ≡ (answer_and_world s.table w (record { process = number; action = Fork new }) g).0) × StandsForWorld (record { tree = s.tree; table = s.table; processes = more }) (answer_and_world s.table w (record { process = number; action = Fork new }) g).1 × (s.table ≡ s.table)
       by None at = absurd (subst (λ o. StandsAt o None) there at)
       by (Some h) at =
           let own : StandsFor p h = subst (λ o. StandsAt o (Some h)) there at in

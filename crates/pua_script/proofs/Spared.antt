@@ -22,11 +22,11 @@ use Rattle.pua_policy.specs.declared.answer.Cover.TheVariants.{All, Nothing, Onl
 use Rattle.pua_script.specs.Requests.{Asked}
 use Rattle.pua_script.specs.Decide.{Change, AddNode, CutRow, ShiftRow, TieRow, CopyAs}
 use Rattle.pua_script.specs.Judged.{NameFits}
-use Rattle.pua_script.specs.Replay.{World, Fails, Copies, history_of, apply, made}
+use Rattle.pua_script.specs.Replay.{World, Fails, Copies, history_of, apply, change_effect}
 use Rattle.pua_script.specs.Worlds.{tree_left}
 use Rattle.pua_script.specs.declared.request.Action.{Action}
 use Rattle.pua_script.specs.Confinement.{has_c, NeedsC, TakingNeedsC}
-use Rattle.pua_script.specs.Limits.{process_limit}
+use Rattle.pua_script.specs.Limits.{most_processes}
 use Rattle.pua_script.proofs.Applied.{by_own_tree}
 use Rattle.pua_script.proofs.Guarding.{grounds}
 use Rattle.pua_script.proofs.Grounds.{Grounds, takes}
@@ -106,12 +106,12 @@ module _ (t : Tree) (h : History) where
     )
     has_c_by action _ g = tt
 
-spares_made : (w : World) → WellFormed w.tree → (h : History) (c : Change) → HasC w.tree h c → Spares w.tree h (tree_left w.tree (made w h c))
+spares_made : (w : World) → WellFormed w.tree → (h : History) (c : Change) → HasC w.tree h c → Spares w.tree h (tree_left w.tree (change_effect w h c))
 spares_made w well h (AddNode spot node) has = spares_add w.tree h well spot.0 spot.1 node
 spares_made w well h (CutRow spot) has = spares_cut w.tree h spot.0 spot.1 has
 spares_made w well h (ShiftRow old new) has = spares_shift w.tree h old.0 new.0 old.1 new.1 has.0 has.1
 spares_made w well h (TieRow spot x) has = spares_tie w.tree h spot.0 spot.1 x
-spares_made w well h (CopyAs new) has = by (is_some (history_of w new) || nat_le process_limit (length w.histories))
+spares_made w well h (CopyAs new) has = by (is_some (history_of w new) || nat_le most_processes (length w.histories))
   where
     by : (full : Bool) → Spares w.tree h (tree_left w.tree (cond full (Fails EAGAIN) (Copies new)))
     by true = spares_all w.tree h

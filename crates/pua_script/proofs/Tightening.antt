@@ -11,7 +11,7 @@ use Rattle.pua_policy.specs.History.{History, Event, Pledged, Unveiled, Locked, 
 use Rattle.pua_policy.specs.Verdict.{is_unveil}
 use Rattle.pua_policy.proofs.ForCallers.{held_never_grows}
 use Rattle.pua_script.specs.Requests.{Asked}
-use Rattle.pua_script.specs.Replay.{World, Effect, Fails, Kills, Leaves, Copies, effect, history_of, apply, served, left_by, answer_to}
+use Rattle.pua_script.specs.Replay.{World, Effect, Fails, Kills, Leaves, Copies, effect, history_of, apply, answer_and_world, left_by, answer_to}
 use Rattle.pua_script.specs.Laws.{IsConfined}
 use Rattle.pua_script.specs.Worlds.{history_left}
 use Rattle.pua_script.specs.Family.{is_okay, is_exec, is_chdir, is_done, is_member, HasHistoryOf}
@@ -145,7 +145,7 @@ module _ (table : CallTable) (w : World) (ask : Asked) (h : History) (confined :
       (history_left h e, left_here w ask.process h e (effect_is_new table w h ask.action) here, request_steps table w h confined ask.action none)
 
   pub own_request : history_of w ask.process ≡ Some h → After (apply table w ask)
-  own_request here = subst (λ o. After (served table w ask o)) (sym here) (after_served here (is_ended h))
+  own_request here = subst (λ o. After (answer_and_world table w ask o)) (sym here) (after_served here (is_ended h))
 
 -- the request of anyone
 pub is_one : (process other : ℕ) → is_member (process ∷ []) other ≡ (process == other)

@@ -7,7 +7,7 @@ use Rattle.pua_path.specs.declared.found.Found.TheVariants.{Whole, Slot}
 use Rattle.pua_path.specs.declared.found.Way.TheVariants.{Named}
 use Rattle.pua_calls.specs.Promises.{holds, cpath, creating}
 use Rattle.pua_calls.specs.Calls.{Rule, CallTable, rule_of}
-use Rattle.pua_policy.specs.History.{History, held}
+use Rattle.pua_policy.specs.History.{History, held_set}
 use Rattle.pua_policy.specs.Verdict.{cover}
 use Rattle.pua_policy.specs.declared.answer.Cover.{Cover}
 use Rattle.pua_policy.specs.declared.answer.Cover.TheVariants.{All, Nothing, Only}
@@ -69,7 +69,7 @@ EachRequestSpares = (table : CallTable) → TakingNeedsC table → (w : World) (
 -- and without cpath the tree stays
 abbrev pub CpathChanges : Type 0
 CpathChanges = (table : CallTable) → ChangingNeedsCpath table → (w : World) (ask : Asked) (h : History) →
-    history_of w ask.process ≡ Some h → IsFalse (holds (held h) cpath) → (apply table w ask).1.tree ≡ w.tree
+    history_of w ask.process ≡ Some h → IsFalse (holds (held_set h) cpath) → (apply table w ask).1.tree ≡ w.tree
 
 -- each world on the way has a tree
 abbrev pub TreesAlong : CallTable → World → List Asked → Type 0
@@ -79,7 +79,7 @@ TreesAlong table w (ask ∷ asks) = WellFormed w.tree × TreesAlong table (apply
 -- the second part over a list of requests: by the history at its beginning each uncovered row stays, and without cpath the tree stays
 pub record Confines (table : CallTable) (w : World) (now : History) (asks : List Asked) : Type 0 where
   pub spares : TakingNeedsC table → TreesAlong table w asks → UncoveredStay now w.tree (world_after table w asks).tree
-  pub unchanged : ChangingNeedsCpath table → IsFalse (holds (held now) cpath) → (world_after table w asks).tree ≡ w.tree
+  pub unchanged : ChangingNeedsCpath table → IsFalse (holds (held_set now) cpath) → (world_after table w asks).tree ≡ w.tree
 
 -- where members alone ask, and no exec of theirs is answered ok
 abbrev pub FamilyConfines : CallTable → World → List Asked → Type 0

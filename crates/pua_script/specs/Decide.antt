@@ -311,14 +311,14 @@ refusals = record {
 abbrev pub fails : Errno → Decision
 fails errno = Err (Failed errno)
 
-abbrev pub promised : May → Decision → Decision
-promised may further = unless_refused (refusal_of may) further
+abbrev pub if_may : May → Decision → Decision
+if_may may further = unless_refused (refusal_of may) further
 
-abbrev pub checked : Option Errno → Decision → Decision
-checked fault further = unless_failed (λ errno. Failed errno) fault further
+abbrev pub unless_fault : Option Errno → Decision → Decision
+unless_fault fault further = unless_failed (λ errno. Failed errno) fault further
 
-abbrev pub named : {X : Type 0} → Result X Errno → (X → Decision) → Decision
-named found further = on_named (λ errno. Failed errno) found further
+abbrev pub if_named : {X : Type 0} → Result X Errno → (X → Decision) → Decision
+if_named found further = on_named (λ errno. Failed errno) found further
 
 abbrev pub dots_fault : Found → Option Errno
 dots_fault object = dots_by (λ wrong. misfit_errno wrong) object

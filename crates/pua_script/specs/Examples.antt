@@ -6,7 +6,7 @@ use Rattle.pua_tree.specs.Tree.{Tree}
 use Rattle.pua_calls.specs.Calls.{CallTable, standard_table, openbsd_table}
 use Rattle.pua_script.specs.Requests.{Asked}
 use Rattle.pua_script.specs.Scripts.{script}
-use Rattle.pua_script.specs.Replay.{answers, new_world}
+use Rattle.pua_script.specs.Replay.{answers_to, new_world}
 use Rattle.pua_script.specs.Family.{is_exec, none_done}
 use Rattle.pua_tree.specs.declared.fault.ListingFault.{ListingFault}
 use Rattle.pua_path.specs.declared.errno.Errno.TheVariants.{EPERM, ENOENT, EACCES, EAGAIN, EBUSY, EEXIST, ENOTDIR, EISDIR, EINVAL, ELOOP, ENAMETOOLONG, ENOTEMPTY, ENOSYS}
@@ -17,7 +17,7 @@ use Rattle.pua_script.specs.declared.fault.ScriptFault.TheVariants.{BadLine, Bad
 
 -- the answers of a script over a listing, where both are accepted
 abbrev pub answers_by : CallTable → Result Tree ListingFault → Result (List Asked) ScriptFault → List Answer
-answers_by table (Ok t) (Ok asks) = answers table (new_world t) asks
+answers_by table (Ok t) (Ok asks) = answers_to table (new_world t) asks
 answers_by table _ _ = []
 
 abbrev pub answers_over : Result Tree ListingFault → Result (List Asked) ScriptFault → List Answer
@@ -42,22 +42,22 @@ abbrev pub example : List (List ℕ)
 example = codes "tree 1" ∷ codes "0 dir" ∷ codes "1 dir 0 etc" ∷ codes "2 file 1 passwd" ∷ codes "3 dir 0 tmp" ∷ codes "4 link 0 t tmp" ∷ codes "5 link 3 up ../etc" ∷ codes "6 link 3 self self" ∷ codes "7 prog 3 sh" ∷ []
 
 -- a directory with files and a directory in which something stands, and a file
-abbrev pub ordered : List (List ℕ)
-ordered = root_alone ++ codes "1 dir 0 d" ∷ codes "2 file 1 f" ∷ codes "3 file 1 g" ∷ codes "4 file 0 f" ∷ codes "5 dir 1 e" ∷ codes "6 file 5 x" ∷ []
+abbrev pub ordered_tree : List (List ℕ)
+ordered_tree = root_alone ++ codes "1 dir 0 d" ∷ codes "2 file 1 f" ∷ codes "3 file 1 g" ∷ codes "4 file 0 f" ∷ codes "5 dir 1 e" ∷ codes "6 file 5 x" ∷ []
 
 -- what is checked first of two things that are wrong with a rename, for each two that follow on one another
 pub record RenameRows : Type 0 where
-  pub promise_before_old_path : answers_of ordered (codes "1 pledge stdio,error -" ∷ codes "1 rename /no/x /y" ∷ []) ≡ Okay ∷ Failed ENOSYS ∷ []
-  pub old_path_before_new_path : answers_of ordered (codes "1 rename /f/x /no/x" ∷ []) ≡ Failed ENOTDIR ∷ []
-  pub new_path_before_old_cover : answers_of ordered (codes "1 unveil /d rwc" ∷ codes "1 rename /f /d/f/x" ∷ []) ≡ Okay ∷ Failed ENOTDIR ∷ []
-  pub old_cover_before_new_cover : answers_of ordered (codes "1 unveil /d rwc" ∷ codes "1 unveil /d/f r" ∷ codes "1 rename /d/f /x" ∷ []) ≡ Okay ∷ Okay ∷ Failed EACCES ∷ []
-  pub new_cover_before_missing : answers_of ordered (codes "1 unveil /d rwc" ∷ codes "1 unveil /d/g r" ∷ codes "1 rename /d/no /d/g" ∷ []) ≡ Okay ∷ Okay ∷ Failed EACCES ∷ []
-  pub missing_before_dots : answers_of ordered (codes "1 rename /no /d/." ∷ []) ≡ Failed ENOENT ∷ []
-  pub dots_before_top : answers_of ordered (codes "1 rename / /d/." ∷ codes "1 rename /d/.. /" ∷ []) ≡ Failed EINVAL ∷ Failed EINVAL ∷ []
-  pub top_before_same : answers_of ordered (codes "1 rename / /" ∷ []) ≡ Failed EBUSY ∷ []
-  pub same_before_kinds : answers_of ordered (codes "1 rename /d /d" ∷ []) ≡ Okay ∷ []
-  pub inside_before_kinds : answers_of ordered (codes "1 rename /d /d/e" ∷ codes "1 rename /d /d/f" ∷ []) ≡ Failed EINVAL ∷ Failed EINVAL ∷ []
-  pub not_directory_before_empty : answers_of ordered (codes "1 rename /f /d" ∷ codes "1 rename /d/e /f" ∷ []) ≡ Failed EISDIR ∷ Failed ENOTDIR ∷ []
+  pub promise_before_old_path : answers_of ordered_tree (codes "1 pledge stdio,error -" ∷ codes "1 rename /no/x /y" ∷ []) ≡ Okay ∷ Failed ENOSYS ∷ []
+  pub old_path_before_new_path : answers_of ordered_tree (codes "1 rename /f/x /no/x" ∷ []) ≡ Failed ENOTDIR ∷ []
+  pub new_path_before_old_cover : answers_of ordered_tree (codes "1 unveil /d rwc" ∷ codes "1 rename /f /d/f/x" ∷ []) ≡ Okay ∷ Failed ENOTDIR ∷ []
+  pub old_cover_before_new_cover : answers_of ordered_tree (codes "1 unveil /d rwc" ∷ codes "1 unveil /d/f r" ∷ codes "1 rename /d/f /x" ∷ []) ≡ Okay ∷ Okay ∷ Failed EACCES ∷ []
+  pub new_cover_before_missing : answers_of ordered_tree (codes "1 unveil /d rwc" ∷ codes "1 unveil /d/g r" ∷ codes "1 rename /d/no /d/g" ∷ []) ≡ Okay ∷ Okay ∷ Failed EACCES ∷ []
+  pub missing_before_dots : answers_of ordered_tree (codes "1 rename /no /d/." ∷ []) ≡ Failed ENOENT ∷ []
+  pub dots_before_top : answers_of ordered_tree (codes "1 rename / /d/." ∷ codes "1 rename /d/.. /" ∷ []) ≡ Failed EINVAL ∷ Failed EINVAL ∷ []
+  pub top_before_same : answers_of ordered_tree (codes "1 rename / /" ∷ []) ≡ Failed EBUSY ∷ []
+  pub same_before_kinds : answers_of ordered_tree (codes "1 rename /d /d" ∷ []) ≡ Okay ∷ []
+  pub inside_before_kinds : answers_of ordered_tree (codes "1 rename /d /d/e" ∷ codes "1 rename /d /d/f" ∷ []) ≡ Failed EINVAL ∷ Failed EINVAL ∷ []
+  pub not_directory_before_empty : answers_of ordered_tree (codes "1 rename /f /d" ∷ codes "1 rename /d/e /f" ∷ []) ≡ Failed EISDIR ∷ Failed ENOTDIR ∷ []
 
 pub rename_rows : RenameRows
 rename_rows = record {
@@ -76,16 +76,16 @@ rename_rows = record {
 
 -- the same of a link
 pub record LinkRows : Type 0 where
-  pub promise_before_old_path : answers_of ordered (codes "1 pledge stdio,error -" ∷ codes "1 link /no/x /y" ∷ []) ≡ Okay ∷ Failed ENOSYS ∷ []
-  pub old_path_before_new_path : answers_of ordered (codes "1 link /f/x /no/x" ∷ []) ≡ Failed ENOTDIR ∷ []
-  pub new_path_before_old_cover : answers_of ordered (codes "1 unveil /d rwc" ∷ codes "1 link /f /d/f/x" ∷ []) ≡ Okay ∷ Failed ENOTDIR ∷ []
-  pub old_cover_before_new_cover : answers_of ordered (codes "1 unveil /d rwc" ∷ codes "1 unveil /d/f r" ∷ codes "1 link /d/f /x" ∷ []) ≡ Okay ∷ Okay ∷ Failed EACCES ∷ []
-  pub new_cover_before_missing : answers_of ordered (codes "1 unveil /d rwc" ∷ codes "1 unveil /d/g r" ∷ codes "1 link /d/no /d/g" ∷ []) ≡ Okay ∷ Okay ∷ Failed EACCES ∷ []
-  pub missing_before_there : answers_of ordered (codes "1 link /no /f" ∷ []) ≡ Failed ENOENT ∷ []
-  pub directory_before_there : answers_of ordered (codes "1 link /d /f" ∷ codes "1 link / /f" ∷ []) ≡ Failed EPERM ∷ Failed EPERM ∷ []
-  pub there : answers_of ordered (codes "1 link /f /d" ∷ codes "1 link /f /d/." ∷ codes "1 link /f /f" ∷ []) ≡ Failed EEXIST ∷ Failed EEXIST ∷ Failed EEXIST ∷ []
+  pub promise_before_old_path : answers_of ordered_tree (codes "1 pledge stdio,error -" ∷ codes "1 link /no/x /y" ∷ []) ≡ Okay ∷ Failed ENOSYS ∷ []
+  pub old_path_before_new_path : answers_of ordered_tree (codes "1 link /f/x /no/x" ∷ []) ≡ Failed ENOTDIR ∷ []
+  pub new_path_before_old_cover : answers_of ordered_tree (codes "1 unveil /d rwc" ∷ codes "1 link /f /d/f/x" ∷ []) ≡ Okay ∷ Failed ENOTDIR ∷ []
+  pub old_cover_before_new_cover : answers_of ordered_tree (codes "1 unveil /d rwc" ∷ codes "1 unveil /d/f r" ∷ codes "1 link /d/f /x" ∷ []) ≡ Okay ∷ Okay ∷ Failed EACCES ∷ []
+  pub new_cover_before_missing : answers_of ordered_tree (codes "1 unveil /d rwc" ∷ codes "1 unveil /d/g r" ∷ codes "1 link /d/no /d/g" ∷ []) ≡ Okay ∷ Okay ∷ Failed EACCES ∷ []
+  pub missing_before_there : answers_of ordered_tree (codes "1 link /no /f" ∷ []) ≡ Failed ENOENT ∷ []
+  pub directory_before_there : answers_of ordered_tree (codes "1 link /d /f" ∷ codes "1 link / /f" ∷ []) ≡ Failed EPERM ∷ Failed EPERM ∷ []
+  pub there : answers_of ordered_tree (codes "1 link /f /d" ∷ codes "1 link /f /d/." ∷ codes "1 link /f /f" ∷ []) ≡ Failed EEXIST ∷ Failed EEXIST ∷ Failed EEXIST ∷ []
   -- a slash at the end is a part `.` of either path
-  pub final_slash : answers_of ordered (codes "1 link /f/ /new" ∷ codes "1 link /f /new/" ∷ codes "1 link /f /new" ∷ []) ≡ Failed ENOTDIR ∷ Failed ENOENT ∷ Okay ∷ []
+  pub final_slash : answers_of ordered_tree (codes "1 link /f/ /new" ∷ codes "1 link /f /new/" ∷ codes "1 link /f /new" ∷ []) ≡ Failed ENOTDIR ∷ Failed ENOENT ∷ Okay ∷ []
 
 pub link_rows : LinkRows
 link_rows = record {
@@ -128,15 +128,15 @@ aliases_written = codes "1 unveil /mail r" ∷ codes "1 unveil /spool rwc" ∷ c
 
 -- by the rules of OpenBSD and the standard ones: rename and link need what the table says of them, promises before paths
 pub record PairRows : Type 0 where
-  pub letters_of_link : answers_by_openbsd ordered read_and_made ≡ Okay ∷ Okay ∷ Okay ∷ []
-  pub standard_letters_of_link : answers_of ordered read_and_made ≡ Okay ∷ Okay ∷ Failed EACCES ∷ []
-  pub letters_of_rename : answers_by_openbsd ordered made_alone ≡ Okay ∷ Failed EACCES ∷ []
-  pub standard_letters_of_rename : answers_of ordered made_alone ≡ Okay ∷ Okay ∷ []
+  pub letters_of_link : answers_by_openbsd ordered_tree read_and_made ≡ Okay ∷ Okay ∷ Okay ∷ []
+  pub standard_letters_of_link : answers_of ordered_tree read_and_made ≡ Okay ∷ Okay ∷ Failed EACCES ∷ []
+  pub letters_of_rename : answers_by_openbsd ordered_tree made_alone ≡ Okay ∷ Failed EACCES ∷ []
+  pub standard_letters_of_rename : answers_of ordered_tree made_alone ≡ Okay ∷ Okay ∷ []
   pub followed : answers_by_openbsd file_linked link_linked ≡ Okay ∷ Failed EINVAL ∷ Failed ENOENT ∷ []
   pub kept : answers_of file_linked link_linked ≡ Okay ∷ Okay ∷ Okay ∷ []
-  pub promises_of_old : answers_by_openbsd ordered (codes "1 pledge stdio,cpath,error -" ∷ codes "1 rename /no/x /y" ∷ codes "1 link /no/x /y" ∷ []) ≡ Okay ∷ Failed ENOSYS ∷ Failed ENOSYS ∷ []
-  pub standard_promises_of_old : answers_of ordered (codes "1 pledge stdio,cpath,error -" ∷ codes "1 rename /no/x /y" ∷ codes "1 link /no/x /y" ∷ []) ≡ Okay ∷ Failed ENOENT ∷ Failed ENOENT ∷ []
-  pub promises_of_new : answers_by_openbsd ordered (codes "1 pledge stdio,rpath -" ∷ codes "1 link /no/x /y" ∷ []) ≡ Okay ∷ Killed ∷ []
+  pub promises_of_old : answers_by_openbsd ordered_tree (codes "1 pledge stdio,cpath,error -" ∷ codes "1 rename /no/x /y" ∷ codes "1 link /no/x /y" ∷ []) ≡ Okay ∷ Failed ENOSYS ∷ Failed ENOSYS ∷ []
+  pub standard_promises_of_old : answers_of ordered_tree (codes "1 pledge stdio,cpath,error -" ∷ codes "1 rename /no/x /y" ∷ codes "1 link /no/x /y" ∷ []) ≡ Okay ∷ Failed ENOENT ∷ Failed ENOENT ∷ []
+  pub promises_of_new : answers_by_openbsd ordered_tree (codes "1 pledge stdio,rpath -" ∷ codes "1 link /no/x /y" ∷ []) ≡ Okay ∷ Killed ∷ []
   -- what may be read alone is written by the name that it was given
   pub aliases : answers_by_openbsd aliases_and_spool aliases_written ≡ Okay ∷ Okay ∷ Okay ∷ Failed EACCES ∷ Okay ∷ Okay ∷ []
   pub standard_aliases : answers_of aliases_and_spool aliases_written ≡ Okay ∷ Okay ∷ Okay ∷ Failed EACCES ∷ Failed EACCES ∷ Failed ENOENT ∷ []

@@ -4,7 +4,7 @@ use Rattle.pua_calls.specs.Calls.{CallTable, table_by_rules, rule_of}
 use Rattle.pua_calls.specs.TableTexts.{table_over}
 use Rattle.pua_calls.specs.declared.rules.Rules.{Rules}
 use Rattle.pua_calls.specs.Promises.{holds, cpath}
-use Rattle.pua_policy.specs.History.{History, ProcessState, StandsFor, held}
+use Rattle.pua_policy.specs.History.{History, ProcessState, StandsFor, held_set}
 use Rattle.pua_script.specs.Requests.{Asked}
 use Rattle.pua_script.specs.Replay.{World, history_of, world_after}
 use Rattle.pua_script.specs.Tightening.{NoCallNeedsError, IsNarrowedBy, EndsWithin}
@@ -56,7 +56,7 @@ abbrev pub HaveTrees : WorldState → List Asked → Type 0
 HaveTrees before asks = (w : World) → StandsForWorld before w → TreesAlong before.table w asks
 
 abbrev pub AreDone : WorldState → List Asked → List Answer → WorldState → Type 0
-AreDone before asks told after = AreServed before asks told after × HaveTrees before asks
+AreDone before asks answers after = AreServed before asks answers after × HaveTrees before asks
 
 -- some first ones of the requests were
 abbrev pub AreDoneInPart : WorldState → List Asked → WorldState → Type 0
@@ -66,7 +66,7 @@ AreDoneInPart before asks after = (count : ℕ)
 -- by the history of a confined process at the beginning, and if the table asks for `c` and for cpath where it has to: each row that isn't covered with `c` stays, and without cpath the tree does
 pub record IsConfining (before : WorldState) (now : History) (after : WorldState) : Type 0 where
   pub spares : TakingNeedsC before.table → UncoveredStay now before.tree after.tree
-  pub unchanged : ChangingNeedsCpath before.table → IsFalse (holds (held now) cpath) → after.tree ≡ before.tree
+  pub unchanged : ChangingNeedsCpath before.table → IsFalse (holds (held_set now) cpath) → after.tree ≡ before.tree
 
 -- what a list of requests leaves of the family of a process that was confined, as long as no exec of a
 -- member is answered ok: each member stands afterwards for a history that allows no more, and where

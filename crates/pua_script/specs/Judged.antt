@@ -41,9 +41,9 @@ on_judged (Ok x) further = further x
 on_judged (Err refusal) further = Err refusal
 
 -- what was granted, or refused, as a decision
-abbrev pub decided : History → Result Granted Refusal → Decision
-decided h (Ok granted) = decision_by h granted
-decided h (Err refusal) = Err refusal
+abbrev pub decision_for : History → Result Granted Refusal → Decision
+decision_for h (Ok granted) = decision_by h granted
+decision_for h (Err refusal) = Err refusal
 
 -- what was granted can be done: want of room, or of memory, is the only fault of its edit
 abbrev pub CanBeDone : Tree → Granted → Type 0

@@ -7,7 +7,7 @@ use Rattle.pua_calls.specs.Promises.{promises_of, perms_of}
 use Rattle.pua_calls.specs.Calls.{call_name}
 use Rattle.pua_path.specs.declared.errno.Errno.{Errno}
 use Rattle.pua_calls.specs.declared.call.Call.{Call}
-use Rattle.pua_script.specs.Limits.{line_limit, number_limit}
+use Rattle.pua_script.specs.Limits.{most_script_lines, most_number}
 use Rattle.pua_script.specs.Requests.{Asked, is_symlink, has_no_nul}
 use Rattle.pua_script.specs.Scripts.{has_empty_word, script}
 use Rattle.pua_script.specs.declared.request.Given.{Given}
@@ -48,7 +48,7 @@ pub data SpellsAction : List (List ℕ) → Action → Type 0 where
   pledge : {word a b : List ℕ} {promises execpromises : Given} → word ≡ codes "pledge" → SpellsGiven a promises → SpellsGiven b execpromises → SpellsAction (word ∷ a ∷ b ∷ []) (Pledge promises execpromises)
   unveil : {word a b path : List ℕ} {perms : Option ℕ} → word ≡ codes "unveil" → a ≢ codes "-" → b ≢ codes "-" → SpellsPath a path → SpellsPerms b perms → SpellsAction (word ∷ a ∷ b ∷ []) (Unveil path perms)
   lock : {word a b : List ℕ} → word ≡ codes "unveil" → a ≡ codes "-" → b ≡ codes "-" → SpellsAction (word ∷ a ∷ b ∷ []) Lock
-  fork : {word a : List ℕ} {new : ℕ} → word ≡ codes "fork" → a ≡ decimal new → 1 ≤ new → new ≤ number_limit → SpellsAction (word ∷ a ∷ []) (Fork new)
+  fork : {word a : List ℕ} {new : ℕ} → word ≡ codes "fork" → a ≡ decimal new → 1 ≤ new → new ≤ most_number → SpellsAction (word ∷ a ∷ []) (Fork new)
   exit : {word : List ℕ} → word ≡ codes "exit" → SpellsAction (word ∷ []) Exit
 
 -- a line: the decimal of the process, and the fields of what it asks for, with single spaces between fields
@@ -57,7 +57,7 @@ pub record SpellsRequest (line : List ℕ) (ask : Asked) : Type 0 where
   pub more : List (List ℕ)
   pub split : fields line ≡ decimal ask.process ∷ more
   pub low : 1 ≤ ask.process
-  pub high : ask.process ≤ number_limit
+  pub high : ask.process ≤ most_number
   pub spells : SpellsAction more ask.action
 
 -- each line spells its request
@@ -69,7 +69,7 @@ SpellRequests (line ∷ lines) (ask ∷ asks) = SpellsRequest line ask × SpellR
 
 -- the bytes are a script of these requests
 abbrev pub IsScript : List ℕ → List Asked → Type 0
-IsScript bytes asks = (length (lines bytes) ≤ line_limit) × SpellRequests (lines bytes) asks
+IsScript bytes asks = (length (lines bytes) ≤ most_script_lines) × SpellRequests (lines bytes) asks
 
 -- the reader accepts exactly the scripts of a list of requests
 abbrev pub ScriptsAreRead : Type 0

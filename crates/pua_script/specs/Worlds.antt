@@ -7,7 +7,7 @@ use Rattle.pua_tree.specs.Tree.{Tree}
 use Rattle.pua_calls.specs.Calls.{CallTable}
 use Rattle.pua_policy.specs.History.{History, ProcessState, StandsFor}
 use Rattle.pua_script.specs.Requests.{Asked}
-use Rattle.pua_script.specs.Replay.{World, Effect, Kills, Leaves, Copies, history_of, apply, effect, answers, world_after, answer_to}
+use Rattle.pua_script.specs.Replay.{World, Effect, Kills, Leaves, Copies, history_of, apply, effect, answers_to, world_after, answer_to}
 use Rattle.pua_policy.specs.History.{Ended}
 use Rattle.pua_script.specs.declared.answer.Answer.{Answer}
 use Rattle.pua_script.specs.declared.answer.Answer.TheVariants.{Okay}
@@ -54,8 +54,8 @@ IsServed before ask answer after =
 
 -- the same for a list of requests
 abbrev pub AreServed : WorldState → List Asked → List Answer → WorldState → Type 0
-AreServed before asks told after =
-    (w : World) → StandsForWorld before w → (told ≡ answers before.table w asks) × StandsForWorld after (world_after before.table w asks) × (after.table ≡ before.table)
+AreServed before asks answers after =
+    (w : World) → StandsForWorld before w → (answers ≡ answers_to before.table w asks) × StandsForWorld after (world_after before.table w asks) × (after.table ≡ before.table)
 
 -- what the world keeps at a number stands for the history at that number, in each world for which it stands
 abbrev pub IsProcessOf : WorldState → ℕ → Option ProcessState → Type 0
@@ -115,7 +115,7 @@ Acts table t before action result tree after =
 
 -- two worlds of the replay for which one world stands answer alike by each table, and one world stands for both afterwards
 pub record AnswerAlike (table : CallTable) (v w : World) (asks : List Asked) : Type 0 where
-  pub told : answers table v asks ≡ answers table w asks
+  pub told : answers_to table v asks ≡ answers_to table w asks
   pub left : (after : WorldState) × StandsForWorld after (world_after table v asks) × StandsForWorld after (world_after table w asks)
 
 abbrev pub WorldsAnswerAlike : Type 0

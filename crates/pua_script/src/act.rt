@@ -5,7 +5,7 @@
 
 ghost use Rattle.std.specs.Prelude.{◌≡◌, ℕ, List, IfOk, OnErr, IsFalse, false};
 ghost use Rattle.pua_policy.specs.History.{History, StandsFor};
-ghost use Rattle.pua_script.specs.Judged.{CanBeDone, decided};
+ghost use Rattle.pua_script.specs.Judged.{CanBeDone, decision_for};
 ghost use Rattle.pua_script.specs.Replay.{come_of};
 ghost use Rattle.pua_calls.specs.Calls.{CallTable as Rules};
 ghost use Rattle.pua_script.specs.Worlds.{Acts, Attempts, is_fork};
@@ -172,7 +172,7 @@ fn answer<T: FileTree>(
     requires possible { IfOk granted.now (CanBeDone (T.content tree.old)) }
     ensures exact { (h : History) (histories : List (ℕ × History)) → StandsFor process.old h →
         Attempts (T.content tree.old) h
-        (come_of (record { tree = T.content tree.old; histories = histories }) h (decided h granted.now))
+        (come_of (record { tree = T.content tree.old; histories = histories }) h (decision_for h granted.now))
         result (T.content tree.new) process.new }
     ensures unchanged { OnErr result ((T.content tree.new ≡ T.content tree.old) × (process.new ≡ process.old)) }
 {

@@ -7,7 +7,7 @@ ghost use Rattle.pua_policy.specs.History.{History, StandsFor};
 ghost use Rattle.pua_policy.specs.Verdict.{place_of};
 ghost use Rattle.pua_script.specs.Decide.{pledging, veiling};
 ghost use Rattle.pua_script.specs.Judged.{CanBeDone, decision_by};
-ghost use Rattle.pua_script.specs.Replay.{World, come_of, edited, edited_tree};
+ghost use Rattle.pua_script.specs.Replay.{World, come_of, edit_effect, edited_tree};
 ghost use Rattle.pua_script.specs.Worlds.{Attempts, AttemptsEdit, Does, Edits};
 
 use crate::answer::Answer;
@@ -100,7 +100,7 @@ fn add<T: FileTree>(
     requires dir { IsTrue (is_dir (T.content tree.old) dir) }
     requires free { look (T.content tree.old) dir name.now ≡ None }
     ensures exact { (h : History) → AttemptsEdit (T.content tree.old) h
-        (edited h (add (T.content tree.old) dir name.now (record { kind = kind; target = option_copied target.entry })))
+        (edit_effect h (add (T.content tree.old) dir name.now (record { kind = kind; target = option_copied target.entry })))
         result (T.content tree.new) }
     ensures unchanged { OnErr result (T.content tree.new ≡ T.content tree.old) }
 {
@@ -115,7 +115,7 @@ fn add<T: FileTree>(
 /// Takes a row away. What was checked before leaves no fault.
 fn cut<T: FileTree>(tree: &mut T, dir: NodeId, name: &Name) -> Answer
     requires { IsOk (cut (T.content tree.old) dir name.now) }
-    ensures { (h : History) → Edits (T.content tree.old) h (edited h (cut (T.content tree.old) dir name.now)) result (T.content tree.new) }
+    ensures { (h : History) → Edits (T.content tree.old) h (edit_effect h (cut (T.content tree.old) dir name.now)) result (T.content tree.new) }
 {
     match tree.cut(dir, name) {
         Ok(_number) => Answer::Okay,

@@ -6,7 +6,7 @@ ghost use Rattle.pua_path.specs.declared.found.Found as founds;
 ghost use Rattle.pua_policy.specs.History.{History, StandsFor};
 ghost use Rattle.pua_policy.specs.Verdict.{place_of};
 ghost use Rattle.pua_script.specs.Decide.{Decision, adding, change_by, decide_call, decide_object, decide_symlink, decide_unveil, going, link_node, removing, veiling};
-ghost use Rattle.pua_script.specs.Judged.{NameFits, decided, decision_by, on_judged};
+ghost use Rattle.pua_script.specs.Judged.{NameFits, decision_for, decision_by, on_judged};
 
 use crate::granted::Granted;
 use crate::pair::{node_named, spot_named};
@@ -80,7 +80,7 @@ pub(crate) fn grant_call<'a>(
     call: Call,
     judged: &'a Result<Found, Refusal>,
 ) -> Result<Granted<'a>, Refusal>
-    ensures { (h : History) → decided h result ≡ on_judged judged.now (λ object. Ok (change_by table.now call object)) }
+    ensures { (h : History) → decision_for h result ≡ on_judged judged.now (λ object. Ok (change_by table.now call object)) }
 {
     match judged {
         Ok(found) => Ok(change_by(table, call, found)),
@@ -155,7 +155,7 @@ pub(crate) fn grant_symlink<'a>(
     target: &'a [u8],
     judged: &'a Result<Found, Refusal>,
 ) -> Result<Granted<'a>, Refusal>
-    ensures { (h : History) → decided h result ≡ on_judged judged.now (λ object. Ok (adding (link_node target.now) object)) }
+    ensures { (h : History) → decision_for h result ≡ on_judged judged.now (λ object. Ok (adding (link_node target.now) object)) }
 {
     match judged {
         Ok(found) => Ok(adding(Kind::Link, Some(target), found)),
@@ -192,7 +192,7 @@ pub(crate) fn judge_unveil<T: FileTree>(
 pub(crate) fn grant_unveil<'a>(
     judged: &'a Result<(Found, Perms), Refusal>,
 ) -> Result<Granted<'a>, Refusal>
-    ensures { (h : History) → decided h result ≡ on_judged judged.now (λ veil. veiling h (place_of veil.0) veil.1) }
+    ensures { (h : History) → decision_for h result ≡ on_judged judged.now (λ veil. veiling h (place_of veil.0) veil.1) }
 {
     match judged {
         Ok((found, perms)) => Ok(Granted::Unveil(found, *perms)),

@@ -7,7 +7,7 @@ ghost use Rattle.pua_script.specs.declared.request.Action.TheVariants.{Symlink, 
 ghost use Rattle.pua_script.specs.declared.fault.ScriptFault.TheVariants.{BadCall, BadList, BadPath};
 
 use crate::fault::ScriptFault;
-use crate::limits::NUMBER_LIMIT;
+use crate::limits::MOST_NUMBER;
 use crate::request::{Action, Given, PathBytes, Request};
 use pua_calls::{Call, Perms, Promises};
 use pua_tree::{Fields, number_within, unspelled};
@@ -31,7 +31,7 @@ fn read_fields(alloc: Global, number: u32, fields: &[&[u8]]) -> Result<Request, 
     let Some((process, more)) = fields.split_first() else {
         return Err(ScriptFault::BadLine(number));
     };
-    let Some(process) = number_within(1, NUMBER_LIMIT, process) else {
+    let Some(process) = number_within(1, MOST_NUMBER, process) else {
         return Err(ScriptFault::BadLine(number));
     };
     let action = read_action(alloc, number, more)?;
@@ -67,7 +67,7 @@ fn read_one(alloc: Global, number: u32, word: &[u8], a: &[u8]) -> Result<Action,
     ensures { IsReadAs (action_in number (word.now ∷ a.now ∷ [])) result }
 {
     if word == b"fork".as_slice() {
-        return match number_within(1, NUMBER_LIMIT, a) {
+        return match number_within(1, MOST_NUMBER, a) {
             Some(new) => Ok(Action::Fork(new)),
             None => Err(ScriptFault::BadCall(number)),
         };

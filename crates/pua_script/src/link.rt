@@ -6,7 +6,7 @@ ghost use Rattle.pua_path.specs.declared.found.Found as found;
 ghost use Rattle.pua_path.specs.declared.text.Ending.TheVariants as ending;
 ghost use Rattle.pua_policy.specs.History.{History, StandsFor};
 ghost use Rattle.pua_script.specs.Decide.{Decision, decide_link, decide_pair, tying};
-ghost use Rattle.pua_script.specs.Judged.{decided, decision_by, on_judged};
+ghost use Rattle.pua_script.specs.Judged.{decision_for, decision_by, on_judged};
 
 use crate::granted::Granted;
 use crate::pair::{Pair, is_whole, judge_pair, node_named, spot_named};
@@ -34,7 +34,7 @@ pub(crate) fn judge_link<T: FileTree>(
 /// What a link is to change: what its old path named gets a further name, unless something is wrong
 /// with what both paths named.
 pub(crate) fn grant_link<'a>(judged: &'a Result<Pair, Refusal>) -> Result<Granted<'a>, Refusal>
-    ensures { (h : History) → decided h result ≡ on_judged judged.now (λ pair. decide_link pair.from pair.to (node_named pair.from)) }
+    ensures { (h : History) → decision_for h result ≡ on_judged judged.now (λ pair. decide_link pair.from pair.to (node_named pair.from)) }
 {
     match judged {
         Ok(pair) => decide_tie(&pair.from, &pair.to),
@@ -45,7 +45,8 @@ pub(crate) fn grant_link<'a>(judged: &'a Result<Pair, Refusal>) -> Result<Grante
 /// A further name for what was found. `ENOENT` where nothing has the old name, `EPERM` where a
 /// directory has it, and `EEXIST` where something has the new one: the first of these.
 fn decide_tie<'a>(from: &Found, to: &'a Found) -> Result<Granted<'a>, Refusal>
-    ensures { (h : History) → decided h result ≡ decide_link from.now to.now (node_named from.now) }
+    ensures { (h : History) →
+        decision_for h result ≡ decide_link from.now to.now (node_named from.now) }
 {
     let Some(node) = node_named(from) else {
         return Err(Refusal::Failed(Errno::ENOENT));

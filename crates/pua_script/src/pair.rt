@@ -5,7 +5,7 @@ ghost use Rattle.pua_path.specs.Fits.{spot_named, node_named};
 ghost use Rattle.pua_path.specs.declared.found.Found as found;
 ghost use Rattle.pua_policy.specs.History.{History, StandsFor};
 ghost use Rattle.pua_policy.specs.Verdict.{FoundFits};
-ghost use Rattle.pua_script.specs.Decide.{Decision, covers_fault, decide_objects, decide_pair, is_whole, named};
+ghost use Rattle.pua_script.specs.Decide.{Decision, covers_fault, decide_objects, decide_pair, is_whole, if_named};
 ghost use Rattle.pua_script.specs.Judged.{NameFits, on_judged, spot_now};
 
 use crate::judged::named;
@@ -54,7 +54,7 @@ fn pair_named<T: FileTree>(
     new: &[u8],
 ) -> Result<Pair, Errno>
     ensures exact { (h : History) → StandsFor process.now h → (further : found.Found → found.Found → Decision) →
-        decide_objects need.now (T.content tree.now) h ending old.now new.now further ≡ named result (λ pair. further pair.from pair.to) }
+        decide_objects need.now (T.content tree.now) h ending old.now new.now further ≡ if_named result (λ pair. further pair.from pair.to) }
     ensures fit { IfOk result (λ pair. NameFits (T.content tree.now) pair.from × NameFits (T.content tree.now) pair.to) }
 {
     let mut probe = Counted::new(tree);

@@ -10,7 +10,7 @@ ghost use Rattle.pua_path.specs.declared.text.Ending.TheVariants as ending;
 ghost use Rattle.pua_policy.specs.History.{History, StandsFor};
 ghost use Rattle.pua_policy.specs.Verdict.{or_fault};
 ghost use Rattle.pua_script.specs.Decide.{Decision, decide_pair, decide_rename, dots_fault, inside_fault, is_whole, kinds_fault, shifting, top_fault, ways_fault};
-ghost use Rattle.pua_script.specs.Judged.{NameFits, decided, decision_by, on_judged};
+ghost use Rattle.pua_script.specs.Judged.{NameFits, decision_for, decision_by, on_judged};
 
 use crate::granted::Granted;
 use crate::pair::{Pair, is_whole, judge_pair, node_named, spot_named};
@@ -42,7 +42,7 @@ pub(crate) fn grant_rename<'a, T: FileTree>(
     judged: &'a Result<Pair, Refusal>,
 ) -> Result<Granted<'a>, Refusal>
     requires { IfOk judged.now (λ pair. NameFits (T.content tree.now) pair.to) }
-    ensures { (h : History) → decided h result ≡ on_judged judged.now (λ pair. decide_rename (T.content tree.now) pair.from pair.to (node_named pair.from)) }
+    ensures { (h : History) → decision_for h result ≡ on_judged judged.now (λ pair. decide_rename (T.content tree.now) pair.from pair.to (node_named pair.from)) }
 {
     match judged {
         Ok(pair) => decide_shift(tree, &pair.from, &pair.to),
@@ -57,7 +57,7 @@ fn decide_shift<'a, T: FileTree>(
     to: &'a Found,
 ) -> Result<Granted<'a>, Refusal>
     requires { NameFits (T.content tree.now) to.now }
-    ensures { (h : History) → decided h result ≡ decide_rename (T.content tree.now) from.now to.now (node_named from.now) }
+    ensures { (h : History) → decision_for h result ≡ decide_rename (T.content tree.now) from.now to.now (node_named from.now) }
 {
     let Some(node) = node_named(from) else {
         return Err(Refusal::Failed(Errno::ENOENT));

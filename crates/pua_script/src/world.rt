@@ -163,7 +163,8 @@ impl<T: FileTree> World<T> {
     /// and where members alone ask, each row that the process couldn't touch with `c` stays, if the
     /// table asks for `c` where a name is taken away.
     pub fn run(&mut self, alloc: Global, script: &Script) -> Result<Vec<Answer>, WorldFault>
-        ensures served { IfOk result (λ told. AreServed self.old script.now told.items self.new) }
+        ensures served { IfOk result
+            (λ answers. AreServed self.old script.now answers.items self.new) }
         ensures held { IfOk result (λ _. AreHeld self.old script.now self.new) }
         ensures in_part { OnErr result (AreServedInPart self.old script.now self.new) }
     {
@@ -174,20 +175,20 @@ impl<T: FileTree> World<T> {
 
     /// Serves requests one after another, over trees.
     fn serve_each(&mut self, alloc: Global, script: &Script) -> Result<Vec<Answer>, WorldFault>
-        ensures { MatchResult result (λ told. AreDone self.old script.now told.items self.new) (λ _. AreDoneInPart self.old script.now self.new) }
+        ensures { MatchResult result (λ answers. AreDone self.old script.now answers.items self.new) (λ _. AreDoneInPart self.old script.now self.new) }
     {
         self.tree.known();
         let requests = script.requests();
-        let Ok(mut told) = Vec::with_capacity(alloc, requests.len()) else {
+        let Ok(mut answers) = Vec::with_capacity(alloc, requests.len()) else {
             return Err(WorldFault::OutOfMemory);
         };
         for request in requests {
             let answer = self.apply(request)?;
-            let Ok(()) = told.push(answer) else {
+            let Ok(()) = answers.push(answer) else {
                 return Err(WorldFault::OutOfMemory);
             };
         }
-        Ok(told)
+        Ok(answers)
     }
 }
 

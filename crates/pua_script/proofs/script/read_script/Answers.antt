@@ -15,10 +15,10 @@ loop-line-init c =
       so_far = begins 60000 (lines c.args.bytes.now) ∙ (λ i. onwards 60000 0 (sym c.new-requests.ensures.items i) (sym left i));
     }
 
-pub returns-then-number-eq-LINE_LIMIT : goal.returns-then-number-eq-LINE_LIMIT
-returns-then-number-eq-LINE_LIMIT c = λ other.
+pub returns-then-number-eq-MOST_SCRIPT_LINES : goal.returns-then-number-eq-MOST_SCRIPT_LINES
+returns-then-number-eq-MOST_SCRIPT_LINES c = λ other.
     c.loop-line.invariant.so_far
-    ∙ (λ i. onwards 60000 (c.if-number-eq-LINE_LIMIT.true i) c.loop-line.requests.items (c.in-Some.ensures.steps i))
+    ∙ (λ i. onwards 60000 (c.if-number-eq-MOST_SCRIPT_LINES.true i) c.loop-line.requests.items (c.in-Some.ensures.steps i))
     ∙ full 60000 c.loop-line.requests.items c.in-Some.line.now c.next.new.self
 
 pub overflow_add-number : goal.overflow_add-number
@@ -27,7 +27,7 @@ overflow_add-number c = let few = c.loop-line.invariant.few in omega (arith, few
 pub returns-in_err-add_request : goal.returns-in_err-add_request
 returns-in_err-add_request c =
     let few = c.loop-line.invariant.few in
-    let apart = c.if-number-eq-LINE_LIMIT.false in
+    let apart = c.if-number-eq-MOST_SCRIPT_LINES.false in
     let less : c.loop-line.number < 60000 = omega (arith, few, apart) in
     let fault = c.in_err-add_request.field-0.0 in
     let refuses : fault ≢ OutOfMemory → script c.args.bytes.now ≡ Err fault = λ other.
@@ -40,7 +40,7 @@ returns-in_err-add_request c =
 pub loop-line-preserved : goal.loop-line-preserved
 loop-line-preserved c =
     let few = c.loop-line.invariant.few in
-    let apart = c.if-number-eq-LINE_LIMIT.false in
+    let apart = c.if-number-eq-MOST_SCRIPT_LINES.false in
     let less : c.loop-line.number < 60000 = omega (arith, few, apart) in
     let next : c.loop-line.number + 1 ≡ suc c.loop-line.number = add-one c.loop-line.number in
     let added = c.in_ok-add_request.ensures in

@@ -14,7 +14,7 @@ returns-in_err-answer g c =
 
 pub returns-in_default-push : goal.returns-in_default-push
 returns-in_default-push g c =
-    let next : AreDone c.args.self.now (take (c.loop-request.request-index + 1) c.requests-requests.result.now) (c.loop-request.told.items ++ c.in_ok-answer.answer ∷ []) c.apply.new.self =
+    let next : AreDone c.args.self.now (take (c.loop-request.request-index + 1) c.requests-requests.result.now) (c.loop-request.answers.items ++ c.in_ok-answer.answer ∷ []) c.apply.new.self =
     done_next _ _ _ c.requests-requests.result.now c.loop-request.request-index _ _ c.request-item.result c.in_ok-answer.answer c.loop-request-test.true c.request-item.is refl c.in_ok-answer.ensures.tree c.loop-request.invariant c.in_ok-answer.ensures.served in
     done_before _ c.apply.new.self _ _ c.requests-requests.result.now (c.loop-request.request-index + 1) _ c.requests-requests.ensures refl next
 
@@ -27,4 +27,4 @@ pub returns : goal.returns
 returns g c =
     let past = c.loop-request-test.false in
     let all = take_all c.loop-request.request-index c.requests-requests.result.now (omega (arith, past)) in
-    subst (λ asks. AreDone c.args.self.now asks c.loop-request.told.items c.loop-request.self) (all ∙ c.requests-requests.ensures) c.loop-request.invariant
+    subst (λ asks. AreDone c.args.self.now asks c.loop-request.answers.items c.loop-request.self) (all ∙ c.requests-requests.ensures) c.loop-request.invariant
