@@ -9,7 +9,7 @@ use Rattle.pua_path.specs.declared.text.Ending.TheVariants as ending
 use Rattle.pua_path.specs.Traces.{PathTrace}
 use Rattle.pua_path.specs.declared.traced.PathFault.{PathFault}
 use Rattle.pua_calls.specs.Calls.{CallTable, PairRule, rule_of}
-use Rattle.pua_policy.specs.History.{History, kept}
+use Rattle.pua_policy.specs.History.{History, perms_kept}
 use Rattle.pua_policy.specs.Verdict.{is_unveil, nearest, object_of, or_fault}
 use Rattle.pua_calls.specs.declared.call.Call.{Call}
 use Rattle.pua_policy.specs.declared.place.Place.TheVariants.{Dir}
@@ -18,7 +18,7 @@ use Rattle.pua_script.specs.Decide.{Change, Outcome, Side, Sole, Old, New, unles
 use Rattle.pua_policy.specs.Misfits.{misfit}
 use Rattle.pua_policy.specs.declared.reason.Covering.TheVariants.{InView}
 use Rattle.pua_policy.specs.Reasons.{Promising, Holds, HasEnded, Lacks, promising, kept_or, first_kept, covering, cover_of}
-use Rattle.pua_why.specs.Reasons.{Fault, Unfit, unpromised, told_path, uncovered, faults}
+use Rattle.pua_why.specs.Reasons.{Fault, Unfit, unpromised_fault, told_path, uncovered_fault, faults}
 use Rattle.pua_why.specs.Facts.{Fact, Needs, Follows, Names, Under, needing, facts_promised, facts_found, facts_named, facts_covered, facts_under, call_trace, call_facts, name_trace, pair_facts}
 use Rattle.pua_why.specs.Texts.{answer_why, why_lines}
 use Rattle.pua_why.specs.Columns.{CoveringsIn}
@@ -40,22 +40,22 @@ chains_end table w done (first ∷ asks) ask n =
     plus_one m k = omega arith
 
 -- the first place with a veil, as a cover
-first_covers : (h : History) (places : List Place) → cover_of (first_kept (kept h) places) ≡ nearest (map (kept h) places)
+first_covers : (h : History) (places : List Place) → cover_of (first_kept (perms_kept h) places) ≡ nearest (map (perms_kept h) places)
 first_covers h [] = refl
-first_covers h (place ∷ places) = by (kept h place) (first_covers h places)
+first_covers h (place ∷ places) = by (perms_kept h place) (first_covers h places)
   where
-    by : (o : Option ℕ) → cover_of (first_kept (kept h) places) ≡ nearest (map (kept h) places) → cover_of (kept_or place o (first_kept (kept h) places)) ≡ nearest (o ∷ map (kept h) places)
+    by : (o : Option ℕ) → cover_of (first_kept (perms_kept h) places) ≡ nearest (map (perms_kept h) places) → cover_of (kept_or place o (first_kept (perms_kept h) places)) ≡ nearest (o ∷ map (perms_kept h) places)
     by (Some perms) e = refl
     by None e = e
 
-at_dirs : (h : History) (ds : List ℕ) → map (kept h) (map Dir ds) ≡ map (λ dir. kept h (Dir dir)) ds
+at_dirs : (h : History) (ds : List ℕ) → map (perms_kept h) (map Dir ds) ≡ map (λ dir. perms_kept h (Dir dir)) ds
 at_dirs h [] = refl
-at_dirs h (d ∷ ds) = ap (λ more. kept h (Dir d) ∷ more) (at_dirs h ds)
+at_dirs h (d ∷ ds) = ap (λ more. perms_kept h (Dir d) ∷ more) (at_dirs h ds)
 
 pub coverings_in : CoveringsIn
 coverings_in t h dir = by (list_any is_unveil h)
   where
-    by : (v : Bool) → cover_of (if v then first_kept (kept h) (map Dir (climb t dir)) else InView) ≡ (if v then nearest (map (λ over. kept h (Dir over)) (climb t dir)) else All)
+    by : (v : Bool) → cover_of (if v then first_kept (perms_kept h) (map Dir (climb t dir)) else InView) ≡ (if v then nearest (map (λ over. perms_kept h (Dir over)) (climb t dir)) else All)
     by true = first_covers h (map Dir (climb t dir)) ∙ ap nearest (at_dirs h (climb t dir))
     by false = refl
 
@@ -82,7 +82,7 @@ module _ (t : Tree) (table : CallTable) (h : History) (call : Call) (text : List
   further object = facts_under Sole t h object perms []
 
   facts_as : (set : ℕ) (object : Found) → promising h (rule_of table call).alternatives ≡ Holds set → (call_trace t h call text).outcome ≡ Ok object →
-      uncovered Sole object perms (covering t h object) ≡ None →
+      uncovered_fault Sole object perms (covering t h object) ≡ None →
       call_facts table t h call text ≡ Needs set ∷ map (Follows Sole) (call_trace t h call text).links ++ Names Sole object ∷ Under Sole (covering t h object) ∷ []
   facts_as set object p o u =
       (λ i. facts_promised (p i) (map (Follows Sole) (call_trace t h call text).links ++ facts_found Sole (o i) further))
@@ -97,8 +97,8 @@ grants_are_told t table h call text change e =
     wrong object = option_map (Unfit Sole object) (misfit t call (object_of t object))
 
     by : (p : Promising) → promising h (rule_of table call).alternatives ≡ p → (o : Result Found PathFault) → (call_trace t h call text).outcome ≡ o →
-        unless_refused (unpromised p) (on_named (λ fault. fault) (told_path Sole o) λ object.
-        unless_failed (λ fault. fault) (or_fault (uncovered Sole object (rule_of table call).perms (covering t h object)) (wrong object)) (Ok (change_by table call object))) ≡ Ok change →
+        unless_refused (unpromised_fault p) (on_named (λ fault. fault) (told_path Sole o) λ object.
+        unless_failed (λ fault. fault) (or_fault (uncovered_fault Sole object (rule_of table call).perms (covering t h object)) (wrong object)) (Ok (change_by table call object))) ≡ Ok change →
         FactsOf t table h call text
     by (Holds set) p (Ok object) o e = record {
       promises = set;
@@ -129,10 +129,10 @@ module _ (pair : PairRule) (t : Tree) (h : History) (end : Ending) (a b : List �
   covers old new = facts_under Old t h old pair.old.needs.perms (facts_under New t h new pair.new.needs.perms [])
 
   abbrev of_old : Found → Option Fault
-  of_old old = uncovered Old old pair.old.needs.perms (covering t h old)
+  of_old old = uncovered_fault Old old pair.old.needs.perms (covering t h old)
 
   abbrev of_new : Found → Option Fault
-  of_new new = uncovered New new pair.new.needs.perms (covering t h new)
+  of_new new = uncovered_fault New new pair.new.needs.perms (covering t h new)
 
   abbrev both : Found → Found → Option Fault
   both old new = or_fault (of_old old) (of_new new)
@@ -153,7 +153,7 @@ module _ (pair : PairRule) (t : Tree) (h : History) (end : Ending) (a b : List �
     where
       by : (p : Promising) → promising h pair.old.needs.alternatives ≡ p → (q : Promising) → promising h pair.new.needs.alternatives ≡ q →
           (o : Result Found PathFault) → first.outcome ≡ o → (n : Result Found PathFault) → second.outcome ≡ n →
-          unless_refused (unpromised p) (unless_refused (unpromised q) (on_named (λ fault. fault) (told_path Old o) λ old. on_named (λ fault. fault) (told_path New n) λ new.
+          unless_refused (unpromised_fault p) (unless_refused (unpromised_fault q) (on_named (λ fault. fault) (told_path Old o) λ old. on_named (λ fault. fault) (told_path New n) λ new.
           unless_failed (λ fault. fault) (both old new) (further old new))) ≡ Ok change → PairFactsOf pair t h end a b
       by (Holds x) p (Holds y) q (Ok old) o (Ok new) n e = record {
         old_promises = x;

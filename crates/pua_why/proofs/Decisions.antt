@@ -21,8 +21,8 @@ use Rattle.pua_path.specs.declared.traced.PathFault.{PathFault}
 use Rattle.pua_path.proofs.ForCallers.{text_traces_answer}
 use Rattle.pua_calls.specs.Promises.{holds, proc, unveil}
 use Rattle.pua_calls.specs.Calls.{CallTable, PairRule, rule_of, last_of, ending_of}
-use Rattle.pua_policy.specs.History.{History, pledged, held_for_exec, has_error, is_within, is_ended, is_locked, kept, veils, working_dir, place_fault, place_limit, unveil_fault, pledge_fault, may_any}
-use Rattle.pua_policy.specs.Verdict.{place_of, object_of, object_fault, object_named, cover, cover_fault, or_fault, found_fault, allowed_unless, if_promised, refusal_of, refused, verdict_of}
+use Rattle.pua_policy.specs.History.{History, pledged_set, held_for_exec, has_error, is_within, is_ended, is_locked, perms_kept, veils, working_dir, place_fault, most_places, unveil_fault, pledge_fault, may_any}
+use Rattle.pua_policy.specs.Verdict.{place_of, object_of, object_fault, object_named, cover, cover_fault, or_fault, found_fault, allowed_unless, if_promised, refusal_of, refusal_verdict, verdict_of}
 use Rattle.pua_policy.specs.declared.place.Place.{Place}
 use Rattle.pua_calls.specs.declared.call.Call.{Call}
 use Rattle.pua_calls.specs.declared.call.Call.TheVariants as call
@@ -33,13 +33,13 @@ use Rattle.pua_policy.specs.declared.answer.Refusal.{Refusal}
 use Rattle.pua_policy.specs.declared.answer.Refusal.TheVariants as refusal
 use Rattle.pua_policy.specs.declared.answer.Verdict.{Verdict}
 use Rattle.pua_policy.specs.declared.answer.Verdict.TheVariants as verdict
-use Rattle.pua_script.specs.Limits.{process_limit}
+use Rattle.pua_script.specs.Limits.{most_processes}
 use Rattle.pua_script.specs.Decide.{Change, NoChange, AddNode, CutRow, ShiftRow, TieRow, BeginProgram, AddEvent, CopyAs, Outcome, Decision, Side, Sole, Old, New, unless_refused, unless_failed, on_named, adding, link_node, change_by, shifting, tying, fault_if, dots_by, top_by, ways_by, kinds_by, inside_by, is_whole, given_set, is_unknown, object_by, rename_by, link_by, pair_by, veil_by, unveil_errno, refusals, decide}
 use Rattle.pua_policy.specs.Misfits.{misfit_errno}
 use Rattle.pua_policy.specs.declared.reason.Misfit.{Misfit}
 use Rattle.pua_policy.specs.declared.reason.Misfit.TheVariants.{IsDirectory, IsNoFile, IsNoDirectory, IsNotEmpty, Exists}
 use Rattle.pua_script.specs.Replay as replay
-use Rattle.pua_script.specs.Replay.{World, history_of, made, come_of, edited, edited_tree, answer_to, left_by, served}
+use Rattle.pua_script.specs.Replay.{World, history_of, change_effect, come_of, edit_effect, edited_tree, answer_to, left_by, answer_and_world}
 use Rattle.pua_script.specs.declared.request.Action.TheVariants.{OnPath, Symlink, Rename, Link, Pledge, Unveil, Lock, Fork, Exit}
 use Rattle.pua_script.specs.declared.answer.Answer.{Answer}
 use Rattle.pua_script.specs.declared.answer.Answer.TheVariants.{Gone}
@@ -49,7 +49,7 @@ use Rattle.pua_policy.specs.declared.reason.Covering.{Covering}
 use Rattle.pua_policy.specs.declared.reason.Covering.TheVariants.{InView, NoneOver, By}
 use Rattle.pua_policy.specs.Reasons.{Promising, Holds, HasEnded, Lacks, promising, may_of, covering, cover_of}
 use Rattle.pua_why.specs.Reasons as reasons
-use Rattle.pua_why.specs.Reasons.{Fault, BadTarget, LacksLetters, Unfit, Inside, UnknownPromise, AsksPromises, IsLocked, AsksLetters, NoPlaceLeft, NumberTaken, NoProcessLeft, fault_refusal, unpromised, told_path, uncovered, beyond, pledge_beyond, place_beyond, unveil_beyond, faults, reasoned, no_room, room_fault, outcome_fault, reason_of, reason_by, refusal_answer, answer_of}
+use Rattle.pua_why.specs.Reasons.{Fault, BadTarget, LacksLetters, Unfit, Inside, UnknownPromise, AsksPromises, IsLocked, AsksLetters, NoPlaceLeft, NumberTaken, NoProcessLeft, fault_refusal, unpromised_fault, told_path, uncovered_fault, beyond, pledge_beyond, place_beyond, unveil_beyond, faults, change_or_fault, no_room, room_fault, outcome_fault, reason_of, reason_by, refusal_answer, answer_of}
 use Rattle.pua_why.specs.Laws.{decision_of, ReasonsGiveDecisions, verdict_by, ReasonsGiveVerdicts, ReasonsGiveAnswers}
 use Rattle.pua_policy.proofs.ForCallers.{promisings_answer, coverings_cover}
 
@@ -107,13 +107,13 @@ when_told true fault errno e = ap (λ (r : Refusal). Some r) e
 when_told false fault errno e = refl
 
 -- promises, targets, covers and objects
-unpromised_told : (p : Promising) → Told (unpromised p) ≡ refusal_of (may_of p)
+unpromised_told : (p : Promising) → Told (unpromised_fault p) ≡ refusal_of (may_of p)
 unpromised_told (Holds set) = refl
 unpromised_told HasEnded = refl
 unpromised_told (Lacks true sets) = refl
 unpromised_told (Lacks false sets) = refl
 
-promises_told : (h : History) (sets : List ℕ) → Told (unpromised (promising h sets)) ≡ refusal_of (may_any h sets)
+promises_told : (h : History) (sets : List ℕ) → Told (unpromised_fault (promising h sets)) ≡ refusal_of (may_any h sets)
 promises_told h sets = unpromised_told (promising h sets) ∙ ap refusal_of (promisings_answer h sets)
 
 target_told : (target : List ℕ) → Told (option_map BadTarget (text_fault target)) ≡ Failing (path_fault target)
@@ -123,7 +123,7 @@ target_told target = by (text_fault target)
     by None = refl
     by (Some fault) = refl
 
-uncovered_told : (side : Side) (object : Found) (perms : ℕ) (over : Covering) → Told (uncovered side object perms over) ≡ Failing (cover_fault (cover_of over) perms)
+uncovered_told : (side : Side) (object : Found) (perms : ℕ) (over : Covering) → Told (uncovered_fault side object perms over) ≡ Failing (cover_fault (cover_of over) perms)
 uncovered_told side object perms InView = refl
 uncovered_told side object perms NoneOver = refl
 uncovered_told side object perms (By place given) = by (holds given perms)
@@ -137,7 +137,7 @@ wrong_told object None = refl
 wrong_told object (Some wrong) = refl
 
 module _ (t : Tree) (h : History) where
-  cover_told : (side : Side) (object : Found) (perms : ℕ) → Told (uncovered side object perms (covering t h object)) ≡ Failing (cover_fault (cover t h object) perms)
+  cover_told : (side : Side) (object : Found) (perms : ℕ) → Told (uncovered_fault side object perms (covering t h object)) ≡ Failing (cover_fault (cover t h object) perms)
   cover_told side object perms = uncovered_told side object perms (covering t h object) ∙ ap (λ c. Failing (cover_fault c perms)) (coverings_cover t h object)
 
   object_told : (c : Call) (object : Found) → Told (option_map (Unfit Sole object) (misfit t c (object_of t object))) ≡ Failing (object_fault t c (object_of t object))
@@ -207,10 +207,10 @@ link_told a b (Some x) = failed_told _ _ _ (Ok (tying x (spot_named b)))
 
 -- a pledge
 pledge_told : (h : History) (p x : Option ℕ) → Told (pledge_beyond h p x) ≡ Failing (pledge_fault h p x)
-pledge_told h p x = by (has_error h) (is_within p (pledged h)) (is_within x (held_for_exec h))
+pledge_told h p x = by (has_error h) (is_within p (pledged_set h)) (is_within x (held_for_exec h))
   where
     by : (w u v : Bool) →
-        Told (if w then None else or_fault (fault_if (not u) (AsksPromises false (beyond p (pledged h)))) (fault_if (not v) (AsksPromises true (beyond x (held_for_exec h)))))
+        Told (if w then None else or_fault (fault_if (not u) (AsksPromises false (beyond p (pledged_set h)))) (fault_if (not v) (AsksPromises true (beyond x (held_for_exec h)))))
         ≡ Failing (if w || (u && v) then None else Some EPERM)
     by true u v = refl
     by false false v = refl
@@ -224,7 +224,7 @@ place_told place (Some given) places perms = by (holds given perms)
     by : (v : Bool) → Told (if v then None else Some (AsksLetters place given (lacking given perms))) ≡ Failing (unveil_errno (if v then None else Some NotPermitted))
     by true = refl
     by false = refl
-place_told place None places perms = by (nat_le place_limit places)
+place_told place None places perms = by (nat_le most_places places)
   where
     by : (v : Bool) → Told (if v then Some NoPlaceLeft else None) ≡ Failing (unveil_errno (if v then Some TooManyPlaces else None))
     by true = refl
@@ -233,10 +233,10 @@ place_told place None places perms = by (nat_le place_limit places)
 unveil_told : (h : History) (place : Place) (perms : ℕ) → Told (unveil_beyond h place perms) ≡ Failing (unveil_errno (unveil_fault h place perms))
 unveil_told h place perms = by (is_locked h)
   where
-    by : (v : Bool) → Told (if v then Some IsLocked else place_beyond place (kept h place) (length (veils h)) perms)
-        ≡ Failing (unveil_errno (if v then Some NotPermitted else place_fault (kept h place) (length (veils h)) perms))
+    by : (v : Bool) → Told (if v then Some IsLocked else place_beyond place (perms_kept h place) (length (veils h)) perms)
+        ≡ Failing (unveil_errno (if v then Some NotPermitted else place_fault (perms_kept h place) (length (veils h)) perms))
     by true = refl
-    by false = place_told place (kept h place) (length (veils h)) perms
+    by false = place_told place (perms_kept h place) (length (veils h)) perms
 
 veil_told : (t : Tree) (h : History) (path : List ℕ) (letters : Option ℕ) → decision_of (veil_by faults t h path letters) ≡ veil_by refusals t h path letters
 veil_told t h path None = refl
@@ -263,7 +263,7 @@ reasons_give_decisions table t h Exit = refl
 -- a decision on a call, as a verdict
 abbrev verdict_as : Decision → Verdict
 verdict_as (Ok change) = verdict.Allowed
-verdict_as (Err r) = refused r
+verdict_as (Err r) = refusal_verdict r
 
 verdict_told : (d : Outcome Fault) → verdict_by d ≡ verdict_as (decision_of d)
 verdict_told (Ok change) = refl
@@ -294,7 +294,7 @@ verdict_is t table h c (Err errno) = refl
 
 pub reasons_give_verdicts : ReasonsGiveVerdicts
 reasons_give_verdicts t table h c text =
-    verdict_told (reasoned table t h (OnPath c text)) ∙ ap verdict_as (reasons_give_decisions table t h (OnPath c text))
+    verdict_told (change_or_fault table t h (OnPath c text)) ∙ ap verdict_as (reasons_give_decisions table t h (OnPath c text))
     ∙ decided_as t table h c (may_any h (rule_of table c).alternatives) (object_named t h c text)
     ∙ verdict_is t table h c (object_named t h c text)
 
@@ -302,7 +302,7 @@ reasons_give_verdicts t table h c text =
 abbrev told : Option Fault → Answer
 told fault = answer_of (reason_of fault)
 
-edited_told : (h : History) (r : Result (ℕ × Tree) TreeFault) → told (no_room (edited h r)) ≡ answer_to (edited h r)
+edited_told : (h : History) (r : Result (ℕ × Tree) TreeFault) → told (no_room (edit_effect h r)) ≡ answer_to (edit_effect h r)
 edited_told h (Ok x) = refl
 edited_told h (Err fault) = refl
 
@@ -310,7 +310,7 @@ edited_tree_told : (h : History) (r : Result Tree TreeFault) → told (no_room (
 edited_tree_told h (Ok x) = refl
 edited_tree_told h (Err fault) = refl
 
-made_told : (w : World) (h : History) (change : Change) → told (room_fault w h change) ≡ answer_to (made w h change)
+made_told : (w : World) (h : History) (change : Change) → told (room_fault w h change) ≡ answer_to (change_effect w h change)
 made_told w h NoChange = refl
 made_told w h (AddNode spot node) = edited_told h (add w.tree spot.0 spot.1 node)
 made_told w h (CutRow spot) = edited_told h (cut w.tree spot.0 spot.1)
@@ -318,14 +318,14 @@ made_told w h (ShiftRow old new) = edited_tree_told h (shift w.tree old.0 old.1 
 made_told w h (TieRow spot x) = edited_tree_told h (tie w.tree spot.0 spot.1 x)
 made_told w h (BeginProgram left) = refl
 made_told w h (AddEvent event) = refl
-made_told w h (CopyAs new) = by (is_some (history_of w new)) (nat_le process_limit (length w.histories))
+made_told w h (CopyAs new) = by (is_some (history_of w new)) (nat_le most_processes (length w.histories))
   where
     by : (u v : Bool) → told (or_fault (fault_if u (NumberTaken new)) (fault_if v NoProcessLeft)) ≡ answer_to (if u || v then replay.Fails EAGAIN else replay.Copies new)
     by true v = refl
     by false true = refl
     by false false = refl
 
-refusal_told : (r : Refusal) → refusal_answer r ≡ answer_to (replay.refused r)
+refusal_told : (r : Refusal) → refusal_answer r ≡ answer_to (replay.refusal_effect r)
 refusal_told (refusal.Failed errno) = refl
 refusal_told refusal.Killed = refl
 
@@ -336,11 +336,11 @@ outcome_told w h (Err fault) = refusal_told (fault_refusal fault)
 pub reasons_give_answers : ReasonsGiveAnswers
 reasons_give_answers table w ask = by (history_of w ask.process)
   where
-    living : (h : History) (v : Bool) → answer_of (if v then reasons.Ended else reason_of (outcome_fault w h (reasoned table w.tree h ask.action)))
+    living : (h : History) (v : Bool) → answer_of (if v then reasons.Ended else reason_of (outcome_fault w h (change_or_fault table w.tree h ask.action)))
         ≡ (if◌then◌else◌ {A = Answer × World} v (Gone, w) (answer_to (come_of w h (decide table w.tree h ask.action)), left_by w ask.process h (come_of w h (decide table w.tree h ask.action)))).0
     living h true = refl
-    living h false = outcome_told w h (reasoned table w.tree h ask.action) ∙ ap (λ d. answer_to (come_of w h d)) (reasons_give_decisions table w.tree h ask.action)
+    living h false = outcome_told w h (change_or_fault table w.tree h ask.action) ∙ ap (λ d. answer_to (come_of w h d)) (reasons_give_decisions table w.tree h ask.action)
 
-    by : (o : Option History) → answer_of (reason_by table w ask.action o) ≡ (served table w ask o).0
+    by : (o : Option History) → answer_of (reason_by table w ask.action o) ≡ (answer_and_world table w ask o).0
     by None = refl
     by (Some h) = living h (is_ended h)

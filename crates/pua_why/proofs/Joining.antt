@@ -5,18 +5,18 @@ use Rattle.std.proofs.lemmas.List.{drop_more}
 use Rattle.std.proofs.Math.ListN.{drop_of_length-le}
 use Rattle.std.specs.Borrow.{Bor}
 use Rattle.pua_calls.specs.Promises.{lacking}
-use Rattle.pua_why.specs.Texts.{joined, promises_text}
+use Rattle.pua_why.specs.Texts.{joined_words, promises_text}
 
 -- what is still to come, where what is between comes before each word but the first
 abbrev pub rest : List ℕ → Bool → List (List ℕ) → List ℕ
 rest between first [] = []
 rest between first (word ∷ words) = ((if first then [] else between) ++ word) ++ rest between false words
 
-pub joined_is : (between : List ℕ) (words : List (List ℕ)) → joined between words ≡ rest between true words
+pub joined_is : (between : List ℕ) (words : List (List ℕ)) → joined_words between words ≡ rest between true words
 joined_is between [] = refl
 joined_is between (word ∷ more) = after word more
   where
-    after : (word : List ℕ) (more : List (List ℕ)) → joined between (word ∷ more) ≡ word ++ rest between false more
+    after : (word : List ℕ) (more : List (List ℕ)) → joined_words between (word ∷ more) ≡ word ++ rest between false more
     after word [] = sym (append-nil word)
     after word (other ∷ more) =
         ap (λ t. (word ++ between) ++ t) (after other more)

@@ -5,7 +5,7 @@ use Rattle.pua_tree.specs.Tree.{Spot}
 use Rattle.pua_path.specs.declared.found.Found.{Found}
 use Rattle.pua_path.specs.declared.traced.PathFault.{PathFault}
 use Rattle.pua_path.specs.Traces.{PathTrace}
-use Rattle.pua_policy.specs.History.{History, held, is_locked, kept, veils}
+use Rattle.pua_policy.specs.History.{History, held_set, is_locked, perms_kept, veils}
 use Rattle.pua_policy.specs.declared.place.Place.{Place}
 use Rattle.pua_why.specs.Reasons.{IsLocked, place_beyond, unveil_beyond}
 use Rattle.pua_policy.specs.Reasons.{Promising, Holds}
@@ -45,7 +45,7 @@ both_named old one final set other side trace more p q held held_too first rest 
     ∙ (λ i. old ++ facts_promised (held i) (facts_promised (held_too i) (facts_named side trace more)))
 
 -- what is kept at a place decides, where the veils are not locked
-pub kept_beyond : (h : History) (place : Place) (perms given : ℕ) → false ≡ is_locked h → Some given ≡ kept h place → place_beyond place (Some given) (length (veils h)) perms ≡ unveil_beyond h place perms
+pub kept_beyond : (h : History) (place : Place) (perms given : ℕ) → false ≡ is_locked h → Some given ≡ perms_kept h place → place_beyond place (Some given) (length (veils h)) perms ≡ unveil_beyond h place perms
 kept_beyond h place perms given unlocked at = λ i. if unlocked i then Some IsLocked else place_beyond place (at i) (length (veils h)) perms
 
 -- held promises let the further checks decide

@@ -15,7 +15,7 @@ use Rattle.pua_script.specs.Replay.{World}
 use Rattle.pua_script.specs.Worlds.{is_fork}
 use Rattle.pua_script.specs.declared.request.Action.{Action}
 use Rattle.pua_script.specs.declared.request.Action.TheVariants.{OnPath, Symlink, Rename, Link, Pledge, Unveil, Lock, Fork, Exit}
-use Rattle.pua_why.specs.Reasons.{Fault, reasoned}
+use Rattle.pua_why.specs.Reasons.{Fault, change_or_fault}
 use Rattle.pua_why.specs.Laws.{decision_of}
 use Rattle.pua_why.specs.Checked.{process_fault, checks_fault, refused_by}
 use Rattle.pua_why.proofs.Decisions.{reasons_give_decisions}
@@ -86,9 +86,9 @@ module _ (w : World) where
   plain_decided table t h (Fork new) change other d = absurd (true≢false other)
   plain_decided table t h Exit change other d = is_plain change _ d refl
 
-  pub plain_checks : (table : CallTable) (t : Tree) (h : History) (action : Action) → IsFalse (is_fork action) → checks_fault w (reasoned table t h action) ≡ refused_by (reasoned table t h action)
-  plain_checks table t h action other = by (reasoned table t h action) refl
+  pub plain_checks : (table : CallTable) (t : Tree) (h : History) (action : Action) → IsFalse (is_fork action) → checks_fault w (change_or_fault table t h action) ≡ refused_by (change_or_fault table t h action)
+  plain_checks table t h action other = by (change_or_fault table t h action) refl
     where
-      by : (o : Outcome Fault) → reasoned table t h action ≡ o → checks_fault w o ≡ refused_by o
+      by : (o : Outcome Fault) → change_or_fault table t h action ≡ o → checks_fault w o ≡ refused_by o
       by (Err fault) is = refl
       by (Ok change) is = plain_decided table t h action change other (decisions_are_guarded table t h action change (sym (reasons_give_decisions table t h action) ∙ ap decision_of is))

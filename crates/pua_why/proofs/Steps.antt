@@ -12,7 +12,7 @@ use Rattle.pua_calls.specs.Promises.{lacking}
 use Rattle.pua_policy.specs.declared.reason.Covering.{Covering}
 use Rattle.pua_policy.specs.declared.reason.Covering.TheVariants.{InView, NoneOver, By}
 use Rattle.pua_policy.specs.Reasons.{Promising, Holds, HasEnded, Lacks, promising}
-use Rattle.pua_why.specs.Reasons.{Fault, Ends, LacksPromises, BadPath, Uncovered, LacksLetters, unpromised, told_path, uncovered}
+use Rattle.pua_why.specs.Reasons.{Fault, Ends, LacksPromises, BadPath, Uncovered, LacksLetters, unpromised_fault, told_path, uncovered_fault}
 use Rattle.pua_policy.specs.ReasonLaws.{PromisingHolds}
 use Rattle.pua_policy.proofs.ForCallers.{promisings_hold}
 
@@ -47,10 +47,10 @@ when_true false said bad Is is e = cc
 
 pub unpromised_true : (h : History) (sets : List ℕ) (bad : Fault) (Is : Fault → Type 0) →
     (is_ended h ≡ true → Is Ends) → ((error : Bool) (lacks : List ℕ) → PromisingHolds h sets (Lacks error lacks) → Is (LacksPromises error lacks)) →
-    unpromised (promising h sets) ≡ Some bad → Is bad
+    unpromised_fault (promising h sets) ≡ Some bad → Is bad
 unpromised_true h sets bad Is ends lacks e = by (promising h sets) (promisings_hold h sets) e
   where
-    by : (p : Promising) → PromisingHolds h sets p → unpromised p ≡ Some bad → Is bad
+    by : (p : Promising) → PromisingHolds h sets p → unpromised_fault p ≡ Some bad → Is bad
     by (Holds set) is e = cc
     by HasEnded is e = let same : Ends ≡ bad = cc in subst Is same (ends is)
     by (Lacks error sets) is e = let same : LacksPromises error sets ≡ bad = cc in subst Is same (lacks error sets is)
@@ -58,7 +58,7 @@ unpromised_true h sets bad Is ends lacks e = by (promising h sets) (promisings_h
 pub uncovered_true : (side : Side) (object : Found) (perms : ℕ) (over : Covering) (bad : Fault) (Is : Fault → Type 0) →
     (over ≡ NoneOver → Is (Uncovered side object)) →
     ((place : Place) (given : ℕ) → over ≡ By place given → holds given perms ≡ false → Is (LacksLetters side place given (lacking given perms))) →
-    uncovered side object perms over ≡ Some bad → Is bad
+    uncovered_fault side object perms over ≡ Some bad → Is bad
 uncovered_true side object perms InView bad Is none lacks e = cc
 uncovered_true side object perms NoneOver bad Is none lacks e = let same : Uncovered side object ≡ bad = cc in subst Is same (none refl)
 uncovered_true side object perms (By place given) bad Is none lacks e = by (holds given perms) refl e

@@ -16,21 +16,21 @@ use Rattle.pua_path.specs.Traces.{text_fault, trace_of_text}
 use Rattle.pua_path.specs.declared.traced.TextFault.{TextFault}
 use Rattle.pua_calls.specs.Promises.{holds, proc, unveil}
 use Rattle.pua_calls.specs.Calls.{CallTable, PairRule, rule_of}
-use Rattle.pua_policy.specs.History.{History, pledged, held_for_exec, has_error, is_within, is_locked, kept, veils, working_dir, place_limit}
+use Rattle.pua_policy.specs.History.{History, pledged_set, held_for_exec, has_error, is_within, is_locked, perms_kept, veils, working_dir, most_places}
 use Rattle.pua_policy.specs.Verdict.{place_of, or_fault}
 use Rattle.pua_policy.specs.declared.place.Place.{Place}
 use Rattle.pua_calls.specs.declared.call.Call.TheVariants as call
-use Rattle.pua_script.specs.Limits.{process_limit}
+use Rattle.pua_script.specs.Limits.{most_processes}
 use Rattle.pua_script.specs.Decide.{Change, NoChange, AddNode, CutRow, ShiftRow, TieRow, BeginProgram, AddEvent, CopyAs, Outcome, Side, Sole, Old, New, unless_refused, unless_failed, dots_by, top_by, kinds_by, inside_by, is_whole, given_set, is_unknown, adding, link_node, shifting, rename_by, link_by, pair_by, veil_by}
 use Rattle.pua_policy.specs.declared.reason.Misfit.TheVariants.{Missing, Exists, IsDirectory, IsNoFile, IsNoDirectory, IsNotEmpty, ByDot, ByDotDot, ByNothing}
-use Rattle.pua_script.specs.Replay.{World, Fails, history_of, made, effect, come_of, edited, edited_tree}
+use Rattle.pua_script.specs.Replay.{World, Fails, history_of, change_effect, effect, come_of, edit_effect, edited_tree}
 use Rattle.pua_script.specs.declared.request.Given.{Given}
 use Rattle.pua_script.specs.declared.request.Action.{Action}
 use Rattle.pua_script.specs.declared.request.Action.TheVariants.{OnPath, Symlink, Rename, Link, Pledge, Unveil, Lock, Fork, Exit}
 use Rattle.pua_calls.specs.Promises.{lacking}
 use Rattle.pua_policy.specs.declared.reason.Covering.TheVariants.{By}
 use Rattle.pua_policy.specs.Reasons.{promising, covering}
-use Rattle.pua_why.specs.Reasons.{Fault, Ends, LacksPromises, BadTarget, BadPath, Uncovered, LacksLetters, Unfit, Inside, UnknownPromise, AsksPromises, IsLocked, UnknownLetter, AsksLetters, NoPlaceLeft, NumberTaken, NoProcessLeft, NoRoom, unpromised, beyond, asks_beyond, place_beyond, unveil_beyond, faults, reasoned, no_room, room_fault, outcome_fault}
+use Rattle.pua_why.specs.Reasons.{Fault, Ends, LacksPromises, BadTarget, BadPath, Uncovered, LacksLetters, Unfit, Inside, UnknownPromise, AsksPromises, IsLocked, UnknownLetter, AsksLetters, NoPlaceLeft, NumberTaken, NoProcessLeft, NoRoom, unpromised_fault, beyond, asks_beyond, place_beyond, unveil_beyond, faults, change_or_fault, no_room, room_fault, outcome_fault}
 use Rattle.pua_why.specs.Facts.{name_trace}
 use Rattle.pua_why.specs.Laws.{CallFaultHolds, decision_of}
 use Rattle.pua_why.specs.Truths.{PromiseFaultHolds, SymlinkFaultHolds, side_outcome, PairFaultHolds, PledgeFaultHolds, UnveilFaultHolds, CheckFaultHolds, CheckFaultsHold, RoomFaultHolds, RequestFaultHolds, RequestFaultsHold, FullTreesAreFull}
@@ -67,7 +67,7 @@ target_true table t h target path bad e = by (text_fault target) refl e
     by None o e = cc
     by (Some fault) o e = let same : BadTarget fault ≡ bad = cc in subst (SymlinkFaultHolds table t h target path) same o
 
-symlink_true : (table : CallTable) (t : Tree) (h : History) (target path : List ℕ) (fault : Fault) → reasoned table t h (Symlink target path) ≡ Err fault → SymlinkFaultHolds table t h target path fault
+symlink_true : (table : CallTable) (t : Tree) (h : History) (target path : List ℕ) (fault : Fault) → change_or_fault table t h (Symlink target path) ≡ Err fault → SymlinkFaultHolds table t h target path fault
 symlink_true table t h target path fault e =
     refused_true _ _ fault (SymlinkFaultHolds table t h target path)
     (λ bad e. unpromised_true h (rule_of table call.Symlink).alternatives bad (SymlinkFaultHolds table t h target path) (λ ended. ended) (λ error lacks is. is) e)
@@ -162,7 +162,7 @@ asks_true : (h : History) (p x : Given) (of_exec : Bool) (request given : Option
 asks_true h p x of_exec request given bad is e =
     when_true (not (is_within request given)) (AsksPromises of_exec (beyond request given)) bad (PledgeFaultHolds h p x) (λ v. is (not-true (is_within request given) v)) e
 
-pledge_true : (table : CallTable) (t : Tree) (h : History) (p x : Given) (fault : Fault) → reasoned table t h (Pledge p x) ≡ Err fault → PledgeFaultHolds h p x fault
+pledge_true : (table : CallTable) (t : Tree) (h : History) (p x : Given) (fault : Fault) → change_or_fault table t h (Pledge p x) ≡ Err fault → PledgeFaultHolds h p x fault
 pledge_true table t h p x fault e =
     failed_true _ _ fault (PledgeFaultHolds h p x)
     (λ bad e. when_true (is_unknown p || is_unknown x) (UnknownPromise (not (is_unknown p))) bad (PledgeFaultHolds h p x) (λ v. unknown (is_unknown p) refl v) e)
@@ -173,11 +173,11 @@ pledge_true table t h p x fault e =
     unknown false is e = e
 
     more : (bad : Fault) (v : Bool) → has_error h ≡ v →
-        (if v then None else or_fault (asks_beyond false (given_set p) (pledged h)) (asks_beyond true (given_set x) (held_for_exec h))) ≡ Some bad → PledgeFaultHolds h p x bad
+        (if v then None else or_fault (asks_beyond false (given_set p) (pledged_set h)) (asks_beyond true (given_set x) (held_for_exec h))) ≡ Some bad → PledgeFaultHolds h p x bad
     more bad true v e = cc
     more bad false v e =
         either_true _ _ bad (PledgeFaultHolds h p x)
-        (asks_true h p x false (given_set p) (pledged h) bad (λ lacks. (v, lacks, refl)))
+        (asks_true h p x false (given_set p) (pledged_set h) bad (λ lacks. (v, lacks, refl)))
         (asks_true h p x true (given_set x) (held_for_exec h) bad (λ lacks. (v, lacks, refl))) e
 
 -- an unveil
@@ -185,24 +185,24 @@ module _ (t : Tree) (h : History) (path : List ℕ) where
   abbrev Veil : Option ℕ → Fault → Type 0
   Veil letters = UnveilFaultHolds t h path letters
 
-  place_true : (place : Place) (o : Option ℕ) (perms : ℕ) (bad : Fault) → kept h place ≡ o → place_beyond place o (length (veils h)) perms ≡ Some bad → Veil (Some perms) bad
+  place_true : (place : Place) (o : Option ℕ) (perms : ℕ) (bad : Fault) → perms_kept h place ≡ o → place_beyond place o (length (veils h)) perms ≡ Some bad → Veil (Some perms) bad
   place_true place (Some given) perms bad is e = by (holds given perms) refl e
     where
       by : (v : Bool) → holds given perms ≡ v → (if v then None else Some (AsksLetters place given (lacking given perms))) ≡ Some bad → Veil (Some perms) bad
       by true v e = cc
       by false v e = let same : AsksLetters place given (lacking given perms) ≡ bad = cc in subst (Veil (Some perms)) same (perms, refl, is, v, refl)
-  place_true place None perms bad is e = by (nat_le place_limit (length (veils h))) refl e
+  place_true place None perms bad is e = by (nat_le most_places (length (veils h))) refl e
     where
-      by : (v : Bool) → nat_le place_limit (length (veils h)) ≡ v → (if v then Some NoPlaceLeft else None) ≡ Some bad → Veil (Some perms) bad
+      by : (v : Bool) → nat_le most_places (length (veils h)) ≡ v → (if v then Some NoPlaceLeft else None) ≡ Some bad → Veil (Some perms) bad
       by true v e = let same : NoPlaceLeft ≡ bad = cc in subst (Veil (Some perms)) same v
       by false v e = cc
 
   beyond_true : (place : Place) (perms : ℕ) (bad : Fault) → unveil_beyond h place perms ≡ Some bad → Veil (Some perms) bad
   beyond_true place perms bad e = by (is_locked h) refl e
     where
-      by : (v : Bool) → is_locked h ≡ v → (if v then Some IsLocked else place_beyond place (kept h place) (length (veils h)) perms) ≡ Some bad → Veil (Some perms) bad
+      by : (v : Bool) → is_locked h ≡ v → (if v then Some IsLocked else place_beyond place (perms_kept h place) (length (veils h)) perms) ≡ Some bad → Veil (Some perms) bad
       by true v e = let same : IsLocked ≡ bad = cc in subst (Veil (Some perms)) same v
-      by false v e = place_true place (kept h place) perms bad refl e
+      by false v e = place_true place (perms_kept h place) perms bad refl e
 
   veil_true : (letters : Option ℕ) (fault : Fault) → veil_by faults t h path letters ≡ Err fault → Veil letters fault
   veil_true None fault e = subst (Veil None) (same_fault UnknownLetter fault e) refl
@@ -210,7 +210,7 @@ module _ (t : Tree) (h : History) (path : List ℕ) where
       named_true Sole (trace_of_text t (working_dir h) ending.Dot path Followed).outcome _ fault (Veil (Some perms)) (λ bad o. o)
       (λ object o e. failed_true _ _ fault (Veil (Some perms)) (λ bad e. beyond_true (place_of object) perms bad e) (λ granted. cc) e) e
 
-unveil_true : (table : CallTable) (t : Tree) (h : History) (path : List ℕ) (letters : Option ℕ) (fault : Fault) → reasoned table t h (Unveil path letters) ≡ Err fault → UnveilFaultHolds t h path letters fault
+unveil_true : (table : CallTable) (t : Tree) (h : History) (path : List ℕ) (letters : Option ℕ) (fault : Fault) → change_or_fault table t h (Unveil path letters) ≡ Err fault → UnveilFaultHolds t h path letters fault
 unveil_true table t h path letters fault e =
     refused_true _ _ fault (UnveilFaultHolds t h path letters)
     (λ bad e. unpromised_true h (unveil ∷ []) bad (UnveilFaultHolds t h path letters) (λ ended. ended) (λ error lacks is. is) e)
@@ -218,7 +218,7 @@ unveil_true table t h path letters fault e =
     (λ bad e. when_true (is_locked h) IsLocked bad (UnveilFaultHolds t h path letters) (λ v. v) e) (λ e. veil_true t h path letters fault e) e) e
 
 -- promises alone
-promise_true : (h : History) (sets : List ℕ) (change : Change) (fault : Fault) → unless_refused (unpromised (promising h sets)) (Ok change) ≡ Err fault → PromiseFaultHolds h sets fault
+promise_true : (h : History) (sets : List ℕ) (change : Change) (fault : Fault) → unless_refused (unpromised_fault (promising h sets)) (Ok change) ≡ Err fault → PromiseFaultHolds h sets fault
 promise_true h sets change fault e =
     refused_true _ _ fault (PromiseFaultHolds h sets)
     (λ bad e. unpromised_true h sets bad (PromiseFaultHolds h sets) (λ ended. ended) (λ error lacks is. is) e) (λ granted. cc) e
@@ -235,7 +235,7 @@ check_faults_hold table t h (Fork new) fault e = promise_true h (proc ∷ []) _ 
 check_faults_hold table t h Exit fault e = cc
 
 -- the room of a change
-edited_true : (w : World) (h : History) (fault : Fault) (r : Result (ℕ × Tree) TreeFault) → no_room (edited h r) ≡ Some fault → (fault ≡ NoRoom) × (edited h r ≡ Fails ENOSPC)
+edited_true : (w : World) (h : History) (fault : Fault) (r : Result (ℕ × Tree) TreeFault) → no_room (edit_effect h r) ≡ Some fault → (fault ≡ NoRoom) × (edit_effect h r ≡ Fails ENOSPC)
 edited_true w h fault (Ok x) e = cc
 edited_true w h fault (Err bad) e = (cc, refl)
 
@@ -254,12 +254,12 @@ room_true w h (AddEvent event) fault e = cc
 room_true w h (CopyAs new) fault e =
     either_true _ _ fault (RoomFaultHolds w h (CopyAs new))
     (when_true (is_some (history_of w new)) (NumberTaken new) fault (RoomFaultHolds w h (CopyAs new)) (λ v. (refl, v)))
-    (when_true (nat_le process_limit (length w.histories)) NoProcessLeft fault (RoomFaultHolds w h (CopyAs new)) (λ v. v)) e
+    (when_true (nat_le most_processes (length w.histories)) NoProcessLeft fault (RoomFaultHolds w h (CopyAs new)) (λ v. v)) e
 
 pub request_faults_hold : RequestFaultsHold
-request_faults_hold table w h action fault e = by (reasoned table w.tree h action) refl e
+request_faults_hold table w h action fault e = by (change_or_fault table w.tree h action) refl e
   where
-    by : (d : Outcome Fault) → reasoned table w.tree h action ≡ d → outcome_fault w h d ≡ Some fault → RequestFaultHolds table w h action fault
+    by : (d : Outcome Fault) → change_or_fault table w.tree h action ≡ d → outcome_fault w h d ≡ Some fault → RequestFaultHolds table w h action fault
     by (Ok change) is e = inr (record { change = change; granted = is; holds = room_true w h change fault e })
     by (Err bad) is e = let same : bad ≡ fault = cc in inl (check_faults_hold table w.tree h action fault (is ∙ ap (λ (x : Fault). Err x) same))
 
@@ -275,7 +275,7 @@ never_full table t h Lock is = is
 never_full table t h (Fork new) is = is
 never_full table t h Exit is = is
 
-full_made : (w : World) (h : History) (change : Change) → RoomFaultHolds w h change NoRoom → made w h change ≡ Fails ENOSPC
+full_made : (w : World) (h : History) (change : Change) → RoomFaultHolds w h change NoRoom → change_effect w h change ≡ Fails ENOSPC
 full_made w h NoChange is = is
 full_made w h (AddNode spot node) is = is
 full_made w h (CutRow spot) is = is
@@ -286,9 +286,9 @@ full_made w h (AddEvent event) is = is
 full_made w h (CopyAs new) is = absurd is
 
 pub full_trees_are_full : FullTreesAreFull
-full_trees_are_full table w h action formed e = (requests_lack table w h action formed).exact.0 (by (reasoned table w.tree h action) refl e)
+full_trees_are_full table w h action formed e = (requests_lack table w h action formed).exact.0 (by (change_or_fault table w.tree h action) refl e)
   where
-    by : (d : Outcome Fault) → reasoned table w.tree h action ≡ d → outcome_fault w h d ≡ Some NoRoom → effect table w h action ≡ Fails ENOSPC
+    by : (d : Outcome Fault) → change_or_fault table w.tree h action ≡ d → outcome_fault w h d ≡ Some NoRoom → effect table w h action ≡ Fails ENOSPC
     by (Ok change) is e =
         ap (come_of w h) (sym (reasons_give_decisions table w.tree h action) ∙ ap decision_of is) ∙ full_made w h change (room_true w h change NoRoom e)
     by (Err bad) is e =

@@ -3,10 +3,10 @@ use Rattle.std.proofs.Common.{◌≡◌, ℕ, List, [], ◌∷◌, map, Some, No
 use Rattle.std.specs.Prelude.{if◌then◌else◌, ◌==◌, find, is_none, is_some, is_ok, not}
 use Rattle.std.specs.List.{slice_split}
 use Rattle.pua_path.specs.declared.errno.Errno.{Errno}
-use Rattle.pua_calls.specs.Promises.{joined, union_of, promise_of, promises_of, letter_of}
+use Rattle.pua_calls.specs.Promises.{union_or_fault, union_of, promise_of, promises_of, letter_of}
 use Rattle.pua_why.specs.Unknown.{unknown_word, UnknownsAreTold}
 
-joined_ok : (set : ℕ) (r : Result ℕ Errno) → is_ok (joined set r) ≡ is_ok r
+joined_ok : (set : ℕ) (r : Result ℕ Errno) → is_ok (union_or_fault set r) ≡ is_ok r
 joined_ok set (Ok more) = refl
 joined_ok set (Err errno) = refl
 

@@ -11,7 +11,7 @@ use Rattle.pua_script.specs.Requests.{Asked}
 use Rattle.pua_script.specs.Scripts.{script}
 use Rattle.pua_script.specs.Replay.{new_world}
 use Rattle.pua_script.specs.declared.fault.ScriptFault.{ScriptFault}
-use Rattle.pua_script.specs.Examples.{root_alone, example, ordered}
+use Rattle.pua_script.specs.Examples.{root_alone, example, ordered_tree}
 use Rattle.pua_why.specs.Texts.{why_lines, chain, promises_text}
 
 abbrev pub lines_over : CallTable → Result Tree ListingFault → Result (List Asked) ScriptFault → List (List ℕ)
@@ -69,13 +69,13 @@ pub record WhyRows : Type 0 where
       codes "1 ok" ∷ codes "2 ok" ∷ codes "3 ok" ∷ codes "4 ok" ∷ codes "5 ENOENT no veil on /d or above since line 3" ∷ []
   pub execs : why_of example (codes "1 pledge stdio,exec stdio,rpath" ∷ codes "1 exec /tmp/sh" ∷ codes "1 stat /" ∷ codes "1 chmod /" ∷ []) ≡
       codes "1 ok" ∷ codes "2 ok" ∷ codes "3 ok" ∷ codes "4 killed no fattr since line 1" ∷ []
-  pub renames : why_of ordered (codes "1 rename /no /x" ∷ codes "1 rename /d /d/e" ∷ codes "1 rename /f /d" ∷ codes "1 rename /d/e /f" ∷ []) ≡
+  pub renames : why_of ordered_tree (codes "1 rename /no /x" ∷ codes "1 rename /d /d/e" ∷ codes "1 rename /f /d" ∷ codes "1 rename /d/e /f" ∷ []) ≡
       codes "1 ENOENT old: /no is missing" ∷ codes "2 EINVAL new: /d/e is inside /d" ∷ codes "3 EISDIR new: /d is a directory" ∷ codes "4 ENOTDIR new: /f is no directory" ∷ []
-  pub more_renames : why_of ordered (codes "1 rename /d /d/e" ∷ codes "1 rename /d/. /x" ∷ codes "1 rename / /x" ∷ codes "1 rename /d/f /no/x" ∷ []) ≡
+  pub more_renames : why_of ordered_tree (codes "1 rename /d /d/e" ∷ codes "1 rename /d/. /x" ∷ codes "1 rename / /x" ∷ codes "1 rename /d/f /no/x" ∷ []) ≡
       codes "1 EINVAL new: /d/e is inside /d" ∷ codes "2 EINVAL old: path ends in ." ∷ codes "3 EBUSY old: path has no component" ∷ codes "4 ENOENT new: /no is missing" ∷ []
-  pub links : why_of ordered (codes "1 link /d /x" ∷ codes "1 link /f /d/f" ∷ codes "1 link /f/x /y" ∷ codes "1 link /no /y" ∷ []) ≡
+  pub links : why_of ordered_tree (codes "1 link /d /x" ∷ codes "1 link /f /d/f" ∷ codes "1 link /f/x /y" ∷ codes "1 link /no /y" ∷ []) ≡
       codes "1 EPERM old: /d is a directory" ∷ codes "2 EEXIST new: /d/f exists" ∷ codes "3 ENOTDIR old: /f is no directory" ∷ codes "4 ENOENT old: /no is missing" ∷ []
-  pub veiled_renames : why_of ordered (codes "1 unveil /d rwc" ∷ codes "1 unveil /d/e r" ∷ codes "1 rename /d/f /x" ∷ codes "1 rename /d/f /d/e/y" ∷ []) ≡
+  pub veiled_renames : why_of ordered_tree (codes "1 unveil /d rwc" ∷ codes "1 unveil /d/e r" ∷ codes "1 rename /d/f /x" ∷ codes "1 rename /d/f /d/e/y" ∷ []) ≡
       codes "1 ok" ∷ codes "2 ok" ∷ codes "3 ENOENT new: no veil on /x or above since line 1" ∷ codes "4 EACCES new: no c in veil r on /d/e since line 2" ∷ []
   pub through_links : chain_of example (codes "1 unveil /etc r" ∷ []) (codes "1 stat /t/up/passwd") ≡
       codes "needs rpath" ∷ codes "link /t to tmp" ∷ codes "link /tmp/up to ../etc" ∷ codes "names file /etc/passwd" ∷ codes "veil r on /etc since line 1" ∷ codes "ok" ∷ []
@@ -83,17 +83,17 @@ pub record WhyRows : Type 0 where
       codes "needs rpath" ∷ codes "link /tmp/up to ../etc" ∷ codes "names file /etc/passwd" ∷ codes "ENOENT no veil on /etc/passwd or above since line 1" ∷ []
   pub no_promise : chain_of example (codes "1 pledge stdio -" ∷ []) (codes "1 stat /") ≡
       codes "killed no rpath since line 1" ∷ []
-  pub two_paths : chain_of ordered (codes "1 unveil /d rwc" ∷ []) (codes "1 rename /d/f /d/h") ≡
+  pub two_paths : chain_of ordered_tree (codes "1 unveil /d rwc" ∷ []) (codes "1 rename /d/f /d/h") ≡
       codes "needs cpath" ∷ codes "old: names file /d/f" ∷ codes "new: names missing /d/h" ∷ codes "old: veil rwc on /d since line 1" ∷ codes "new: veil rwc on /d since line 1" ∷ codes "ok" ∷ []
   pub no_veils : chain_of example ([]) (codes "1 open-w /etc/passwd") ≡
       codes "needs wpath" ∷ codes "names file /etc/passwd" ∷ codes "no veils" ∷ codes "ok" ∷ []
   pub another_veil : chain_of example (codes "1 unveil /etc r" ∷ []) (codes "1 unveil /etc/passwd rw") ≡
       codes "needs unveil" ∷ codes "names file /etc/passwd" ∷ codes "ok" ∷ []
-  pub by_kernel : why_by openbsd_table ordered (codes "1 pledge stdio,cpath -" ∷ codes "1 rename /f /g" ∷ []) ≡
+  pub by_kernel : why_by openbsd_table ordered_tree (codes "1 pledge stdio,cpath -" ∷ codes "1 rename /f /g" ∷ []) ≡
       codes "1 ok" ∷ codes "2 killed no rpath since line 1" ∷ []
-  pub by_kernel_new : why_by openbsd_table ordered (codes "1 pledge stdio,rpath -" ∷ codes "1 link /f /g" ∷ []) ≡
+  pub by_kernel_new : why_by openbsd_table ordered_tree (codes "1 pledge stdio,rpath -" ∷ codes "1 link /f /g" ∷ []) ≡
       codes "1 ok" ∷ codes "2 killed no cpath since line 1" ∷ []
-  pub kernel_pair : chain_by openbsd_table ordered [] (codes "1 rename /d/f /d/h") ≡
+  pub kernel_pair : chain_by openbsd_table ordered_tree [] (codes "1 rename /d/f /d/h") ≡
       codes "needs cpath,rpath" ∷ codes "old: names file /d/f" ∷ codes "new: names missing /d/h" ∷ codes "old: no veils" ∷ codes "new: no veils" ∷ codes "ok" ∷ []
 
 pub why_rows : WhyRows

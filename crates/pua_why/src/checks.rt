@@ -10,7 +10,8 @@ ghost use Rattle.pua_policy.specs.Verdict.{place_of};
 ghost use Rattle.pua_policy.specs.declared.reason.Covering.TheVariants.{By};
 ghost use Rattle.pua_script.specs.Decide.{Change, call_by, object_by, symlink_by, unveil_by, veil_by};
 ghost use Rattle.pua_why.specs.Checked.{refused_by};
-ghost use Rattle.pua_why.specs.Reasons.{faults, place_beyond, uncovered, unpromised, unveil_beyond};
+ghost use Rattle.pua_why.specs.Reasons.{faults, place_beyond, uncovered_fault, unpromised_fault};
+ghost use Rattle.pua_why.specs.Reasons.{unveil_beyond};
 ghost use Rattle.pua_why.specs.Seen.{fault_seen, side_seen};
 
 use crate::told::{Fault, Side};
@@ -20,7 +21,7 @@ use pua_path::{
     Counted, Ending, Found, Last, Links, PathFault, PathText, Probe, text_fault, trace,
 };
 use pua_policy::judge::misfit;
-use pua_policy::{Covering, PLACE_LIMIT, Place, Process, Promising};
+use pua_policy::{Covering, MOST_PLACES, Place, Process, Promising};
 use pua_tree::{FileTree, NodeId, OutOfMemory};
 use std::alloc::Global;
 
@@ -53,7 +54,7 @@ pub(crate) fn traced<'t, P: Probe<'t>>(
 /// The fault of promises: none of these sets is held.
 pub(crate) fn promises_fault<'s>(process: &Process, sets: &'s [Promises]) -> Option<Fault<'s>>
     ensures { (h : History) → StandsFor process.now h →
-        option_map fault_seen result ≡ unpromised (promising h sets.now) }
+        option_map fault_seen result ≡ unpromised_fault (promising h sets.now) }
 {
     match process.promising(sets) {
         Promising::Holds(_) => None,
@@ -65,7 +66,7 @@ pub(crate) fn promises_fault<'s>(process: &Process, sets: &'s [Promises]) -> Opt
 /// The fault of promises: this one set is not held.
 pub(crate) fn promise_fault<'s>(process: &Process, set: Promises) -> Option<Fault<'s>>
     ensures { (h : History) → StandsFor process.now h →
-        option_map fault_seen result ≡ unpromised (promising h (set ∷ [])) }
+        option_map fault_seen result ≡ unpromised_fault (promising h (set ∷ [])) }
 {
     match process.promising(&[set]) {
         Promising::Holds(_) => None,
@@ -87,7 +88,8 @@ pub(crate) fn cover_fault<'s, 't, P: Probe<'t>>(
 ) -> Option<Fault<'s>>
     ensures exact { FoundFits (P.tree probe.old) found.now →
         (h : History) → StandsFor process.now h → option_map fault_seen result
-        ≡ uncovered (side_seen side) found.now perms (covering (P.tree probe.old) h found.now) }
+        ≡ uncovered_fault (side_seen side) found.now perms
+        (covering (P.tree probe.old) h found.now) }
     ensures tree { P.tree probe.new ≡ P.tree probe.old }
 {
     let over = process.covering(probe, found);
@@ -97,7 +99,7 @@ pub(crate) fn cover_fault<'s, 't, P: Probe<'t>>(
 /// The fault of an object that is covered so, where these permissions are needed.
 fn uncovered<'s>(side: Side, found: &Found, over: &Covering, perms: Perms) -> Option<Fault<'s>>
     ensures { option_map fault_seen result
-        ≡ uncovered (side_seen side) found.now perms over.now }
+        ≡ uncovered_fault (side_seen side) found.now perms over.now }
 {
     match over {
         Covering::InView => None,
@@ -109,7 +111,7 @@ fn uncovered<'s>(side: Side, found: &Found, over: &Covering, perms: Perms) -> Op
 /// The fault of an object whose veil is kept at this place, where these permissions are needed.
 fn lacking<'s>(side: Side, place: &Place, given: Perms, perms: Perms) -> Option<Fault<'s>>
     ensures { (object : founds.Found) → option_map fault_seen result
-        ≡ uncovered (side_seen side) object perms (By place.now given) }
+        ≡ uncovered_fault (side_seen side) object perms (By place.now given) }
 {
     if given.contains(perms) {
         return None;
@@ -260,7 +262,7 @@ fn place_fault<'s>(
     if let Some(given) = process.kept(&place) {
         return Ok(beyond_kept(place, given, perms));
     }
-    if process.places(alloc)?.len() < PLACE_LIMIT {
+    if process.places(alloc)?.len() < MOST_PLACES {
         Ok(None)
     } else {
         Ok(Some(Fault::NoPlaceLeft))

@@ -14,7 +14,7 @@ use crate::checks::promise_fault;
 use crate::told::Fault;
 use pua_calls::Promises;
 use pua_policy::Process;
-use pua_script::{Given, PROCESS_LIMIT, World};
+use pua_script::{Given, MOST_PROCESSES, World};
 use pua_tree::{FileTree, OutOfMemory};
 use std::alloc::Global;
 
@@ -101,7 +101,7 @@ pub(crate) fn process_fault<'s, T: FileTree>(
     if world.process(new).is_some() {
         return Ok(Some(Fault::NumberTaken(new)));
     }
-    if world.numbers(alloc)?.len() < PROCESS_LIMIT {
+    if world.numbers(alloc)?.len() < MOST_PROCESSES {
         Ok(None)
     } else {
         Ok(Some(Fault::NoProcessLeft))

@@ -14,7 +14,7 @@ ghost use Rattle.pua_script.specs.Worlds.{StandsForWorld};
 ghost use Rattle.pua_why.specs.Facts.{Fact as Meant, Follows, call_facts, call_trace, facts};
 ghost use Rattle.pua_why.specs.Facts.{facts_named, facts_of, facts_promised, facts_under};
 ghost use Rattle.pua_why.specs.Facts.{names_facts, pair_facts, unveil_facts};
-ghost use Rattle.pua_why.specs.Reasons.{uncovered};
+ghost use Rattle.pua_why.specs.Reasons.{uncovered_fault};
 ghost use Rattle.pua_why.specs.Seen.{fact_seen, on_named_fact, side_seen};
 
 use crate::checks::traced;
@@ -336,7 +336,7 @@ impl Passed {
 /// Whether what covers an object leaves it these permissions.
 fn leaves(over: &Covering, perms: Perms) -> bool
     ensures { (side : Seen) (object : founds.Found) →
-        result ≡ is_none (uncovered side object perms over.now) }
+        result ≡ is_none (uncovered_fault side object perms over.now) }
 {
     match over {
         Covering::InView => true,
