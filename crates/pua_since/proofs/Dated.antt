@@ -10,7 +10,7 @@ use Rattle.pua_script.specs.Replay.{World, history_of, apply, world_after}
 use Rattle.pua_script.specs.declared.request.Action.{Action}
 use Rattle.pua_script.specs.declared.answer.Answer.{Answer}
 use Rattle.pua_script.specs.declared.answer.Answer.TheVariants.{Failed}
-use Rattle.pua_why.specs.Checked.{checked, granted_by, told_by}
+use Rattle.pua_why.specs.Checked.{reason_checked, granted_by, told_by}
 use Rattle.pua_why.specs.Keys.{reason_key}
 use Rattle.pua_why.specs.Reasons.{Ends, LacksPromises, BadTarget, BadPath, Uncovered, LacksLetters, Unfit, Inside, UnknownPromise, AsksPromises, IsLocked, UnknownLetter, AsksLetters, NoPlaceLeft, NumberTaken, NoProcessLeft, NoRoom, Reason, NeverMade, Ended, Refused, Granted, reason, reason_by}
 use Rattle.pua_why.specs.Since.{Test, forebear, since}
@@ -107,19 +107,19 @@ module _ (table : CallTable) (w : World) (done : List Asked) (ask : Asked) (date
 
   -- at each world and process the checks tell its key where it is the reason's
   tests_agree : (action : Action) → action ≡ ask.action → (key : List ℕ) → key ≡ reason_key told → (v : World) (process : ℕ) →
-      same_bytes (reason_key (checked table v (record { process = process; action = action }))) key ≡ has_key table ask (reason_key told) v process
+      same_bytes (reason_key (reason_checked table v (record { process = process; action = action }))) key ≡ has_key table ask (reason_key told) v process
   tests_agree action is key keyed v process =
-      (λ i. same_bytes (reason_key (checked table v (record { process = process; action = is i }))) (keyed i))
-      ∙ same_key (apply table v (record { process = process; action = ask.action })).0 (checked table v (record { process = process; action = ask.action })) told dated
+      (λ i. same_bytes (reason_key (reason_checked table v (record { process = process; action = is i }))) (keyed i))
+      ∙ same_key (apply table v (record { process = process; action = ask.action })).0 (reason_checked table v (record { process = process; action = ask.action })) told dated
       ∙ ap (λ r. same_bytes (reason_key r) (reason_key told)) (checks_tell table v (record { process = process; action = ask.action }))
 
   -- what is told of it is its key
   told_key : (action : Action) → action ≡ ask.action → (asker : ℕ) → asker ≡ ask.process → (key : List ℕ) →
-      key ≡ reason_key (checked table (world_after table w done) (record { process = asker; action = action })) → key ≡ reason_key told
+      key ≡ reason_key (reason_checked table (world_after table w done) (record { process = asker; action = action })) → key ≡ reason_key told
   told_key action is asker same key keyed =
       keyed
-      ∙ (λ i. reason_key (checked table (world_after table w done) (record { process = same i; action = is i })))
-      ∙ ap reason_key (from_told (apply table (world_after table w done) ask).0 (checked table (world_after table w done) ask) told dated (checks_tell table (world_after table w done) ask))
+      ∙ (λ i. reason_key (reason_checked table (world_after table w done) (record { process = same i; action = is i })))
+      ∙ ap reason_key (from_told (apply table (world_after table w done) ask).0 (reason_checked table (world_after table w done) ask) told dated (checks_tell table (world_after table w done) ask))
 
   request_line : (question : Question) (kept : Told) (asker : ℕ) (line : Option ℕ) → IsToldOf table (world_after table w done) asker question kept → action_asked question ≡ Some ask.action → asker ≡ ask.process
       → line ≡ since (is_told table question kept) table w 1 done asker → line ≡ since (has_key table ask (reason_key told)) table w 1 done ask.process

@@ -13,7 +13,7 @@ use Rattle.pua_path.specs.declared.found.Last.TheVariants.{Followed}
 use Rattle.pua_path.specs.declared.traced.PathFault.{PathFault}
 use Rattle.pua_calls.specs.Promises.{unveil}
 use Rattle.pua_calls.specs.Calls.{CallTable, PairRule, rule_of, last_of, ending_of}
-use Rattle.pua_policy.specs.History.{History, working_dir, is_ended, is_locked, kept}
+use Rattle.pua_policy.specs.History.{History, working_dir, is_ended, is_locked, perms_kept}
 use Rattle.pua_policy.specs.Misfits.{Object, IsDir, IsFile, IsProg, IsLink, IsMissing, misfit}
 use Rattle.pua_policy.specs.Reasons.{promising, covering, first_kept}
 use Rattle.pua_policy.specs.Verdict.{is_unveil, object_of, or_fault}
@@ -24,7 +24,7 @@ use Rattle.pua_script.specs.Decide.{Change, NoChange, AddNode, CutRow, ShiftRow,
 use Rattle.pua_script.specs.Replay.{World, history_of}
 use Rattle.pua_script.specs.declared.request.Action.{Action}
 use Rattle.pua_script.specs.declared.request.Action.TheVariants.{OnPath, Symlink, Rename, Link, Pledge, Unveil, Lock, Fork, Exit}
-use Rattle.pua_why.specs.Reasons.{Fault, BadTarget, Unfit, IsLocked, Ended, unpromised, told_path, uncovered, faults, reasoned, reason_of}
+use Rattle.pua_why.specs.Reasons.{Fault, BadTarget, Unfit, IsLocked, Ended, unpromised_fault, told_path, uncovered_fault, faults, change_or_fault, reason_of}
 use Rattle.pua_why.specs.Checked.{process_fault, checks_fault, checked_by}
 use Rattle.pua_since.specs.Frames.{DifferAt, PathFollowsNone, ActionFollowsNone, FollowsNone, has_part, names_part, is_removal, looks_further, IsSpared, IsUntouched, RowsSpare}
 use Rattle.pua_since.proofs.FrameWalks.{IsAlike, NamesAlike, IsKept, path_kept}
@@ -52,9 +52,9 @@ named_same s t side there here f g is each =
 
 module _ (s t : Tree) (h : History) where
   cover_same : (side : Side) (object : Found) (perms : ℕ) → IsAlike s t object →
-      uncovered side object perms (covering t h object) ≡ uncovered side object perms (covering s h object)
+      uncovered_fault side object perms (covering t h object) ≡ uncovered_fault side object perms (covering s h object)
   cover_same side object perms alike =
-      ap (λ places. uncovered side object perms (if list_any is_unveil h then first_kept (kept h) places else InView)) alike.places
+      ap (λ places. uncovered_fault side object perms (if list_any is_unveil h then first_kept (perms_kept h) places else InView)) alike.places
 
   -- what is wrong with an object, but whether a directory to be removed is empty
   misfit_same : (c : Call) (object : Object) → is_removal c ≡ false → misfit t c object ≡ misfit s c object
@@ -110,25 +110,25 @@ module _ (name : List ℕ) (s t : Tree) (fits : WellFormed s) (differ : DifferAt
 
   -- all checks of a living process's request
   reasoned_same : (action : Action) → ActionFollowsNone table s h action → looks_further action ≡ false → names_part name action ≡ false →
-      reasoned table t h action ≡ reasoned table s h action
+      change_or_fault table t h action ≡ change_or_fault table s h action
   reasoned_same (OnPath c path) none near other =
-      ap (unless_refused (unpromised (promising h (rule_of table c).alternatives)))
+      ap (unless_refused (unpromised_fault (promising h (rule_of table c).alternatives)))
       (call_same s t h table c path (λ object. Ok (change_by table c object)) near (path_keeps (ending_of c) path (last_of c) other none))
   reasoned_same (Symlink target path) none near other =
-      ap (λ d. unless_refused (unpromised (promising h (rule_of table call.Symlink).alternatives))
+      ap (λ d. unless_refused (unpromised_fault (promising h (rule_of table call.Symlink).alternatives))
       (unless_failed (λ fault. fault) (option_map BadTarget (text_fault target)) d))
       (call_same s t h table call.Symlink path (λ object. Ok (adding (link_node target) object)) refl
       (path_keeps (ending_of call.Symlink) path (last_of call.Symlink) other none))
   reasoned_same (Rename old new) none near other = cc
   reasoned_same (Link old new) none near other =
       let both = or_parts (has_part name old) (has_part name new) other in
-      ap (λ d. unless_refused (unpromised (promising h table.link.old.needs.alternatives))
-      (unless_refused (unpromised (promising h table.link.new.needs.alternatives)) d))
+      ap (λ d. unless_refused (unpromised_fault (promising h table.link.old.needs.alternatives))
+      (unless_refused (unpromised_fault (promising h table.link.new.needs.alternatives)) d))
       (pair_same s t h table.link ending.Dot old new (λ a b. link_by faults a b (node_named a))
       (path_keeps ending.Dot old table.link.old.last both.0 none.0) (path_keeps ending.Dot new table.link.new.last both.1 none.1))
   reasoned_same (Pledge promises execpromises) none near other = refl
   reasoned_same (Unveil path perms) none near other =
-      ap (λ d. unless_refused (unpromised (promising h (unveil ∷ [])))
+      ap (λ d. unless_refused (unpromised_fault (promising h (unveil ∷ [])))
       (unless_failed (λ fault. fault) (fault_if (is_locked h) IsLocked) d))
       (veil_same s t h path perms (path_keeps ending.Dot path Followed other none))
   reasoned_same Lock none near other = refl
@@ -175,7 +175,7 @@ module _ (w : World) (t : Tree) where
     told_same (Some h) none =
         ap (λ fault. if is_ended h then Ended else reason_of fault)
         (ap (checks_fault Other) (reasoned_same name w.tree t fits differ table h action none spared.near spared.unnamed)
-        ∙ checks_same (reasoned table w.tree h action))
+        ∙ checks_same (change_or_fault table w.tree h action))
 
     stays_none : (o : Option History) → FollowsNone table w.tree action o → FollowsNone table t action o
     stays_none None none = tt

@@ -10,13 +10,13 @@ use Rattle.std.proofs.lemmas.List.Elements.{All-map, All-push, All-same, All-set
 use Rattle.std.proofs.lemmas.Option.{get_or_from_slice_get, slice_get_within}
 use Rattle.pua_calls.specs.Calls.{CallTable}
 use Rattle.pua_script.specs.Requests.{Asked}
-use Rattle.pua_script.specs.Replay.{World, answers, apply, world_after}
+use Rattle.pua_script.specs.Replay.{World, answers_to, apply, world_after}
 use Rattle.pua_script.specs.declared.answer.Answer.{Answer}
 use Rattle.pua_script.specs.declared.answer.Answer.TheVariants.{Okay, Failed, Killed, Gone}
 use Rattle.pua_script.specs.declared.request.Action.{Action}
 use Rattle.pua_script.specs.declared.request.Action.TheVariants.{OnPath, Symlink, Rename, Link, Pledge, Unveil, Lock, Fork, Exit}
 use Rattle.pua_since.specs.Changes.{has_changed, has_forked, LeavesAsIs}
-use Rattle.pua_since.specs.Watched.{AreHanded, AreWatched, IsAbout, IsBegunIn, IsHanded, IsWatched, fork_by, fork_told, fork_seen, forks_done, forks_left, forebear_by, handed_by, made_by}
+use Rattle.pua_since.specs.Watched.{AreHanded, AreWatched, IsAbout, IsBegunIn, IsHanded, IsWatched, forks_with, fork_told, fork_seen, forks_done, forks_left, forebear_by, handed_by, made_by}
 use Rattle.pua_since.specs.declared.watch.Question.{Question}
 use Rattle.pua_since.specs.declared.watch.Watch.{Watch}
 use Rattle.pua_since.specs.declared.watches.Fork.{Fork as Made}
@@ -31,7 +31,7 @@ no_fork ask Killed more e = refl
 no_fork ask Gone more e = refl
 no_fork ask Okay more e = by ask.action e
   where
-    by : (action : Action) → has_forked action Okay ≡ false → fork_by ask action more ≡ more
+    by : (action : Action) → has_forked action Okay ≡ false → forks_with ask action more ≡ more
     by (Fork new) e = cc
     by (OnPath call path) e = refl
     by (Symlink target path) e = refl
@@ -93,7 +93,7 @@ module _ (table : CallTable) (w : World) (done : List Asked) (ask : Asked) (left
   Next = (apply table (world_after table w done) ask).1
 
   abbrev Later : List (ℕ × ℕ)
-  Later = forks_done left (answers table (apply table (world_after table w done) ask).1 left)
+  Later = forks_done left (answers_to table (apply table (world_after table w done) ask).1 left)
 
   -- no process was made
   pub stay_handed : has_forked ask.action (apply table Before ask).0 ≡ false → AreHanded table w done ask left s
@@ -126,7 +126,7 @@ module _ (table : CallTable) (w : World) (done : List Asked) (ask : Asked) (left
       let alone = not_forked ask.action (apply table Before ask).0 none in
       record {
         forks = watched.forks ∙ no_fork ask (apply table Before ask).0 Later alone
-            ∙ ap (λ v. forks_done left (answers table v left)) (sym (one_request_more table w done ask));
+            ∙ ap (λ v. forks_done left (answers_to table v left)) (sym (one_request_more table w done ask));
         each = All-weaker (IsWatched table w done (ask ∷ left)) (IsWatched table w (done ++ ask ∷ []) left)
             (λ watch. stays_watched table w done ask left watch same (λ process. came_itself table Before ask process alone))
             s.watches.items watched.each;

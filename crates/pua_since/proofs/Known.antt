@@ -8,14 +8,14 @@ use Rattle.std.specs.List.{list_all}
 use Rattle.std.specs.Result.{result_ok}
 use Rattle.pua_tree.specs.Spelling.{fields, is_field, number_within}
 use Rattle.pua_tree.specs.Steps.{◌>>=◌}
-use Rattle.pua_script.specs.Limits.{number_limit}
+use Rattle.pua_script.specs.Limits.{most_number}
 use Rattle.pua_script.specs.Requests.{Asked}
 use Rattle.pua_script.specs.Scripts.{Form, PathForm, SymlinkForm, RenameForm, LinkForm, PledgeForm, UnveilForm, ForkForm, ExitForm, action_of, form_in, given_in, is_dash, path_in, perms_in, request_of, request_of_fields, unveil_of, with_paths}
 use Rattle.pua_script.specs.declared.fault.ScriptFault.{ScriptFault}
 use Rattle.pua_script.specs.declared.fault.ScriptFault.TheVariants.{BadLine, BadCall, BadPath, BadList}
 use Rattle.pua_script.specs.declared.request.Action.{Action}
 use Rattle.pua_script.specs.declared.request.Action.TheVariants.{Symlink, Rename, Link, Unveil, Lock}
-use Rattle.pua_since.specs.Dates.{AreKnown, IsKnown, IsRequestAt}
+use Rattle.pua_since.specs.Dates.{AreKnown, IsLineKnown, IsRequestAt}
 use Rattle.pua_since.specs.Watched.{IsKeptThrough}
 use Rattle.pua_since.specs.declared.watch.Watch.{Watch}
 use Rattle.pua_since.proofs.Keeping.{request_kept}
@@ -67,7 +67,7 @@ module _ (n m : ℕ) where
   same_fields : (fs : List (List ℕ)) → SameOk (request_of_fields n fs) (request_of_fields m fs)
   same_fields [] = refl
   same_fields (process ∷ more) =
-      same_then _ _ _ _ (same_found (number_within 1 number_limit process) (BadLine n) (BadLine m)) λ number.
+      same_then _ _ _ _ (same_found (number_within 1 most_number process) (BadLine n) (BadLine m)) λ number.
       same_then _ _ _ _ (same_then _ _ _ _ (same_found (form_in more) (BadCall n) (BadCall m)) same_action) λ action. refl
 
   same_request : (text : List ℕ) → SameOk (request_of n text) (request_of m text)
@@ -102,17 +102,17 @@ IsSameLine test line = (other : Bor (List ℕ)) → test other ≡ true → line
 pub found_request : (watches : List Watch) (test : Bor (List ℕ) → Bool) (line : List ℕ) → IsSameLine test line → (lines : List (Bor (List ℕ) × ℕ)) (place n : ℕ) (ask : Asked) → AreKnown watches lines → lookup test lines ≡ Some place
     → request_of n line ≡ Ok ask → IsRequestAt watches place ask 0
 found_request watches test line same lines place n ask known found read =
-    let other = found_one (IsKnown watches) test lines place known found in
+    let other = found_one (IsLineKnown watches) test lines place known found in
     let known_as = other.2 in
     subst (λ asked. IsRequestAt watches place asked 0)
     (asks_same known_as.0 n other.0.now known_as.1 ask known_as.2 (ap (request_of n) (sym (same other.0 other.1)) ∙ read)) known_as.3
 
 -- what is known stays so
-one_known : (old new : List Watch) → IsKeptThrough old new → (line : Bor (List ℕ) × ℕ) → IsKnown old line → IsKnown new line
+one_known : (old new : List Watch) → IsKeptThrough old new → (line : Bor (List ℕ) × ℕ) → IsLineKnown old line → IsLineKnown new line
 one_known old new kept line known = (known.0, known.1, known.2, request_kept old new line.1 known.1 0 kept known.3)
 
 pub known_kept : (old new : List Watch) → IsKeptThrough old new → (lines : List (Bor (List ℕ) × ℕ)) → AreKnown old lines → AreKnown new lines
-known_kept old new kept lines known = All-weaker (IsKnown old) (IsKnown new) (one_known old new kept) lines known
+known_kept old new kept lines known = All-weaker (IsLineKnown old) (IsLineKnown new) (one_known old new kept) lines known
 
 -- a request that is wanted somewhere is one
 pub request_wanted : (watches : List Watch) (place : ℕ) (ask : Asked) (lines : ℕ) → IsRequestAt watches place ask lines → IsRequestAt watches place ask 0
@@ -125,4 +125,4 @@ request_wanted watches place ask lines at = record {
 -- a further line
 pub known_more : (watches : List Watch) (lines more : List (Bor (List ℕ) × ℕ)) (line : Bor (List ℕ)) (place n : ℕ) (ask : Asked) → more ≡ lines ++ (line, place) ∷ [] → AreKnown watches lines → request_of n line.now ≡ Ok ask → IsRequestAt watches place ask 0 → AreKnown watches more
 known_more watches lines more line place n ask pushed known read at =
-    subst (AreKnown watches) (sym pushed) (All-push (IsKnown watches) lines (line, place) known (n, ask, read, at))
+    subst (AreKnown watches) (sym pushed) (All-push (IsLineKnown watches) lines (line, place) known (n, ask, read, at))

@@ -12,9 +12,9 @@ use Rattle.pua_policy.specs.History.{History, may_any}
 use Rattle.pua_calls.specs.Promises.{proc}
 use Rattle.pua_policy.specs.declared.answer.May.{May}
 use Rattle.pua_policy.specs.declared.answer.May.TheVariants as may
-use Rattle.pua_script.specs.Decide.{CopyAs, promised, decide}
+use Rattle.pua_script.specs.Decide.{CopyAs, if_may, decide}
 use Rattle.pua_script.specs.Family.{is_okay}
-use Rattle.pua_script.specs.Limits.{process_limit}
+use Rattle.pua_script.specs.Limits.{most_processes}
 use Rattle.pua_script.specs.Replay.{World, Effect, Fails, Kills, Leaves, Copies, history_of, apply, left_by, answer_to, come_of, do_decided}
 use Rattle.pua_script.specs.Requests.{Asked}
 use Rattle.pua_script.specs.declared.request.Action.{Action}
@@ -50,8 +50,8 @@ request_keeps table w ask process made =
 
 -- a number that is taken is given to no new process
 module _ (table : CallTable) (w : World) (asker new : ℕ) (made : IsMade w new) where
-  taken : (h : History) (m : May) → is_okay (do_decided w asker h (promised m (Ok (CopyAs new)))).0 ≡ false
-  taken h may.Yes = ap (λ b. is_okay (answer_to (cond (b || nat_le process_limit (length w.histories)) (Fails EAGAIN) (Copies new)))) made
+  taken : (h : History) (m : May) → is_okay (do_decided w asker h (if_may m (Ok (CopyAs new)))).0 ≡ false
+  taken h may.Yes = ap (λ b. is_okay (answer_to (cond (b || nat_le most_processes (length w.histories)) (Fails EAGAIN) (Copies new)))) made
   taken h may.Enosys = refl
   taken h may.Death = refl
 

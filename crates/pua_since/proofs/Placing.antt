@@ -5,7 +5,7 @@ use Rattle.std.specs.Str.Lines.{lines}
 use Rattle.std.proofs.lemmas.List.{take_all}
 use Rattle.std.proofs.lemmas.Bool.{ltb-false}
 use Rattle.pua_tree.specs.Steps.{◌>>=◌}
-use Rattle.pua_script.specs.Limits.{line_limit}
+use Rattle.pua_script.specs.Limits.{most_script_lines}
 use Rattle.pua_script.specs.Requests.{Asked}
 use Rattle.pua_script.specs.Scripts.{request_of, requests_of, script}
 use Rattle.pua_script.specs.declared.answer.Answer.{Answer}
@@ -29,7 +29,7 @@ limited limit all requests = by (requests_of 1 (take limit all)) refl (nat_lt li
         sym (ap (requests_of 1) (take_all limit all few)) ∙ read ∙ e
 
 pub all_read : (bytes : List ℕ) (requests : List Asked) → script bytes ≡ Ok requests → requests_of 1 (lines bytes) ≡ Ok requests
-all_read bytes requests read = limited line_limit (lines bytes) requests read
+all_read bytes requests read = limited most_script_lines (lines bytes) requests read
 
 -- the first of them
 pub first_read : (n : ℕ) (line : List ℕ) (more : List (List ℕ)) (request : Asked) (requests : List Asked) → requests_of n (line ∷ more) ≡ Ok (request ∷ requests) → (request_of n line ≡ Ok request) × (requests_of (suc n) more ≡ Ok requests)

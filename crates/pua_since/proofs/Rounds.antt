@@ -5,7 +5,7 @@ use Rattle.std.proofs.lemmas.List.{length-set, get_or-set_other}
 use Rattle.std.proofs.lemmas.List.Elements.{All-same, AllWithin-more_set}
 use Rattle.std.proofs.lemmas.Option.{slice_get_read}
 use Rattle.pua_script.specs.Requests.{Asked}
-use Rattle.pua_script.specs.Replay.{World, answers, apply, world_after}
+use Rattle.pua_script.specs.Replay.{World, answers_to, apply, world_after}
 use Rattle.pua_script.specs.Worlds.{WorldState, StandsForWorld}
 use Rattle.pua_since.specs.Concerns.{TouchesOnly}
 use Rattle.pua_since.specs.Watched.{AreHanded, AreWatched, forks_done, made_by, IsAskedOnce, IsHanded, IsKeptThrough, IsSameTopic, IsWatched}
@@ -69,7 +69,7 @@ all_asked s touched line n start after watches forks is asked all w done ask lef
     let now = asked.each w done ask left stands only number handed in
     record {
       forks = ap (λ made. made_by made.items) forks ∙ handed.forks
-          ∙ ap (λ v. forks_done left (answers s.table v left)) (sym (one_request_more s.table w done ask));
+          ∙ ap (λ v. forks_done left (answers_to s.table v left)) (sym (one_request_more s.table w done ask));
       each = All-same (IsWatched s.table w (done ++ ask ∷ []) left) after.watches.items watches is
           (λ k d within. now.0 k d (omega arith) (omega (arith, within, all)));
     }

@@ -12,7 +12,7 @@ use Rattle.pua_path.specs.declared.traced.PathFault.{PathFault}
 use Rattle.pua_path.specs.Traces.{PathTrace, trace_of_text}
 use Rattle.pua_calls.specs.Promises.{proc, unveil}
 use Rattle.pua_calls.specs.Calls.{CallTable, PairRule, rule_of}
-use Rattle.pua_policy.specs.History.{History, is_locked, kept, working_dir}
+use Rattle.pua_policy.specs.History.{History, is_locked, perms_kept, working_dir}
 use Rattle.pua_policy.specs.Reasons.{Promising, Holds, HasEnded, Lacks, promising, covering}
 use Rattle.pua_policy.specs.ReasonLaws.{CoveringHolds}
 use Rattle.pua_calls.specs.declared.call.Call.{Call}
@@ -26,7 +26,7 @@ use Rattle.pua_script.specs.Replay.{World, history_of, world_after}
 use Rattle.pua_script.specs.declared.request.Action.{Action}
 use Rattle.pua_script.specs.declared.request.Action.TheVariants.{OnPath, Symlink, Rename, Link, Pledge, Unveil, Lock, Fork, Exit}
 use Rattle.pua_why.specs.Facts.{Fact, Needs, Follows, Names, Under, needing, facts_promised, facts_found, facts_named, facts_covered, facts_under, call_trace, call_facts, name_trace, names_facts, pair_facts, facts, facts_of}
-use Rattle.pua_why.specs.Reasons.{Fault, uncovered}
+use Rattle.pua_why.specs.Reasons.{Fault, uncovered_fault}
 use Rattle.pua_why.specs.Texts.{veil_since}
 use Rattle.pua_since.specs.Dates.{AreFactsAt, IsFactAt, fact_line, letters_date, veil_told}
 use Rattle.pua_since.specs.Watched.{AreWatched, kept_in}
@@ -34,7 +34,7 @@ use Rattle.pua_since.specs.declared.watches.Watches.{Watches}
 use Rattle.pua_since.proofs.Veiled.{veil_at}
 
 abbrev CoverKept : History → Covering → Type 0
-CoverKept h (By place given) = kept h place ≡ Some given
+CoverKept h (By place given) = perms_kept h place ≡ Some given
 CoverKept h _ = ⊤
 
 -- the veil that a fact tells is kept
@@ -82,7 +82,7 @@ module _ (h : History) where
   covered_kept side over (Some fault) more cover are = tt
 
   under_kept : (side : Side) (t : Tree) (object : Found) (perms : ℕ) (more : List Fact) → AreKept h more → AreKept h (facts_under side t h object perms more)
-  under_kept side t object perms more are = covered_kept side (covering t h object) (uncovered side object perms (covering t h object)) more (cover_kept t h object) are
+  under_kept side t object perms more are = covered_kept side (covering t h object) (uncovered_fault side object perms (covering t h object)) more (cover_kept t h object) are
 
   call_kept : (table : CallTable) (t : Tree) (call : Call) (path : List ℕ) → AreKept h (call_facts table t h call path)
   call_kept table t call path =
@@ -125,7 +125,7 @@ module _ (table : CallTable) (w : World) (done : List Asked) (s : Watches) (watc
   fact_at (Under side NoneOver) (Some place) holds at = absurd at
   fact_at (Under side (By veil given)) None holds at = absurd at
   fact_at (Under side (By veil given)) (Some place) holds at =
-      let keeps : kept_in (world_after table w done) ask.process veil ≡ Some given = ap (λ o. option_map_or (λ (h : History). kept h veil) o None) made ∙ holds in
+      let keeps : kept_in (world_after table w done) ask.process veil ≡ Some given = ap (λ o. option_map_or (λ (h : History). perms_kept h veil) o None) made ∙ holds in
       veil_at table w done s watched place ask.process veil at ∙ ap (letters_date table w done ask.process veil) keeps
 
   told_at : (told : List Fact) (places : List (Option ℕ)) → AreKept h told → AreFactsAt s.watches.items ask.process (length done) told places → map (fact_line s.watches.items) places ≡ map (veil_since table w done ask) told

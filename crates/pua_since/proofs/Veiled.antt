@@ -5,13 +5,13 @@ use Rattle.std.specs.Option.{option_eq, option_map_or}
 use Rattle.std.specs.Borrow.{Bor}
 use Rattle.std.proofs.lemmas.Option.{slice_get_within, unwrap_or-slice_get}
 use Rattle.pua_calls.specs.Calls.{CallTable}
-use Rattle.pua_policy.specs.History.{History, kept}
+use Rattle.pua_policy.specs.History.{History, perms_kept}
 use Rattle.pua_policy.specs.declared.place.Place.{Place}
 use Rattle.pua_script.specs.Requests.{Asked}
 use Rattle.pua_script.specs.Replay.{World, history_of, world_after}
 use Rattle.pua_why.specs.Reasons.{reason}
 use Rattle.pua_why.specs.Since.{since}
-use Rattle.pua_why.specs.Texts.{date_of, has_veil, reason_since}
+use Rattle.pua_why.specs.Texts.{date_of, has_veil_on, reason_since}
 use Rattle.pua_since.specs.Dates.{AreVeilsAt, IsRequestAt, action_asked, IsVeilAt, letters_date, place_asked, veil_date}
 use Rattle.pua_since.specs.Watched.{AreWatched, IsToldOf, IsWatched, is_told, kept_in, line_at}
 use Rattle.pua_since.specs.declared.watch.Question.{Question}
@@ -28,20 +28,20 @@ at_place P xs place x all stands =
     subst P (sym (unwrap_or-slice_get xs place x) ∙ ap (λ o. unwrap_or o x) stands) (all place x (slice_get_within xs place x stands))
 
 -- letters are told where a veil has them
-has_letters : (place : Place) (given : ℕ) (w : World) (process : ℕ) → option_eq ◌==◌ (kept_in w process place) (Some given) ≡ has_veil place given w process
+has_letters : (place : Place) (given : ℕ) (w : World) (process : ℕ) → option_eq ◌==◌ (kept_in w process place) (Some given) ≡ has_veil_on place given w process
 has_letters place given w process = by (history_of w process) refl
   where
-    has : (h : History) → history_of w process ≡ Some h → (o : Option ℕ) → kept h place ≡ o → option_eq ◌==◌ (kept_in w process place) (Some given) ≡ has_veil place given w process
+    has : (h : History) → history_of w process ≡ Some h → (o : Option ℕ) → perms_kept h place ≡ o → option_eq ◌==◌ (kept_in w process place) (Some given) ≡ has_veil_on place given w process
     has h made None e = rw (made, e) refl
     has h made (Some perms) e = rw (made, e) refl
 
-    by : (o : Option History) → history_of w process ≡ o → option_eq ◌==◌ (kept_in w process place) (Some given) ≡ has_veil place given w process
+    by : (o : Option History) → history_of w process ≡ o → option_eq ◌==◌ (kept_in w process place) (Some given) ≡ has_veil_on place given w process
     by None e = rw e refl
-    by (Some h) made = has h made (kept h place) refl
+    by (Some h) made = has h made (perms_kept h place) refl
 
 letters_since : (table : CallTable) (w : World) (done : List Asked) (process : ℕ) (place : Bor Place) (perms : Option ℕ) → since (is_told table (asks.Veil place) (tells.Veil perms)) table w 1 done process ≡ letters_date table w done process place.now perms
 letters_since table w done process place None = refl
-letters_since table w done process place (Some given) = same_since (is_told table (asks.Veil place) (tells.Veil (Some given))) (has_veil place.now given) (has_letters place.now given) table w 1 done process
+letters_since table w done process place (Some given) = same_since (is_told table (asks.Veil place) (tells.Veil (Some given))) (has_veil_on place.now given) (has_letters place.now given) table w 1 done process
 
 veil_line : (table : CallTable) (w : World) (done : List Asked) (process : ℕ) (veil : Place) (question : Question) (kept : Told) (asker : ℕ) (line : Option ℕ) → IsToldOf table (world_after table w done) asker question kept
     → place_asked question ≡ Some veil → asker ≡ process → line ≡ since (is_told table question kept) table w 1 done asker → line ≡ veil_date table w done (process, veil)

@@ -8,7 +8,7 @@ use lib.Pointwise.{bytes_decides}
 use Rattle.pua_tree.specs.Names.{same_bytes}
 use Rattle.pua_calls.specs.Calls.{CallTable}
 use Rattle.pua_script.specs.Requests.{Asked}
-use Rattle.pua_script.specs.Replay.{World, answers, apply, world_after}
+use Rattle.pua_script.specs.Replay.{World, answers_to, apply, world_after}
 use Rattle.pua_script.specs.Family.{is_okay}
 use Rattle.pua_script.specs.declared.answer.Answer.{Answer}
 use Rattle.pua_script.specs.declared.answer.Answer.TheVariants.{Okay, Failed, Killed, Gone}
@@ -150,7 +150,7 @@ module _ (table : CallTable) (w : World) (done : List Asked) (ask : Asked) (left
   }
 
   -- where it made one
-  pub handed_on : (forks : List (ℕ × ℕ)) → forks ≡ forks_done left (answers table Next left) → (watch : Watch) →
+  pub handed_on : (forks : List (ℕ × ℕ)) → forks ≡ forks_done left (answers_to table Next left) → (watch : Watch) →
       IsWatched table w done (ask ∷ left) watch → IsHanded table w done ask left (handed_by forks watch)
   handed_on forks are watch h =
       let asker : forebear_by forks watch.process ≡ forebear table Next left watch.process =

@@ -4,7 +4,8 @@ ghost use Rattle.std.specs.Prelude.{◌≡◌, Ok};
 ghost use Rattle.pua_policy.specs.History.{History, StandsFor};
 ghost use Rattle.pua_script.specs.Replay.{World as Replayed};
 ghost use Rattle.pua_script.specs.Worlds.{StandsForWorld};
-ghost use Rattle.pua_since.specs.Concerns.{action_touches, call_touches, row_by, row_from, row_of};
+ghost use Rattle.pua_since.specs.Concerns.{action_touches, call_touches, row_by, row_from};
+ghost use Rattle.pua_since.specs.Concerns.{row_touched};
 ghost use Rattle.pua_since.specs.Concerns.{touched_by};
 
 use crate::marks::mark_of;
@@ -121,7 +122,7 @@ fn row_from<T: FileTree>(
 
 /// The row of what was found, where it is no directory.
 fn row_of(found: &Found) -> Touched
-    ensures { result ≡ row_of (Ok found.now) }
+    ensures { result ≡ row_touched (Ok found.now) }
 {
     match found {
         Found::Slot { name, .. } => Touched::Row(*name, mark_of(name.bytes())),

@@ -1,6 +1,6 @@
 use Rattle.std.proofs.Common.{◌≡◌, ◌∙◌, sym, ap, map, flat_map, subst}
 use Rattle.pua_calls.specs.Calls.{CallTable}
-use Rattle.pua_script.specs.AnswerTexts.{ended}
+use Rattle.pua_script.specs.AnswerTexts.{with_end}
 use Rattle.pua_script.specs.Replay.{World as Replayed, apply, world_after}
 use Rattle.pua_script.specs.Worlds.{StandsForWorld}
 use Rattle.pua_why.specs.Facts.{facts_of}
@@ -26,4 +26,4 @@ returns-in-Ok-lines_of g c w stands told after_stands same =
     ((c.in-Ok.ensures.served left after_stands).0 ∙ (λ i. (apply (same i) left ask).0) ∙ sym (λ i. (apply (now i) (world_after (now i) w asks) ask).0))
     (facts ∙ sym (λ i. facts_of (now i) (world_after (now i) w asks) ask))
     (subst (λ t. AreDatesOf t w asks ask (map fact_seen c.as_slice-passed.result.now) c.in_ok-dates.dates) (sym now) dates)
-    ∙ (λ i. flat_map ended (chain (now i) w asks ask))
+    ∙ (λ i. flat_map with_end (chain (now i) w asks ask))

@@ -14,14 +14,14 @@ pub loop-done-init : goal.loop-done-init
 loop-done-init g c =
     let all : c.into_iter-done-iterator.result.iter.a ≡ lines c.args.script_bytes.now = cc (lines_agree c.args.script_bytes.now) in
     let requests : iter_rest c.into_iter-done-iterator.result.iter.b.a ≡ c.args.requests.now = cc in
-    let told : iter_rest c.into_iter-done-iterator.result.iter.b.b ≡ c.args.told.now = cc in
+    let told : iter_rest c.into_iter-done-iterator.result.iter.b.b ≡ c.args.answers.now = cc in
     let count : c.into_iter-done-iterator.result.count ≡ 0 = cc in
     let none : length c.new-known.result.entries ≡ 0 = c.new-known.ensures.len in
     record {
       known = λ read k d less. absurd (omega (arith, none, less));
       lines = λ read. (1, ap (requests_of 1) all ∙ all_read c.args.script_bytes.now c.args.requests.now read ∙ sym (ap Ok requests));
       places = λ read later rest kept at.
-          subst (λ places. ArePlacesOf later 0 c.args.requests.now c.args.told.now places) (sym (ap (λ places. places ++ rest) c.new-places.ensures.items))
+          subst (λ places. ArePlacesOf later 0 c.args.requests.now c.args.answers.now places) (sym (ap (λ places. places ++ rest) c.new-places.ensures.items))
           (subst (λ (X : Type 0). X) (λ i. ArePlacesOf later (count i) (requests i) (told i) rest) at);
       watched = λ w left stands before. before;
       kept = kept_all c.args.watches.now.watches.items;
@@ -62,7 +62,7 @@ loop-done-preserved g c =
           let first = first_read (so.lines read).0 c.in-Some.line.now c.next.new.self.iter.a c.in-Some.request.now (iter_rest c.next.new.self.iter.b.a)
           (sym (ap (requests_of (so.lines read).0) steps.0.0) ∙ (so.lines read).1 ∙ ap Ok steps.0.1.0) in
           let own = request_kept c.place_of.new.watches.watches.items later c.in_ok-place.place c.in-Some.request.now c.in-Some.done kept (c.in_ok-place.ensures.place (so.lines read).0 (so.known read) first.0) in
-          subst (λ places. ArePlacesOf later 0 c.args.requests.now c.args.told.now places)
+          subst (λ places. ArePlacesOf later 0 c.args.requests.now c.args.answers.now places)
           (sym (ap (λ places. places ++ rest) c.in-Ok.ensures.items ∙ append_assoc c.loop-done.places.items (c.in_ok-place.place ∷ []) rest))
           (so.places read later (c.in_ok-place.place ∷ rest) (kept_twice c.loop-done.watches.watches.items c.place_of.new.watches.watches.items later kept_now kept)
           (placed later c.loop-done.done-iterator.count c.next.new.self.count c.in-Some.request.now c.in-Some.answer.now _ _ _ _ c.in_ok-place.place rest steps.0.1.0 steps.0.1.1 c.in_default.not-Okay steps.2
@@ -82,7 +82,7 @@ returns g c =
             | inl x ↦ inl (none_read (so.lines read).0 _ (sym (ap (requests_of (so.lines read).0) x.1.0) ∙ (so.lines read).1))
             | inr y ↦ elim y.1 [ inl z ↦ inl (nil_from_length _ z.1.0) | inr z ↦ inr (nil_from_length _ z.1.0) ]
           ] in
-          subst (λ places. ArePlacesOf c.loop-done.watches.watches.items 0 c.args.requests.now c.args.told.now places) (append-nil c.loop-done.places.items)
+          subst (λ places. ArePlacesOf c.loop-done.watches.watches.items 0 c.args.requests.now c.args.answers.now places) (append-nil c.loop-done.places.items)
           (so.places read c.loop-done.watches.watches.items [] (kept_all c.loop-done.watches.watches.items)
           (none_placed c.loop-done.watches.watches.items c.loop-done.done-iterator.count _ _ empty));
       watched = so.watched;
