@@ -5,7 +5,7 @@ use Rattle.std.specs.List.{AllByRecursion}
 use Rattle.pua_tree.specs.Tree.{Tree, WellFormed, is_dir}
 use Rattle.pua_tree.specs.Steps.{◌>>=◌}
 use Rattle.pua_path.specs.Paths.{part_of, is_absolute}
-use Rattle.pua_path.specs.Resolution.{Resolved, resolve_parts, resolution_of_text, reached}
+use Rattle.pua_path.specs.Resolution.{Resolved, resolve_parts, resolution_of_text, dir_with_links}
 use Rattle.pua_path.specs.Laws.{Lands, onwards}
 use Rattle.pua_path.proofs.ForCallers.{composes, resolutions_fit}
 use Rattle.pua_path.specs.declared.errno.Errno.TheVariants.{ENOENT, ENOTDIR}
@@ -52,11 +52,11 @@ module _ (t : Tree) (fits : WellFormed t) (table : CallTable) (base : Base) (h :
   along c links dir a (b ∷ word) le lives =
       ap (judged c) (composes t (last_of c) links dir Top (part_of a ∷ []) (part_of b) (map part_of word))
       ∙ by (λ left next le here. along c left next b word le here) (resolve_parts links t Followed dir Top (part_of a ∷ parts.Dot ∷ [])) ((resolutions_fit t fits).parts links dir Followed (part_of a ∷ parts.Dot ∷ []) lives)
-      ∙ ap (λ n. if_some (state_of (resolve_parts n t Followed dir Top (part_of a ∷ parts.Dot ∷ []) >>= reached)) (λ s. is_allowed_along w (Below s b) word c)) (sym (left_again links le))
+      ∙ ap (λ n. if_some (state_of (resolve_parts n t Followed dir Top (part_of a ∷ parts.Dot ∷ []) >>= dir_with_links)) (λ s. is_allowed_along w (Below s b) word c)) (sym (left_again links le))
     where
       by : ((left next : ℕ) → left ≤ 32 → is_dir t next ≡ true → judged c (resolve_parts left t (last_of c) next Top (map part_of (b ∷ word))) ≡ is_allowed_along w (Below (record { dir = next; used = 32 - left }) b) word c)
           → (r : Resolved) → Lands t Followed links r
-          → judged c (r >>= onwards t (last_of c) (map part_of (b ∷ word))) ≡ if_some (state_of (r >>= reached)) (λ s. is_allowed_along w (Below s b) word c)
+          → judged c (r >>= onwards t (last_of c) (map part_of (b ∷ word))) ≡ if_some (state_of (r >>= dir_with_links)) (λ s. is_allowed_along w (Below s b) word c)
       by on (Ok (Whole next way, left)) is = on left next (omega (arith, is.1, le)) is.0.fits
       by on (Ok (Slot at name _, left)) is = refused (may_any h (rule_of table c).alternatives) ENOTDIR
       by on (Err errno) is = refused (may_any h (rule_of table c).alternatives) errno

@@ -5,7 +5,7 @@ use Rattle.std.proofs.lemmas.Bool.{le-leb}
 use Rattle.pua_tree.specs.Tree.{Tree, WellFormed, is_dir, found_at, look}
 use Rattle.pua_tree.specs.declared.node.Kind.{Kind}
 use Rattle.pua_path.specs.Kinds.{is_file}
-use Rattle.pua_path.specs.Limits.{link_limit}
+use Rattle.pua_path.specs.Limits.{most_links}
 use Rattle.pua_path.specs.Paths.{part_of}
 use Rattle.pua_path.specs.Resolution.{follow}
 use Rattle.pua_path.specs.declared.found.Found.{Found}
@@ -38,7 +38,7 @@ alike Kept followed kept both e f = f
 pub record IsBare (t : Tree) (h : History) (dir : ℕ) (letter : List ℕ) : Type 0 where
   pub name : part_of letter ≡ part.Name letter
   pub none : look t dir letter ≡ None
-  pub unveiled : policy.kept h (place.Slot dir letter) ≡ None
+  pub unveiled : policy.perms_kept h (place.Slot dir letter) ≡ None
 
 -- a name at which no directory stands is found without a link: one set of calls tells it
 module _ (t : Tree) (table : CallTable) (base : Base) (h : History) (dir : ℕ) (letter : List ℕ) (node : Option ℕ) (calls kept : ℕ)
@@ -52,13 +52,13 @@ module _ (t : Tree) (table : CallTable) (base : Base) (h : History) (dir : ℕ) 
   near : (call : Call) → allowed_near t table h dir letter (Ok (slot, 0)) call ≡ has calls call
   near call = alike (last_of call) (is_allowed (verdict t table h call slot)) (allowed_kept t table h dir letter call) (has calls call) (on_slot call) (on_kept call)
 
-  entry : (used : ℕ) → used ≤ link_limit → IsEntryAt t table base h dir letter (Ok (slot, 0)) used
+  entry : (used : ℕ) → used ≤ most_links → IsEntryAt t table base h dir letter (Ok (slot, 0)) used
   entry used low = subst (λ r. IsEntryAt t table base h dir letter r used) followed (entries_stand t table base h dir letter used low)
 
   slot_told : IsLetter (judge_of t table base h) dir letter calls kept 0 None
   slot_told = record {
     own = λ used call low.
-        let within : nat_le (used + 0) link_limit ≡ true = le-leb (used + 0) link_limit (omega (arith, low)) in
+        let within : nat_le (used + 0) most_links ≡ true = le-leb (used + 0) most_links (omega (arith, low)) in
         (entry used low).own call ∙ ap (λ b. cond b (allowed_near t table h dir letter (Ok (slot, 0)) call) (allowed_far t table h dir letter call)) within
         ∙ near call ∙ ap (λ b. has (cond b calls kept) call) (sym within);
     step = λ used low. (entry used low).step;
@@ -73,7 +73,7 @@ module _ (t : Tree) (table : CallTable) (base : Base) (h : History) (dir : ℕ) 
 
   -- one tells all files of a kind
   pub file_told : (x calls kept : ℕ) (kind : Kind) → is_file kind ≡ true → ((call : Call) → has calls call ≡ allowed_within t table h dir (object_of_kind (Some kind)) call)
-      → part_of letter ≡ part.Name letter → found_at t dir letter ≡ Some (x, kind) → policy.kept h (place.Slot dir letter) ≡ None → IsLetter (judge_of t table base h) dir letter calls kept 0 None
+      → part_of letter ≡ part.Name letter → found_at t dir letter ≡ Some (x, kind) → policy.perms_kept h (place.Slot dir letter) ≡ None → IsLetter (judge_of t table base h) dir letter calls kept 0 None
   file_told x calls kept kind file told name found unveiled =
       slot_told t table base h dir letter (Some x) calls kept (ap (follow t dir) name ∙ file_follows t dir letter x kind file found)
       (λ call.

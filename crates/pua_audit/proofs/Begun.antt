@@ -9,7 +9,7 @@ use Rattle.pua_audit.specs.Judge.{Judge, Start, base_dir, judge_for, reach_along
 use Rattle.pua_audit.specs.Laws.{IsAudited}
 use Rattle.pua_audit.specs.Live.{live_states}
 use Rattle.pua_audit.specs.Judge.{allowed_at}
-use Rattle.pua_audit.specs.Graphs.{AreApart, IsKnown, StandsForJudge, numbered, spelled}
+use Rattle.pua_audit.specs.Graphs.{AreApart, IsKnown, StandsForJudge, pair_in_numbers, pair_in_letters}
 use Rattle.pua_audit.specs.Table.{IsTableOf}
 use Rattle.pua_audit.proofs.Leading.{masks_list}
 use Rattle.std.proofs.lemmas.Nat.{mul-le}
@@ -40,8 +40,8 @@ module _ (w : Judge) (letters : List (List ℕ)) (names : List ℕ) (t : Steps) 
   unfolding graph_of
   one_graph = refl
 
-  pub begun_reach : (limit : ℕ) → map numbered (reach_along w letters limit) ≡ map (spelled letters) (graph.reach (graph_of t) limit set base)
-  begun_reach limit = graphs_reach w letters names (graph_of t 0) set base limit begun_stands ∙ ap (λ g. map (spelled letters) (graph.reach g limit set base)) one_graph
+  pub begun_reach : (limit : ℕ) → map pair_in_numbers (reach_along w letters limit) ≡ map (pair_in_letters letters) (graph.graph_reach (graph_of t) limit set base)
+  begun_reach limit = graphs_reach w letters names (graph_of t 0) set base limit begun_stands ∙ ap (λ g. map (pair_in_letters letters) (graph.graph_reach g limit set base)) one_graph
 
 -- so are its live states
 module _ (s : Scope) (names : List ℕ) (t : Steps) (is : IsTableOf (judge_for s) s.alphabet names t) (some : 0 < length names) (set : ℕ) (own : (call : Call) → has_call set (bit_of call) ≡ (judge_for s).own Start call)
@@ -55,7 +55,7 @@ pub table_fits : (limit n : ℕ) → limit ≤ 16 → n ≤ 4294967296 → suc l
 table_fits limit n low few = let most = mul-le (suc limit) n 17 4294967296 (omega (arith, low)) few in omega (arith, most)
 
 -- without calls and without a first directory there is no pair
-pub none_reach : (g : graph.Graph) (limit : ℕ) → graph.reach g limit 0 None ≡ []
+pub none_reach : (g : graph.Graph) (limit : ℕ) → graph.graph_reach g limit 0 None ≡ []
 unfolding alone below calls_of
 none_reach g zero = refl
 none_reach g (suc limit) = refl

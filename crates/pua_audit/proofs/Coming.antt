@@ -13,11 +13,11 @@ use Rattle.pua_audit.proofs.Moves.{word_of-push}
 use Rattle.pua_audit.proofs.Spelled.{IsSpelled, room_for}
 use Rattle.pua_audit.proofs.WordPaths.{front_stays, take_whole}
 use Rattle.pua_calls.specs.declared.call.Call.{Call}
-use Rattle.pua_audit.specs.Coming.{AreReady, IsLine, call_at, pairs_at, word_in}
+use Rattle.pua_audit.specs.Coming.{AreReady, IsLine, call_at, pairs_at, walk_word}
 use Rattle.pua_audit.specs.declared.pairs.Pairs.{Pairs}
 use Rattle.pua_steps.specs.Graph as graph
 use Rattle.pua_steps.specs.Ready as steps
-use Rattle.pua_steps.specs.Ready.{IsOf, IsUnchanged}
+use Rattle.pua_steps.specs.Ready.{IsSameWalk, IsUnchanged}
 use Rattle.pua_steps.specs.Trail.{pairs_of}
 use Rattle.pua_steps.specs.Within.{IsPair}
 use Rattle.pua_steps.specs.declared.steps.Steps.{Steps}
@@ -77,7 +77,7 @@ along_kept letters old new n p q is same keep few =
     word_of-take letters n (take k old) ∙ ap (word_of letters) (front_stays old new k n (length q.starts.items) same.same few) in
     record { few = omega (arith, few, same.after); path = subst (λ (w : Word). IsPathOf w q) front (keep (word_of letters (take k old)) is.path) }
 
-module _ (a : Pairs) (ready : AreReady a) (w : Walk) (of : IsOf a.walk w) (walk : steps.IsReady w) (stays : IsUnchanged a.walk.word.items w.unchanged w.word.items) where
+module _ (a : Pairs) (ready : AreReady a) (w : Walk) (of : IsSameWalk a.walk w) (walk : steps.IsReady w) (stays : IsUnchanged a.walk.word.items w.unchanged w.word.items) where
   -- the walk goes on, and the path keeps what is unchanged
   pub kept_ready : (q : WordPath) (n : ℕ) → n ≡ w.unchanged → AllByRecursion (λ p. IsPair (length (letters_of a.terms)) p) (pairs_of (steps.trail w)) → ((v : Word) → IsPathOf v a.path → IsPathOf (take n v) q) → length q.starts.items ≡ min n (length a.path.starts.items)
       → vec_capacity q.bytes ≡ vec_capacity a.path.bytes → vec_capacity q.starts ≡ vec_capacity a.path.starts → AreReady (record { terms = a.terms; walk = w; live = a.live; path = q })
@@ -103,7 +103,7 @@ module _ (a : Pairs) (ready : AreReady a) (w : Walk) (of : IsOf a.walk w) (walk 
     word_known = subst (λ n. AllByRecursion (λ i. i < n) w.word.items) (length-map a.terms.letters.items part_bytes) pairs_more.0.word
 
     -- then the path has the whole word
-    module _ (b : Pairs) (terms : b.terms ≡ a.terms) (same : b.walk ≡ w) (path : IsPathOf (word_in b) b.path) (whole : length b.path.starts.items ≡ length b.walk.word.items)
+    module _ (b : Pairs) (terms : b.terms ≡ a.terms) (same : b.walk ≡ w) (path : IsPathOf (walk_word b) b.path) (whole : length b.path.starts.items ≡ length b.walk.word.items)
         (bytes : a.terms.limit * suc (longest (letters_of a.terms)) ≤ vec_capacity b.path.bytes) (starts : a.terms.limit ≤ vec_capacity b.path.starts) where
       pub spelled_ready : AreReady b
       spelled_ready = record {

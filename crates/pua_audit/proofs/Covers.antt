@@ -13,7 +13,7 @@ use Rattle.pua_path.specs.declared.found.Part.TheVariants as parts
 use Rattle.pua_path.specs.declared.found.Way.{Way}
 use Rattle.pua_path.specs.declared.found.Way.TheVariants.{DotDot, Named, Top}
 use Rattle.pua_policy.specs.Descent.{cover_in, own_or}
-use Rattle.pua_policy.specs.History.{History, kept}
+use Rattle.pua_policy.specs.History.{History, perms_kept}
 use Rattle.pua_calls.specs.Calls.{CallTable}
 use Rattle.pua_policy.specs.Verdict.{Object, cover, covered_verdict, is_allowed}
 use Rattle.pua_calls.specs.declared.call.Call.{Call}
@@ -48,18 +48,18 @@ covered_lead t h fits (Err errno) left fit is = tt
 
 -- what was found gets its cover from the directory over it
 module _ (t : Tree) (h : History) (fits : WellFormed t) (found : Found) (is_fit : FoundFits t found) where
-  pub handed_name : (dir : ℕ) (name : List ℕ) (node : Option ℕ) → found ≡ Slot dir name node → own_or (kept h (place.Slot dir name)) (cover_in t h dir) ≡ cover t h found
+  pub handed_name : (dir : ℕ) (name : List ℕ) (node : Option ℕ) → found ≡ Slot dir name node → own_or (perms_kept h (place.Slot dir name)) (cover_in t h dir) ≡ cover t h found
   handed_name dir name node is = sym ((covers_descend t h fits).at_name dir name node) ∙ ap (cover t h) (sym is)
 
   pub handed_self : (dir : ℕ) (way : Way) → found ≡ Whole dir way → cover_in t h dir ≡ cover t h found
   handed_self dir way is = sym ((covers_descend t h fits).directory dir way (subst (FoundFits t) is is_fit)) ∙ ap (cover t h) (sym is)
 
-  pub handed_below : StandsAsNamed t found → (dir parent : ℕ) (name : List ℕ) → found ≡ Whole dir (Named parent name) → own_or (kept h (place.Dir dir)) (cover_in t h parent) ≡ cover t h found
+  pub handed_below : StandsAsNamed t found → (dir parent : ℕ) (name : List ℕ) → found ≡ Whole dir (Named parent name) → own_or (perms_kept h (place.Dir dir)) (cover_in t h parent) ≡ cover t h found
   handed_below named dir parent name is =
       sym ((covers_descend t h fits).below parent name dir (subst (StandsAsNamed t) is named).1 (subst (FoundFits t) is is_fit)) ∙ handed_self dir (Named parent name) is
 
 -- a directory without a veil of its own has the cover of the one above it
-pub handed_above : (t : Tree) (h : History) → WellFormed t → (from : ℕ) → is_dir t from ≡ true → kept h (place.Dir from) ≡ None → cover_in t h from ≡ cover_in t h (above t from)
+pub handed_above : (t : Tree) (h : History) → WellFormed t → (from : ℕ) → is_dir t from ≡ true → perms_kept h (place.Dir from) ≡ None → cover_in t h from ≡ cover_in t h (above t from)
 handed_above t h fits from living none = (covers_descend t h fits).over from living ∙ ap (λ o. own_or o (cover_in t h (above t from))) none
 
 -- which is what `..` names

@@ -2,10 +2,10 @@
 use Rattle.std.proofs.Common.{ℕ, ◌+◌, ◌≡◌, List, Option, None, Bool, true, false, cond, nat_le, refl, ap, sym, ◌∙◌, option_map, Result, Ok, Err, inl, inr}
 use Rattle.std.proofs.lemmas.Bool.{cases_lt, le-leb, lt-leb}
 use Rattle.pua_tree.specs.Tree.{Tree}
-use Rattle.pua_path.specs.Limits.{link_limit}
+use Rattle.pua_path.specs.Limits.{most_links}
 use Rattle.pua_path.specs.Paths.{part_of}
 use Rattle.pua_path.specs.Resolution.{follow, last}
-use Rattle.pua_path.specs.Laws.{IsToldBy, entered}
+use Rattle.pua_path.specs.Laws.{IsToldBy, dir_entered}
 use Rattle.pua_path.specs.declared.errno.Errno.{Errno}
 use Rattle.pua_path.specs.declared.errno.Errno.TheVariants.{ELOOP}
 use Rattle.pua_path.specs.declared.found.Last.{Last}
@@ -20,9 +20,9 @@ use Rattle.pua_policy.specs.declared.answer.May.{May}
 use Rattle.pua_policy.specs.declared.answer.May.TheVariants.{Yes, Enosys, Death}
 use Rattle.pua_policy.specs.declared.answer.Verdict.TheVariants.{Failed}
 use Rattle.pua_calls.specs.declared.call.Call.{Call}
-use Rattle.pua_audit.specs.Judge.{Judge, Place, Below, judge_of, state_of}
+use Rattle.pua_audit.specs.Judge.{Judge, WordEnd, Below, judge_of, state_of}
 use Rattle.pua_audit.specs.declared.base.Base.{Base}
-use Rattle.pua_audit.specs.Judge.{State}
+use Rattle.pua_audit.specs.Judge.{JudgeState}
 use Rattle.pua_audit.specs.Entries.{links_of, found_of, leads_to, allowed_kept, allowed_near, allowed_far, EntriesStand}
 
 -- a failed path is never allowed
@@ -35,7 +35,7 @@ module _ (t : Tree) (table : CallTable) (base : Base) (h : History) (dir : ℕ) 
   abbrev w : Judge
   w = judge_of t table base h
 
-  abbrev x : Place
+  abbrev x : WordEnd
   x = Below (record { dir = dir; used = used }) letter
 
   abbrev Answer : Type 0
@@ -57,24 +57,24 @@ module _ (t : Tree) (table : CallTable) (base : Base) (h : History) (dir : ℕ) 
   own_by call Kept true r e = by_kept call
   own_by call Kept false r e = by_kept call
 
-  owns : (r : Answer) → IsToldBy t dir used (part_of letter) r → (call : Call) → w.own x call ≡ cond (nat_le (used + links_of r) link_limit) (allowed_near t table h dir letter r call) (allowed_far t table h dir letter call)
-  owns (Ok (found, count)) is call = own_by call (last_of call) (nat_le (used + count) link_limit) (Ok (found, count)) (elim (cases_lt link_limit (used + count)) [
-    | inl over ↦ ap (λ r. is_allowed (verdict_of t table h call r)) (is.last_beyond over) ∙ fails call ELOOP ∙ ap (λ b. cond b (is_allowed (verdict_of t table h call (Ok found))) false) (sym (lt-leb (used + count) link_limit over))
-    | inr under ↦ ap (λ r. is_allowed (verdict_of t table h call r)) (is.last_within under) ∙ ap (λ b. cond b (is_allowed (verdict_of t table h call (Ok found))) false) (sym (le-leb (used + count) link_limit under))
+  owns : (r : Answer) → IsToldBy t dir used (part_of letter) r → (call : Call) → w.own x call ≡ cond (nat_le (used + links_of r) most_links) (allowed_near t table h dir letter r call) (allowed_far t table h dir letter call)
+  owns (Ok (found, count)) is call = own_by call (last_of call) (nat_le (used + count) most_links) (Ok (found, count)) (elim (cases_lt most_links (used + count)) [
+    | inl over ↦ ap (λ r. is_allowed (verdict_of t table h call r)) (is.last_beyond over) ∙ fails call ELOOP ∙ ap (λ b. cond b (is_allowed (verdict_of t table h call (Ok found))) false) (sym (lt-leb (used + count) most_links over))
+    | inr under ↦ ap (λ r. is_allowed (verdict_of t table h call r)) (is.last_within under) ∙ ap (λ b. cond b (is_allowed (verdict_of t table h call (Ok found))) false) (sym (le-leb (used + count) most_links under))
   ])
-  owns (Err errno) is call = own_by call (last_of call) (nat_le (used + 0) link_limit) (Err errno)
-      (ap (λ r. is_allowed (verdict_of t table h call r)) is.last_fails ∙ fails call is.errno ∙ elim (nat_le (used + 0) link_limit) as (λ b. false ≡ cond b (is_allowed (verdict_of t table h call (Err errno))) false) [ true ↦ sym (fails call errno) | false ↦ refl ])
+  owns (Err errno) is call = own_by call (last_of call) (nat_le (used + 0) most_links) (Err errno)
+      (ap (λ r. is_allowed (verdict_of t table h call r)) is.last_fails ∙ fails call is.errno ∙ elim (nat_le (used + 0) most_links) as (λ b. false ≡ cond b (is_allowed (verdict_of t table h call (Err errno))) false) [ true ↦ sym (fails call errno) | false ↦ refl ])
 
-  enters : (found : Found) (count : ℕ) → state_of (entered (used + count) found) ≡ option_map (λ d. record { dir = d; used = used + count }) (leads_to (Ok found))
+  enters : (found : Found) (count : ℕ) → state_of (dir_entered (used + count) found) ≡ option_map (λ d. record { dir = d; used = used + count }) (leads_to (Ok found))
   enters (Whole d way) count = refl
   enters (Slot d name _) count = refl
 
-  steps : (r : Answer) → IsToldBy t dir used (part_of letter) r → w.step x ≡ cond (nat_le (used + links_of r) link_limit) (option_map (λ d. record { dir = d; used = used + links_of r }) (leads_to (found_of r))) None
-  steps (Ok (found, count)) is = elim (cases_lt link_limit (used + count)) [
-    | inl over ↦ ap state_of (is.step_beyond over) ∙ ap (λ b. cond b (option_map (λ d. record { dir = d; used = used + count }) (leads_to (Ok found))) None) (sym (lt-leb (used + count) link_limit over))
-    | inr under ↦ ap state_of (is.step_within under) ∙ enters found count ∙ ap (λ b. cond b (option_map (λ d. record { dir = d; used = used + count }) (leads_to (Ok found))) None) (sym (le-leb (used + count) link_limit under))
+  steps : (r : Answer) → IsToldBy t dir used (part_of letter) r → w.step x ≡ cond (nat_le (used + links_of r) most_links) (option_map (λ d. record { dir = d; used = used + links_of r }) (leads_to (found_of r))) None
+  steps (Ok (found, count)) is = elim (cases_lt most_links (used + count)) [
+    | inl over ↦ ap state_of (is.step_beyond over) ∙ ap (λ b. cond b (option_map (λ d. record { dir = d; used = used + count }) (leads_to (Ok found))) None) (sym (lt-leb (used + count) most_links over))
+    | inr under ↦ ap state_of (is.step_within under) ∙ enters found count ∙ ap (λ b. cond b (option_map (λ d. record { dir = d; used = used + count }) (leads_to (Ok found))) None) (sym (le-leb (used + count) most_links under))
   ]
-  steps (Err errno) is = ap state_of is.step_fails ∙ elim (nat_le (used + 0) link_limit) as (λ b. ◌≡◌ {A = Option State} None (cond b None None)) [ true ↦ refl | false ↦ refl ]
+  steps (Err errno) is = ap state_of is.step_fails ∙ elim (nat_le (used + 0) most_links) as (λ b. ◌≡◌ {A = Option JudgeState} None (cond b None None)) [ true ↦ refl | false ↦ refl ]
 
 pub entries_stand : EntriesStand
 entries_stand t table base h dir letter used low =

@@ -4,10 +4,10 @@ use Rattle.std.proofs.lemmas.List.{map-append}
 use Rattle.std.proofs.lemmas.Grind.{flat_map-append}
 use Rattle.std.proofs.lemmas.List.Elements.{filter-append}
 use Rattle.std.specs.Prelude.{flat_map, filter}
-use Rattle.pua_audit.specs.Judge.{Place, Start, Below, Judge}
+use Rattle.pua_audit.specs.Judge.{WordEnd, Start, Below, Judge}
 use Rattle.pua_calls.specs.Calls.{calls}
 use Rattle.pua_calls.specs.declared.call.Call.{Call}
-use Rattle.pua_audit.specs.Judge.{State}
+use Rattle.pua_audit.specs.Judge.{JudgeState}
 use Rattle.pua_audit.specs.Reach.{Word, Pair, words, pairs}
 use Rattle.pua_audit.specs.Judge.{if_some, is_allowed_along, reach_along}
 use Rattle.pua_audit.specs.Judge.{allowed_at}
@@ -95,45 +95,45 @@ pairs_end letters = refl
 
 -- the lines at a place, and those that go on from it by at most l letters
 
-abbrev pub here : Judge → Place → List Pair
+abbrev pub here : Judge → WordEnd → List Pair
 here w x = alone (allowed_at w x)
 
-abbrev pub from_state : Option State → (State → List Pair) → List Pair
+abbrev pub from_state : Option JudgeState → (JudgeState → List Pair) → List Pair
 from_state None go = []
 from_state (Some s) go = go s
 
-unfoldable pub below : Judge → List (List ℕ) → ℕ → Place → List Pair
+unfoldable pub below : Judge → List (List ℕ) → ℕ → WordEnd → List Pair
 below w letters zero x = []
 below w letters (suc l) x = from_state (w.step x) (λ s. flat_map (λ a. cons a (here w (Below s a) ++ below w letters l (Below s a))) letters)
 
-unfoldable pub rows : Judge → List (List ℕ) → ℕ → State → List (List ℕ) → List Pair
+unfoldable pub rows : Judge → List (List ℕ) → ℕ → JudgeState → List (List ℕ) → List Pair
 rows w letters l s some = flat_map (λ a. cons a (here w (Below s a) ++ below w letters l (Below s a))) some
 
 module _ (w : Judge) (letters : List (List ℕ)) where
-  pub below_some : (l : ℕ) (s : State) (x : Place) → w.step x ≡ Some s → below w letters (suc l) x ≡ rows w letters l s letters
+  pub below_some : (l : ℕ) (s : JudgeState) (x : WordEnd) → w.step x ≡ Some s → below w letters (suc l) x ≡ rows w letters l s letters
   unfolding below rows
   below_some l s x step = rw step refl
 
-  pub below_none : (l : ℕ) (x : Place) → w.step x ≡ None → below w letters l x ≡ []
+  pub below_none : (l : ℕ) (x : WordEnd) → w.step x ≡ None → below w letters l x ≡ []
   unfolding below
   below_none zero x step = refl
   below_none (suc l) x step = rw step refl
 
-  pub below_end : (x : Place) → below w letters zero x ≡ []
+  pub below_end : (x : WordEnd) → below w letters zero x ≡ []
   unfolding below
   below_end x = refl
 
-  abbrev IsFiltered : ℕ → Place → Type 0
+  abbrev IsFiltered : ℕ → WordEnd → Type 0
   IsFiltered l x = filter (λ p. is_allowed_along w x p.0 p.1) (pairs letters l) ≡ here w x ++ below w letters l x
 
-  behind_filtered : (l : ℕ) → ((x : Place) → IsFiltered l x) → (r : Option State)
+  behind_filtered : (l : ℕ) → ((x : WordEnd) → IsFiltered l x) → (r : Option JudgeState)
       → flat_map (λ a. cons a (filter (λ p. if_some r (λ s. is_allowed_along w (Below s a) p.0 p.1)) (pairs letters l))) letters
       ≡ from_state r (λ s. flat_map (λ a. cons a (here w (Below s a) ++ below w letters l (Below s a))) letters)
   behind_filtered l each None = flat_map-cong _ (λ _. []) (λ a. ap (cons a) (filter-none (pairs letters l)) ∙ cons-nil a) letters ∙ flat_map-nil letters
   behind_filtered l each (Some s) = flat_map-cong _ (λ a. cons a (here w (Below s a) ++ below w letters l (Below s a))) (λ a. ap (cons a) (each (Below s a))) letters
 
   -- filtering all pairs gives the lines at the place and those behind it
-  pub filtered : (l : ℕ) (x : Place) → IsFiltered l x
+  pub filtered : (l : ℕ) (x : WordEnd) → IsFiltered l x
   unfolding below allowed_at
   filtered zero x = ap (filter (λ p. is_allowed_along w x p.0 p.1)) (pairs_end letters) ∙ filter-append (λ p. is_allowed_along w x p.0 p.1) (alone calls) [] ∙ ap (λ ps. ps ++ []) (filter-alone (λ p. is_allowed_along w x p.0 p.1) calls)
   filtered (suc l) x =

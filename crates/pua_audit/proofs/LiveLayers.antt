@@ -8,7 +8,7 @@ use Rattle.pua_audit.specs.Reach.{Pair}
 use Rattle.pua_audit.specs.Judge.{Judge, Start}
 use Rattle.pua_audit.specs.Live.{Stage}
 use Rattle.pua_audit.specs.Judge as named
-use Rattle.pua_audit.specs.Graphs.{named_in, AreApart, IsKnown, StandsForJudge, numbered, spelled}
+use Rattle.pua_audit.specs.Graphs.{named_in, AreApart, IsKnown, StandsForJudge, pair_in_numbers, pair_in_letters}
 use Rattle.pua_audit.proofs.Lines as lines
 use Rattle.pua_audit.proofs.Stages.{staged, is_stage, is_staged, is_state, is_among, some_pair, state_of, reached_from}
 use Rattle.pua_audit.proofs.DistinctStages.{same_stage, same_is, one_stage}
@@ -25,13 +25,13 @@ use Rattle.pua_steps.proofs.ForCallers.{all_joined}
 
 -- tests
 
-one_named : (a b : named.State) → is_state a b ≡ true → a ≡ b
+one_named : (a b : named.JudgeState) → is_state a b ≡ true → a ≡ b
 one_named a b e = let both = and_parts (a.dir == b.dir) (a.used == b.used) e in λ i. record { dir = eqb-true a.dir b.dir both.0 i; used = eqb-true a.used b.used both.1 i }
 
 one_state : (a b : State) → steps.is_same a b ≡ true → a ≡ b
 one_state a b e = let both = and_parts (a.dir == b.dir) (a.used == b.used) e in λ i. record { dir = eqb-true a.dir b.dir both.0 i; used = eqb-true a.used b.used both.1 i }
 
-is_itself : (a : named.State) → is_state a a ≡ true
+is_itself : (a : named.JudgeState) → is_state a a ≡ true
 is_itself a = ap (λ b. b && (a.used == a.used)) (eq-eqb a.dir a.dir refl) ∙ eq-eqb a.used a.used refl
 
 -- each state once
@@ -97,7 +97,7 @@ graph_some_is [] = refl
 graph_some_is (p ∷ ps) = refl
 
 module _ (names : List ℕ) where
-  abbrev name : State → named.State
+  abbrev name : State → named.JudgeState
   name s = named_in names s
 
   -- states of a layer
@@ -114,7 +114,7 @@ module _ (names : List ℕ) where
       or_true true = refl
       or_true false = refl
 
-  among_once : (y : named.State) (ss : List State) → is_among y (map name (steps.distinct ss)) ≡ is_among y (map name ss)
+  among_once : (y : named.JudgeState) (ss : List State) → is_among y (map name (steps.distinct ss)) ≡ is_among y (map name ss)
   among_once y [] = refl
   among_once y (x ∷ xs) =
       elim (steps.is_among x xs) as (λ b. steps.is_among x xs ≡ b → is_among y (map name (cond b (steps.distinct xs) (x ∷ steps.distinct xs))) ≡ (is_state y (name x) || is_among y (map name xs))) [
@@ -125,7 +125,7 @@ module _ (names : List ℕ) where
         | false ↦ λ e. ap (λ b. is_state y (name x) || b) (among_once y xs)
       ] refl
 
-  among_kept : (p : State → Bool) (q : named.State → Bool) (y : named.State) (ss : List State) → AllByRecursion (λ s. p s ≡ q (name s)) ss → is_among y (map name (filter p ss)) ≡ (q y && is_among y (map name ss))
+  among_kept : (p : State → Bool) (q : named.JudgeState → Bool) (y : named.JudgeState) (ss : List State) → AllByRecursion (λ s. p s ≡ q (name s)) ss → is_among y (map name (filter p ss)) ≡ (q y && is_among y (map name ss))
   among_kept p q y [] all = sym (and-false (q y))
   among_kept p q y (x ∷ xs) all =
       elim (p x) as (λ b. p x ≡ b → is_among y (map name (cond b (x ∷ filter p xs) (filter p xs))) ≡ (q y && (is_state y (name x) || is_among y (map name xs)))) [
@@ -194,16 +194,16 @@ module _ (w : Judge) (letters : List (List ℕ)) (names : List ℕ) (g : State �
   all_behind [] all = tt
   all_behind (v ∷ vs) all = with_first v.behind (steps.states_behind vs) all.0 (all_behind vs all.1)
 
-  all_reached : (n : ℕ) → AllByRecursion (IsKnown names) (steps.reached g n base)
-  unfolding steps.reached
+  all_reached : (n : ℕ) → AllByRecursion (IsKnown names) (steps.states_after g n base)
+  unfolding steps.states_after
   all_reached zero = by base stands.begins
     where
       by : (o : Option State) → IfSome o (IsKnown names) → AllByRecursion (IsKnown names) (option_to_list o)
       by None is = tt
       by (Some s) is = (is, tt)
-  all_reached (suc n) = all_flat (IsKnown names) (IsKnown names) (λ s. steps.states_behind (g s)) (λ s is. all_behind (g s) (stands.states s is).closed) (steps.reached g n base) (all_reached n)
+  all_reached (suc n) = all_flat (IsKnown names) (IsKnown names) (λ s. steps.states_behind (g s)) (λ s is. all_behind (g s) (stands.states s is).closed) (steps.states_after g n base) (all_reached n)
 
-  abbrev goes_on : ℕ → named.State → Bool
+  abbrev goes_on : ℕ → named.JudgeState → Bool
   goes_on left s = some_pair (lines.rows w letters (left - 1) s letters)
 
   goes_on_alike : (left : ℕ) (s : State) → 0 < left → IsKnown names s → graph.some_pair (graph.below (λ _. g) left (Some s)) ≡ goes_on left (named_in names s)
@@ -212,10 +212,10 @@ module _ (w : Judge) (letters : List (List ℕ)) (names : List ℕ) (g : State �
       let ps : List Pair = lines.rows w letters (left - 1) (named_in names s) letters in
       let qs : List graph.Pair = graph.below (λ _. g) (suc (left - 1)) (Some s) in
       ap (λ n. graph.some_pair (graph.below (λ _. g) n (Some s))) more
-      ∙ graph_some_is qs ∙ sym (some-map (spelled letters) qs) ∙ sym (ap some (rows_alike w letters names g (IsKnown names) stands.states (left - 1) s is)) ∙ some-map numbered ps ∙ sym (some_is ps)
+      ∙ graph_some_is qs ∙ sym (some-map (pair_in_letters letters) qs) ∙ sym (ap some (rows_alike w letters names g (IsKnown names) stands.states (left - 1) s is)) ∙ some-map pair_in_numbers ps ∙ sym (some_is ps)
 
   abbrev here : ℕ → ℕ → List State
-  here left n = steps.distinct (steps.live_among (λ _. g) left (steps.reached g n base))
+  here left n = steps.distinct (steps.live_among (λ _. g) left (steps.states_after g n base))
 
   all_alike : (left : ℕ) → 0 < left → (ss : List State) → AllByRecursion (IsKnown names) ss → AllByRecursion (λ s. graph.some_pair (graph.below (λ _. g) left (Some s)) ≡ goes_on left (named_in names s)) ss
   all_alike left more [] all = tt
@@ -225,8 +225,8 @@ module _ (w : Judge) (letters : List (List ℕ)) (names : List ℕ) (g : State �
   layer_has left n y more =
       stages_among names left y (here left n)
       ∙ ap (λ b. (y.left == left) && b)
-      (among_once names (state_of y) (steps.live_among (λ _. g) left (steps.reached g n base))
-      ∙ among_kept names (λ s. graph.some_pair (graph.below (λ _. g) left (Some s))) (goes_on left) (state_of y) (steps.reached g n base) (all_alike left more (steps.reached g n base) (all_reached n))
+      (among_once names (state_of y) (steps.live_among (λ _. g) left (steps.states_after g n base))
+      ∙ among_kept names (λ s. graph.some_pair (graph.below (λ _. g) left (Some s))) (goes_on left) (state_of y) (steps.states_after g n base) (all_alike left more (steps.states_after g n base) (all_reached n))
       ∙ ap (λ ss. goes_on left (state_of y) && is_among (state_of y) ss) (graphs_lead w letters names g set base n stands))
 
   module _ (limit : ℕ) where
@@ -312,6 +312,6 @@ module _ (w : Judge) (letters : List (List ℕ)) (names : List ℕ) (g : State �
     layers_distinct apart (suc n) low =
         let now : List Stage = stages names (limit - n) (here (limit - n) n) in
         let known : AllByRecursion (IsKnown names) (here (limit - n) n) =
-        all_distinct (IsKnown names) (steps.live_among (λ _. g) (limit - n) (steps.reached g n base)) (all_kept (IsKnown names) (λ s. graph.some_pair (graph.below (λ _. g) (limit - n) (Some s))) (steps.reached g n base) (all_reached n)) in
-        distinct_joined (layers n) now (layers_distinct apart n (omega (arith, low))) (stages_apart names apart (limit - n) (here (limit - n) n) known (distinct_apart (steps.live_among (λ _. g) (limit - n) (steps.reached g n base))))
+        all_distinct (IsKnown names) (steps.live_among (λ _. g) (limit - n) (steps.states_after g n base)) (all_kept (IsKnown names) (λ s. graph.some_pair (graph.below (λ _. g) (limit - n) (Some s))) (steps.states_after g n base) (all_reached n)) in
+        distinct_joined (layers n) now (layers_distinct apart n (omega (arith, low))) (stages_apart names apart (limit - n) (here (limit - n) n) known (distinct_apart (steps.live_among (λ _. g) (limit - n) (steps.states_after g n base))))
         (all_far (limit - n) now (left_of names (limit - n) (here (limit - n) n)) (layers n) (layers_high n (omega (arith, low))))

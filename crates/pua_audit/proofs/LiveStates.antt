@@ -35,7 +35,7 @@ module _ (s : Scope) where
   t = s.tree
 
   -- where a word leads, by the steps along its parts
-  leads_by_steps : (at : named.State) (a : List ℕ) (word : Word) → along.leads (judge_for s) (Below at a) word ≡ state_of (steps t (part_of a ∷ map part_of word) (at.dir, at.used))
+  leads_by_steps : (at : named.JudgeState) (a : List ℕ) (word : Word) → along.leads (judge_for s) (Below at a) word ≡ state_of (steps t (part_of a ∷ map part_of word) (at.dir, at.used))
   leads_by_steps at a [] = ap state_of (sym (then_ok (step t at.dir at.used (part_of a))))
   leads_by_steps at a (b ∷ word) =
       ap (along.on_state (state_of (step t at.dir at.used (part_of a))) None) (λ i next. leads_by_steps next b word i) ∙ by (step t at.dir at.used (part_of a))

@@ -9,7 +9,7 @@ use Rattle.std.proofs.Math.ListN.{get_or-append}
 use Rattle.std.proofs.Math.Seq.{get_or-append_seam}
 use Rattle.pua_audit.specs.Judge.{Judge}
 use Rattle.pua_audit.specs.Graphs.{AreApart}
-use Rattle.pua_audit.specs.Rows.{AreNumbers, IsGrown, IsEntryFor, IsRow}
+use Rattle.pua_audit.specs.Rows.{AreNumbers, IsGrown, IsEntryFor, IsJudgedRow}
 use Rattle.pua_audit.specs.Table.{IsTableOf}
 use Rattle.pua_audit.proofs.Rowed.{row_grown}
 use Rattle.pua_steps.specs.Table as steps
@@ -20,7 +20,7 @@ use Rattle.pua_steps.specs.declared.steps.Steps.{Steps}
 -- the rows of the first directories
 abbrev pub AreRows : Judge → List (List ℕ) → List ℕ → List Row → Type 0
 AreRows w letters dirs rows =
-    (d : ℕ) → d < length rows → IsRow w letters dirs (get_or dirs d 0) (length letters) (get_or (map steps.missing_in rows) d 0) (get_or (map steps.entries_in rows) d [])
+    (d : ℕ) → d < length rows → IsJudgedRow w letters dirs (get_or dirs d 0) (length letters) (get_or (map steps.missing_in rows) d 0) (get_or (map steps.entries_in rows) d [])
 
 -- one more row
 module _ (w : Judge) (letters : List (List ℕ)) (old new : List ℕ) (rows : List Row) (row : Row) (grown : IsGrown old new) (within : length rows ≤ length old) where
@@ -40,9 +40,9 @@ module _ (w : Judge) (letters : List (List ℕ)) (old new : List ℕ) (rows : Li
   entries_last = ap (λ n. get_or (map steps.entries_in all_rows) n []) (sym (length-map rows steps.entries_in)) ∙ ap (λ es. get_or es (length (map steps.entries_in rows)) []) (map-append steps.entries_in rows (row ∷ [])) ∙ get_or-append_seam (map steps.entries_in rows) row.entries.items [] []
 
   abbrev Row_at : ℕ → ℕ → List Entry → Type 0
-  Row_at dir missing entries = IsRow w letters new dir (length letters) missing entries
+  Row_at dir missing entries = IsJudgedRow w letters new dir (length letters) missing entries
 
-  pub rows_pushed : AreRows w letters old rows → IsRow w letters new (get_or old (length rows) 0) (length letters) row.missing row.entries.items → length rows < length old → AreRows w letters new all_rows
+  pub rows_pushed : AreRows w letters old rows → IsJudgedRow w letters new (get_or old (length rows) 0) (length letters) row.missing row.entries.items → length rows < length old → AreRows w letters new all_rows
   rows_pushed all last inside = λ d low. elim (cases_eq d (length rows)) [
     | inl e ↦ subst (λ n. Row_at (get_or new n 0) (get_or (map steps.missing_in all_rows) n 0) (get_or (map steps.entries_in all_rows) n [])) (sym e)
         (subst (λ n. Row_at n (get_or (map steps.missing_in all_rows) (length rows) 0) (get_or (map steps.entries_in all_rows) (length rows) [])) (sym (grown.same (length rows) inside))

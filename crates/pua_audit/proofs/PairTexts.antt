@@ -19,7 +19,7 @@ use Rattle.pua_calls.specs.declared.call.Call.TheVariants.{Stat, Lstat, Readlink
 use Rattle.pua_audit.specs.Reach.{Word, Pair, Scope, from_root, printed_path}
 use Rattle.pua_audit.specs.Begin.{word_of_pieces, word_of_pieces_between, word_of_path, word_within, resume_pair}
 use Rattle.pua_audit.specs.Judge.{is_letter}
-use Rattle.pua_audit.specs.PairTexts.{pair_text, is_among, IsWord, ResumeTextsName}
+use Rattle.pua_audit.specs.PairTexts.{pair_text, is_in_alphabet, IsWord, ResumeTextsName}
 use Rattle.pua_audit.specs.declared.base.Base.{Base}
 use Rattle.pua_audit.specs.declared.base.Base.TheVariants.{Root, Cwd}
 use Rattle.pua_audit.proofs.Paths.{IsPiece, letter_is_piece}
@@ -67,27 +67,27 @@ joined a (c ∷ word) = ap (λ t. spelling a ++ 47 ∷ t) (joined c word) ∙ sy
 
 -- what is found passes
 
-found_among : (test : List ℕ → Bool) (ms : List (List ℕ)) (a : List ℕ) → find test ms ≡ Some a → is_among ms a ≡ true
+found_among : (test : List ℕ → Bool) (ms : List (List ℕ)) (a : List ℕ) → find test ms ≡ Some a → is_in_alphabet ms a ≡ true
 found_among test [] a e = absurd (None≢Some a e)
 found_among test (m ∷ ms) a e = by (test m) e (found_among test ms a)
   where
-    by : (v : Bool) → cond v (Some m) (find test ms) ≡ Some a → (find test ms ≡ Some a → is_among ms a ≡ true) → (same_bytes a m || is_among ms a) ≡ true
-    by true e rest = ap (λ v. v || is_among ms a) ((bytes_eq-Decides a m).1 (sym (same_Some m a e)))
-    by false e rest = or_right (same_bytes a m) (is_among ms a) (rest e)
+    by : (v : Bool) → cond v (Some m) (find test ms) ≡ Some a → (find test ms ≡ Some a → is_in_alphabet ms a ≡ true) → (same_bytes a m || is_in_alphabet ms a) ≡ true
+    by true e rest = ap (λ v. v || is_in_alphabet ms a) ((bytes_eq-Decides a m).1 (sym (same_Some m a e)))
+    by false e rest = or_right (same_bytes a m) (is_in_alphabet ms a) (rest e)
 
-among_found : (ms : List (List ℕ)) (a : List ℕ) → is_among ms a ≡ true → find (same_bytes a) ms ≡ Some a
+among_found : (ms : List (List ℕ)) (a : List ℕ) → is_in_alphabet ms a ≡ true → find (same_bytes a) ms ≡ Some a
 among_found [] a e = absurd (false≢true e)
 among_found (m ∷ ms) a e = by (same_bytes a m) refl e (among_found ms a)
   where
-    by : (v : Bool) → same_bytes a m ≡ v → (v || is_among ms a) ≡ true → (is_among ms a ≡ true → find (same_bytes a) ms ≡ Some a) → cond v (Some m) (find (same_bytes a) ms) ≡ Some a
+    by : (v : Bool) → same_bytes a m ≡ v → (v || is_in_alphabet ms a) ≡ true → (is_in_alphabet ms a ≡ true → find (same_bytes a) ms ≡ Some a) → cond v (Some m) (find (same_bytes a) ms) ≡ Some a
     by true is e rest = ap Some (sym ((bytes_eq-Decides a m).0 is))
     by false is e rest = rest e
 
-among_letter : (ms : List (List ℕ)) → IsTrue (list_all is_letter ms) → (a : List ℕ) → is_among ms a ≡ true → IsTrue (is_letter a)
+among_letter : (ms : List (List ℕ)) → IsTrue (list_all is_letter ms) → (a : List ℕ) → is_in_alphabet ms a ≡ true → IsTrue (is_letter a)
 among_letter [] all a e = absurd (false≢true e)
 among_letter (m ∷ ms) all a e = by (same_bytes a m) refl e (and_parts (is_letter m) (list_all is_letter ms) all) (λ rest. among_letter ms rest a)
   where
-    by : (v : Bool) → same_bytes a m ≡ v → (v || is_among ms a) ≡ true → IsTrue (is_letter m) × IsTrue (list_all is_letter ms) → (IsTrue (list_all is_letter ms) → is_among ms a ≡ true → IsTrue (is_letter a)) → IsTrue (is_letter a)
+    by : (v : Bool) → same_bytes a m ≡ v → (v || is_in_alphabet ms a) ≡ true → IsTrue (is_letter m) × IsTrue (list_all is_letter ms) → (IsTrue (list_all is_letter ms) → is_in_alphabet ms a ≡ true → IsTrue (is_letter a)) → IsTrue (is_letter a)
     by true is e parts rest = subst (λ b. IsTrue (is_letter b)) (sym ((bytes_eq-Decides a m).0 is)) parts.0
     by false is e parts rest = rest parts.1 e
 
@@ -97,13 +97,13 @@ not_spelled a q h bytes none e = false≢true (sym none ∙ subst (λ b. IsTrue 
 
 module _ (alphabet : List (List ℕ)) (letters : IsTrue (list_all is_letter alphabet)) where
   abbrev AreAmong : Word → Type 0
-  AreAmong word = AllByRecursion (λ a. IsTrue (is_among alphabet a)) word
+  AreAmong word = AllByRecursion (λ a. IsTrue (is_in_alphabet alphabet a)) word
 
   pieces_all : (word : Word) → AreAmong word → AllByRecursion IsPiece word
   pieces_all [] all = tt
   pieces_all (a ∷ word) all = (letter_is_piece a (among_letter alphabet letters a all.0), pieces_all word all.1)
 
-  letter_read : (a : List ℕ) → IsTrue (is_among alphabet a) → find (λ l. same_bytes (spelling l) (spelling a)) alphabet ≡ Some a
+  letter_read : (a : List ℕ) → IsTrue (is_in_alphabet alphabet a) → find (λ l. same_bytes (spelling l) (spelling a)) alphabet ≡ Some a
   letter_read a among =
       let bytes = letter_bytes a (among_letter alphabet letters a among) in
       sym (same_find (same_bytes a) (λ l. same_bytes (spelling l) (spelling a)) alphabet letters (spelled_same a (spelling a) refl bytes)) ∙ among_found alphabet a among

@@ -19,7 +19,7 @@ use Rattle.pua_path.specs.Paths.{part_of}
 use Rattle.pua_audit.specs.Judge.{base_dir}
 use Rattle.pua_audit.specs.Live.{Stage, shorter, distinct_stages, live_states}
 use Rattle.pua_audit.specs.declared.base.Base.TheVariants.{Root, Cwd}
-use Rattle.pua_audit.specs.Past.{unveiled, locked_if, ended_if, history_of}
+use Rattle.pua_audit.specs.Past.{history_with_veils, locked_if, ended_if, plain_history}
 use Rattle.pua_audit.specs.Reach.{Pair, Scope, path_of, pair_cmp, pairs, is_reached, reach, rest_after}
 use Rattle.pua_audit.specs.declared.base.Base.{Base}
 use Rattle.std.proofs.lemmas.List.Elements.{filter_agree}
@@ -30,7 +30,7 @@ module _ (f : Event → Option ℕ) (veil : (place : Place) (perms : ℕ) → f 
   skipped : (event : Event) (h : History) → f event ≡ None → filter_map f (event ∷ h) ≡ filter_map f h
   skipped event h e = rw e refl
 
-  under_veils : (vs : List (Place × ℕ)) (h : History) → filter_map f (unveiled vs h) ≡ filter_map f h
+  under_veils : (vs : List (Place × ℕ)) (h : History) → filter_map f (history_with_veils vs h) ≡ filter_map f h
   under_veils [] h = refl
   under_veils (v ∷ vs) h = under_veils vs (Unveiled v.0 v.1 ∷ h) ∙ skipped (Unveiled v.0 v.1) h (veil v.0 v.1)
 
@@ -42,11 +42,11 @@ module _ (f : Event → Option ℕ) (veil : (place : Place) (perms : ℕ) → f 
   under_end true h = skipped Ended h end
   under_end false h = refl
 
-  under_all : (p : ProcessState) → filter_map f (history_of p) ≡ filter_map f (Pledged p.promises p.execpromises ∷ Moved p.dir ∷ [])
-  unfolding history_of
+  under_all : (p : ProcessState) → filter_map f (plain_history p) ≡ filter_map f (Pledged p.promises p.execpromises ∷ Moved p.dir ∷ [])
+  unfolding plain_history
   under_all p =
       let last : History = Pledged p.promises p.execpromises ∷ Moved p.dir ∷ [] in
-      under_end p.ended (locked_if p.locked (unveiled p.veils last)) ∙ under_lock p.locked (unveiled p.veils last) ∙ under_veils p.veils last
+      under_end p.ended (locked_if p.locked (history_with_veils p.veils last)) ∙ under_lock p.locked (history_with_veils p.veils last) ∙ under_veils p.veils last
 
 given_once : (set : Option ℕ) (execset : Option ℕ) (dir : ℕ) → set ≡ common (filter_map promises_in (Pledged set execset ∷ Moved dir ∷ []))
 given_once None execset dir = refl
@@ -58,11 +58,11 @@ given_for_exec_once set (Some s) dir = refl
 
 -- the lock and the end
 
-no_lock : (vs : List (Place × ℕ)) (h : History) → list_any is_lock (unveiled vs h) ≡ list_any is_lock h
+no_lock : (vs : List (Place × ℕ)) (h : History) → list_any is_lock (history_with_veils vs h) ≡ list_any is_lock h
 no_lock [] h = refl
 no_lock (v ∷ vs) h = no_lock vs (Unveiled v.0 v.1 ∷ h)
 
-no_end : (vs : List (Place × ℕ)) (h : History) → list_any is_end (unveiled vs h) ≡ list_any is_end h
+no_end : (vs : List (Place × ℕ)) (h : History) → list_any is_end (history_with_veils vs h) ≡ list_any is_end h
 no_end [] h = refl
 no_end (v ∷ vs) h = no_end vs (Unveiled v.0 v.1 ∷ h)
 
@@ -124,7 +124,7 @@ put_free v (w ∷ ws) free = by (same_place v.0 w.0) (put_free v ws) free
     by true more free = absurd (false≢true (sym free))
     by false more free = ap (λ vs. w ∷ vs) (more free)
 
-veils_put : (vs ws : List (Place × ℕ)) (h : History) → veils h ≡ ws → Apart (map (λ w. w.0) ws) vs → veils (unveiled vs h) ≡ ws ++ vs
+veils_put : (vs ws : List (Place × ℕ)) (h : History) → veils h ≡ ws → Apart (map (λ w. w.0) ws) vs → veils (history_with_veils vs h) ≡ ws ++ vs
 unfolding Apart
 veils_put [] ws h is all = is ∙ sym (append-nil ws)
 veils_put (v ∷ vs) ws h is all =
@@ -138,11 +138,11 @@ veils_by true false h = refl
 veils_by false true h = refl
 veils_by false false h = refl
 
-pub stands_for_past : (p : ProcessState) (h : History) → StandsFor p h → StandsFor p (history_of p)
-unfolding history_of
+pub stands_for_past : (p : ProcessState) (h : History) → StandsFor p h → StandsFor p (plain_history p)
+unfolding plain_history
 stands_for_past p h stands =
     let last : History = Pledged p.promises p.execpromises ∷ Moved p.dir ∷ [] in
-    let kept : History = unveiled p.veils last in
+    let kept : History = history_with_veils p.veils last in
     let apart : Apart [] p.veils = subst (Apart []) (sym stands.veils) (veils_apart h) in
     record {
       promises = given_once p.promises p.execpromises p.dir ∙ sym (ap common (under_all promises_in (λ _ _. refl) refl refl p));

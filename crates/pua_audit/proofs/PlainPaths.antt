@@ -6,7 +6,7 @@ use Rattle.std.proofs.lemmas.Bool.Decides.{eqb_tells}
 use Rattle.std.proofs.lemmas.List.Folds.{list_all-append}
 use Rattle.pua_tree.specs.Spelling.{is_plain}
 use Rattle.pua_audit.specs.Reach.{Word, from_root}
-use Rattle.pua_audit.specs.Ready.{lent}
+use Rattle.pua_audit.specs.Ready.{lent_path}
 use Rattle.pua_audit.specs.WordPaths.{plain_front}
 use Rattle.pua_audit.specs.declared.base.Base.{Base}
 use Rattle.pua_audit.specs.declared.base.Base.TheVariants.{Root, Cwd}
@@ -89,7 +89,7 @@ front_whole word front all is many =
     ]
 
 -- the path that is lent has no other bytes
-pub lent_plain : (base : Base) (word : Word) → list_all is_plain (lent base (from_root word)) ≡ list_all is_plain (from_root word)
+pub lent_plain : (base : Base) (word : Word) → list_all is_plain (lent_path base (from_root word)) ≡ list_all is_plain (from_root word)
 lent_plain Root [] = refl
 lent_plain Root (a ∷ word) = refl
 lent_plain Cwd [] = refl

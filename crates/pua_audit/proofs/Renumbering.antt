@@ -5,7 +5,7 @@ use Rattle.std.specs.List.{list_any}
 use Rattle.pua_tree.specs.Steps.{◌>>=◌}
 use Rattle.pua_tree.specs.Tree.{Tree, is_dir, look, above, climb_within}
 use Rattle.pua_path.specs.Paths.{parts_of, is_absolute, path_fault}
-use Rattle.pua_path.specs.Resolution.{Resolved, Standing, Directory, Linked, Plain, Nothing, standing_at, is_followed, slot_or, walk, start_of, resolve_parts, resolution, resolution_of_text, link_limit}
+use Rattle.pua_path.specs.Resolution.{Resolved, Standing, Directory, Linked, Plain, Nothing, standing_at, is_followed, slot_or, walk, start_of, resolve_parts, resolution, resolution_of_text, most_links}
 use Rattle.pua_path.specs.declared.errno.Errno.{Errno}
 use Rattle.pua_path.specs.declared.errno.Errno.TheVariants.{ENOENT, ENOTDIR, ELOOP}
 use Rattle.pua_path.specs.declared.text.Ending.{Ending}
@@ -18,7 +18,7 @@ use Rattle.pua_path.specs.declared.found.Way.TheVariants as way
 use Rattle.pua_path.specs.declared.found.Found.{Found}
 use Rattle.pua_path.specs.declared.found.Found.TheVariants.{Whole, Slot}
 use Rattle.pua_calls.specs.Calls.{CallTable, rule_of, ending_of, last_of}
-use Rattle.pua_policy.specs.History.{History, kept, may_any, working_dir}
+use Rattle.pua_policy.specs.History.{History, perms_kept, may_any, working_dir}
 use Rattle.pua_policy.specs.Verdict.{Object, IsDir, IsFile, IsProg, IsLink, IsMissing, object_fault, object_of, cover, cover_fault, or_fault, nearest, is_unveil, place_of, directories_over, allowed_unless, if_promised, verdict_of, verdict_on, object_named, is_allowed}
 use Rattle.pua_policy.specs.declared.answer.Cover.TheVariants.{All}
 use Rattle.pua_calls.specs.declared.call.Call.{Call}
@@ -80,7 +80,7 @@ module _ (t : Tree) (n : ℕ) where
 
   same_resolution : (from : ℕ) (end : Ending) (text : List ℕ) (mode : Last) → resolution v from end text mode ≡ resolution t from end text mode
   same_resolution from end text mode =
-      ap (λ r. cond {A = Result Found Errno} (not (is_absolute text) && not (is_dir t from)) (Err ENOENT) (r >>= λ found. Ok found.0)) (same_resolve link_limit mode (start_of text from) way.Top (parts_of end text))
+      ap (λ r. cond {A = Result Found Errno} (not (is_absolute text) && not (is_dir t from)) (Err ENOENT) (r >>= λ found. Ok found.0)) (same_resolve most_links mode (start_of text from) way.Top (parts_of end text))
 
   same_named : (from : ℕ) (end : Ending) (text : List ℕ) (mode : Last) → resolution_of_text v from end text mode ≡ resolution_of_text t from end text mode
   same_named from end text mode = by (path_fault text) refl
@@ -94,7 +94,7 @@ module _ (t : Tree) (n : ℕ) where
   same_over (Slot dir name y) = same_climb (length t.nodes) dir
 
   same_cover : (h : History) (x : Found) → cover v h x ≡ cover t h x
-  same_cover h x = ap (λ dirs. cond (list_any is_unveil h) (nearest (kept h (place_of x) ∷ map (λ dir. kept h (Dir dir)) dirs)) All) (same_over x)
+  same_cover h x = ap (λ dirs. cond (list_any is_unveil h) (nearest (perms_kept h (place_of x) ∷ map (λ dir. perms_kept h (Dir dir)) dirs)) All) (same_over x)
 
   same_object : (x : Found) → object_of v x ≡ object_of t x
   same_object (Whole dir w) = refl

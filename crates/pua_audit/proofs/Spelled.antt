@@ -5,7 +5,7 @@ use Rattle.std.specs.List.{AllByRecursion}
 use Rattle.pua_path.specs.declared.found.Part.{Part}
 use Rattle.pua_audit.specs.Reach.{Word, from_root, path_of}
 use Rattle.pua_audit.specs.Begin.{longest}
-use Rattle.pua_audit.specs.Ready.{part_bytes, letters_of, word_of, lent}
+use Rattle.pua_audit.specs.Ready.{part_bytes, letters_of, word_of, lent_path}
 use Rattle.pua_audit.specs.declared.base.Base.{Base}
 use Rattle.pua_audit.specs.declared.base.Base.TheVariants.{Root, Cwd}
 use Rattle.pua_audit.specs.declared.terms.Terms.{Terms}
@@ -18,7 +18,7 @@ from_root-push [] a = ap (λ bs. 47 ∷ bs) (append-nil a)
 from_root-push (b ∷ word) a = ap (λ bs. 47 ∷ b ++ bs) (from_root-push word a) ∙ ap (λ bs. 47 ∷ bs) (sym (append_assoc b (from_root word) (47 ∷ a)))
 
 -- the path of a word is what is lent of its letters
-pub lent_is : (base : Base) (word : Word) → lent base (from_root word) ≡ path_of base word
+pub lent_is : (base : Base) (word : Word) → lent_path base (from_root word) ≡ path_of base word
 lent_is Root [] = refl
 lent_is Root (a ∷ word) = refl
 lent_is Cwd [] = refl
@@ -40,7 +40,7 @@ pub record IsSpelled (a : Terms) (word bytes : List ℕ) : Type 0 where
   pub path : bytes ≡ from_root (word_of (letters_of a) word)
 
 -- what is lent has no more bytes than any path may
-pub lent_short : (base : Base) (a : Terms) (word path : List ℕ) → IsSpelled a word path → length word ≤ a.limit → a.limit * suc (longest (letters_of a)) ≤ 1023 → length (lent base path) ≤ 1023
+pub lent_short : (base : Base) (a : Terms) (word path : List ℕ) → IsSpelled a word path → length word ≤ a.limit → a.limit * suc (longest (letters_of a)) ≤ 1023 → length (lent_path base path) ≤ 1023
 lent_short base a word path is within room =
     let most : ℕ = longest (letters_of a) in
     let before : length (from_root (word_of (letters_of a) word)) ≤ length (word_of (letters_of a) word) * suc most = length_from_root most (word_of (letters_of a) word) (all_short a word is.known) in
@@ -48,7 +48,7 @@ lent_short base a word path is within room =
     let same : length (word_of (letters_of a) word) * suc most ≡ length word * suc most = ap (λ n. n * suc most) (length-word_of (letters_of a) word) in
     no_longer_lent base path (omega (arith, ap length is.path, before, few, same, room))
   where
-    no_longer_lent : (base : Base) (path : List ℕ) → length path ≤ 1023 → length (lent base path) ≤ 1023
+    no_longer_lent : (base : Base) (path : List ℕ) → length path ≤ 1023 → length (lent_path base path) ≤ 1023
     no_longer_lent Root [] h = omega arith
     no_longer_lent Root (b ∷ bs) h = h
     no_longer_lent Cwd [] h = omega arith

@@ -7,9 +7,9 @@ use Rattle.std.proofs.lemmas.List.Elements.{filter_map-append}
 use Rattle.std.proofs.lemmas.Bool.{cases_eq, cases_lt, and_parts, eqb-true, eq-eqb, ne_eqb, lt-ltb, le-ltb, le-leb, lt-leb}
 use Rattle.pua_calls.specs.declared.call.Call.{Call}
 use Rattle.pua_audit.specs.Reach.{Word, Pair}
-use Rattle.pua_audit.specs.Judge.{Judge, Place, Start, Below}
+use Rattle.pua_audit.specs.Judge.{Judge, WordEnd, Start, Below}
 use Rattle.pua_audit.specs.Judge.{allowed_at}
-use Rattle.pua_audit.specs.Judge.{State}
+use Rattle.pua_audit.specs.Judge.{JudgeState}
 use Rattle.pua_audit.specs.Live.{Stage, shorter}
 use Rattle.pua_audit.proofs.Lines as lines
 use Rattle.pua_audit.proofs.Stages.{on_state, leads, staged, stage_after, stages_of, is_stage, is_staged, reached_from, is_state, is_among, some_pair, state_of, StagesLive}
@@ -23,11 +23,11 @@ pub staged-append : (y : Stage) (xs ys : List Stage) → is_staged y (xs ++ ys) 
 staged-append y [] ys = refl
 staged-append y (x ∷ xs) ys = ap (λ b. is_stage y x || b) (staged-append y xs ys) ∙ sym (or_assoc (is_stage y x) (is_staged y xs) (is_staged y ys))
 
-among-append : (y : State) (xs ys : List State) → is_among y (xs ++ ys) ≡ (is_among y xs || is_among y ys)
+among-append : (y : JudgeState) (xs ys : List JudgeState) → is_among y (xs ++ ys) ≡ (is_among y xs || is_among y ys)
 among-append y [] ys = refl
 among-append y (x ∷ xs) ys = ap (λ b. is_state y x || b) (among-append y xs ys) ∙ sym (or_assoc (is_state y x) (is_among y xs) (is_among y ys))
 
-among-flat : {A : Type 0} (y : State) (f : A → List State) (xs : List A) → is_among y (flat_map f xs) ≡ any (λ x. is_among y (f x)) xs
+among-flat : {A : Type 0} (y : JudgeState) (f : A → List JudgeState) (xs : List A) → is_among y (flat_map f xs) ≡ any (λ x. is_among y (f x)) xs
 among-flat y f [] = refl
 among-flat y f (x ∷ xs) = among-append y (f x) (flat_map f xs) ∙ ap (λ b. is_among y (f x) || b) (among-flat y f xs)
 
@@ -44,16 +44,16 @@ any-and true f xs = refl
 any-and false f xs = any-none xs
 
 module _ (w : Judge) (letters : List (List ℕ)) where
-  stages-append : (limit : ℕ) (x : Place) (ps qs : List Pair) → stages_of w limit x (ps ++ qs) ≡ stages_of w limit x ps ++ stages_of w limit x qs
+  stages-append : (limit : ℕ) (x : WordEnd) (ps qs : List Pair) → stages_of w limit x (ps ++ qs) ≡ stages_of w limit x ps ++ stages_of w limit x qs
   stages-append limit x ps qs = ap (filter_map (stage_after w limit x)) (flat_map-append (λ (p : Pair). shorter p.0) ps qs) ∙ filter_map-append (stage_after w limit x) (flat_map (λ (p : Pair). shorter p.0) ps) (flat_map (λ (p : Pair). shorter p.0) qs)
 
-  stages-alone : (limit : ℕ) (x : Place) (cs : List Call) → stages_of w limit x (lines.alone cs) ≡ []
+  stages-alone : (limit : ℕ) (x : WordEnd) (cs : List Call) → stages_of w limit x (lines.alone cs) ≡ []
   unfolding lines.alone
   stages-alone limit x [] = refl
   stages-alone limit x (c ∷ cs) = stages-alone limit x cs
 
   -- the fronts of a word behind one letter
-  fronts : (l : ℕ) (s : State) (x : Place) (a : List ℕ) → w.step x ≡ Some s → (us : List Word) → filter_map (stage_after w (suc l) x) (map (λ u. a ∷ u) us) ≡ filter_map (stage_after w l (Below s a)) us
+  fronts : (l : ℕ) (s : JudgeState) (x : WordEnd) (a : List ℕ) → w.step x ≡ Some s → (us : List Word) → filter_map (stage_after w (suc l) x) (map (λ u. a ∷ u) us) ≡ filter_map (stage_after w l (Below s a)) us
   fronts l s x a step [] = refl
   fronts l s x a step (u ∷ us) = ap (λ o. cons_option o (filter_map (stage_after w (suc l) x) (map (λ u. a ∷ u) us))) (one u) ∙ ap (cons_option (stage_after w l (Below s a) u)) (fronts l s x a step us)
     where
@@ -62,7 +62,7 @@ module _ (w : Judge) (letters : List (List ℕ)) where
           ap (λ o. option_map (staged (suc l - suc (length u))) (on_state o None (λ s. leads w (Below s a) u))) step ∙ ap (λ n. option_map (staged n) (leads w (Below s a) u)) fewer
 
   -- pairs behind one letter: the state itself for each, and the stages behind it
-  behind_letter : (y : Stage) (l : ℕ) (s : State) (x : Place) (a : List ℕ) → w.step x ≡ Some s → (ps : List Pair)
+  behind_letter : (y : Stage) (l : ℕ) (s : JudgeState) (x : WordEnd) (a : List ℕ) → w.step x ≡ Some s → (ps : List Pair)
       → is_staged y (stages_of w (suc l) x (lines.cons a ps)) ≡ ((is_stage y (staged (suc l) s) && some_pair ps) || is_staged y (stages_of w l (Below s a) ps))
   unfolding lines.cons
   behind_letter y l s x a step [] = none (is_stage y (staged (suc l) s))
@@ -90,7 +90,7 @@ module _ (w : Judge) (letters : List (List ℕ)) where
       shuffle false false p m = refl
 
   -- membership, letter by letter
-  met : ℕ → Place → Stage → Bool
+  met : ℕ → WordEnd → Stage → Bool
   met zero x y = false
   met (suc l) x y = on_state (w.step x) false (λ s. (is_stage y (staged (suc l) s) && some_pair (lines.rows w letters l s letters)) || any (λ a. met l (Below s a) y) letters)
 
@@ -103,7 +103,7 @@ module _ (w : Judge) (letters : List (List ℕ)) where
   some-cons a [] = refl
   some-cons a (p ∷ ps) = refl
 
-  rows_met : (l : ℕ) → ((x : Place) (y : Stage) → is_staged y (stages_of w l x (lines.below w letters l x)) ≡ met l x y) → (s : State) (x : Place) (y : Stage) → w.step x ≡ Some s → (some : List (List ℕ))
+  rows_met : (l : ℕ) → ((x : WordEnd) (y : Stage) → is_staged y (stages_of w l x (lines.below w letters l x)) ≡ met l x y) → (s : JudgeState) (x : WordEnd) (y : Stage) → w.step x ≡ Some s → (some : List (List ℕ))
       → is_staged y (stages_of w (suc l) x (lines.rows w letters l s some)) ≡ ((is_stage y (staged (suc l) s) && some_pair (lines.rows w letters l s some)) || any (λ a. met l (Below s a) y) some)
   unfolding lines.rows
   rows_met l each s x y step [] = none (is_stage y (staged (suc l) s))
@@ -133,7 +133,7 @@ module _ (w : Judge) (letters : List (List ℕ)) where
       shuffle true false false true n = refl
       shuffle true false false false n = refl
 
-  below_met : (l : ℕ) (x : Place) (y : Stage) → is_staged y (stages_of w l x (lines.below w letters l x)) ≡ met l x y
+  below_met : (l : ℕ) (x : WordEnd) (y : Stage) → is_staged y (stages_of w l x (lines.below w letters l x)) ≡ met l x y
   unfolding met
   below_met zero x y = ap (λ ps. is_staged y (stages_of w zero x ps)) (lines.below_end w letters x)
   below_met (suc l) x y = elim (w.step x) as (λ o. w.step x ≡ o → is_staged y (stages_of w (suc l) x (lines.below w letters (suc l) x)) ≡ on_state o false (λ s. (is_stage y (staged (suc l) s) && some_pair (lines.rows w letters l s letters)) || any (λ a. met l (Below s a) y) letters)) [
@@ -141,16 +141,16 @@ module _ (w : Judge) (letters : List (List ℕ)) where
     | Some s ↦ λ e. ap (λ ps. is_staged y (stages_of w (suc l) x ps)) (lines.below_some w letters l s x e) ∙ rows_met l (below_met l) s x y e letters
   ] refl
 
-  reached_none : (n : ℕ) (x : Place) → w.step x ≡ None → reached_from w letters n x ≡ []
+  reached_none : (n : ℕ) (x : WordEnd) → w.step x ≡ None → reached_from w letters n x ≡ []
   unfolding reached_from
   reached_none zero x e = ap option_to_list e
   reached_none (suc n) x e = ap (λ o. on_state o [] (λ s. flat_map (λ a. reached_from w letters n (Below s a)) letters)) e
 
-  reached_zero : (x : Place) (s : State) → w.step x ≡ Some s → reached_from w letters 0 x ≡ s ∷ []
+  reached_zero : (x : WordEnd) (s : JudgeState) → w.step x ≡ Some s → reached_from w letters 0 x ≡ s ∷ []
   unfolding reached_from
   reached_zero x s e = ap option_to_list e
 
-  reached_suc : (n : ℕ) (x : Place) (s : State) → w.step x ≡ Some s → reached_from w letters (suc n) x ≡ flat_map (λ a. reached_from w letters n (Below s a)) letters
+  reached_suc : (n : ℕ) (x : WordEnd) (s : JudgeState) → w.step x ≡ Some s → reached_from w letters (suc n) x ≡ flat_map (λ a. reached_from w letters n (Below s a)) letters
   unfolding reached_from
   reached_suc n x s e = ap (λ o. on_state o [] (λ s. flat_map (λ a. reached_from w letters n (Below s a)) letters)) e
 
@@ -160,7 +160,7 @@ module _ (w : Judge) (letters : List (List ℕ)) where
   abbrev lives : Stage → Bool
   lives y = some_pair (lines.rows w letters (y.left - 1) (state_of y) letters)
 
-  abbrev told : ℕ → Place → Stage → Bool
+  abbrev told : ℕ → WordEnd → Stage → Bool
   told l x y = in_range y l && (lives y && is_among (state_of y) (reached_from w letters (l - y.left) x))
 
   and_none : (a b : Bool) → false ≡ (a && (b && false))
@@ -168,11 +168,11 @@ module _ (w : Judge) (letters : List (List ℕ)) where
   and_none true false = refl
   and_none false b = refl
 
-  same_state : (a b : State) → is_state a b ≡ true → a ≡ b
+  same_state : (a b : JudgeState) → is_state a b ≡ true → a ≡ b
   same_state a b e = let both = and_parts (a.dir == b.dir) (a.used == b.used) e in λ i. record { dir = eqb-true a.dir b.dir both.0 i; used = eqb-true a.used b.used both.1 i }
 
   -- the stage of the state itself
-  here : (l : ℕ) (s : State) (y : Stage) → y.left ≡ suc l → (is_stage y (staged (suc l) s) && some_pair (lines.rows w letters l s letters)) ≡ (lives y && (is_state (state_of y) s || false))
+  here : (l : ℕ) (s : JudgeState) (y : Stage) → y.left ≡ suc l → (is_stage y (staged (suc l) s) && some_pair (lines.rows w letters l s letters)) ≡ (lives y && (is_state (state_of y) s || false))
   here l s y e =
       ap (λ b. ((y.dir == s.dir) && ((y.links == s.used) && b)) && some_pair (lines.rows w letters l s letters)) (eq-eqb y.left (suc l) e)
       ∙ drop_true (y.dir == s.dir) (y.links == s.used) (some_pair (lines.rows w letters l s letters))
@@ -199,7 +199,7 @@ module _ (w : Judge) (letters : List (List ℕ)) where
       none true = refl
       none false = refl
 
-  not_here : (l : ℕ) (s : State) (y : Stage) → (y.left ≡ suc l → ⊥) → is_stage y (staged (suc l) s) ≡ false
+  not_here : (l : ℕ) (s : JudgeState) (y : Stage) → (y.left ≡ suc l → ⊥) → is_stage y (staged (suc l) s) ≡ false
   not_here l s y apart = ap (λ b. (y.dir == s.dir) && ((y.links == s.used) && b)) (ne_eqb y.left (suc l) apart) ∙ none (y.dir == s.dir) (y.links == s.used)
     where
       none : (a b : Bool) → (a && (b && false)) ≡ false
@@ -208,7 +208,7 @@ module _ (w : Judge) (letters : List (List ℕ)) where
       none false b = refl
 
   -- the stages of a state, and those behind its letters
-  at_state : (l : ℕ) → ((x : Place) (y : Stage) → met l x y ≡ told l x y) → (x : Place) (s : State) (y : Stage) → w.step x ≡ Some s
+  at_state : (l : ℕ) → ((x : WordEnd) (y : Stage) → met l x y ≡ told l x y) → (x : WordEnd) (s : JudgeState) (y : Stage) → w.step x ≡ Some s
       → ((is_stage y (staged (suc l) s) && some_pair (lines.rows w letters l s letters)) || any (λ a. met l (Below s a) y) letters) ≡ told (suc l) x y
   at_state l each x s y step =
       let all : any (λ a. met l (Below s a) y) letters ≡ any (λ a. told l (Below s a) y) letters = any-same (λ a. met l (Below s a) y) (λ a. told l (Below s a) y) (λ a. each (Below s a) y) letters in
@@ -238,7 +238,7 @@ module _ (w : Judge) (letters : List (List ℕ)) where
             ]
       ]
 
-  met_told : (l : ℕ) (x : Place) (y : Stage) → met l x y ≡ told l x y
+  met_told : (l : ℕ) (x : WordEnd) (y : Stage) → met l x y ≡ told l x y
   unfolding met
   met_told zero x y = elim (cases_lt 0 y.left) [
     | inl h ↦ sym (ap (λ b. b && (lives y && is_among (state_of y) (reached_from w letters (0 - y.left) x))) (outside 0 y h))

@@ -4,7 +4,7 @@ use Rattle.std.specs.Int.{bit_at}
 use Rattle.std.specs.Prelude.{Result, Ok, Err, is_ok}
 use Rattle.std.proofs.lemmas.Nat.Bits.{bit_at-lt, bit_at-zero, same_from_bits_below}
 use Rattle.pua_tree.specs.Tree.{Tree}
-use Rattle.pua_path.specs.Limits.{link_limit}
+use Rattle.pua_path.specs.Limits.{most_links}
 use Rattle.pua_path.specs.Paths.{part_of}
 use Rattle.pua_path.specs.Resolution.{follow, last}
 use Rattle.pua_path.specs.declared.errno.Errno.{Errno}
@@ -30,7 +30,7 @@ pub letter_told : (t : Tree) (table : CallTable) (base : Base) (h : History) (di
     → ((call : Call) → has all call ≡ allowed_near t table h dir letter (follow t dir (part_of letter)) call) → ((call : Call) → has kept call ≡ allowed_far t table h dir letter call)
     → IsLetter (judge_of t table base h) dir letter all kept (links_of (follow t dir (part_of letter))) (leads_to (found_of (follow t dir (part_of letter))))
 letter_told t table base h dir letter all kept near far = record {
-  own = λ used call low. (entries_stand t table base h dir letter used low).own call ∙ by call (nat_le (used + links_of (follow t dir (part_of letter))) link_limit);
+  own = λ used call low. (entries_stand t table base h dir letter used low).own call ∙ by call (nat_le (used + links_of (follow t dir (part_of letter))) most_links);
   step = λ used low. (entries_stand t table base h dir letter used low).step;
 }
   where

@@ -18,11 +18,11 @@ use Rattle.pua_audit.specs.declared.fault.AuditFault.{AuditFault}
 use Rattle.pua_audit.specs.declared.fault.AuditFault.TheVariants.{BadCandidate, BadResume, LimitTooLarge}
 
 -- the printed path and the call of each pair
-abbrev pub printed : Base → Pair → List ℕ
-printed base pair = printed_path base pair.0 ++ 32 ∷ call_name pair.1
+abbrev pub printed_pair : Base → Pair → List ℕ
+printed_pair base pair = printed_path base pair.0 ++ 32 ∷ call_name pair.1
 
 abbrev pub printed_beginning : Base → Result Beginning AuditFault → List (List ℕ)
-printed_beginning base (Ok b) = map (printed base) (still_to_come b)
+printed_beginning base (Ok b) = map (printed_pair base) (still_to_come b)
 printed_beginning base (Err fault) = []
 
 -- the lines of an audit

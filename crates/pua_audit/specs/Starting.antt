@@ -7,7 +7,7 @@ use Rattle.pua_path.specs.declared.found.Part.{Part}
 use Rattle.pua_calls.specs.Calls.{CallTable}
 use Rattle.pua_policy.specs.History.{History}
 use Rattle.pua_audit.specs.Reach.{Word, Pair, Scope}
-use Rattle.pua_audit.specs.Limits.{letter_limit, path_limit}
+use Rattle.pua_audit.specs.Limits.{most_letters, most_path}
 use Rattle.pua_audit.specs.Begin.{Beginning, longest, resume_in, word_within}
 use Rattle.pua_audit.specs.Judge.{is_letter}
 use Rattle.pua_audit.specs.Laws.{Rises}
@@ -34,11 +34,11 @@ pair_in letters r = (word_of letters r.word.items, r.call)
 
 -- letters in the order of their bytes, each of them a part of a path, and no path of a word is too long
 pub record AreSound (limit : ℕ) (letters : List Part) : Type 0 where
-  pub few : limit ≤ letter_limit
+  pub few : limit ≤ most_letters
   pub parts : AreParts letters
   pub known : IsTrue (list_all is_letter (map part_bytes letters))
   pub rises : Rises name_cmp (map part_bytes letters)
-  pub short : limit * suc (longest (map part_bytes letters)) ≤ path_limit
+  pub short : limit * suc (longest (map part_bytes letters)) ≤ most_path
 
 -- what is audited by words of these letters
 abbrev pub scope_with : Tree → CallTable → History → Base → ℕ → List Part → Scope

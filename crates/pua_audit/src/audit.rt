@@ -5,7 +5,7 @@ ghost use Rattle.std.specs.Borrow.{sem};
 ghost use Rattle.std.specs.List.{list_all};
 ghost use Rattle.pua_tree.specs.Spelling.{is_plain};
 ghost use Rattle.pua_policy.specs.History.{History, StandsFor};
-ghost use Rattle.pua_audit.specs.Limits.{path_limit};
+ghost use Rattle.pua_audit.specs.Limits.{most_path};
 ghost use Rattle.pua_steps.specs.Limits.{search_cost};
 ghost use Rattle.pua_audit.specs.Bounds.{begin_cost, letter_count};
 ghost use Rattle.pua_audit.specs.Begin.{Beginning, beginning, still_to_come};
@@ -130,7 +130,7 @@ impl Audit {
     pub fn next_line<'t, P: Probe<'t>>(&mut self, probe: &mut P) -> Option<Line<'_>>
         requires { P.tree probe.old ≡ self.old.tree }
         ensures* rest { sem 𝓛 (LendsLine self.entry result) }
-        ensures short { IfSome result (λ line. length line.path.now ≤ path_limit) }
+        ensures short { IfSome result (λ line. length line.path.now ≤ most_path) }
         ensures plain { IfSome result (λ line. line.plain ≡ list_all is_plain line.path.now) }
         ensures tree { P.tree probe.new ≡ P.tree probe.old }
         ensures asked { P.count probe.new ≡ P.count probe.old }

@@ -15,9 +15,9 @@ use crate::base::Base;
 use crate::candidates::read_candidates;
 use crate::component::Component;
 use crate::fault::AuditFault;
-use crate::limits::{CANDIDATE_LIMIT, LETTER_LIMIT};
+use crate::limits::{MOST_CANDIDATES, MOST_LETTERS};
 use crate::resume_text::{Resumption, read_pair};
-use pua_path::{PATH_LIMIT, Probe};
+use pua_path::{MOST_PATH, Probe};
 use pua_tree::LentRow;
 use std::alloc::Global;
 
@@ -74,10 +74,10 @@ fn letters_within<'t, P: Probe<'t>>(
     ensures many { IfOk result (λ letters. length letters.items ≡ letter_count (P.tree probe.now) (map (λ s. s.now) candidates.now)) }
     ensures sound { IfOk result (λ letters. AreSound limit letters.items) }
 {
-    if limit > LETTER_LIMIT {
+    if limit > MOST_LETTERS {
         return Err(AuditFault::LimitTooLarge);
     }
-    if candidates.len() > CANDIDATE_LIMIT {
+    if candidates.len() > MOST_CANDIDATES {
         return Err(AuditFault::TooManyNames);
     }
     let names = read_candidates(alloc, candidates)?;
@@ -85,7 +85,7 @@ fn letters_within<'t, P: Probe<'t>>(
     let Ok(letters) = alphabet(alloc, rows, names.as_slice()) else {
         return Err(AuditFault::OutOfMemory);
     };
-    if usize::from(limit) * (longest(letters.as_slice()) + 1) > PATH_LIMIT {
+    if usize::from(limit) * (longest(letters.as_slice()) + 1) > MOST_PATH {
         return Err(AuditFault::TooLong);
     }
     Ok(letters)

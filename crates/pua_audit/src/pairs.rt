@@ -5,7 +5,7 @@ ghost use Rattle.pua_tree.specs.LentRows.{lent_entry};
 ghost use Rattle.std.specs.List.{AllByRecursion};
 ghost use Rattle.pua_audit.specs.Bounds.{pairs_cost};
 ghost use Rattle.pua_audit.specs.Begin.{longest};
-ghost use Rattle.pua_audit.specs.Coming.{AreReady, IsNextCall, call_at, to_come, word_in};
+ghost use Rattle.pua_audit.specs.Coming.{AreReady, IsNextCall, call_at, to_come, walk_word};
 ghost use Rattle.pua_audit.specs.Live.{live_states};
 ghost use Rattle.pua_audit.specs.Reach.{rest_after};
 ghost use Rattle.pua_audit.specs.Ready.{IsSound, letters_of, scope_in};
@@ -15,7 +15,7 @@ ghost use Rattle.pua_steps.specs.Limits.{call_count, search_cost};
 
 use crate::path::WordPath;
 use crate::resume_text::Resumption;
-use crate::table::begun::Begun;
+use crate::table::begun::BegunWalk;
 use crate::terms::Terms;
 use pua_calls::Call;
 use pua_path::Probe;
@@ -59,7 +59,7 @@ impl Pairs {
         ensures tree { P.tree probe.new ≡ P.tree probe.old }
         ensures cost { P.count probe.new ≤ P.count probe.old + pairs_cost terms.seen.tree (length terms.letters.items) }
     {
-        let Begun { walk, live } = terms.begun(alloc, probe, rows, after)?;
+        let BegunWalk { walk, live } = terms.begun(alloc, probe, rows, after)?;
         let Ok(path) = WordPath::new(alloc, terms.limit, terms.most_bytes()) else {
             return Err(OutOfMemory);
         };
@@ -95,7 +95,7 @@ impl Pairs {
         requires bytes { self.old.terms.limit * suc (longest (letters_of self.old.terms)) ≤ vec_capacity self.old.path.bytes }
         requires starts { self.old.terms.limit ≤ vec_capacity self.old.path.starts }
         ensures kept { (self.new.terms ≡ self.old.terms) × (self.new.walk ≡ self.old.walk) × (self.new.live ≡ self.old.live) }
-        ensures path { IsPathOf (word_in self.new) self.new.path }
+        ensures path { IsPathOf (walk_word self.new) self.new.path }
         ensures whole { length self.new.path.starts.items ≡ length self.new.walk.word.items }
         ensures bytes { self.old.terms.limit * suc (longest (letters_of self.old.terms)) ≤ vec_capacity self.new.path.bytes }
         ensures starts { self.old.terms.limit ≤ vec_capacity self.new.path.starts }

@@ -4,7 +4,7 @@ ghost use Rattle.std.specs.Prelude.{◌≡◌, ◌≤◌, ◌<◌, ◌+◌, ◌+
 ghost use Rattle.std.specs.List.{list_all};
 ghost use Rattle.pua_tree.specs.Spelling.{is_plain};
 ghost use Rattle.pua_audit.specs.Reach.{Word};
-ghost use Rattle.pua_audit.specs.Ready.{part_bytes, lent};
+ghost use Rattle.pua_audit.specs.Ready.{part_bytes, lent_path};
 ghost use Rattle.pua_audit.specs.WordPaths.{IsPathOf, plain_front};
 
 use crate::base::Base;
@@ -101,7 +101,7 @@ pub(crate) fn add_letter(path: &mut Vec<u8>, letter: &Component)
 /// The path as it is lent: the base itself for no letter, and from the working directory no slash
 /// before the first.
 pub(crate) fn lent_path(base: Base, path: &[u8]) -> &[u8]
-    ensures { result.now ≡ lent base path.now }
+    ensures { result.now ≡ lent_path base path.now }
 {
     match (base, path) {
         (Base::Root, []) => b"/",

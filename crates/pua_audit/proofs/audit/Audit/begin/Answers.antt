@@ -7,7 +7,7 @@ use Rattle.pua_path.specs.Counts.{one_more}
 use Rattle.pua_steps.specs.Limits.{search_cost}
 use Rattle.pua_path.specs.declared.found.Part.{Part}
 use Rattle.pua_policy.specs.History.{StandsFor}
-use Rattle.pua_audit.specs.Past.{history_of}
+use Rattle.pua_audit.specs.Past.{plain_history}
 use Rattle.pua_audit.specs.Reach.{Scope, rest_after}
 use Rattle.pua_audit.specs.Begin.{Beginning, beginning}
 use Rattle.pua_audit.specs.Bounds.{begin_cost, letter_count, pairs_cost}
@@ -22,7 +22,7 @@ use Rattle.pua_audit.proofs.audit.Audit.begin.Goals as goal
 
 pub new-requires : goal.new-requires
 new-requires g c =
-    let past : StandsFor c.args.process.now (history_of c.args.process.now) = stands_for_past c.args.process.now c.known.ensures.history c.known.ensures.stands in
+    let past : StandsFor c.args.process.now (plain_history c.args.process.now) = stands_for_past c.args.process.now c.known.ensures.history c.known.ensures.stands in
     let parts : AreParts c.in_ok-letters.field-0.letters.items = c.in_ok-letters.ensures.sound.sound.parts in
     let short = c.in_ok-letters.ensures.sound.sound.short in
     search rules
@@ -44,8 +44,8 @@ returns-clause-begun g c = λ h stands.
         c.in-Ok-begin.ensures.left
             ∙ ap (λ (ls : List Part). rest_after (scope_in c.in-Ok-new.terms) (option_map (pair_in (map part_bytes ls)) after)) known
             ∙ ap (λ (s : Scope). rest_after s (option_map (pair_in (map part_bytes letters)) after)) c.in-Ok-new.ensures.scope
-            ∙ ap (λ (u : Tree). rest_after (scope_with u c.args.table.now (history_of p) base limit letters) (option_map (pair_in (map part_bytes letters)) after)) c.in-Ok.ensures.tree
-            ∙ rest_by_process t c.args.table.now base (map part_bytes letters) limit p (history_of p) h past stands (option_map (pair_in (map part_bytes letters)) after),
+            ∙ ap (λ (u : Tree). rest_after (scope_with u c.args.table.now (plain_history p) base limit letters) (option_map (pair_in (map part_bytes letters)) after)) c.in-Ok.ensures.tree
+            ∙ rest_by_process t c.args.table.now base (map part_bytes letters) limit p (plain_history p) h past stands (option_map (pair_in (map part_bytes letters)) after),
         refl,
       ),
     )
@@ -77,8 +77,8 @@ returns-clause-live g c = λ h stands b is.
     let past = stands_for_past p c.known.ensures.history c.known.ensures.stands in
     c.in-Ok-begin.ensures.live
     ∙ ap (λ (s : Scope). length (live_states s)) c.in-Ok-new.ensures.scope
-    ∙ ap (λ (u : Tree). length (live_states (scope_with u c.args.table.now (history_of p) base limit letters))) c.in-Ok.ensures.tree
-    ∙ ap length (live_by_process t c.args.table.now base (map part_bytes letters) limit p (history_of p) h past stands)
+    ∙ ap (λ (u : Tree). length (live_states (scope_with u c.args.table.now (plain_history p) base limit letters))) c.in-Ok.ensures.tree
+    ∙ ap length (live_by_process t c.args.table.now base (map part_bytes letters) limit p (plain_history p) h past stands)
     ∙ ap live_in (sym ((subst (λ (u : Tree). beginning u c.args.table.now h c.args.base (map (λ s. s.now) c.args.candidates.now) c.args.limit (option_map (λ s. s.now) c.args.after) ≡ Ok (beginning_with u c.args.table.now h c.args.base c.args.limit c.in_ok-letters.field-0)) c.in-Ok.ensures.tree (c.in_ok-letters.ensures.begun c.args.table.now h))) ∙ is)
 
 pub begin-requires : goal.begin-requires

@@ -9,7 +9,7 @@ use Rattle.pua_path.specs.Resolution.{follow, last}
 use Rattle.pua_path.specs.declared.found.Last.TheVariants.{Kept}
 use Rattle.pua_policy.specs.Verdict.{verdict_of, is_allowed}
 use Rattle.pua_audit.specs.Bounds.{object_cost}
-use Rattle.pua_audit.specs.Past.{history_of}
+use Rattle.pua_audit.specs.Past.{plain_history}
 use Rattle.pua_audit.proofs.Covers.{kept_above}
 use Rattle.pua_audit.proofs.Told.{kept_unlinked}
 use Rattle.pua_audit.proofs.terms.Terms.calls_kept.Goals as goal
@@ -20,7 +20,7 @@ returns-then-is_ok-clause-exact g c = λ call.
     let a = c.args.self.now in
     let t = a.seen.tree in
     let alike = kept_unlinked t c.args.dir c.args.part.now (follow t c.args.dir c.args.part.now) refl (sym c.requires.links ∙ c.if-links-eq0.true) (ap is_ok (sym c.requires.followed) ∙ sym c.is_ok.ensures.value ∙ c.if-is_ok.true) in
-    c.requires.near call ∙ ap (λ (x : Result Found Errno). is_allowed (verdict_of t a.table (history_of a.process) call x)) (c.requires.followed ∙ sym alike)
+    c.requires.near call ∙ ap (λ (x : Result Found Errno). is_allowed (verdict_of t a.table (plain_history a.process) call x)) (c.requires.followed ∙ sym alike)
 
 pub cover_of-cover-requires : goal.cover_of-cover-requires
 cover_of-cover-requires g c κs =
@@ -49,7 +49,7 @@ returns-clause-exact g c = λ call.
     let t : Tree = a.seen.tree in
     let is : c.last-kept.result ≡ last t c.args.dir 0 c.args.part.now Kept =
     c.last-kept.ensures.exact ∙ ap (λ (u : Tree). last u c.args.dir 0 c.args.part.now Kept) c.requires.tree in
-    c.calls_on.ensures.exact call ∙ ap (λ (x : Result Found Errno). is_allowed (verdict_of t a.table (history_of a.process) call x)) is
+    c.calls_on.ensures.exact call ∙ ap (λ (x : Result Found Errno). is_allowed (verdict_of t a.table (plain_history a.process) call x)) is
 
 -- the looks at the tree
 

@@ -17,7 +17,7 @@ use Rattle.pua_policy.specs.Descent.{cover_in}
 use Rattle.pua_policy.specs.History.{History}
 use Rattle.pua_policy.specs.Verdict.{verdict_of, is_allowed}
 use Rattle.pua_calls.specs.declared.call.Call.{Call}
-use Rattle.pua_audit.specs.Past.{history_of}
+use Rattle.pua_audit.specs.Past.{plain_history}
 use Rattle.pua_audit.specs.Ready.{judge_in, letters_of}
 use Rattle.pua_audit.specs.Entries.{links_of, found_of, leads_to, allowed_kept, allowed_near, allowed_far}
 use Rattle.pua_audit.specs.Table.{IsLetter}
@@ -47,7 +47,7 @@ pub returns-clause-exact : goal.returns-clause-exact
 returns-clause-exact g c =
     let a = c.args.self.now in
     let t : Tree = a.seen.tree in
-    let h : History = history_of a.process in
+    let h : History = plain_history a.process in
     let dir : ℕ = c.args.dir in
     let letter : List ℕ = get_or (letters_of a) c.args.letter [] in
     let r : Result (Found × ℕ) Errno = follow t dir (part_of letter) in
@@ -72,7 +72,7 @@ returns-clause-exact g c =
 pub returns-clause-covered : goal.returns-clause-covered
 returns-clause-covered g c =
     let a = c.args.self.now in
-    let h : History = history_of a.process in
+    let h : History = plain_history a.process in
     let fit : FoundsFit a.seen.tree c.counted-followed.result.0 =
     subst (FoundsFit a.seen.tree) (sym c.counted-followed.ensures.found) (founds_of a.seen.tree c.follow.result (subst (λ (u : Tree). IfOk c.follow.result (λ found. FoundFits u found.0)) c.requires.tree c.follow.ensures.fits)) in
     subst (λ (o : Option ℕ). IfSome o (λ to. c.cover_of-cover.result ≡ cover_in a.seen.tree h to)) (sym c.directory_of.ensures)

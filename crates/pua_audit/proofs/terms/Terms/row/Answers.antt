@@ -1,9 +1,9 @@
 use Rattle.std.proofs.Common.{◌≡◌, ◌<◌, ◌^◌, ◌∙◌, ℕ, suc, List, length, arith, refl, sym, subst, add-one, suc-mul}
 use Rattle.std.proofs.lemmas.List.{length-map}
 use Rattle.pua_audit.specs.Bounds.{letter_cost}
-use Rattle.pua_audit.specs.Past.{history_of}
+use Rattle.pua_audit.specs.Past.{plain_history}
 use Rattle.pua_audit.specs.Ready.{part_bytes, judge_in, letters_of}
-use Rattle.pua_audit.specs.Rows.{IsRow}
+use Rattle.pua_audit.specs.Rows.{IsJudgedRow}
 use Rattle.pua_audit.specs.Spots.{AreLettersIn}
 use Rattle.pua_audit.proofs.Costs.{letters_within}
 use Rattle.pua_audit.proofs.Gaps.{letters_bare, row_started, row_further}
@@ -23,7 +23,7 @@ loop-letter-init g c =
     let bare = letters_bare a c.args.dir missing s.dots.items s.names.items ns c.requires.sound c.requires.living (c.within-within.ensures c.args.dir c.requires.living c.requires.over).missing c.requires.spots among in
     record {
       row = λ n low reached.
-          subst (IsRow (judge_in a) (letters_of a) c.args.dirs.now.numbers c.args.dir n missing) (sym c.new-entries.ensures.items)
+          subst (IsJudgedRow (judge_in a) (letters_of a) c.args.dirs.now.numbers c.args.dir n missing) (sym c.new-entries.ensures.items)
           (row_started (judge_in a) (letters_of a) c.args.dir missing ns bare c.args.dirs.now.numbers (subst (λ m. m < 2 ^ call_count) c.bits-missing.ensures.number c.bits-missing.ensures.calls) n low reached);
       grown = grown_itself c.args.dirs.now.numbers;
       living = c.requires.dirs;
@@ -69,7 +69,7 @@ loop-letter-preserved g c =
           (c.in_ok-put.ensures.row (judge_in a) (letters_of a) c.args.dir c.letter-found.ensures.exact) n low (subst (λ j. IsReached ns j n) (add-one k) reached);
       grown = grown_further c.args.dirs.now.numbers l.dirs.numbers c.put.new.dirs.numbers l.invariant.grown c.in_ok-put.ensures.grown;
       living = c.in_ok-put.ensures.living a.seen.tree c.letter-found.ensures.lives l.invariant.living;
-      covered = c.in_ok-put.ensures.covered a.seen.tree (history_of a.process) c.letter-found.ensures.covered l.invariant.covered;
+      covered = c.in_ok-put.ensures.covered a.seen.tree (plain_history a.process) c.letter-found.ensures.covered l.invariant.covered;
       tree = c.letter-found.ensures.tree ∙ l.invariant.tree;
       cost = omega (arith, l.invariant.cost, c.letter-found.ensures.cost, suc-mul k (letter_cost a.seen.tree));
     }
@@ -84,8 +84,8 @@ returns-clause-row g c =
     let many : length (letters_of a) ≡ length a.letters.items = length-map a.letters.items part_bytes in
     let whole : l.letter-index ≡ length ns = omega (arith, c.loop-letter-test.false, l.auto.letter-index-end) in
     let reached = reached_all ns (length (letters_of a)) l.letter-index (among.within (length (letters_of a)) c.requires.spots.dotted c.requires.spots.within) whole in
-    subst (λ (m : ℕ). IsRow (judge_in a) (letters_of a) l.dirs.numbers c.args.dir (length a.letters.items) m l.entries.items) (sym c.bits-missing.ensures.number)
-    (subst (λ (n : ℕ). IsRow (judge_in a) (letters_of a) l.dirs.numbers c.args.dir n c.within-within.result.missing l.entries.items) many (l.invariant.row (length (letters_of a)) (omega arith) reached))
+    subst (λ (m : ℕ). IsJudgedRow (judge_in a) (letters_of a) l.dirs.numbers c.args.dir (length a.letters.items) m l.entries.items) (sym c.bits-missing.ensures.number)
+    (subst (λ (n : ℕ). IsJudgedRow (judge_in a) (letters_of a) l.dirs.numbers c.args.dir n c.within-within.result.missing l.entries.items) many (l.invariant.row (length (letters_of a)) (omega arith) reached))
 
 pub returns-clause-cost : goal.returns-clause-cost
 returns-clause-cost g c =

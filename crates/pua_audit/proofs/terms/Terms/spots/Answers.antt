@@ -8,7 +8,7 @@ use Rattle.pua_policy.proofs.ForCallers.{veils_are_kept}
 use Rattle.pua_policy.specs.History.{veil_at}
 use Rattle.pua_policy.specs.declared.place.Place.{Place}
 use Rattle.pua_policy.specs.declared.place.Place.TheVariants.{Slot}
-use Rattle.pua_audit.specs.Past.{history_of}
+use Rattle.pua_audit.specs.Past.{plain_history}
 use Rattle.pua_audit.specs.Ready.{part_bytes, letters_of}
 use Rattle.pua_audit.specs.Spots.{AreApartFrom, IsNowhere, IsUnmarked}
 use Rattle.pua_audit.specs.declared.table.spots.LetterSpot.{LetterSpot}
@@ -22,7 +22,7 @@ returns c =
     let name = λ (letter : ℕ). get_or (letters_of a) letter [] in
     let rows : map lent_entry c.args.rows.now ≡ a.seen.tree.rows = c.requires.rows in
     let places : map (λ place. place.now) c.as_slice-2.result.now ≡ map (λ veil. veil.0) a.process.veils = ap (map (λ place. place.now)) c.as_slice-2.ensures.value ∙ c.in_ok-places.ensures in
-    let h = history_of a.process in
+    let h = plain_history a.process in
     let names : List LetterSpot = c.add_veils.new.spots.items in
     let sorted : List LetterSpot = c.sort_unstable_by_key.new.self.items in
     let moved = c.sort_unstable_by_key.ensures.permutation in

@@ -10,9 +10,9 @@ use Rattle.pua_policy.specs.History.{History}
 use Rattle.pua_audit.specs.Bounds.{row_cost}
 use Rattle.pua_audit.specs.Covers.{AreCovered, DirectoriesState}
 use Rattle.pua_audit.specs.Judge.{Judge}
-use Rattle.pua_audit.specs.Past.{history_of}
+use Rattle.pua_audit.specs.Past.{plain_history}
 use Rattle.pua_audit.specs.Ready.{part_bytes, judge_in, letters_of}
-use Rattle.pua_audit.specs.Rows.{AreNumbers, IsRow}
+use Rattle.pua_audit.specs.Rows.{AreNumbers, IsJudgedRow}
 use Rattle.pua_audit.proofs.Costs.{next_within, one_row_more, rows_few, rows_within}
 use Rattle.pua_audit.proofs.Moves.{all_at_index}
 use Rattle.pua_audit.proofs.Made.{AreRows, rows_pushed, table_made, numbers_apart}
@@ -32,9 +32,9 @@ loop-dir-preserved g c =
     let inside : length rows < length l.dirs.numbers = omega (arith, at.0, c.len.ensures) in
     let count : c.len.result ≡ length rows = omega (arith, c.len.ensures) in
     let here : c.in-Some.dir ≡ get_or l.dirs.numbers (length rows) 0 = at.1 ∙ ap (λ (n : ℕ). get_or l.dirs.numbers n 0) count in
-    let last : IsRow (judge_in a) (letters_of a) new (get_or l.dirs.numbers (length rows) 0) (length (letters_of a)) row.missing row.entries.items =
-    subst (λ (n : ℕ). IsRow (judge_in a) (letters_of a) new n (length (letters_of a)) row.missing row.entries.items) here
-    (subst (λ (n : ℕ). IsRow (judge_in a) (letters_of a) new c.in-Some.dir n row.missing row.entries.items) (sym (length-map a.letters.items part_bytes)) c.in_ok-row.ensures.row) in
+    let last : IsJudgedRow (judge_in a) (letters_of a) new (get_or l.dirs.numbers (length rows) 0) (length (letters_of a)) row.missing row.entries.items =
+    subst (λ (n : ℕ). IsJudgedRow (judge_in a) (letters_of a) new n (length (letters_of a)) row.missing row.entries.items) here
+    (subst (λ (n : ℕ). IsJudgedRow (judge_in a) (letters_of a) new c.in-Some.dir n row.missing row.entries.items) (sym (length-map a.letters.items part_bytes)) c.in_ok-row.ensures.row) in
     let items : c.push.new.self.items ≡ rows ++ row ∷ [] = c.in-Ok.ensures.items in
     record {
       rows = subst (AreRows (judge_in a) (letters_of a) new) (sym items) (rows_pushed (judge_in a) (letters_of a) l.dirs.numbers new rows row grown l.invariant.within l.invariant.rows last inside);
@@ -103,7 +103,7 @@ pub loop-dir-init : goal.loop-dir-init
 loop-dir-init g c =
     let a = c.args.self.now in
     let t : Tree = a.seen.tree in
-    let h : History = history_of a.process in
+    let h : History = plain_history a.process in
     let new = c.place.new.self in
     let placed = c.in_ok-place.ensures in
     let alone : new.numbers ≡ c.args.base ∷ [] =
@@ -131,14 +131,14 @@ cover_below t h dirs place other covered same low =
 pub cover_at-over-requires : goal.cover_at-over-requires
 cover_at-over-requires g c =
     let a = c.args.self.now in
-    cover_below a.seen.tree (history_of a.process) c.loop-dir.dirs c.len-in-Some.result c.len.result c.loop-dir.invariant.covered
+    cover_below a.seen.tree (plain_history a.process) c.loop-dir.dirs c.len-in-Some.result c.len.result c.loop-dir.invariant.covered
     (c.len-in-Some.ensures ∙ sym c.len.ensures) c.in-Some.ensures.dir.0
 
 pub row-requires : goal.row-requires
 row-requires g c κs =
     let a = c.args.self.now in
     let t : Tree = a.seen.tree in
-    let h : History = history_of a.process in
+    let h : History = plain_history a.process in
     let l = c.loop-dir in
     let at = c.in-Some.ensures.dir in
     let living : IsTrue (is_dir t c.in-Some.dir) =

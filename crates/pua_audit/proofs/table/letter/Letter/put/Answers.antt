@@ -1,6 +1,6 @@
 use Rattle.std.proofs.Common.{◌≡◌, ◌∙◌, ◌+◌, ℕ, List, [], Option, ◌&&◌, length, get_or, option_map, refl, sym, ap, subst, arith}
 use Rattle.pua_calls.specs.CallSets.{has, keeps_link}
-use Rattle.pua_audit.specs.Rows.{IsEntryFor, IsRow}
+use Rattle.pua_audit.specs.Rows.{IsEntryFor, IsJudgedRow}
 use Rattle.pua_audit.specs.Table.{IsLetter}
 use Rattle.pua_audit.proofs.Rowed.{row_grown, row_skipped, row_added}
 use Rattle.pua_audit.proofs.Told.{kept_none}
@@ -28,5 +28,5 @@ returns-clause-row c = λ w letters dir letter row.
     let more : e.all ≡ 0 → e.kept ≡ 0 =
     kept_none e.all e.kept c.bits-2.ensures.calls (λ call. ap (λ m. has m call) c.bits-2.ensures.number ∙ c.requires.kept call ∙ ap (λ m. has m call && keeps_link call) (sym c.bits.ensures.number)) in
     let fits : IsEntryFor (n + 1) (length dirs) e = record { letter = omega arith; kept = c.bits-2.ensures.calls; all = c.bits.ensures.calls; more = more; links = c.requires.links; to = to.1 } in
-    subst (IsRow w letters dirs dir (n + 1) c.args.missing) (sym c.in-Ok.ensures.items)
+    subst (IsJudgedRow w letters dirs dir (n + 1) c.args.missing) (sym c.in-Ok.ensures.items)
     (row_added w letters dir c.args.missing dirs n e es (row_grown w letters dir c.args.missing c.args.dirs.now.numbers dirs n es c.in_ok-to.ensures.grown row) here refl fits)
