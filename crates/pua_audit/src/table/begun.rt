@@ -5,16 +5,16 @@ ghost use Rattle.pua_tree.specs.LentRows.{lent_entry};
 ghost use Rattle.std.specs.List.{AllByRecursion};
 ghost use Rattle.pua_path.specs.declared.found.Found.TheVariants.{Whole};
 ghost use Rattle.pua_audit.specs.Bounds.{pairs_cost};
-ghost use Rattle.pua_audit.specs.Past.{history_of};
-ghost use Rattle.pua_audit.specs.Coming.{pairs_after, pairs_at};
+ghost use Rattle.pua_audit.specs.Past.{plain_history};
+ghost use Rattle.pua_audit.specs.Coming.{pairs_resumed, pairs_at};
 ghost use Rattle.pua_audit.specs.Reach.{Pair, rest_after};
 ghost use Rattle.pua_audit.specs.Judge.{base_dir, base_way, is_open};
 ghost use Rattle.pua_audit.specs.Live.{live_states};
 ghost use Rattle.pua_audit.specs.Ready.{IsSound, letters_of, scope_in};
 ghost use Rattle.pua_audit.specs.Starting.{AreLetters, AreSound, pair_in};
-ghost use Rattle.pua_steps.specs.Graph.{reach};
+ghost use Rattle.pua_steps.specs.Graph.{graph_reach};
 ghost use Rattle.pua_steps.specs.Limits.{call_count, search_cost};
-ghost use Rattle.pua_steps.specs.Lists.{IsListed};
+ghost use Rattle.pua_steps.specs.Lists.{AreListsOf};
 ghost use Rattle.pua_steps.specs.Live.{IsSized};
 ghost use Rattle.pua_steps.specs.Ready.{IsReady, trail};
 ghost use Rattle.pua_steps.specs.Table.{IsState, IsTable, graph_of};
@@ -30,7 +30,7 @@ use std::alloc::{AllocError, Global};
 
 /// A walk over the table of steps of what is audited, and how many of its states are live.
 #[derive(Drop)]
-pub(crate) struct Begun {
+pub(crate) struct BegunWalk {
     pub(crate) walk: Walk,
     pub(crate) live: usize,
 }
@@ -46,7 +46,7 @@ impl Terms {
         probe: &mut P,
         rows: &[LentRow<'_>],
         after: Option<Resumption>,
-    ) -> Result<Begun, OutOfMemory>
+    ) -> Result<BegunWalk, OutOfMemory>
         requires tree { P.tree probe.old ≡ self.now.seen.tree }
         requires rows { map lent_entry rows.now ≡ self.now.seen.tree.rows }
         requires sound { IsSound self.now }
@@ -78,7 +78,7 @@ impl Terms {
         probe: &mut P,
         rows: &[LentRow<'_>],
         after: Option<Resumption>,
-    ) -> Result<Begun, OutOfMemory>
+    ) -> Result<BegunWalk, OutOfMemory>
         requires tree { P.tree probe.old ≡ self.now.seen.tree }
         requires rows { map lent_entry rows.now ≡ self.now.seen.tree.rows }
         requires sound { IsSound self.now }
@@ -109,11 +109,11 @@ impl Terms {
         let Ok(walk) = walk_after(alloc, tables, calls, base, self.limit, after) else {
             return Err(OutOfMemory);
         };
-        Ok(Begun { walk, live })
+        Ok(BegunWalk { walk, live })
     }
 
     /// The same where nothing is allowed: no pair is ahead, and no state is live.
-    fn begun_closed(&self, alloc: Global) -> Result<Begun, OutOfMemory>
+    fn begun_closed(&self, alloc: Global) -> Result<BegunWalk, OutOfMemory>
         requires sound { IsSound self.now }
         requires letters { AreSound self.now.limit self.now.letters.items }
         requires closed { is_open (scope_in self.now) ≡ false }
@@ -136,13 +136,13 @@ impl Terms {
         let Ok(walk) = Walk::begin(alloc, tables, 0, None, self.limit) else {
             return Err(OutOfMemory);
         };
-        Ok(Begun { walk, live: 0 })
+        Ok(BegunWalk { walk, live: 0 })
     }
 
     /// The base itself, as it is found.
     fn base_found(&self) -> Found
         requires { IsSound self.now }
-        ensures { result ≡ Whole (base_dir self.now.base (history_of self.now.process)) (base_way self.now.base) }
+        ensures { result ≡ Whole (base_dir self.now.base (plain_history self.now.process)) (base_way self.now.base) }
     {
         Found::Whole {
             dir: self.base_dir(),
@@ -163,7 +163,7 @@ fn walk_after(
 ) -> Result<Walk, AllocError>
     requires table { IsTable tables.steps }
     requires sized { IsSized tables.steps tables.live limit }
-    requires listed { IsListed tables.steps tables.live limit tables.lists }
+    requires listed { AreListsOf tables.steps tables.live limit tables.lists }
     requires calls { calls < 2 ^ call_count }
     requires base { IfSome base (λ s. IsState tables.steps s) }
     requires word { IfSome after (λ r. AllByRecursion (λ letter. letter < tables.steps.letters) r.word.items) }
@@ -172,7 +172,7 @@ fn walk_after(
     ensures of { IfOk result (λ walk. (walk.tables.steps ≡ tables.steps) × (walk.limit ≡ limit)) }
     ensures reads { IfOk result (λ walk. walk.tables.reads ≤ tables.reads + search_cost * limit) }
     ensures unread { after ≡ None → IfOk result (λ walk. walk.tables.reads ≡ tables.reads) }
-    ensures left { IfOk result (λ walk. pairs_of (trail walk) ≡ pairs_after after (reach (graph_of tables.steps) limit calls base)) }
+    ensures left { IfOk result (λ walk. pairs_of (trail walk) ≡ pairs_resumed after (graph_reach (graph_of tables.steps) limit calls base)) }
 {
     let Some(after) = after else {
         return Walk::begin(alloc, tables, calls, base, limit);

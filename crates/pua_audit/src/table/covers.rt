@@ -10,7 +10,7 @@ ghost use Rattle.pua_policy.specs.Descent.{cover_in};
 ghost use Rattle.pua_policy.specs.History.{History, StandsFor};
 ghost use Rattle.pua_policy.specs.Verdict.{cover};
 ghost use Rattle.pua_audit.specs.Covers.{AreCovered};
-ghost use Rattle.pua_audit.specs.Past.{history_of};
+ghost use Rattle.pua_audit.specs.Past.{plain_history};
 ghost use Rattle.pua_audit.specs.Ready.{IsSound};
 
 use crate::table::directories::Directories;
@@ -34,10 +34,10 @@ impl Terms {
         requires sound { IsSound self.now }
         requires fits { FoundsFit self.now.seen.tree found.now }
         requires named { IfOk found.now (StandsAsNamed self.now.seen.tree) }
-        requires covered { AreCovered self.now.seen.tree (history_of self.now.process) dirs.now }
+        requires covered { AreCovered self.now.seen.tree (plain_history self.now.process) dirs.now }
         requires living { IsTrue (is_dir self.now.seen.tree from) }
         requires above { IfOk found.now (λ object. part.now ≡ parts.DotDot → object ≡ Whole (above self.now.seen.tree from) DotDot) }
-        ensures exact { IfOk found.now (λ object. result ≡ cover self.now.seen.tree (history_of self.now.process) object) }
+        ensures exact { IfOk found.now (λ object. result ≡ cover self.now.seen.tree (plain_history self.now.process) object) }
         ensures tree { P.tree probe.new ≡ P.tree probe.old }
         ensures cost { P.count probe.new ≤ P.count probe.old + length self.now.seen.tree.nodes }
     {

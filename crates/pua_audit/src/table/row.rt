@@ -9,10 +9,10 @@ ghost use Rattle.pua_calls.specs.declared.call.Call.{Call};
 ghost use Rattle.pua_audit.specs.Bounds.{row_cost};
 ghost use Rattle.pua_audit.specs.Covers.{AreCovered};
 ghost use Rattle.pua_audit.specs.Judge.{Judge};
-ghost use Rattle.pua_audit.specs.Past.{history_of};
+ghost use Rattle.pua_audit.specs.Past.{plain_history};
 ghost use Rattle.pua_audit.specs.Ready.{IsSound, judge_in, letters_of};
-ghost use Rattle.pua_audit.specs.Rows.{AreLiving, IsGrown, IsRow};
-ghost use Rattle.pua_audit.specs.Spots.{AreSpots};
+ghost use Rattle.pua_audit.specs.Rows.{AreLiving, IsGrown, IsJudgedRow};
+ghost use Rattle.pua_audit.specs.Spots.{AreLetterSpots};
 ghost use Rattle.pua_audit.specs.Table.{IsLetter};
 ghost use Rattle.pua_steps.specs.Limits.{most_links};
 
@@ -42,15 +42,15 @@ impl Terms {
     ) -> Result<Row, OutOfMemory>
         requires tree { P.tree probe.old ≡ self.now.seen.tree }
         requires sound { IsSound self.now }
-        requires spots { AreSpots self.now.seen.tree (history_of self.now.process) (letters_of self.now) spots.now.dots.items spots.now.names.items }
+        requires spots { AreLetterSpots self.now.seen.tree (plain_history self.now.process) (letters_of self.now) spots.now.dots.items spots.now.names.items }
         requires living { IsTrue (is_dir self.now.seen.tree dir) }
         requires dirs { AreLiving self.now.seen.tree dirs.old.numbers }
-        requires covers { AreCovered self.now.seen.tree (history_of self.now.process) dirs.old }
-        requires over { over ≡ cover_in self.now.seen.tree (history_of self.now.process) dir }
-        ensures row { IfOk result (λ row. IsRow (judge_in self.now) (letters_of self.now) dirs.new.numbers dir (length self.now.letters.items) row.missing row.entries.items) }
+        requires covers { AreCovered self.now.seen.tree (plain_history self.now.process) dirs.old }
+        requires over { over ≡ cover_in self.now.seen.tree (plain_history self.now.process) dir }
+        ensures row { IfOk result (λ row. IsJudgedRow (judge_in self.now) (letters_of self.now) dirs.new.numbers dir (length self.now.letters.items) row.missing row.entries.items) }
         ensures grown { IfOk result (λ _. IsGrown dirs.old.numbers dirs.new.numbers) }
         ensures living { IfOk result (λ _. AreLiving self.now.seen.tree dirs.new.numbers) }
-        ensures covered { IfOk result (λ _. AreCovered self.now.seen.tree (history_of self.now.process) dirs.new) }
+        ensures covered { IfOk result (λ _. AreCovered self.now.seen.tree (plain_history self.now.process) dirs.new) }
         ensures tree { P.tree probe.new ≡ P.tree probe.old }
         ensures cost { P.count probe.new ≤ P.count probe.old + row_cost self.now.seen.tree (length self.now.letters.items) }
     {
@@ -80,7 +80,7 @@ impl Letter {
         requires kept { (call : Call) → has self.now.kept call ≡ (has self.now.all call && keeps_link call) }
         requires links { self.now.links ≤ most_links }
         ensures row { IfOk result (λ _. (w : Judge) (letters : List (List ℕ)) (dir : ℕ) → IsLetter w dir (get_or letters letter []) self.now.all self.now.kept self.now.links self.now.leads
-            → IsRow w letters dirs.old.numbers dir letter missing entries.old.items → IsRow w letters dirs.new.numbers dir (letter + 1) missing entries.new.items) }
+            → IsJudgedRow w letters dirs.old.numbers dir letter missing entries.old.items → IsJudgedRow w letters dirs.new.numbers dir (letter + 1) missing entries.new.items) }
         ensures grown { IfOk result (λ _. IsGrown dirs.old.numbers dirs.new.numbers) }
         ensures living { IfOk result (λ _. (t : Tree) → IfSome self.now.leads (λ d. IsTrue (is_dir t d)) → AreLiving t dirs.old.numbers → AreLiving t dirs.new.numbers) }
         ensures covered { IfOk result (λ _. (t : Tree) (h : History) → IfSome self.now.leads (λ d. self.now.cover ≡ cover_in t h d) → AreCovered t h dirs.old → AreCovered t h dirs.new) }

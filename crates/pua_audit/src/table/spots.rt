@@ -8,10 +8,10 @@ ghost use Rattle.pua_tree.specs.Tree.{name_cmp};
 ghost use Rattle.pua_path.specs.declared.found.Part.TheVariants.{Dot};
 ghost use Rattle.pua_policy.specs.declared.place.Place.TheVariants.{Slot};
 ghost use Rattle.pua_audit.specs.Laws.{Rises};
-ghost use Rattle.pua_audit.specs.Past.{history_of};
+ghost use Rattle.pua_audit.specs.Past.{plain_history};
 ghost use Rattle.pua_audit.specs.Placed.{ArePlaced};
 ghost use Rattle.pua_audit.specs.Ready.{IsSound, letters_of};
-ghost use Rattle.pua_audit.specs.Spots.{AreApartFrom, AreAtLetters, AreLettersIn, AreSpots, IsApart, IsNowhere, IsUnmarked, is_dots};
+ghost use Rattle.pua_audit.specs.Spots.{AreApartFrom, AreAtLetters, AreLettersIn, AreLetterSpots, IsApart, IsNowhere, IsUnmarked, is_dots};
 
 use crate::table::placed::placed;
 use crate::terms::Terms;
@@ -43,7 +43,7 @@ impl Terms {
         requires rows { map lent_entry rows.now ≡ self.now.seen.tree.rows }
         requires sound { IsSound self.now }
         requires rises { Rises name_cmp (letters_of self.now) }
-        ensures { IfOk result (λ spots. AreSpots self.now.seen.tree (history_of self.now.process) (letters_of self.now) spots.dots.items spots.names.items) }
+        ensures { IfOk result (λ spots. AreLetterSpots self.now.seen.tree (plain_history self.now.process) (letters_of self.now) spots.dots.items spots.names.items) }
     {
         let letters = placed(alloc, self.letters.as_slice())?;
         let places = self.process.places(alloc)?;
