@@ -15,7 +15,7 @@ use Rattle.pua_policy.specs.declared.place.Place.TheVariants as place
 use Rattle.pua_audit.specs.Laws.{Rises}
 use Rattle.pua_audit.proofs.ForCallers.{distinct_names_rise}
 use Rattle.pua_objects.specs.Objects.{names_in, name_at, veiled_in, entries}
-use Rattle.pua_objects.specs.Spots.{slot_of, names_at, AreInOrder, AreSpots}
+use Rattle.pua_objects.specs.Spots.{veil_spot, names_at, AreInOrder, AreSpots}
 use Rattle.pua_objects.proofs.Among.{Among, among_left, among_right, among_either, among_map, map_among, among_filter, filter_among, among_distinct, distinct_among, contained, among_contained}
 
 -- ---- what `filter_map` gives
@@ -103,23 +103,23 @@ module _ (dir : ℕ) where
 
   -- ---- of rows and veils
 
-  slot_named : (p : Place) (n : List ℕ) → slot_of p ≡ Some (dir, n) → name_at dir p ≡ Some n
+  slot_named : (p : Place) (n : List ℕ) → veil_spot p ≡ Some (dir, n) → name_at dir p ≡ Some n
   slot_named (place.Slot d m) n e =
       let same = same_Some (d, m) (dir, n) e in
       ap (λ b. if b then Some m else None) (eq-eqb d dir (ap (λ s. s.0) same)) ∙ ap (λ s. Some s.1) same
   slot_named (place.Dir d) n e = absurd (None≢Some (dir, n) e)
 
-  named_slot : (p : Place) (n : List ℕ) → name_at dir p ≡ Some n → slot_of p ≡ Some (dir, n)
+  named_slot : (p : Place) (n : List ℕ) → name_at dir p ≡ Some n → veil_spot p ≡ Some (dir, n)
   named_slot (place.Slot d m) n e = by (d == dir) refl e
     where
-      by : (b : Bool) → (d == dir) ≡ b → (if b then Some m else None) ≡ Some n → slot_of (place.Slot d m) ≡ Some (dir, n)
+      by : (b : Bool) → (d == dir) ≡ b → (if b then Some m else None) ≡ Some n → veil_spot (place.Slot d m) ≡ Some (dir, n)
       by true is e = let same : ◌≡◌ {A = Spot} (d, m) (dir, n) = (λ i. (eqb-true d dir is i, same_Some m n e i)) in ap (λ (s : Spot). Some s) same
       by false is e = absurd (None≢Some n e)
   named_slot (place.Dir d) n e = absurd (None≢Some n e)
 
   module _ (t : Tree) (vs : List (Place × ℕ)) where
     abbrev given : List Spot
-    given = map (λ row. row.0) t.rows ++ filter_map slot_of (map (λ veil. veil.0) vs)
+    given = map (λ row. row.0) t.rows ++ filter_map veil_spot (map (λ veil. veil.0) vs)
 
     row_there : (n : List ℕ) → Among (map (λ row. row.0) t.rows) (dir, n) → Among (names_in t dir) n
     row_there n a =
@@ -135,20 +135,20 @@ module _ (dir : ℕ) where
         let same : named.0.0 ≡ (dir, n) = (λ i. (eqb-true named.0.0.0 dir there.1 i, named.2 i)) in
         rw same at (among_map (λ row. row.0) t.rows named.0 there.0)
 
-    veil_there : (n : List ℕ) → Among (filter_map slot_of (map (λ veil. veil.0) vs)) (dir, n) → Among (veiled_in vs dir) n
+    veil_there : (n : List ℕ) → Among (filter_map veil_spot (map (λ veil. veil.0) vs)) (dir, n) → Among (veiled_in vs dir) n
     veil_there n a =
-        let slot = filter_map_among slot_of (map (λ veil. veil.0) vs) (dir, n) a in
+        let slot = filter_map_among veil_spot (map (λ veil. veil.0) vs) (dir, n) a in
         let veil = map_among (λ veil. veil.0) vs slot.0 slot.1 in
         among_filter_map (λ veil. name_at dir veil.0) vs veil.0 n veil.1 (ap (name_at dir) veil.2 ∙ slot_named slot.0 n slot.2)
 
-    there_veil : (n : List ℕ) → Among (veiled_in vs dir) n → Among (filter_map slot_of (map (λ veil. veil.0) vs)) (dir, n)
+    there_veil : (n : List ℕ) → Among (veiled_in vs dir) n → Among (filter_map veil_spot (map (λ veil. veil.0) vs)) (dir, n)
     there_veil n a =
         let veil = filter_map_among (λ veil. name_at dir veil.0) vs n a in
-        among_filter_map slot_of (map (λ veil. veil.0) vs) veil.0.0 (dir, n) (among_map (λ veil. veil.0) vs veil.0 veil.1) (named_slot veil.0.0 n veil.2)
+        among_filter_map veil_spot (map (λ veil. veil.0) vs) veil.0.0 (dir, n) (among_map (λ veil. veil.0) vs veil.0 veil.1) (named_slot veil.0.0 n veil.2)
 
     given_there : (n : List ℕ) → Among given (dir, n) → Among (names_in t dir ++ veiled_in vs dir) n
     given_there n a =
-        elim (among_either (map (λ row. row.0) t.rows) (filter_map slot_of (map (λ veil. veil.0) vs)) (dir, n) a) [
+        elim (among_either (map (λ row. row.0) t.rows) (filter_map veil_spot (map (λ veil. veil.0) vs)) (dir, n) a) [
           | inl b ↦ among_left (names_in t dir) (veiled_in vs dir) n (row_there n b)
           | inr b ↦ among_right (names_in t dir) (veiled_in vs dir) n (veil_there n b)
         ]
@@ -156,8 +156,8 @@ module _ (dir : ℕ) where
     there_given : (n : List ℕ) → Among (names_in t dir ++ veiled_in vs dir) n → Among given (dir, n)
     there_given n a =
         elim (among_either (names_in t dir) (veiled_in vs dir) n a) [
-          | inl b ↦ among_left (map (λ row. row.0) t.rows) (filter_map slot_of (map (λ veil. veil.0) vs)) (dir, n) (there_row n b)
-          | inr b ↦ among_right (map (λ row. row.0) t.rows) (filter_map slot_of (map (λ veil. veil.0) vs)) (dir, n) (there_veil n b)
+          | inl b ↦ among_left (map (λ row. row.0) t.rows) (filter_map veil_spot (map (λ veil. veil.0) vs)) (dir, n) (there_row n b)
+          | inr b ↦ among_right (map (λ row. row.0) t.rows) (filter_map veil_spot (map (λ veil. veil.0) vs)) (dir, n) (there_veil n b)
         ]
 
     names_are : (spots : List Spot) → AreInOrder given spots → names_at dir spots ≡ entries t vs dir
@@ -167,5 +167,5 @@ module _ (dir : ℕ) where
         (λ n a. there_at spots n (among_contained spots (dir, n) (order.all (dir, n) (contained given (dir, n) (there_given n (distinct_among (names_in t dir ++ veiled_in vs dir) n a))))))
 
 -- the spots of all rows and all veils at names
-pub spots_of : (t : Tree) (vs : List (Place × ℕ)) (spots : List Spot) → AreInOrder (map (λ row. row.0) t.rows ++ filter_map slot_of (map (λ veil. veil.0) vs)) spots → AreSpots t vs spots
+pub spots_of : (t : Tree) (vs : List (Place × ℕ)) (spots : List Spot) → AreInOrder (map (λ row. row.0) t.rows ++ filter_map veil_spot (map (λ veil. veil.0) vs)) spots → AreSpots t vs spots
 spots_of t vs spots order = record { rise = order.rise; entries = λ dir. names_are dir t vs spots order }

@@ -6,7 +6,7 @@ use Rattle.pua_tree.specs.Tree.{Tree, WellFormed, Spot}
 use Rattle.pua_policy.specs.declared.place.Place.{Place}
 use Rattle.pua_audit.specs.Reach.{Word}
 use Rattle.pua_objects.specs.Spots.{names_at}
-use Rattle.pua_objects.specs.Walk.{to_come}
+use Rattle.pua_objects.specs.Walk.{items_to_come}
 use Rattle.pua_objects.specs.Ready.{frame_at, frames_at}
 use Rattle.pua_objects.specs.declared.open_dir.OpenDir.{OpenDir}
 use Rattle.pua_objects.specs.declared.open_dir.Coming.{Coming}
@@ -42,5 +42,5 @@ module _ (t : Tree) (spots : List Spot) where
 
   -- a directory that has no name left
   pub frames_left : (vs : List (Place × ℕ)) (w : Word) (d : OpenDir) (ds : List OpenDir) → WellFormed t → names_at d.dir (drop d.next spots) ≡ []
-      → to_come t vs (frames_at t spots w (d ∷ ds)) ≡ to_come t vs (frames_at t spots w ds)
+      → items_to_come t vs (frames_at t spots w (d ∷ ds)) ≡ items_to_come t vs (frames_at t spots w ds)
   frames_left vs w d ds fits none = (walks_objects t vs fits).leaves (frame_at t spots w d (length ds)) (frames_at t spots w ds) none

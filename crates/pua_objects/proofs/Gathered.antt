@@ -9,9 +9,9 @@ use Rattle.pua_tree.specs.Tree.{Spot}
 use Rattle.pua_policy.specs.declared.place.Place.{Place}
 use Rattle.pua_policy.specs.declared.place.Place.TheVariants as place
 use Rattle.pua_objects.specs.Laws.{is_place}
-use Rattle.pua_objects.specs.Spots.{slot_of, AreAtNames}
+use Rattle.pua_objects.specs.Spots.{veil_spot, AreAtNames}
 
-slots_more : (ps : List Place) (p : Place) → filter_map slot_of (ps ++ p ∷ []) ≡ filter_map slot_of ps ++ filter_map slot_of (p ∷ [])
+slots_more : (ps : List Place) (p : Place) → filter_map veil_spot (ps ++ p ∷ []) ≡ filter_map veil_spot ps ++ filter_map veil_spot (p ∷ [])
 slots_more [] p = refl
 slots_more (place.Slot dir name ∷ ps) p = ap (λ spots. (dir, name) ∷ spots) (slots_more ps p)
 slots_more (place.Dir dir ∷ ps) p = slots_more ps p
@@ -21,11 +21,11 @@ seen ps = map (λ p. p.now) ps
 
 -- one place more
 pub veiled_more : (before now new : List Spot) (ps : List (Bor Place)) (p : Bor Place) (i : ℕ) → i < length ps → p ≡ slice_index_or ps i p →
-    now ≡ before ++ filter_map slot_of (seen (take i ps)) → new ≡ now ++ filter_map slot_of (p.now ∷ []) → new ≡ before ++ filter_map slot_of (seen (take (i + 1) ps))
+    now ≡ before ++ filter_map veil_spot (seen (take i ps)) → new ≡ now ++ filter_map veil_spot (p.now ∷ []) → new ≡ before ++ filter_map veil_spot (seen (take (i + 1) ps))
 veiled_more before now new ps p i within is so_far more =
     let taken : take (i + 1) ps ≡ take i ps ++ p ∷ [] = ap (λ n. take n ps) (add-one i) ∙ take-suc ps i p within ∙ ap (λ x. take i ps ++ x ∷ []) (sym is) in
-    more ∙ ap (λ xs. xs ++ filter_map slot_of (p.now ∷ [])) so_far ∙ append_assoc before (filter_map slot_of (seen (take i ps))) (filter_map slot_of (p.now ∷ []))
-    ∙ ap (λ xs. before ++ xs) (sym (slots_more (seen (take i ps)) p.now) ∙ ap (filter_map slot_of) (sym (map-append (λ (q : Bor Place). q.now) (take i ps) (p ∷ [])))) ∙ ap (λ qs. before ++ filter_map slot_of (seen qs)) (sym taken)
+    more ∙ ap (λ xs. xs ++ filter_map veil_spot (p.now ∷ [])) so_far ∙ append_assoc before (filter_map veil_spot (seen (take i ps))) (filter_map veil_spot (p.now ∷ []))
+    ∙ ap (λ xs. before ++ xs) (sym (slots_more (seen (take i ps)) p.now) ∙ ap (filter_map veil_spot) (sym (map-append (λ (q : Bor Place). q.now) (take i ps) (p ∷ [])))) ∙ ap (λ qs. before ++ filter_map veil_spot (seen qs)) (sym taken)
 
 joined : (ps qs : List Place) → AreAtNames ps → AreAtNames qs → AreAtNames (ps ++ qs)
 joined [] qs first second = second

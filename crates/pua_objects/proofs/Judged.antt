@@ -15,7 +15,7 @@ use Rattle.pua_path.specs.declared.found.Found.{Found}
 use Rattle.pua_path.specs.declared.found.Found.TheVariants.{Whole, Slot}
 use Rattle.pua_calls.specs.Calls.{CallTable, rule_of, last_of}
 use Rattle.pua_calls.specs.CallSets.{is_kept}
-use Rattle.pua_policy.specs.History.{History, kept, may_any}
+use Rattle.pua_policy.specs.History.{History, perms_kept, may_any}
 use Rattle.pua_policy.specs.Verdict.{IsMissing, object_fault, or_fault, cover, cover_fault, nearest, is_unveil, if_promised, allowed_unless, verdict, is_allowed, is_link}
 use Rattle.pua_calls.specs.declared.call.Call.{Call}
 use Rattle.pua_calls.specs.declared.call.Call.TheVariants.{Stat, Lstat, Readlink, OpenRead, OpenWrite, OpenBoth, Create, Mkdir, Rmdir, Unlink, Symlink, Chmod, Chdir, Exec}
@@ -75,10 +75,10 @@ module _ (t : Tree) (sound : Sound t) where
     by_own_way Exec dir way living fits e = e
 
     -- a missing name without a veil of its own has the cover of the further names
-    pub cover_of_others : (dir : ℕ) (name : List ℕ) → kept h (place.Slot dir name) ≡ None → cover t h (Slot dir name None) ≡ cover_in t h dir
-    cover_of_others dir name none = ap (λ (o : Option ℕ). if list_any is_unveil h then nearest (o ∷ map (λ over. kept h (place.Dir over)) (climb t dir)) else All) none
+    pub cover_of_others : (dir : ℕ) (name : List ℕ) → perms_kept h (place.Slot dir name) ≡ None → cover t h (Slot dir name None) ≡ cover_in t h dir
+    cover_of_others dir name none = ap (λ (o : Option ℕ). if list_any is_unveil h then nearest (o ∷ map (λ over. perms_kept h (place.Dir over)) (climb t dir)) else All) none
 
-    pub others_verdict : (call : Call) (dir : ℕ) (name : List ℕ) → kept h (place.Slot dir name) ≡ None → verdict t table h call (Slot dir name None) ≡ subject_verdict t table h call (Others dir)
+    pub others_verdict : (call : Call) (dir : ℕ) (name : List ℕ) → perms_kept h (place.Slot dir name) ≡ None → verdict t table h call (Slot dir name None) ≡ subject_verdict t table h call (Others dir)
     others_verdict call dir name none =
         ap (λ (c : Cover). if_promised (may_any h (rule_of table call).alternatives) (allowed_unless (or_fault (cover_fault c (rule_of table call).perms) (object_fault t call IsMissing)))) (cover_of_others dir name none)
 
@@ -93,7 +93,7 @@ module _ (t : Tree) (sound : Sound t) where
     slot_told call dir name o Kept is followed e = told_at call (At (Slot dir name o)) (ap (λ m. is_kept m || not (is_link t (Slot dir name o))) is) e
     slot_told call dir name o Followed is followed e = told_at call (At (Slot dir name o)) (ap (λ m. is_kept m || not (is_link t (Slot dir name o))) is ∙ ap not (followed refl)) e
 
-    missing_told : (call : Call) (dir : ℕ) (name : List ℕ) (o : Option ℕ) → kept h (place.Slot dir name) ≡ o → verdict t table h call (Slot dir name None) ≡ Allowed
+    missing_told : (call : Call) (dir : ℕ) (name : List ℕ) (o : Option ℕ) → perms_kept h (place.Slot dir name) ≡ o → verdict t table h call (Slot dir name None) ≡ Allowed
         → Told call (if is_some o then At (Slot dir name None) else Others dir)
     missing_told call dir name (Some perms) is e = slot_told call dir name None (last_of call) refl (λ _. refl) e
     missing_told call dir name None is e = told_at call (Others dir) refl (sym (others_verdict call dir name is) ∙ e)
@@ -103,4 +103,4 @@ module _ (t : Tree) (sound : Sound t) where
         → verdict t table h call object ≡ Allowed → Told call (subject_of t h object)
     told call (Whole dir way) followed fits living e = told_at call (At (Whole dir (own_way t dir))) (or-true (is_kept (last_of call))) (by_own_way call dir way (living dir way refl) fits e)
     told call (Slot dir name (Some x)) followed fits living e = slot_told call dir name (Some x) (last_of call) refl followed e
-    told call (Slot dir name None) followed fits living e = missing_told call dir name (kept h (place.Slot dir name)) refl e
+    told call (Slot dir name None) followed fits living e = missing_told call dir name (perms_kept h (place.Slot dir name)) refl e

@@ -14,7 +14,7 @@ use Rattle.pua_path.specs.declared.found.Way.{Way}
 use Rattle.pua_path.specs.declared.found.Way.TheVariants.{Top}
 use Rattle.pua_path.specs.declared.found.Found.{Found}
 use Rattle.pua_path.specs.declared.found.Found.TheVariants.{Whole, Slot}
-use Rattle.pua_policy.specs.History.{History, kept, veils, veil_at}
+use Rattle.pua_policy.specs.History.{History, perms_kept, veils, veil_at}
 use Rattle.pua_path.specs.Fits.{FoundFits}
 use Rattle.pua_policy.specs.declared.place.Place.{Place}
 use Rattle.pua_policy.specs.declared.place.Place.TheVariants as place
@@ -63,7 +63,7 @@ module _ (t : Tree) (sound : Sound t) (h : History) where
       among_distinct (names_in t dir ++ veiled_in (veils h) dir) name
       (among_left (names_in t dir) (veiled_in (veils h) dir) name (among_map (λ row. row.0.1) _ ((dir, name), x) (among_filter (λ row. row.0.0 == dir) t.rows ((dir, name), x) (eq-eqb dir dir refl) (found_among (dir, name) x t.rows e))))
 
-  veil_entry : (dir : ℕ) (name : List ℕ) (perms : ℕ) → kept h (place.Slot dir name) ≡ Some perms → Among (entries t (veils h) dir) name
+  veil_entry : (dir : ℕ) (name : List ℕ) (perms : ℕ) → perms_kept h (place.Slot dir name) ≡ Some perms → Among (entries t (veils h) dir) name
   veil_entry dir name perms e =
       among_distinct (names_in t dir ++ veiled_in (veils h) dir) name (among_right (names_in t dir) (veiled_in (veils h) dir) name (veil_among (veils h) dir name perms (veils_are_kept h (place.Slot dir name) ∙ e)))
 
@@ -107,7 +107,7 @@ module _ (t : Tree) (sound : Sound t) (h : History) where
   abbrev pub HasItem : Subject → Type 0
   HasItem subject = (word : Word) × Among (items t (veils h)) (record { word = word; subject = subject })
 
-  missing_item : (dir : ℕ) (name : List ℕ) (o : Option ℕ) → is_dir t dir ≡ true → look t dir name ≡ None → kept h (place.Slot dir name) ≡ o → HasItem (if is_some o then At (Slot dir name None) else Others dir)
+  missing_item : (dir : ℕ) (name : List ℕ) (o : Option ℕ) → is_dir t dir ≡ true → look t dir name ≡ None → perms_kept h (place.Slot dir name) ≡ o → HasItem (if is_some o then At (Slot dir name None) else Others dir)
   missing_item dir name None living none is =
       let at = found_dir dir living in
       (at.1.0, at.1.1 _ (inr (inl refl)))
@@ -145,7 +145,7 @@ module _ (t : Tree) (sound : Sound t) (h : History) where
       denied false e = refl
   has_item (Slot dir name None) fits =
       let living = and_parts (is_dir t dir) _ fits in
-      missing_item dir name (kept h (place.Slot dir name)) living.0 (nothing (look t dir name) living.1) refl
+      missing_item dir name (perms_kept h (place.Slot dir name)) living.0 (nothing (look t dir name) living.1) refl
     where
       nothing : (o : Option ℕ) → is_none o ≡ true → o ≡ None
       nothing None e = refl

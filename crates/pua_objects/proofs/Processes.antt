@@ -4,7 +4,7 @@ use Rattle.std.specs.Prelude.{filter, ◌&&◌, if◌then◌else◌}
 use Rattle.std.specs.List.{list_any}
 use Rattle.pua_tree.specs.Tree.{Tree, climb}
 use Rattle.pua_calls.specs.Calls.{CallTable, calls, rule_of}
-use Rattle.pua_policy.specs.History.{History, kept, veils, veil_at, has_veil}
+use Rattle.pua_policy.specs.History.{History, perms_kept, veils, veil_at, has_veil}
 use Rattle.pua_policy.specs.Verdict.{object_of, object_fault, or_fault, cover_fault, IsMissing, if_promised, allowed_unless, nearest, is_unveil, is_allowed}
 use Rattle.pua_policy.specs.Laws.{AllowAlike}
 use Rattle.pua_calls.specs.declared.call.Call.{Call}
@@ -17,7 +17,7 @@ use Rattle.pua_objects.specs.Objects.{Subject, At, Others, Item, Line, is_named_
 use Rattle.pua_objects.specs.Laws.{ObjectsDecided}
 
 module _ (t : Tree) (table : CallTable) (h k : History) (alike : AllowAlike h k) (placed : veils h ≡ veils k) where
-  kept_alike : (p : Place) → kept h p ≡ kept k p
+  kept_alike : (p : Place) → perms_kept h p ≡ perms_kept k p
   kept_alike p = sym (veils_are_kept h p) ∙ ap (λ vs. veil_at vs p) placed ∙ veils_are_kept k p
 
   any_alike : list_any is_unveil h ≡ list_any is_unveil k

@@ -6,7 +6,7 @@ use Rattle.pua_tree.specs.Tree.{Tree, look, node_at, is_dir}
 use Rattle.pua_tree.specs.Steps.{◌>>=◌}
 use Rattle.pua_tree.proofs.ForCallers.{Sound, sound_from}
 use Rattle.pua_path.specs.Paths.{parts_of, is_absolute, path_fault}
-use Rattle.pua_path.specs.Resolution.{resolve_parts, resolution, resolution_of_text, link_limit}
+use Rattle.pua_path.specs.Resolution.{resolve_parts, resolution, resolution_of_text, most_links}
 use Rattle.pua_path.specs.declared.errno.Errno.TheVariants.{ENOENT}
 use Rattle.pua_path.specs.declared.found.Part.{Part}
 use Rattle.pua_path.specs.declared.found.Part.TheVariants as parts
@@ -24,7 +24,7 @@ use Rattle.pua_calls.specs.declared.call.Call.{Call}
 use Rattle.pua_policy.specs.declared.answer.Verdict.TheVariants.{Allowed}
 use Rattle.pua_audit.specs.Reach.{Word}
 use Rattle.pua_objects.specs.Objects.{Subject, At, Others, Line, line_of, has_calls, items, is_named_by, subject_verdict}
-use Rattle.pua_objects.specs.Laws.{path_from_root, IsAllowedBy, IsTold, SoundLines}
+use Rattle.pua_objects.specs.Laws.{path_from_root, IsAllowedBy, IsCallTold, SoundLines}
 use Rattle.pua_objects.proofs.Among.{Among, filter_among, map_among, among_contained}
 use Rattle.pua_objects.proofs.Judged.{others_verdict}
 use Rattle.pua_objects.proofs.Completeness.{allowed_is}
@@ -33,16 +33,16 @@ use Rattle.pua_objects.proofs.Leading.{AreNames, with_last, names_path, Leads, r
 module _ (t : Tree) (h : History) where
   -- a path without fault from the root names what its parts do
   named_by_parts : (call : Call) (text : List ℕ) (ps : List Part) (object : Found) → path_fault text ≡ None → is_absolute text ≡ true → parts_of (ending_of call) text ≡ ps →
-      (resolve_parts link_limit t (last_of call) 0 Top ps >>= λ found. Ok found.0) ≡ Ok object → object_named t h call text ≡ Ok object
+      (resolve_parts most_links t (last_of call) 0 Top ps >>= λ found. Ok found.0) ≡ Ok object → object_named t h call text ≡ Ok object
   named_by_parts call text ps object fault absolute are e = whole fault ∙ from_root ∙ e
     where
       whole : path_fault text ≡ None → resolution_of_text t (working_dir h) (ending_of call) text (last_of call) ≡ resolution t (working_dir h) (ending_of call) text (last_of call)
       whole none = rw none refl
 
-      from_root : resolution t (working_dir h) (ending_of call) text (last_of call) ≡ (resolve_parts link_limit t (last_of call) 0 Top ps >>= λ found. Ok found.0)
+      from_root : resolution t (working_dir h) (ending_of call) text (last_of call) ≡ (resolve_parts most_links t (last_of call) 0 Top ps >>= λ found. Ok found.0)
       from_root =
-          ap (λ b. if not b && not (is_dir t (working_dir h)) then Err ENOENT else (resolve_parts link_limit t (last_of call) (if b then 0 else working_dir h) Top (parts_of (ending_of call) text) >>= λ found. Ok found.0)) absolute
-          ∙ ap (λ qs. resolve_parts link_limit t (last_of call) 0 Top qs >>= λ found. Ok found.0) are
+          ap (λ b. if not b && not (is_dir t (working_dir h)) then Err ENOENT else (resolve_parts most_links t (last_of call) (if b then 0 else working_dir h) Top (parts_of (ending_of call) text) >>= λ found. Ok found.0)) absolute
+          ∙ ap (λ qs. resolve_parts most_links t (last_of call) 0 Top qs >>= λ found. Ok found.0) are
 
   names_before : (over : Word) (name : List ℕ) → map parts.Name (over ++ name ∷ []) ≡ map parts.Name over ++ parts.Name name ∷ []
   names_before [] name = refl
@@ -53,7 +53,7 @@ module _ (t : Tree) (h : History) where
   whole_named call word dir way all leads short =
       let is = names_path word all short in
       named_by_parts call (path_from_root word) (map parts.Name word ++ []) (Whole dir way) is.fault is.absolute (is.parts (ending_of call) ∙ sym (append-nil (map parts.Name word)))
-      (ap (λ r. r >>= λ found. Ok found.0) (resolve_along t (last_of call) link_limit word dir way [] leads ∙ whole_resolved t (last_of call) link_limit dir way))
+      (ap (λ r. r >>= λ found. Ok found.0) (resolve_along t (last_of call) most_links word dir way [] leads ∙ whole_resolved t (last_of call) most_links dir way))
 
   -- and anything else by one name more
   slot_named : (call : Call) (over : Word) (dir : ℕ) (way : Way) (name : List ℕ) (o : Option ℕ) → AreNames (over ++ name ∷ []) → Leads t over dir way → look t dir name ≡ o → IsPlainThere t o → IsNamed t (last_of call) o
@@ -61,7 +61,7 @@ module _ (t : Tree) (h : History) where
   slot_named call over dir way name o all leads row plain named short =
       let is = names_path (over ++ name ∷ []) all short in
       named_by_parts call (path_from_root (over ++ name ∷ [])) (map parts.Name over ++ parts.Name name ∷ []) (Slot dir name o) is.fault is.absolute (is.parts (ending_of call) ∙ names_before over name)
-      (ap (λ r. r >>= λ found. Ok found.0) (resolve_along t (last_of call) link_limit over dir way (parts.Name name ∷ []) leads ∙ slot_resolved t (last_of call) link_limit dir way name o row plain named))
+      (ap (λ r. r >>= λ found. Ok found.0) (resolve_along t (last_of call) most_links over dir way (parts.Name name ∷ []) leads ∙ slot_resolved t (last_of call) most_links dir way name o row plain named))
 
   -- a link is named by the calls that keep it
   named_slot : (call : Call) (dir : ℕ) (name : List ℕ) (o : Option ℕ) (mode : Last) → (is_kept mode || not (is_link t (Slot dir name o))) ≡ true → IsNamed t mode o
@@ -77,7 +77,7 @@ module _ (t : Tree) (h : History) where
     allowed_by : (call : Call) (word : Word) (object : Found) → object_named t h call (path_from_root word) ≡ Ok object → verdict t table h call object ≡ Allowed → IsAllowedBy t table h call word object
     allowed_by call word object names allowed = record { names = names; allowed = ap (verdict_of t table h call) names ∙ allowed }
 
-    told_of : (call : Call) (word : Word) (subject : Subject) → AreNames word → IsPlaced t word subject → is_named_by t call subject ≡ true → subject_verdict t table h call subject ≡ Allowed → IsTold t table h call word subject
+    told_of : (call : Call) (word : Word) (subject : Subject) → AreNames word → IsPlaced t word subject → is_named_by t call subject ≡ true → subject_verdict t table h call subject ≡ Allowed → IsCallTold t table h call word subject
     told_of call word (At (Whole dir way)) all leads named allowed = λ short. allowed_by call word (Whole dir way) (whole_named call word dir way all leads short) allowed
     told_of call word (At (Slot dir name o)) all place named allowed = λ short.
         let there : AreNames (place.0 ++ name ∷ []) = (let P : Word → Type 0 = λ w. AreNames w in subst P place.2 all) in
@@ -99,7 +99,7 @@ sound_lines t table h fits places line there call here =
     let b = map_among (line_of t table h) (items t (veils h)) line a.0 in
     let item = b.0 in
     let placed = items_placed t fits (sound_from t fits) h places item b.1 in
-    let P : Line → Type 0 = λ l. Among l.calls call → IsTold t table h call l.word l.subject in
+    let P : Line → Type 0 = λ l. Among l.calls call → IsCallTold t table h call l.word l.subject in
     subst P b.2 (λ c.
     let d = filter_among (λ other. is_named_by t other item.subject && is_allowed (subject_verdict t table h other item.subject)) calls call c in
     let e = and_parts (is_named_by t call item.subject) (is_allowed (subject_verdict t table h call item.subject)) d.1 in

@@ -8,7 +8,7 @@ use Rattle.pua_path.specs.declared.found.Found.TheVariants.{Whole, Slot}
 use Rattle.pua_policy.specs.declared.place.Place.{Place}
 use Rattle.pua_audit.specs.Reach.{Word}
 use Rattle.pua_objects.specs.Objects.{Item, At, items_at, items_below, items}
-use Rattle.pua_objects.specs.Walk.{Frame, items_in, to_come, frame_of, others_item, IsBelow, IsDeepEnough, StepsOfWalk, WalksObjects}
+use Rattle.pua_objects.specs.Walk.{Frame, items_in, items_to_come, frame_of, others_item, IsBelow, IsDeepEnough, StepsOfWalk, WalksObjects}
 
 pub reaches : (t : Tree) (k d : ℕ) → IsBelow t k d → Reaches t k d
 reaches t zero d e = e
@@ -20,12 +20,12 @@ module _ (t : Tree) (fits : WellFormed t) (sound : Sound t) (vs : List (Place ×
 
   -- the first entry of a frame, whatever stands there
   first_entry : (f : Frame) (fs : List Frame) (name : List ℕ) (names : List (List ℕ)) (o : Option ℕ) → f.names ≡ name ∷ names → look t f.dir name ≡ o →
-      to_come t vs (f ∷ fs) ≡ item_list f.depth f.dir f.word name o ++ to_come t vs (record f { names = names } ∷ fs)
+      items_to_come t vs (f ∷ fs) ≡ item_list f.depth f.dir f.word name o ++ items_to_come t vs (record f { names = names } ∷ fs)
   first_entry f fs name names o are is =
       let g : List ℕ → List Item = λ n. item_list f.depth f.dir f.word n (look t f.dir n) in
-      ap (λ ns. flat_map g ns ++ to_come t vs fs) are
-      ∙ append_assoc (g name) (flat_map g names) (to_come t vs fs)
-      ∙ ap (λ p. item_list f.depth f.dir f.word name p ++ (flat_map g names ++ to_come t vs fs)) is
+      ap (λ ns. flat_map g ns ++ items_to_come t vs fs) are
+      ∙ append_assoc (g name) (flat_map g names) (items_to_come t vs fs)
+      ∙ ap (λ p. item_list f.depth f.dir f.word name p ++ (flat_map g names ++ items_to_come t vs fs)) is
 
   plain_entry : (depth dir : ℕ) (word : Word) (name : List ℕ) (x : ℕ) (b : Bool) → is_dir t x ≡ b → b ≡ false → item_list depth dir word name (Some x) ≡ record { word = word ++ name ∷ []; subject = At (Slot dir name (Some x)) } ∷ []
   plain_entry depth dir word name x b is no_dir = rw (is ∙ no_dir) refl
@@ -48,22 +48,22 @@ module _ (t : Tree) (fits : WellFormed t) (sound : Sound t) (vs : List (Place ×
   walk_steps = record {
     begins = begun;
     first_fits = record { living = fits.root; steps = 0; reaches = refl; deep = omega (arith, some) };
-    leaves = λ f fs none. ap (λ ns. flat_map (λ n. item_list f.depth f.dir f.word n (look t f.dir n)) ns ++ to_come t vs fs) none;
+    leaves = λ f fs none. ap (λ ns. flat_map (λ n. item_list f.depth f.dir f.word n (look t f.dir n)) ns ++ items_to_come t vs fs) none;
     missing = λ f fs name names are row. first_entry f fs name names None are row;
-    plain = λ f fs name names x are row other. first_entry f fs name names (Some x) are row ∙ ap (λ items. items ++ to_come t vs (record f { names = names } ∷ fs)) (plain_entry f.depth f.dir f.word name x (is_dir t x) refl other);
+    plain = λ f fs name names x are row other. first_entry f fs name names (Some x) are row ∙ ap (λ items. items ++ items_to_come t vs (record f { names = names } ∷ fs)) (plain_entry f.depth f.dir f.word name x (is_dir t x) refl other);
     enters = λ f fs name names x deep are row living.
         let inner = inner_fits f name x deep row living in (
           inner.1,
           first_entry f fs name names (Some x) are row
-              ∙ ap (λ d. item_list d f.dir f.word name (Some x) ++ to_come t vs (record f { names = names } ∷ fs)) inner.0
-              ∙ ap (λ items. items ++ to_come t vs (record f { names = names } ∷ fs)) (dir_entry (f.depth - 1) f.dir f.word name x living),
+              ∙ ap (λ d. item_list d f.dir f.word name (Some x) ++ items_to_come t vs (record f { names = names } ∷ fs)) inner.0
+              ∙ ap (λ items. items ++ items_to_come t vs (record f { names = names } ∷ fs)) (dir_entry (f.depth - 1) f.dir f.word name x living),
         );
   }
     where
       some : 0 < length t.nodes
       some = climb_ends t sound 0 fits.root 0 refl
 
-      begun : items t vs ≡ record { word = []; subject = At (Whole 0 Top) } ∷ others_item [] 0 ∷ to_come t vs (frame_of t vs (length t.nodes - 1) 0 [] ∷ [])
+      begun : items t vs ≡ record { word = []; subject = At (Whole 0 Top) } ∷ others_item [] 0 ∷ items_to_come t vs (frame_of t vs (length t.nodes - 1) 0 [] ∷ [])
       begun =
           let deep : length t.nodes ≡ suc (length t.nodes - 1) = omega (arith, some) in
           ap (λ d. items_below d t vs 0 Top []) deep

@@ -3,7 +3,7 @@ use Rattle.std.specs.Prelude.{filter_map}
 use Rattle.std.proofs.lemmas.Simd.{map-map}
 use Rattle.pua_tree.specs.LentRows.{lent_entry}
 use Rattle.pua_policy.specs.History.{veils}
-use Rattle.pua_objects.specs.Spots.{spot_now, row_spot, slot_of, AreAtNames, AreInOrder}
+use Rattle.pua_objects.specs.Spots.{spot_now, row_spot, veil_spot, AreAtNames, AreInOrder}
 use Rattle.pua_objects.proofs.Gathered.{at_names}
 use Rattle.pua_objects.proofs.Entries.{spots_of}
 use Rattle.pua_objects.proofs.spots.spots.Goals as goal
@@ -14,8 +14,8 @@ returns-in-Ok-clause-spots c = λ t all.
     let given = c.args.rows.now in
     let rows : map row_spot given ≡ map (λ row. row.0) t.rows = sym (map-map (λ row. row.0) lent_entry given) ∙ ap (map (λ row. row.0)) all in
     let veils : map (λ place. place.now) c.deref.result.now ≡ map (λ veil. veil.0) vs = ap (map (λ place. place.now)) c.deref.ensures.value ∙ c.in_ok-places.ensures in
-    let both : map row_spot given ++ filter_map slot_of (map (λ place. place.now) c.deref.result.now) ≡ map (λ row. row.0) t.rows ++ filter_map slot_of (map (λ veil. veil.0) vs)
-    = (λ i. rows i ++ filter_map slot_of (veils i)) in
+    let both : map row_spot given ++ filter_map veil_spot (map (λ place. place.now) c.deref.result.now) ≡ map (λ row. row.0) t.rows ++ filter_map veil_spot (map (λ veil. veil.0) vs)
+    = (λ i. rows i ++ filter_map veil_spot (veils i)) in
     spots_of t vs (map spot_now c.in-Ok.spots.items) (subst (λ given. AreInOrder given (map spot_now c.in-Ok.spots.items)) both c.in-Ok.ensures.spots)
 
 pub returns-in-Ok-clause-places : goal.returns-in-Ok-clause-places

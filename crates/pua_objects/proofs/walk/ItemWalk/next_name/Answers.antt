@@ -1,9 +1,9 @@
 use Rattle.std.proofs.Common.{◌≡◌, length, take, refl, sym, ap, ◌∙◌, arith}
-use Rattle.pua_objects.specs.declared.walk.Walk.{Walk}
+use Rattle.pua_objects.specs.declared.walk.ItemWalk.{ItemWalk}
 use Rattle.pua_objects.proofs.Leaving.{inner_open, left_ready, left_same, taken_ready, taken, taken_from, shorter, at_most, none_ready, none_left, no_dirs}
 use Rattle.pua_objects.proofs.Fronts.{front_own, front_same}
 use Rattle.pua_objects.proofs.Ranges.{lent_within}
-use Rattle.pua_objects.proofs.walk.Walk.next_name.Goals as goal
+use Rattle.pua_objects.proofs.walk.ItemWalk.next_name.Goals as goal
 
 pub loop-dir-init : goal.loop-dir-init
 loop-dir-init c = record { coming = refl; spots = refl; word = refl; ready = λ t p ready names. ready; so_far = λ t p ready names. refl }
@@ -27,7 +27,7 @@ returns-in-Some-name_of-clause-front c =
 pub returns-in-Some-name_of-clause-next : goal.returns-in-Some-name_of-clause-next
 returns-in-Some-name_of-clause-next c = λ t p ready names.
     let a = c.loop-dir.self in
-    let b : Walk = record { spots = a.spots; dirs = c.push_reserved.new.self; word = c.truncate.new.self; coming = a.coming } in
+    let b : ItemWalk = record { spots = a.spots; dirs = c.push_reserved.new.self; word = c.truncate.new.self; coming = a.coming } in
     let long : c.len.result ≡ length c.pop.new.self.items = omega arith in
     let now = c.loop-dir.invariant.ready t p ready names in
     let going = c.loop-dir.invariant.coming ∙ names in
@@ -50,7 +50,7 @@ loop-dir-preserved c = record {
       let now = c.loop-dir.invariant.ready t p ready names in
       let going = c.loop-dir.invariant.coming ∙ names in
       let a = c.loop-dir.self in
-      let b : Walk = record { spots = a.spots; dirs = c.pop.new.self; word = a.word; coming = a.coming } in
+      let b : ItemWalk = record { spots = a.spots; dirs = c.pop.new.self; word = a.word; coming = a.coming } in
       let none = c.in_default-name_of.ensures.name now.spots.rise (inner_open t p a now going _ c.pop.new.self.items c.in-Some.ensures.items).passed in
       c.loop-dir.invariant.so_far t p ready names
       ∙ left_same t p a now going _ c.pop.new.self.items c.in-Some.ensures.items b refl refl c.pop.ensures.capacity refl refl refl none;
@@ -69,6 +69,6 @@ returns-clause-front c = front_same c.args.self.now.word.items c.loop-dir.self.w
 pub returns-clause-next : goal.returns-clause-next
 returns-clause-next c = λ t p ready names.
     let a = c.loop-dir.self in
-    let b : Walk = record { spots = a.spots; dirs = c.pop.new.self; word = a.word; coming = a.coming } in
+    let b : ItemWalk = record { spots = a.spots; dirs = c.pop.new.self; word = a.word; coming = a.coming } in
     let none : length a.dirs.items ≡ 0 = omega (arith, c.in_default.ensures.cases) in
     record { left = c.loop-dir.invariant.so_far t p ready names ∙ none_left t p a b none c.in_default.ensures.items; dirs = no_dirs t p a b none c.in_default.ensures.items }

@@ -1,17 +1,17 @@
 use Rattle.std.proofs.Common.{sym, ap, ◌∙◌}
 use Rattle.pua_path.specs.declared.found.Found.TheVariants as found
-use Rattle.pua_policy.specs.History.{kept}
+use Rattle.pua_policy.specs.History.{perms_kept}
 use Rattle.pua_policy.specs.declared.place.Place.TheVariants as place
 use Rattle.pua_objects.specs.Laws.{own_or}
 use Rattle.pua_objects.specs.Objects.{At}
 use Rattle.pua_objects.specs.declared.open_dir.OpenDir.{OpenDir}
 use Rattle.pua_policy.proofs.ForCallers.{covers_descend}
-use Rattle.pua_objects.proofs.walk.Walk.stand_at.Goals as goal
+use Rattle.pua_objects.proofs.walk.ItemWalk.stand_at.Goals as goal
 
 pub returns-clause-item : goal.returns-clause-item
 returns-clause-item c = λ t h inner around node fits stands dirs covered seen row.
     let name = c.args.name.now in
-    let own = kept h (place.Slot c.args.dir name) in
+    let own = perms_kept h (place.Slot c.args.dir name) in
     record {
       subject = ap (λ node. At (found.Slot c.args.dir name node)) row;
       object = seen;

@@ -6,10 +6,10 @@ use Rattle.pua_tree.proofs.ForCallers.{None≢Some, same_Some}
 use Rattle.pua_policy.specs.Objects.{object_seen}
 use Rattle.pua_policy.specs.Verdict.{object_of_kind}
 use Rattle.pua_objects.specs.Spots.{spot_now}
-use Rattle.pua_objects.specs.Ready.{entered}
+use Rattle.pua_objects.specs.Ready.{dir_with_next}
 use Rattle.pua_objects.proofs.Entering.{word_room, dirs_room, covered, stood, entered_ready, gave}
 use Rattle.pua_objects.proofs.Fronts.{near_front, near_map, near_pushed}
-use Rattle.pua_objects.proofs.walk.Walk.next_entry.Goals as goal
+use Rattle.pua_objects.proofs.walk.ItemWalk.next_entry.Goals as goal
 
 pub stand_at-requires-clause-room : goal.stand_at-requires-clause-room
 stand_at-requires-clause-room g c =
@@ -29,7 +29,7 @@ returns-in_default-look-clause-item g c =
     stood t p c.args.self.now b _ _ c.requires.names ready names taken c.stand_at.new.self
     (ap (λ v. map spot_now v.items) done.kept.0) (ap (map (λ name. name.now)) done.word ∙ map-append (λ name. name.now) b.word.items (c.in-Some.next.1 ∷ [])) done.room done.kept.1 done.kept.2
     None _ (sym c.in_default-look.ensures) (λ x e. absurd (None≢Some x e))
-    (λ h stands. done.item t h (entered _ (taken.next + 1) taken.cover) taken.around None ready.tree stands taken.dirs (covered t p c.args.self.now b _ _ c.requires.names ready names taken h stands) refl (sym c.in_default-look.ensures))
+    (λ h stands. done.item t h (dir_with_next _ (taken.next + 1) taken.cover) taken.around None ready.tree stands taken.dirs (covered t p c.args.self.now b _ _ c.requires.names ready names taken h stands) refl (sym c.in_default-look.ensures))
 
 pub enter-requires-clause-word_room : goal.enter-requires-clause-word_room
 enter-requires-clause-word_room g c =
@@ -75,7 +75,7 @@ returns-then-is_directory-clause-item g c =
     let done = c.enter.ensures in
     gave t p c.args.self.now b _ _ c.requires.names ready names taken c.in-Some-look.id row living c.enter.new.self
     (ap (λ v. map spot_now v.items) done.kept) (ap (map (λ name. name.now)) done.word ∙ map-append (λ name. name.now) b.word.items (c.in-Some.next.1 ∷ [])) done.room.0 done.room.1 done.coming done.entered _
-    (λ h stands. done.item h (entered _ (taken.next + 1) taken.cover) taken.around ready.tree stands taken.dirs (covered t p c.args.self.now b _ _ c.requires.names ready names taken h stands) row living)
+    (λ h stands. done.item h (dir_with_next _ (taken.next + 1) taken.cover) taken.around ready.tree stands taken.dirs (covered t p c.args.self.now b _ _ c.requires.names ready names taken h stands) row living)
 
 pub returns-clause-item : goal.returns-clause-item
 returns-clause-item g c =
@@ -92,7 +92,7 @@ returns-clause-item g c =
     stood t p c.args.self.now b _ _ c.requires.names ready names taken c.stand_at-2.new.self
     (ap (λ v. map spot_now v.items) done.kept.0) (ap (map (λ name. name.now)) done.word ∙ map-append (λ name. name.now) b.word.items (c.in-Some.next.1 ∷ [])) done.room done.kept.1 done.kept.2
     (Some id) _ (sym c.in-Some-look.ensures) (λ x e. ap (is_dir t) (sym (same_Some id x e)) ∙ plain)
-    (λ h stands. done.item t h (entered _ (taken.next + 1) taken.cover) taken.around (Some id) ready.tree stands taken.dirs (covered t p c.args.self.now b _ _ c.requires.names ready names taken h stands) seen (sym c.in-Some-look.ensures))
+    (λ h stands. done.item t h (dir_with_next _ (taken.next + 1) taken.cover) taken.around (Some id) ready.tree stands taken.dirs (covered t p c.args.self.now b _ _ c.requires.names ready names taken h stands) seen (sym c.in-Some-look.ensures))
 
 pub returns-in_default-clause-near : goal.returns-in_default-clause-near
 returns-in_default-clause-near g c = near_map (λ name. name.now) _ _ (near_front c.args.self.now.word.items c.next_name.new.self.word.items c.next_name.ensures.front)

@@ -1,16 +1,16 @@
 use Rattle.std.proofs.Common.{◌≡◌, ◌∷◌, ◌++◌, [], length, map, refl, sym, ap, ◌∙◌, arith}
 use Rattle.std.proofs.lemmas.List.{length-map}
 use Rattle.pua_tree.specs.LentRows.{lent_entry}
-use Rattle.pua_policy.specs.History.{kept}
+use Rattle.pua_policy.specs.History.{perms_kept}
 use Rattle.pua_policy.specs.declared.place.Place.TheVariants as place
 use Rattle.pua_objects.specs.Laws.{own_or}
-use Rattle.pua_objects.specs.Ready.{entered}
+use Rattle.pua_objects.specs.Ready.{dir_with_next}
 use Rattle.pua_objects.specs.declared.open_dir.Coming.TheVariants.{Root}
-use Rattle.pua_objects.specs.declared.walk.Walk.{Walk}
+use Rattle.pua_objects.specs.declared.walk.ItemWalk.{ItemWalk}
 use Rattle.pua_policy.proofs.ForCallers.{covers_descend}
 use Rattle.pua_objects.proofs.Nodes.{nodes_few}
 use Rattle.pua_objects.proofs.Starting.{begun_ready, begun_left}
-use Rattle.pua_objects.proofs.walk.Walk.new.Goals as goal
+use Rattle.pua_objects.proofs.walk.ItemWalk.new.Goals as goal
 
 pub returns-clause-ready : goal.returns-clause-ready
 returns-clause-ready g c =
@@ -18,19 +18,19 @@ returns-clause-ready g c =
     let p = c.args.process.now in
     let left = c.own_cover-cover.result in
     let spots = c.in_ok-spots.ensures.spots t (ap (map lent_entry) c.deref.ensures.value ∙ c.in_ok-rows.ensures) in
-    let dirs = c.push_reserved.ensures.items ∙ ap (λ ds. ds ++ entered 0 0 left ∷ []) c.in-Ok.ensures.items in
+    let dirs = c.push_reserved.ensures.items ∙ ap (λ ds. ds ++ dir_with_next 0 0 left ∷ []) c.in-Ok.ensures.items in
     let rows : length c.in_ok-rows.rows.items ≡ length t.rows = sym (length-map c.in_ok-rows.rows.items lent_entry) ∙ ap length c.in_ok-rows.ensures in
     let few = nodes_few t c.known.ensures in
     begun_ready t p c.known.ensures _ left spots dirs c.in-Ok-with_capacity.ensures.items refl
     (omega (arith, few, rows, c.len-most.ensures, c.in-Ok.ensures.capacity, c.push_reserved.ensures.capacity))
     (omega (arith, few, rows, c.len-most.ensures, c.in-Ok-with_capacity.ensures.capacity))
-    (λ h stands. c.own_cover-cover.ensures h stands ∙ ap (own_or (kept h (place.Dir 0))) (c.outermost.ensures h stands) ∙ sym (covers_descend t h c.known.ensures).root)
+    (λ h stands. c.own_cover-cover.ensures h stands ∙ ap (own_or (perms_kept h (place.Dir 0))) (c.outermost.ensures h stands) ∙ sym (covers_descend t h c.known.ensures).root)
 
 pub returns-clause-left : goal.returns-clause-left
 returns-clause-left g c =
     let t = g.T.FileTree.content c.args.tree.now in
     let left = c.own_cover-cover.result in
     let spots = c.in_ok-spots.ensures.spots t (ap (map lent_entry) c.deref.ensures.value ∙ c.in_ok-rows.ensures) in
-    let dirs = c.push_reserved.ensures.items ∙ ap (λ ds. ds ++ entered 0 0 left ∷ []) c.in-Ok.ensures.items in
-    let a : Walk = record { spots = c.in_ok-spots.spots; dirs = c.push_reserved.new.self; word = c.in-Ok-with_capacity.word; coming = Root } in
+    let dirs = c.push_reserved.ensures.items ∙ ap (λ ds. ds ++ dir_with_next 0 0 left ∷ []) c.in-Ok.ensures.items in
+    let a : ItemWalk = record { spots = c.in_ok-spots.spots; dirs = c.push_reserved.new.self; word = c.in-Ok-with_capacity.word; coming = Root } in
     begun_left t c.args.process.now c.known.ensures a left spots dirs c.in-Ok-with_capacity.ensures.items refl

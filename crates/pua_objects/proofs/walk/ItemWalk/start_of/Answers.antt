@@ -5,7 +5,7 @@ use Rattle.pua_tree.specs.Tree.{Spot, spot_cmp}
 use Rattle.pua_audit.specs.Laws.{Rises}
 use Rattle.pua_objects.specs.Spots.{spot_now, names_at}
 use Rattle.pua_objects.proofs.Ranges.{starts}
-use Rattle.pua_objects.proofs.walk.Walk.start_of.Goals as goal
+use Rattle.pua_objects.proofs.walk.ItemWalk.start_of.Goals as goal
 
 pub returns : goal.returns
 returns c =

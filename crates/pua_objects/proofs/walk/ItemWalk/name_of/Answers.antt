@@ -3,7 +3,7 @@ use Rattle.std.proofs.lemmas.List.{length-map}
 use Rattle.std.proofs.lemmas.Bool.{eqb-true, eqb-false}
 use Rattle.pua_objects.specs.Spots.{spot_now}
 use Rattle.pua_objects.proofs.Ranges.{lent_within, lent_at, own_left, other_left, none_left}
-use Rattle.pua_objects.proofs.walk.Walk.name_of.Goals as goal
+use Rattle.pua_objects.proofs.walk.ItemWalk.name_of.Goals as goal
 
 pub returns-then-next-len-clause-name : goal.returns-then-next-len-clause-name
 returns-then-next-len-clause-name c = λ rises passed.

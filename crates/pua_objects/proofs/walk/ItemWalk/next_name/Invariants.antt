@@ -2,16 +2,16 @@ use Rattle.std.proofs.Common.{◌≡◌, length}
 use Rattle.pua_tree.specs.Tree.{Tree}
 use Rattle.pua_policy.specs.History.{ProcessState}
 use Rattle.pua_objects.specs.declared.open_dir.Coming.TheVariants.{Names}
-use Rattle.pua_objects.specs.Ready.{IsReady, names_left}
-use Rattle.pua_objects.proofs.walk.Walk.next_name.Given as goal
+use Rattle.pua_objects.specs.Ready.{IsItemReady, names_left}
+use Rattle.pua_objects.proofs.walk.ItemWalk.next_name.Given as goal
 
 abbrev pub invariant-loop-dir : goal.invariant-loop-dir
 invariant-loop-dir l = record {
   coming : l.self.coming ≡ l.fn.self.coming;
   spots : l.self.spots ≡ l.fn.self.spots;
   word : l.self.word ≡ l.fn.self.word;
-  ready : (t : Tree) (process : ProcessState) → IsReady t process l.fn.self → l.fn.self.coming ≡ Names → IsReady t process l.self;
-  so_far : (t : Tree) (process : ProcessState) → IsReady t process l.fn.self → l.fn.self.coming ≡ Names → names_left t process.veils l.fn.self ≡ names_left t process.veils l.self;
+  ready : (t : Tree) (process : ProcessState) → IsItemReady t process l.fn.self → l.fn.self.coming ≡ Names → IsItemReady t process l.self;
+  so_far : (t : Tree) (process : ProcessState) → IsItemReady t process l.fn.self → l.fn.self.coming ≡ Names → names_left t process.veils l.fn.self ≡ names_left t process.veils l.self;
 }
 
 abbrev pub decreases-loop-dir : goal.decreases-loop-dir

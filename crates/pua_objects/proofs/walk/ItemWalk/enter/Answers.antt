@@ -1,18 +1,18 @@
 use Rattle.std.proofs.Common.{refl, sym, ap, ◌∙◌}
 use Rattle.pua_path.specs.declared.found.Way.TheVariants as way
-use Rattle.pua_policy.specs.History.{kept}
+use Rattle.pua_policy.specs.History.{perms_kept}
 use Rattle.pua_policy.specs.declared.place.Place.TheVariants as place
 use Rattle.pua_objects.specs.Laws.{own_or}
 use Rattle.pua_objects.specs.declared.open_dir.OpenDir.{OpenDir}
 use Rattle.pua_policy.proofs.ForCallers.{covers_descend}
-use Rattle.pua_objects.proofs.walk.Walk.enter.Goals as goal
+use Rattle.pua_objects.proofs.walk.ItemWalk.enter.Goals as goal
 
 pub returns-clause-item : goal.returns-clause-item
 returns-clause-item g c = λ h inner around fits stands dirs covered row living.
     let dir = c.args.dir in
     let t = g.T.FileTree.content c.args.tree.now in
     let name = c.args.name.now in
-    let own = kept h (place.Dir c.args.id) in
+    let own = perms_kept h (place.Dir c.args.id) in
     let down = covers_descend t h fits in
     record {
       subject = refl;
