@@ -4,7 +4,7 @@ ghost use Rattle.std.specs.Prelude.{◌≡◌, ◌<◌, IfOk, OnOk, OnSome, leng
 ghost use Rattle.pua_policy.specs.History.{History, StandsFor};
 ghost use Rattle.pua_objects.specs.Laws.{HasPlaces};
 ghost use Rattle.pua_objects.specs.Objects.{items as all_items, objects};
-ghost use Rattle.pua_objects.specs.Ready.{lines_of, IsNextListed};
+ghost use Rattle.pua_objects.specs.Ready.{lines_of, IsNextLineListed};
 
 use crate::items::Items;
 use crate::line::{ObjectLine, line_of};
@@ -63,7 +63,7 @@ impl<'t, T: FileTree> Objects<'t, T> {
     /// names, each directory followed by what is below it.
     pub fn next_line(&mut self) -> Option<ObjectLine>
         ensures of { (self.new.tree ≡ self.old.tree) × (self.new.process ≡ self.old.process) × (self.new.table ≡ self.old.table) }
-        ensures line { IsNextListed self.old.tree self.old.table self.old.process self.old.left result self.new.word self.new.left }
+        ensures line { IsNextLineListed self.old.tree self.old.table self.old.process self.old.left result self.new.word self.new.left }
         ensures fewer { OnSome result (length self.new.left < length self.old.left) }
         ensures shared { take self.new.shared self.new.word ≡ take self.new.shared self.old.word }
     {

@@ -13,7 +13,7 @@ ghost use Rattle.pua_objects.specs.Laws.{HasPlaces};
 ghost use Rattle.pua_objects.specs.Items.{IsItemOn, IsNear};
 ghost use Rattle.pua_objects.specs.Objects.{At, cover_in, items};
 ghost use Rattle.pua_objects.specs.Spots.{names_at};
-ghost use Rattle.pua_objects.specs.Ready.{IsReady, spots_in, dirs_in, IsTaken, IsFinished, IsEntered, IsNextItem, left_in, word_in};
+ghost use Rattle.pua_objects.specs.Ready.{IsItemReady, spots_in, dirs_in, IsTaken, IsFinished, IsEntered, IsNextItem, left_in, word_in};
 
 use crate::item::{Item, Subject};
 use crate::open_dir::{Coming, OpenDir};
@@ -24,7 +24,7 @@ use std::alloc::Global;
 
 /// A walk through a tree. It takes no memory but what was reserved.
 #[derive(Drop)]
-pub(crate) struct Walk<'t> {
+pub(crate) struct ItemWalk<'t> {
     /// The names under which something stands or is veiled, each with its directory, in order.
     pub(crate) spots: Vec<(NodeId, &'t Name)>,
     /// The directories that are entered, from the root on.
@@ -34,15 +34,15 @@ pub(crate) struct Walk<'t> {
     pub(crate) coming: Coming,
 }
 
-impl<'t> Walk<'t> {
+impl<'t> ItemWalk<'t> {
     /// A walk that has everything to come. It reserves all that it will need, an open directory for
     /// each row and one for the root. The only error is that a growth was refused.
     pub(crate) fn new<T: FileTree>(
         alloc: Global,
         tree: &'t T,
         process: &'t Process,
-    ) -> Result<Walk<'t>, OutOfMemory>
-        ensures ready { IfOk result (λ walk. IsReady (T.content tree.now) process.now walk) }
+    ) -> Result<ItemWalk<'t>, OutOfMemory>
+        ensures ready { IfOk result (λ walk. IsItemReady (T.content tree.now) process.now walk) }
         ensures left { IfOk result (λ walk. left_in (T.content tree.now) process.now.veils walk ≡ items (T.content tree.now) process.now.veils) }
         ensures places { OnOk result ((h : History) → StandsFor process.now h → HasPlaces h) }
     {
@@ -62,7 +62,7 @@ impl<'t> Walk<'t> {
             next: 0,
             cover,
         });
-        Ok(Walk {
+        Ok(ItemWalk {
             spots,
             dirs,
             word,
@@ -95,11 +95,11 @@ impl<'t> Walk<'t> {
     /// The next name of the innermost directory that has one left, and that directory. The directories
     /// inside it are left.
     fn next_name(&mut self) -> Option<(NodeId, &'t Name)>
-        ensures ready { (t : Tree) (process : ProcessState) → IsReady t process self.old → self.old.coming ≡ Coming.Names → IsReady t process self.new }
+        ensures ready { (t : Tree) (process : ProcessState) → IsItemReady t process self.old → self.old.coming ≡ Coming.Names → IsItemReady t process self.new }
         ensures kept { (self.new.coming ≡ self.old.coming) × (self.new.spots ≡ self.old.spots) }
         ensures front { self.new.word.items
             ≡ take (length self.new.word.items) self.old.word.items }
-        ensures next { (t : Tree) (process : ProcessState) → IsReady t process self.old → self.old.coming ≡ Coming.Names →
+        ensures next { (t : Tree) (process : ProcessState) → IsItemReady t process self.old → self.old.coming ≡ Coming.Names →
             MatchOption result (IsFinished t process.veils self.old self.new) (λ entry. IsTaken t process.veils self.old self.new entry.0 entry.1.now) }
     {
         while let Some(OpenDir { dir, next, cover }) = self.dirs.pop() {
@@ -192,9 +192,9 @@ impl<'t> Walk<'t> {
 
     /// Goes to the next name, and gives its item; None where no name is left.
     fn next_entry<T: FileTree>(&mut self, tree: &T, process: &Process) -> Option<Item<'t>>
-        requires ready { IsReady (T.content tree.now) process.now self.old }
+        requires ready { IsItemReady (T.content tree.now) process.now self.old }
         requires names { self.old.coming ≡ Coming.Names }
-        ensures ready { IsReady (T.content tree.now) process.now self.new }
+        ensures ready { IsItemReady (T.content tree.now) process.now self.new }
         ensures item { IsNextItem (T.content tree.now) process.now self.old result self.new }
         ensures near { IsNear (word_in self.old) (word_in self.new) }
     {
@@ -215,8 +215,8 @@ impl<'t> Walk<'t> {
     /// Goes to the next thing that a line may be about, and gives its item; None where nothing is
     /// left.
     pub(crate) fn next_item<T: FileTree>(&mut self, tree: &T, process: &Process) -> Option<Item<'t>>
-        requires ready { IsReady (T.content tree.now) process.now self.old }
-        ensures ready { IsReady (T.content tree.now) process.now self.new }
+        requires ready { IsItemReady (T.content tree.now) process.now self.old }
+        ensures ready { IsItemReady (T.content tree.now) process.now self.new }
         ensures item { IsNextItem (T.content tree.now) process.now self.old result self.new }
         ensures near { IsNear (word_in self.old) (word_in self.new) }
     {
