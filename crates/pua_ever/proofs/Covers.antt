@@ -8,7 +8,7 @@ use Rattle.pua_tree.proofs.ForCallers.{sound_from, row_of, row_says, same_Some, 
 use Rattle.pua_path.proofs.ForCallers.{above_lives}
 use Rattle.pua_path.specs.declared.found.Found.TheVariants.{Whole, Slot}
 use Rattle.pua_path.specs.declared.found.Way.TheVariants.{Named}
-use Rattle.pua_policy.specs.History.{History, kept}
+use Rattle.pua_policy.specs.History.{History, perms_kept}
 use Rattle.pua_policy.specs.Verdict.{cover, FoundFits}
 use Rattle.pua_policy.specs.declared.place.Place.TheVariants as place
 use Rattle.pua_policy.specs.declared.answer.Cover.{Cover}
@@ -24,15 +24,15 @@ module _ (t : Tree) (h : History) (well : WellFormed t) where
   pub dir_row : (s : Spot) (d : ℕ) → is_dir t d ≡ true → row_cover t h s d ≡ cover_in t h d
   dir_row s d is = ap (λ b. cover t h (cond b (Whole d (Named s.0 s.1)) (Slot s.0 s.1 (Some d)))) is ∙ (covers_descend t h well).directory d (Named s.0 s.1) is
 
-  pub slot_row : (s : Spot) (x : ℕ) → is_dir t x ≡ false → row_cover t h s x ≡ own_or (kept h (place.Slot s.0 s.1)) (cover_in t h s.0)
+  pub slot_row : (s : Spot) (x : ℕ) → is_dir t x ≡ false → row_cover t h s x ≡ own_or (perms_kept h (place.Slot s.0 s.1)) (cover_in t h s.0)
   slot_row s x is = ap (λ b. cover t h (cond b (Whole x (Named s.0 s.1)) (Slot s.0 s.1 (Some x)))) is ∙ (covers_descend t h well).at_name s.0 s.1 (Some x)
 
-  pub own_dir : (d : ℕ) (perms : ℕ) → is_dir t d ≡ true → d ≢ 0 → kept h (place.Dir d) ≡ Some perms → cover_in t h d ≡ Only perms
+  pub own_dir : (d : ℕ) (perms : ℕ) → is_dir t d ≡ true → d ≢ 0 → perms_kept h (place.Dir d) ≡ Some perms → cover_in t h d ≡ Only perms
   own_dir d perms is n e =
       let row = row_of t (sound_from t well) d is n in
       (covers_descend t h well).below row.0.0 row.0.1 d row.1 is ∙ ap (λ o. own_or o (cover_in t h row.0.0)) e
 
-  pub under_dir : (s : Spot) (d : ℕ) → is_dir t d ≡ true → look t s.0 s.1 ≡ Some d → kept h (place.Dir d) ≡ None → cover_in t h d ≡ cover_in t h s.0
+  pub under_dir : (s : Spot) (d : ℕ) → is_dir t d ≡ true → look t s.0 s.1 ≡ Some d → perms_kept h (place.Dir d) ≡ None → cover_in t h d ≡ cover_in t h s.0
   under_dir s d is e none = (covers_descend t h well).below s.0 s.1 d e is ∙ ap (λ o. own_or o (cover_in t h s.0)) none
 
   pub living_dir : (d : ℕ) → is_dir t d ≡ true → is_living t d ≡ true

@@ -22,7 +22,7 @@ use Rattle.pua_path.specs.declared.found.Found.TheVariants.{Whole, Slot}
 use Rattle.pua_path.proofs.ForCallers.{resolutions_fit}
 use Rattle.pua_calls.specs.Calls.{CallTable, calls, rule_of, ending_of, last_of}
 use Rattle.pua_calls.specs.CallSets.{keeps_link, is_kept}
-use Rattle.pua_policy.specs.History.{History, kept, veils, may_any}
+use Rattle.pua_policy.specs.History.{History, perms_kept, veils, may_any}
 use Rattle.pua_policy.specs.Verdict.{Object, IsDir, IsFile, IsLink, IsMissing, object_of_kind, object_fault, rmdir_fault, cover, cover_fault, or_fault, allowed_unless, if_promised, covered_verdict, verdict, verdict_of, is_allowed}
 use Rattle.pua_calls.specs.declared.call.Call.{Call}
 use Rattle.pua_calls.specs.declared.call.Call.TheVariants as call
@@ -40,7 +40,7 @@ use Rattle.pua_objects.proofs.ForCallers.{covers_descend}
 use Rattle.pua_objects.proofs.ForCallers.{named_by_row}
 use Rattle.pua_objects.proofs.ForCallers.{has_item, found_dir}
 use Rattle.pua_objects.proofs.ForCallers.{one_of_calls, some_of, failed, named_within_text}
-use Rattle.pua_ever.specs.Ever.{row_cover, is_free, can_empty, dir_covers, file_covers, may_edit, can_link, ever_covers, named_covers, covers_of, covers_of_dir, removable_dir, is_named_way, ever_object, is_allowed_under, ever_calls, ever_line, New, NewDir, NewOthers, NewFile, NewLink, new_covers, new_object, is_new_named, can_make, new_calls, Thing, Stands, Comes, EverLine, names_to_free, subjects_of, all_new, new_line, has_calls, ever}
+use Rattle.pua_ever.specs.Ever.{row_cover, is_free, can_empty, dir_covers, file_covers, may_edit, can_link, ever_covers, named_covers, covers_of, covers_of_dir, removable_dir, is_named_way, ever_object, is_allowed_under, ever_calls, ever_line, New, NewDir, NewOthers, NewFile, NewLink, new_covers, new_object, is_new_named, can_make, new_calls, Thing, Stands, Comes, EverLine, names_to_free, subjects_of, all_new, new_line, has_ever_calls, ever}
 use Rattle.pua_ever.specs.Laws.{VeilsStand, IsLineOf, of_dir, of_new_dir, of_row, of_new_file, of_new_link, of_name, of_others, of_new_others, IsForeseen}
 use Rattle.pua_ever.proofs.Grown.{new_kind}
 use Rattle.pua_ever.proofs.Ways.{any_among, way_by_c}
@@ -138,7 +138,7 @@ module _ (table : CallTable) (t0 : Tree) (h : History) (well0 : WellFormed t0) (
       let line : EverLine = record { word = word; thing = Stands subject; calls = ever_calls t0 table h subject } in
       record {
         line = line;
-        among = among_filter has_calls (standing_lines ++ new_lines) line (some_of (ever_calls t0 table h subject) c a)
+        among = among_filter has_ever_calls (standing_lines ++ new_lines) line (some_of (ever_calls t0 table h subject) c a)
             (among_left standing_lines new_lines line (among_map (ever_line t0 table h) (flat_map (subjects_of t0 table h) (items t0 (veils h))) (word, subject) here));
         about = refl;
         allows = a;
@@ -149,7 +149,7 @@ module _ (table : CallTable) (t0 : Tree) (h : History) (well0 : WellFormed t0) (
       let line = new_line t0 table h made in
       record {
         line = line;
-        among = among_filter has_calls (standing_lines ++ new_lines) line (some_of (new_calls t0 table h made) c a) (among_right standing_lines new_lines line (among_map (new_line t0 table h) all_new made (one_new made)));
+        among = among_filter has_ever_calls (standing_lines ++ new_lines) line (some_of (new_calls t0 table h made) c a) (among_right standing_lines new_lines line (among_map (new_line t0 table h) all_new made (one_new made)));
         about = refl;
         allows = a;
       }
@@ -188,12 +188,12 @@ module _ (table : CallTable) (t0 : Tree) (h : History) (well0 : WellFormed t0) (
     ]
       where
         at_first : Among (covers_of_dir t0 table h d) (cover_in t0 h d)
-        at_first = ever_first (may_edit table h && is_none (kept h (place.Dir d))) (cover_in t0 h d) (dir_covers t0 h) (λ has. way_by_c t0 h d was has)
+        at_first = ever_first (may_edit table h && is_none (perms_kept h (place.Dir d))) (cover_in t0 h d) (dir_covers t0 h) (λ has. way_by_c t0 h d was has)
 
         by : may_edit table h ≡ true → DirUnder table t0 h well0 stand u d → Among (covers_of_dir t0 table h d) (cover_in u h d)
         by edits (at_rest _ same) = subst (Among (covers_of_dir t0 table h d)) (sym same) at_first
         by edits (come a none had) =
-            ever_other (may_edit table h && is_none (kept h (place.Dir d))) (cover_in t0 h d) (dir_covers t0 h) (cover_in u h d) (and_from (may_edit table h) _ edits (ap is_none none)) (had was) a
+            ever_other (may_edit table h && is_none (perms_kept h (place.Dir d))) (cover_in t0 h d) (dir_covers t0 h) (cover_in u h d) (and_from (may_edit table h) _ edits (ap is_none none)) (had was) a
 
     young_cover : (d : ℕ) → is_dir u d ≡ true → t0.next ≤ d → Among (dir_covers t0 h) (cover_in u h d)
     young_cover d is from = by (dir_under table t0 h well0 stand u k d is)
@@ -378,7 +378,7 @@ module _ (table : CallTable) (t0 : Tree) (h : History) (well0 : WellFormed t0) (
             }
 
     hit_missing : (dir : ℕ) (name : List ℕ) → is_dir u dir ≡ true → look u dir name ≡ None → verdict u table h c (Slot dir name None) ≡ Allowed → Hit (Slot dir name None)
-    hit_missing dir name is none allowed = by (kept h (place.Slot dir name)) refl
+    hit_missing dir name is none allowed = by (perms_kept h (place.Slot dir name)) refl
       where
         parts : Parts (may_any h (rule_of table c).alternatives) (cover_fault (cover u h (Slot dir name None)) (rule_of table c).perms) (object_fault u c IsMissing)
         parts = parts_of (may_any h (rule_of table c).alternatives) (cover_fault (cover u h (Slot dir name None)) (rule_of table c).perms) (object_fault u c IsMissing) allowed
@@ -390,11 +390,11 @@ module _ (table : CallTable) (t0 : Tree) (h : History) (well0 : WellFormed t0) (
         here = At (Slot dir name None)
 
         -- the name has its line, whatever stood there
-        name_line : (perms : ℕ) → kept h (place.Slot dir name) ≡ Some perms → is_dir t0 dir ≡ true → (o : Option ℕ) → look t0 dir name ≡ o
+        name_line : (perms : ℕ) → perms_kept h (place.Slot dir name) ≡ Some perms → is_dir t0 dir ≡ true → (o : Option ℕ) → look t0 dir name ≡ o
             → (word : Word) × Among (flat_map (subjects_of t0 table h) (items t0 (veils h))) (word, At (Slot dir name None))
         name_line perms own was None at =
             let item = has_item t0 s0 h (Slot dir name None) (and_from (is_dir t0 dir) _ was (ap is_none at)) in
-            let subject : Subject = cond (is_some (kept h (place.Slot dir name))) (At (Slot dir name None)) (Others dir) in
+            let subject : Subject = cond (is_some (perms_kept h (place.Slot dir name))) (At (Slot dir name None)) (Others dir) in
             let this : subject ≡ At (Slot dir name None) = ap (λ o. cond (is_some o) (At (Slot dir name None)) (Others dir)) own in
             (item.0, subst (λ s. Among (flat_map (subjects_of t0 table h) (items t0 (veils h))) (item.0, s)) this (item_subject _ item.1))
         name_line perms own was (Some y) at = elim (is_dir t0 y) as (λ b. is_dir t0 y ≡ b → (word : Word) × Among (flat_map (subjects_of t0 table h) (items t0 (veils h))) (word, At (Slot dir name None))) [
@@ -412,10 +412,10 @@ module _ (table : CallTable) (t0 : Tree) (h : History) (well0 : WellFormed t0) (
             edits : may_edit table h ≡ true
             edits = elim edit [ inl e ↦ e | inr same ↦ absurd (Some≢None y (sym at ∙ ap (λ v. look v dir name) (sym same) ∙ none)) ]
 
-            test : (is_some (kept h (place.Slot dir name)) && (may_edit table h && is_free t0 h (dir, name))) ≡ true
-            test = and_from (is_some (kept h (place.Slot dir name))) _ (ap is_some own) (and_from (may_edit table h) _ edits (free_then table t0 h well0 stand u k (dir, name) none))
+            test : (is_some (perms_kept h (place.Slot dir name)) && (may_edit table h && is_free t0 h (dir, name))) ≡ true
+            test = and_from (is_some (perms_kept h (place.Slot dir name))) _ (ap is_some own) (and_from (may_edit table h) _ edits (free_then table t0 h well0 stand u k (dir, name) none))
 
-        by : (o : Option ℕ) → kept h (place.Slot dir name) ≡ o → Hit (Slot dir name None)
+        by : (o : Option ℕ) → perms_kept h (place.Slot dir name) ≡ o → Hit (Slot dir name None)
         by (Some perms) own =
             let was = old_dir table t0 h well0 stand u k dir (stand (place.Slot dir name) perms own) is in
             let line = name_line perms own was (look t0 dir name) refl in

@@ -25,8 +25,8 @@ use Rattle.pua_calls.specs.declared.call.Call.TheVariants as call
 use Rattle.pua_policy.specs.declared.answer.May.TheVariants as may
 use Rattle.pua_script.specs.Requests.{Asked}
 use Rattle.pua_script.specs.Judged.{NameFits}
-use Rattle.pua_script.specs.Limits.{process_limit}
-use Rattle.pua_script.specs.Replay.{World, Fails, Copies, made, history_of, apply}
+use Rattle.pua_script.specs.Limits.{most_processes}
+use Rattle.pua_script.specs.Replay.{World, Fails, Copies, change_effect, history_of, apply}
 use Rattle.pua_script.specs.Worlds.{tree_left}
 use Rattle.pua_script.specs.declared.request.Action.{Action}
 use Rattle.pua_script.specs.declared.request.Action.TheVariants.{OnPath, Symlink, Rename, Link, Pledge, Unveil, Lock, Fork, Exit}
@@ -182,12 +182,12 @@ module _ (table : CallTable) (needs : EditsNeedC table) (t : Tree) (h : History)
   grows_by (Fork new) c d = subst Grows (sym d.1) tt
   grows_by Exit c d = subst Grows (sym d) tt
 
-grown_made : (table : CallTable) (needs : EditsNeedC table) (w : World) (h : History) (well : WellFormed w.tree) (c : Change) → Grows table needs w.tree h well c → Grown table w.tree h (tree_left w.tree (made w h c))
+grown_made : (table : CallTable) (needs : EditsNeedC table) (w : World) (h : History) (well : WellFormed w.tree) (c : Change) → Grows table needs w.tree h well c → Grown table w.tree h (tree_left w.tree (change_effect w h c))
 grown_made table needs w h well (AddNode s node) grows = grown_add table w.tree h grows.0 s.0 s.1 node grows.1 grows.2.0 grows.2.1
 grown_made table needs w h well (CutRow s) grows = grown_cut table w.tree h s.0 s.1
 grown_made table needs w h well (ShiftRow s r) grows = grown_shift table w.tree h s.0 r.0 s.1 r.1 grows.0 grows.1 grows.2 grows.3 grows.4
 grown_made table needs w h well (TieRow s x) grows = grown_tie table w.tree h s.0 s.1 x grows.0 grows.1 grows.2
-grown_made table needs w h well (CopyAs new) grows = by (is_some (history_of w new) || nat_le process_limit (length w.histories))
+grown_made table needs w h well (CopyAs new) grows = by (is_some (history_of w new) || nat_le most_processes (length w.histories))
   where
     by : (full : Bool) → Grown table w.tree h (tree_left w.tree (cond full (Fails EAGAIN) (Copies new)))
     by true = grown_all table w.tree h

@@ -6,7 +6,7 @@ use Rattle.std.specs.Cmp.{nat_cmp_total}
 use Rattle.std.specs.FinMap.{nat_cmp-IsAntisymmetric}
 use Rattle.std.proofs.lemmas.Bool.{false≢true}
 use Rattle.pua_tree.specs.Tree.{Tree, Node, Spot, spot_cmp, is_dir, is_living, look, node_at, kind_at, rows_of, is_empty, empty_tree}
-use Rattle.pua_tree.specs.Edits.{with_row, without_row, without_node, without_unnamed, with_new, add, tie, cut, cut_found, shift, shift_found, moved, is_full_dir, is_full_dir_there, is_inside, is_same_node, has_room, has_name_room}
+use Rattle.pua_tree.specs.Edits.{with_row, without_row, without_node, without_unnamed, with_new, add, tie, cut, cut_found, shift, shift_found, with_row_moved, is_full_dir, is_full_dir_there, is_inside, is_same_node, has_room, has_name_room}
 use Rattle.pua_tree.specs.declared.node.Kind.{Kind}
 use Rattle.pua_tree.specs.declared.node.Kind.TheVariants as kind
 use Rattle.pua_tree.specs.declared.fault.TreeFault.TheVariants.{Missing, Taken, NotDir, NotEmpty, Inside, Full, IsDir}
@@ -16,7 +16,7 @@ use Rattle.pua_calls.specs.Calls.{CallTable}
 use Rattle.pua_policy.specs.History.{History}
 use Rattle.pua_policy.specs.Verdict.{IsMissing, cover, covered_verdict, is_allowed}
 use Rattle.pua_policy.specs.declared.answer.Cover.{Cover}
-use Rattle.pua_script.specs.Replay.{edited, edited_tree}
+use Rattle.pua_script.specs.Replay.{edit_effect, edited_tree}
 use Rattle.pua_script.specs.Worlds.{tree_left}
 use Rattle.pua_script.specs.Confinement.{has_c}
 use Rattle.pua_objects.specs.Objects.{cover_in}
@@ -95,7 +95,7 @@ module _ (table : CallTable) (t : Tree) (h : History) where
 
   pub grown_add : (made : New) (dir : ℕ) (name : List ℕ) (node : Node) → node.kind ≡ new_kind made
       → is_allowed (covered_verdict empty_tree table h (maker made) (name_cover (dir, name)) IsMissing) ≡ true → has_c (name_cover (dir, name)) ≡ true
-      → Grown (tree_left t (edited h (add t dir name node)))
+      → Grown (tree_left t (edit_effect h (add t dir name node)))
   grown_add made dir name node is allowed has = by (is_dir t dir) (look t dir name) (has_room t) refl refl
     where
       grown : is_dir t dir ≡ true → look t dir name ≡ None → Grown (with_new t dir name node)
@@ -121,7 +121,7 @@ module _ (table : CallTable) (t : Tree) (h : History) where
       }
 
       by : (a : Bool) (o : Option ℕ) (room : Bool) → is_dir t dir ≡ a → look t dir name ≡ o →
-          Grown (tree_left t (edited h (cond (not a) (Err NotDir) (cond (is_some o) (Err Taken) (cond room (Ok (t.next, with_new t dir name node)) (Err Full))))))
+          Grown (tree_left t (edit_effect h (cond (not a) (Err NotDir) (cond (is_some o) (Err Taken) (cond room (Ok (t.next, with_new t dir name node)) (Err Full))))))
       by false o room l e = grown_all
       by true (Some y) room l e = grown_all
       by true None false l e = grown_all
@@ -157,7 +157,7 @@ module _ (table : CallTable) (t : Tree) (h : History) where
     | inr other ↦ sym (without_elsewhere spot_cmp spots_total exact_spots s spot t.rows other) ∙ e
   ]
 
-  pub grown_cut : (dir : ℕ) (name : List ℕ) → Grown (tree_left t (edited h (cut t dir name)))
+  pub grown_cut : (dir : ℕ) (name : List ℕ) → Grown (tree_left t (edit_effect h (cut t dir name)))
   grown_cut dir name = by (is_dir t dir) (look t dir name)
     where
       gone : (y : ℕ) → Grown (without_unnamed (without_row t dir name) y)
@@ -167,11 +167,11 @@ module _ (table : CallTable) (t : Tree) (h : History) where
         next = let same = same_next (without_row t dir name) y in omega arith;
       }
 
-      found : (y : ℕ) (full : Bool) → Grown (tree_left t (edited h (cond full (Err NotEmpty) (Ok (y, without_unnamed (without_row t dir name) y)))))
+      found : (y : ℕ) (full : Bool) → Grown (tree_left t (edit_effect h (cond full (Err NotEmpty) (Ok (y, without_unnamed (without_row t dir name) y)))))
       found y true = grown_all
       found y false = gone y
 
-      by : (a : Bool) (o : Option ℕ) → Grown (tree_left t (edited h (cond (not a) (Err NotDir) (cut_found t dir name o))))
+      by : (a : Bool) (o : Option ℕ) → Grown (tree_left t (edit_effect h (cond (not a) (Err NotDir) (cut_found t dir name o))))
       by false o = grown_all
       by true None = grown_all
       by true (Some y) = found y (is_full_dir t y)
@@ -190,7 +190,7 @@ module _ (table : CallTable) (t : Tree) (h : History) where
         | inr other ↦ inl (was_there (from, name) s z (sym (put_elsewhere spot_cmp spots_total exact_spots s (to, new_name) x (without_row t from name).rows other) ∙ e))
       ]
 
-      shifts : (there : Option ℕ) → Grown (moved t from name to new_name x there)
+      shifts : (there : Option ℕ) → Grown (with_row_moved t from name to new_name x there)
       shifts None = record { rows = rows_turned; nodes = λ z l. inl refl; next = omega arith }
       shifts (Some y) = record {
         rows = λ s z e. rows_turned s z (sym (same_look turned s y) ∙ e);
@@ -198,7 +198,7 @@ module _ (table : CallTable) (t : Tree) (h : History) where
         next = let same = same_next turned y in omega arith;
       }
 
-      found : (a b c : Bool) (there : Option ℕ) → Grown (tree_left t (edited_tree h (cond a (Ok t) (cond b (Err Inside) (cond c (Err NotEmpty) (Ok (moved t from name to new_name x there)))))))
+      found : (a b c : Bool) (there : Option ℕ) → Grown (tree_left t (edited_tree h (cond a (Ok t) (cond b (Err Inside) (cond c (Err NotEmpty) (Ok (with_row_moved t from name to new_name x there)))))))
       found true b c there = grown_all
       found false true c there = grown_all
       found false false true there = grown_all

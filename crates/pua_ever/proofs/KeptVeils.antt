@@ -2,7 +2,7 @@
 use Rattle.std.proofs.Common.{◌≡◌, ℕ, List, [], ◌∷◌, Bool, true, false, cond, refl, sym, ap, ◌∙◌, inl, inr}
 use Rattle.std.specs.Prelude.{Some, None}
 use Rattle.pua_tree.proofs.ForCallers.{Some≢None}
-use Rattle.pua_policy.specs.History.{History, Pledged, Unveiled, Locked, Moved, Ended, kept, veils, veil_at, with_veil, same_place}
+use Rattle.pua_policy.specs.History.{History, Pledged, Unveiled, Locked, Moved, Ended, perms_kept, veils, veil_at, with_veil, same_place}
 use Rattle.pua_policy.specs.declared.place.Place.{Place}
 use Rattle.pua_policy.proofs.ForCallers.{veils_are_kept, same_place_is, same_place_refl, still_unveiled, same_place_turned}
 use Rattle.pua_objects.proofs.ForCallers.{Among}
@@ -37,5 +37,5 @@ found_once (v ∷ vs) at perms once (inr a) = by (same_place at v.0) refl (found
     by true is rest = absurd (Some≢None perms (sym rest ∙ ap (veil_at vs) (same_place_is at v.0 is) ∙ once.0))
     by false is rest = ap (λ b. cond b (Some v.1) (veil_at vs at)) is ∙ rest
 
-pub among_kept_at : (h : History) (at : Place) (perms : ℕ) → Among (veils h) (at, perms) → kept h at ≡ Some perms
+pub among_kept_at : (h : History) (at : Place) (perms : ℕ) → Among (veils h) (at, perms) → perms_kept h at ≡ Some perms
 among_kept_at h at perms a = sym (veils_are_kept h at) ∙ found_once (veils h) at perms (veils_once h) a

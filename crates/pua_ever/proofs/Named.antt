@@ -11,7 +11,7 @@ use Rattle.pua_path.specs.declared.found.Way.TheVariants.{Named, Top, Dot, DotDo
 use Rattle.pua_path.specs.declared.found.Found.TheVariants.{Whole, Slot}
 use Rattle.pua_calls.specs.Calls.{CallTable}
 use Rattle.pua_calls.specs.CallSets.{has, keeps_link}
-use Rattle.pua_policy.specs.History.{History, kept}
+use Rattle.pua_policy.specs.History.{History, perms_kept}
 use Rattle.pua_policy.specs.Objects.{object_seen}
 use Rattle.pua_policy.specs.Verdict.{IsMissing, object_of, object_of_kind, cover, covered_verdict, is_allowed}
 use Rattle.pua_calls.specs.declared.call.Call.{Call}
@@ -96,7 +96,7 @@ module _ (t : Tree) (well : WellFormed t) (table : CallTable) (h : History) wher
     }
 
     -- and one that can
-    pub freed : (left : Cover) (perms : ℕ) (set : ℕ) → left ≡ cover_on t h about → kept h (place.Slot spot.0 spot.1) ≡ Some perms → (may_edit table h && has_c left) ≡ true
+    pub freed : (left : Cover) (perms : ℕ) (set : ℕ) → left ≡ cover_on t h about → perms_kept h (place.Slot spot.0 spot.1) ≡ Some perms → (may_edit table h && has_c left) ≡ true
         → ((call : Call) → has set call ≡ is_allowed (covered_verdict empty_tree table h call (Only perms) IsMissing)) → AreOnFreed t table h (own_spot about) set
     freed left perms set covered kept_here can all = record {
       none = λ e. absurd (Some≢None spot (own ∙ e));

@@ -10,7 +10,7 @@ use Rattle.pua_calls.specs.declared.call.Call.TheVariants as call
 use Rattle.pua_policy.specs.declared.answer.Verdict.TheVariants as verdicts
 use Rattle.pua_objects.proofs.ForCallers.{allowed_is}
 use Rattle.pua_script.specs.Requests.{Asked}
-use Rattle.pua_script.specs.Replay.{World, apply, history_of, answer_to, refused}
+use Rattle.pua_script.specs.Replay.{World, apply, history_of, answer_to, refusal_effect}
 use Rattle.pua_script.specs.Decide.{Change, decide}
 use Rattle.pua_script.specs.Guards.{IsDecided}
 use Rattle.pua_policy.specs.declared.answer.Refusal.{Refusal}
@@ -71,7 +71,7 @@ execs_then table w ask h here is =
     (by_decision w h (λ e. is_okay (answer_to e) ≡ true → Execs table w h) (decide table w.tree h ask.action) refusing
     (λ c decided ok. execs_by table w h ask.action c (decisions_are_guarded table w.tree h ask.action c decided) is))
   where
-    refusing : (r : Refusal) → is_okay (answer_to (refused r)) ≡ true → Execs table w h
+    refusing : (r : Refusal) → is_okay (answer_to (refusal_effect r)) ≡ true → Execs table w h
     refusing (Failed errno) ok = absurd (false≢true ok)
     refusing Killed ok = absurd (false≢true ok)
 

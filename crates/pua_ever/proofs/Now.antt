@@ -11,7 +11,7 @@ use Rattle.pua_path.specs.declared.found.Way.{Way}
 use Rattle.pua_path.specs.declared.found.Way.TheVariants.{Named, Top, Dot, DotDot}
 use Rattle.pua_path.specs.declared.found.Found.TheVariants.{Whole, Slot}
 use Rattle.pua_calls.specs.Calls.{CallTable, calls, rule_of}
-use Rattle.pua_policy.specs.History.{History, kept, veils, may_any}
+use Rattle.pua_policy.specs.History.{History, perms_kept, veils, may_any}
 use Rattle.pua_policy.specs.Verdict.{IsDir, IsMissing, object_of_kind, object_fault, rmdir_fault, cover, cover_fault, is_allowed}
 use Rattle.pua_calls.specs.declared.call.Call.{Call}
 use Rattle.pua_calls.specs.declared.call.Call.TheVariants as call
@@ -26,7 +26,7 @@ use Rattle.pua_objects.specs.Laws.{own_or}
 use Rattle.pua_objects.proofs.ForCallers.{Among, among_left, among_map, map_among, among_filter, filter_among, among_flat, flat_among, contained, among_contained}
 use Rattle.pua_objects.proofs.ForCallers.{covers_descend}
 use Rattle.pua_objects.proofs.ForCallers.{some_of, allowed_is}
-use Rattle.pua_ever.specs.Ever.{is_free, can_empty, dir_covers, file_covers, may_edit, covers_of, covers_of_dir, is_named_way, ever_object, is_allowed_under, ever_calls, ever_line, EverLine, subjects_of, all_new, new_line, has_calls, ever}
+use Rattle.pua_ever.specs.Ever.{is_free, can_empty, dir_covers, file_covers, may_edit, covers_of, covers_of_dir, is_named_way, ever_object, is_allowed_under, ever_calls, ever_line, EverLine, subjects_of, all_new, new_line, has_ever_calls, ever}
 use Rattle.pua_ever.specs.Laws.{IsWithinEver, NowWithinEver}
 use Rattle.pua_ever.proofs.Covers.{slot_row}
 use Rattle.pua_ever.proofs.Ways.{way_by_c, name_by_veil, some_dir_by, file_by_name, file_by_dir}
@@ -70,10 +70,10 @@ module _ (t : Tree) (h : History) where
   module _ (well : WellFormed t) (table : CallTable) (c : Call) where
     -- what covers a thing now is among its covers
     dir_cover : (dir : ℕ) → is_dir t dir ≡ true → Among (covers_of_dir t table h dir) (cover_in t h dir)
-    dir_cover dir is = ever_first (may_edit table h && is_none (kept h (place.Dir dir))) (cover_in t h dir) (dir_covers t h) (λ has. way_by_c t h dir is has)
+    dir_cover dir is = ever_first (may_edit table h && is_none (perms_kept h (place.Dir dir))) (cover_in t h dir) (dir_covers t h) (λ has. way_by_c t h dir is has)
 
     file_cover : (dir : ℕ) (name : List ℕ) (x : ℕ) → look t dir name ≡ Some x → is_dir t x ≡ false → Among (covers_of t table h (At (Slot dir name (Some x)))) (cover t h (Slot dir name (Some x)))
-    file_cover dir name x row other = named_first t table h (kind_at t x) left (by (kept h (place.Slot dir name)) refl)
+    file_cover dir name x row other = named_first t table h (kind_at t x) left (by (perms_kept h (place.Slot dir name)) refl)
       where
         left : Cover
         left = cover t h (Slot dir name (Some x))
@@ -81,13 +81,13 @@ module _ (t : Tree) (h : History) where
         living : is_dir t dir ≡ true
         living = (row_says t (sound_from t well) (dir, name) x row).0
 
-        over : left ≡ own_or (kept h (place.Slot dir name)) (cover_in t h dir)
+        over : left ≡ own_or (perms_kept h (place.Slot dir name)) (cover_in t h dir)
         over = (covers_descend t h well).at_name dir name (Some x)
 
         free : has_c left ≡ true → is_free t h (dir, name) ≡ true
         free has = rw (row, ap has_c (slot_row t h well (dir, name) x other ∙ sym over) ∙ has) refl
 
-        by : (o : Option ℕ) → kept h (place.Slot dir name) ≡ o → has_c left ≡ true → Among (file_covers t h) left
+        by : (o : Option ℕ) → perms_kept h (place.Slot dir name) ≡ o → has_c left ≡ true → Among (file_covers t h) left
         by (Some perms) own has =
             let same : left ≡ Only perms = over ∙ ap (λ o. own_or o (cover_in t h dir)) own in
             subst (Among (file_covers t h)) (sym same) (file_by_name t h (Only perms) (name_by_veil t h dir name perms living own (ap has_c (sym same) ∙ has) (free has)))
@@ -148,7 +148,7 @@ module _ (t : Tree) (h : History) where
         record {
           later = line;
           listed = contained (ever t table h) line
-              (among_filter has_calls (standing ++ coming) line (still (calls_on t table h item.subject) some (λ c b. stays c b))
+              (among_filter has_ever_calls (standing ++ coming) line (still (calls_on t table h item.subject) some (λ c b. stays c b))
               (among_left standing coming line (among_map (ever_line t table h) (flat_map (subjects_of t table h) (items t (veils h))) (item.word, item.subject) here)));
           word = refl;
           about = refl;

@@ -5,7 +5,7 @@ use Rattle.std.specs.List.{list_any}
 use Rattle.std.proofs.lemmas.Bool.{false≢true, eq-eqb, eqb-true, and_parts, and_from, or_cases, not-true, lt-ltb}
 use Rattle.pua_tree.specs.Tree.{Tree, WellFormed, Spot, is_dir, look, climb}
 use Rattle.pua_tree.proofs.ForCallers.{same_Some, None≢Some, sound_from, row_says, row_of}
-use Rattle.pua_policy.specs.History.{History, kept, veils, has_veil}
+use Rattle.pua_policy.specs.History.{History, perms_kept, veils, has_veil}
 use Rattle.pua_policy.specs.Verdict.{is_unveil, nearest}
 use Rattle.pua_policy.specs.declared.answer.Cover.{Cover}
 use Rattle.pua_policy.specs.declared.answer.Cover.TheVariants.{All, Only}
@@ -16,7 +16,7 @@ use Rattle.pua_script.specs.Confinement.{has_c}
 use Rattle.pua_objects.specs.Objects.{cover_in}
 use Rattle.pua_objects.proofs.ForCallers.{Among, among_left, among_right, among_either, map_among, filter_among, contained, among_contained, filter_map_among, among_filter_map}
 use Rattle.pua_ever.specs.Ever.{is_free, can_empty, opens_at, gives_way, is_way_in, has_c_outside, directories, dir_covers, veil_cover_at, name_covers, some_dir_has_c}
-use Rattle.pua_ever.specs.Openings.{opening, dir_opening, name_opening, entrance, HaveSame}
+use Rattle.pua_ever.specs.Openings.{opening, dir_opening, name_opening, entrance_cover, HaveSame}
 use Rattle.pua_ever.proofs.Covers.{under_dir}
 use Rattle.pua_ever.proofs.KeptVeils.{among_kept_at}
 use Rattle.pua_ever.proofs.Opened.{when_some, when, opening_is, opening_from, opening_some, places_of, place_among, held, opened, empties, outsides}
@@ -37,10 +37,10 @@ module _ (t : Tree) (h : History) (well : WellFormed t) where
   own_covers = filter_map (dir_opening t h) (places_of h) ++ (if has_veil (veils h) then [] else All ∷ [])
 
   abbrev pub entrances : List Cover
-  entrances = filter_map (entrance t h (held t h well) (opened t h well)) (places_of h)
+  entrances = filter_map (entrance_cover t h (held t h well) (opened t h well)) (places_of h)
 
   no_veils : has_veil (veils h) ≡ false → (d : ℕ) → cover_in t h d ≡ All
-  no_veils none d = ap (λ b. if b then nearest (map (λ over. kept h (place.Dir over)) (climb t d)) else All) (any_veil h ∙ none)
+  no_veils none d = ap (λ b. if b then nearest (map (λ over. perms_kept h (place.Dir over)) (climb t d)) else All) (any_veil h ∙ none)
 
   -- a directory that has `c` gives its cover
   by_own : (d : ℕ) → is_dir t d ≡ true → has_c (cover_in t h d) ≡ true → Among own_covers (cover_in t h d)
@@ -54,7 +54,7 @@ module _ (t : Tree) (h : History) (well : WellFormed t) where
           let from = origin t well h (any_veil h ∙ some) d is has in
           among_left (filter_map (dir_opening t h) (places_of h)) _ (cover_in t h d)
           (among_filter_map (dir_opening t h) (places_of h) (place.Dir from.dir) (cover_in t h d) (place_among h (place.Dir from.dir) from.perms from.veil)
-          (when _ _ from.living ∙ opening_from (kept h (place.Dir from.dir)) from.perms from.veil (ap has_c (sym from.cover) ∙ has) ∙ ap Some (sym from.cover)))
+          (when _ _ from.living ∙ opening_from (perms_kept h (place.Dir from.dir)) from.perms from.veil (ap has_c (sym from.cover) ∙ has) ∙ ap Some (sym from.cover)))
 
   own_dir_at : (c : Cover) → Among own_covers c → (d : ℕ) × (is_dir t d ≡ true) × (has_c (cover_in t h d) ≡ true) × (cover_in t h d ≡ c)
   own_dir_at c a = elim (among_either (filter_map (dir_opening t h) (places_of h)) _ c a) [ inl b ↦ by_veil (filter_map_among (dir_opening t h) (places_of h) c b) | inr b ↦ by_none (has_veil (veils h)) refl b ]
@@ -62,7 +62,7 @@ module _ (t : Tree) (h : History) (well : WellFormed t) where
       by_veil : (at : Place) × Among (places_of h) at × (dir_opening t h at ≡ Some c) → (d : ℕ) × (is_dir t d ≡ true) × (has_c (cover_in t h d) ≡ true) × (cover_in t h d ≡ c)
       by_veil (place.Dir d, _, e) =
           let parts = when_some (is_dir t d) _ c e in
-          let veil = opening_is (kept h (place.Dir d)) c parts.1 in
+          let veil = opening_is (perms_kept h (place.Dir d)) c parts.1 in
           let same : cover_in t h d ≡ c = own_cover t well h d veil.0 parts.0 veil.1 ∙ sym veil.2 in
           (d, parts.0, ap has_c same ∙ veil.3, same)
       by_veil (place.Slot d name, _, e) = absurd (None≢Some c e)
@@ -72,7 +72,7 @@ module _ (t : Tree) (h : History) (well : WellFormed t) where
       by_none false none (inl e) = (0, well.root, ap has_c (no_veils none 0), no_veils none 0 ∙ e)
       by_none false none (inr a) = absurd a
 
-  veiled : (at : Place) (perms : ℕ) → kept h at ≡ Some perms → list_any is_unveil h ≡ true
+  veiled : (at : Place) (perms : ℕ) → perms_kept h at ≡ Some perms → list_any is_unveil h ≡ true
   veiled at perms e = any_veil h ∙ some (veils h) (place_among h at perms e)
     where
       some : (vs : List (Place × ℕ)) → Among (map (λ veil. veil.0) vs) at → has_veil vs ≡ true
@@ -80,12 +80,12 @@ module _ (t : Tree) (h : History) (well : WellFormed t) where
       some (v ∷ vs) a = refl
 
   -- a directory that is moved or made can come there
-  entrance_covers : (at : Place) (c : Cover) → entrance t h (held t h well) (opened t h well) at ≡ Some c → Among (dir_covers t h) c
+  entrance_covers : (at : Place) (c : Cover) → entrance_cover t h (held t h well) (opened t h well) at ≡ Some c → Among (dir_covers t h) c
   entrance_covers (place.Slot d name) c e =
       let parts = when_some _ _ c e in
       let one = and_parts (is_dir t d) _ parts.0 in
       let two = and_parts (is_free t h (d, name)) _ one.1 in
-      let veil = opening_some (kept h (place.Slot d name)) two.1 in
+      let veil = opening_some (perms_kept h (place.Slot d name)) two.1 in
       subst (Among (dir_covers t h)) (same_Some _ c parts.1) (way_by_name t h d name veil.0 one.0 veil.1 veil.2 two.0)
   entrance_covers (place.Dir y) c e =
       let parts = when_some _ _ c e in
@@ -93,7 +93,7 @@ module _ (t : Tree) (h : History) (well : WellFormed t) where
       let two = and_parts (not (y == 0)) _ one.1 in
       let three = and_parts (is_some (opening h (place.Dir y))) _ two.1 in
       let four = and_parts (not (list_any (λ other. other == y) (held t h well))) _ three.1 in
-      let veil = opening_some (kept h (place.Dir y)) three.0 in
+      let veil = opening_some (perms_kept h (place.Dir y)) three.0 in
       let n : y ≢ 0 = λ z. false≢true (sym (not-true _ two.0) ∙ eq-eqb y 0 z) in
       let row = row_of t (sound_from t well) y one.0 n in
       let has : has_c (cover_in t h y) ≡ true = ap has_c (own_cover t well h y veil.0 one.0 veil.1) ∙ veil.2 in
@@ -108,10 +108,10 @@ module _ (t : Tree) (h : History) (well : WellFormed t) where
       own : has_c (cover_in t h d) ≡ true → Among (own_covers ++ entrances) (cover_in t h d)
       own has = among_left own_covers entrances (cover_in t h d) (by_own d is has)
 
-      enters : (at : Place) (perms : ℕ) → kept h at ≡ Some perms → entrance t h (held t h well) (opened t h well) at ≡ Some (cover_in t h d) → Among (own_covers ++ entrances) (cover_in t h d)
+      enters : (at : Place) (perms : ℕ) → perms_kept h at ≡ Some perms → entrance_cover t h (held t h well) (opened t h well) at ≡ Some (cover_in t h d) → Among (own_covers ++ entrances) (cover_in t h d)
       enters at perms veil e =
           among_right own_covers entrances (cover_in t h d)
-          (among_filter_map (entrance t h (held t h well) (opened t h well)) (places_of h) at (cover_in t h d) (place_among h at perms veil) e)
+          (among_filter_map (entrance_cover t h (held t h well) (opened t h well)) (places_of h) at (cover_in t h d) (place_among h at perms veil) e)
 
       by_name : (veil : Place × ℕ) × Among (veils h) veil × (opens_at t h d veil.0 veil.1 ≡ true) → Among (own_covers ++ entrances) (cover_in t h d)
       by_name ((place.Slot other name, perms), a, all) =
@@ -124,7 +124,7 @@ module _ (t : Tree) (h : History) (well : WellFormed t) where
       by_name ((place.Dir other, perms), a, all) = absurd (false≢true all)
 
       by_turn : (row : Spot × ℕ) × Among t.rows row × (gives_way t h d row ≡ true) → Among (own_covers ++ entrances) (cover_in t h d)
-      by_turn ((s, y), a, all) = turned (kept h (place.Dir y)) refl
+      by_turn ((s, y), a, all) = turned (perms_kept h (place.Dir y)) refl
         where
           row : look t s.0 s.1 ≡ Some y
           row = among_rows t well (s, y) a
@@ -144,7 +144,7 @@ module _ (t : Tree) (h : History) (well : WellFormed t) where
           same : s.0 ≡ d
           same = eqb-true s.0 d one.0
 
-          turned : (o : Option ℕ) → kept h (place.Dir y) ≡ o → Among (own_covers ++ entrances) (cover_in t h d)
+          turned : (o : Option ℕ) → perms_kept h (place.Dir y) ≡ o → Among (own_covers ++ entrances) (cover_in t h d)
           turned None e = own (ap has_c (sym (under_dir t h well s y two.0 row e ∙ ap (cover_in t h) same)) ∙ three.0)
           turned (Some perms) e =
               let n : y ≢ 0 = (row_says t (sound_from t well) s y row).3 in
@@ -162,7 +162,7 @@ module _ (t : Tree) (h : History) (well : WellFormed t) where
       within c a =
           elim (among_either own_covers entrances c a) [
             | inl b ↦ (let at = own_dir_at c b in subst (Among (dir_covers t h)) at.3 (way_by_c t h at.0 at.1 at.2))
-            | inr b ↦ (let from = filter_map_among (entrance t h (held t h well) (opened t h well)) (places_of h) c b in entrance_covers from.0 c from.2)
+            | inr b ↦ (let from = filter_map_among (entrance_cover t h (held t h well) (opened t h well)) (places_of h) c b in entrance_covers from.0 c from.2)
           ]
 
       all : (c : Cover) → Among (dir_covers t h) c → Among (own_covers ++ entrances) c
@@ -178,7 +178,7 @@ module _ (t : Tree) (h : History) (well : WellFormed t) where
       within c (place.Slot d name, _, e) =
           let parts = when_some _ _ c e in
           let both = and_parts (is_dir t d) _ parts.0 in
-          let veil = opening_is (kept h (place.Slot d name)) c parts.1 in
+          let veil = opening_is (perms_kept h (place.Slot d name)) c parts.1 in
           subst (Among (name_covers t h)) (sym veil.2) (name_by_veil t h d name veil.0 both.0 veil.1 (ap has_c (sym veil.2) ∙ veil.3) both.1)
       within c (place.Dir d, _, e) = absurd (None≢Some c e)
 

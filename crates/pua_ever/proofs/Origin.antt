@@ -5,7 +5,7 @@ use Rattle.std.specs.List.{list_any}
 use Rattle.std.proofs.lemmas.Bool.{false≢true, eq-eqb, eqb-true, or_right}
 use Rattle.pua_tree.specs.Tree.{Tree, WellFormed, is_dir, above}
 use Rattle.pua_tree.proofs.ForCallers.{Reaches, sound_from, row_of, above_dir}
-use Rattle.pua_policy.specs.History.{History, kept}
+use Rattle.pua_policy.specs.History.{History, perms_kept}
 use Rattle.pua_policy.specs.Verdict.{is_unveil}
 use Rattle.pua_policy.specs.declared.answer.Cover.TheVariants.{All, Nothing, Only}
 use Rattle.pua_policy.specs.declared.place.Place.TheVariants as place
@@ -42,7 +42,7 @@ module _ (t : Tree) (well : WellFormed t) where
 
   module _ (h : History) where
     -- the cover of a directory with a veil of its own
-    pub own_cover : (d perms : ℕ) → is_dir t d ≡ true → kept h (place.Dir d) ≡ Some perms → cover_in t h d ≡ Only perms
+    pub own_cover : (d perms : ℕ) → is_dir t d ≡ true → perms_kept h (place.Dir d) ≡ Some perms → cover_in t h d ≡ Only perms
     own_cover zero perms is e = (covers_descend t h well).root ∙ ap (λ o. own_or o (if list_any is_unveil h then Nothing else All)) e
     own_cover (suc d) perms is e = own_dir t h well (suc d) perms is (λ z. omega (arith, z)) e
 
@@ -51,26 +51,26 @@ module _ (t : Tree) (well : WellFormed t) where
       pub dir : ℕ
       pub living : is_dir t dir ≡ true
       pub perms : ℕ
-      pub veil : kept h (place.Dir dir) ≡ Some perms
+      pub veil : perms_kept h (place.Dir dir) ≡ Some perms
       pub cover : cover_in t h d ≡ Only perms
       pub below : is_below t dir d ≡ true
 
-    here : (d perms : ℕ) → is_dir t d ≡ true → kept h (place.Dir d) ≡ Some perms → Origin d
+    here : (d perms : ℕ) → is_dir t d ≡ true → perms_kept h (place.Dir d) ≡ Some perms → Origin d
     here d perms is e = record { dir = d; living = is; perms = perms; veil = e; cover = own_cover d perms is e; below = below_self t well d d (eq-eqb d d refl) is }
 
     origin_in : list_any is_unveil h ≡ true → (steps d : ℕ) → Reaches t steps d → is_dir t d ≡ true → has_c (cover_in t h d) ≡ true → Origin d
-    origin_in veiled zero d root is has = by (kept h (place.Dir d)) refl
+    origin_in veiled zero d root is has = by (perms_kept h (place.Dir d)) refl
       where
-        by : (o : Option ℕ) → kept h (place.Dir d) ≡ o → Origin d
+        by : (o : Option ℕ) → perms_kept h (place.Dir d) ≡ o → Origin d
         by (Some perms) e = here d perms is e
         by None e =
             let none : cover_in t h d ≡ Nothing =
             ap (cover_in t h) root ∙ (covers_descend t h well).root
-            ∙ (λ i. own_or ((ap (λ z. kept h (place.Dir z)) (sym root) ∙ e) i) (if veiled i then Nothing else All)) in
+            ∙ (λ i. own_or ((ap (λ z. perms_kept h (place.Dir z)) (sym root) ∙ e) i) (if veiled i then Nothing else All)) in
             absurd (false≢true (ap has_c (sym none) ∙ has))
-    origin_in veiled (suc steps) d up is has = by (kept h (place.Dir d)) refl (origin_in veiled steps (above t d) up.1 (above_dir t (sound_from t well) d is up.0))
+    origin_in veiled (suc steps) d up is has = by (perms_kept h (place.Dir d)) refl (origin_in veiled steps (above t d) up.1 (above_dir t (sound_from t well) d is up.0))
       where
-        by : (o : Option ℕ) → kept h (place.Dir d) ≡ o → (has_c (cover_in t h (above t d)) ≡ true → Origin (above t d)) → Origin d
+        by : (o : Option ℕ) → perms_kept h (place.Dir d) ≡ o → (has_c (cover_in t h (above t d)) ≡ true → Origin (above t d)) → Origin d
         by (Some perms) e more = here d perms is e
         by None e more =
             let row = row_of t (sound_from t well) d is up.0 in

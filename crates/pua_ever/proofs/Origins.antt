@@ -7,7 +7,7 @@ use Rattle.pua_tree.specs.Tree.{Tree, WellFormed, Spot, spot_cmp, is_dir, is_liv
 use Rattle.pua_tree.proofs.ForCallers.{Sound, Reaches, sound_from, row_says, row_of, above_dir, same_Some, Some≢None, spots_total, exact_spots, same_dir}
 use Rattle.pua_tree.proofs.ForCallers.{none_found, all_from_found}
 use Rattle.pua_calls.specs.Calls.{CallTable}
-use Rattle.pua_policy.specs.History.{History, kept}
+use Rattle.pua_policy.specs.History.{History, perms_kept}
 use Rattle.pua_policy.specs.declared.place.Place.TheVariants as place
 use Rattle.pua_policy.specs.declared.answer.Cover.TheVariants.{Only}
 use Rattle.pua_script.specs.Confinement.{has_c, UncoveredStay}
@@ -35,13 +35,13 @@ module _ (table : CallTable) (t0 : Tree) (h : History) (well0 : WellFormed t0) (
 
   -- how a directory can stand in a directory without `c`
   pub data Entrance (s : Spot) (x : ℕ) : Type 0 where
-    by_veil : (perms : ℕ) → kept h (place.Slot s.0 s.1) ≡ Some perms → has_c (Only perms) ≡ true → Entrance s x
+    by_veil : (perms : ℕ) → perms_kept h (place.Slot s.0 s.1) ≡ Some perms → has_c (Only perms) ≡ true → Entrance s x
     turned : (y : ℕ) → look t0 s.0 s.1 ≡ Some y → is_dir t0 y ≡ true → has_c (cover_in t0 h y) ≡ true → can_empty t0 h y ≡ true → has_c_outside t0 h y ≡ true → Entrance s x
     still : look t0 s.0 s.1 ≡ Some x → is_dir t0 x ≡ true → has_c (cover_in t0 h x) ≡ true → Entrance s x
 
   pub record Came (u : Tree) (s : Spot) (x : ℕ) : Type 0 where
     pub origin : Origin x
-    pub file : is_dir u x ≡ false → is_dir t0 s.0 ≡ true → has_c (own_or (kept h (place.Slot s.0 s.1)) (cover_in t0 h s.0)) ≡ true
+    pub file : is_dir u x ≡ false → is_dir t0 s.0 ≡ true → has_c (own_or (perms_kept h (place.Slot s.0 s.1)) (cover_in t0 h s.0)) ≡ true
     pub dir : is_dir u x ≡ true → is_dir t0 s.0 ≡ true → has_c (cover_in t0 h s.0) ≡ false → Entrance s x
     pub inner : t0.next ≤ s.0 → some_dir_has_c t0 h ≡ true
 
@@ -83,7 +83,7 @@ module _ (table : CallTable) (t0 : Tree) (h : History) (well0 : WellFormed t0) (
   -- what a directory is covered by: as at the beginning, or as one that can come somewhere
   pub data DirUnder (u : Tree) (d : ℕ) : Type 0 where
     at_rest : is_dir t0 d ≡ true → cover_in u h d ≡ cover_in t0 h d → DirUnder u d
-    come : Among (dir_covers t0 h) (cover_in u h d) → kept h (place.Dir d) ≡ None → (is_dir t0 d ≡ true → has_c (cover_in t0 h d) ≡ true) → DirUnder u d
+    come : Among (dir_covers t0 h) (cover_in u h d) → perms_kept h (place.Dir d) ≡ None → (is_dir t0 d ≡ true → has_c (cover_in t0 h d) ≡ true) → DirUnder u d
 
   module _ (u : Tree) (k : Stays u) where
     su : Sound u
@@ -112,7 +112,7 @@ module _ (table : CallTable) (t0 : Tree) (h : History) (well0 : WellFormed t0) (
     rest_way d is same has = subst (Among (dir_covers t0 h)) (sym same) (way_by_c t0 h d is has)
 
     -- a directory that came where it has no veil of its own
-    came_under : (s : Spot) (d : ℕ) → look u s.0 s.1 ≡ Some d → is_dir u d ≡ true → kept h (place.Dir d) ≡ None → Came u s d → DirUnder u s.0 → DirUnder u d
+    came_under : (s : Spot) (d : ℕ) → look u s.0 s.1 ≡ Some d → is_dir u d ≡ true → perms_kept h (place.Dir d) ≡ None → Came u s d → DirUnder u s.0 → DirUnder u d
     came_under s d e is none came over =
         come (subst (Among (dir_covers t0 h)) (sym (under_dir u h k.well s d is e none)) (by over)) none (had came.origin)
       where
@@ -160,9 +160,9 @@ module _ (table : CallTable) (t0 : Tree) (h : History) (well0 : WellFormed t0) (
     under zero d root is =
         at_rest (ap (is_dir t0) root ∙ well0.root)
         (ap (cover_in u h) root ∙ (covers_descend u h k.well).root ∙ sym (covers_descend t0 h well0).root ∙ ap (cover_in t0 h) (sym root))
-    under (suc steps) d up is = by (kept h (place.Dir d)) refl (under steps (above u d) up.1 (above_dir u su d is up.0))
+    under (suc steps) d up is = by (perms_kept h (place.Dir d)) refl (under steps (above u d) up.1 (above_dir u su d is up.0))
       where
-        by : (o : Option ℕ) → kept h (place.Dir d) ≡ o → DirUnder u (above u d) → DirUnder u d
+        by : (o : Option ℕ) → perms_kept h (place.Dir d) ≡ o → DirUnder u (above u d) → DirUnder u d
         by (Some perms) own over =
             let dir = old_dir d (stand (place.Dir d) perms own) is in
             at_rest dir (own_dir u h k.well d perms is up.0 own ∙ sym (own_dir t0 h well0 d perms dir up.0 own))
@@ -178,15 +178,15 @@ module _ (table : CallTable) (t0 : Tree) (h : History) (well0 : WellFormed t0) (
     dir_under (suc d) is = let way = su.rooted (suc d) is (λ e. omega (arith, e)) in under way.0 (suc d) way.1 is
 
     -- what a name is covered by at which nothing or no directory stands, if it has `c`
-    pub name_under : (s : Spot) → is_dir u s.0 ≡ true → is_free t0 h s ≡ true → has_c (own_or (kept h (place.Slot s.0 s.1)) (cover_in u h s.0)) ≡ true
-        → Among (name_covers t0 h ++ dir_covers t0 h) (own_or (kept h (place.Slot s.0 s.1)) (cover_in u h s.0))
-    name_under s is free = by (kept h (place.Slot s.0 s.1)) refl
+    pub name_under : (s : Spot) → is_dir u s.0 ≡ true → is_free t0 h s ≡ true → has_c (own_or (perms_kept h (place.Slot s.0 s.1)) (cover_in u h s.0)) ≡ true
+        → Among (name_covers t0 h ++ dir_covers t0 h) (own_or (perms_kept h (place.Slot s.0 s.1)) (cover_in u h s.0))
+    name_under s is free = by (perms_kept h (place.Slot s.0 s.1)) refl
       where
         at_dir : DirUnder u s.0 → has_c (cover_in u h s.0) ≡ true → Among (dir_covers t0 h) (cover_in u h s.0)
         at_dir (come a n l) has = a
         at_dir (at_rest lives same) has = rest_way s.0 lives same (ap has_c (sym same) ∙ has)
 
-        by : (o : Option ℕ) → kept h (place.Slot s.0 s.1) ≡ o → has_c (own_or o (cover_in u h s.0)) ≡ true → Among (name_covers t0 h ++ dir_covers t0 h) (own_or o (cover_in u h s.0))
+        by : (o : Option ℕ) → perms_kept h (place.Slot s.0 s.1) ≡ o → has_c (own_or o (cover_in u h s.0)) ≡ true → Among (name_covers t0 h ++ dir_covers t0 h) (own_or o (cover_in u h s.0))
         by (Some perms) e has = among_left (name_covers t0 h) (dir_covers t0 h) (Only perms) (name_by_veil t0 h s.0 s.1 perms (old_dir s.0 (stand (place.Slot s.0 s.1) perms e) is) e has free)
         by None e has = among_right (name_covers t0 h) (dir_covers t0 h) (cover_in u h s.0) (at_dir (dir_under s.0 is) has)
 
@@ -196,14 +196,14 @@ module _ (table : CallTable) (t0 : Tree) (h : History) (well0 : WellFormed t0) (
       | inl fixed ↦ inl fixed
       | inr came ↦ elim (free_or_fixed s x e) [
         | inr fixed ↦ inl fixed
-        | inl free ↦ inr (came, subst (Among (file_covers t0 h)) (sym (slot_row u h k.well s x other)) (by came free (kept h (place.Slot s.0 s.1)) refl))
+        | inl free ↦ inr (came, subst (Among (file_covers t0 h)) (sym (slot_row u h k.well s x other)) (by came free (perms_kept h (place.Slot s.0 s.1)) refl))
       ]
     ]
       where
         lives : is_dir u s.0 ≡ true
         lives = (row_says u su s x e).0
 
-        at_dir : Came u s x → kept h (place.Slot s.0 s.1) ≡ None → DirUnder u s.0 → Among (file_covers t0 h) (cover_in u h s.0)
+        at_dir : Came u s x → perms_kept h (place.Slot s.0 s.1) ≡ None → DirUnder u s.0 → Among (file_covers t0 h) (cover_in u h s.0)
         at_dir came none (at_rest dir same) =
             let has : has_c (cover_in t0 h s.0) ≡ true = ap (λ o. has_c (own_or o (cover_in t0 h s.0))) (sym none) ∙ came.file other dir in
             file_by_dir t0 h (cover_in u h s.0) (rest_way s.0 dir same has) (some_dir_by t0 h s.0 dir has)
@@ -212,7 +212,7 @@ module _ (table : CallTable) (t0 : Tree) (h : History) (well0 : WellFormed t0) (
           | inr from ↦ came.inner from
         ])
 
-        by : Came u s x → is_free t0 h s ≡ true → (o : Option ℕ) → kept h (place.Slot s.0 s.1) ≡ o → Among (file_covers t0 h) (own_or o (cover_in u h s.0))
+        by : Came u s x → is_free t0 h s ≡ true → (o : Option ℕ) → perms_kept h (place.Slot s.0 s.1) ≡ o → Among (file_covers t0 h) (own_or o (cover_in u h s.0))
         by came free (Some perms) is =
             let dir = old_dir s.0 (stand (place.Slot s.0 s.1) perms is) lives in
             let has : has_c (Only perms) ≡ true = ap (λ o. has_c (own_or o (cover_in t0 h s.0))) (sym is) ∙ came.file other dir in

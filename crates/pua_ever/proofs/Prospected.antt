@@ -12,7 +12,7 @@ use Rattle.pua_path.specs.declared.found.Way.TheVariants.{Named, Top, Dot, DotDo
 use Rattle.pua_path.specs.declared.found.Found.TheVariants.{Whole}
 use Rattle.pua_calls.specs.Calls.{CallTable, rule_of}
 use Rattle.pua_calls.specs.CallSets.{has, keeps_link}
-use Rattle.pua_policy.specs.History.{History, kept, may_any}
+use Rattle.pua_policy.specs.History.{History, perms_kept, may_any}
 use Rattle.pua_policy.specs.Objects.{object_seen}
 use Rattle.pua_policy.specs.Verdict.{Object, IsDir, object_fault, cover_fault, or_fault, allowed_unless, if_promised, covered_verdict, is_allowed}
 use Rattle.pua_calls.specs.declared.call.Call.{Call}
@@ -110,7 +110,7 @@ module _ (t : Tree) (h : History) where
 module _ (t : Tree) (table : CallTable) (h : History) (p : Prospects) (is : IsProspects t table h p) where
   module _ (dir : ℕ) (way : Way) (living : is_dir t dir ≡ true) where
     abbrev moves : Bool
-    moves = may_edit table h && is_none (kept h (place.Dir dir))
+    moves = may_edit table h && is_none (perms_kept h (place.Dir dir))
 
     abbrev stays : Bool
     stays = list_any (λ other. other == dir) p.held.items

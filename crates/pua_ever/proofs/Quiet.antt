@@ -8,7 +8,7 @@ use Rattle.pua_tree.proofs.ForCallers.{Reaches, sound_from, row_says, row_of, ab
 use Rattle.pua_tree.proofs.ForCallers.{none_found}
 use Rattle.pua_policy.proofs.ForCallers.{climb_step, climb_root}
 use Rattle.pua_calls.specs.Calls.{CallTable}
-use Rattle.pua_policy.specs.History.{History, kept}
+use Rattle.pua_policy.specs.History.{History, perms_kept}
 use Rattle.pua_policy.specs.declared.place.Place.TheVariants as place
 use Rattle.pua_policy.specs.declared.answer.Cover.TheVariants.{Only}
 use Rattle.pua_script.specs.Confinement.{has_c, UncoveredStay}
@@ -22,7 +22,7 @@ use Rattle.pua_ever.proofs.Covers.{dir_row, living_dir, below_next}
 -- nothing with `c` is outside
 pub record Quiet (h : History) (y : ℕ) (t : Tree) : Type 0 where
   pub dirs : (d : ℕ) → is_dir t d ≡ true → is_below t y d ≡ false → has_c (cover_in t h d) ≡ false
-  pub names : (d : ℕ) (name : List ℕ) (perms : ℕ) → is_dir t d ≡ true → is_below t y d ≡ false → kept h (place.Slot d name) ≡ Some perms → has_c (Only perms) ≡ false
+  pub names : (d : ℕ) (name : List ℕ) (perms : ℕ) → is_dir t d ≡ true → is_below t y d ≡ false → perms_kept h (place.Slot d name) ≡ Some perms → has_c (Only perms) ≡ false
 
 module _ (t : Tree) (well : WellFormed t) (y : ℕ) where
   -- what is below goes up
@@ -69,13 +69,13 @@ module _ (table : CallTable) (h : History) (t u : Tree) (well : WellFormed t) (w
   inside_name : (s : Spot) → is_dir t s.0 ≡ true → has_c (name_cover table t h s) ≡ true → is_below t y s.0 ≡ true
   inside_name s is has = by (is_below t y s.0) refl
     where
-      at : is_below t y s.0 ≡ false → (o : Option ℕ) → kept h (place.Slot s.0 s.1) ≡ o → has_c (own_or o (cover_in t h s.0)) ≡ true → ⊥
+      at : is_below t y s.0 ≡ false → (o : Option ℕ) → perms_kept h (place.Slot s.0 s.1) ≡ o → has_c (own_or o (cover_in t h s.0)) ≡ true → ⊥
       at outside (Some perms) e has = false≢true (sym (quiet.names s.0 s.1 perms is outside e) ∙ has)
       at outside None e has = false≢true (sym (quiet.dirs s.0 is outside) ∙ has)
 
       by : (b : Bool) → is_below t y s.0 ≡ b → is_below t y s.0 ≡ true
       by true e = e
-      by false outside = absurd (at outside (kept h (place.Slot s.0 s.1)) refl (ap has_c (sym ((covers_descend t h well).at_name s.0 s.1 None)) ∙ has))
+      by false outside = absurd (at outside (perms_kept h (place.Slot s.0 s.1)) refl (ap has_c (sym ((covers_descend t h well).at_name s.0 s.1 None)) ∙ has))
 
   inside_dir : (d : ℕ) → is_dir t d ≡ true → has_c (cover_in t h d) ≡ true → is_below t y d ≡ true
   inside_dir d is has = by (is_below t y d) refl

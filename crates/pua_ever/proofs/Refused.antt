@@ -5,7 +5,7 @@ use Rattle.std.proofs.lemmas.Bool.{false≢true, and_parts, not-false}
 use Rattle.pua_tree.proofs.ForCallers.{Some≢None}
 use Rattle.pua_calls.specs.Promises.{holds, creating, unveil}
 use Rattle.pua_calls.specs.Calls.{CallTable}
-use Rattle.pua_policy.specs.History.{History, held, has_error, is_locked, is_ended}
+use Rattle.pua_policy.specs.History.{History, held_set, has_error, is_locked, is_ended}
 use Rattle.pua_policy.specs.declared.answer.May.TheVariants.{Yes, Enosys, Death}
 use Rattle.pua_calls.specs.declared.call.Call.{Call}
 use Rattle.pua_calls.specs.declared.call.Call.TheVariants as call
@@ -57,9 +57,9 @@ neither table true o e = absurd (Some≢None CanUnveil e)
 neither table false o e = (refl, e)
 
 confined : (h : History) → can_unveil h ≡ false → IsConfined h ⊎ (is_ended h ≡ true)
-confined h none = by (is_locked h) (is_ended h) (holds (held h) unveil) refl refl refl
+confined h none = by (is_locked h) (is_ended h) (holds (held_set h) unveil) refl refl refl
   where
-    by : (l e p : Bool) → is_locked h ≡ l → is_ended h ≡ e → holds (held h) unveil ≡ p → IsConfined h ⊎ (is_ended h ≡ true)
+    by : (l e p : Bool) → is_locked h ≡ l → is_ended h ≡ e → holds (held_set h) unveil ≡ p → IsConfined h ⊎ (is_ended h ≡ true)
     by true e p locked ended has = inl (inl locked)
     by false true p locked ended has = inr ended
     by false false false locked ended has = inl (inr has)

@@ -18,17 +18,17 @@ use Rattle.pua_path.specs.declared.found.Found.TheVariants.{Whole, Slot}
 use Rattle.pua_path.proofs.ForCallers.{resolutions_fit}
 use Rattle.pua_calls.specs.Calls.{CallTable}
 use Rattle.pua_calls.specs.declared.rules.ExecPromises.{ExecPromises}
-use Rattle.pua_policy.specs.History.{History, Pledged, Unveiled, Locked, Moved, Ended, kept, same_place, held_for_exec, is_pledge, after_exec, working_dir, new_history}
+use Rattle.pua_policy.specs.History.{History, Pledged, Unveiled, Locked, Moved, Ended, perms_kept, same_place, held_for_exec, is_pledge, after_exec, working_dir, new_history}
 use Rattle.pua_policy.specs.Verdict.{place_of}
 use Rattle.pua_policy.proofs.ForCallers.{same_place_is}
 use Rattle.pua_calls.specs.declared.call.Call.{Call}
 use Rattle.pua_calls.specs.declared.call.Call.TheVariants as call
 use Rattle.pua_policy.specs.declared.place.Place.{Place}
 use Rattle.pua_script.specs.Requests.{Asked}
-use Rattle.pua_script.specs.Limits.{process_limit}
+use Rattle.pua_script.specs.Limits.{most_processes}
 use Rattle.pua_script.specs.Worlds.{history_left}
 use Rattle.pua_script.specs.Bytes.{is_in_bytes, are_in_bytes, IsByteTree}
-use Rattle.pua_script.specs.Replay.{World, Effect, Fails, Kills, Leaves, Copies, refused, made, come_of, edited, edited_tree, history_of, left_by, apply, world_after, new_world}
+use Rattle.pua_script.specs.Replay.{World, Effect, Fails, Kills, Leaves, Copies, refusal_effect, change_effect, come_of, edit_effect, edited_tree, history_of, left_by, apply, world_after, new_world}
 use Rattle.pua_script.specs.Decide.{Change, NoChange, AddNode, CutRow, ShiftRow, TieRow, BeginProgram, AddEvent, CopyAs, change_by, decide, link_node}
 use Rattle.pua_script.specs.Guards.{IsDecided}
 use Rattle.pua_policy.specs.declared.answer.Refusal.{Refusal}
@@ -44,7 +44,7 @@ use Rattle.pua_ever.proofs.Covers.{living_dir, below_next}
 use Rattle.pua_ever.proofs.Complete.{ever_complete}
 
 -- no veil comes by an event that is none, nor by leaving out pledges
-kept_after : (h : History) (at : Place) → kept (filter (λ event. not (is_pledge event)) h) at ≡ kept h at
+kept_after : (h : History) (at : Place) → perms_kept (filter (λ event. not (is_pledge event)) h) at ≡ perms_kept h at
 kept_after [] at = refl
 kept_after (Pledged p e ∷ h) at = kept_after h at
 kept_after (Unveiled place perms ∷ h) at = ap (cond (same_place place at) (Some perms)) (kept_after h at)
@@ -69,7 +69,7 @@ module _ (t : Tree) (h : History) (well : WellFormed t) (stand : VeilsStand t h)
   veiled : (x : Found) (perms : ℕ) → FoundFits t x → VeilsStand t (Unveiled (place_of x) perms ∷ h)
   veiled x perms fits at given is = by (same_place (place_of x) at) refl is
     where
-      by : (b : Bool) → same_place (place_of x) at ≡ b → cond b (Some perms) (kept h at) ≡ Some given → dir_of_place at < t.next
+      by : (b : Bool) → same_place (place_of x) at ≡ b → cond b (Some perms) (perms_kept h at) ≡ Some given → dir_of_place at < t.next
       by true same is = subst (λ p. dir_of_place p < t.next) (same_place_is (place_of x) at same) (place_given x fits)
       by false other is = stand at given is
 
@@ -101,7 +101,7 @@ module _ (table : CallTable) (w : World) (h : History) (well : WellFormed w.tree
   stood_by (Fork new) c d = subst Stood (sym d.1) tt
   stood_by Exit c d = subst Stood (sym d) stand
 
-  by_edited : (r : Result (ℕ × Tree) TreeFault) → VeilsStand w.tree (history_left h (edited h r))
+  by_edited : (r : Result (ℕ × Tree) TreeFault) → VeilsStand w.tree (history_left h (edit_effect h r))
   by_edited (Ok result) = stand
   by_edited (Err fault) = stand
 
@@ -109,7 +109,7 @@ module _ (table : CallTable) (w : World) (h : History) (well : WellFormed w.tree
   by_edited_tree (Ok result) = stand
   by_edited_tree (Err fault) = stand
 
-  stand_made : (c : Change) → Stood c → VeilsStand w.tree (history_left h (made w h c))
+  stand_made : (c : Change) → Stood c → VeilsStand w.tree (history_left h (change_effect w h c))
   stand_made NoChange stood = stand
   stand_made (AddNode s node) stood = by_edited (add w.tree s.0 s.1 node)
   stand_made (CutRow s) stood = by_edited (cut w.tree s.0 s.1)
@@ -117,7 +117,7 @@ module _ (table : CallTable) (w : World) (h : History) (well : WellFormed w.tree
   stand_made (TieRow s x) stood = by_edited_tree (tie w.tree s.0 s.1 x)
   stand_made (BeginProgram left) stood = after_program w.tree h well stand left
   stand_made (AddEvent event) stood = stood
-  stand_made (CopyAs new) stood = by (is_some (history_of w new) || nat_le process_limit (length w.histories))
+  stand_made (CopyAs new) stood = by (is_some (history_of w new) || nat_le most_processes (length w.histories))
     where
       by : (full : Bool) → VeilsStand w.tree (history_left h (cond full (Fails EAGAIN) (Copies new)))
       by true = stand
@@ -128,7 +128,7 @@ module _ (table : CallTable) (w : World) (h : History) (well : WellFormed w.tree
       by_decision w h (λ e. VeilsStand w.tree (history_left h e)) (decide table w.tree h action) refusing
       (λ c decided. stand_made c (stood_by action c (decisions_are_guarded table w.tree h action c decided)))
     where
-      refusing : (r : Refusal) → VeilsStand w.tree (history_left h (refused r))
+      refusing : (r : Refusal) → VeilsStand w.tree (history_left h (refusal_effect r))
       refusing (Failed errno) = stand
       refusing Killed = stand
 
@@ -165,7 +165,7 @@ new_places : (t : Tree) → PlacesStand (new_world t)
 new_places t process h is at perms e = by process is
   where
     none : h ≡ new_history → ⊥
-    none same = let never : None ≡ Some perms = ap (λ g. kept g at) (sym same) ∙ e in cc
+    none same = let never : None ≡ Some perms = ap (λ g. perms_kept g at) (sym same) ∙ e in cc
 
     by : (process : ℕ) → history_of (new_world t) process ≡ Some h → dir_of_place at < t.next
     by process is = elim (same_or_other nat_cmp nat_cmp_total nat_cmp-IsAntisymmetric process 1) [

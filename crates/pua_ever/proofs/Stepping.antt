@@ -5,7 +5,7 @@ use Rattle.std.proofs.lemmas.Bool.{false≢true, and_parts, eqb-true}
 use Rattle.pua_tree.specs.Tree.{Tree, WellFormed, Spot, is_dir, is_living, look, node_at, is_empty, has_no_row, empty_tree}
 use Rattle.pua_tree.proofs.ForCallers.{sound_from, row_says, same_dir}
 use Rattle.pua_calls.specs.Calls.{CallTable}
-use Rattle.pua_policy.specs.History.{History, kept}
+use Rattle.pua_policy.specs.History.{History, perms_kept}
 use Rattle.pua_policy.specs.Verdict.{IsMissing, covered_verdict, is_allowed}
 use Rattle.pua_policy.specs.declared.place.Place.TheVariants as place
 use Rattle.pua_script.specs.Confinement.{has_c, UncoveredStay}
@@ -100,12 +100,12 @@ module _ (table : CallTable) (t0 : Tree) (h : History) (well0 : WellFormed t0) (
         by differs (turned z at is c can some) = turned z at is c can some
         by differs (still at is c) = turned y at is c (could_empty table t0 h well0 stand t k y empty) (more differs)
 
-    named_c : (s : Spot) → has_c (name_cover table t h s) ≡ true → has_c (own_or (kept h (place.Slot s.0 s.1)) (cover_in t h s.0)) ≡ true
+    named_c : (s : Spot) → has_c (name_cover table t h s) ≡ true → has_c (own_or (perms_kept h (place.Slot s.0 s.1)) (cover_in t h s.0)) ≡ true
     named_c s has = ap has_c (sym ((covers_descend t h k.well).at_name s.0 s.1 None)) ∙ has
 
     put_file : (s : Spot) (x : ℕ) → look u s.0 s.1 ≡ Some x → is_dir t s.0 ≡ true → Written table t h s x → is_dir u x ≡ false → is_dir t0 s.0 ≡ true
-        → has_c (own_or (kept h (place.Slot s.0 s.1)) (cover_in t0 h s.0)) ≡ true
-    put_file s x e over (by_name has) other dir = by (kept h (place.Slot s.0 s.1)) (named_c s has)
+        → has_c (own_or (perms_kept h (place.Slot s.0 s.1)) (cover_in t0 h s.0)) ≡ true
+    put_file s x e over (by_name has) other dir = by (perms_kept h (place.Slot s.0 s.1)) (named_c s has)
       where
         by : (o : Option ℕ) → has_c (own_or o (cover_in t h s.0)) ≡ true → has_c (own_or o (cover_in t0 h s.0)) ≡ true
         by (Some perms) has = has
@@ -114,17 +114,17 @@ module _ (table : CallTable) (t0 : Tree) (h : History) (well0 : WellFormed t0) (
         absurd (false≢true (sym other ∙ same_dir t u x (same_node x (living_dir t h k.well x is) (lives s x e)) ∙ is))
 
     put_dir : (s : Spot) (x : ℕ) → is_dir t s.0 ≡ true → From table t h x → Written table t h s x → is_dir t0 s.0 ≡ true → has_c (cover_in t0 h s.0) ≡ false → Entrance0 s x
-    put_dir s x over from (by_name has) dir lacks = by (kept h (place.Slot s.0 s.1)) refl (named_c s has)
+    put_dir s x over from (by_name has) dir lacks = by (perms_kept h (place.Slot s.0 s.1)) refl (named_c s has)
       where
-        by : (o : Option ℕ) → kept h (place.Slot s.0 s.1) ≡ o → has_c (own_or o (cover_in t h s.0)) ≡ true → Entrance0 s x
+        by : (o : Option ℕ) → perms_kept h (place.Slot s.0 s.1) ≡ o → has_c (own_or o (cover_in t h s.0)) ≡ true → Entrance0 s x
         by (Some perms) e has = by_veil perms e has
         by None e has = absurd (false≢true (sym lacks ∙ had_c s.0 dir (dir_under table t0 h well0 stand t k s.0 over) has))
     put_dir s x over from (by_turn y at empty has is) dir lacks = gave_way s y x at (and_parts (is_dir t y) (has_no_row t y) empty).0 empty has is from dir lacks
 
     put_inner : (s : Spot) (x : ℕ) → is_dir t s.0 ≡ true → Written table t h s x → t0.next ≤ s.0 → some_dir_has_c t0 h ≡ true
-    put_inner s x over (by_name has) from = by (kept h (place.Slot s.0 s.1)) refl (named_c s has)
+    put_inner s x over (by_name has) from = by (perms_kept h (place.Slot s.0 s.1)) refl (named_c s has)
       where
-        by : (o : Option ℕ) → kept h (place.Slot s.0 s.1) ≡ o → has_c (own_or o (cover_in t h s.0)) ≡ true → some_dir_has_c t0 h ≡ true
+        by : (o : Option ℕ) → perms_kept h (place.Slot s.0 s.1) ≡ o → has_c (own_or o (cover_in t h s.0)) ≡ true → some_dir_has_c t0 h ≡ true
         by (Some perms) e has = let below : s.0 < t0.next = stand (place.Slot s.0 s.1) perms e in absurd (omega arith)
         by None e has = carried s.0 (dir_under table t0 h well0 stand t k s.0 over) has
     put_inner s x over (by_turn y at empty has is) from =

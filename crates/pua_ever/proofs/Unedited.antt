@@ -12,11 +12,11 @@ use Rattle.pua_calls.specs.declared.call.Call.{Call}
 use Rattle.pua_calls.specs.declared.call.Call.TheVariants as call
 use Rattle.pua_policy.specs.declared.answer.May.{May}
 use Rattle.pua_policy.specs.declared.answer.May.TheVariants.{Yes, Enosys, Death}
-use Rattle.pua_script.specs.Limits.{process_limit}
+use Rattle.pua_script.specs.Limits.{most_processes}
 use Rattle.pua_script.specs.Requests.{Asked}
 use Rattle.pua_script.specs.Worlds.{tree_left}
 use Rattle.pua_script.specs.Family.{is_member, is_exec, is_done, none_done, members_alone, family_then}
-use Rattle.pua_script.specs.Replay.{World, Fails, Copies, made, history_of, apply, world_after}
+use Rattle.pua_script.specs.Replay.{World, Fails, Copies, change_effect, history_of, apply, world_after}
 use Rattle.pua_script.specs.Decide.{Change, CopyAs, change_by}
 use Rattle.pua_script.specs.Guards.{IsDecided}
 use Rattle.pua_script.specs.declared.request.Action.{Action}
@@ -31,7 +31,7 @@ use Rattle.pua_ever.proofs.Ways.{any_among, any_found}
 module _ (table : CallTable) (w : World) (h : History) (lacks : may_edit table h ≡ false) where
   -- a change that leaves the tree
   abbrev Keeps : Change → Type 0
-  Keeps c = tree_left w.tree (made w h c) ≡ w.tree
+  Keeps c = tree_left w.tree (change_effect w h c) ≡ w.tree
 
   -- no edit is promised
   unpromised : (edit : Call) → Among edit_calls edit → may_any h (rule_of table edit).alternatives ≡ Yes → ⊥
@@ -55,7 +55,7 @@ module _ (table : CallTable) (w : World) (h : History) (lacks : may_edit table h
   keeps_call _ x is = refl
 
   keeps_copy : (new : ℕ) → Keeps (CopyAs new)
-  keeps_copy new = by (is_some (history_of w new) || nat_le process_limit (length w.histories))
+  keeps_copy new = by (is_some (history_of w new) || nat_le most_processes (length w.histories))
     where
       by : (full : Bool) → tree_left w.tree (cond full (Fails EAGAIN) (Copies new)) ≡ w.tree
       by true = refl

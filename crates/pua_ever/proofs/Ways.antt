@@ -9,7 +9,7 @@ use Rattle.std.specs.FinMap.{find as find_key, nat_cmp-IsAntisymmetric}
 use Rattle.std.proofs.lemmas.Bool.{false≢true, eq-eqb, eqb-true, and_parts, and_from, or_left, or_right}
 use Rattle.pua_tree.specs.Tree.{Tree, Node, WellFormed, Spot, spot_cmp, is_dir, is_dir_kind, look, node_at}
 use Rattle.pua_tree.proofs.ForCallers.{sound_from, spots_total, exact_spots, all_from_found}
-use Rattle.pua_policy.specs.History.{History, kept, veils, veil_at, same_place}
+use Rattle.pua_policy.specs.History.{History, perms_kept, veils, veil_at, same_place}
 use Rattle.pua_policy.specs.declared.place.Place.{Place}
 use Rattle.pua_policy.specs.declared.place.Place.TheVariants as place
 use Rattle.pua_policy.specs.declared.answer.Cover.{Cover}
@@ -73,7 +73,7 @@ module _ (t : Tree) (h : History) where
       by None e is = absurd (false≢true is)
       by (Some n) e is = among_map (λ (entry : ℕ × Node). entry.0) (filter is_dir_entry t.nodes) (d, n) (among_filter is_dir_entry t.nodes (d, n) is (node_among d n t.nodes e))
 
-  pub kept_among : (at : Place) (perms : ℕ) → kept h at ≡ Some perms → Among (veils h) (at, perms)
+  pub kept_among : (at : Place) (perms : ℕ) → perms_kept h at ≡ Some perms → Among (veils h) (at, perms)
   kept_among at perms e = veil_among (veils h) at perms (veils_are_kept h at ∙ e)
 
   -- a way in gives its cover
@@ -85,7 +85,7 @@ module _ (t : Tree) (h : History) where
   way_by_c d is has = way_covers d is (or_left (has_c (cover_in t h d)) _ has)
 
   -- by a name with a veil of its own
-  pub way_by_name : (d : ℕ) (name : List ℕ) (perms : ℕ) → is_dir t d ≡ true → kept h (place.Slot d name) ≡ Some perms → has_c (Only perms) ≡ true → is_free t h (d, name) ≡ true
+  pub way_by_name : (d : ℕ) (name : List ℕ) (perms : ℕ) → is_dir t d ≡ true → perms_kept h (place.Slot d name) ≡ Some perms → has_c (Only perms) ≡ true → is_free t h (d, name) ≡ true
       → Among (dir_covers t h) (cover_in t h d)
   way_by_name d name perms is e has free =
       way_covers d is
@@ -103,7 +103,7 @@ module _ (t : Tree) (h : History) where
       (and_from (d == d) _ (eq-eqb d d refl) (and_from (is_dir t y) _ dir (and_from (has_c (cover_in t h y)) _ has (and_from (can_empty t h y) _ empty more)))))))
 
   -- the cover of a name with a veil of its own
-  pub name_by_veil : (d : ℕ) (name : List ℕ) (perms : ℕ) → is_dir t d ≡ true → kept h (place.Slot d name) ≡ Some perms → has_c (Only perms) ≡ true → is_free t h (d, name) ≡ true
+  pub name_by_veil : (d : ℕ) (name : List ℕ) (perms : ℕ) → is_dir t d ≡ true → perms_kept h (place.Slot d name) ≡ Some perms → has_c (Only perms) ≡ true → is_free t h (d, name) ≡ true
       → Among (name_covers t h) (Only perms)
   name_by_veil d name perms is e has free =
       among_filter_map (λ veil. veil_cover_at t h veil.0 veil.1) (veils h) (place.Slot d name, perms) (Only perms) (kept_among (place.Slot d name) perms e)
@@ -132,7 +132,7 @@ module _ (t : Tree) (h : History) where
       by false e = e
       by true has = absurd (false≢true (sym none ∙ or_left _ _ (any_among (λ dir. not (is_below t y dir) && has_c (cover_in t h dir)) (directories t) d (dir_among d is) (and_from (not (is_below t y d)) _ (ap not outside) has))))
 
-  pub quiet_name : (y d : ℕ) (name : List ℕ) (perms : ℕ) → has_c_outside t h y ≡ false → is_dir t d ≡ true → is_below t y d ≡ false → kept h (place.Slot d name) ≡ Some perms → has_c (Only perms) ≡ false
+  pub quiet_name : (y d : ℕ) (name : List ℕ) (perms : ℕ) → has_c_outside t h y ≡ false → is_dir t d ≡ true → is_below t y d ≡ false → perms_kept h (place.Slot d name) ≡ Some perms → has_c (Only perms) ≡ false
   quiet_name y d name perms none is outside e = by (has_c (Only perms)) refl
     where
       by : (b : Bool) → has_c (Only perms) ≡ b → has_c (Only perms) ≡ false

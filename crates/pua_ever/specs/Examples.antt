@@ -6,15 +6,15 @@ use Rattle.pua_calls.specs.Promises.{rpath, wpath, cpath, fattr, exec, reading, 
 use Rattle.pua_calls.specs.Calls.{CallTable, NameRule, standard_name, standard_pair, standard_table, openbsd_table}
 use Rattle.pua_policy.specs.History.{History, Pledged, Unveiled, Locked, new_history}
 use Rattle.pua_policy.specs.declared.place.Place.TheVariants as place
-use Rattle.pua_ever.specs.Ever.{ever, ever_text}
+use Rattle.pua_ever.specs.Ever.{ever, ever_line_text}
 use Rattle.pua_ever.specs.Refusals.{refusal}
 use Rattle.pua_ever.specs.declared.refusal.Refusal.TheVariants.{CanUnveil, LinkLacksC}
 
 abbrev pub lines : Tree → History → List (List ℕ)
-lines t h = map (ever_text t) (ever t standard_table h)
+lines t h = map (ever_line_text t) (ever t standard_table h)
 
 abbrev pub lines_by_openbsd : Tree → History → List (List ℕ)
-lines_by_openbsd t h = map (ever_text t) (ever t openbsd_table h)
+lines_by_openbsd t h = map (ever_line_text t) (ever t openbsd_table h)
 
 abbrev directory : Node
 directory = record { kind = Dir; target = None }

@@ -5,7 +5,7 @@ use Rattle.std.proofs.KnownBytes.{Appends-trans, Appends-kept}
 use Rattle.std.proofs.lemmas.Bool.{cases_order}
 use Rattle.std.proofs.lemmas.List.{take-append-le}
 use lib.Seq.{take-append_seam}
-use Rattle.pua_io.specs.Sinks.{Adds, AddsFront, HasFailed, Puts, Writes, counted}
+use Rattle.pua_io.specs.Sinks.{Adds, AddsFront, HasFailed, Puts, Writes, next_count}
 use Rattle.std.specs.Prelude.{Result, Ok, Err, OnOk, OnErr}
 use Rattle.pua_io.specs.declared.sink.PutFault.{PutFault}
 
@@ -32,10 +32,10 @@ has_put_front text rest a b c put keeps =
     (length put.done, short, subst (λ t. Appends a c t) (sym front) (Appends-kept a b c put.done put.adds keeps))
 
 -- a count after one more rose, or stands at its greatest value
-pub counted_has_failed : (n : ℕ) → HasFailed n (counted n)
+pub counted_has_failed : (n : ℕ) → HasFailed n (next_count n)
 counted_has_failed n = by_order (cases_order n (2 ^ 64 - 1))
   where
-    by_order : (n ≡ 2 ^ 64 - 1) ⊎ ((n < 2 ^ 64 - 1) ⊎ (2 ^ 64 - 1 < n)) → HasFailed n (counted n)
+    by_order : (n ≡ 2 ^ 64 - 1) ⊎ ((n < 2 ^ 64 - 1) ⊎ (2 ^ 64 - 1 < n)) → HasFailed n (next_count n)
     by_order (inl same) = inr (omega arith)
     by_order (inr (inl less)) = inl (omega arith)
     by_order (inr (inr more)) = inr (omega arith)

@@ -5,7 +5,7 @@ use Rattle.pua_tree.specs.Tree.{Tree, WellFormed}
 use Rattle.pua_policy.specs.History.{History, StandsFor, has_veil}
 use Rattle.pua_policy.specs.declared.answer.Cover.TheVariants.{All}
 use Rattle.pua_ever.specs.Ever.{dir_covers, name_covers}
-use Rattle.pua_ever.specs.Openings.{dir_opening, name_opening, opened_dir, held_dir, entrance, HaveSame}
+use Rattle.pua_ever.specs.Openings.{dir_opening, name_opening, opened_dir, held_dir, entrance_cover, HaveSame}
 use Rattle.pua_ever.proofs.Opened.{places_of, held, empties}
 use Rattle.pua_ever.proofs.Opening.{own_covers, entrances, dirs_same, names_same, some_same}
 use Rattle.pua_ever.proofs.openings.find_openings.Goals as goal
@@ -29,7 +29,7 @@ module _ (g : Over) (c : After-drop-places g) (h : History) (stands : StandsFor 
   stays = c.in-Ok.ensures.held h stands ∙ ap (filter_map (held_dir t h)) places
 
   ways : c.in-Ok.found.entrances.items ≡ entrances t h well
-  ways = c.in-Ok.ensures.entrances h stands ∙ (λ i. filter_map (entrance t h (stays i) (filter_map (opened_dir h) (places i))) (places i))
+  ways = c.in-Ok.ensures.entrances h stands ∙ (λ i. filter_map (entrance_cover t h (stays i) (filter_map (opened_dir h) (places i))) (places i))
 
   names : c.in-Ok.found.names.items ≡ filter_map (name_opening t h) (places_of h)
   names = c.in-Ok.ensures.names h stands ∙ ap (filter_map (name_opening t h)) places

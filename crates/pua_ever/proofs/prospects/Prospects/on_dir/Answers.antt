@@ -3,7 +3,7 @@ use Rattle.std.specs.Prelude.{◌&&◌, ◌==◌, not, is_none, if◌then◌else
 use Rattle.std.specs.List.{list_any}
 use Rattle.pua_tree.specs.Tree.{empty_tree}
 use Rattle.pua_calls.specs.CallSets.{has}
-use Rattle.pua_policy.specs.History.{kept}
+use Rattle.pua_policy.specs.History.{perms_kept}
 use Rattle.pua_policy.specs.Verdict.{covered_verdict, is_allowed}
 use Rattle.pua_policy.specs.declared.object.Object.TheVariants as see
 use Rattle.pua_policy.specs.declared.place.Place.TheVariants as place
@@ -15,8 +15,8 @@ use Rattle.pua_ever.proofs.prospects.Prospects.on_dir.Goals as goal
 
 pub returns-then-moves_dir : goal.returns-then-moves_dir
 returns-then-moves_dir c = λ t h way needs stands is living named covered seen call.
-    let can : ((may_edit c.args.table.now h && is_none (kept h (place.Dir c.args.dir))) && has_c (cover_in t h c.args.dir)) ≡ true
-    = (λ i. (sym is.edits i && is_none (kept h (place.Dir c.args.dir))) && has_c (sym covered i)) ∙ sym (c.moves_dir.ensures h stands) ∙ c.if-moves_dir.true in
+    let can : ((may_edit c.args.table.now h && is_none (perms_kept h (place.Dir c.args.dir))) && has_c (cover_in t h c.args.dir)) ≡ true
+    = (λ i. (sym is.edits i && is_none (perms_kept h (place.Dir c.args.dir))) && has_c (sym covered i)) ∙ sym (c.moves_dir.ensures h stands) ∙ c.if-moves_dir.true in
     ap (λ set. has set call) c.on_dir.ensures
     ∙ moved_calls t c.args.table.now h c.args.self.now is c.args.dir way living can c.can_empty-emptied.result
     (c.can_empty-emptied.ensures ∙ ap (λ b. b && not (list_any (λ other. other == c.args.dir) c.args.self.now.held.items)) named) call
@@ -24,8 +24,8 @@ returns-then-moves_dir c = λ t h way needs stands is living named covered seen 
 pub returns : goal.returns
 returns c = λ t h way needs stands is living named covered seen call.
     let p = c.args.self.now in
-    let can : ((may_edit c.args.table.now h && is_none (kept h (place.Dir c.args.dir))) && has_c (cover_in t h c.args.dir)) ≡ false
-    = (λ i. (sym is.edits i && is_none (kept h (place.Dir c.args.dir))) && has_c (sym covered i)) ∙ sym (c.moves_dir.ensures h stands) ∙ c.if-moves_dir.false in
+    let can : ((may_edit c.args.table.now h && is_none (perms_kept h (place.Dir c.args.dir))) && has_c (cover_in t h c.args.dir)) ≡ false
+    = (λ i. (sym is.edits i && is_none (perms_kept h (place.Dir c.args.dir))) && has_c (sym covered i)) ∙ sym (c.moves_dir.ensures h stands) ∙ c.if-moves_dir.false in
     let emptied : c.can_empty-emptied.result ≡ (is_named_way way && not (list_any (λ other. other == c.args.dir) p.held.items))
     = c.can_empty-emptied.ensures ∙ ap (λ b. b && not (list_any (λ other. other == c.args.dir) p.held.items)) named in
     still_calls t c.args.table.now h p is c.args.dir way living needs can c.seen_as-object.result
