@@ -8,7 +8,7 @@ use Rattle.std.proofs.lemmas.List.Folds.{list_all_at}
 use Rattle.std.proofs.lemmas.Option.{slice_get-get_or, slice_get_within, get_or_from_slice_get}
 use Rattle.std.proofs.Math.ListN.{drop_of_length-le}
 use Rattle.pua_calls.specs.Promises.{holds, keyword_at, keyword_if, keyword_rows, keywords_of}
-use Rattle.pua_why.specs.Texts.{or_equals, promises_text, joined as joined_by}
+use Rattle.pua_why.specs.Texts.{or_equals, promises_text, joined_words as joined_by}
 use Rattle.pua_texts.proofs.ObjectLines.{joined}
 
 -- a keyword with its bit

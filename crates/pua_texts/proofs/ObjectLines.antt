@@ -16,10 +16,10 @@ use Rattle.pua_audit.specs.Reach.{Word, from_root, printed_path}
 use Rattle.pua_audit.specs.declared.base.Base.TheVariants.{Root}
 use Rattle.pua_objects.specs.Lines.{kind_word}
 use Rattle.pua_objects.specs.Objects.{Item, with_commas}
-use Rattle.pua_objects.specs.Ready.{IsListed, HasNoLine, lines_of}
+use Rattle.pua_objects.specs.Ready.{IsLineListed, HasNoLine, lines_of}
 use Rattle.pua_objects.specs.declared.line.ObjectLine.{ObjectLine}
 use Rattle.std.specs.Borrow.{Bor}
-use Rattle.pua_texts.specs.Lines.{ended}
+use Rattle.pua_texts.specs.Lines.{with_end}
 use Rattle.pua_texts.specs.ObjectLines.{object_lines}
 
 -- a path from the root goes on with a slash and a spelled name
@@ -53,7 +53,7 @@ parts_before kind path names end =
     ∙ sym (append_assoc (kind ++ 32 ∷ path) (32 ∷ names) end)
 
 -- and make the line with its end
-pub line_parts : (kind path names : List ℕ) → (kind ++ 32 ∷ []) ++ ((path ++ 32 ∷ []) ++ (names ++ 10 ∷ [])) ≡ ended (kind ++ 32 ∷ path ++ 32 ∷ names)
+pub line_parts : (kind path names : List ℕ) → (kind ++ 32 ∷ []) ++ ((path ++ 32 ∷ []) ++ (names ++ 10 ∷ [])) ≡ with_end (kind ++ 32 ∷ path ++ 32 ∷ names)
 line_parts kind path names = parts_before kind path names (10 ∷ [])
 
 -- names with a separator before the first, and commas before the others
@@ -98,18 +98,18 @@ calls_done set before i past = ap (λ cs. joined before (map call_name (filter (
 
 -- the line of an object, by what the code gives of it
 abbrev pub text_given : ObjectLine → List (Bor (List ℕ)) → List ℕ
-text_given given names = ended (kind_word given.kind ++ 32 ∷ printed_path Root (map (λ name. name.now) names) ++ 32 ∷ with_commas (map call_name (calls_in given.calls)))
+text_given given names = with_end (kind_word given.kind ++ 32 ∷ printed_path Root (map (λ name. name.now) names) ++ 32 ∷ with_commas (map call_name (calls_in given.calls)))
 
 -- the line that a list gives stands before those that it has still to give
 pub line_next : (t u : Tree) (a b : CallTable) (p q : ProcessState) (h : History) (old new : List Item) (word : Word) (given : ObjectLine) (names : List (Bor (List ℕ)))
-    → t ≡ u → a ≡ b → p ≡ q → StandsFor q h → IsListed t a p old new word given → map (λ name. name.now) names ≡ word
+    → t ≡ u → a ≡ b → p ≡ q → StandsFor q h → IsLineListed t a p old new word given → map (λ name. name.now) names ≡ word
     → object_lines u (lines_of u b h old) ≡ text_given given names ++ object_lines u (lines_of u b h new)
 line_next t u a b p q h old new word given names same equal alike stands listed is =
     subst (λ (v : Tree). object_lines v (lines_of v b h old) ≡ text_given given names ++ object_lines v (lines_of v b h new)) same
     (subst (λ (c : CallTable). object_lines t (lines_of t c h old) ≡ text_given given names ++ object_lines t (lines_of t c h new)) equal
     (ap (object_lines t) (listed.lines h (subst (λ (r : ProcessState). StandsFor r h) (sym alike) stands))
-    ∙ ap (λ kind. ended (kind ++ 32 ∷ printed_path Root word ++ 32 ∷ with_commas (map call_name (calls_in given.calls))) ++ object_lines t (lines_of t a h new)) (sym listed.kind)
-    ∙ ap (λ (w : Word). ended (kind_word given.kind ++ 32 ∷ printed_path Root w ++ 32 ∷ with_commas (map call_name (calls_in given.calls))) ++ object_lines t (lines_of t a h new)) (sym is)))
+    ∙ ap (λ kind. with_end (kind ++ 32 ∷ printed_path Root word ++ 32 ∷ with_commas (map call_name (calls_in given.calls))) ++ object_lines t (lines_of t a h new)) (sym listed.kind)
+    ∙ ap (λ (w : Word). with_end (kind_word given.kind ++ 32 ∷ printed_path Root w ++ 32 ∷ with_commas (map call_name (calls_in given.calls))) ++ object_lines t (lines_of t a h new)) (sym is)))
 
 pub no_line : (t u : Tree) (a b : CallTable) (p q : ProcessState) (h : History) (left : List Item) → t ≡ u → a ≡ b → p ≡ q → StandsFor q h → HasNoLine t a p left → object_lines u (lines_of u b h left) ≡ []
 no_line t u a b p q h left same equal alike stands none =

@@ -9,16 +9,16 @@ use Rattle.pua_calls.specs.Calls.{call_name}
 use Rattle.pua_calls.specs.declared.call.Call.{Call}
 use Rattle.pua_audit.specs.Reach.{Word, Pair, path_of}
 use Rattle.pua_audit.specs.declared.base.Base.{Base}
-use Rattle.pua_texts.specs.Lines.{ended, pair_lines}
+use Rattle.pua_texts.specs.Lines.{with_end, pair_lines}
 
 -- the first pair's line stands before those of the others
 pub first_line : (base : Base) (word : Word) (call : Call) (path : List ℕ) (left more : List Pair) → path ≡ path_of base word → left ≡ (word, call) ∷ more
-    → pair_lines base left ≡ ended (spelling path ++ 32 ∷ call_name call) ++ pair_lines base more
-first_line base word call path left more p l = ap (pair_lines base) l ∙ ap (λ text. ended (spelling text ++ 32 ∷ call_name call) ++ pair_lines base more) (sym p)
+    → pair_lines base left ≡ with_end (spelling path ++ 32 ∷ call_name call) ++ pair_lines base more
+first_line base word call path left more p l = ap (pair_lines base) l ∙ ap (λ text. with_end (spelling text ++ 32 ∷ call_name call) ++ pair_lines base more) (sym p)
 
 -- a blank, a name and LF stand after a spelled path
-pub line_ends : (front path name : List ℕ) → (front ++ path) ++ ended (32 ∷ name) ≡ front ++ ended (path ++ 32 ∷ name)
-line_ends front path name = append_assoc front path (ended (32 ∷ name)) ∙ ap (λ r. front ++ r) (sym (append_assoc path (32 ∷ name) (10 ∷ [])))
+pub line_ends : (front path name : List ℕ) → (front ++ path) ++ with_end (32 ∷ name) ≡ front ++ with_end (path ++ 32 ∷ name)
+line_ends front path name = append_assoc front path (with_end (32 ∷ name)) ∙ ap (λ r. front ++ r) (sym (append_assoc path (32 ∷ name) (10 ∷ [])))
 
 -- what stands after a name is cut off
 pub name_kept : (n : ℕ) (block padded name : List ℕ) → n ≡ length block + length name → take (length name) padded ≡ name → take n (block ++ padded) ≡ block ++ name

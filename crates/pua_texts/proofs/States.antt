@@ -5,11 +5,11 @@ use Rattle.std.proofs.lemmas.List.{drop_more}
 use Rattle.std.proofs.Math.ListN.{drop_of_length-le}
 use Rattle.std.specs.Borrow.{Bor}
 use Rattle.pua_tree.specs.Tree.{Tree, is_dir}
-use Rattle.pua_calls.specs.Promises.{holds, unveil, letters_of}
-use Rattle.pua_policy.specs.History.{held, is_locked}
+use Rattle.pua_calls.specs.Promises.{holds, unveil, perm_letters}
+use Rattle.pua_policy.specs.History.{held_set, is_locked}
 use Rattle.pua_policy.specs.declared.place.Place.{Place}
 use Rattle.pua_audit.specs.Reach.{Word}
-use Rattle.pua_texts.specs.States.{ConfinedIsPrinted, or_equals, path_or_hyphen, place_dir, place_names, place_text, veil_lines}
+use Rattle.pua_texts.specs.States.{ConfinedIsPrinted, or_equals, path_or_hyphen, place_dir, place_names, veil_place_text, veil_lines}
 use Rattle.pua_texts.proofs.ObjectLines.{joined, line_parts}
 
 -- the word by whether the process is locked and holds `unveil`
@@ -38,7 +38,7 @@ told false true = (
     unlike (inr is) = true≢false (ap is_open is)
 
 pub confined_is_printed : ConfinedIsPrinted
-confined_is_printed h = told (is_locked h) (holds (held h) unveil)
+confined_is_printed h = told (is_locked h) (holds (held_set h) unveil)
 
 -- a veil as it is lent
 abbrev pub shown : Bor Place × Bor ℕ → Place × ℕ
@@ -47,12 +47,12 @@ shown veil = (veil.0.now, veil.1.now)
 -- the line of the next veil stands before those that are still to come
 pub veil_next : (t : Tree) (lent : List (Bor Place × Bor ℕ)) (veil : Bor Place × Bor ℕ) (i : ℕ) (stands : Bool) (names : Word) → i < length lent → veil ≡ slice_index_or lent i veil
     → stands ≡ is_dir t (place_dir veil.0.now) → names ≡ reverse (place_names t veil.0.now)
-    → veil_lines t (map shown (drop i lent)) ≡ (codes "veil " ++ ((path_or_hyphen stands names ++ 32 ∷ []) ++ (or_equals (letters_of veil.1.now) ++ 10 ∷ []))) ++ veil_lines t (map shown (drop (i + 1) lent))
+    → veil_lines t (map shown (drop i lent)) ≡ (codes "veil " ++ ((path_or_hyphen stands names ++ 32 ∷ []) ++ (or_equals (perm_letters veil.1.now) ++ 10 ∷ []))) ++ veil_lines t (map shown (drop (i + 1) lent))
 veil_next t lent veil i stands names within is stood named =
     ap (λ vs. veil_lines t (map shown vs)) (drop_more lent i veil within ∙ ap (λ v. v ∷ drop (i + 1) lent) (sym is))
     ∙ ap (λ line. line ++ veil_lines t (map shown (drop (i + 1) lent)))
-    (sym (line_parts (codes "veil") (place_text t veil.0.now) (or_equals (letters_of veil.1.now)))
-    ∙ (λ j. codes "veil " ++ ((path_or_hyphen (sym stood j) (sym named j) ++ 32 ∷ []) ++ (or_equals (letters_of veil.1.now) ++ 10 ∷ []))))
+    (sym (line_parts (codes "veil") (veil_place_text t veil.0.now) (or_equals (perm_letters veil.1.now)))
+    ∙ (λ j. codes "veil " ++ ((path_or_hyphen (sym stood j) (sym named j) ++ 32 ∷ []) ++ (or_equals (perm_letters veil.1.now) ++ 10 ∷ []))))
 
 pub veils_done : (t : Tree) (lent : List (Bor Place × Bor ℕ)) (i : ℕ) → length lent ≤ i → veil_lines t (map shown (drop i lent)) ≡ []
 veils_done t lent i past = ap (λ vs. veil_lines t (map shown vs)) (drop_of_length-le lent past)

@@ -4,13 +4,13 @@ use Rattle.std.specs.Prelude.{⊤, Option, Some, None, flat_map}
 use Rattle.std.specs.Option.{option_map_or}
 use Rattle.std.proofs.lemmas.List.{drop_more, length-append, length-map, map-append}
 use Rattle.std.proofs.Math.Seq.{take-append_seam, drop-append_seam}
-use Rattle.pua_policy.specs.History.{History, Pledged, Unveiled, Locked, Moved, Ended, ProcessState, StandsFor, kept, same_place, veil_at, veils, with_veil}
+use Rattle.pua_policy.specs.History.{History, Pledged, Unveiled, Locked, Moved, Ended, ProcessState, StandsFor, perms_kept, same_place, veil_at, veils, with_veil}
 use Rattle.pua_policy.specs.declared.place.Place.{Place}
 use Rattle.pua_policy.proofs.ForCallers.{veils_are_kept, same_place_is, same_place_refl, still_unveiled, same_place_turned}
 use Rattle.pua_script.specs.Replay.{history_of}
 use Rattle.pua_script.specs.Worlds.{WorldState, process_at}
 use Rattle.pua_why.specs.Since.{since}
-use Rattle.pua_why.specs.Texts.{has_veil}
+use Rattle.pua_why.specs.Texts.{has_veil_on}
 use Rattle.pua_since.specs.Dates.{letters_date, veil_date, veils_at, veils_of}
 use Rattle.pua_since.specs.Watched.{kept_in}
 use Rattle.pua_texts.specs.VeilDates.{veil_dates}
@@ -55,7 +55,7 @@ each_at (v ∷ vs) apart = (ap (λ b. cond b (Some v.1) (veil_at vs v.0)) (same_
 
 module _ (p : Posed) (process : ℕ) (state : ProcessState) (h : History) (is : history_of (world_left p) process ≡ Some h) (stands : StandsFor state h) where
   at_place : (place : Place) → kept_in (world_left p) process place ≡ veil_at state.veils place
-  at_place place = ap (λ o. option_map_or (λ h. kept h place) o None) is ∙ sym (veils_are_kept h place) ∙ ap (λ vs. veil_at vs place) (sym stands.veils)
+  at_place place = ap (λ o. option_map_or (λ h. perms_kept h place) o None) is ∙ sym (veils_are_kept h place) ∙ ap (λ vs. veil_at vs place) (sym stands.veils)
 
   each_dated : (us : List (Place × ℕ)) → AreAt (veil_at state.veils) us → map (veil_date p.table p.world p.asks) (map (λ veil. (process, veil.0)) us) ≡ veil_dates p process us
   each_dated [] are = refl
@@ -66,7 +66,7 @@ module _ (p : Posed) (process : ℕ) (state : ProcessState) (h : History) (is : 
   dates_are = each_dated state.veils (each_at state.veils (subst AreApart (sym stands.veils) (veils_apart h)))
 
 pub length_dates : (p : Posed) (process : ℕ) (vs : List (Place × ℕ)) → length (veil_dates p process vs) ≡ length vs
-length_dates p process vs = length-map vs (λ veil. since (has_veil veil.0 veil.1) p.table p.world 1 p.asks process)
+length_dates p process vs = length-map vs (λ veil. since (has_veil_on veil.0 veil.1) p.table p.world 1 p.asks process)
 
 -- a front of a list, and the rest
 module _ {A : Type 0} (left own rest : List A) (count : ℕ) (is : left ≡ own ++ rest) (many : count ≡ min (length own) (length left)) where

@@ -13,7 +13,7 @@ use Rattle.pua_path.specs.declared.found.Found.{Found}
 use Rattle.pua_path.specs.declared.found.Found.TheVariants.{Whole}
 use Rattle.pua_calls.specs.Calls.{CallTable, calls, rule_of}
 use Rattle.pua_calls.specs.CallSets.{has}
-use Rattle.pua_policy.specs.History.{History, kept, same_place, veil_at, veils}
+use Rattle.pua_policy.specs.History.{History, perms_kept, same_place, veil_at, veils}
 use Rattle.pua_policy.specs.Laws.{places_over}
 use Rattle.pua_policy.specs.Reasons.{covering, first_kept, kept_or, promising}
 use Rattle.pua_policy.specs.Verdict.{is_unveil}
@@ -30,16 +30,16 @@ use Rattle.pua_texts.specs.WhyLists.{IsAmongVeils, VeilState, covering_behind, f
 use Rattle.pua_texts.specs.WhyLines.{Posed, covering_on, world_left}
 use Rattle.pua_texts.specs.VeilDates.{veil_dates}
 use Rattle.pua_why.specs.Since.{since}
-use Rattle.pua_why.specs.Texts.{has_veil}
+use Rattle.pua_why.specs.Texts.{has_veil_on}
 use Rattle.pua_texts.proofs.States.{shown}
 use Rattle.pua_calls.proofs.ForCallers.{or_assoc}
 
 -- the first of some places with a veil has one that is kept
-first_among : (h : History) (places : List Place) → IsAmongVeils (veils h) (first_kept (kept h) places)
+first_among : (h : History) (places : List Place) → IsAmongVeils (veils h) (first_kept (perms_kept h) places)
 first_among h [] = tt
-first_among h (place ∷ places) = by (kept h place) refl (first_among h places)
+first_among h (place ∷ places) = by (perms_kept h place) refl (first_among h places)
   where
-    by : (o : Option ℕ) → kept h place ≡ o → IsAmongVeils (veils h) (first_kept (kept h) places) → IsAmongVeils (veils h) (kept_or place o (first_kept (kept h) places))
+    by : (o : Option ℕ) → perms_kept h place ≡ o → IsAmongVeils (veils h) (first_kept (perms_kept h) places) → IsAmongVeils (veils h) (kept_or place o (first_kept (perms_kept h) places))
     by (Some given) is farther = veils_are_kept h place ∙ is
     by None is farther = farther
 
@@ -47,20 +47,20 @@ first_among h (place ∷ places) = by (kept h place) refl (first_among h places)
 pub covering_among : (t : Tree) (h : History) (object : Found) → IsAmongVeils (veils h) (covering t h object)
 covering_among t h object = by (list_any is_unveil h)
   where
-    by : (veiled : Bool) → IsAmongVeils (veils h) (if veiled then first_kept (kept h) (places_over t object) else InView)
+    by : (veiled : Bool) → IsAmongVeils (veils h) (if veiled then first_kept (perms_kept h) (places_over t object) else InView)
     by true = first_among h (places_over t object)
     by false = tt
 
 -- a directory itself and those over it are its climb
 module _ (t : Tree) (fits : WellFormed t) (h : History) where
-  first_over : (dir : ℕ) → is_dir t dir ≡ true → first_kept (kept h) (Dir dir ∷ map Dir (climb t (above t dir))) ≡ first_kept (kept h) (map Dir (climb t dir))
+  first_over : (dir : ℕ) → is_dir t dir ≡ true → first_kept (perms_kept h) (Dir dir ∷ map Dir (climb t (above t dir))) ≡ first_kept (perms_kept h) (map Dir (climb t dir))
   first_over zero living =
-      ap (λ ds. first_kept (kept h) (Dir 0 ∷ map Dir ds)) (climb_root t) ∙ once (kept h (Dir 0)) ∙ ap (λ ds. first_kept (kept h) (map Dir ds)) (sym (climb_root t))
+      ap (λ ds. first_kept (perms_kept h) (Dir 0 ∷ map Dir ds)) (climb_root t) ∙ once (perms_kept h (Dir 0)) ∙ ap (λ ds. first_kept (perms_kept h) (map Dir ds)) (sym (climb_root t))
     where
       once : (o : Option ℕ) → kept_or (Dir 0) o (kept_or (Dir 0) o NoneOver) ≡ kept_or (Dir 0) o NoneOver
       once (Some given) = refl
       once None = refl
-  first_over (suc dir) living = ap (λ ds. first_kept (kept h) (map Dir ds)) (sym (climb_step t fits (suc dir) (λ is. cc) living))
+  first_over (suc dir) living = ap (λ ds. first_kept (perms_kept h) (map Dir ds)) (sym (climb_step t fits (suc dir) (λ is. cc) living))
 
   -- further names are covered as their directory is
   others_covered : (dir : ℕ) → is_dir t dir ≡ true → covering t h (Whole dir Top) ≡ covering_in t h dir
@@ -130,7 +130,7 @@ column_next p process lent veil i line lines columns column within is dated line
     ∙ ap (veils_behind p process) (sym (map-append shown (take i lent) (veil ∷ [])) ∙ ap (λ v. map shown (take i lent ++ v ∷ [])) is ∙ ap (map shown) (sym (take_more lent i veil within)))
   where
     date : Place × ℕ → Option ℕ
-    date v = since (has_veil v.0 v.1) p.table p.world 1 p.asks process
+    date v = since (has_veil_on v.0 v.1) p.table p.world 1 p.asks process
 
     line_is : line ≡ date (shown veil)
     line_is =

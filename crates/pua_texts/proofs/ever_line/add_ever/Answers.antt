@@ -1,7 +1,7 @@
 use Rattle.std.proofs.Common.{[], Ok, refl, sym, subst, ap, ◌∙◌, take}
 use Rattle.std.proofs.lemmas.Result.{err_from_is_err_and}
 use Rattle.pua_policy.specs.History.{History, StandsFor}
-use Rattle.pua_ever.specs.EverLines.{lines_of}
+use Rattle.pua_ever.specs.EverLines.{ever_lines_of}
 use Rattle.pua_texts.specs.EverLines.{ever_lines}
 use Rattle.pua_audit.specs.Reach.{Word}
 use Rattle.pua_texts.specs.KeptPaths.{KeptPathState, IsKept}
@@ -18,15 +18,15 @@ loop-line-init g c =
       process = refl;
       table = refl;
       kept = subst (λ (s : KeptPathState). IsKept c.args.list.now.word s) (sym c.clear.ensures) (nothing_kept c.args.list.now.word);
-      lines = λ h stands. passing_none (ever_lines t (lines_of t c.args.list.now.table h c.args.list.now.left)) c.args.block.now (g.S.Sink.written c.args.sink.now) (g.S.Sink.failed c.args.sink.now);
+      lines = λ h stands. passing_none (ever_lines t (ever_lines_of t c.args.list.now.table h c.args.list.now.left)) c.args.block.now (g.S.Sink.written c.args.sink.now) (g.S.Sink.failed c.args.sink.now);
     }
 
 pub loop-line-preserved : goal.loop-line-preserved
 loop-line-preserved g c =
     let t = c.args.list.now.tree in
-    let all = λ (h : History). ever_lines t (lines_of t c.args.list.now.table h c.args.list.now.left) in
-    let left = λ (h : History). ever_lines t (lines_of t c.args.list.now.table h c.loop-line.list.left) in
-    let more = λ (h : History). ever_lines t (lines_of t c.args.list.now.table h c.next_line.new.self.left) in
+    let all = λ (h : History). ever_lines t (ever_lines_of t c.args.list.now.table h c.args.list.now.left) in
+    let left = λ (h : History). ever_lines t (ever_lines_of t c.args.list.now.table h c.loop-line.list.left) in
+    let more = λ (h : History). ever_lines t (ever_lines_of t c.args.list.now.table h c.next_line.new.self.left) in
     let given = text_given c.in-Some.line c.word-word.result.now in
     let next = λ (h : History) (stands : StandsFor c.args.list.now.process h).
     line_next c.loop-line.list.tree t c.loop-line.list.table c.args.list.now.table c.loop-line.list.process c.args.list.now.process h c.loop-line.list.left c.next_line.new.self.left c.next_line.new.self.word c.in-Some.line c.word-word.result.now
@@ -46,9 +46,9 @@ loop-line-preserved g c =
 pub returns-in_err-add_thing : goal.returns-in_err-add_thing
 returns-in_err-add_thing g c =
     let t = c.args.list.now.tree in
-    let all = λ (h : History). ever_lines t (lines_of t c.args.list.now.table h c.args.list.now.left) in
-    let left = λ (h : History). ever_lines t (lines_of t c.args.list.now.table h c.loop-line.list.left) in
-    let more = λ (h : History). ever_lines t (lines_of t c.args.list.now.table h c.next_line.new.self.left) in
+    let all = λ (h : History). ever_lines t (ever_lines_of t c.args.list.now.table h c.args.list.now.left) in
+    let left = λ (h : History). ever_lines t (ever_lines_of t c.args.list.now.table h c.loop-line.list.left) in
+    let more = λ (h : History). ever_lines t (ever_lines_of t c.args.list.now.table h c.next_line.new.self.left) in
     let given = text_given c.in-Some.line c.word-word.result.now in
     let next = λ (h : History) (stands : StandsFor c.args.list.now.process h).
     line_next c.loop-line.list.tree t c.loop-line.list.table c.args.list.now.table c.loop-line.list.process c.args.list.now.process h c.loop-line.list.left c.next_line.new.self.left c.next_line.new.self.word c.in-Some.line c.word-word.result.now
@@ -61,8 +61,8 @@ returns-in_err-add_thing g c =
 pub returns : goal.returns
 returns g c =
     let t = c.args.list.now.tree in
-    let all = λ (h : History). ever_lines t (lines_of t c.args.list.now.table h c.args.list.now.left) in
-    let left = λ (h : History). ever_lines t (lines_of t c.args.list.now.table h c.loop-line.list.left) in
+    let all = λ (h : History). ever_lines t (ever_lines_of t c.args.list.now.table h c.args.list.now.left) in
+    let left = λ (h : History). ever_lines t (ever_lines_of t c.args.list.now.table h c.loop-line.list.left) in
     λ h stands.
     passing_last (all h) (left h) [] c.args.block.now c.loop-line.block c.loop-line.block (Ok tt)
     (g.S.Sink.written c.args.sink.now) (g.S.Sink.written c.loop-line.sink) (g.S.Sink.written c.loop-line.sink) (g.S.Sink.failed c.args.sink.now) (g.S.Sink.failed c.loop-line.sink) (g.S.Sink.failed c.loop-line.sink)

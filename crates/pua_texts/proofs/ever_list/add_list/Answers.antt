@@ -2,7 +2,7 @@ use Rattle.std.proofs.Common.{List, ℕ, ◌++◌, [], Ok, Err, ap, subst, ◌�
 use Rattle.std.specs.Prelude.{codes}
 use Rattle.std.proofs.lemmas.Result.{err_from_is_err_and}
 use Rattle.pua_ever.specs.Ever.{ever}
-use Rattle.pua_ever.specs.EverLines.{lines_of}
+use Rattle.pua_ever.specs.EverLines.{ever_lines_of}
 use Rattle.pua_texts.specs.Blocks.{Passes}
 use Rattle.pua_texts.specs.EverLines.{ever_lines, ever_list}
 use Rattle.pua_texts.specs.States.{head_lines}
@@ -32,7 +32,7 @@ pub returns : goal.returns
 returns g c = λ table process h headed is.
     let t = c.args.places.now.tree in
     let list = c.args.ever.now in
-    let listed = (λ j. ever_lines (is.tree j) (lines_of (is.tree j) (is.rules j) h list.left)) ∙ ap (ever_lines t) is.left in
+    let listed = (λ j. ever_lines (is.tree j) (ever_lines_of (is.tree j) (is.rules j) h list.left)) ∙ ap (ever_lines t) is.left in
     passes_then c.args.front.now (ever_list table t process h) c.args.block.now c.add_text.new.self c.add_ever.new.block c.add_ever.result
     (g.S.Sink.written c.args.sink.now) (g.S.Sink.written c.add_text.new.sink) (g.S.Sink.written c.add_ever.new.sink) (g.S.Sink.failed c.args.sink.now) (g.S.Sink.failed c.add_text.new.sink) (g.S.Sink.failed c.add_ever.new.sink)
     (subst (λ (t : List ℕ). Passes t (Ok tt) c.args.block.now c.add_text.new.self (g.S.Sink.written c.args.sink.now) (g.S.Sink.written c.add_text.new.sink) (g.S.Sink.failed c.args.sink.now) (g.S.Sink.failed c.add_text.new.sink)) c.as_bytes.ensures.value c.in_ok-add_text.ensures)

@@ -6,7 +6,7 @@ use Rattle.pua_calls.specs.Calls.{call_name}
 use Rattle.pua_audit.specs.Reach.{path_of}
 use Rattle.pua_audit.specs.Lent.{IsNextLine}
 use Rattle.pua_audit.specs.declared.line.Line.{Line}
-use Rattle.pua_texts.specs.Lines.{ended, pair_lines}
+use Rattle.pua_texts.specs.Lines.{with_end, pair_lines}
 use Rattle.pua_texts.proofs.Passing.{passes_none, passes_room, passes_unput, passing_none, passing_more, passing_fails, passing_last}
 use Rattle.pua_texts.proofs.Pairs.{first_line, spelling_plain}
 use Rattle.pua_texts.proofs.line.add_pairs.Goals as goal
@@ -28,7 +28,7 @@ loop-pair-preserved g c =
     let left = c.loop-pair.audit.left in
     let more = c.next_line.follows.lender-at-none.left in
     let path = c.in-Some.pair.path.now in
-    let line : List ℕ = ended (spelling path ++ 32 ∷ call_name c.in-Some.pair.call) in
+    let line : List ℕ = with_end (spelling path ++ 32 ∷ call_name c.in-Some.pair.call) in
     let lines = first_line base next.2.0 c.in-Some.pair.call path left more (next.2.1.0 ∙ ap (λ b. path_of b next.2.0) c.loop-pair.invariant.base) next.2.1.1 in
     record {
       tree = c.in-Some.ensures.tree ∙ c.loop-pair.invariant.tree ∙ sym next.0;

@@ -2,7 +2,7 @@ use Rattle.std.proofs.Common.{[], ◌++◌, ◌∷◌, ◌+◌, Ok, map, drop, �
 use Rattle.std.specs.Prelude.{codes, reverse}
 use Rattle.std.proofs.lemmas.Result.{err_from_is_err_and}
 use Rattle.pua_tree.specs.Tree.{is_dir}
-use Rattle.pua_calls.specs.Promises.{letters_of}
+use Rattle.pua_calls.specs.Promises.{perm_letters}
 use Rattle.pua_texts.specs.States.{or_equals, path_or_hyphen, place_dir, place_names, veil_lines}
 use Rattle.pua_texts.proofs.States.{shown, veil_next, veils_done}
 use Rattle.pua_texts.proofs.Passing.{passes_none, passing_none, passing_more, passing_fails, passing_last}
@@ -26,7 +26,7 @@ loop-veil-preserved g c =
     record {
       tree = c.find-stands.ensures.tree ∙ c.loop-veil.invariant.tree;
       lines = passing_more (veil_lines t (map shown lent)) (veil_lines t (map shown (drop i lent)))
-          (codes "veil " ++ ((path_or_hyphen c.find-stands.result names ++ 32 ∷ []) ++ (or_equals (letters_of veil.1.now) ++ 10 ∷ []))) (veil_lines t (map shown (drop (i + 1) lent)))
+          (codes "veil " ++ ((path_or_hyphen c.find-stands.result names ++ 32 ∷ []) ++ (or_equals (perm_letters veil.1.now) ++ 10 ∷ []))) (veil_lines t (map shown (drop (i + 1) lent)))
           c.args.block.now c.loop-veil.block c.add_veil.new.block
           (g.S.Sink.written c.args.sink.now) (g.S.Sink.written c.loop-veil.sink) (g.S.Sink.written c.add_veil.new.sink) (g.S.Sink.failed c.args.sink.now) (g.S.Sink.failed c.loop-veil.sink) (g.S.Sink.failed c.add_veil.new.sink)
           c.loop-veil.invariant.lines (veil_next t lent veil i c.find-stands.result names c.loop-veil-test.true c.veil-item.is stood named) c.in_ok-add_veil.ensures;
@@ -43,7 +43,7 @@ returns-in_err-add_veil-clause-lines g c =
     let named = c.names.ensures ∙ c.find-stands.ensures.names ∙ ap (λ u. reverse (place_names u veil.0.now)) c.loop-veil.invariant.tree in
     let p = err_from_is_err_and c.from_residual.result c.from_residual.ensures.1 in
     rw p.1 (passing_fails (veil_lines t (map shown lent)) (veil_lines t (map shown (drop i lent)))
-    (codes "veil " ++ ((path_or_hyphen c.find-stands.result names ++ 32 ∷ []) ++ (or_equals (letters_of veil.1.now) ++ 10 ∷ []))) (veil_lines t (map shown (drop (i + 1) lent)))
+    (codes "veil " ++ ((path_or_hyphen c.find-stands.result names ++ 32 ∷ []) ++ (or_equals (perm_letters veil.1.now) ++ 10 ∷ []))) (veil_lines t (map shown (drop (i + 1) lent)))
     c.args.block.now c.loop-veil.block [] [] p.0
     (g.S.Sink.written c.args.sink.now) (g.S.Sink.written c.loop-veil.sink) (g.S.Sink.written c.add_veil.new.sink) (g.S.Sink.failed c.args.sink.now) (g.S.Sink.failed c.loop-veil.sink) (g.S.Sink.failed c.add_veil.new.sink)
     c.loop-veil.invariant.lines (veil_next t lent veil i c.find-stands.result names c.loop-veil-test.true c.veil-item.is stood named) c.in_err-add_veil.ensures)
