@@ -9,7 +9,7 @@ ghost use Rattle.pua_path.specs.Resolution.{resolution_of_text};
 ghost use Rattle.pua_calls.specs.Calls.{call_number, standard_table};
 ghost use Rattle.pua_policy.specs.History.{History, StandsFor};
 ghost use Rattle.pua_policy.specs.Verdict.{verdict_on};
-ghost use Rattle.pua_script.specs.Replay.{answers, new_world, world_after};
+ghost use Rattle.pua_script.specs.Replay.{answers_to, new_world, world_after};
 ghost use Rattle.pua_script.specs.Scripts.{script};
 ghost use Rattle.pua_script.specs.Worlds.{StandsForWorld};
 ghost use Rattle.pua_audit.specs.Begin.{Beginning, beginning, still_to_come};
@@ -68,7 +68,7 @@ pub(crate) struct Served {
 /// refused.
 pub(crate) fn replay(alloc: Global, tree: SlabTree, script: &Script) -> Result<Served, OutOfMemory>
     ensures told { IfOk result (λ served.
-        served.told.items ≡ answers standard_table (new_world tree) script.now) }
+        served.told.items ≡ answers_to standard_table (new_world tree) script.now) }
     ensures world { IfOk result (λ served.
         StandsForWorld served.world (world_after standard_table (new_world tree) script.now)) }
     ensures table { IfOk result (λ served. served.world.table ≡ standard_table) }

@@ -5,7 +5,7 @@ use Rattle.pua_tree.specs.Tree.{Tree}
 use Rattle.pua_calls.specs.Calls.{CallTable}
 use Rattle.pua_policy.specs.History.{History}
 use Rattle.pua_script.specs.Requests.{Asked}
-use Rattle.pua_script.specs.Replay.{World, new_world, answers, history_of, world_after}
+use Rattle.pua_script.specs.Replay.{World, new_world, answers_to, history_of, world_after}
 use Rattle.pua_script.specs.Worlds.{StandsForWorld, StandsAt}
 use Rattle.pua_audit.specs.AuditState.{AuditState}
 use Rattle.pua_audit.specs.Reach.{Pair}
@@ -18,10 +18,10 @@ use Rattle.pua_texts.proofs.ForCallers.{is_made}
 use Rattle.pua_tool.proofs.Replays.{left_by_same}
 
 answers_over : (t : Tree) → AnswersAlike t t
-answers_over t rules asks told said after left run other =
+answers_over t rules asks answers said after left run other =
     let one = run.served (new_world t) run.new in
     let two = other.served (new_world t) other.new in (
-      one.0 ∙ ap (λ table. answers table (new_world t) asks) (run.table ∙ sym other.table) ∙ sym two.0,
+      one.0 ∙ ap (λ table. answers_to table (new_world t) asks) (run.table ∙ sym other.table) ∙ sym two.0,
       one.1.tree ∙ ap (λ table. (world_after table (new_world t) asks).tree) (run.table ∙ sym other.table) ∙ sym two.1.tree,
     )
 

@@ -5,17 +5,17 @@ use Rattle.std.specs.Io.KnownBytes.{Keeps}
 use Rattle.std.proofs.KnownBytes.{Appends-kept}
 use Rattle.pua_io.specs.Held.{Held}
 use Rattle.pua_tool.specs.Performed.{HasAnswered, HasEnded, HasHalted}
-use Rattle.pua_io.specs.Sinks.{Adds, AddsFront, HasFailed, counted}
+use Rattle.pua_io.specs.Sinks.{Adds, AddsFront, HasFailed, next_count}
 use Rattle.pua_io.specs.declared.sink.PutFault.{PutFault}
 use Rattle.pua_tool.specs.declared.status.TheConstants.{DONE, DEVICE}
 use Rattle.pua_io.proofs.ForCallers.{counted_has_failed}
 
 -- a count of failures that rose stays so after a flush
-failed_still : (flushed : Result (Unit {0}) PutFault) (before between after : ℕ) → OnOk flushed (after ≡ between) → OnErr flushed (after ≡ counted between) → HasFailed before between → HasFailed before after
+failed_still : (flushed : Result (Unit {0}) PutFault) (before between after : ℕ) → OnOk flushed (after ≡ between) → OnErr flushed (after ≡ next_count between) → HasFailed before between → HasFailed before after
 failed_still (Ok done) before between after same rises failed = subst (λ k. HasFailed before k) (sym same) failed
 failed_still (Err fault) before between after same rises (inl less) = by_counted (counted_has_failed between)
   where
-    by_counted : HasFailed between (counted between) → HasFailed before after
+    by_counted : HasFailed between (next_count between) → HasFailed before after
     by_counted (inl more) = inl (omega (arith, rises, less, more))
     by_counted (inr most) = inr (rises ∙ most)
 failed_still (Err fault) before between after same rises (inr most) = inr (omega (arith, rises, most))
@@ -31,7 +31,7 @@ whole_front text a b c adds keeps =
 
 -- a command that halted, and a flush after it
 pub ended_by_halt : (held : Held) (flushed : Result (Unit {0}) PutFault) (a b c : Option (List ℕ)) (before between after : ℕ)
-    → OnOk flushed (after ≡ between) → OnErr flushed (after ≡ counted between) → Keeps b c → HasHalted held a b before between → HasEnded held a c before after
+    → OnOk flushed (after ≡ between) → OnErr flushed (after ≡ next_count between) → Keeps b c → HasHalted held a b before between → HasEnded held a c before after
 ended_by_halt held flushed a b c before between after same rises keeps (inl (command, sound, inl (lacks, unwritten))) =
     inl (command, sound, inl (lacks, subst (λ x. Keeps x c) unwritten keeps))
 ended_by_halt held flushed a b c before between after same rises keeps (inl (command, sound, inr cut)) =
@@ -41,11 +41,11 @@ ended_by_halt held flushed a b c before between after same rises keeps (inr (tex
 
 -- a command that was done, and a flush that failed
 pub ended_by_flush : (held : Held) (a b c : Option (List ℕ)) (before between after : ℕ)
-    → between ≡ before → after ≡ counted between → Keeps b c → HasAnswered held a b → HasEnded held a c before after
+    → between ≡ before → after ≡ next_count between → Keeps b c → HasAnswered held a b → HasEnded held a c before after
 ended_by_flush held a b c before between after same rises keeps answered = by_answer answered
   where
     failed : HasFailed before after
-    failed = subst (λ k. HasFailed before k) (sym rises) (subst (λ k. HasFailed k (counted between)) same (counted_has_failed between))
+    failed = subst (λ k. HasFailed before k) (sym rises) (subst (λ k. HasFailed k (next_count between)) same (counted_has_failed between))
 
     by_answer : HasAnswered held a b → HasEnded held a c before after
     by_answer (inl (command, sound, done)) =
@@ -54,7 +54,7 @@ ended_by_flush held a b c before between after same rises keeps answered = by_an
 
 -- an output that was flushed when a command ended with a device's status, or after one that was done
 pub ended_by_status : (held : Held) (flushed : Result (Unit {0}) PutFault) (status result : ℕ) (a b c : Option (List ℕ)) (before between after : ℕ)
-    → OnOk flushed (result ≡ status) → (status ≢ DONE → result ≡ status) → OnOk flushed (after ≡ between) → OnErr flushed (after ≡ counted between) → Keeps b c
+    → OnOk flushed (result ≡ status) → (status ≢ DONE → result ≡ status) → OnOk flushed (after ≡ between) → OnErr flushed (after ≡ next_count between) → Keeps b c
     → (status ≡ DONE → HasAnswered held a b) → (status ≡ DONE → between ≡ before) → (status ≡ DEVICE → HasHalted held a b before between)
     → result ≡ DEVICE → HasEnded held a c before after
 ended_by_status held (Ok done) status result a b c before between after kept stopped same rises keeps answered unfailed halted device =

@@ -5,7 +5,7 @@ use Rattle.pua_tree.specs.Steps.{◌>>=◌}
 use Rattle.pua_calls.specs.Calls.{CallTable}
 use Rattle.pua_script.specs.Replay.{World}
 use Rattle.pua_words.specs.declared.command.Processes.{Processes}
-use Rattle.pua_tool.specs.Texts.{Chosen, Replayed, replayed}
+use Rattle.pua_tool.specs.Texts.{Chosen, Replayed, replay_of}
 use Rattle.pua_texts.specs.ObjectLines.{lists_of}
 use Rattle.pua_texts.specs.Tells.{Tells}
 use Rattle.pua_texts.specs.declared.fault.TextFault.{TextFault}
@@ -14,12 +14,12 @@ use Rattle.pua_tool.specs.declared.fault.ToolFault.{ToolFault}
 
 module _ (choice : Chosen) (tree_bytes script_bytes : List ℕ) (which : Processes) where
   -- the lists that are asked for where the replay ends are the answer
-  pub objects_are : (done : Replayed) → replayed choice tree_bytes script_bytes ≡ Ok done → objects_text choice tree_bytes script_bytes which ≡ lists_asked done which
+  pub objects_are : (done : Replayed) → replay_of choice tree_bytes script_bytes ≡ Ok done → objects_text choice tree_bytes script_bytes which ≡ lists_asked done which
   unfolding objects_text
   objects_are done r = λ i. r i >>= λ done. lists_asked done which
 
   -- what refuses the replay comes first
-  pub replay_refuses : (fault : ToolFault) → replayed choice tree_bytes script_bytes ≡ Err fault → objects_text choice tree_bytes script_bytes which ≡ Err fault
+  pub replay_refuses : (fault : ToolFault) → replay_of choice tree_bytes script_bytes ≡ Err fault → objects_text choice tree_bytes script_bytes which ≡ Err fault
   unfolding objects_text
   replay_refuses fault r = λ i. r i >>= λ done. lists_asked done which
 

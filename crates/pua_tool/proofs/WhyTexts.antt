@@ -17,7 +17,7 @@ use Rattle.pua_words.specs.declared.command.Processes.{Processes}
 use Rattle.pua_tool.specs.EverTexts.{Answers}
 use Rattle.pua_tool.specs.Texts.{Chosen, as_listing, as_script, table_by}
 use Rattle.pua_texts.specs.WhyLines.{Posed}
-use Rattle.pua_tool.specs.WhyTexts.{as_request, chain_lines, objects_why_text, posed, reason_lines, request_line, run_why_text, why_lists_asked, why_text}
+use Rattle.pua_tool.specs.WhyTexts.{as_request, chain_lines, objects_why_text, posed_script, reason_lines, request_line, run_why_text, why_lists_asked, why_text}
 use Rattle.pua_tool.specs.declared.fault.ToolFault.{ToolFault}
 use Rattle.pua_tool.proofs.EverTexts.{answers_told}
 use Rattle.pua_tool.proofs.Replays.{left_by_same}
@@ -44,34 +44,34 @@ module _ (choice : Chosen) (tree_bytes script_bytes : List ℕ) where
 
   pub posed_is : (table : CallTable) (t : Tree) (asks : List Asked)
       → table_by choice ≡ Ok table → as_listing (listing tree_bytes) ≡ Ok t → as_script (script script_bytes) ≡ Ok asks
-      → posed choice tree_bytes script_bytes ≡ Ok (record { table = table; world = new_world t; asks = asks })
-  unfolding posed
+      → posed_script choice tree_bytes script_bytes ≡ Ok (record { table = table; world = new_world t; asks = asks })
+  unfolding posed_script
   posed_is table t asks b l s = λ i. b i >>= λ table. l i >>= λ t. s i >>= λ asks. Ok (posed_by table t asks)
 
   -- a table's fault comes first
-  pub table_refuses : (fault : ToolFault) → table_by choice ≡ Err fault → posed choice tree_bytes script_bytes ≡ Err fault
-  unfolding posed
+  pub table_refuses : (fault : ToolFault) → table_by choice ≡ Err fault → posed_script choice tree_bytes script_bytes ≡ Err fault
+  unfolding posed_script
   table_refuses fault b = λ i. b i >>= λ table. listed table (as_listing (listing tree_bytes))
 
   -- a listing's fault comes where the table has none
   pub listing_refuses : (table : CallTable) (fault : ToolFault) → table_by choice ≡ Ok table → as_listing (listing tree_bytes) ≡ Err fault
-      → posed choice tree_bytes script_bytes ≡ Err fault
-  unfolding posed
+      → posed_script choice tree_bytes script_bytes ≡ Err fault
+  unfolding posed_script
   listing_refuses table fault b l = λ i. b i >>= λ table. listed table (l i)
 
   -- a script's fault comes where both have none
   pub script_refuses : (table : CallTable) (t : Tree) (fault : ToolFault)
       → table_by choice ≡ Ok table → as_listing (listing tree_bytes) ≡ Ok t → as_script (script script_bytes) ≡ Err fault
-      → posed choice tree_bytes script_bytes ≡ Err fault
-  unfolding posed
+      → posed_script choice tree_bytes script_bytes ≡ Err fault
+  unfolding posed_script
   script_refuses table t fault b l s = λ i. b i >>= λ table. l i >>= λ t. asked table t (s i)
 
   -- what refuses a run comes first
-  pub run_refuses : (fault : ToolFault) → posed choice tree_bytes script_bytes ≡ Err fault → run_why_text choice tree_bytes script_bytes ≡ Err fault
+  pub run_refuses : (fault : ToolFault) → posed_script choice tree_bytes script_bytes ≡ Err fault → run_why_text choice tree_bytes script_bytes ≡ Err fault
   run_refuses fault is = λ i. is i >>= λ p. Ok (reason_lines p)
 
   -- the lines of a run that is told are the answer
-  pub run_told : (p : Posed) (r : Result (Unit {0}) ToolFault) (a b : Option (List ℕ)) (n m : ℕ) → posed choice tree_bytes script_bytes ≡ Ok p
+  pub run_told : (p : Posed) (r : Result (Unit {0}) ToolFault) (a b : Option (List ℕ)) (n m : ℕ) → posed_script choice tree_bytes script_bytes ≡ Ok p
       → Answers (Ok (reason_lines p)) r a b n m → Answers (run_why_text choice tree_bytes script_bytes) r a b n m
   run_told p r a b n m is = answers_told (run_why_text choice tree_bytes script_bytes) (reason_lines p) r a b n m (λ i. is i >>= λ p. Ok (reason_lines p))
 
@@ -83,39 +83,39 @@ module _ (choice : Chosen) (tree_bytes script_bytes : List ℕ) where
     told_by p read = read >>= λ ask. Ok (chain_lines p ask)
 
     -- what refuses the script comes first
-    pub why_refuses : (fault : ToolFault) → posed choice tree_bytes script_bytes ≡ Err fault → why_text choice tree_bytes script_bytes process fields ≡ Err fault
+    pub why_refuses : (fault : ToolFault) → posed_script choice tree_bytes script_bytes ≡ Err fault → why_text choice tree_bytes script_bytes process fields ≡ Err fault
     unfolding why_text
     why_refuses fault is = λ i. is i >>= λ p. told_by p request
 
     -- what refuses the request comes where the script is not refused
-    pub request_refuses : (p : Posed) (fault : ToolFault) → posed choice tree_bytes script_bytes ≡ Ok p → as_request (request_of 1 (request_line process fields)) ≡ Err fault
+    pub request_refuses : (p : Posed) (fault : ToolFault) → posed_script choice tree_bytes script_bytes ≡ Ok p → as_request (request_of 1 (request_line process fields)) ≡ Err fault
         → why_text choice tree_bytes script_bytes process fields ≡ Err fault
     unfolding why_text
     request_refuses p fault is r = (λ i. is i >>= λ p. told_by p request) ∙ (λ i. told_by p (r i))
 
-    why_is : (p : Posed) (ask : Asked) → posed choice tree_bytes script_bytes ≡ Ok p → as_request (request_of 1 (request_line process fields)) ≡ Ok ask
+    why_is : (p : Posed) (ask : Asked) → posed_script choice tree_bytes script_bytes ≡ Ok p → as_request (request_of 1 (request_line process fields)) ≡ Ok ask
         → why_text choice tree_bytes script_bytes process fields ≡ Ok (chain_lines p ask)
     unfolding why_text
     why_is p ask is r = (λ i. is i >>= λ p. told_by p request) ∙ (λ i. told_by p (r i))
 
     -- the chain that is told is the answer
     pub why_told : (p : Posed) (ask : Asked) (r : Result (Unit {0}) ToolFault) (a b : Option (List ℕ)) (n m : ℕ)
-        → posed choice tree_bytes script_bytes ≡ Ok p → as_request (request_of 1 (request_line process fields)) ≡ Ok ask
+        → posed_script choice tree_bytes script_bytes ≡ Ok p → as_request (request_of 1 (request_line process fields)) ≡ Ok ask
         → Answers (Ok (chain_lines p ask)) r a b n m → Answers (why_text choice tree_bytes script_bytes process fields) r a b n m
     why_told p ask r a b n m is read = answers_told (why_text choice tree_bytes script_bytes process fields) (chain_lines p ask) r a b n m (why_is p ask is read)
 
   module _ (which : Processes) where
     -- what refuses the script comes first
-    pub objects_refuse : (fault : ToolFault) → posed choice tree_bytes script_bytes ≡ Err fault → objects_why_text choice tree_bytes script_bytes which ≡ Err fault
+    pub objects_refuse : (fault : ToolFault) → posed_script choice tree_bytes script_bytes ≡ Err fault → objects_why_text choice tree_bytes script_bytes which ≡ Err fault
     unfolding objects_why_text
     objects_refuse fault is = λ i. is i >>= λ p. why_lists_asked p which
 
-    objects_are : (p : Posed) → posed choice tree_bytes script_bytes ≡ Ok p → objects_why_text choice tree_bytes script_bytes which ≡ why_lists_asked p which
+    objects_are : (p : Posed) → posed_script choice tree_bytes script_bytes ≡ Ok p → objects_why_text choice tree_bytes script_bytes which ≡ why_lists_asked p which
     unfolding objects_why_text
     objects_are p is = λ i. is i >>= λ p. why_lists_asked p which
 
     -- the lists that are asked for are the answer
-    pub objects_answer : (p : Posed) (r : Result (Unit {0}) ToolFault) (a b : Option (List ℕ)) (n m : ℕ) → posed choice tree_bytes script_bytes ≡ Ok p
+    pub objects_answer : (p : Posed) (r : Result (Unit {0}) ToolFault) (a b : Option (List ℕ)) (n m : ℕ) → posed_script choice tree_bytes script_bytes ≡ Ok p
         → Answers (why_lists_asked p which) r a b n m → Answers (objects_why_text choice tree_bytes script_bytes which) r a b n m
     objects_answer p r a b n m is = subst (λ (answer : Result (List ℕ) ToolFault). Answers answer r a b n m) (sym (objects_are p is))
 

@@ -4,7 +4,7 @@ use Rattle.pua_tree.specs.Tree.{Tree}
 use Rattle.pua_tree.specs.Listing.{listing}
 use Rattle.pua_calls.specs.Promises.{holds, cpath}
 use Rattle.pua_calls.specs.Calls.{CallTable}
-use Rattle.pua_policy.specs.History.{History, held}
+use Rattle.pua_policy.specs.History.{History, held_set}
 use Rattle.pua_script.specs.Requests.{Asked}
 use Rattle.pua_script.specs.Scripts.{script}
 use Rattle.pua_script.specs.Replay.{World, new_world, history_of, world_after}
@@ -49,15 +49,15 @@ NarrowingNow = (table : CallTable) → NoCallNeedsError table → (w : World) (p
 
 -- the second part: each row that isn't covered with `c` stays, and without cpath the tree does. A text is a list of numbers here,
 -- and the first is so of texts that are bytes; those of a listing and a script are
-pub record Confines (table : CallTable) (w : World) (now : History) (asks : List Asked) : Type 0 where
+pub record ConfinesInBytes (table : CallTable) (w : World) (now : History) (asks : List Asked) : Type 0 where
   pub spares : TakingNeedsC table → IsByteTree w.tree → IsTrue (are_in_bytes asks) → UncoveredStay now w.tree (world_after table w asks).tree
-  pub unchanged : ChangingNeedsCpath table → IsFalse (holds (held now) cpath) → (world_after table w asks).tree ≡ w.tree
+  pub unchanged : ChangingNeedsCpath table → IsFalse (holds (held_set now) cpath) → (world_after table w asks).tree ≡ w.tree
 
 -- where members alone ask, and no exec of theirs is answered ok
 abbrev pub Confinement : Type 0
 Confinement = (table : CallTable) (w : World) (process : ℕ) (now : History) (asks : List Asked) →
     history_of w process ≡ Some now → IsConfined now → IsTrue (none_done is_exec table w asks (process ∷ [])) →
-    IsTrue (members_alone table w asks (process ∷ [])) → Confines table w now asks
+    IsTrue (members_alone table w asks (process ∷ [])) → ConfinesInBytes table w now asks
 
 -- over a table, a listing and a script as a command reads them: the script's first lines left a world, and the lines after them are the further requests
 abbrev pub AsRead : (CallTable → World → List Asked → Type 0) → Type 0
@@ -77,12 +77,12 @@ abbrev pub NarrowingAsRead : Type 0
 NarrowingAsRead = AsRead IsNarrowed
 
 -- where its family alone asks, what the process can't touch with `c` stays, and without cpath all does, each by the tables of which it is so
-abbrev pub IsConfining : CallTable → World → List Asked → Type 0
-IsConfining table w asks = (process : ℕ) (now : History) →
+abbrev pub IsConfiningFamily : CallTable → World → List Asked → Type 0
+IsConfiningFamily table w asks = (process : ℕ) (now : History) →
     history_of w process ≡ Some now → IsConfined now → IsTrue (none_done is_exec table w asks (process ∷ [])) →
     IsTrue (members_alone table w asks (process ∷ [])) →
     (TakingNeedsC table → UncoveredStay now w.tree (world_after table w asks).tree)
-    × (ChangingNeedsCpath table → IsFalse (holds (held now) cpath) → (world_after table w asks).tree ≡ w.tree)
+    × (ChangingNeedsCpath table → IsFalse (holds (held_set now) cpath) → (world_after table w asks).tree ≡ w.tree)
 
 abbrev pub ConfinementAsRead : Type 0
-ConfinementAsRead = AsRead IsConfining
+ConfinementAsRead = AsRead IsConfiningFamily

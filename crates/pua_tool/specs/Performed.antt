@@ -14,7 +14,7 @@ use Rattle.pua_tool.specs.declared.status.TheConstants.{REFUSED}
 use Rattle.pua_io.specs.Held.{Held, Holds, HoldsNothing}
 use Rattle.pua_io.specs.Sinks.{Adds, AddsFront, HasFailed}
 use Rattle.pua_tool.specs.Statuses.{status_of}
-use Rattle.pua_tool.specs.Texts.{Chosen, given, run_text, audit_text, wanted_by}
+use Rattle.pua_tool.specs.Texts.{Chosen, given_bytes, run_text, audit_text, wanted_by}
 use Rattle.pua_tool.specs.ObjectTexts.{objects_text}
 use Rattle.pua_tool.specs.EverTexts.{ever_text}
 use Rattle.pua_tool.specs.WhyTexts.{objects_why_text, run_why_text, why_text}
@@ -77,7 +77,7 @@ pub record LacksTable (held : Held) (command : Command) (name : List ℕ) : Type
   pub script : List ℕ
   pub tree_held : Holds held command.tree.now tree
   pub script_held : Holds held command.script.now script
-  pub named : given command.table ≡ Some name
+  pub named : given_bytes command.table ≡ Some name
   pub nothing : HoldsNothing held name
 
 -- one of the inputs is missing: the tree's, or else the script's, or else the table's
