@@ -10,7 +10,10 @@ all_weaker P Q leads (x ∷ xs) all = (leads x all.0, all_weaker P Q leads xs al
 pub all_filtered : {A : Type 0} (P : A → Type 0) (test : A → Bool) (xs : List A) → AllByRecursion P xs → AllByRecursion P (filter test xs)
 all_filtered P test [] all = tt
 all_filtered P test (x ∷ xs) all =
-    elim (test x) as (λ b. AllByRecursion P (cond b (x ∷ filter test xs) (filter test xs))) [ true ↦ (all.0, all_filtered P test xs all.1) | false ↦ all_filtered P test xs all.1 ]
+    elim (test x) as (λ b. AllByRecursion P (cond b (x ∷ filter test xs) (filter test xs))) [
+      | true ↦ (all.0, all_filtered P test xs all.1)
+      | false ↦ all_filtered P test xs all.1
+    ]
 
 pub all_joined : {A : Type 0} (P : A → Type 0) (xs ys : List A) → AllByRecursion P xs → AllByRecursion P ys → AllByRecursion P (xs ++ ys)
 all_joined P [] ys first second = second

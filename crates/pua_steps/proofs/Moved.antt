@@ -17,7 +17,8 @@ module _ (t u : Steps) (v w : table.Live) (ls ms : Lists) (steps : u ≡ t) (liv
   moved_sized n h = subst (λ (t : Steps). IsSized t w n) (sym steps) (subst (λ (v : table.Live). IsSized t v n) (sym live) h)
 
   pub moved_listed : (n : ℕ) → AreListsOf t v n ls → AreListsOf u w n ms
-  moved_listed n h = subst (λ (t : Steps). AreListsOf t w n ms) (sym steps) (subst (λ (v : table.Live). AreListsOf t v n ms) (sym live) (subst (λ (ls : Lists). AreListsOf t v n ls) (sym lists) h))
+  moved_listed n h = subst (λ (t : Steps). AreListsOf t w n ms) (sym steps) (subst (λ (v : table.Live). AreListsOf t v n ms) (sym live)
+      (subst (λ (ls : Lists). AreListsOf t v n ls) (sym lists) h))
 
   pub moved_open : (frames : List Frame) → AreOpen t ls frames → AreOpen u ms frames
   moved_open frames h = subst (λ (t : Steps). AreOpen t ms frames) (sym steps) (subst (λ (ls : Lists). AreOpen t ls frames) (sym lists) h)

@@ -1,5 +1,6 @@
 -- One step of each definition, as the code meets it.
-use Rattle.std.proofs.Common.{ℕ, zero, suc, ◌+◌, ◌-◌, ◌≡◌, List, [], ◌∷◌, ◌++◌, Some, None, true, false, refl, ap, arith, sym, ◌∙◌, length, append_assoc, append-nil}
+use Rattle.std.proofs.Common.{ℕ, zero, suc, ◌+◌, ◌-◌, ◌≡◌, List, [], ◌∷◌, ◌++◌, Some, None, true, false, refl, ap, arith, sym, ◌∙◌, length}
+use Rattle.std.proofs.Common.{append_assoc, append-nil}
 use Rattle.std.proofs.lemmas.List.{map-append}
 use Rattle.pua_steps.specs.Calls.{calls_of}
 use Rattle.pua_steps.specs.Graph.{Graph, Word}
@@ -37,7 +38,10 @@ unfolding under_all under
 under_all-look [] es = refl
 under_all-look (a ∷ word) es = ap (under a) (under_all-look word es)
 
-pub under_all-line : (word rest : Word) (call : ℕ) (es : List TrailEvent) → under_all word (Some (rest, call) ∷ es) ≡ Some (word ++ rest, call) ∷ under_all word es
+pub under_all-line : (word rest : Word) (call : ℕ) (es : List TrailEvent) → under_all word (Some (rest, call) ∷ es) ≡ Some (
+  word ++ rest,
+  call,
+) ∷ under_all word es
 unfolding under_all under
 under_all-line [] rest call es = refl
 under_all-line (a ∷ word) rest call es = ap (under a) (under_all-line word rest call es)
@@ -61,7 +65,8 @@ module _ (g : Graph) (live : Live) where
   unfolding deeper branches
   deeper_live l k s e lives = ap (λ n. deeper g live n (Some s)) e ∙ rw (ap (λ n. live n s) (sym e) ∙ lives) refl
 
-  pub branches_more : (l : ℕ) (v : Visit) (vs : List Visit) → branches g live l (v ∷ vs) ≡ None ∷ (under v.letter (visited l v) ++ branches g live l vs)
+  pub branches_more : (l : ℕ) (v : Visit) (vs : List Visit) →
+      branches g live l (v ∷ vs) ≡ None ∷ (under v.letter (visited l v) ++ branches g live l vs)
   unfolding branches
   branches_more l v vs = refl
 
@@ -85,8 +90,11 @@ module _ (g : Graph) (live : Live) where
         let inner = pending_push (suc depth) word rests vs (omega (arith, h)) in
         let top : List TrailEvent = branches g live (limit - suc (suc depth + length word)) vs in
         let same : suc depth + length word ≡ depth + suc (length word) = omega arith in
-        ap (λ es. under a es ++ rest) inner ∙ ap (λ es. es ++ rest) (under-append a (under_all word top) (pending g live limit (suc depth) word rests))
-        ∙ append_assoc (under a (under_all word top)) (under a (pending g live limit (suc depth) word rests)) rest ∙ ap (λ n. under a (under_all word (branches g live (limit - suc n) vs)) ++ (under a (pending g live limit (suc depth) word rests) ++ rest)) same
+        ap (λ es. under a es ++ rest) inner ∙
+        ap (λ es. es ++ rest) (under-append a (under_all word top) (pending g live limit (suc depth) word rests))
+        ∙ append_assoc (under a (under_all word top)) (under a (pending g live limit (suc depth) word rests)) rest ∙
+        ap (λ n. under a (under_all word (branches g live (limit - suc n) vs)) ++ (under a (pending g live limit (suc depth) word rests)
+        ++ rest)) same
 
     pub pending_back : (depth : ℕ) (word : Word) (b : ℕ) (rests : List (List Visit)) → length rests ≡ suc (length word)
         → pending g live limit depth (word ++ b ∷ []) rests ≡ pending g live limit depth word rests

@@ -1,5 +1,6 @@
 -- What comes after a pair, step by step along its word.
-use Rattle.std.proofs.Common.{ℕ, zero, suc, ◌+◌, ◌-◌, ◌<◌, ◌≤◌, ◌≡◌, List, [], ◌∷◌, ◌++◌, Option, Some, None, Bool, true, false, cond, nat_lt, ◌==◌, refl, ap, arith, sym, ◌∙◌, length, filter, append_assoc, append-nil, length-append, map, get_or}
+use Rattle.std.proofs.Common.{ℕ, zero, suc, ◌+◌, ◌-◌, ◌<◌, ◌≤◌, ◌≡◌, List, [], ◌∷◌, ◌++◌, Option, Some, None, Bool, true, false, cond}
+use Rattle.std.proofs.Common.{nat_lt, ◌==◌, refl, ap, arith, sym, ◌∙◌, length, filter, append_assoc, append-nil, length-append, map, get_or}
 use Rattle.std.proofs.lemmas.List.{map-append}
 use Rattle.std.proofs.lemmas.List.Elements.{filter-append, filter_agree}
 use Rattle.std.proofs.lemmas.Grind.{flat_map-append}
@@ -39,7 +40,8 @@ filter-cons : (test : Pair → Bool) (a : ℕ) (ps : List Pair) → filter test 
 unfolding cons
 filter-cons test a [] = refl
 filter-cons test a (p ∷ ps) =
-    elim (test (longer a p)) as (λ b. cond b (longer a p ∷ filter test (map (longer a) ps)) (filter test (map (longer a) ps)) ≡ map (longer a) (cond b (p ∷ filter (λ p. test (longer a p)) ps) (filter (λ p. test (longer a p)) ps))) [
+    elim (test (longer a p)) as (λ b. cond b (longer a p ∷ filter test (map (longer a) ps)) (filter test (map (longer a) ps))
+    ≡ map (longer a) (cond b (p ∷ filter (λ p. test (longer a p)) ps) (filter (λ p. test (longer a p)) ps))) [
       | true ↦ ap (λ qs. longer a p ∷ qs) (filter-cons test a ps)
       | false ↦ filter-cons test a ps
     ]
@@ -48,7 +50,8 @@ filter-alone : (test : Pair → Bool) (cs : List ℕ) → filter test (alone cs)
 unfolding alone
 filter-alone test [] = refl
 filter-alone test (c ∷ cs) =
-    elim (test ([], c)) as (λ b. cond b (([], c) ∷ filter test (map (λ (c : ℕ). ([], c)) cs)) (filter test (map (λ (c : ℕ). ([], c)) cs)) ≡ map (λ (c : ℕ). ([], c)) (cond b (c ∷ filter (λ c. test ([], c)) cs) (filter (λ c. test ([], c)) cs))) [
+    elim (test ([], c)) as (λ b. cond b (([], c) ∷ filter test (map (λ (c : ℕ). ([], c)) cs)) (filter test (map (λ (c : ℕ). ([], c)) cs))
+    ≡ map (λ (c : ℕ). ([], c)) (cond b (c ∷ filter (λ c. test ([], c)) cs) (filter (λ c. test ([], c)) cs))) [
       | true ↦ ap (λ qs. ([], c) ∷ qs) (filter-alone test cs)
       | false ↦ filter-alone test cs
     ]
@@ -68,19 +71,25 @@ module _ (v : Word) (c : ℕ) where
   after_same a p = ap (λ o. is_lt (ordering_then (ordering_then o (slice_cmp nat_cmp v p.0)) (nat_cmp c p.1))) (tied_itself nat_cmp_total a)
 
   after_less : (a b : ℕ) (p : Pair) → a < b → comes_after (a ∷ v, c) (longer b p) ≡ true
-  after_less a b p h = ap (λ o. is_lt (ordering_then (ordering_then o (slice_cmp nat_cmp v p.0)) (nat_cmp c p.1))) (sym (nat_cmp_is a b Less h))
+  after_less a b p h = ap (λ o. is_lt (ordering_then (ordering_then o (slice_cmp nat_cmp v p.0)) (nat_cmp c p.1)))
+      (sym (nat_cmp_is a b Less h))
 
   after_greater : (a b : ℕ) (p : Pair) → b < a → comes_after (a ∷ v, c) (longer b p) ≡ false
-  after_greater a b p h = ap (λ o. is_lt (ordering_then (ordering_then o (slice_cmp nat_cmp v p.0)) (nat_cmp c p.1))) (sym (nat_cmp_is a b Greater h))
+  after_greater a b p h =
+      ap (λ o. is_lt (ordering_then (ordering_then o (slice_cmp nat_cmp v p.0)) (nat_cmp c p.1))) (sym (nat_cmp_is a b Greater h))
 
   cons_same : (a : ℕ) (ps : List Pair) → pairs_after (a ∷ v, c) (cons a ps) ≡ cons a (pairs_after (v, c) ps)
-  cons_same a ps = filter-cons (comes_after (a ∷ v, c)) a ps ∙ ap (cons a) (filter_agree (λ p. comes_after (a ∷ v, c) (longer a p)) (comes_after (v, c)) (after_same a) ps)
+  cons_same a ps = filter-cons (comes_after (a ∷ v, c)) a ps ∙
+      ap (cons a) (filter_agree (λ p. comes_after (a ∷ v, c) (longer a p)) (comes_after (v, c)) (after_same a) ps)
 
   cons_less : (a b : ℕ) (ps : List Pair) → a < b → pairs_after (a ∷ v, c) (cons b ps) ≡ cons b ps
-  cons_less a b ps h = filter-cons (comes_after (a ∷ v, c)) b ps ∙ ap (cons b) (filter_agree (λ p. comes_after (a ∷ v, c) (longer b p)) (λ _. true) (λ p. after_less a b p h) ps ∙ filter-all ps)
+  cons_less a b ps h = filter-cons (comes_after (a ∷ v, c)) b ps ∙
+      ap (cons b) (filter_agree (λ p. comes_after (a ∷ v, c) (longer b p)) (λ _. true) (λ p. after_less a b p h) ps ∙ filter-all ps)
 
   cons_greater : (a b : ℕ) (ps : List Pair) → b < a → pairs_after (a ∷ v, c) (cons b ps) ≡ []
-  cons_greater a b ps h = filter-cons (comes_after (a ∷ v, c)) b ps ∙ ap (cons b) (filter_agree (λ p. comes_after (a ∷ v, c) (longer b p)) (λ _. false) (λ p. after_greater a b p h) ps ∙ filter-none ps) ∙ cons-nil b
+  cons_greater a b ps h = filter-cons (comes_after (a ∷ v, c)) b ps ∙
+      ap (cons b) (filter_agree (λ p. comes_after (a ∷ v, c) (longer b p)) (λ _. false) (λ p. after_greater a b p h) ps ∙ filter-none ps) ∙
+      cons-nil b
 
   -- the letters of a state, when those before one are gone and those after it are whole
   module _ (F : Visit → List Pair) (a : ℕ) where
@@ -101,7 +110,8 @@ module _ (v : Word) (c : ℕ) where
         ∙ ap (λ ps. ps ++ pairs_after (a ∷ v, c) (on vs)) (cons_greater a y.letter (F y) all.0)
         ∙ on_low vs all.1
 
-    on_here : (b : Bool) (x : Visit) (after : List Visit) → AllByRecursion (λ (y : Visit). a < y.letter) after → x.letter ≡ a → (b ≡ false → F x ≡ [])
+    on_here : (b : Bool) (x : Visit) (after : List Visit) → AllByRecursion (λ (y : Visit). a < y.letter) after → x.letter ≡ a →
+        (b ≡ false → F x ≡ [])
         → pairs_after (a ∷ v, c) (on (cond b (x ∷ after) after)) ≡ cons a (pairs_after (v, c) (F x)) ++ on after
     on_here true x after high here empty =
         filter-append (comes_after (a ∷ v, c)) (cons x.letter (F x)) (on after)
@@ -111,7 +121,8 @@ module _ (v : Word) (c : ℕ) where
         on_high after high
         ∙ ap (λ ps. ps ++ on after) (sym (ap (λ ps. cons a (pairs_after (v, c) ps)) (empty refl) ∙ cons-nil a))
 
-    pub on_split : (vs : List Visit) (x : Visit) (after : List Visit) → IsSplit a vs x after → ((x.calls ≡ 0) × (x.behind ≡ None) → F x ≡ []) → pairs_after (a ∷ v, c) (on vs) ≡ cons a (pairs_after (v, c) (F x)) ++ on after
+    pub on_split : (vs : List Visit) (x : Visit) (after : List Visit) → IsSplit a vs x after →
+        ((x.calls ≡ 0) × (x.behind ≡ None) → F x ≡ []) → pairs_after (a ∷ v, c) (on vs) ≡ cons a (pairs_after (v, c) (F x)) ++ on after
     on_split vs x after split empty =
         let rest : List Visit = cond split.present (x ∷ after) after in
         ap (λ ws. pairs_after (a ∷ v, c) (on ws)) split.parts
@@ -132,11 +143,13 @@ lt_is m n =
     ]
 
 module _ (c : ℕ) where
-  on_longer : (F : Visit → List Pair) (vs : List Visit) → pairs_after ([], c) (flat_map (λ (x : Visit). cons x.letter (F x)) vs) ≡ flat_map (λ (x : Visit). cons x.letter (F x)) vs
+  on_longer : (F : Visit → List Pair) (vs : List Visit) →
+      pairs_after ([], c) (flat_map (λ (x : Visit). cons x.letter (F x)) vs) ≡ flat_map (λ (x : Visit). cons x.letter (F x)) vs
   on_longer F [] = refl
   on_longer F (y ∷ vs) =
       filter-append (comes_after ([], c)) (cons y.letter (F y)) (flat_map (λ (x : Visit). cons x.letter (F x)) vs)
-      ∙ ap (λ ps. ps ++ pairs_after ([], c) (flat_map (λ (x : Visit). cons x.letter (F x)) vs)) (filter-cons (comes_after ([], c)) y.letter (F y) ∙ ap (cons y.letter) (filter-all (F y)))
+      ∙ ap (λ ps. ps ++ pairs_after ([], c) (flat_map (λ (x : Visit). cons x.letter (F x)) vs))
+      (filter-cons (comes_after ([], c)) y.letter (F y) ∙ ap (cons y.letter) (filter-all (F y)))
       ∙ ap (λ ps. cons y.letter (F y) ++ ps) (on_longer F vs)
 
   below_longer : (g : Graph) (l : ℕ) (o : Option State) → pairs_after ([], c) (below g l o) ≡ below g l o
@@ -146,9 +159,11 @@ module _ (c : ℕ) where
   below_longer g (suc l) (Some s) = on_longer (λ x. alone (calls_of x.calls) ++ below g l x.behind) (g l s)
 
   calls_longer : (cs : List ℕ) → pairs_after ([], c) (alone cs) ≡ alone (filter (λ other. nat_lt c other) cs)
-  calls_longer cs = filter-alone (comes_after ([], c)) cs ∙ ap alone (filter_agree (λ other. is_lt (nat_cmp c other)) (λ other. nat_lt c other) (lt_is c) cs)
+  calls_longer cs = filter-alone (comes_after ([], c)) cs ∙
+      ap alone (filter_agree (λ other. is_lt (nat_cmp c other)) (λ other. nat_lt c other) (lt_is c) cs)
 
-  here_longer : (g : Graph) (l : ℕ) (o : Option State) (cs : List ℕ) → pairs_after ([], c) (alone cs ++ below g l o) ≡ alone (filter (λ other. nat_lt c other) cs) ++ below g l o
+  here_longer : (g : Graph) (l : ℕ) (o : Option State) (cs : List ℕ) →
+      pairs_after ([], c) (alone cs ++ below g l o) ≡ alone (filter (λ other. nat_lt c other) cs) ++ below g l o
   here_longer g l o cs =
       filter-append (comes_after ([], c)) (alone cs) (below g l o)
       ∙ ap (λ ps. ps ++ pairs_after ([], c) (below g l o)) (calls_longer cs)
@@ -173,7 +188,8 @@ pairs-under_all (a ∷ word) es = pairs-under a (under_all word es) ∙ ap (cons
 
 module _ (g : Graph) (live : Live) (limit : ℕ) (P : State → Type 0) (prunes : Prunes g live limit P) where
   pairs-ahead : (word : Word) (left : List ℕ) (o : Option State) (rests : List (List Visit)) → IfSome o P
-      → pairs_of (ahead g live limit word left o rests) ≡ cons_all word (alone left ++ below g (limit - length word) o) ++ pairs_of (pending g live limit 0 word rests)
+      → pairs_of (ahead g live limit word left o rests) ≡ cons_all word (alone left ++ below g (limit - length word) o)
+      ++ pairs_of (pending g live limit 0 word rests)
   unfolding ahead
   pairs-ahead word left o rests is =
       let first : List TrailEvent = with_calls left ++ deeper g live (limit - length word) o in
@@ -201,11 +217,13 @@ module _ (g : Graph) (live : Live) (limit : ℕ) (P : State → Type 0) (prunes 
         → to_give g live limit word calls o rests [] c ≡ pairs_of (ahead g live limit word (calls_of left) o rests)
     unfolding to_give
     give_here o left is kept =
-        ap (λ ps. cons_all word ps ++ pairs_of (pending g live limit 0 word rests)) (here_longer c g (limit - length word) o (calls_of calls) ∙ ap (λ cs. alone cs ++ below g (limit - length word) o) (sym kept))
+        ap (λ ps. cons_all word ps ++ pairs_of (pending g live limit 0 word rests))
+        (here_longer c g (limit - length word) o (calls_of calls) ∙ ap (λ cs. alone cs ++ below g (limit - length word) o) (sym kept))
         ∙ sym (pairs-ahead word (calls_of left) o rests is)
 
     -- no pair goes on from the word before the pair's word is reached
-    pub give_dead : (a : ℕ) (v : Word) → to_give g live limit word calls None rests (a ∷ v) c ≡ pairs_of (ahead g live limit word (calls_of 0) None rests)
+    pub give_dead : (a : ℕ) (v : Word) →
+        to_give g live limit word calls None rests (a ∷ v) c ≡ pairs_of (ahead g live limit word (calls_of 0) None rests)
     unfolding to_give alone
     give_dead a v =
         let l : ℕ = limit - length word in
@@ -222,15 +240,19 @@ module _ (g : Graph) (live : Live) (limit : ℕ) (P : State → Type 0) (prunes 
         ∙ ap (below g n) none.1 ∙ below_none g n
 
     rows_split : (n a : ℕ) (v : Word) (x : Visit) (after vs : List Visit) → IsSplit a vs x after
-        → pairs_after (a ∷ v, c) (rows g n vs) ≡ cons a (pairs_after (v, c) (alone (calls_of x.calls) ++ below g n x.behind)) ++ rows g n after
+        → pairs_after (a ∷ v, c) (rows g n vs) ≡ cons a (pairs_after (v, c) (alone (calls_of x.calls) ++ below g n x.behind))
+        ++ rows g n after
     unfolding rows
-    rows_split n a v x after vs split = on_split v c (λ y. alone (calls_of y.calls) ++ below g n y.behind) a vs x after split (nothing_on n x)
+    rows_split n a v x after vs split =
+        on_split v c (λ y. alone (calls_of y.calls) ++ below g n y.behind) a vs x after split (nothing_on n x)
 
     -- one letter more of the pair's word
-    pub give_on : (s : State) (a : ℕ) (v : Word) (x : Visit) (after : List Visit) (o : Option State) → length rests ≡ length word → length word < limit
+    pub give_on : (s : State) (a : ℕ) (v : Word) (x : Visit) (after : List Visit) (o : Option State) → length rests ≡ length word →
+        length word < limit
         → IsSplit a (g (limit - suc (length word)) s) x after → AllByRecursion (λ v. IfSome v.behind P) after
         → below g (limit - suc (length word)) o ≡ below g (limit - suc (length word)) x.behind
-        → to_give g live limit word calls (Some s) rests (a ∷ v) c ≡ to_give g live limit (word ++ a ∷ []) x.calls o (rests ++ after ∷ []) v c
+        → to_give g live limit word calls (Some s) rests (a ∷ v) c ≡ to_give g live limit (word ++ a ∷ []) x.calls o (rests ++ after ∷ []) v
+        c
     unfolding to_give
     give_on s a v x after o even short split stays same =
         let n : ℕ = limit - suc (length word) in
@@ -256,7 +278,8 @@ module _ (g : Graph) (live : Live) (limit : ℕ) (P : State → Type 0) (prunes 
         ∙ ap (λ m. cons_all word (pairs_of (branches g live m after))) zero_plus
         ∙ ap (cons_all word) (pairs-branches g live limit P prunes n few after stays)) in
         let shown : pairs_after (v, c) (alone (calls_of x.calls) ++ below g (limit - length (word ++ a ∷ [])) o) ≡ inner =
-        ap (λ l. pairs_after (v, c) (alone (calls_of x.calls) ++ below g l o)) long ∙ ap (λ ps. pairs_after (v, c) (alone (calls_of x.calls) ++ ps)) same in
+        ap (λ l. pairs_after (v, c) (alone (calls_of x.calls) ++ below g l o)) long ∙
+        ap (λ ps. pairs_after (v, c) (alone (calls_of x.calls) ++ ps)) same in
         ap (λ ps. cons_all word ps ++ pairs_of rest) first
         ∙ ap (λ ps. ps ++ pairs_of rest) (cons_all-append word (cons a inner) others)
         ∙ append_assoc (cons_all word (cons a inner)) (cons_all word others) (pairs_of rest)

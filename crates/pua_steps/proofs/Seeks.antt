@@ -1,5 +1,6 @@
 -- Visits before the next letter on which something is allowed.
-use Rattle.std.proofs.Common.{min, ℕ, zero, suc, ◌+◌, ◌≡◌, List, [], ◌∷◌, ◌++◌, Option, Some, None, true, false, cond, ◌==◌, refl, ap, arith, sym, ◌∙◌, length, is_none}
+use Rattle.std.proofs.Common.{min, ℕ, zero, suc, ◌+◌, ◌≡◌, List, [], ◌∷◌, ◌++◌, Option, Some, None, true, false, cond, ◌==◌, refl, ap}
+use Rattle.std.proofs.Common.{arith, sym, ◌∙◌, length, is_none}
 use Rattle.std.proofs.lemmas.Bool.{and_parts, eqb-true}
 use Rattle.pua_steps.specs.Calls.{calls_of}
 use Rattle.pua_steps.specs.Graph.{Graph}
@@ -94,7 +95,8 @@ module _ (g : Graph) (live : Live) (l : ℕ) where
       ∙ ap (λ es. under x.letter (with_calls (calls_of 0) ++ es)) (deeper_none g live l)
       ∙ ap (λ cs. under x.letter (with_calls cs ++ [])) no_calls ∙ nothing_under x.letter
 
-  module _ (all : List TrailEvent) (n : ℕ) (rest rest-after : List Visit) (v x : Visit) (so_far : all ≡ looks n (branches g live l rest)) (split : rest ≡ v ∷ rest-after)
+  module _ (all : List TrailEvent) (n : ℕ) (rest rest-after : List Visit) (v x : Visit) (so_far : all ≡ looks n (branches g live l rest))
+      (split : rest ≡ v ∷ rest-after)
       (tested : x ≡ record { letter = v.letter; calls = v.calls; behind = entrance live l v.behind }) where
     pub found : all ≡ looks (n + 1) (after_visit g live l x ++ branches g live l rest-after)
     found = so_far ∙ ap (λ vs. looks n (branches g live l vs)) split ∙ ap (looks n) (step_over v x rest-after tested) ∙ looks_one n _
@@ -102,5 +104,6 @@ module _ (g : Graph) (live : Live) (l : ℕ) where
     pub passed : is_idle x ≡ true → all ≡ looks (n + 1) (branches g live l rest-after)
     passed idle = found ∙ ap (λ es. looks (n + 1) (es ++ branches g live l rest-after)) (idle_gives x idle)
 
-  pub none_found : (all : List TrailEvent) (n : ℕ) (rest : List Visit) → all ≡ looks n (branches g live l rest) → rest ≡ [] → all ≡ looks n []
+  pub none_found : (all : List TrailEvent) (n : ℕ) (rest : List Visit) → all ≡ looks n (branches g live l rest) → rest ≡ [] →
+      all ≡ looks n []
   none_found all n rest so_far none = so_far ∙ ap (λ vs. looks n (branches g live l vs)) none ∙ ap (looks n) (branches_none g live l)
