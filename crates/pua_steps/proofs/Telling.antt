@@ -18,9 +18,11 @@ module _ (t : Steps) (v : table.Live) (limit l : ℕ) (e : Entry) (is : IsAmong 
   bound = bound_of v.bounds.items v.dirs l e
 
   told : (u : ℕ) → u ≤ most_links → gives (graph_of t) l (visit_of u e) ≡ nat_lt u bound
-  told u low = entry_gives (graph_of t) v.bounds.items v.dirs l (cells t v limit is.table is.sized l is.left) t u e is.entry is.sized.dirs low
+  told u low = entry_gives (graph_of t) v.bounds.items v.dirs l (cells t v limit is.table is.sized l is.left) t u e is.entry is.sized.dirs
+      low
 
-  useful_gives : (m : ℕ) → is_useful m v.bounds.items v.dirs l e ≡ true → (m ≢ 0) ⊎ ((u : ℕ) × ((u ≤ most_links) × (gives (graph_of t) l (visit_of u e) ≡ true)))
+  useful_gives : (m : ℕ) → is_useful m v.bounds.items v.dirs l e ≡ true →
+      (m ≢ 0) ⊎ ((u : ℕ) × ((u ≤ most_links) × (gives (graph_of t) l (visit_of u e) ≡ true)))
   useful_gives m on =
       elim (cases_Bool (m == 0)) [
         | inr some ↦ inl (eqb-false m 0 some)
@@ -47,5 +49,8 @@ pub entries_tell : EntriesTell
 entries_tell = record {
   bound = λ t v limit l u e is low. sym (told t v limit l e is u low);
   useful = λ t v limit l missing e is on. useful_gives t v limit l e is missing on;
-  useless = λ t v limit l missing e is off. (none_missing t v limit l e is missing off, λ u low. useless_gives t v limit l e is missing u off low);
+  useless = λ t v limit l missing e is off. (
+    none_missing t v limit l e is missing off,
+    λ u low. useless_gives t v limit l e is missing u off low,
+  );
 }

@@ -13,5 +13,7 @@ invariant-loop-dir l = record {
   entries : IsLonger Entry l.fn.self.entries.items l.self.entries.items;
   spans : IsLonger Span l.fn.self.spans.items l.self.spans.items;
   many : length l.self.spans.items ≡ length l.fn.self.spans.items + l.dir;
-  lists : (d : ℕ) → d < l.dir → IsListAt l.self.entries.items (get_or l.self.spans.items (length l.fn.self.spans.items + d) (record { place = 0; end = 0 })) (list_of l.steps l.live l.left d);
+  lists : (d : ℕ) → d < l.dir →
+      IsListAt l.self.entries.items (get_or l.self.spans.items (length l.fn.self.spans.items + d) (record { place = 0; end = 0 }))
+      (list_of l.steps l.live l.left d);
 }

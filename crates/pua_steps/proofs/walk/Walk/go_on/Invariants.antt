@@ -7,7 +7,8 @@ invariant-words l = record {
   ready : IsReady l.self;
   same : IsSameWalk l.fn.self l.self;
   unchanged : StaysFront l.fn.self.unchanged l.fn.self.word.items l.self.unchanged l.self.word.items;
-  stays : l.fn.self.calls ≢ 0 → (l.self.word ≡ l.fn.self.word) × (l.self.unchanged ≡ l.fn.self.unchanged) × (l.self.calls ≡ l.fn.self.calls);
+  stays : l.fn.self.calls ≢ 0 → (l.self.word ≡ l.fn.self.word) × (l.self.unchanged ≡ l.fn.self.unchanged) ×
+      (l.self.calls ≡ l.fn.self.calls);
   so_far : (n : ℕ) × (IsCounted l.fn.self.tables.reads n l.self.tables.reads × (trail l.fn.self ≡ looks n (trail l.self)));
 }
 
