@@ -32,7 +32,8 @@ link letter calls links = record { letter = letter; all = calls; kept = 0; links
 abbrev pub root_graph : Graph
 root_graph = graph_by 1 (0 ∷ []) ((record { letter = 0; all = 6155; kept = 6155; links = 0; to = Some 0 } ∷ []) ∷ [])
 
--- the letters `..`, etc, passwd, self, sh, t, tmp and up; the directories root, etc and tmp; t is a link to tmp and up one to etc; stat, lstat and open-r are allowed on passwd
+-- the letters `..`, etc, passwd, self, sh, t, tmp and up; the directories root, etc and tmp; t is a link to tmp and up
+-- one to etc; stat, lstat and open-r are allowed on passwd
 abbrev pub one_file : Graph
 one_file = graph_by 8 (0 ∷ 0 ∷ 0 ∷ [])
     ((way 0 0 0 ∷ way 1 0 1 ∷ way 5 1 2 ∷ way 6 0 2 ∷ []) ∷ (way 0 0 0 ∷ leaf 2 11 ∷ []) ∷ (way 0 0 0 ∷ way 7 1 1 ∷ []) ∷ [])
@@ -56,7 +57,8 @@ link_too_far = graph_by 3 (0 ∷ 0 ∷ []) ((way 0 20 1 ∷ []) ∷ (link 2 1 13
 -- a directory to which a name and 20 chains of links lead, and in it a file to which 13 chains of links lead
 abbrev pub chains : Graph
 chains = graph_by 36 (0 ∷ 0 ∷ [])
-    ((way 0 0 0 ∷ map (λ (n : ℕ). way (1 + n) n 1) (range_with_len 0 21)) ∷ (way 0 0 0 ∷ leaf 22 11 ∷ map (λ (n : ℕ). link (22 + n) 9 n) (range_with_len 1 13)) ∷ [])
+    ((way 0 0 0 ∷ map (λ (n : ℕ). way (1 + n) n 1) (range_with_len 0 21))
+    ∷ (way 0 0 0 ∷ leaf 22 11 ∷ map (λ (n : ℕ). link (22 + n) 9 n) (range_with_len 1 13)) ∷ [])
 
 pub record LiveRows : Type 0 where
   pub root_alone_0 : live_count root_graph 0 first 0 ≡ 0
@@ -72,7 +74,18 @@ pub record LiveRows : Type 0 where
 
 pub live_rows : LiveRows
 unfolding visits_from gap visit_of calls_of below cons alone states_after
-live_rows = record { root_alone_0 = refl; root_alone_1 = refl; nowhere = refl; missing_name_2 = refl; one_file_2 = refl; one_file_3 = refl; dead_3 = refl; links_32 = refl; links_33 = refl; chains_2 = refl }
+live_rows = record {
+  root_alone_0 = refl;
+  root_alone_1 = refl;
+  nowhere = refl;
+  missing_name_2 = refl;
+  one_file_2 = refl;
+  one_file_3 = refl;
+  dead_3 = refl;
+  links_32 = refl;
+  links_33 = refl;
+  chains_2 = refl;
+}
 
 pub record StepsRows : Type 0 where
   pub one_file_5 : length (graph_reach one_file 5 0 first) ≡ 81

@@ -12,7 +12,9 @@ use Rattle.pua_steps.specs.declared.live.Live as table
 use Rattle.pua_steps.specs.declared.lists.Span.{Span}
 use Rattle.pua_steps.specs.declared.lists.Lists.{Lists}
 
--- an entry is left out where, whatever links were followed before, no call is allowed on its letter and no word goes on from it. Where calls are allowed on letters without entries none is left out, since its letter would be taken for one of these. This is said by the bounds, as the lists are made; `Telling` says it by what is allowed
+-- an entry is left out where, whatever links were followed before, no call is allowed on its letter and no word goes on
+-- from it. Where calls are allowed on letters without entries none is left out, since its letter would be taken for one
+-- of these. This is said by the bounds, as the lists are made; `Telling` says it by what is allowed
 abbrev pub is_useful : ℕ → List ℕ → ℕ → ℕ → Entry → Bool
 is_useful missing bounds dirs left e = not (missing == 0) || not (bound_of bounds dirs left e == 0)
 

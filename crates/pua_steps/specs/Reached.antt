@@ -1,5 +1,6 @@
 -- The live states: those to which words lead, and from which words with allowed calls go on.
-use Rattle.std.specs.Prelude.{◌≡◌, ◌<◌, ◌≤◌, ◌^◌, ◌+◌, ◌-◌, ℕ, zero, suc, Bool, false, cond, ◌&&◌, ◌||◌, ◌==◌, nat_le, List, [], ◌∷◌, length, get_or, Option, Some, None, option_to_list, flat_map, filter, filter_map}
+use Rattle.std.specs.Prelude.{◌≡◌, ◌<◌, ◌≤◌, ◌^◌, ◌+◌, ◌-◌, ℕ, zero, suc, Bool, false, cond, ◌&&◌, ◌||◌, ◌==◌, nat_le, List, [], ◌∷◌}
+use Rattle.std.specs.Prelude.{length, get_or, Option, Some, None, option_to_list, flat_map, filter, filter_map}
 use Rattle.std.specs.Int.{bit_at}
 use Rattle.pua_steps.specs.Limits.{most_links, most_bound}
 use Rattle.pua_steps.specs.Graph.{Graph, below, some_pair}

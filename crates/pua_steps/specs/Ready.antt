@@ -1,5 +1,6 @@
 -- A walk's fields between two calls, and what they say is still to be done.
-use Rattle.std.specs.Prelude.{◌≡◌, ◌≤◌, ◌<◌, ◌^◌, ℕ, zero, suc, ◌+◌, ◌-◌, min, Bool, true, false, ◌&&◌, ◌==◌, List, [], ◌∷◌, ◌++◌, length, map, take, Option, Some, None, is_none, IfSome, MatchOption, MatchBool, vec_capacity}
+use Rattle.std.specs.Prelude.{◌≡◌, ◌≤◌, ◌<◌, ◌^◌, ℕ, zero, suc, ◌+◌, ◌-◌, min, Bool, true, false, ◌&&◌, ◌==◌, List, [], ◌∷◌, ◌++◌, length}
+use Rattle.std.specs.Prelude.{map, take, Option, Some, None, is_none, IfSome, MatchOption, MatchBool, vec_capacity}
 use Rattle.std.specs.List.{AllByRecursion}
 use Rattle.pua_steps.specs.Limits.{call_count}
 use Rattle.pua_steps.specs.Calls.{calls_of}
@@ -39,20 +40,24 @@ abbrev pub after_visit : Graph → Live → ℕ → Visit → List TrailEvent
 after_visit g live l v = under v.letter (with_calls (calls_of v.calls) ++ deeper g live l v.behind)
 
 -- after so many visits the next letter is found, or it is known that there is none
-pub record IsScanned (t : Steps) (v : table.Live) (ls : Lists) (left : ℕ) (old : Frame) (result : Option Visit) (new : Frame) (n : ℕ) : Type 0 where
+pub record IsScanned (t : Steps) (v : table.Live) (ls : Lists) (left : ℕ) (old : Frame) (result : Option Visit) (new : Frame) (n : ℕ) : Type
+    0 where
   pub next : MatchOption result (branches (narrow_of t v) (live_of v) left (rest_of t ls old) ≡ looks n [])
-      (λ x. (0 < n) × (branches (narrow_of t v) (live_of v) left (rest_of t ls old) ≡ looks n (after_visit (narrow_of t v) (live_of v) left x ++ branches (narrow_of t v) (live_of v) left (rest_of t ls new))))
+      (λ x. (0 < n) × (branches (narrow_of t v) (live_of v) left (rest_of t ls old)
+      ≡ looks n (after_visit (narrow_of t v) (live_of v) left x ++ branches (narrow_of t v) (live_of v) left (rest_of t ls new))))
 
 abbrev pub rests_of : Steps → Lists → List Frame → List (List Visit)
 rests_of t ls frames = map (rest_of t ls) frames
 
 -- what is still to be done
 abbrev pub trail : Walk → List TrailEvent
-trail a = ahead (narrow_of a.tables.steps a.tables.live) (live_of a.tables.live) a.limit a.word.items (calls_of a.calls) a.behind (rests_of a.tables.steps a.tables.lists a.frames.items)
+trail a = ahead (narrow_of a.tables.steps a.tables.live) (live_of a.tables.live) a.limit a.word.items (calls_of a.calls) a.behind
+    (rests_of a.tables.steps a.tables.lists a.frames.items)
 
 -- what frames leave
 abbrev pub left_over : Walk → List Frame → List TrailEvent
-left_over a frames = pending (narrow_of a.tables.steps a.tables.live) (live_of a.tables.live) a.limit 0 a.word.items (rests_of a.tables.steps a.tables.lists frames)
+left_over a frames = pending (narrow_of a.tables.steps a.tables.live) (live_of a.tables.live) a.limit 0 a.word.items
+    (rests_of a.tables.steps a.tables.lists frames)
 
 pub record HasRoom (a : Walk) : Type 0 where
   pub words : a.limit ≤ vec_capacity a.word
@@ -112,4 +117,7 @@ pub record IsTurned (old : List TrailEvent) (result : Bool) (new : Walk) (n : �
 
 -- after so many visits the first pair is given, and leaves what comes after it
 pub record IsNextPair (old : Walk) (result : Option ℕ) (new : Walk) (n : ℕ) : Type 0 where
-  pub next : MatchOption result ((trail old ≡ looks n []) × (trail new ≡ [])) (λ call. trail old ≡ looks n (Some (new.word.items, call) ∷ trail new))
+  pub next : MatchOption result ((trail old ≡ looks n []) × (trail new ≡ [])) (λ call. trail old ≡ looks n (Some (
+    new.word.items,
+    call,
+  ) ∷ trail new))

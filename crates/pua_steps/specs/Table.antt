@@ -1,5 +1,6 @@
 -- The graph that a table of steps is.
-use Rattle.std.specs.Prelude.{◌≡◌, ◌<◌, ◌≤◌, ◌^◌, ℕ, suc, ◌+◌, ◌-◌, Bool, not, ◌&&◌, cond, nat_lt, nat_le, ◌==◌, List, [], ◌∷◌, ◌++◌, map, length, get_or, Option, Some, None, option_map, IfSome, ⊤}
+use Rattle.std.specs.Prelude.{◌≡◌, ◌<◌, ◌≤◌, ◌^◌, ℕ, suc, ◌+◌, ◌-◌, Bool, not, ◌&&◌, cond, nat_lt, nat_le, ◌==◌, List, [], ◌∷◌, ◌++◌, map}
+use Rattle.std.specs.Prelude.{length, get_or, Option, Some, None, option_map, IfSome, ⊤}
 use Rattle.std.specs.List.{range_with_len, AllByRecursion}
 use Rattle.pua_steps.specs.Limits.{most_links, call_count}
 use Rattle.pua_steps.specs.Graph.{Graph}
@@ -56,7 +57,8 @@ gap missing next n = cond (missing == 0) [] (map (missing_visit missing) (range_
 -- the letters from one on: those with entries, and between them the others if a call is allowed on them
 unfoldable pub visits_from : ℕ → ℕ → ℕ → ℕ → List Entry → List Visit
 visits_from letters missing used next [] = gap missing next (letters - next)
-visits_from letters missing used next (e ∷ es) = gap missing next (e.letter - next) ++ visit_of used e ∷ visits_from letters missing used (suc e.letter) es
+visits_from letters missing used next (e ∷ es) =
+    gap missing next (e.letter - next) ++ visit_of used e ∷ visits_from letters missing used (suc e.letter) es
 
 unfoldable pub graph_of : Steps → Graph
 graph_of t l s = visits_from t.letters (missing_at t s.dir) s.used 0 (entries_at t s.dir)

@@ -1,5 +1,6 @@
 -- What a walk does from a moment on: visits of letters, and the pairs that it gives, in their order.
-use Rattle.std.specs.Prelude.{ℕ, zero, suc, ◌-◌, Bool, cond, List, [], ◌∷◌, ◌++◌, map, length, Option, Some, None, option_map, flat_map, filter_map}
+use Rattle.std.specs.Prelude.{ℕ, zero, suc, ◌-◌, Bool, cond, List, [], ◌∷◌, ◌++◌, map, length, Option, Some, None, option_map, flat_map}
+use Rattle.std.specs.Prelude.{filter_map}
 use Rattle.pua_steps.specs.Calls.{calls_of}
 use Rattle.pua_steps.specs.Graph.{Graph, Word, Pair}
 use Rattle.pua_steps.specs.declared.state.State.{State}
@@ -40,7 +41,9 @@ Live = ℕ → State → Bool
 -- the words that go on from a state by at most l letters, if it is live: letter by letter, a visit for each
 unfoldable pub deeper : Graph → Live → ℕ → Option State → List TrailEvent
 deeper g live zero o = []
-deeper g live (suc l) o = if_live o (live (suc l)) (λ s. flat_map (λ v. None ∷ under v.letter (with_calls (calls_of v.calls) ++ deeper g live l v.behind)) (g l s))
+deeper g live (suc l) o =
+    if_live o (live (suc l)) (λ s. flat_map (λ v. None ∷ under v.letter (with_calls (calls_of v.calls) ++ deeper g live l v.behind))
+    (g l s))
 
 -- the words of some of the letters of a state
 unfoldable pub branches : Graph → Live → ℕ → List Visit → List TrailEvent
@@ -50,8 +53,10 @@ branches g live l vs = flat_map (λ v. None ∷ under v.letter (with_calls (call
 unfoldable pub pending : Graph → Live → ℕ → ℕ → Word → List (List Visit) → List TrailEvent
 pending g live limit depth word [] = []
 pending g live limit depth [] (vs ∷ rests) = branches g live (limit - suc depth) vs
-pending g live limit depth (a ∷ word) (vs ∷ rests) = under a (pending g live limit (suc depth) word rests) ++ branches g live (limit - suc depth) vs
+pending g live limit depth (a ∷ word) (vs ∷ rests) =
+    under a (pending g live limit (suc depth) word rests) ++ branches g live (limit - suc depth) vs
 
 -- what is still to be done: the calls of the word that are left, the words after it, and what the open states leave
 unfoldable pub ahead : Graph → Live → ℕ → Word → List ℕ → Option State → List (List Visit) → List TrailEvent
-ahead g live limit word left o rests = under_all word (with_calls left ++ deeper g live (limit - length word) o) ++ pending g live limit 0 word rests
+ahead g live limit word left o rests =
+    under_all word (with_calls left ++ deeper g live (limit - length word) o) ++ pending g live limit 0 word rests

@@ -14,4 +14,5 @@ pub record IsPair (letters : ℕ) (p : Pair) : Type 0 where
 
 -- so are those of all pairs that a table gives
 abbrev pub ReachIsWithin : Type 0
-ReachIsWithin = (t : Steps) (limit calls : ℕ) (base : Option State) → IsTable t → IfSome base (λ s. IsState t s) → AllByRecursion (λ p. IsPair t.letters p) (graph_reach (graph_of t) limit calls base)
+ReachIsWithin = (t : Steps) (limit calls : ℕ) (base : Option State) → IsTable t → IfSome base (λ s. IsState t s) →
+    AllByRecursion (λ p. IsPair t.letters p) (graph_reach (graph_of t) limit calls base)

@@ -1,6 +1,7 @@
 //! A walk that goes on after a pair.
 
-ghost use Rattle.std.specs.Prelude.{◌≡◌, ◌<◌, ◌≤◌, ◌+◌, ◌^◌, ◌*◌, ◌∷◌, [], ℕ, List, suc, length, Some, IfOk, IfSome};
+ghost use Rattle.std.specs.Prelude.{◌≡◌, ◌<◌, ◌≤◌, ◌+◌, ◌^◌, ◌*◌, ◌∷◌, [], ℕ, List, suc, length};
+ghost use Rattle.std.specs.Prelude.{Some, IfOk, IfSome};
 ghost use Rattle.std.specs.List.{AllByRecursion};
 ghost use Rattle.pua_steps.specs.Limits.{most_letters, call_count};
 ghost use Rattle.pua_steps.specs.Graph.{graph_reach};
@@ -47,7 +48,10 @@ impl Walk {
         ensures reads { IfOk result (λ walk.
             walk.tables.reads ≤ tables.reads + search_cost * length word.now) }
         ensures left { IfOk result (λ walk.
-            pairs_of (trail walk) ≡ pairs_after (word.now, call) (graph_reach (graph_of tables.steps) limit calls base)) }
+            pairs_of (trail walk) ≡ pairs_after (
+              word.now,
+              call,
+            ) (graph_reach (graph_of tables.steps) limit calls base)) }
     {
         let mut walk = Walk::begin(alloc, tables, calls, base, limit)?;
         walk.go_to(word, call);
@@ -63,8 +67,12 @@ impl Walk {
         requires call { call < call_count }
         ensures ready { IsReady self.new }
         ensures same { IsSameWalk self.old self.new }
-        ensures reads { self.new.tables.reads ≤ self.old.tables.reads + search_cost * length word.now }
-        ensures left { pairs_of (trail self.new) ≡ pairs_after (word.now, call) (pairs_of (trail self.old)) }
+        ensures reads { self.new.tables.reads ≤ self.old.tables.reads
+            + search_cost * length word.now }
+        ensures left { pairs_of (trail self.new) ≡ pairs_after (
+          word.now,
+          call,
+        ) (pairs_of (trail self.old)) }
     {
         for letter in word {
             let Some(state) = self.behind else {

@@ -1,6 +1,7 @@
 //! The tables of a walk, and the one way to their entries: what reads an entry is counted here.
 
-ghost use Rattle.std.specs.Prelude.{◌≡◌, ◌<◌, ◌≤◌, ◌+◌, ◌*◌, ◌^◌, ℕ, suc, length, get_or, min, IfOk, IfSome};
+ghost use Rattle.std.specs.Prelude.{◌≡◌, ◌<◌, ◌≤◌, ◌+◌, ◌*◌, ◌^◌, ℕ, suc, length, get_or, min};
+ghost use Rattle.std.specs.Prelude.{IfOk, IfSome};
 ghost use Rattle.pua_steps.specs.Limits.{most_letters, search_cost};
 ghost use Rattle.pua_steps.specs.Live.{IsSized, entrance, live_of};
 ghost use Rattle.pua_steps.specs.Lists.{AreListsOf, IsOpen, narrow_of, rest_of, span_of};
@@ -78,14 +79,16 @@ impl Tables {
         requires base { IfSome base (λ s. IsState self.now.steps s) }
         requires limit { limit ≤ most_letters }
         requires small { self.now.live.dirs * 1088 < 2 ^ 64 }
-        ensures { IfOk result (λ count. count ≡ live_count (graph_of self.now.steps) limit base limit) }
+        ensures { IfOk result (λ count. count ≡ live_count (graph_of self.now.steps) limit base
+            limit) }
     {
         self.live.count(alloc, &self.steps, base, limit)
     }
 
     /// The state, if it is live where at most `left` letters may come. No letter is read.
     pub(crate) fn entrance(&self, left: usize, state: Option<State>) -> Option<State>
-        requires layer { left * self.now.live.dirs + self.now.live.dirs ≤ length self.now.live.bounds.items }
+        requires layer { left * self.now.live.dirs + self.now.live.dirs
+            ≤ length self.now.live.bounds.items }
         requires state { IfSome state (λ s. s.dir < self.now.live.dirs) }
         ensures { result ≡ entrance (live_of self.now.live) left state }
     {
@@ -95,7 +98,8 @@ impl Tables {
     /// A state with all letters of its list still to be tried. No letter is read.
     pub(crate) fn open(&self, left: usize, state: State) -> Frame
         requires layer { left < length self.now.lists.layers.items }
-        requires dir { get_or self.now.lists.layers.items left 0 + state.dir < length self.now.lists.spans.items }
+        requires dir { get_or self.now.lists.layers.items left 0 + state.dir
+            < length self.now.lists.spans.items }
         ensures { result ≡ record {
           state = state;
           next = 0;
@@ -112,7 +116,8 @@ impl Tables {
     pub(crate) fn next_visit(&mut self, left: usize, frame: &mut Frame) -> Option<Visit>
         requires table { IsTable self.old.steps }
         requires dirs { self.old.live.dirs ≡ length self.old.steps.rows.items }
-        requires layer { left * self.old.live.dirs + self.old.live.dirs ≤ length self.old.live.bounds.items }
+        requires layer { left * self.old.live.dirs + self.old.live.dirs
+            ≤ length self.old.live.bounds.items }
         requires listed { AreListsOf self.old.steps self.old.live
             (length self.old.lists.layers.items) self.old.lists }
         requires open { IsOpen self.old.steps self.old.lists frame.old }
@@ -122,7 +127,8 @@ impl Tables {
         ensures open { IsOpen self.old.steps self.old.lists frame.new }
         ensures given { IfSome result (λ v. IsLetterGiven self.old.steps self.old.live left v) }
         ensures next { (n : ℕ) × (IsCounted self.old.reads n self.new.reads
-            × IsScanned self.old.steps self.old.live self.old.lists left frame.old result frame.new n) }
+            × IsScanned self.old.steps self.old.live self.old.lists left frame.old result frame.new
+            n) }
     {
         next_visit(
             &self.steps,
@@ -148,7 +154,8 @@ impl Tables {
         ensures lists { self.new.lists ≡ self.old.lists }
         ensures open { IsOpen self.old.steps self.old.lists result.frame }
         ensures visit { IsVisit self.old.steps result.visit }
-        ensures split { IsSplit letter (narrow_of self.old.steps self.old.live left state) result.visit
+        ensures split { IsSplit letter (narrow_of self.old.steps self.old.live left state)
+            result.visit
             (rest_of self.old.steps self.old.lists result.frame) }
         ensures reads { self.new.reads ≤ self.old.reads + search_cost }
         ensures raised { min self.old.reads 18446744073709551615 ≤ self.new.reads }

@@ -1,13 +1,15 @@
 //! The walk through the words over a table of steps.
 
-ghost use Rattle.std.specs.Prelude.{◌≡◌, ◌≢◌, ◌≤◌, ◌<◌, ◌+◌, ◌∷◌, ◌++◌, [], ℕ, IfSome, ◌*◌, ◌^◌, suc, IfOk, length, vec_capacity, MatchOption};
+ghost use Rattle.std.specs.Prelude.{◌≡◌, ◌≢◌, ◌≤◌, ◌<◌, ◌+◌, ◌∷◌, ◌++◌, [], ℕ, IfSome, ◌*◌, ◌^◌};
+ghost use Rattle.std.specs.Prelude.{suc, IfOk, length, vec_capacity, MatchOption};
 ghost use Rattle.pua_steps.specs.Limits.{most_letters, call_count};
 ghost use Rattle.pua_steps.specs.Graph.{graph_reach};
 ghost use Rattle.pua_steps.specs.Table.{IsTable, IsState, graph_of};
 ghost use Rattle.pua_steps.specs.Live.{IsSized};
 ghost use Rattle.pua_steps.specs.Lists.{AreListsOf};
 ghost use Rattle.pua_steps.specs.Trail.{pairs_of};
-ghost use Rattle.pua_steps.specs.Ready.{IsReady, IsBetween, IsSameWalk, IsTurned, IsNextPair, IsCounted, IsUnchanged, StaysFront, left_over, trail};
+ghost use Rattle.pua_steps.specs.Ready.{IsReady, IsBetween, IsSameWalk, IsTurned, IsNextPair};
+ghost use Rattle.pua_steps.specs.Ready.{IsCounted, IsUnchanged, StaysFront, left_over, trail};
 
 use crate::calls::take_first;
 use crate::frame::Frame;
@@ -80,8 +82,12 @@ impl Walk {
         requires ready { IsReady self.old }
         ensures ready { IsReady self.new }
         ensures same { IsSameWalk self.old self.new }
-        ensures line { MatchOption result ((pairs_of (trail self.old) ≡ []) × (pairs_of (trail self.new) ≡ []))
-            (λ call. pairs_of (trail self.old) ≡ (self.new.word.items, call) ∷ pairs_of (trail self.new)) }
+        ensures line { MatchOption result ((pairs_of (trail self.old) ≡ []) ×
+            (pairs_of (trail self.new) ≡ []))
+            (λ call. pairs_of (trail self.old) ≡ (
+              self.new.word.items,
+              call,
+            ) ∷ pairs_of (trail self.new)) }
         ensures count { (n : ℕ) × (IsCounted self.old.tables.reads n self.new.tables.reads
             × IsNextPair self.old result self.new n) }
         ensures cost { self.new.tables.reads ≤ self.old.tables.reads
@@ -125,7 +131,8 @@ impl Walk {
         ensures same { IsSameWalk self.old self.new }
         ensures next { (n : ℕ) × (IsCounted self.old.tables.reads n self.new.tables.reads
             × IsNextPair self.old result self.new n) }
-        ensures unchanged { StaysFront self.old.unchanged self.old.word.items self.new.unchanged self.new.word.items }
+        ensures unchanged { StaysFront self.old.unchanged self.old.word.items self.new.unchanged
+            self.new.word.items }
         ensures stays { self.old.calls ≢ 0 →
             (self.new.word ≡ self.old.word) × (self.new.unchanged ≡ self.old.unchanged) }
     {
@@ -148,7 +155,8 @@ impl Walk {
         ensures same { IsSameWalk self.old self.new }
         ensures next { (n : ℕ) × (IsCounted self.old.tables.reads n self.new.tables.reads
             × IsTurned (trail self.old) result self.new n) }
-        ensures unchanged { StaysFront self.old.unchanged self.old.word.items self.new.unchanged self.new.word.items }
+        ensures unchanged { StaysFront self.old.unchanged self.old.word.items self.new.unchanged
+            self.new.word.items }
     {
         if let Some(state) = self.behind {
             self.behind = None;
@@ -168,7 +176,8 @@ impl Walk {
         ensures same { IsSameWalk self.old self.new }
         ensures next { (n : ℕ) × (IsCounted self.old.tables.reads n self.new.tables.reads
             × IsTurned (left_over self.old self.old.frames.items) result self.new n) }
-        ensures unchanged { StaysFront self.old.unchanged self.old.word.items self.new.unchanged self.new.word.items }
+        ensures unchanged { StaysFront self.old.unchanged self.old.word.items self.new.unchanged
+            self.new.word.items }
     {
         while !self.frames.is_empty() {
             let deepest = self.frames.len() - 1;

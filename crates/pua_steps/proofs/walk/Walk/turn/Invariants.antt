@@ -14,7 +14,8 @@ invariant-loop-self l = record {
   most : length l.self.frames.items ≤ l.self.limit;
   unchanged : l.self.unchanged ≡ l.fn.self.unchanged;
   front : IsLonger ℕ l.self.word.items l.fn.self.word.items;
-  so_far : (n : ℕ) × (IsCounted l.fn.self.tables.reads n l.self.tables.reads × (left_over l.fn.self l.fn.self.frames.items ≡ looks n (left_over l.self l.self.frames.items)));
+  so_far : (n : ℕ) × (IsCounted l.fn.self.tables.reads n l.self.tables.reads ×
+      (left_over l.fn.self l.fn.self.frames.items ≡ looks n (left_over l.self l.self.frames.items)));
 }
 
 abbrev pub decreases-loop-self : goal.decreases-loop-self
