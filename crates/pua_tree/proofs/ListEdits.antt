@@ -1,5 +1,6 @@
 -- Edits of the lists that hold a tree, as edits of the tree.
-use Rattle.std.proofs.Common.{◌≡◌, ◌≤◌, ℕ, ◌+◌, ◌++◌, ltb, IsTrue, true, false, not, ◌&&◌, ◌||◌, cond, List, [], ◌∷◌, map, Option, Some, None, option_map, ◌==◌, count_by, eqb, refl, sym, ap, ◌∙◌}
+use Rattle.std.proofs.Common.{◌≡◌, ◌≤◌, ℕ, ◌+◌, ◌++◌, ltb, IsTrue, true, false, not, ◌&&◌, ◌||◌, cond, List, [], ◌∷◌, map, Option, Some}
+use Rattle.std.proofs.Common.{None, option_map, ◌==◌, count_by, eqb, refl, sym, ap, ◌∙◌}
 use Rattle.std.specs.List.{list_all, list_any, cons_option}
 use Rattle.std.specs.Ordering.{nat_cmp, is_eq}
 use Rattle.std.specs.FinMap.{is_sorted, put}
@@ -20,16 +21,19 @@ use Rattle.pua_tree.proofs.Base.{holds}
 use Rattle.pua_tree.proofs.Entries.{put_last}
 use Rattle.pua_tree.proofs.Raised.{raised_keeps}
 
-no_row : (rows : List ListRow) (x : ℕ) → list_all (λ row. eqb (cond (row.1 == x) 1 0) 0) (map row_entry rows) ≡ not (list_any (λ row. row.node == x) rows)
+no_row : (rows : List ListRow) (x : ℕ) →
+    list_all (λ row. eqb (cond (row.1 == x) 1 0) 0) (map row_entry rows) ≡ not (list_any (λ row. row.node == x) rows)
 no_row [] x = refl
 no_row (r ∷ rows) x =
-    elim (r.node == x) as (λ b. (eqb (cond b 1 0) 0 && list_all (λ row. eqb (cond (row.1 == x) 1 0) 0) (map row_entry rows)) ≡ not (b || list_any (λ row. row.node == x) rows)) [
+    elim (r.node == x) as (λ b. (eqb (cond b 1 0) 0 && list_all (λ row. eqb (cond (row.1 == x) 1 0) 0) (map row_entry rows))
+    ≡ not (b || list_any (λ row. row.node == x) rows)) [
       | true ↦ refl
       | false ↦ no_row rows x
     ]
 
 -- a node stands in no row where none has it
-rows_none : (rows : List ListRow) (x : ℕ) → (count_by (λ row. row.1 == x) (map row_entry rows) == 0) ≡ not (list_any (λ row. row.node == x) rows)
+rows_none : (rows : List ListRow) (x : ℕ) →
+    (count_by (λ row. row.1 == x) (map row_entry rows) == 0) ≡ not (list_any (λ row. row.node == x) rows)
 rows_none rows x = sum_by-zero (λ row. cond (row.1 == x) 1 0) (map row_entry rows) ∙ no_row rows x
 
 pub unnamed_taken : (rows : List ListRow) (nodes left : List ListNode) (x next : ℕ) → list_any (λ row. row.node == x) rows ≡ false
@@ -48,7 +52,8 @@ named_kept rows nodes x next some =
 
 pub sorted_without : (dir : ℕ) (name : List ℕ) (es : List (tree.Spot × ℕ)) → IsTrue (is_sorted tree.spot_cmp es)
     → IsTrue (is_sorted tree.spot_cmp (where_key tree.spot_cmp (λ spot. not (is_eq (tree.spot_cmp (dir, name) spot))) es))
-sorted_without dir name es h = holds _ (is_sorted-where_key tree.spot_cmp (λ spot. not (is_eq (tree.spot_cmp (dir, name) spot))) es (passes _ h))
+sorted_without dir name es h =
+    holds _ (is_sorted-where_key tree.spot_cmp (λ spot. not (is_eq (tree.spot_cmp (dir, name) spot))) es (passes _ h))
 
 pub row_gone : (rows left : List ListRow) (nodes : List ListNode) (next dir : ℕ) (name : List ℕ)
     → map row_entry left ≡ where_key tree.spot_cmp (λ spot. not (is_eq (tree.spot_cmp (dir, name) spot))) (map row_entry rows)
@@ -75,7 +80,8 @@ numbers_below t (e ∷ es) h =
     and_from _ _ (and_parts _ _ parts.0).0 (numbers_below t es parts.1)
 
 -- an entry more in the lists, as what it makes of the tree
-pub entry_came : (rows more : List ListRow) (nodes all : List ListNode) (next : ℕ) (e : Entry) (m : Option tree.Node) → WellFormed (held_tree rows nodes next) → next ≤ e.number → Enters (held_tree rows nodes next) e m
+pub entry_came : (rows more : List ListRow) (nodes all : List ListNode) (next : ℕ) (e : Entry) (m : Option tree.Node) →
+    WellFormed (held_tree rows nodes next) → next ≤ e.number → Enters (held_tree rows nodes next) e m
     → map row_entry more ≡ put tree.spot_cmp (e.parent, e.name) e.node (map row_entry rows)
     → map node_entry all ≡ map node_entry nodes ++ cons_option (option_map (λ node. (e.node, node)) m) []
     → held_tree more all (e.number + 1) ≡ grown_by (held_tree rows nodes next) e m
