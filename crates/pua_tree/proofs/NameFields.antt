@@ -1,5 +1,6 @@
 -- How a name is kept in an array.
-use Rattle.std.proofs.Common.{◌≡◌, ◌≢◌, ◌==◌, ℕ, ◌-◌, ◌<◌, ◌≤◌, true, false, List, length, take, replicate, refl, sym, ap, ◌∙◌, arith, nat_lt, Some, Err}
+use Rattle.std.proofs.Common.{◌≡◌, ◌≢◌, ◌==◌, ℕ, ◌-◌, ◌<◌, ◌≤◌, true, false, List, length, take, replicate, refl, sym, ap, ◌∙◌, arith}
+use Rattle.std.proofs.Common.{nat_lt, Some, Err}
 use Rattle.std.proofs.lemmas.Bool.{cond-true, cond-false, ne_eqb, lt-ltb}
 use Rattle.std.proofs.lemmas.List.{take_at}
 use Rattle.pua_tree.specs.Names.{has_byte, padded_name}
@@ -24,12 +25,15 @@ name_of-slash text bytes read slash =
     sym (ap name_of_bytes read ∙ cond-true (has_byte 47 bytes) _ _ also)
 
 -- a text that spells too many bytes
-pub name_of-long : (text bytes : List ℕ) → bytes_spelled text ≡ Some bytes → has_byte 47 text ≡ false → 255 < length bytes → Err TooLong ≡ name_of text
+pub name_of-long : (text bytes : List ℕ) → bytes_spelled text ≡ Some bytes → has_byte 47 text ≡ false → 255 < length bytes →
+    Err TooLong ≡ name_of text
 name_of-long text bytes read no_slash long =
     let none : has_byte 47 bytes ≡ false = has_slash-unspelled text bytes read ∙ no_slash in
     let some : length bytes ≢ 0 = λ e. omega (arith, long, e) in
-    sym (ap name_of_bytes read ∙ cond-false (has_byte 47 bytes) _ _ none ∙ cond-false (length bytes == 0) _ _ (ne_eqb (length bytes) 0 some) ∙ cond-true (nat_lt 255 (length bytes)) _ _ (lt-ltb 255 (length bytes) long))
+    sym (ap name_of_bytes read ∙ cond-false (has_byte 47 bytes) _ _ none ∙ cond-false (length bytes == 0) _ _ (ne_eqb (length bytes) 0 some)
+    ∙ cond-true (nat_lt 255 (length bytes)) _ _ (lt-ltb 255 (length bytes) long))
 
 -- the bytes that were written over the front of a room of zeros
-pub front_written : (bytes room : List ℕ) (len : ℕ) → len ≡ length bytes → length bytes ≤ 255 → room ≡ room_after (replicate 255 0) 0 bytes → take len room ≡ bytes
+pub front_written : (bytes room : List ℕ) (len : ℕ) → len ≡ length bytes → length bytes ≤ 255 →
+    room ≡ room_after (replicate 255 0) 0 bytes → take len room ≡ bytes
 front_written bytes room len same short wrote = (λ i. take (same i) (wrote i)) ∙ take-overwritten-zeros bytes short

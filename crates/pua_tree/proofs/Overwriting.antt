@@ -1,6 +1,7 @@
 -- What a write of bytes into a room of a fixed length leaves.
 use Rattle.std.proofs.Common.{◌≡◌, ℕ, suc, ◌≤◌, List, [], ◌∷◌, ◌++◌, length, take, drop, set, replicate, refl, sym, ap, ◌∙◌, arith}
-use Rattle.std.proofs.lemmas.List.{set_past, set_at, append_assoc, append-nil, length_push, length-append, drop_all, take_all, drop-replicate, length-replicate}
+use Rattle.std.proofs.lemmas.List.{set_past, set_at, append_assoc, append-nil, length_push, length-append, drop_all, take_all}
+use Rattle.std.proofs.lemmas.List.{drop-replicate, length-replicate}
 use Rattle.pua_tree.specs.Names.{padded_name}
 use Rattle.pua_tree.specs.Writes.{room_after}
 
@@ -11,15 +12,19 @@ overwritten-past room at (b ∷ bytes) h =
     ap (λ r. room_after r (suc at) bytes) (set_past room at b h) ∙ overwritten-past room (suc at) bytes (omega arith)
 
 -- the bytes stand after what was there before, as far as there is room
-overwritten-append : (front tail bytes : List ℕ) → room_after (front ++ tail) (length front) bytes ≡ front ++ (take (length tail) bytes ++ drop (length bytes) tail)
+overwritten-append : (front tail bytes : List ℕ) →
+    room_after (front ++ tail) (length front) bytes ≡ front ++ (take (length tail) bytes ++ drop (length bytes) tail)
 overwritten-append front [] bytes =
     let none : List ℕ = [] in
-    overwritten-past (front ++ []) (length front) bytes (omega (arith, length-append front none)) ∙ ap (λ ys. front ++ ys) (sym (drop_all (length bytes) none (omega arith)))
+    overwritten-past (front ++ []) (length front) bytes (omega (arith, length-append front none)) ∙
+    ap (λ ys. front ++ ys) (sym (drop_all (length bytes) none (omega arith)))
 overwritten-append front (y ∷ tail) [] = refl
 overwritten-append front (y ∷ tail) (b ∷ bytes) =
-    let write : set (front ++ y ∷ tail) (length front) b ≡ (front ++ b ∷ []) ++ tail = set_at front y tail b (length front) refl ∙ sym (append_assoc front (b ∷ []) tail) in
+    let write : set (front ++ y ∷ tail) (length front) b ≡ (front ++ b ∷ []) ++ tail = set_at front y tail b (length front) refl ∙
+    sym (append_assoc front (b ∷ []) tail) in
     let place : suc (length front) ≡ length (front ++ b ∷ []) = omega (arith, length_push front b) in
-    (λ i. room_after (write i) (place i) bytes) ∙ overwritten-append (front ++ b ∷ []) tail bytes ∙ append_assoc front (b ∷ []) (take (length tail) bytes ++ drop (length bytes) tail)
+    (λ i. room_after (write i) (place i) bytes) ∙ overwritten-append (front ++ b ∷ []) tail bytes ∙
+    append_assoc front (b ∷ []) (take (length tail) bytes ++ drop (length bytes) tail)
 
 -- a room that the bytes fill is the bytes
 pub overwritten_whole : (room bytes : List ℕ) → length room ≡ length bytes → room_after room 0 bytes ≡ bytes

@@ -33,6 +33,8 @@ grown_keeps t e w f = by e.made f.enters
     by : (m : Option Node) → Enters t e m → WellFormed (grown_by t e m)
     by None tied =
         let le = f.number in
-        (edits_keep_trees.tying (record t { next = e.number + 1 }) (grown_by t e None) e.parent e.node e.name (raised_keeps t (e.number + 1) w (omega (arith, le))) f.named tied).0
+        (edits_keep_trees.tying (record t { next = e.number + 1 }) (grown_by t e None) e.parent e.node e.name
+        (raised_keeps t (e.number + 1) w (omega (arith, le))) f.named tied).0
     by (Some made) added =
-        (edits_keep_trees.adding (record t { next = e.number }) (grown_by t e (Some made)) e.parent e.number e.name made (raised_keeps t e.number w f.number) f.named added.1 added.2).0
+        (edits_keep_trees.adding (record t { next = e.number }) (grown_by t e (Some made)) e.parent e.number e.name made
+        (raised_keeps t e.number w f.number) f.named added.1 added.2).0

@@ -1,5 +1,6 @@
 -- A slash stands for itself, so a spelling has one exactly where its bytes have one.
-use Rattle.std.proofs.Common.{◌≡◌, ◌≢◌, ℕ, ◌+◌, ◌-◌, ◌*◌, Bool, true, false, ◌&&◌, ◌||◌, ◌==◌, List, [], ◌∷◌, Option, Some, None, refl, sym, ap, ◌∙◌, arith, cond, inl, inr, subst, nat_le, not}
+use Rattle.std.proofs.Common.{◌≡◌, ◌≢◌, ℕ, ◌+◌, ◌-◌, ◌*◌, Bool, true, false, ◌&&◌, ◌||◌, ◌==◌, List, [], ◌∷◌, Option, Some, None, refl, sym}
+use Rattle.std.proofs.Common.{ap, ◌∙◌, arith, cond, inl, inr, subst, nat_le, not}
 use Rattle.std.proofs.lemmas.Bool.{cases_eq, ne_eqb, and_parts}
 use Rattle.std.proofs.lemmas.Bool.Decides.{nat_tests}
 use Rattle.pua_tree.specs.Names.{has_byte}
@@ -14,7 +15,8 @@ fronts (Some b) None bytes e = cc
 fronts None behind bytes e = cc
 
 -- a byte that stands for itself
-slash-plain : (x : ℕ) (more bytes : List ℕ) → x ≢ 92 → ((rest : List ℕ) → bytes_spelled more ≡ Some rest → has_byte 47 rest ≡ has_byte 47 more)
+slash-plain : (x : ℕ) (more bytes : List ℕ) → x ≢ 92 → ((rest : List ℕ) → bytes_spelled more ≡ Some rest →
+    has_byte 47 rest ≡ has_byte 47 more)
     → bytes_spelled (x ∷ more) ≡ Some bytes → has_byte 47 bytes ≡ has_byte 47 (x ∷ more)
 slash-plain x more bytes ne behind e =
     let no : (x == 92) ≡ false = ne_eqb x 92 ne in
@@ -55,7 +57,10 @@ Agrees text = (bytes : List ℕ) → bytes_spelled text ≡ Some bytes → has_b
 
 front : (x : ℕ) (more : List ℕ) → Agrees more → Agrees (92 ∷ more) → Agrees (x ∷ more)
 front x more behind escaped =
-    elim (cases_eq x 92) [ inl same ↦ subst (λ y. Agrees (y ∷ more)) (sym same) escaped | inr ne ↦ λ bytes e. slash-plain x more bytes ne behind e ]
+    elim (cases_eq x 92) [
+      | inl same ↦ subst (λ y. Agrees (y ∷ more)) (sym same) escaped
+      | inr ne ↦ λ bytes e. slash-plain x more bytes ne behind e
+    ]
 
 pub has_slash-unspelled : (text : List ℕ) → Agrees text
 has_slash-unspelled [] bytes e = let none : [] ≡ bytes = cc in sym (ap (has_byte 47) none)
@@ -63,4 +68,5 @@ has_slash-unspelled (x ∷ []) bytes e = front x [] (has_slash-unspelled []) (λ
 has_slash-unspelled (x ∷ a ∷ []) bytes e = front x (a ∷ []) (has_slash-unspelled (a ∷ [])) (λ bs h. cc) bytes e
 has_slash-unspelled (x ∷ a ∷ b ∷ []) bytes e = front x (a ∷ b ∷ []) (has_slash-unspelled (a ∷ b ∷ [])) (λ bs h. cc) bytes e
 has_slash-unspelled (x ∷ a ∷ b ∷ c ∷ more) bytes e =
-    front x (a ∷ b ∷ c ∷ more) (has_slash-unspelled (a ∷ b ∷ c ∷ more)) (λ bs h. slash-escaped a b c more bs (has_slash-unspelled more) h) bytes e
+    front x (a ∷ b ∷ c ∷ more) (has_slash-unspelled (a ∷ b ∷ c ∷ more)) (λ bs h. slash-escaped a b c more bs (has_slash-unspelled more) h)
+    bytes e
