@@ -1,5 +1,6 @@
 -- The changes of a tree as changes of its rows, each with its faults in their order.
-use Rattle.std.specs.Prelude.{ℕ, ◌+◌, Bool, false, not, ◌&&◌, if◌then◌else◌, List, length, nat_lt, ◌==◌, Option, Some, None, Result, Ok, Err, is_some, IsOk, ◌≡◌}
+use Rattle.std.specs.Prelude.{ℕ, ◌+◌, Bool, false, not, ◌&&◌, if◌then◌else◌, List, length, nat_lt, ◌==◌, Option, Some, None, Result, Ok}
+use Rattle.std.specs.Prelude.{Err, is_some, IsOk, ◌≡◌}
 use Rattle.std.specs.List.{list_any}
 use Rattle.std.specs.Ordering.{nat_cmp, is_eq}
 use Rattle.std.specs.FinMap.{put}

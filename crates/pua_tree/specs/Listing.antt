@@ -1,5 +1,6 @@
 -- Which bytes are a listing of which tree, and else which fault comes first.
-use Rattle.std.specs.Prelude.{ℕ, suc, Bool, true, false, not, ◌&&◌, ◌||◌, if◌then◌else◌, List, [], ◌∷◌, ◌++◌, filter_map, nat_lt, ◌==◌, Option, Some, None, Result, Ok, Err, codes, ok_or, option_map}
+use Rattle.std.specs.Prelude.{ℕ, suc, Bool, true, false, not, ◌&&◌, ◌||◌, if◌then◌else◌, List, [], ◌∷◌, ◌++◌, filter_map, nat_lt, ◌==◌}
+use Rattle.std.specs.Prelude.{Option, Some, None, Result, Ok, Err, codes, ok_or, option_map}
 use Rattle.std.specs.List.{list_all, list_any}
 use Rattle.std.specs.Str.Lines.{lines}
 use Rattle.std.specs.FinMap.{put}
@@ -12,7 +13,8 @@ use Rattle.std.specs.Result.{result_ok}
 use Rattle.pua_tree.specs.declared.node.Kind.{Kind}
 use Rattle.pua_tree.specs.declared.node.Kind.TheVariants.{Dir, File, Prog, Link}
 use Rattle.pua_tree.specs.declared.fault.ListingFault.{ListingFault}
-use Rattle.pua_tree.specs.declared.fault.ListingFault.TheVariants.{BadHeader, BadLine, BadNumber, BadParent, BadName, BadTarget, Taken, TooMany, BadNode}
+use Rattle.pua_tree.specs.declared.fault.ListingFault.TheVariants.{BadHeader, BadLine, BadNumber, BadParent, BadName, BadTarget, Taken}
+use Rattle.pua_tree.specs.declared.fault.ListingFault.TheVariants.{TooMany, BadNode}
 
 -- what one line says: a row, and the node that the line makes under its number; a `hard` line makes none
 pub record Entry : Type 0 where
@@ -96,7 +98,10 @@ target_in line = only_if is_target (bytes_spelled line.last)
 -- the node of line n's row, and what the line makes under its number: a link has a target, and a hard link makes nothing
 abbrev pub node_of : List Entry → ℕ → ℕ → ListingLine → Option Kind → Result (ℕ × Option Node) ListingFault
 node_of earlier n number line None = ok_or (hard_node_in earlier line) (BadNode n) >>= λ x. Ok (x, None)
-node_of earlier n number line (Some Link) = ok_or (target_in line) (BadTarget n) >>= λ target. Ok (number, Some (record { kind = Link; target = Some target }))
+node_of earlier n number line (Some Link) = ok_or (target_in line) (BadTarget n) >>= λ target. Ok (
+  number,
+  Some (record { kind = Link; target = Some target }),
+)
 node_of earlier n number line (Some kind) = Ok (number, Some (record { kind = kind; target = None }))
 
 abbrev pub is_taken : List Entry → ℕ → List ℕ → Bool
@@ -104,7 +109,8 @@ is_taken earlier parent name = list_any (λ e. e.parent == parent && same_bytes 
 
 -- the entry of line n, if its name is free and there is room; line 2 is the root's
 abbrev pub entry_or_fault : List Entry → ℕ → Entry → Result Entry ListingFault
-entry_or_fault earlier n e = if is_taken earlier e.parent e.name then Err (Taken n) else (if nat_lt most_lines n then Err (TooMany n) else Ok e)
+entry_or_fault earlier n e =
+    if is_taken earlier e.parent e.name then Err (Taken n) else (if nat_lt most_lines n then Err (TooMany n) else Ok e)
 
 -- what line n says after the earlier ones, or its first fault
 abbrev pub entry_of : Bool → List Entry → ℕ → List ℕ → Result Entry ListingFault

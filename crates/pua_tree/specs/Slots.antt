@@ -1,5 +1,6 @@
 -- What rows and numbers in maps, and nodes in slots, hold of a tree.
-use Rattle.std.specs.Prelude.{ℕ, ◌≡◌, ◌≢◌, ◌==◌, ◌+◌, ◌-◌, not, if◌then◌else◌, List, [], ◌∷◌, map, count_by, Option, Some, None, IsSome, option_map, option_and_then}
+use Rattle.std.specs.Prelude.{ℕ, ◌≡◌, ◌≢◌, ◌==◌, ◌+◌, ◌-◌, not, if◌then◌else◌, List, [], ◌∷◌, map, count_by, Option, Some, None, IsSome}
+use Rattle.std.specs.Prelude.{option_map, option_and_then}
 use Rattle.std.specs.declared.cmp.Ordering.{Ordering}
 use Rattle.std.specs.Ordering.{nat_cmp, is_eq}
 use Rattle.std.specs.FinMap.{find as find_key, put}
@@ -67,7 +68,8 @@ pub record IsFiled (s : Slots) : Type 0 where
 pub record StandsIn (rows : List (tree.Spot × ℕ)) (s : Slots) : Type 0 where
   pub rows_counted : (x : ℕ) (node : SlotNode) → node_in s x ≡ Some node → node.standing.rows ≡ rows_in rows x
   pub names_counted : (x : ℕ) (node : SlotNode) → node_in s x ≡ Some node → node.standing.names ≡ names_of rows x
-  pub dir_above : (at : tree.Spot) (x : ℕ) (node : SlotNode) → find_key spot_cmp at rows ≡ Some x → node_in s x ≡ Some node → node.kind ≡ Dir → node.standing.above ≡ at.0
+  pub dir_above : (at : tree.Spot) (x : ℕ) (node : SlotNode) → find_key spot_cmp at rows ≡ Some x → node_in s x ≡ Some node →
+      node.kind ≡ Dir → node.standing.above ≡ at.0
   pub above_root : (node : SlotNode) → node_in s 0 ≡ Some node → node.standing.above ≡ 0
 
 -- what is true of rows and nodes in slots after each of their changes
@@ -98,7 +100,8 @@ row_lost dir x standing = record standing { rows = standing.rows - one_at dir x 
 
 -- one name more of a node, in a directory, or one name fewer
 abbrev pub name_gained : ℕ → ℕ → ℕ → Stance → Stance
-name_gained dir node x standing = record standing { names = standing.names + one_at node x; above = if node == x then dir else standing.above }
+name_gained dir node x standing =
+    record standing { names = standing.names + one_at node x; above = if node == x then dir else standing.above }
 
 abbrev pub name_lost : ℕ → ℕ → Stance → Stance
 name_lost node x standing = record standing { names = standing.names - one_at node x }

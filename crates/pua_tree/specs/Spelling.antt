@@ -1,5 +1,6 @@
 -- How bytes are spelled in the fields of listings, scripts and output, and how lines are split.
-use Rattle.std.specs.Prelude.{ℕ, zero, suc, ◌+◌, ◌-◌, ◌*◌, ◌/◌, ◌%◌, Bool, false, not, ◌&&◌, ◌||◌, if◌then◌else◌, List, [], ◌∷◌, length, nat_lt, nat_le, ◌==◌, Option, Some, None, Result, Ok, Err, flat_map, fold}
+use Rattle.std.specs.Prelude.{ℕ, zero, suc, ◌+◌, ◌-◌, ◌*◌, ◌/◌, ◌%◌, Bool, false, not, ◌&&◌, ◌||◌, if◌then◌else◌, List, [], ◌∷◌, length}
+use Rattle.std.specs.Prelude.{nat_lt, nat_le, ◌==◌, Option, Some, None, Result, Ok, Err, flat_map, fold}
 use Rattle.std.specs.List.{list_all, slice_split}
 use Rattle.pua_tree.specs.Limits.{most_name}
 use Rattle.pua_tree.specs.Names.{has_byte, is_name}

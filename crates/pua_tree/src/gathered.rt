@@ -41,6 +41,7 @@ pub(crate) trait Gathered: FileTree + Drop {
     /// refused; the tree is then as it was.
     fn put(&mut self, entry: LineEntry) -> Result<(), OutOfMemory>
         requires { Follows (Self.content self.old) (entry_said entry) }
-        ensures grown { OnOk result (Self.content self.new ≡ tree_with (Self.content self.old) (entry_said entry)) }
+        ensures grown { OnOk result (Self.content self.new ≡ tree_with (Self.content self.old)
+            (entry_said entry)) }
         ensures unchanged { OnErr result (Self.content self.new ≡ Self.content self.old) };
 }

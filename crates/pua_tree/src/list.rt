@@ -49,7 +49,8 @@ impl Model for ListTree {
     ghost invariant = { λ a. WellFormed (held_tree a.rows.items a.nodes.items a.next) };
 }
 
-ghost use Rattle.std.specs.Prelude.{ℕ, ◌≡◌, ◌<◌, ◌≤◌, Some, None, IsTrue, IfOk, IfErr, ◌==◌, unwrap_or, find, length, map, option_map};
+ghost use Rattle.std.specs.Prelude.{ℕ, ◌≡◌, ◌<◌, ◌≤◌, Some, None, IsTrue, IfOk, IfErr, ◌==◌};
+ghost use Rattle.std.specs.Prelude.{unwrap_or, find, length, map, option_map};
 ghost use Rattle.std.specs.List.{HoldsAt, insert, list_any};
 ghost use Rattle.std.specs.Ordering.{nat_cmp};
 ghost use Rattle.std.specs.FinMap.{is_sorted, find as find_key, put};
@@ -291,10 +292,16 @@ impl ListRow {
 /// Where the row of this spot stands among rows in order, or else where it would stand.
 pub(crate) fn row_place(rows: &[ListRow], dir: NodeId, name: &Name) -> Result<usize, usize>
     requires { IsTrue (is_sorted spot_cmp (map row_entry rows.now)) }
-    ensures found { IfOk result (λ i. (i < length rows.now) × HoldsAt (λ row. find_key spot_cmp (dir, name.now) (map row_entry rows.now) ≡ Some row.node) rows.now i) }
-    ensures missing { IfErr result (λ i. (i ≤ length rows.now) × (find_key spot_cmp (dir, name.now) (map row_entry rows.now) ≡ None)) }
-    ensures spot { IfOk result (λ i. HoldsAt (λ row. (row_entry row).0 ≡ (dir, name.now)) rows.now i) }
-    ensures place { IfErr result (λ i. (node : ℕ) → put spot_cmp (dir, name.now) node (map row_entry rows.now) ≡ insert (map row_entry rows.now) i ((dir, name.now), node)) }
+    ensures found { IfOk result (λ i. (i < length rows.now) ×
+        HoldsAt (λ row. find_key spot_cmp (dir, name.now) (map row_entry rows.now) ≡ Some row.node)
+        rows.now i) }
+    ensures missing { IfErr result (λ i. (i ≤ length rows.now) ×
+        (find_key spot_cmp (dir, name.now) (map row_entry rows.now) ≡ None)) }
+    ensures spot { IfOk result (λ i. HoldsAt (λ row. (row_entry row).0 ≡ (dir, name.now)) rows.now
+        i) }
+    ensures place { IfErr result (λ i. (node : ℕ) →
+        put spot_cmp (dir, name.now) node (map row_entry rows.now) ≡ insert (map row_entry rows.now)
+        i ((dir, name.now), node)) }
 {
     rows.binary_search_by(|row| row.cmp_spot(dir, name))
 }
@@ -302,8 +309,11 @@ pub(crate) fn row_place(rows: &[ListRow], dir: NodeId, name: &Name) -> Result<us
 /// Where the node of this number stands among nodes in order, or else where it would stand.
 pub(crate) fn node_place(nodes: &[ListNode], id: NodeId) -> Result<usize, usize>
     requires { IsTrue (is_sorted nat_cmp (map node_entry nodes.now)) }
-    ensures found { IfOk result (λ i. (i < length nodes.now) × HoldsAt (λ node. find_key nat_cmp id (map node_entry nodes.now) ≡ Some (made_of_list_node node)) nodes.now i) }
-    ensures missing { IfErr result (λ i. (i ≤ length nodes.now) × (find_key nat_cmp id (map node_entry nodes.now) ≡ None)) }
+    ensures found { IfOk result (λ i. (i < length nodes.now) ×
+        HoldsAt (λ node. find_key nat_cmp id (map node_entry nodes.now)
+        ≡ Some (made_of_list_node node)) nodes.now i) }
+    ensures missing { IfErr result (λ i. (i ≤ length nodes.now) ×
+        (find_key nat_cmp id (map node_entry nodes.now) ≡ None)) }
     ensures number { IfOk result (λ i. HoldsAt (λ node. node.id ≡ id) nodes.now i) }
 {
     nodes.binary_search_by_key(&id, |node| node.id)
@@ -319,7 +329,8 @@ fn has_row(rows: &[ListRow], dir: NodeId) -> bool
 
 /// The directory in which this node stands, and the root where it stands in none.
 fn dir_above(rows: &[ListRow], node: NodeId) -> NodeId
-    ensures { result ≡ unwrap_or (option_map (λ row. row.dir) (find (λ row. row.node == node) rows.now)) 0 }
+    ensures { result ≡ unwrap_or
+        (option_map (λ row. row.dir) (find (λ row. row.node == node) rows.now)) 0 }
 {
     rows.iter()
         .find(|row| row.node == node)

@@ -1,6 +1,7 @@
 //! Changes of a list of rows and of a list of nodes, each in the order of its keys.
 
-ghost use Rattle.std.specs.Prelude.{ℕ, ◌≡◌, ◌<◌, ◌++◌, ◌∷◌, [], IsTrue, IsSome, IfOk, OnOk, not, ◌==◌, map, option_map, option_copied, vec_len, vec_capacity};
+ghost use Rattle.std.specs.Prelude.{ℕ, ◌≡◌, ◌<◌, ◌++◌, ◌∷◌, [], IsTrue, IsSome, IfOk, OnOk, not};
+ghost use Rattle.std.specs.Prelude.{◌==◌, map, option_map, option_copied, vec_len, vec_capacity};
 ghost use Rattle.std.specs.List.{list_any, cons_option};
 ghost use Rattle.std.specs.Ordering.{nat_cmp, is_eq};
 ghost use Rattle.std.specs.FinMap.{is_sorted, find as find_key, put};
@@ -23,7 +24,8 @@ pub(crate) fn reserve_one(
 ) -> Result<(), AllocError>
     ensures rows { rows.new.items ≡ rows.old.items }
     ensures nodes { nodes.new.items ≡ nodes.old.items }
-    ensures room { OnOk result ((vec_len rows.new < vec_capacity rows.new) × (vec_len nodes.new < vec_capacity nodes.new)) }
+    ensures room { OnOk result ((vec_len rows.new < vec_capacity rows.new) ×
+        (vec_len nodes.new < vec_capacity nodes.new)) }
 {
     rows.reserve(1)?;
     nodes.reserve(1)
@@ -34,7 +36,8 @@ pub(crate) fn copied_target(
     alloc: Global,
     target: Option<&[u8]>,
 ) -> Result<Option<Vec<u8>>, AllocError>
-    ensures { IfOk result (λ copy. option_map (λ bytes. bytes.items) copy ≡ option_copied target.entry) }
+    ensures { IfOk result (λ copy. option_map (λ bytes. bytes.items) copy
+        ≡ option_copied target.entry) }
 {
     match target {
         Some(bytes) => Ok(Some(Vec::from_slice(alloc, bytes)?)),
@@ -46,7 +49,10 @@ pub(crate) fn copied_target(
 pub(crate) fn put_row(rows: &mut Vec<ListRow>, row: ListRow)
     requires order { IsTrue (is_sorted spot_cmp (map row_entry rows.old.items)) }
     requires room { vec_len rows.old < vec_capacity rows.old }
-    ensures { map row_entry rows.new.items ≡ put spot_cmp (row.dir, row.name) row.node (map row_entry rows.old.items) }
+    ensures { map row_entry rows.new.items ≡ put spot_cmp (
+      row.dir,
+      row.name,
+    ) row.node (map row_entry rows.old.items) }
 {
     match row_place(rows, row.dir, &row.name) {
         Ok(place) => rows[place] = row,
@@ -58,7 +64,9 @@ pub(crate) fn put_row(rows: &mut Vec<ListRow>, row: ListRow)
 pub(crate) fn take_row(rows: &mut Vec<ListRow>, dir: NodeId, name: &Name)
     requires order { IsTrue (is_sorted spot_cmp (map row_entry rows.old.items)) }
     requires there { IsSome (find_key spot_cmp (dir, name.now) (map row_entry rows.old.items)) }
-    ensures rows { map row_entry rows.new.items ≡ where_key spot_cmp (λ spot. not (is_eq (spot_cmp (dir, name.now) spot))) (map row_entry rows.old.items) }
+    ensures rows { map row_entry rows.new.items
+        ≡ where_key spot_cmp (λ spot. not (is_eq (spot_cmp (dir, name.now) spot)))
+        (map row_entry rows.old.items) }
     ensures room { vec_len rows.new < vec_capacity rows.new }
 {
     let place = row_place(rows, dir, name).unwrap();
@@ -80,7 +88,9 @@ pub(crate) fn push_made(nodes: &mut Vec<ListNode>, id: NodeId, made: Option<Made
 /// Takes the node of this number away, if there is one.
 fn take_node(nodes: &mut Vec<ListNode>, id: NodeId)
     requires { IsTrue (is_sorted nat_cmp (map node_entry nodes.old.items)) }
-    ensures { map node_entry nodes.new.items ≡ where_key nat_cmp (λ other. not (is_eq (nat_cmp id other))) (map node_entry nodes.old.items) }
+    ensures { map node_entry nodes.new.items
+        ≡ where_key nat_cmp (λ other. not (is_eq (nat_cmp id other)))
+        (map node_entry nodes.old.items) }
 {
     if let Ok(place) = node_place(nodes, id) {
         nodes.remove(place);
@@ -90,7 +100,9 @@ fn take_node(nodes: &mut Vec<ListNode>, id: NodeId)
 /// Takes the node of this number away, if it stands in no row.
 pub(crate) fn take_unnamed(rows: &[ListRow], nodes: &mut Vec<ListNode>, id: NodeId)
     requires { IsTrue (is_sorted nat_cmp (map node_entry nodes.old.items)) }
-    ensures { (next : ℕ) → held_tree rows.now nodes.new.items next ≡ without_unnamed (held_tree rows.now nodes.old.items next) id }
+    ensures { (next : ℕ) →
+        held_tree rows.now nodes.new.items next
+        ≡ without_unnamed (held_tree rows.now nodes.old.items next) id }
 {
     if !has_name(rows, id) {
         take_node(nodes, id);

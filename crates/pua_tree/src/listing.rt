@@ -1,13 +1,17 @@
 //! The reader of listings: one pass over the lines, each judged against those before it. It fills
 //! whatever tree takes its entries.
 
-ghost use Rattle.std.specs.Prelude.{ℕ, List, ◌≡◌, ◌≢◌, ◌≤◌, ◌+◌, ◌++◌, ◌∷◌, [], Some, Ok, Err, MatchResult, MatchOption, OnOk, OnErr, IfOk, IfErr, nat_lt, length, option_map, not, ◌&&◌, ◌==◌, min, count_by};
+ghost use Rattle.std.specs.Prelude.{ℕ, List, ◌≡◌, ◌≢◌, ◌≤◌, ◌+◌, ◌++◌, ◌∷◌, [], Some, Ok, Err};
+ghost use Rattle.std.specs.Prelude.{MatchResult, MatchOption, OnOk, OnErr, IfOk, IfErr, nat_lt};
+ghost use Rattle.std.specs.Prelude.{length, option_map, not, ◌&&◌, ◌==◌, min, count_by};
 ghost use Rattle.std.specs.Bool.{OnTrue, OnFalse};
 ghost use Rattle.pua_tree.specs.Limits.{highest_listed};
 ghost use Rattle.pua_tree.specs.Spelling.{number_within};
 ghost use Rattle.pua_tree.specs.Tree.{is_dir, is_living};
 ghost use Rattle.pua_tree.specs.Lines.{line_read};
-ghost use Rattle.pua_tree.specs.Listing.{listing, listing_of_lines, after_header, entry_of, entries_of, entry_or_fault, only_if, node_of, Entry as Said};
+ghost use Rattle.pua_tree.specs.Listing.{listing, listing_of_lines, after_header, entry_of};
+ghost use Rattle.pua_tree.specs.Listing.{entries_of, entry_or_fault, only_if, node_of};
+ghost use Rattle.pua_tree.specs.Listing.{Entry as Said};
 ghost use Rattle.pua_tree.specs.Reading.{Gathers, IsGathered, entry_said, said_node};
 
 use crate::fault::{ListingFault, OutOfMemory};
@@ -39,7 +43,8 @@ const MOST_LINES: u32 = MOST_LISTED + 1;
 /// comes only where a growth was refused.
 pub fn read_listing(alloc: Global, bytes: &[u8]) -> Result<ListTree, ListingFault>
     ensures ok { IfOk result (λ tree. listing bytes.now ≡ Ok tree) }
-    ensures err { IfErr result (λ fault. fault ≢ ListingFault.OutOfMemory → listing bytes.now ≡ Err fault) }
+    ensures err { IfErr result (λ fault. fault ≢ ListingFault.OutOfMemory →
+        listing bytes.now ≡ Err fault) }
 {
     read_tree(alloc, bytes)
 }
@@ -47,7 +52,8 @@ pub fn read_listing(alloc: Global, bytes: &[u8]) -> Result<ListTree, ListingFaul
 /// The same tree by the same rules, with the same faults, kept in slots that are used again.
 pub fn read_listing_slab(alloc: Global, bytes: &[u8]) -> Result<SlabTree, ListingFault>
     ensures ok { IfOk result (λ tree. listing bytes.now ≡ Ok tree) }
-    ensures err { IfErr result (λ fault. fault ≢ ListingFault.OutOfMemory → listing bytes.now ≡ Err fault) }
+    ensures err { IfErr result (λ fault. fault ≢ ListingFault.OutOfMemory →
+        listing bytes.now ≡ Err fault) }
 {
     read_tree(alloc, bytes)
 }
@@ -138,7 +144,8 @@ fn read_entries<T: Gathered>(
 impl<T: Gathered> Reading<T> {
     /// The root alone, with room for so many rows.
     fn new(alloc: Global, hard: bool, rows: usize) -> Result<Reading<T>, ListingFault>
-        ensures ok { IfOk result (λ reading. Gathers hard (T.content reading.tree) reading.greatest []) }
+        ensures ok { IfOk result (λ reading. Gathers hard (T.content reading.tree) reading.greatest
+            []) }
         ensures hard { IfOk result (λ reading. reading.hard ≡ hard) }
         ensures err { OnErr result (result ≡ Err ListingFault.OutOfMemory) }
     {

@@ -22,14 +22,16 @@ impl Model for Name {
 
     ghost view = { λ a. take a.len a.bytes };
 
-    ghost invariant = { λ a. (padded_name (take a.len a.bytes) ≡ a.bytes) × (length (take a.len a.bytes) ≡ a.len) × IsTrue (is_name (take a.len a.bytes)) };
+    ghost invariant = { λ a. (padded_name (take a.len a.bytes) ≡ a.bytes) ×
+        (length (take a.len a.bytes) ≡ a.len) × IsTrue (is_name (take a.len a.bytes)) };
 
     ghost inverse = { λ n. record { bytes = padded_name n; len = length n } };
 
     ghost inverse_ok = { λ a h i. record { bytes = h.0 i; len = h.1 i } };
 }
 
-ghost use Rattle.std.specs.Prelude.{◌≡◌, ◌==◌, ◌≤◌, [], ◌∷◌, length, IsTrue, Some, None, if◌then◌else◌};
+ghost use Rattle.std.specs.Prelude.{◌≡◌, ◌==◌, ◌≤◌, [], ◌∷◌, length, IsTrue, Some, None};
+ghost use Rattle.std.specs.Prelude.{if◌then◌else◌};
 ghost use Rattle.std.proofs.Common.{rules};
 ghost use Rattle.std.specs.Cmp.{partial_order_from_own_ties};
 ghost use Rattle.std.specs.Cmp.Rules.{comparing, hashing};

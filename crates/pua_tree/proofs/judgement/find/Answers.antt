@@ -11,4 +11,5 @@ other bytes false e = refl
 pub returns-in_default : goal.returns-in_default
 returns-in_default g c =
     let bytes = c.args.bytes.now in
-    sym (only_names_found (g.T.Judged.held c.args.tree.now) c.args.dir bytes c.is_tree.ensures (other bytes (is_name bytes) (sym c.from_bytes.ensures ∙ c.in_default.is)))
+    sym (only_names_found (g.T.Judged.held c.args.tree.now) c.args.dir bytes c.is_tree.ensures
+    (other bytes (is_name bytes) (sym c.from_bytes.ensures ∙ c.in_default.is)))

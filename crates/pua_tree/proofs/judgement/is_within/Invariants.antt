@@ -7,4 +7,5 @@ use Rattle.pua_tree.proofs.judgement.is_within.Given as goal
 abbrev pub invariant-loop : goal.invariant-loop
 invariant-loop g l =
     (is_dir (g.T.Judged.held l.fn.tree) l.at ≡ true)
-    × ((n : ℕ) → l.counter + n ≡ l.end → list_any (λ d. d == l.fn.node) (climb_within n (g.T.Judged.held l.fn.tree) l.at) ≡ list_any (λ d. d == l.fn.node) (climb (g.T.Judged.held l.fn.tree) l.fn.dir))
+    × ((n : ℕ) → l.counter + n ≡ l.end → list_any (λ d. d == l.fn.node) (climb_within n (g.T.Judged.held l.fn.tree) l.at)
+    ≡ list_any (λ d. d == l.fn.node) (climb (g.T.Judged.held l.fn.tree) l.fn.dir))

@@ -12,6 +12,7 @@ pub returns : goal.returns
 returns c =
     let all : c.all.result ≡ list_all is_short (slice_split (λ b. b == 47) c.args.text.now) =
     all_from_yields_List is_short _ _ c.all.result c.all.ensures.ran
-    (YieldsList-from_slice_split _ (λ b. b == 47) c.args.text.now c.split.ensures.rest c.split.ensures.done c.split.ensures.closure (λ x b q k. search (rules, tests)))
+    (YieldsList-from_slice_split _ (λ b. b == 47) c.args.text.now c.split.ensures.rest c.split.ensures.done c.split.ensures.closure
+    (λ x b q k. search (rules, tests)))
     (λ x b q k. search (rules, tests)) in
     all ∙ sym (has_short_components-pieces c.args.text.now)

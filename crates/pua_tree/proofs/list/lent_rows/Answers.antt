@@ -6,4 +6,6 @@ use Rattle.pua_tree.specs.ListTree.{row_entry}
 use Rattle.pua_tree.proofs.list.lent_rows.Goals as goal
 
 pub returns : goal.returns
-returns c = map_from_collect _ c.collect.ensures.ran (YieldsList-from_map_by _ lent_entry row_entry (YieldsList-from_slice c.args.rows.now cc) c.map.ensures.closure (λ x r q k. search (rules, tests)))
+returns c = map_from_collect _ c.collect.ensures.ran
+    (YieldsList-from_map_by _ lent_entry row_entry (YieldsList-from_slice c.args.rows.now cc) c.map.ensures.closure
+    (λ x r q k. search (rules, tests)))

@@ -11,7 +11,8 @@ pub returns : goal.returns
 returns c =
     let spot : Spot = (c.args.dir, c.args.name.now) in
     let bound = c.binary_search_by.ensures.bound in
-    let searched = c.binary_search_by.ensures.position (λ (row : ListRow). spot_cmp (row_entry row).0 spot) (always_returns_same _ _ _ (λ a r f g. search rules)) in
+    let searched = c.binary_search_by.ensures.position (λ (row : ListRow). spot_cmp (row_entry row).0 spot)
+    (always_returns_same _ _ _ (λ a r f g. search rules)) in
     record {
       found = found_place spots_total row_entry _ spot _ c.requires bound searched;
       missing = missing_place spots_total row_entry _ spot _ c.requires bound searched;

@@ -17,7 +17,8 @@ returns-in_err-tree-clause-err g c =
     let failed = err_from_is_err_and c.from_residual.result c.from_residual.ensures.1 in
     rw (failed.1, failed.2) (λ other.
     by_lines c.args.bytes.now c.lines-lines.result c.lines-lines.ensures.value ∙ c.in-Some.ensures
-    ∙ entries_fault c.in-Some.hard c.take_header.new.lines c.take_line.new.lines c.in_err-tree.field-0.0 c.if-not-take_line.ensures.this (c.in_err-tree.ensures.err other))
+    ∙ entries_fault c.in-Some.hard c.take_header.new.lines c.take_line.new.lines c.in_err-tree.field-0.0 c.if-not-take_line.ensures.this
+    (c.in_err-tree.ensures.err other))
 
 pub returns-clause-ok : goal.returns-clause-ok
 returns-clause-ok g c =

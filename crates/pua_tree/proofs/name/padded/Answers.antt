@@ -6,4 +6,5 @@ pub returns : goal.returns
 returns c =
     let bytes : List ℕ = c.args.bytes.now in
     let zeros : List ℕ = replicate 255 0 in
-    ap (λ xs. xs ++ drop (length bytes) zeros) c.copy_from_slice.ensures.after ∙ ap (λ ys. bytes ++ ys) (drop-replicate (length bytes) 255 0)
+    ap (λ xs. xs ++ drop (length bytes) zeros) c.copy_from_slice.ensures.after ∙
+    ap (λ ys. bytes ++ ys) (drop-replicate (length bytes) 255 0)

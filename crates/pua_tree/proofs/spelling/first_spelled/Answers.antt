@@ -1,4 +1,5 @@
-use Rattle.std.proofs.Common.{◌≡◌, ℕ, ◌-◌, ◌<◌, true, false, List, [], ◌∷◌, length, get_or, take, drop, Some, refl, sym, ◌∙◌, arith, ne_eqb, take_all}
+use Rattle.std.proofs.Common.{◌≡◌, ℕ, ◌-◌, ◌<◌, true, false, List, [], ◌∷◌, length, get_or, take, drop, Some, refl, sym, ◌∙◌, arith, ne_eqb}
+use Rattle.std.proofs.Common.{take_all}
 use Rattle.std.specs.Prelude.{◌==◌}
 use Rattle.pua_tree.specs.Spelling.{is_plain, bytes_spelled, with_front}
 use Rattle.pua_tree.proofs.spelling.first_spelled.Goals as goal
@@ -13,4 +14,5 @@ first_is_plain (x ∷ xs) full other plain =
 
 pub returns-then-is_plain-clause-first : goal.returns-then-is_plain-clause-first
 returns-then-is_plain-clause-first c =
-    first_is_plain c.args.text.now c.requires (ne_eqb (get_or c.args.text.now 0 0) 92 c.if-first-eq92.false) (sym c.is_plain.ensures ∙ c.if-is_plain.true)
+    first_is_plain c.args.text.now c.requires (ne_eqb (get_or c.args.text.now 0 0) 92 c.if-first-eq92.false) (sym c.is_plain.ensures ∙
+    c.if-is_plain.true)

@@ -14,9 +14,12 @@ returns-clause-grown c =
     let inside = c.self.inside in
     let e = entry_said c.args.entry in
     let follows : Follows _ e = subst (λ (t : tree.Tree). Follows t e) (sym c.self.view_is) c.requires in
-    let row : map row_entry c.put_row.new.rows.items ≡ put spot_cmp (e.parent, e.name) e.node (map row_entry inside.rows.items) = rw c.reserve_one.ensures.rows at c.put_row.ensures in
-    let node : map node_entry c.push_made.new.nodes.items ≡ map node_entry inside.nodes.items ++ cons_option (option_map (λ (m : tree.Node). (e.node, m)) e.made) [] = rw c.reserve_one.ensures.nodes at c.push_made.ensures in
-    entry_came inside.rows.items c.put_row.new.rows.items inside.nodes.items c.push_made.new.nodes.items inside.next e e.made c.self.invariant follows.number follows.enters row node
+    let row : map row_entry c.put_row.new.rows.items ≡ put spot_cmp (e.parent, e.name) e.node (map row_entry inside.rows.items) =
+    rw c.reserve_one.ensures.rows at c.put_row.ensures in
+    let node : map node_entry c.push_made.new.nodes.items ≡ map node_entry inside.nodes.items
+    ++ cons_option (option_map (λ (m : tree.Node). (e.node, m)) e.made) [] = rw c.reserve_one.ensures.nodes at c.push_made.ensures in
+    entry_came inside.rows.items c.put_row.new.rows.items inside.nodes.items c.push_made.new.nodes.items inside.next e e.made
+    c.self.invariant follows.number follows.enters row node
     ∙ ap (λ (t : tree.Tree). tree_with t e) c.self.view_is
 
 pub invariant_of-self-2 : goal.invariant_of-self-2

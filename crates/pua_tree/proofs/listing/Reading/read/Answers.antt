@@ -20,7 +20,8 @@ returns-then-n-gt-MOST_LINES-clause-exact g c = λ es h _ _.
     let t = g.T.FileTree.content c.args.self.now.tree in
     let e = entry_said c.in_ok-entry.entry in
     let free : is_some (look t e.parent e.name) ≡ false = search rules in
-    c.in_ok-entry.ensures es h ∙ crowded_entry c.args.self.now.hard t c.args.self.now.greatest es c.args.n e h free c.if-n-gt-MOST_LINES.true
+    c.in_ok-entry.ensures es h ∙
+    crowded_entry c.args.self.now.hard t c.args.self.now.greatest es c.args.n e h free c.if-n-gt-MOST_LINES.true
 
 pub put-requires : goal.put-requires
 put-requires g c =
@@ -30,17 +31,24 @@ put-requires g c =
     let h : Gathers c.args.self.now.hard t c.args.self.now.greatest es = c.requires.1.1 in
     let count : c.args.n ≡ length es + 3 = omega (arith, c.requires.1.2, c.requires.2) in
     let free : is_some (look t e.parent e.name) ≡ false = search rules in
-    let read : entry_of c.args.self.now.hard es c.args.n c.args.text.now ≡ Ok e = c.in_ok-entry.ensures es h ∙ admitted_entry c.args.self.now.hard t c.args.self.now.greatest es c.args.n e h free c.if-n-gt-MOST_LINES.false in
-    fit_follows c.args.self.now.hard t c.args.self.now.greatest es e h (entry_read c.args.self.now.hard es c.args.n c.args.text.now e count read).1
+    let read : entry_of c.args.self.now.hard es c.args.n c.args.text.now ≡ Ok e = c.in_ok-entry.ensures es h ∙
+    admitted_entry c.args.self.now.hard t c.args.self.now.greatest es c.args.n e h free c.if-n-gt-MOST_LINES.false in
+    fit_follows c.args.self.now.hard t c.args.self.now.greatest es e h (entry_read c.args.self.now.hard es c.args.n c.args.text.now e count
+    read).1
 
 pub returns-in-Ok-clause-exact : goal.returns-in-Ok-clause-exact
 returns-in-Ok-clause-exact g c = λ es h count.
     let t = g.T.FileTree.content c.args.self.now.tree in
     let e = entry_said c.in_ok-entry.entry in
     let free : is_some (look t e.parent e.name) ≡ false = search rules in
-    let read : entry_of c.args.self.now.hard es c.args.n c.args.text.now ≡ Ok e = c.in_ok-entry.ensures es h ∙ admitted_entry c.args.self.now.hard t c.args.self.now.greatest es c.args.n e h free c.if-n-gt-MOST_LINES.false in
-    let fits : Fits c.args.self.now.hard es e = (entry_read c.args.self.now.hard es c.args.n c.args.text.now e count read).1 in
-    (e, read, subst (λ (u : tree.Tree). Gathers c.args.self.now.hard u e.number (es ++ e ∷ [])) (sym c.in-Ok.ensures.grown) (gathered_more c.args.self.now.hard t c.args.self.now.greatest es e h fits))
+    let read : entry_of c.args.self.now.hard es c.args.n c.args.text.now ≡ Ok e = c.in_ok-entry.ensures es h ∙
+    admitted_entry c.args.self.now.hard t c.args.self.now.greatest es c.args.n e h free c.if-n-gt-MOST_LINES.false in
+    let fits : Fits c.args.self.now.hard es e = (entry_read c.args.self.now.hard es c.args.n c.args.text.now e count read).1 in (
+      e,
+      read,
+      subst (λ (u : tree.Tree). Gathers c.args.self.now.hard u e.number (es ++ e ∷ [])) (sym c.in-Ok.ensures.grown)
+          (gathered_more c.args.self.now.hard t c.args.self.now.greatest es e h fits),
+    )
 
 pub returns-then-is_some-clause-room : goal.returns-then-is_some-clause-room
 returns-then-is_some-clause-room g c = tt

@@ -20,4 +20,5 @@ pub returns : goal.returns
 returns c =
     let read = c.in-Some.ensures in
     let short : length read.0 ≤ 255 = omega (arith, read.2) in
-    c.judged.ensures ∙ ap (λ bytes. name_of_bytes (Some bytes)) (front_written read.0 c.unspell_into.new.room c.in-Some.len read.2 short read.3) ∙ ap name_of_bytes (sym read.1)
+    c.judged.ensures ∙ ap (λ bytes. name_of_bytes (Some bytes)) (front_written read.0 c.unspell_into.new.room c.in-Some.len read.2 short
+    read.3) ∙ ap name_of_bytes (sym read.1)

@@ -13,8 +13,10 @@ returns-clause-kept c =
     let node : SlotNode = record { kind = c.args.kind; target = c.args.target; standing = record { above = 0; rows = 0; names = 0 } } in
     let updates = rw c.unwrap.ensures at c.insert.ensures.updates in
     let was : c.unwrap.result ≡ None = (rw c.unwrap.ensures at c.insert.ensures.old) ∙ c.requires.new.no_slot in
-    let longer = (rw c.unwrap.ensures at c.insert.ensures.len) ∙ ap (λ (o : Option ℕ). index_map_len old.numbers + cond (is_some o) 0 1) was in
-    kept_added old new c.args.id c.insert_reserved-slot.result node c.requires.kept.filed c.requires.new.no_slot updates.0 c.insert_reserved-slot.ensures.was_vacant c.insert_reserved-slot.ensures.updates c.insert_reserved-slot.ensures.len longer
+    let longer = (rw c.unwrap.ensures at c.insert.ensures.len) ∙ ap (λ (o : Option ℕ). index_map_len old.numbers + cond (is_some o) 0 1) was
+    in
+    kept_added old new c.args.id c.insert_reserved-slot.result node c.requires.kept.filed c.requires.new.no_slot updates.0
+    c.insert_reserved-slot.ensures.was_vacant c.insert_reserved-slot.ensures.updates c.insert_reserved-slot.ensures.len longer
     c.requires.kept refl c.requires.new.no_rows c.requires.new.no_names refl refl refl
 
 pub returns-clause-nodes : goal.returns-clause-nodes
@@ -24,5 +26,8 @@ returns-clause-nodes c =
     let node : SlotNode = record { kind = c.args.kind; target = c.args.target; standing = record { above = 0; rows = 0; names = 0 } } in
     let updates = rw c.unwrap.ensures at c.insert.ensures.updates in
     let was : c.unwrap.result ≡ None = (rw c.unwrap.ensures at c.insert.ensures.old) ∙ c.requires.new.no_slot in
-    let longer = (rw c.unwrap.ensures at c.insert.ensures.len) ∙ ap (λ (o : Option ℕ). index_map_len old.numbers + cond (is_some o) 0 1) was in
-    nodes_put old new c.args.id node (found_added old new c.args.id c.insert_reserved-slot.result node c.requires.kept.filed c.requires.new.no_slot updates.0 c.insert_reserved-slot.ensures.was_vacant c.insert_reserved-slot.ensures.updates c.insert_reserved-slot.ensures.len longer)
+    let longer = (rw c.unwrap.ensures at c.insert.ensures.len) ∙ ap (λ (o : Option ℕ). index_map_len old.numbers + cond (is_some o) 0 1) was
+    in
+    nodes_put old new c.args.id node (found_added old new c.args.id c.insert_reserved-slot.result node c.requires.kept.filed
+    c.requires.new.no_slot updates.0 c.insert_reserved-slot.ensures.was_vacant c.insert_reserved-slot.ensures.updates
+    c.insert_reserved-slot.ensures.len longer)

@@ -14,5 +14,6 @@ returns-clause-kept c =
     let new : Slots = record { rows = c.reserve.new.self; numbers = c.reserve-2.new.self; nodes = c.reserve-3.new.self } in
     let slots = λ (x : ℕ). ap (lookup (number_ghosts.eq x)) c.reserve-2.ensures.entries in
     let got = λ (slot : ℕ). ap (λ (s : Slab SlotNode). slot_get s slot) c.reserve-3.ensures.rest_kept in
-    let filed = filed_alike old new slots got (ap (λ (s : Slab SlotNode). slab_len s) c.reserve-3.ensures.rest_kept) (ap length c.reserve-2.ensures.entries) c.requires.filed in
+    let filed = filed_alike old new slots got (ap (λ (s : Slab SlotNode). slab_len s) c.reserve-3.ensures.rest_kept)
+    (ap length c.reserve-2.ensures.entries) c.requires.filed in
     kept_alike old new (rows_by_entries new old c.reserve.ensures.entries) (found_alike old new slots got) filed c.requires
