@@ -35,7 +35,9 @@ pub(crate) struct Slots {
     pub(crate) nodes: Slab<SlotNode>,
 }
 
-ghost use Rattle.std.specs.Prelude.{ℕ, ◌≡◌, ◌≢◌, ◌<◌, ◌≤◌, ◌+◌, ◌==◌, ◌^◌, Some, None, IsSome, IfSome, IfOk, OnOk, if◌then◌else◌, option_copied, option_map, option_and_then, length, map, not};
+ghost use Rattle.std.specs.Prelude.{ℕ, ◌≡◌, ◌≢◌, ◌<◌, ◌≤◌, ◌+◌, ◌==◌, ◌^◌, Some, None, IsSome};
+ghost use Rattle.std.specs.Prelude.{IfSome, IfOk, OnOk, if◌then◌else◌, option_copied, option_map};
+ghost use Rattle.std.specs.Prelude.{option_and_then, length, map, not};
 ghost use Rattle.std.specs.Ordering.{is_eq, nat_cmp};
 ghost use Rattle.std.specs.FinMap.{put};
 ghost use Rattle.std.specs.FinMap.Entries.{where_key};
@@ -46,7 +48,10 @@ ghost use Rattle.pua_tree.specs.Tree.{spot_cmp, empty_tree, distinct_names};
 ghost use Rattle.pua_tree.specs.Edits.{without_unnamed};
 ghost use Rattle.pua_tree.specs.Reading.{said_node};
 ghost use Rattle.pua_tree.specs.LentRows.{lent_entry};
-ghost use Rattle.pua_tree.specs.Slots.{held_rows, held_nodes, held_in_slots, names_of, IsNew, MayStand, with_made, row_at, slot_of, node_in, IsFiled, AreConsistent, Restands, row_gained, row_lost, name_gained, name_lost};
+ghost use Rattle.pua_tree.specs.Slots.{held_rows, held_nodes, held_in_slots, names_of, IsNew};
+ghost use Rattle.pua_tree.specs.Slots.{MayStand, with_made, row_at, slot_of, node_in, IsFiled};
+ghost use Rattle.pua_tree.specs.Slots.{AreConsistent, Restands, row_gained, row_lost, name_gained};
+ghost use Rattle.pua_tree.specs.Slots.{name_lost};
 
 impl Slots {
     /// The node in the row at this spot.
@@ -77,7 +82,9 @@ impl Slots {
 
     /// Where the node of this number leads, if it is a link.
     pub(crate) fn target(&self, id: NodeId) -> Option<&[u8]>
-        ensures { option_copied result ≡ option_and_then (λ node. option_map (λ target. target.items) node.target) (node_in self.now id) }
+        ensures { option_copied result
+            ≡ option_and_then (λ node. option_map (λ target. target.items) node.target)
+            (node_in self.now id) }
     {
         match &self.node(id)?.target {
             Some(target) => Some(target.as_slice()),
@@ -217,7 +224,9 @@ impl Slots {
         requires kept { AreConsistent self.old }
         requires there { row_at self.old (dir, name.now) ≡ Some node }
         ensures kept { AreConsistent self.new }
-        ensures rows { held_rows self.new ≡ where_key spot_cmp (λ spot. not (is_eq (spot_cmp (dir, name.now) spot))) (held_rows self.old) }
+        ensures rows { held_rows self.new
+            ≡ where_key spot_cmp (λ spot. not (is_eq (spot_cmp (dir, name.now) spot)))
+            (held_rows self.old) }
         ensures nodes { held_nodes self.new ≡ held_nodes self.old }
         ensures room { spare self.old.rows ≤ spare self.new.rows }
     {
@@ -241,9 +250,14 @@ impl Slots {
         requires there { row_at self.old (from, name.now) ≡ Some node }
         requires free { row_at self.old (to, new_name) ≡ None }
         requires not_root { node ≢ 0 }
-        requires dir_once { (n : SlotNode) → node_in self.old node ≡ Some n → n.kind ≡ Kind.Dir → names_of (held_rows self.old) node ≡ 1 }
+        requires dir_once { (n : SlotNode) → node_in self.old node ≡ Some n → n.kind ≡ Kind.Dir →
+            names_of (held_rows self.old) node ≡ 1 }
         ensures kept { AreConsistent self.new }
-        ensures rows { held_rows self.new ≡ put spot_cmp (to, new_name) node (where_key spot_cmp (λ spot. not (is_eq (spot_cmp (from, name.now) spot))) (held_rows self.old)) }
+        ensures rows { held_rows self.new ≡ put spot_cmp (
+          to,
+          new_name,
+        ) node (where_key spot_cmp
+            (λ spot. not (is_eq (spot_cmp (from, name.now) spot))) (held_rows self.old)) }
         ensures nodes { held_nodes self.new ≡ held_nodes self.old }
     {
         self.take_row(from, name, node);
@@ -258,7 +272,10 @@ impl Slots {
         requires new { IsNew self.old id }
         ensures kept { AreConsistent self.new }
         ensures rows { self.new.rows ≡ self.old.rows }
-        ensures nodes { held_nodes self.new ≡ put nat_cmp id (record { kind = kind; target = option_map (λ bytes. bytes.items) target }) (held_nodes self.old) }
+        ensures nodes { held_nodes self.new
+            ≡ put nat_cmp id (record
+            { kind = kind; target = option_map (λ bytes. bytes.items) target })
+            (held_nodes self.old) }
     {
         let standing = Stance {
             above: NodeId::ROOT,
@@ -281,7 +298,8 @@ impl Slots {
         requires new { IfSome made (λ _. IsNew self.old id) }
         ensures kept { AreConsistent self.new }
         ensures rows { self.new.rows ≡ self.old.rows }
-        ensures nodes { held_nodes self.new ≡ with_made id (option_map said_node made) (held_nodes self.old) }
+        ensures nodes { held_nodes self.new ≡ with_made id (option_map said_node made)
+            (held_nodes self.old) }
     {
         if let Some(MadeNode { kind, target }) = made {
             self.add_node(id, kind, target);
@@ -294,7 +312,8 @@ impl Slots {
         requires living { IsSome (slot_of self.old id) }
         ensures kept { AreConsistent self.new }
         ensures rows { self.new.rows ≡ self.old.rows }
-        ensures nodes { held_nodes self.new ≡ where_key nat_cmp (λ other. not (is_eq (nat_cmp id other))) (held_nodes self.old) }
+        ensures nodes { held_nodes self.new
+            ≡ where_key nat_cmp (λ other. not (is_eq (nat_cmp id other))) (held_nodes self.old) }
     {
         let slot = self.numbers.swap_remove(&id).unwrap();
         self.nodes.remove(slot);
@@ -306,7 +325,8 @@ impl Slots {
         requires living { IsSome (node_in self.old id) }
         ensures kept { AreConsistent self.new }
         ensures rows { self.new.rows ≡ self.old.rows }
-        ensures unnamed { (next : ℕ) → held_in_slots self.new next ≡ without_unnamed (held_in_slots self.old next) id }
+        ensures unnamed { (next : ℕ) →
+            held_in_slots self.new next ≡ without_unnamed (held_in_slots self.old next) id }
     {
         if self
             .standing(id)
@@ -362,7 +382,8 @@ impl Slots {
     /// The names in the rows: each once, in the order of their bytes. The only error is that memory
     /// is refused.
     pub(crate) fn names(&self, alloc: Global) -> Result<Vec<Name>, AllocError>
-        ensures { IfOk result (λ all. all.items ≡ distinct_names (map (λ row. row.0.1) (held_rows self.now))) }
+        ensures { IfOk result
+            (λ all. all.items ≡ distinct_names (map (λ row. row.0.1) (held_rows self.now))) }
     {
         let names = self.name_set(alloc)?;
         names.into_iter().copied().collect(alloc)
@@ -370,7 +391,8 @@ impl Slots {
 
     /// The names in the rows, as a set that lends them.
     fn name_set(&self, alloc: Global) -> Result<BTreeSet<&Name>, AllocError>
-        ensures { IfOk result (λ names. map (λ name. name.now) names.keys ≡ distinct_names (map (λ row. row.0.1) (held_rows self.now))) }
+        ensures { IfOk result (λ names. map (λ name. name.now) names.keys
+            ≡ distinct_names (map (λ row. row.0.1) (held_rows self.now))) }
     {
         let mut names = BTreeSet::new(alloc);
         for spot in self.rows.keys().as_slice().iter().rev() {

@@ -23,9 +23,11 @@ impl Model for SpelledByte {
     ghost invariant = { λ a. a.len ≤ 4 };
 }
 
-ghost use Rattle.std.specs.Prelude.{◌≡◌, ◌<◌, ◌≤◌, ◌&&◌, nat_le, ℕ, List, Some, None, length, option_map, IfSome, OnSome, IfOk, IsTrue, MatchOption};
+ghost use Rattle.std.specs.Prelude.{◌≡◌, ◌<◌, ◌≤◌, ◌&&◌, nat_le, ℕ, List, Some, None, length};
+ghost use Rattle.std.specs.Prelude.{option_map, IfSome, OnSome, IfOk, IsTrue, MatchOption};
 ghost use Rattle.std.specs.List.{list_all};
-ghost use Rattle.pua_tree.specs.Spelling.{byte_spelling, escaped_byte, is_octal, is_plain, bytes_spelled, with_front};
+ghost use Rattle.pua_tree.specs.Spelling.{byte_spelling, escaped_byte, is_octal, is_plain};
+ghost use Rattle.pua_tree.specs.Spelling.{bytes_spelled, with_front};
 ghost use Rattle.pua_tree.specs.Writes.{room_after};
 
 impl SpelledByte {
