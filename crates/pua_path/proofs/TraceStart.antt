@@ -14,12 +14,15 @@ use Rattle.pua_path.specs.declared.found.Way.TheVariants.{Top}
 use Rattle.pua_path.specs.declared.traced.PathFault.TheVariants.{NoStart}
 
 -- with any number of links
-begins : (t : Tree) (from : ℕ) (text : List ℕ) (mode : Last) (start most : ℕ) (ps : List Part) (trace : Trace) (v : Bool) → Some start ≡ (if v then None else Some (start_of text from)) →
+begins : (t : Tree) (from : ℕ) (text : List ℕ) (mode : Last) (start most : ℕ) (ps : List Part) (trace : Trace) (v : Bool) →
+    Some start ≡ (if v then None else Some (start_of text from)) →
     trace ≡ trace_parts most t mode start Top ps →
-    ◌≡◌ {A = PathTrace} (if v then fails_in NoStart else as_path_trace (trace_parts most t mode (start_of text from) Top ps)) (as_path_trace trace)
+    ◌≡◌ {A = PathTrace} (if v then fails_in NoStart else as_path_trace (trace_parts most t mode (start_of text from) Top ps))
+    (as_path_trace trace)
 begins t from text mode start most ps trace true s e = cc
 begins t from text mode start most ps trace false s e =
-    let same : start ≡ start_of text from = cc in ap (λ d. as_path_trace (trace_parts most t mode d Top ps)) (sym same) ∙ ap as_path_trace (sym e)
+    let same : start ≡ start_of text from = cc in ap (λ d. as_path_trace (trace_parts most t mode d Top ps)) (sym same) ∙
+    ap as_path_trace (sym e)
 
 -- a walk that was begun with these
 pub record IsBegun (ending : Ending) (text : List ℕ) (start : ℕ) (most : ℕ) (here : ℕ) (way : Way) (ps : List Part) : Type 0 where
@@ -28,8 +31,10 @@ pub record IsBegun (ending : Ending) (text : List ℕ) (start : ℕ) (most : ℕ
   pub no_way : way ≡ Top
   pub all_parts : ps ≡ parts_of ending text
 
-pub trace_begins : (t : Tree) (from : ℕ) (ending : Ending) (text : List ℕ) (mode : Last) (start most : ℕ) (here : ℕ) (way : Way) (ps : List Part) (trace : Trace) →
-    IsBegun ending text start most here way ps → Some start ≡ (if not (is_absolute text) && not (is_dir t from) then None else Some (start_of text from)) →
+pub trace_begins : (t : Tree) (from : ℕ) (ending : Ending) (text : List ℕ) (mode : Last) (start most : ℕ) (here : ℕ) (way : Way)
+    (ps : List Part) (trace : Trace) →
+    IsBegun ending text start most here way ps →
+    Some start ≡ (if not (is_absolute text) && not (is_dir t from) then None else Some (start_of text from)) →
     trace ≡ trace_parts most t mode here way ps → trace_from t from ending text mode ≡ as_path_trace trace
 unfolding trace_from
 trace_begins t from ending text mode start most here way ps trace is s e =
@@ -49,6 +54,7 @@ trace_starts_nowhere t from ending text mode links none s =
     as_failed spots = record { links = spots; outcome = Err NoStart }
 
     by : (most : ℕ) (v : Bool) → ◌≡◌ {A = Option ℕ} None (if v then None else Some (start_of text from)) →
-        ◌≡◌ {A = PathTrace} (if v then fails_in NoStart else as_path_trace (trace_parts most t mode (start_of text from) Top (parts_of ending text))) (fails_in NoStart)
+        ◌≡◌ {A = PathTrace} (if v then fails_in NoStart else as_path_trace
+        (trace_parts most t mode (start_of text from) Top (parts_of ending text))) (fails_in NoStart)
     by most true s = refl
     by most false s = cc

@@ -13,7 +13,8 @@ returns-then-eq-2-clause-exact g c =
     let walk = c.args.self.now in
     let dots : part_of c.args.piece.now ≡ DotDot = search (rules, pieces) in
     rw (c.climb.ensures.above, c.climb.ensures.way, c.climb.ensures.left, c.climb.ensures.rest)
-    (ap (λ part. walk_end_by part t c.args.mode walk) dots ∙ resolve_dotdot t c.args.mode walk.left walk.here (way_of walk.way) walk.rest.parts)
+    (ap (λ part. walk_end_by part t c.args.mode walk) dots ∙
+    resolve_dotdot t c.args.mode walk.left walk.here (way_of walk.way) walk.rest.parts)
 
 pub returns-then-eq-2-clause-traced : goal.returns-then-eq-2-clause-traced
 returns-then-eq-2-clause-traced g c =
@@ -21,4 +22,5 @@ returns-then-eq-2-clause-traced g c =
     let walk = c.args.self.now in
     let dots : part_of c.args.piece.now ≡ DotDot = search (rules, pieces) in
     rw (c.climb.ensures.above, c.climb.ensures.way, c.climb.ensures.left, c.climb.ensures.rest)
-    (ap (λ part. walk_trace_by part t c.args.mode walk) dots ∙ trace_dotdot t c.args.mode walk.left walk.here (way_of walk.way) walk.rest.parts (walk.here, c.args.piece.now))
+    (ap (λ part. walk_trace_by part t c.args.mode walk) dots ∙
+    trace_dotdot t c.args.mode walk.left walk.here (way_of walk.way) walk.rest.parts (walk.here, c.args.piece.now))

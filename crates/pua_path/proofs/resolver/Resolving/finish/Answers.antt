@@ -14,7 +14,8 @@ returns-clause-exact g c =
     let t = g.P.Probe.tree c.args.probe.now in
     ap (whole c.loop-piece.self.left c.loop-piece.self.here) c.way.ensures
     ∙ sym (resolve_end t c.args.mode c.loop-piece.self.left c.loop-piece.self.here (way_of c.loop-piece.self.way))
-    ∙ ap (resolve_parts c.loop-piece.self.left t c.args.mode c.loop-piece.self.here (way_of c.loop-piece.self.way)) (sym c.in_default.ensures.parts.0)
+    ∙ ap (resolve_parts c.loop-piece.self.left t c.args.mode c.loop-piece.self.here (way_of c.loop-piece.self.way))
+    (sym c.in_default.ensures.parts.0)
     ∙ c.loop-piece.invariant.so_far
 
 pub loop-piece-preserved : goal.loop-piece-preserved
