@@ -45,7 +45,9 @@ pub record FollowsLinks {A : Type 0} (answer : ℕ → Result (A × ℕ) Errno) 
 
 -- with up to so many links an answer is ELOOP, or it is got by following a number of links that is its own
 abbrev pub IsDecidedByLinks : {A : Type 0} → (ℕ → Result (A × ℕ) Errno) → ℕ → Type 0
-IsDecidedByLinks {A} answer most = ((links : ℕ) → links ≤ most → answer links ≡ Err ELOOP) ⊎ ((count : ℕ) × ((outcome : Result A Errno) × ((count ≤ most) × FollowsLinks answer count outcome)))
+IsDecidedByLinks {A} answer most =
+    ((links : ℕ) → links ≤ most →
+    answer links ≡ Err ELOOP) ⊎ ((count : ℕ) × ((outcome : Result A Errno) × ((count ≤ most) × FollowsLinks answer count outcome)))
 
 -- what parts name, and how many links are followed, depends on the tree, the directory and the parts alone
 abbrev pub LinksDecide : Type 0
@@ -60,7 +62,8 @@ pub record StepFollows (t : Tree) (dir : ℕ) (part : Part) (count : ℕ) (outco
 -- where a step leads, and how many links it follows, depends on the directory and the part alone
 abbrev pub StepsFollow : Type 0
 StepsFollow = (t : Tree) (dir : ℕ) (part : Part) →
-    ((used : ℕ) → used ≤ most_links → step t dir used part ≡ Err ELOOP) ⊎ ((count : ℕ) × ((outcome : Result ℕ Errno) × StepFollows t dir part count outcome))
+    ((used : ℕ) → used ≤ most_links → step t dir used part ≡ Err ELOOP) ⊎ ((count : ℕ) ×
+    ((outcome : Result ℕ Errno) × StepFollows t dir part count outcome))
 
 -- a last part that follows exactly so many links, and names this or fails with this errno
 pub record LastFollows (t : Tree) (dir : ℕ) (part : Part) (mode : Last) (count : ℕ) (outcome : Result Found Errno) : Type 0 where
@@ -70,14 +73,16 @@ pub record LastFollows (t : Tree) (dir : ℕ) (part : Part) (mode : Last) (count
 -- what a last part names, and how many links it follows, depends on the directory and the part alone
 abbrev pub LastsFollow : Type 0
 LastsFollow = (t : Tree) (dir : ℕ) (part : Part) (mode : Last) →
-    ((used : ℕ) → used ≤ most_links → last t dir used part mode ≡ Err ELOOP) ⊎ ((count : ℕ) × ((outcome : Result Found Errno) × LastFollows t dir part mode count outcome))
+    ((used : ℕ) → used ≤ most_links → last t dir used part mode ≡ Err ELOOP) ⊎ ((count : ℕ) ×
+    ((outcome : Result Found Errno) × LastFollows t dir part mode count outcome))
 
 -- a directory is entered, and nothing else
 abbrev pub dir_entered : ℕ → Found → Result (ℕ × ℕ) Errno
 dir_entered used (Whole dir way) = Ok (dir, used)
 dir_entered used (Slot dir name node) = Err (if is_some node then ENOTDIR else ENOENT)
 
--- a part that follows so many links where none was used before: `last` names what it names, and `step` enters it, while all links are within the limit
+-- a part that follows so many links where none was used before: `last` names what it names, and `step` enters it, while
+-- all links are within the limit
 pub record IsFollowed (t : Tree) (dir used : ℕ) (part : Part) (found : Found) (count : ℕ) : Type 0 where
   pub within : count ≤ most_links
   pub last_within : used + count ≤ most_links → last t dir used part Followed ≡ Ok found
@@ -108,11 +113,15 @@ abbrev pub Lands : Tree → Last → ℕ → Resolved → Type 0
 Lands t mode links (Ok found) = IsOf t mode found.0 × (found.1 ≤ links)
 Lands t mode links (Err errno) = Unit {0}
 
--- what a path names is of the tree, and so is what parts name from a living directory; a step leads to one, with no more links used than may be followed
+-- what a path names is of the tree, and so is what parts name from a living directory; a step leads to one, with no
+-- more links used than may be followed
 pub record ResolutionFits (t : Tree) : Type 0 where
-  pub parts : (links dir : ℕ) (mode : Last) (parts : List Part) → IsTrue (is_dir t dir) → Lands t mode links (resolve_parts links t mode dir Top parts)
-  pub whole : (from : ℕ) (ending : Ending) (text : List ℕ) (mode : Last) (object : Found) → resolution t from ending text mode ≡ Ok object → IsOf t mode object
-  pub last : (dir used : ℕ) (part : Part) (mode : Last) (object : Found) → IsTrue (is_dir t dir) → last t dir used part mode ≡ Ok object → IsOf t mode object
+  pub parts : (links dir : ℕ) (mode : Last) (parts : List Part) → IsTrue (is_dir t dir) →
+      Lands t mode links (resolve_parts links t mode dir Top parts)
+  pub whole : (from : ℕ) (ending : Ending) (text : List ℕ) (mode : Last) (object : Found) → resolution t from ending text mode ≡ Ok object →
+      IsOf t mode object
+  pub last : (dir used : ℕ) (part : Part) (mode : Last) (object : Found) → IsTrue (is_dir t dir) → last t dir used part mode ≡ Ok object →
+      IsOf t mode object
   pub used : (dir used : ℕ) (part : Part) (next : ℕ × ℕ) → step t dir used part ≡ Ok next → next.1 ≤ most_links
   pub step : (dir used : ℕ) (part : Part) (next : ℕ × ℕ) → IsTrue (is_dir t dir) → step t dir used part ≡ Ok next → IsTrue (is_dir t next.0)
 

@@ -1,5 +1,6 @@
 -- The start and the parts of a path text, and its faults.
-use Rattle.std.specs.Prelude.{ℕ, Bool, false, not, if◌then◌else◌, List, [], ◌∷◌, ◌++◌, length, map, nat_lt, ◌==◌, Option, Some, None, option_map}
+use Rattle.std.specs.Prelude.{ℕ, Bool, false, not, if◌then◌else◌, List, [], ◌∷◌, ◌++◌, length, map, nat_lt, ◌==◌, Option, Some, None}
+use Rattle.std.specs.Prelude.{option_map}
 use Rattle.pua_tree.specs.Names.{same_bytes, has_byte, components, has_short_components}
 use Rattle.pua_path.specs.Limits.{most_path}
 use Rattle.pua_path.specs.declared.errno.Errno.{Errno}

@@ -1,5 +1,6 @@
 -- What a path names in a tree.
-use Rattle.std.specs.Prelude.{ℕ, zero, suc, ◌-◌, Bool, true, false, not, ◌&&◌, if◌then◌else◌, List, [], ◌∷◌, ◌++◌, Option, Some, None, Result, Ok, Err, unwrap_or}
+use Rattle.std.specs.Prelude.{ℕ, zero, suc, ◌-◌, Bool, true, false, not, ◌&&◌, if◌then◌else◌, List, [], ◌∷◌, ◌++◌, Option, Some, None}
+use Rattle.std.specs.Prelude.{Result, Ok, Err, unwrap_or}
 use Rattle.pua_tree.specs.Tree.{Tree, Node, look, node_at, is_dir, above}
 use Rattle.pua_tree.specs.Steps.{◌>>=◌}
 pub use Rattle.pua_path.specs.Limits.{most_links}
@@ -77,7 +78,8 @@ start_of text dir = if is_absolute text then 0 else dir
 abbrev pub resolve_parts : ℕ → Tree → Last → ℕ → Way → List Part → Resolved
 resolve_parts zero t mode dir way parts = walk t mode 0 (λ from target rest. Err ELOOP) dir way parts
 resolve_parts (suc links) t mode dir way parts =
-    walk t mode (suc links) (λ from target rest. resolve_parts links t mode (start_of target from) Top (parts_of ending.Dot target ++ rest)) dir way parts
+    walk t mode (suc links) (λ from target rest. resolve_parts links t mode (start_of target from) Top (parts_of ending.Dot target ++ rest))
+    dir way parts
 
 -- what a text without fault names from a directory, which a relative text needs to be there
 abbrev pub resolution : Tree → ℕ → Ending → List ℕ → Last → Result Found Errno

@@ -66,7 +66,9 @@ walk_traced t mode links follow dir way (parts.Name name ∷ rest) = elim (stand
 abbrev pub trace_parts : ℕ → Tree → Last → ℕ → Way → List Part → Trace
 trace_parts zero t mode dir way parts = walk_traced t mode 0 (λ spot target rest. at_once (Err (LinkBeyond spot))) dir way parts
 trace_parts (suc links) t mode dir way parts =
-    walk_traced t mode (suc links) (λ spot target rest. after_links (spot ∷ []) (trace_parts links t mode (start_of target spot.0) Top (parts_of ending.Dot target ++ rest))) dir way parts
+    walk_traced t mode (suc links)
+    (λ spot target rest. after_links (spot ∷ []) (trace_parts links t mode (start_of target spot.0) Top (parts_of ending.Dot target
+    ++ rest))) dir way parts
 
 -- the outcome, by its errno
 abbrev pub resolved_as : Result (Found × ℕ) Stop → Resolved

@@ -1,5 +1,6 @@
 -- A resolution on its way: what stands at a name, and how one part leads on to the next.
-use Rattle.std.specs.Prelude.{◌≡◌, nat_lt, ℕ, ◌+◌, ◌*◌, ◌≤◌, Bool, if◌then◌else◌, List, [], ◌∷◌, length, Option, Some, None, Result, Ok, Err, IsTrue}
+use Rattle.std.specs.Prelude.{◌≡◌, nat_lt, ℕ, ◌+◌, ◌*◌, ◌≤◌, Bool, if◌then◌else◌, List, [], ◌∷◌, length, Option, Some, None, Result, Ok}
+use Rattle.std.specs.Prelude.{Err, IsTrue}
 use Rattle.pua_tree.specs.Names.{is_name}
 use Rattle.pua_tree.specs.Tree.{Tree, Spot, WellFormed, is_dir}
 use Rattle.pua_path.specs.Limits.{most_links}
@@ -113,7 +114,8 @@ LeadsOn t mode part old answer new = walk_end_by part t mode old ≡ goes_on (al
 -- and its trace so, where these bytes are the part's name
 abbrev pub TracesOn : Tree → Last → Part → List ℕ → Resolving → Result (Option LentFound) Errno → Resolving → Type 0
 TracesOn t mode part name old answer new =
-    walk_trace_by part t mode old ≡ traced_on (old.here, name) (nat_lt new.left old.left) (all_found answer) new.left (walk_trace t mode new)
+    walk_trace_by part t mode old ≡ traced_on (old.here, name) (nat_lt new.left old.left) (all_found answer) new.left
+    (walk_trace t mode new)
 
 -- the parts that are left, and those that links can still add
 abbrev pub potential : Tree → ℕ → Remaining → ℕ

@@ -25,9 +25,11 @@ impl<'a> Model for Rest<'a> {
 
     ghost Value = { Remaining };
 
-    ghost view = { λ a. record { parts = rest_parts a.top.now ++ pending_parts (take a.depth a.below); depth = a.depth } };
+    ghost view = { λ a. record
+        { parts = rest_parts a.top.now ++ pending_parts (take a.depth a.below); depth = a.depth } };
 
-    ghost invariant = { λ a. (a.depth ≤ most_links) × IsTrue (is_stack a.top.now (take a.depth a.below)) };
+    ghost invariant = { λ a. (a.depth ≤ most_links) ×
+        IsTrue (is_stack a.top.now (take a.depth a.below)) };
 }
 
 ghost use Rattle.std.specs.Prelude.{◌≡◌, ◌≤◌, ◌<◌, ◌+◌, [], ◌∷◌, ◌++◌};

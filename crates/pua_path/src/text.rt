@@ -44,7 +44,8 @@ impl<'a> PathText<'a> {
     /// before any look-up, are this profile's).
     pub fn read(bytes: &'a [u8], ending: Ending) -> Result<PathText<'a>, Errno>
         ensures { MatchResult result
-            (λ text. (path_fault bytes.now ≡ None) × (text ≡ record { bytes = bytes.now; ending = ending }))
+            (λ text. (path_fault bytes.now ≡ None) ×
+            (text ≡ record { bytes = bytes.now; ending = ending }))
             (λ errno. path_fault bytes.now ≡ Some errno) }
     {
         match text_fault(bytes) {
