@@ -25,7 +25,8 @@ module _ {A : Type 0} (member : A → Option ℕ) where
   with_rest items set n = union_or_fault set (union_of (map member (drop n items)))
 
   -- an item that is known is taken in
-  pub with_rest-known : (items : List A) (set bits n : ℕ) (item default : A) → (n < length items) × (item ≡ get_or items n default) → member item ≡ Some bits →
+  pub with_rest-known : (items : List A) (set bits n : ℕ) (item default : A) → (n < length items) × (item ≡ get_or items n default) →
+      member item ≡ Some bits →
       with_rest items set n ≡ with_rest items (bit_or set bits) (n + 1)
   with_rest-known items set bits n item default at e =
       at_drop_more (λ rest. union_or_fault set (union_of (map member rest))) items n default at.0
@@ -34,7 +35,8 @@ module _ {A : Type 0} (member : A → Option ℕ) where
       ∙ joined_assoc set bits (union_of (map member (drop (n + 1) items)))
 
   -- one that is unknown refuses all
-  pub with_rest-unknown : (items : List A) (set n : ℕ) (item default : A) → (n < length items) × (item ≡ get_or items n default) → member item ≡ None →
+  pub with_rest-unknown : (items : List A) (set n : ℕ) (item default : A) → (n < length items) × (item ≡ get_or items n default) →
+      member item ≡ None →
       with_rest items set n ≡ Err EINVAL
   with_rest-unknown items set n item default at e =
       at_drop_more (λ rest. union_or_fault set (union_of (map member rest))) items n default at.0

@@ -38,7 +38,37 @@ unfolding toml_on_literals chars is_utf8
 openbsd_rows = record {
   kept = record {
     fourteen = refl;
-    rules = (((lit< tt, refl), tt), (((lit< tt, refl), tt), (((lit< tt, refl), tt), (((lit< tt, refl), tt), (((lit< tt, refl), tt), (((lit< tt, refl), tt), (((lit< tt, refl), tt), (((lit< tt, refl), tt), (((lit< tt, refl), tt), (((lit< tt, refl), tt), (((lit< tt, refl), tt), (((lit< tt, refl), tt), (((lit< tt, refl), tt), (((lit< tt, refl), tt), tt))))))))))))));
+    rules = (
+      ((lit< tt, refl), tt),
+      (
+        ((lit< tt, refl), tt),
+        (
+          ((lit< tt, refl), tt),
+          (
+            ((lit< tt, refl), tt),
+            (
+              ((lit< tt, refl), tt),
+              (
+                ((lit< tt, refl), tt),
+                (
+                  ((lit< tt, refl), tt),
+                  (
+                    ((lit< tt, refl), tt),
+                    (
+                      ((lit< tt, refl), tt),
+                      (
+                        ((lit< tt, refl), tt),
+                        (((lit< tt, refl), tt), (((lit< tt, refl), tt), (((lit< tt, refl), tt), (((lit< tt, refl), tt), tt)))),
+                      ),
+                    ),
+                  ),
+                ),
+              ),
+            ),
+          ),
+        ),
+      ),
+    );
     rename = (((lit< tt, refl), tt), ((lit< tt, refl), tt));
     link = (((lit< tt, refl), tt), ((lit< tt, refl), tt));
   };

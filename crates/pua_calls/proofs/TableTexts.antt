@@ -27,13 +27,15 @@ module _ (t : CallTable) (key : List ℕ) (value : Data) (rest : Members) where
   abbrev put : Call → Rule → Result CallTable TableFault
   put call rule = rules_with (with_rule t call rule) rest
 
-  named_as : (found : Option Call) → call_named key ≡ found → rules_with t (member key value rest) ≡ (ok_or found BadKey >>= λ call. rule_in call value >>= put call)
+  named_as : (found : Option Call) → call_named key ≡ found →
+      rules_with t (member key value rest) ≡ (ok_or found BadKey >>= λ call. rule_in call value >>= put call)
   named_as found named = λ i. ok_or (named i) BadKey >>= λ call. rule_in call value >>= put call
 
   pub unnamed : call_named key ≡ None → rules_with t (member key value rest) ≡ Err BadKey
   unnamed none = named_as None none
 
-  pub one_row : (call : Call) (rule : Rule) → call_named key ≡ Some call → rule_in call value ≡ Ok rule → rules_with t (member key value rest) ≡ put call rule
+  pub one_row : (call : Call) (rule : Rule) → call_named key ≡ Some call → rule_in call value ≡ Ok rule →
+      rules_with t (member key value rest) ≡ put call rule
   one_row call rule named is = named_as (Some call) named ∙ (λ i. is i >>= put call)
 
 -- as many items as values

@@ -1,5 +1,6 @@
 -- Sets of promises and of permissions as numbers, a bit for each member, and how they are read.
-use Rattle.std.specs.Prelude.{ℕ, map, ◌*◌, ◌++◌, if◌then◌else◌, ◌-◌, ◌^◌, Bool, List, [], ◌∷◌, ◌==◌, Option, Some, None, Result, Ok, Err, codes, bit_and, bit_or, bit_xor, filter, find, not, position, option_map, slice_get}
+use Rattle.std.specs.Prelude.{ℕ, map, ◌*◌, ◌++◌, if◌then◌else◌, ◌-◌, ◌^◌, Bool, List, [], ◌∷◌, ◌==◌, Option, Some, None, Result, Ok, Err}
+use Rattle.std.specs.Prelude.{codes, bit_and, bit_or, bit_xor, filter, find, not, position, option_map, slice_get}
 use Rattle.std.specs.List.{slice_split}
 use Rattle.pua_tree.specs.Names.{same_bytes}
 use Rattle.pua_path.specs.declared.errno.Errno.{Errno}
@@ -15,9 +16,12 @@ lacking set wanted = bit_xor wanted (bit_and wanted set)
 
 -- the keywords of pledge, the first at bit 0
 abbrev pub keywords : List (List ℕ)
-keywords = codes "audio" ∷ codes "bpf" ∷ codes "chown" ∷ codes "cpath" ∷ codes "disklabel" ∷ codes "dns" ∷ codes "dpath" ∷ codes "drm" ∷ codes "error" ∷ codes "exec" ∷ codes "fattr" ∷ codes "flock"
-    ∷ codes "getpw" ∷ codes "id" ∷ codes "inet" ∷ codes "mcast" ∷ codes "pf" ∷ codes "proc" ∷ codes "prot_exec" ∷ codes "ps" ∷ codes "recvfd" ∷ codes "route" ∷ codes "rpath" ∷ codes "sendfd"
-    ∷ codes "settime" ∷ codes "stdio" ∷ codes "tape" ∷ codes "tmppath" ∷ codes "tty" ∷ codes "unix" ∷ codes "unveil" ∷ codes "video" ∷ codes "vminfo" ∷ codes "vmm" ∷ codes "wpath" ∷ codes "wroute" ∷ []
+keywords = codes "audio" ∷ codes "bpf" ∷ codes "chown" ∷ codes "cpath" ∷ codes "disklabel" ∷ codes "dns" ∷ codes "dpath" ∷ codes "drm"
+    ∷ codes "error" ∷ codes "exec" ∷ codes "fattr" ∷ codes "flock"
+    ∷ codes "getpw" ∷ codes "id" ∷ codes "inet" ∷ codes "mcast" ∷ codes "pf" ∷ codes "proc" ∷ codes "prot_exec" ∷ codes "ps"
+    ∷ codes "recvfd" ∷ codes "route" ∷ codes "rpath" ∷ codes "sendfd"
+    ∷ codes "settime" ∷ codes "stdio" ∷ codes "tape" ∷ codes "tmppath" ∷ codes "tty" ∷ codes "unix" ∷ codes "unveil" ∷ codes "video"
+    ∷ codes "vminfo" ∷ codes "vmm" ∷ codes "wpath" ∷ codes "wroute" ∷ []
 
 abbrev pub no_promises : ℕ
 no_promises = 0

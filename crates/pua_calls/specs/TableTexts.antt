@@ -1,5 +1,6 @@
 -- The table of calls that a TOML text gives, or its first fault.
-use Rattle.std.specs.Prelude.{ℕ, suc, ◌-◌, ◌==◌, Bool, true, ◌&&◌, if◌then◌else◌, List, [], ◌∷◌, nat_le, Option, Some, None, Result, Ok, Err, codes, is_some, ok_or, option_and_then, option_map, slice_set}
+use Rattle.std.specs.Prelude.{ℕ, suc, ◌-◌, ◌==◌, Bool, true, ◌&&◌, if◌then◌else◌, List, [], ◌∷◌, nat_le, Option, Some, None, Result, Ok}
+use Rattle.std.specs.Prelude.{Err, codes, is_some, ok_or, option_and_then, option_map, slice_set}
 use Rattle.std.specs.Str.{is_utf8}
 use Rattle.toml.specs.Data.{Data, as_str, as_array, as_table, Items, no_items, item, Members, no_members, member, is_before, get_member}
 use Rattle.toml.specs.Parse.{parse_document}
@@ -32,12 +33,14 @@ member_count (member _ _ members) = suc (member_count members)
 abbrev pub values_of : Members → Option (Data × Data)
 values_of members =
     if member_count members == 2
-    then option_and_then (λ promises. option_map (λ veil. (promises, veil)) (get_member (codes "veil") members)) (get_member (codes "promises") members)
+    then option_and_then (λ promises. option_map (λ veil. (promises, veil)) (get_member (codes "veil") members))
+    (get_member (codes "promises") members)
     else None
 
 abbrev pub row_parts : Data × Data → Option (Items × List ℕ)
 row_parts values =
-    option_and_then (λ items. option_and_then (λ veil. if are_alternatives items then Some (items, veil) else None) (as_str values.1)) (as_array values.0)
+    option_and_then (λ items. option_and_then (λ veil. if are_alternatives items then Some (items, veil) else None) (as_str values.1))
+    (as_array values.0)
 
 -- the promises and the veil of a table with exactly these two keys
 abbrev pub row_of : Data → Option (Items × List ℕ)

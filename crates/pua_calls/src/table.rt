@@ -59,7 +59,8 @@ impl Model for CallTable {
 
     ghost Value = { Table };
 
-    ghost view = { λ a. record { rules = a.rows; rename = a.rename; link = a.link; execpromises = a.execpromises } };
+    ghost view = { λ a. record
+        { rules = a.rows; rename = a.rename; link = a.link; execpromises = a.execpromises } };
 
     ghost invariant = { λ a. IsCallTable (record {
       rules = a.rows;
@@ -77,7 +78,8 @@ impl Model for CallTable {
 }
 
 ghost use Rattle.std.specs.Prelude.{◌≡◌, ◌<◌, [], ◌∷◌, ◌++◌, length};
-ghost use Rattle.pua_calls.specs.Calls.{standard_rule, standard_table, openbsd_table, table_by_rules, rule_of};
+ghost use Rattle.pua_calls.specs.Calls.{standard_rule, standard_table, openbsd_table};
+ghost use Rattle.pua_calls.specs.Calls.{table_by_rules, rule_of};
 ghost use Rattle.pua_calls.specs.Tables.{NeedsNoError, NoCallNeedsError, most_alternatives};
 ghost use Rattle.pua_calls.specs.TableTexts.{with_rule};
 

@@ -23,7 +23,8 @@ first_covers : (kept_at : Place → Option ℕ) (places : List Place) → cover_
 first_covers kept_at [] = refl
 first_covers kept_at (p ∷ ps) = by (kept_at p) (first_covers kept_at ps)
   where
-    by : (o : Option ℕ) → cover_of (first_kept kept_at ps) ≡ nearest (map kept_at ps) → cover_of (kept_or p o (first_kept kept_at ps)) ≡ nearest (o ∷ map kept_at ps)
+    by : (o : Option ℕ) → cover_of (first_kept kept_at ps) ≡ nearest (map kept_at ps) →
+        cover_of (kept_or p o (first_kept kept_at ps)) ≡ nearest (o ∷ map kept_at ps)
     by (Some perms) e = refl
     by None e = e
 
@@ -36,17 +37,21 @@ pub coverings_cover : (t : Tree) (h : History) (object : Found) → cover_of (co
 coverings_cover t h object = by (list_any is_unveil h)
   where
     by : (v : Bool) → cover_of (if v then first_kept (perms_kept h) (places_over t object) else InView)
-        ≡ (if v then nearest (perms_kept h (place_of object) ∷ map (λ dir. perms_kept h (place.Dir dir)) (directories_over t object)) else All)
-    by true = first_covers (perms_kept h) (places_over t object) ∙ ap (λ more. nearest (perms_kept h (place_of object) ∷ more)) (at_dirs (perms_kept h) (directories_over t object))
+        ≡ (if v then nearest (perms_kept h (place_of object) ∷ map (λ dir. perms_kept h (place.Dir dir)) (directories_over t object)) else
+        All)
+    by true = first_covers (perms_kept h) (places_over t object) ∙
+        ap (λ more. nearest (perms_kept h (place_of object) ∷ more)) (at_dirs (perms_kept h) (directories_over t object))
     by false = refl
 
 -- the first of some directories is the first of their places
-first_over : (kept_at : Place → Option ℕ) (ds : List ℕ) → first_kept kept_at (map place.Dir ds) ≡ covering_at (first_veiled (λ dir. kept_at (place.Dir dir)) ds)
+first_over : (kept_at : Place → Option ℕ) (ds : List ℕ) →
+    first_kept kept_at (map place.Dir ds) ≡ covering_at (first_veiled (λ dir. kept_at (place.Dir dir)) ds)
 first_over kept_at [] = refl
 first_over kept_at (d ∷ ds) = by (kept_at (place.Dir d)) (first_over kept_at ds)
   where
     by : (o : Option ℕ) → first_kept kept_at (map place.Dir ds) ≡ covering_at (first_veiled (λ dir. kept_at (place.Dir dir)) ds) →
-        kept_or (place.Dir d) o (first_kept kept_at (map place.Dir ds)) ≡ covering_at (or_farther d o (first_veiled (λ dir. kept_at (place.Dir dir)) ds))
+        kept_or (place.Dir d) o (first_kept kept_at (map place.Dir ds))
+        ≡ covering_at (or_farther d o (first_veiled (λ dir. kept_at (place.Dir dir)) ds))
     by (Some perms) e = refl
     by None e = e
 
@@ -55,7 +60,8 @@ abbrev covering_with : Bool → (Place → Option ℕ) → Tree → Found → Co
 covering_with any kept_at t object = if any then first_kept kept_at (places_over t object) else InView
 
 module _ (p : ProcessState) (h : History) (s : StandsFor p h) (t : Tree) where
-  by_veil : (object : Found) (veiled : Bool) → has_veil p.veils ≡ veiled → covering t h object ≡ covering_with veiled (veil_at p.veils) t object
+  by_veil : (object : Found) (veiled : Bool) → has_veil p.veils ≡ veiled →
+      covering t h object ≡ covering_with veiled (veil_at p.veils) t object
   by_veil object veiled e = λ i. covering_with ((any_veil h ∙ ap has_veil (sym s.veils) ∙ e) i) (λ place. kept_by p h s place i) t object
 
   -- without a veil everything is in view
@@ -71,13 +77,16 @@ module _ (p : ProcessState) (h : History) (s : StandsFor p h) (t : Tree) where
         ∙ ap covering_at (veiled_whole t fits (λ dir. veil_at p.veils (place.Dir dir)) dir e)
 
     -- a name is covered by what is kept at it
-    pub covering-own : (dir : ℕ) (name : List ℕ) (node : Option ℕ) (perms : ℕ) → veil_at p.veils (place.Slot dir name) ≡ Some perms → covering t h (Slot dir name node) ≡ By (place.Slot dir name) perms
+    pub covering-own : (dir : ℕ) (name : List ℕ) (node : Option ℕ) (perms : ℕ) → veil_at p.veils (place.Slot dir name) ≡ Some perms →
+        covering t h (Slot dir name node) ≡ By (place.Slot dir name) perms
     covering-own dir name node perms e =
-        by_veil (Slot dir name node) true veiled ∙ ap (λ o. kept_or (place.Slot dir name) o (first_kept (veil_at p.veils) (map place.Dir (climb t dir)))) e
+        by_veil (Slot dir name node) true veiled ∙
+        ap (λ o. kept_or (place.Slot dir name) o (first_kept (veil_at p.veils) (map place.Dir (climb t dir)))) e
 
     -- and else by the first veil from its directory up
     pub covering-beneath : (dir : ℕ) (name : List ℕ) (node : Option ℕ) → veil_at p.veils (place.Slot dir name) ≡ None →
         covering t h (Slot dir name node) ≡ covering_at (first_veiled (λ dir. veil_at p.veils (place.Dir dir)) (climb t dir))
     covering-beneath dir name node e =
-        by_veil (Slot dir name node) true veiled ∙ ap (λ o. kept_or (place.Slot dir name) o (first_kept (veil_at p.veils) (map place.Dir (climb t dir)))) e
+        by_veil (Slot dir name node) true veiled ∙
+        ap (λ o. kept_or (place.Slot dir name) o (first_kept (veil_at p.veils) (map place.Dir (climb t dir)))) e
         ∙ first_over (veil_at p.veils) (climb t dir)

@@ -28,14 +28,18 @@ module _ (p : ProcessState) (h : History) (s : StandsFor p h) (t : Tree) where
 
   module _ (veiled : has_veil p.veils ≡ true) where
     -- a directory has what is nearest from itself up
-    pub cover-whole : WellFormed t → (dir : ℕ) (way : Way) → is_dir t dir ≡ true → cover t h (Whole dir way) ≡ nearest (map (λ dir. veil_at p.veils (place.Dir dir)) (climb t dir))
+    pub cover-whole : WellFormed t → (dir : ℕ) (way : Way) → is_dir t dir ≡ true →
+        cover t h (Whole dir way) ≡ nearest (map (λ dir. veil_at p.veils (place.Dir dir)) (climb t dir))
     cover-whole fits dir way e = by_veil (Whole dir way) true veiled ∙ nearest_whole t fits (λ dir. veil_at p.veils (place.Dir dir)) dir e
 
     -- a name has what is kept at it
-    pub cover-own : (dir : ℕ) (name : List ℕ) (node : Option ℕ) (perms : ℕ) → veil_at p.veils (place.Slot dir name) ≡ Some perms → cover t h (Slot dir name node) ≡ Only perms
-    cover-own dir name node perms e = by_veil (Slot dir name node) true veiled ∙ ap (λ o. nearest (o ∷ map (λ dir. veil_at p.veils (place.Dir dir)) (climb t dir))) e
+    pub cover-own : (dir : ℕ) (name : List ℕ) (node : Option ℕ) (perms : ℕ) → veil_at p.veils (place.Slot dir name) ≡ Some perms →
+        cover t h (Slot dir name node) ≡ Only perms
+    cover-own dir name node perms e = by_veil (Slot dir name node) true veiled ∙
+        ap (λ o. nearest (o ∷ map (λ dir. veil_at p.veils (place.Dir dir)) (climb t dir))) e
 
     -- and else what is nearest from its directory up
     pub cover-beneath : (dir : ℕ) (name : List ℕ) (node : Option ℕ) → veil_at p.veils (place.Slot dir name) ≡ None →
         cover t h (Slot dir name node) ≡ nearest (map (λ dir. veil_at p.veils (place.Dir dir)) (climb t dir))
-    cover-beneath dir name node e = by_veil (Slot dir name node) true veiled ∙ ap (λ o. nearest (o ∷ map (λ dir. veil_at p.veils (place.Dir dir)) (climb t dir))) e
+    cover-beneath dir name node e = by_veil (Slot dir name node) true veiled ∙
+        ap (λ o. nearest (o ∷ map (λ dir. veil_at p.veils (place.Dir dir)) (climb t dir))) e

@@ -25,26 +25,33 @@ module _ (t : Tree) (h : History) (fits : WellFormed t) (sound : Sound t) where
   root_cover : (o : Option ℕ) → kept_in 0 ≡ o → cover_in t h 0 ≡ own_or o (if list_any is_unveil h then Nothing else All)
   root_cover None e = ap (if_any (list_any is_unveil h)) (nearest_root t fits kept_in e)
   root_cover (Some perms) e =
-      ap (λ b. if_any b (nearest (map kept_in (climb t 0)))) (unveil_from_kept h (place.Dir 0) perms e) ∙ nearest_here t fits kept_in 0 perms fits.root e
+      ap (λ b. if_any b (nearest (map kept_in (climb t 0)))) (unveil_from_kept h (place.Dir 0) perms e) ∙
+      nearest_here t fits kept_in 0 perms fits.root e
 
-  below_cover : (dir : ℕ) (name : List ℕ) (x : ℕ) → look t dir name ≡ Some x → is_dir t x ≡ true → (o : Option ℕ) → kept_in x ≡ o → cover_in t h x ≡ own_or o (cover_in t h dir)
+  below_cover : (dir : ℕ) (name : List ℕ) (x : ℕ) → look t dir name ≡ Some x → is_dir t x ≡ true → (o : Option ℕ) → kept_in x ≡ o →
+      cover_in t h x ≡ own_or o (cover_in t h dir)
   below_cover dir name x row living None e =
       let other : x ≢ 0 = (row_says t sound (dir, name) x row).3 in
       let over : above t x ≡ dir = above_is t x (dir, name) other (sound.once x living other) row in
       ap (if_any (list_any is_unveil h)) (nearest_above t fits kept_in x other living e ∙ ap (λ d. nearest (map kept_in (climb t d))) over)
   below_cover dir name x row living (Some perms) e =
-      ap (λ b. if_any b (nearest (map kept_in (climb t x)))) (unveil_from_kept h (place.Dir x) perms e) ∙ nearest_here t fits kept_in x perms living e
+      ap (λ b. if_any b (nearest (map kept_in (climb t x)))) (unveil_from_kept h (place.Dir x) perms e) ∙
+      nearest_here t fits kept_in x perms living e
 
   over_cover : (dir : ℕ) → is_dir t dir ≡ true → (o : Option ℕ) → kept_in dir ≡ o → cover_in t h dir ≡ own_or o (cover_in t h (above t dir))
   over_cover dir living None e =
-      ap (if_any (list_any is_unveil h)) (sym (nearest_whole t fits kept_in dir living) ∙ ap (λ k. nearest (k ∷ map kept_in (climb t (above t dir)))) e)
+      ap (if_any (list_any is_unveil h)) (sym (nearest_whole t fits kept_in dir living) ∙
+      ap (λ k. nearest (k ∷ map kept_in (climb t (above t dir)))) e)
   over_cover dir living (Some perms) e =
-      ap (λ b. if_any b (nearest (map kept_in (climb t dir)))) (unveil_from_kept h (place.Dir dir) perms e) ∙ nearest_here t fits kept_in dir perms living e
+      ap (λ b. if_any b (nearest (map kept_in (climb t dir)))) (unveil_from_kept h (place.Dir dir) perms e) ∙
+      nearest_here t fits kept_in dir perms living e
 
-  name_cover : (dir : ℕ) (name : List ℕ) (node : Option ℕ) (o : Option ℕ) → perms_kept h (place.Slot dir name) ≡ o → cover t h (Slot dir name node) ≡ own_or o (cover_in t h dir)
+  name_cover : (dir : ℕ) (name : List ℕ) (node : Option ℕ) (o : Option ℕ) → perms_kept h (place.Slot dir name) ≡ o →
+      cover t h (Slot dir name node) ≡ own_or o (cover_in t h dir)
   name_cover dir name there None e = ap (λ k. if_any (list_any is_unveil h) (nearest (k ∷ map kept_in (climb t dir)))) e
   name_cover dir name there (Some perms) e =
-      ap (λ b. if_any b (nearest (perms_kept h (place.Slot dir name) ∷ map kept_in (climb t dir)))) (unveil_from_kept h (place.Slot dir name) perms e)
+      ap (λ b. if_any b (nearest (perms_kept h (place.Slot dir name) ∷ map kept_in (climb t dir))))
+      (unveil_from_kept h (place.Slot dir name) perms e)
       ∙ ap (λ k. nearest (k ∷ map kept_in (climb t dir))) e
 
 pub covers_descend : CoversDescend

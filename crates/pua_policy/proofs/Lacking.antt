@@ -1,5 +1,6 @@
 -- What a set lacks of another, and what is told of promises.
-use Rattle.std.proofs.Common.{◌≡◌, ℕ, ◌+◌, ◌%◌, ◌<◌, Bool, true, false, List, [], ◌∷◌, map, Some, None, refl, sym, ap, ◌∙◌, arith, Option, min, max}
+use Rattle.std.proofs.Common.{◌≡◌, ℕ, ◌+◌, ◌%◌, ◌<◌, Bool, true, false, List, [], ◌∷◌, map, Some, None, refl, sym, ap, ◌∙◌, arith, Option}
+use Rattle.std.proofs.Common.{min, max}
 use Rattle.std.specs.Prelude.{if◌then◌else◌, bit_and, bit_or, ◌||◌, is_some, find}
 use Rattle.std.specs.List.{list_any}
 use Rattle.std.specs.Int.{bit_at}
@@ -46,7 +47,8 @@ none_found : (h : History) (sets : List ℕ) → find (holds (held_set h)) sets 
 none_found h [] e = tt
 none_found h (set ∷ sets) e = by (holds (held_set h) set) refl e (none_found h sets)
   where
-    by : (v : Bool) → holds (held_set h) set ≡ v → (if v then Some set else find (holds (held_set h)) sets) ≡ None → (find (holds (held_set h)) sets ≡ None → LackSome h sets (map (lacking (held_set h)) sets)) →
+    by : (v : Bool) → holds (held_set h) set ≡ v → (if v then Some set else find (holds (held_set h)) sets) ≡ None →
+        (find (holds (held_set h)) sets ≡ None → LackSome h sets (map (lacking (held_set h)) sets)) →
         LackSome h (set ∷ sets) (lacking (held_set h) set ∷ map (lacking (held_set h)) sets)
     by true is e more = cc
     by false is e more = (record { not_held = is; were_held = eq-eqb _ _ (suffices (held_set h) set); of_it = refl }, more e)
@@ -55,7 +57,8 @@ some_found : (test : ℕ → Bool) (sets : List ℕ) (set : ℕ) → find test s
 some_found test [] set e = cc
 some_found test (x ∷ sets) set e = by (test x) refl e (some_found test sets set)
   where
-    by : (v : Bool) → test x ≡ v → (if v then Some x else find test sets) ≡ Some set → (find test sets ≡ Some set → test set ≡ true) → test set ≡ true
+    by : (v : Bool) → test x ≡ v → (if v then Some x else find test sets) ≡ Some set → (find test sets ≡ Some set → test set ≡ true) →
+        test set ≡ true
     by true is e more = let same : x ≡ set = cc in ap test (sym same) ∙ is
     by false is e more = more e
 
@@ -73,15 +76,19 @@ any_found : (test : ℕ → Bool) (sets : List ℕ) → is_some (find test sets)
 any_found test [] = refl
 any_found test (set ∷ sets) = by (test set) (any_found test sets)
   where
-    by : (v : Bool) → is_some (find test sets) ≡ list_any test sets → is_some (if v then Some set else find test sets) ≡ (v || list_any test sets)
+    by : (v : Bool) → is_some (find test sets) ≡ list_any test sets →
+        is_some (if v then Some set else find test sets) ≡ (v || list_any test sets)
     by true h = refl
     by false h = h
 
 pub promisings_answer : PromisingsAnswer
-promisings_answer h sets = by (is_ended h) (find (holds (held_set h)) sets) (list_any (holds (held_set h)) sets) (has_error h) (any_found (holds (held_set h)) sets)
+promisings_answer h sets =
+    by (is_ended h) (find (holds (held_set h)) sets) (list_any (holds (held_set h)) sets) (has_error h)
+    (any_found (holds (held_set h)) sets)
   where
     by : (ended : Bool) (found : Option ℕ) (any error : Bool) → is_some found ≡ any →
-        may_of (if ended then HasEnded else holds_or found (Lacks error (map (lacking (held_set h)) sets))) ≡ (if ended then may.Death else (if any then may.Yes else (if error then may.Enosys else may.Death)))
+        may_of (if ended then HasEnded else holds_or found (Lacks error (map (lacking (held_set h)) sets)))
+        ≡ (if ended then may.Death else (if any then may.Yes else (if error then may.Enosys else may.Death)))
     by true found any error e = refl
     by false (Some set) true error e = refl
     by false (Some set) false error e = cc

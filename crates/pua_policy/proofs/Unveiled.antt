@@ -7,7 +7,8 @@ use Rattle.pua_path.specs.declared.found.Way.{Way}
 use Rattle.pua_path.specs.declared.found.Found.TheVariants.{Whole, Slot}
 use Rattle.pua_calls.specs.Calls.{CallTable, rule_of}
 use Rattle.pua_policy.specs.History.{History, perms_kept, may_any}
-use Rattle.pua_policy.specs.Verdict.{cover, cover_fault, nearest, is_unveil, object_fault, IsMissing, or_fault, allowed_unless, if_promised, verdict}
+use Rattle.pua_policy.specs.Verdict.{cover, cover_fault, nearest, is_unveil, object_fault, IsMissing, or_fault, allowed_unless, if_promised}
+use Rattle.pua_policy.specs.Verdict.{verdict}
 use Rattle.pua_calls.specs.declared.call.Call.{Call}
 use Rattle.pua_policy.specs.declared.place.Place.TheVariants as place
 use Rattle.pua_policy.specs.declared.answer.Cover.{Cover}
@@ -20,18 +21,23 @@ module _ (t : Tree) (h : History) (dir : ℕ) where
   by_own own = if list_any is_unveil h then nearest (own ∷ map (λ d. perms_kept h (place.Dir d)) (climb t dir)) else All
 
   -- names without a veil of their own have one cover, whatever stands there
-  pub unveiled_alike : (name other : List ℕ) (here there : Option ℕ) → perms_kept h (place.Slot dir name) ≡ None → perms_kept h (place.Slot dir other) ≡ None → cover t h (Slot dir name here) ≡ cover t h (Slot dir other there)
+  pub unveiled_alike : (name other : List ℕ) (here there : Option ℕ) → perms_kept h (place.Slot dir name) ≡ None →
+      perms_kept h (place.Slot dir other) ≡ None → cover t h (Slot dir name here) ≡ cover t h (Slot dir other there)
   unfolding by_own
   unveiled_alike name other here there e f = ap by_own (e ∙ sym f)
 
   -- and that is the cover of their directory
-  pub unveiled_within : (name : List ℕ) (here : Option ℕ) (way : Way) → WellFormed t → IsTrue (is_dir t dir) → perms_kept h (place.Slot dir name) ≡ None → cover t h (Slot dir name here) ≡ cover t h (Whole dir way)
+  pub unveiled_within : (name : List ℕ) (here : Option ℕ) (way : Way) → WellFormed t → IsTrue (is_dir t dir) →
+      perms_kept h (place.Slot dir name) ≡ None → cover t h (Slot dir name here) ≡ cover t h (Whole dir way)
   unfolding by_own
   unveiled_within name here way fits living e =
-      ap by_own e ∙ ap (λ found. if list_any is_unveil h then found else All) (sym (nearest_whole t fits (λ d. perms_kept h (place.Dir d)) dir living))
+      ap by_own e ∙ ap (λ found. if list_any is_unveil h then found else All)
+      (sym (nearest_whole t fits (λ d. perms_kept h (place.Dir d)) dir living))
 
   -- so a call gets one verdict on all names where nothing stands, and that have no veil of their own
   pub missing_alike : (name other : List ℕ) → perms_kept h (place.Slot dir name) ≡ None → perms_kept h (place.Slot dir other) ≡ None
       → (table : CallTable) (call : Call) → verdict t table h call (Slot dir name None) ≡ verdict t table h call (Slot dir other None)
   missing_alike name other e f table call =
-      ap (λ found. if_promised (may_any h (rule_of table call).alternatives) (allowed_unless (or_fault (cover_fault found (rule_of table call).perms) (object_fault t call IsMissing)))) (unveiled_alike name other None None e f)
+      ap (λ found. if_promised (may_any h (rule_of table call).alternatives)
+      (allowed_unless (or_fault (cover_fault found (rule_of table call).perms) (object_fault t call IsMissing))))
+      (unveiled_alike name other None None e f)

@@ -11,7 +11,8 @@ pub veiled_covers : (f : ℕ → Option ℕ) (ds : List ℕ) → cover_of (cover
 veiled_covers f [] = refl
 veiled_covers f (d ∷ ds) = by (f d) (veiled_covers f ds)
   where
-    by : (o : Option ℕ) → cover_of (covering_at (first_veiled f ds)) ≡ nearest (map f ds) → cover_of (covering_at (or_farther d o (first_veiled f ds))) ≡ nearest (o ∷ map f ds)
+    by : (o : Option ℕ) → cover_of (covering_at (first_veiled f ds)) ≡ nearest (map f ds) →
+        cover_of (covering_at (or_farther d o (first_veiled f ds))) ≡ nearest (o ∷ map f ds)
     by (Some perms) e = refl
     by None e = e
 

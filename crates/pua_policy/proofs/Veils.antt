@@ -8,7 +8,8 @@ use Rattle.indexmap.specs.IndexMap.{insert_entry}
 use Rattle.pua_tree.specs.Names.{same_bytes}
 use Rattle.pua_policy.specs.declared.place.Place.{Place}
 use Rattle.pua_policy.specs.declared.place.Place.TheVariants.{Dir, Slot}
-use Rattle.pua_policy.specs.History.{History, Pledged, Unveiled, Locked, Moved, Ended, veils, perms_kept, is_locked, place_fault, with_veil, veil_at, same_place}
+use Rattle.pua_policy.specs.History.{History, Pledged, Unveiled, Locked, Moved, Ended, veils, perms_kept, is_locked, place_fault, with_veil}
+use Rattle.pua_policy.specs.History.{veil_at, same_place}
 use Rattle.std.proofs.lemmas.Bool.{and_parts}
 use Rattle.std.proofs.lemmas.List.{map-append}
 use Rattle.std.proofs.lemmas.List.Folds.{list_all-map}
@@ -50,11 +51,14 @@ same_place_turned a b = by (same_place a b) (same_place b a) refl refl
     by false true e f = let g = sym e ∙ ap (same_place a) (same_place_is b a f) ∙ same_place_refl a in cc
 
 -- a veil on another place leaves a place without one
-pub still_unveiled : (at : Place) (perms : ℕ) (vs : List (Place × ℕ)) (other : Place) → same_place other at ≡ false → veil_at vs other ≡ None → veil_at (with_veil at perms vs) other ≡ None
+pub still_unveiled : (at : Place) (perms : ℕ) (vs : List (Place × ℕ)) (other : Place) → same_place other at ≡ false →
+    veil_at vs other ≡ None → veil_at (with_veil at perms vs) other ≡ None
 still_unveiled at perms [] other differ none = ap (λ b. cond b (Some perms) None) differ
-still_unveiled at perms (v ∷ vs) other differ none = by (same_place at v.0) (same_place other v.0) refl none (still_unveiled at perms vs other differ)
+still_unveiled at perms (v ∷ vs) other differ none =
+    by (same_place at v.0) (same_place other v.0) refl none (still_unveiled at perms vs other differ)
   where
-    by : (s o : Bool) → same_place other v.0 ≡ o → cond o (Some v.1) (veil_at vs other) ≡ None → (veil_at vs other ≡ None → veil_at (with_veil at perms vs) other ≡ None)
+    by : (s o : Bool) → same_place other v.0 ≡ o → cond o (Some v.1) (veil_at vs other) ≡ None →
+        (veil_at vs other ≡ None → veil_at (with_veil at perms vs) other ≡ None)
         → veil_at (cond s ((v.0, perms) ∷ vs) (v ∷ with_veil at perms vs)) other ≡ None
     by s true is none rest = absurd (Some≢None v.1 none)
     by true false is none rest = ap (λ b. cond b (Some perms) (veil_at vs other)) is ∙ none
@@ -65,7 +69,9 @@ pub veil_at-with_veil : (place : Place) (perms : ℕ) (vs : List (Place × ℕ))
     veil_at (with_veil place perms vs) at ≡ cond (same_place at place) (Some perms) (veil_at vs at)
 veil_at-with_veil place perms [] at = refl
 veil_at-with_veil place perms (v ∷ vs) at =
-    elim (same_place place v.0) as (λ b. same_place place v.0 ≡ b → veil_at (cond b ((v.0, perms) ∷ vs) (v ∷ with_veil place perms vs)) at ≡ cond (same_place at place) (Some perms) (veil_at (v ∷ vs) at)) [
+    elim (same_place place v.0) as (λ b. same_place place v.0 ≡ b →
+    veil_at (cond b ((v.0, perms) ∷ vs) (v ∷ with_veil place perms vs)) at ≡ cond (same_place at place) (Some perms)
+    (veil_at (v ∷ vs) at)) [
       | true ↦ λ e. rw (same_place_is place v.0 e) (shadowed (same_place at v.0))
       | false ↦ λ e. ap (cond (same_place at v.0) (Some v.1)) (veil_at-with_veil place perms vs at)
           ∙ swapped (same_place at v.0) (same_place at place) (λ s r. clash e s (same_place_is at place r))
@@ -75,7 +81,8 @@ veil_at-with_veil place perms (v ∷ vs) at =
     shadowed true = refl
     shadowed false = refl
 
-    swapped : (a b : Bool) → (a ≡ true → b ≡ true → ⊥) → cond a (Some v.1) (cond b (Some perms) (veil_at vs at)) ≡ cond b (Some perms) (cond a (Some v.1) (veil_at vs at))
+    swapped : (a b : Bool) → (a ≡ true → b ≡ true → ⊥) →
+        cond a (Some v.1) (cond b (Some perms) (veil_at vs at)) ≡ cond b (Some perms) (cond a (Some v.1) (veil_at vs at))
     swapped true true never = absurd (never refl refl)
     swapped true false never = refl
     swapped false b never = refl
@@ -102,14 +109,17 @@ cover_needs_unveil (Moved d) other t h found = refl
 cover_needs_unveil Ended other t h found = refl
 
 -- looking up by any test that is the definition's gives the permissions at a place
-pub veil_at-lookup : (eq : Place → Place → Bool) → ((a b : Place) → eq a b ≡ same_place a b) → (place : Place) (vs : List (Place × ℕ)) → lookup (eq place) vs ≡ veil_at vs place
+pub veil_at-lookup : (eq : Place → Place → Bool) → ((a b : Place) → eq a b ≡ same_place a b) → (place : Place) (vs : List (Place × ℕ)) →
+    lookup (eq place) vs ≡ veil_at vs place
 veil_at-lookup eq same place [] = refl
 veil_at-lookup eq same place (v ∷ vs) = λ i. cond (same place v.0 i) (Some v.1) (veil_at-lookup eq same place vs i)
 
 -- and inserting by it puts a veil
-pub with_veil-insert_entry : (eq : Place → Place → Bool) → ((a b : Place) → eq a b ≡ same_place a b) → (place : Place) (perms : ℕ) (vs : List (Place × ℕ)) → insert_entry eq vs place perms ≡ with_veil place perms vs
+pub with_veil-insert_entry : (eq : Place → Place → Bool) → ((a b : Place) → eq a b ≡ same_place a b) →
+    (place : Place) (perms : ℕ) (vs : List (Place × ℕ)) → insert_entry eq vs place perms ≡ with_veil place perms vs
 with_veil-insert_entry eq same place perms [] = refl
-with_veil-insert_entry eq same place perms (v ∷ vs) = λ i. cond (same place v.0 i) ((v.0, perms) ∷ vs) (v ∷ with_veil-insert_entry eq same place perms vs i)
+with_veil-insert_entry eq same place perms (v ∷ vs) =
+    λ i. cond (same place v.0 i) ((v.0, perms) ∷ vs) (v ∷ with_veil-insert_entry eq same place perms vs i)
 
 nearest-append : (near far : List (Option ℕ)) (perms : ℕ) → list_all is_none near ≡ true → nearest (near ++ Some perms ∷ far) ≡ Only perms
 nearest-append [] far perms e = refl
@@ -126,7 +136,8 @@ unveil_from_kept (Moved d ∷ h) place perms e = unveil_from_kept h place perms 
 unveil_from_kept (Ended ∷ h) place perms e = unveil_from_kept h place perms e
 
 -- a cover where a veil is kept, by the places where it is looked for
-cover-places : (t : Tree) (h : History) (object : Found) → list_any is_unveil h ≡ true → cover t h object ≡ nearest (map (perms_kept h) (places_over t object))
+cover-places : (t : Tree) (h : History) (object : Found) → list_any is_unveil h ≡ true →
+    cover t h object ≡ nearest (map (perms_kept h) (places_over t object))
 cover-places t h object e =
     ap (λ b. cond b (nearest (perms_kept h (place_of object) ∷ map (λ dir. perms_kept h (Dir dir)) (directories_over t object))) All) e
     ∙ ap (λ more. nearest (perms_kept h (place_of object) ∷ more)) (at_dirs (directories_over t object))
@@ -151,20 +162,24 @@ if_none : (b : Bool) (fault : Errno) → cond b None (Some fault) ≡ None → b
 if_none true fault e = refl
 if_none false fault e = cc
 
-nearest_narrows : (h : History) (place : Place) (old perms wanted : ℕ) → perms_kept h place ≡ Some old → holds old perms ≡ true → (places : List Place) →
-    cover_fault (nearest (map (perms_kept (Unveiled place perms ∷ h)) places)) wanted ≡ None → cover_fault (nearest (map (perms_kept h) places)) wanted ≡ None
+nearest_narrows : (h : History) (place : Place) (old perms wanted : ℕ) → perms_kept h place ≡ Some old → holds old perms ≡ true →
+    (places : List Place) →
+    cover_fault (nearest (map (perms_kept (Unveiled place perms ∷ h)) places)) wanted ≡ None →
+    cover_fault (nearest (map (perms_kept h) places)) wanted ≡ None
 nearest_narrows h place old perms wanted is less [] e = e
 nearest_narrows h place old perms wanted is less (p ∷ ps) e =
     elim (same_place place p) as (λ b. same_place place p ≡ b →
-    cover_fault (nearest (cond b (Some perms) (perms_kept h p) ∷ map (perms_kept (Unveiled place perms ∷ h)) ps)) wanted ≡ None → cover_fault (nearest (perms_kept h p ∷ map (perms_kept h) ps)) wanted ≡ None) [
+    cover_fault (nearest (cond b (Some perms) (perms_kept h p) ∷ map (perms_kept (Unveiled place perms ∷ h)) ps)) wanted ≡ None →
+    cover_fault (nearest (perms_kept h p ∷ map (perms_kept h) ps)) wanted ≡ None) [
       | true ↦ λ same fits.
           let here : perms_kept h p ≡ Some old = ap (perms_kept h) (sym (same_place_is place p same)) ∙ is in
           ap (λ o. cover_fault (nearest (o ∷ map (perms_kept h) ps)) wanted) here
           ∙ ap (λ b. cond b None (Some EACCES)) (holds_through old perms wanted less (if_none (holds perms wanted) EACCES fits))
-      | false ↦ λ other fits. elim (perms_kept h p) as (λ o. cover_fault (nearest (o ∷ map (perms_kept (Unveiled place perms ∷ h)) ps)) wanted ≡ None → cover_fault (nearest (o ∷ map (perms_kept h) ps)) wanted ≡ None) [
-        | None ↦ nearest_narrows h place old perms wanted is less ps
-        | Some kept_there ↦ λ same. same
-      ] fits
+      | false ↦ λ other fits. elim (perms_kept h p) as (λ o. cover_fault (nearest (o ∷ map (perms_kept (Unveiled place perms ∷ h)) ps))
+          wanted ≡ None → cover_fault (nearest (o ∷ map (perms_kept h) ps)) wanted ≡ None) [
+            | None ↦ nearest_narrows h place old perms wanted is less ps
+            | Some kept_there ↦ λ same. same
+          ] fits
     ] refl e
 
 pub kept_places_narrow : KeptPlacesNarrow
@@ -173,7 +188,8 @@ kept_places_narrow h place old perms is accepted t object wanted e =
     ∙ nearest_narrows h place old perms wanted is (less (is_locked h) accepted) (places_over t object)
     (ap (λ c. cover_fault c wanted) (sym (cover-places t (Unveiled place perms ∷ h) object refl)) ∙ e)
   where
-    less : (locked : Bool) → cond locked (Some NotPermitted) (place_fault (perms_kept h place) (length (veils h)) perms) ≡ None → holds old perms ≡ true
+    less : (locked : Bool) → cond locked (Some NotPermitted) (place_fault (perms_kept h place) (length (veils h)) perms) ≡ None →
+        holds old perms ≡ true
     less true e = cc
     less false fits = unless (holds old perms) (ap (λ o. place_fault o (length (veils h)) perms) (sym is) ∙ fits)
       where

@@ -6,7 +6,8 @@ use Rattle.pua_calls.specs.Promises.{promises_of, perms_of, lacking, reading, wr
 use Rattle.pua_calls.specs.Calls.{calls, standard_table, openbsd_table}
 use Rattle.pua_calls.specs.CallSets.{calls_in, keeps_link}
 use Rattle.pua_policy.specs.Objects.{object_seen}
-use Rattle.pua_policy.specs.History.{History, Pledged, Unveiled, Locked, Ended, new_history, held_set, held_for_exec, pledge_fault, unveil_fault, veils, may_any, pledged_set, after_exec}
+use Rattle.pua_policy.specs.History.{History, Pledged, Unveiled, Locked, Ended, new_history, held_set, held_for_exec, pledge_fault}
+use Rattle.pua_policy.specs.History.{unveil_fault, veils, may_any, pledged_set, after_exec}
 use Rattle.pua_policy.specs.Misfits.{misfit}
 use Rattle.pua_policy.specs.Reasons.{Holds, HasEnded, Lacks, promising, covering}
 use Rattle.pua_policy.specs.Verdict.{cover, verdict_on, object_fault, rmdir_fault, IsDir, IsFile, IsProg, IsLink, IsMissing}
@@ -17,7 +18,8 @@ use Rattle.pua_calls.specs.declared.call.Call.TheVariants.{Stat, Lstat, Readlink
 use Rattle.pua_policy.specs.declared.object.Object.TheVariants as see
 use Rattle.pua_policy.specs.declared.place.Place.TheVariants.{Dir, Slot}
 use Rattle.pua_policy.specs.declared.reason.Covering.TheVariants.{InView, NoneOver, By}
-use Rattle.pua_policy.specs.declared.reason.Misfit.TheVariants.{Exists, IsDirectory, IsNoFile, IsNoDirectory, IsNoLink, IsNoProgram, IsNotEmpty}
+use Rattle.pua_policy.specs.declared.reason.Misfit.TheVariants.{Exists, IsDirectory, IsNoFile, IsNoDirectory, IsNoLink, IsNoProgram}
+use Rattle.pua_policy.specs.declared.reason.Misfit.TheVariants.{IsNotEmpty}
 use Rattle.pua_policy.specs.declared.answer.UnveilFault.TheVariants.{NotPermitted}
 use Rattle.pua_policy.specs.declared.answer.Cover.TheVariants.{Only}
 use Rattle.pua_policy.specs.declared.answer.May.TheVariants as may
@@ -32,14 +34,25 @@ pub record CoverRows : Type 0 where
   pub beneath_nearer : cover example_tree three_veils (found.Slot 3 (codes "sh") (Some 7)) ≡ Only 0
   pub own : cover example_tree three_veils (found.Slot 1 (codes "passwd") (Some 2)) ≡ Only (reading + writing)
   pub missing : cover example_tree three_veils (found.Slot 1 (codes "x") None) ≡ Only reading
-  pub own_alone : cover example_tree (Unveiled (Slot 1 (codes "passwd")) writing ∷ three_veils) (found.Slot 1 (codes "passwd") (Some 2)) ≡ Only writing
+  pub own_alone : cover example_tree (Unveiled (Slot 1 (codes "passwd")) writing ∷ three_veils) (found.Slot 1 (codes "passwd") (Some 2))
+      ≡ Only writing
   pub increase : unveil_fault three_veils (Dir 3) reading ≡ Some NotPermitted
   pub locked : unveil_fault (Locked ∷ three_veils) (Dir 0) 0 ≡ Some NotPermitted
   pub reduction : unveil_fault three_veils (Dir 0) 0 ≡ None
   pub replaced : veils (Unveiled (Dir 0) 0 ∷ three_veils) ≡ (Dir 0, 0) ∷ (Dir 3, 0) ∷ (Slot 1 (codes "passwd"), reading + writing) ∷ []
 
 pub cover_rows : CoverRows
-cover_rows = record { beneath_root = refl; beneath_nearer = refl; own = refl; missing = refl; own_alone = refl; increase = refl; locked = refl; reduction = refl; replaced = refl }
+cover_rows = record {
+  beneath_root = refl;
+  beneath_nearer = refl;
+  own = refl;
+  missing = refl;
+  own_alone = refl;
+  increase = refl;
+  locked = refl;
+  reduction = refl;
+  replaced = refl;
+}
 
 -- a veil on the root and none of its permissions on a directory
 abbrev pub root_veiled : History
@@ -85,15 +98,19 @@ verdict_rows = record {
 -- the last check, call by call and object by object
 pub record LastCheckRows : Type 0 where
   pub directory : map (λ call. object_fault example_tree call (IsDir 1 (way.Named 0 (codes "etc")))) calls
-      ≡ None ∷ None ∷ Some EINVAL ∷ None ∷ Some EISDIR ∷ Some EISDIR ∷ Some EISDIR ∷ Some EEXIST ∷ Some ENOTEMPTY ∷ Some EPERM ∷ Some EEXIST ∷ None ∷ None ∷ Some EACCES ∷ []
+      ≡ None ∷ None ∷ Some EINVAL ∷ None ∷ Some EISDIR ∷ Some EISDIR ∷ Some EISDIR ∷ Some EEXIST ∷ Some ENOTEMPTY ∷ Some EPERM ∷ Some EEXIST
+      ∷ None ∷ None ∷ Some EACCES ∷ []
   pub file : map (λ call. object_fault example_tree call IsFile) calls
-      ≡ None ∷ None ∷ Some EINVAL ∷ None ∷ None ∷ None ∷ None ∷ Some EEXIST ∷ Some ENOTDIR ∷ None ∷ Some EEXIST ∷ None ∷ Some ENOTDIR ∷ Some EACCES ∷ []
+      ≡ None ∷ None ∷ Some EINVAL ∷ None ∷ None ∷ None ∷ None ∷ Some EEXIST ∷ Some ENOTDIR ∷ None ∷ Some EEXIST ∷ None ∷ Some ENOTDIR
+      ∷ Some EACCES ∷ []
   pub program : map (λ call. object_fault example_tree call IsProg) calls
-      ≡ None ∷ None ∷ Some EINVAL ∷ None ∷ None ∷ None ∷ None ∷ Some EEXIST ∷ Some ENOTDIR ∷ None ∷ Some EEXIST ∷ None ∷ Some ENOTDIR ∷ None ∷ []
+      ≡ None ∷ None ∷ Some EINVAL ∷ None ∷ None ∷ None ∷ None ∷ Some EEXIST ∷ Some ENOTDIR ∷ None ∷ Some EEXIST ∷ None ∷ Some ENOTDIR ∷ None
+      ∷ []
   pub link : map (λ call. object_fault example_tree call IsLink) (Lstat ∷ Readlink ∷ Mkdir ∷ Rmdir ∷ Unlink ∷ Symlink ∷ [])
       ≡ None ∷ None ∷ Some EEXIST ∷ Some ENOTDIR ∷ None ∷ Some EEXIST ∷ []
   pub missing_name : map (λ call. object_fault example_tree call IsMissing) calls
-      ≡ Some ENOENT ∷ Some ENOENT ∷ Some ENOENT ∷ Some ENOENT ∷ Some ENOENT ∷ Some ENOENT ∷ None ∷ None ∷ Some ENOENT ∷ Some ENOENT ∷ None ∷ Some ENOENT ∷ Some ENOENT ∷ Some ENOENT ∷ []
+      ≡ Some ENOENT ∷ Some ENOENT ∷ Some ENOENT ∷ Some ENOENT ∷ Some ENOENT ∷ Some ENOENT ∷ None ∷ None ∷ Some ENOENT ∷ Some ENOENT ∷ None
+      ∷ Some ENOENT ∷ Some ENOENT ∷ Some ENOENT ∷ []
   pub by_dot : rmdir_fault example_tree 1 way.Dot ≡ Some EINVAL
   pub by_dots : rmdir_fault example_tree 1 way.DotDot ≡ Some EINVAL
   pub at_top : rmdir_fault example_tree 0 way.Top ≡ Some EBUSY
@@ -141,12 +158,14 @@ pub record ReasonRows : Type 0 where
   pub no_error : promising narrowed_history (wpath ∷ []) ≡ Lacks false (wpath ∷ [])
   pub ended : promising (Ended ∷ narrowed_history) (rpath ∷ []) ≡ HasEnded
   pub in_view : covering example_tree new_history (found.Whole 1 (way.Named 0 (codes "etc"))) ≡ InView
-  pub own_veil : covering example_tree three_veils (found.Slot 1 (codes "passwd") (Some 2)) ≡ By (Slot 1 (codes "passwd")) (reading + writing)
+  pub own_veil : covering example_tree three_veils (found.Slot 1 (codes "passwd") (Some 2)) ≡ By (Slot 1 (codes "passwd"))
+      (reading + writing)
   pub nearer_veil : covering example_tree three_veils (found.Slot 3 (codes "sh") (Some 7)) ≡ By (Dir 3) 0
   pub root_veil : covering example_tree three_veils (found.Slot 1 (codes "x") None) ≡ By (Dir 0) reading
   pub none_over : covering example_tree (Unveiled (Dir 3) reading ∷ new_history) (found.Whole 1 (way.Named 0 (codes "etc"))) ≡ NoneOver
   pub directory : map (λ call. misfit example_tree call (IsDir 1 (way.Named 0 (codes "etc")))) calls
-      ≡ None ∷ None ∷ Some IsNoLink ∷ None ∷ Some IsDirectory ∷ Some IsDirectory ∷ Some IsDirectory ∷ Some Exists ∷ Some IsNotEmpty ∷ Some IsNoFile ∷ Some Exists ∷ None ∷ None ∷ Some IsNoProgram ∷ []
+      ≡ None ∷ None ∷ Some IsNoLink ∷ None ∷ Some IsDirectory ∷ Some IsDirectory ∷ Some IsDirectory ∷ Some Exists ∷ Some IsNotEmpty
+      ∷ Some IsNoFile ∷ Some Exists ∷ None ∷ None ∷ Some IsNoProgram ∷ []
   pub file : map (λ call. misfit example_tree call IsFile) (Rmdir ∷ Unlink ∷ Exec ∷ []) ≡ Some IsNoDirectory ∷ None ∷ Some IsNoProgram ∷ []
 
 pub reason_rows : ReasonRows

@@ -1,5 +1,6 @@
 -- What a process may do, from the list of its accepted events. A history has its newest event first.
-use Rattle.std.specs.Prelude.{◌≡◌, ℕ, ◌-◌, Bool, true, false, not, ◌&&◌, ◌||◌, if◌then◌else◌, List, [], ◌∷◌, length, nat_le, ◌==◌, Option, Some, None, bit_and, unwrap_or, filter, filter_map}
+use Rattle.std.specs.Prelude.{◌≡◌, ℕ, ◌-◌, Bool, true, false, not, ◌&&◌, ◌||◌, if◌then◌else◌, List, [], ◌∷◌, length, nat_le, ◌==◌, Option}
+use Rattle.std.specs.Prelude.{Some, None, bit_and, unwrap_or, filter, filter_map}
 use Rattle.std.specs.List.{list_any}
 use Rattle.pua_tree.specs.Names.{same_bytes}
 pub use Rattle.pua_policy.specs.Limits.{most_places}
@@ -137,7 +138,8 @@ dir_in _ = None
 abbrev pub working_dir : History → ℕ
 working_dir h = unwrap_or (first (filter_map dir_in h)) 0
 
--- why permissions may not be kept at a place, by what is kept there and by the number of places: they may only be reduced, and there is a limit of places
+-- why permissions may not be kept at a place, by what is kept there and by the number of places: they may only be
+-- reduced, and there is a limit of places
 abbrev pub place_fault : Option ℕ → ℕ → ℕ → Option UnveilFault
 place_fault (Some old) places perms = if holds old perms then None else Some NotPermitted
 place_fault None places perms = if nat_le most_places places then Some TooManyPlaces else None
@@ -154,7 +156,8 @@ abbrev pub left_for_exec : ExecPromises → ℕ → Option ℕ
 left_for_exec Unset set = None
 left_for_exec Stay set = Some set
 
--- the history of the program that a successful exec starts: with execpromises they are its promises, and are unset or stay; without them the working directory alone stays
+-- the history of the program that a successful exec starts: with execpromises they are its promises, and are unset or
+-- stay; without them the working directory alone stays
 abbrev pub after_exec : ExecPromises → History → History
 after_exec left h = by_given (held_for_exec h)
   where

@@ -15,7 +15,8 @@ use Rattle.pua_policy.specs.declared.place.Place.{Place}
 use Rattle.pua_policy.specs.declared.reason.Covering.{Covering}
 use Rattle.pua_policy.specs.declared.reason.Covering.TheVariants.{InView, NoneOver, By}
 use Rattle.pua_policy.specs.declared.reason.Misfit.{Misfit}
-use Rattle.pua_policy.specs.declared.reason.Misfit.TheVariants.{Missing, Exists, IsDirectory, IsNoFile, IsNoDirectory, IsNoLink, IsNoProgram, IsNotEmpty, ByDot, ByDotDot, ByNothing}
+use Rattle.pua_policy.specs.declared.reason.Misfit.TheVariants.{Missing, Exists, IsDirectory, IsNoFile, IsNoDirectory, IsNoLink}
+use Rattle.pua_policy.specs.declared.reason.Misfit.TheVariants.{IsNoProgram, IsNotEmpty, ByDot, ByDotDot, ByNothing}
 
 -- what is told of promises is so: the set is one of those asked for, and held; or of each set some is not held, and with just that it were
 pub record LacksSome (h : History) (set some : ℕ) : Type 0 where
@@ -51,7 +52,8 @@ pub record DecidesBy (t : Tree) (h : History) (object : Found) (place : Place) (
   pub split : places_over t object ≡ near ++ place ∷ far
   pub none_nearer : NoneKept h near
   pub kept_here : perms_kept h place ≡ Some given
-  pub were : (letters wanted : ℕ) → (cover_fault (cover t (Unveiled place letters ∷ h) object) wanted ≡ None) ↔ (holds letters wanted ≡ true)
+  pub were : (letters wanted : ℕ) →
+      (cover_fault (cover t (Unveiled place letters ∷ h) object) wanted ≡ None) ↔ (holds letters wanted ≡ true)
 
 -- what is told of a cover is so
 abbrev pub CoveringHolds : Tree → History → Found → Covering → Type 0
@@ -60,7 +62,8 @@ CoveringHolds t h object NoneOver = NoneKept h (places_over t object)
 CoveringHolds t h object (By place given) = DecidesBy t h object place given
 
 abbrev pub CoveringsHold : Type 0
-CoveringsHold = (t : Tree) (h : History) (object : Found) → (cover_of (covering t h object) ≡ cover t h object) × CoveringHolds t h object (covering t h object)
+CoveringsHold = (t : Tree) (h : History) (object : Found) → (cover_of (covering t h object) ≡ cover t h object) ×
+    CoveringHolds t h object (covering t h object)
 
 -- with what is told to lack nothing lacks, and it does with no less
 pub record IsLacking (set wanted : ℕ) : Type 0 where
@@ -87,7 +90,8 @@ MisfitHolds t object IsNoFile = IsDirectoryNow object
 MisfitHolds t object IsNoDirectory = IsNoMissing object × (IsDirectoryNow object → ⊥)
 MisfitHolds t object IsNoLink = IsNoMissing object × (object ≢ IsLink)
 MisfitHolds t object IsNoProgram = IsNoMissing object × (object ≢ IsProg)
-MisfitHolds t object IsNotEmpty = (dir parent : ℕ) × (name : List ℕ) × (object ≡ IsDir dir (way.Named parent name)) × (is_empty t dir ≡ false)
+MisfitHolds t object IsNotEmpty = (dir parent : ℕ) × (name : List ℕ) × (object ≡ IsDir dir (way.Named parent name)) ×
+    (is_empty t dir ≡ false)
 MisfitHolds t object ByDot = (dir : ℕ) × (object ≡ IsDir dir way.Dot)
 MisfitHolds t object ByDotDot = (dir : ℕ) × (object ≡ IsDir dir way.DotDot)
 MisfitHolds t object ByNothing = (dir : ℕ) × (object ≡ IsDir dir way.Top)

@@ -30,7 +30,8 @@ holds_or None lacks = lacks
 
 -- the first set that is held
 abbrev pub promising : History → List ℕ → Promising
-promising h sets = if is_ended h then HasEnded else holds_or (find (holds (held_set h)) sets) (Lacks (has_error h) (map (lacking (held_set h)) sets))
+promising h sets = if is_ended h then HasEnded else holds_or (find (holds (held_set h)) sets)
+    (Lacks (has_error h) (map (lacking (held_set h)) sets))
 
 -- as a process tells it, which names what it holds beside the sets
 abbrev pub promising_seen : seen.Promising → Promising

@@ -51,7 +51,8 @@ is_unveil _ = false
 -- everything, where no veil is kept; else the permissions at the object's own place, or those of the nearest directory over it
 abbrev pub cover : Tree → History → Found → Cover
 cover t h object =
-    if list_any is_unveil h then nearest (perms_kept h (place_of object) ∷ map (λ dir. perms_kept h (Dir dir)) (directories_over t object)) else All
+    if list_any is_unveil h then nearest (perms_kept h (place_of object) ∷ map (λ dir. perms_kept h (Dir dir)) (directories_over t object))
+    else All
 
 abbrev pub object_of_kind : Option Kind → Object
 object_of_kind (Some kind.Prog) = IsProg
@@ -110,12 +111,14 @@ found_fault t table h call object =
     or_fault (cover_fault (cover t h object) (rule_of table call).perms) (object_fault t call (object_of t object))
 
 abbrev pub verdict : Tree → CallTable → History → Call → Found → Verdict
-verdict t table h call object = if_promised (may_any h (rule_of table call).alternatives) (allowed_unless (found_fault t table h call object))
+verdict t table h call object =
+    if_promised (may_any h (rule_of table call).alternatives) (allowed_unless (found_fault t table h call object))
 
 -- the verdict on such an object wherever it stands, by what the veils leave of it
 abbrev pub covered_verdict : Tree → CallTable → History → Call → Cover → Object → Verdict
 covered_verdict t table h call left object =
-    if_promised (may_any h (rule_of table call).alternatives) (allowed_unless (or_fault (cover_fault left (rule_of table call).perms) (object_fault t call object)))
+    if_promised (may_any h (rule_of table call).alternatives)
+    (allowed_unless (or_fault (cover_fault left (rule_of table call).perms) (object_fault t call object)))
 
 -- the verdict where the path may have failed
 abbrev pub verdict_of : Tree → CallTable → History → Call → Result Found Errno → Verdict

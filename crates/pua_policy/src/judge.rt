@@ -202,7 +202,8 @@ pub fn cover_fault(cover: Cover, perms: Perms) -> Option<Errno>
 
 /// The error of what is wrong with what was found.
 fn object_fault<'t, P: Probe<'t>>(probe: &mut P, call: Call, found: &Found) -> Option<Errno>
-    ensures exact { result ≡ object_fault (P.tree probe.old) call (object_of (P.tree probe.old) found.now) }
+    ensures exact { result ≡ object_fault (P.tree probe.old) call
+        (object_of (P.tree probe.old) found.now) }
     ensures tree { P.tree probe.new ≡ P.tree probe.old }
     ensures cost { P.count probe.new ≤ P.count probe.old + 1 }
 {

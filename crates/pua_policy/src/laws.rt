@@ -8,7 +8,8 @@ ghost use Rattle.pua_policy.specs.Laws.{PledgesNarrow, ProcessesDecide};
 ghost use Rattle.pua_policy.specs.ReasonLaws.{CoveringsHold, LackingsHold, MisfitsHold};
 ghost use Rattle.pua_policy.specs.ReasonLaws.{PromisingsAnswer, PromisingsHold};
 ghost use Rattle.pua_policy.specs.Limits.{most_places};
-ghost use Rattle.pua_policy.specs.Examples.{CoverRows, VerdictRows, LastCheckRows, SetRows, ReasonRows};
+ghost use Rattle.pua_policy.specs.Examples.{CoverRows, VerdictRows, LastCheckRows, SetRows};
+ghost use Rattle.pua_policy.specs.Examples.{ReasonRows};
 ghost use Rattle.pua_policy.specs.Examples.{RuleRows};
 
 use crate::process::MOST_PLACES;

@@ -120,7 +120,8 @@ impl Process {
         ensures err { IfErr result (λ fault. (h : History) → StandsFor self.old h →
             (fault ≢ UnveilFault.OutOfMemory → unveil_fault h place perms ≡ Some fault)
             × (fault ≡ UnveilFault.OutOfMemory → unveil_fault h place perms ≡ None)) }
-        ensures memory { result ≡ Err UnveilFault.OutOfMemory → veil_at self.old.veils place ≡ None }
+        ensures memory { result ≡ Err UnveilFault.OutOfMemory →
+            veil_at self.old.veils place ≡ None }
         ensures unchanged { OnErr result (self.new ≡ self.old) }
     {
         if let Some(fault) = self.unveil_fault(&place, perms) {

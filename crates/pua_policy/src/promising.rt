@@ -13,7 +13,8 @@ impl Process {
     /// By which of these sets it may do what needs all promises of one of them, the first that it
     /// holds; or why it may not (pledge(2)). `may_any` answers whether it may. Takes no memory.
     pub fn promising<'s>(&self, sets: &'s [Promises]) -> Promising<'s>
-        ensures { (h : History) → StandsFor self.now h → promising_seen result ≡ promising h sets.now }
+        ensures { (h : History) → StandsFor self.now h →
+            promising_seen result ≡ promising h sets.now }
     {
         if self.ended() {
             return Promising::HasEnded;

@@ -86,7 +86,8 @@ impl CallTable {
 /// The document that a text is. The only other fault is `OutOfMemory`.
 fn document(alloc: Global, text: &[u8]) -> Result<Table, TableFault>
     ensures read { IfOk result (λ table. document_of text.now ≡ Some (table_view table)) }
-    ensures refused { IfErr result (λ fault. fault ≢ TableFault.OutOfMemory → fault ≡ TableFault.BadToml) }
+    ensures refused { IfErr result (λ fault. fault ≢ TableFault.OutOfMemory →
+        fault ≡ TableFault.BadToml) }
     ensures bad { result ≡ Err TableFault.BadToml → document_of text.now ≡ None }
     ensures memory { result ≡ Err TableFault.OutOfMemory → ¬ IsBlank text.now }
 {
@@ -144,7 +145,8 @@ fn parts(value: &Value) -> Option<(&[Value], &str)>
 /// The values of `promises` and of `veil`, where these are the keys of a table.
 #[tactic(auto, using(crate::proofs::TableTexts::member_count_of))]
 fn values(table: &Table) -> Option<(&Value, &Value)>
-    ensures { option_map (λ p. (view p.0.now, view p.1.now)) result ≡ values_of (table_view table.now) }
+    ensures { option_map (λ p. (view p.0.now, view p.1.now)) result
+        ≡ values_of (table_view table.now) }
 {
     if table.len() != 2 {
         return None;
@@ -154,7 +156,8 @@ fn values(table: &Table) -> Option<(&Value, &Value)>
 
 /// The value at a key of a table.
 fn at_key<'a>(table: &'a Table, key: &str) -> Option<&'a Value>
-    ensures { option_map (λ value. view value.now) result ≡ get_member key.now (table_view table.now) }
+    ensures { option_map (λ value. view value.now) result
+        ≡ get_member key.now (table_view table.now) }
 {
     table.get(key)
 }
@@ -183,8 +186,10 @@ fn are_texts(items: &[Value]) -> bool
 /// A row without permissions, of which each item is an alternative, or the first fault.
 fn alternatives(call: Call, items: &[Value]) -> Result<RuleRow, TableFault>
     requires { length items.now ≤ most_alternatives }
-    ensures sets { IfOk result (λ row. alternatives_of call (items_view items.now) ≡ Ok row.alternatives) }
-    ensures refused { IfErr result (λ fault. alternatives_of call (items_view items.now) ≡ Err fault) }
+    ensures sets { IfOk result (λ row. alternatives_of call (items_view items.now)
+        ≡ Ok row.alternatives) }
+    ensures refused { IfErr result (λ fault. alternatives_of call (items_view items.now)
+        ≡ Err fault) }
     ensures no_error { IfOk result NeedsNoError }
     ensures no_memory { result ≢ Err TableFault.OutOfMemory }
 {

@@ -7,4 +7,5 @@ use Rattle.pua_policy.proofs.promising.first_held.Goals as goal
 pub returns : goal.returns
 returns c =
     c.copied.ensures
-    ∙ find_from_yields_List (holds c.args.held) _ _ c.find.result c.find.ensures.ran (YieldsList-from_slice c.args.sets.now cc) (λ x b q k. search (rules, tests))
+    ∙ find_from_yields_List (holds c.args.held) _ _ c.find.result c.find.ensures.ran (YieldsList-from_slice c.args.sets.now cc)
+    (λ x b q k. search (rules, tests))

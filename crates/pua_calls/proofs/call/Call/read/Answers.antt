@@ -8,4 +8,5 @@ use Rattle.pua_calls.proofs.call.Call.read.Goals as goal
 pub returns : goal.returns
 returns c =
     c.copied.ensures
-    ∙ find_from_yields_List (λ call. same_bytes (call_name call) c.args.word.now) _ _ c.find.result c.find.ensures.ran (YieldsList-from_slice calls cc) (λ x b q k. search (rules, tests))
+    ∙ find_from_yields_List (λ call. same_bytes (call_name call) c.args.word.now) _ _ c.find.result c.find.ensures.ran
+    (YieldsList-from_slice calls cc) (λ x b q k. search (rules, tests))

@@ -15,12 +15,14 @@ returns-in_err-flag c =
 pub returns-then-contains : goal.returns-then-contains
 returns-then-contains c =
     let there : slice_get c.flags.result.now c.args.index ≡ Some c.in_ok-flag.flag.now = search (rules, tests, slice_get_read) in
-    let known : _ = keyword_there (λ flag. (flag.name.now, flag.value.0)) c.flags.result.now c.args.self c.args.index c.in_ok-flag.flag.now (c.flags.ensures tt) there in
+    let known : _ = keyword_there (λ flag. (flag.name.now, flag.value.0)) c.flags.result.now c.args.self c.args.index c.in_ok-flag.flag.now
+    (c.flags.ensures tt) there in
     search (rules, tests)
 
 -- src/promises.rt:335:5
 pub returns-else-contains : goal.returns-else-contains
 returns-else-contains c =
     let there : slice_get c.flags.result.now c.args.index ≡ Some c.in_ok-flag.flag.now = search (rules, tests, slice_get_read) in
-    let known : _ = keyword_there (λ flag. (flag.name.now, flag.value.0)) c.flags.result.now c.args.self c.args.index c.in_ok-flag.flag.now (c.flags.ensures tt) there in
+    let known : _ = keyword_there (λ flag. (flag.name.now, flag.value.0)) c.flags.result.now c.args.self c.args.index c.in_ok-flag.flag.now
+    (c.flags.ensures tt) there in
     search (rules, tests)

@@ -9,6 +9,7 @@ use Rattle.pua_calls.proofs.table.read.alternatives.Given as goal
 abbrev pub invariant-loop-item : goal.invariant-loop-item
 invariant-loop-item l = record {
   added : length l.row.alternatives ≡ l.item-index;
-  sets : alternatives_of l.fn.call (items_view l.items) ≡ (alternatives_of l.fn.call (items_view (drop l.item-index l.items)) >>= λ sets. Ok (l.row.alternatives ++ sets));
+  sets : alternatives_of l.fn.call (items_view l.items) ≡ (alternatives_of l.fn.call (items_view (drop l.item-index l.items)) >>= λ sets. Ok
+      (l.row.alternatives ++ sets));
   no_error : NeedsNoError l.row;
 }

@@ -6,20 +6,23 @@ use Rattle.pua_policy.proofs.process.Process.covering.Goals as goal
 
 pub returns-then-not-is_veiled-clause-exact : goal.returns-then-not-is_veiled-clause-exact
 returns-then-not-is_veiled-clause-exact g c = λ fits h s.
-    sym (covering-unveiled c.args.self.now h s (g.P.Probe.tree c.args.probe.now) c.args.found.now (sym c.is_veiled.ensures ∙ c.if-not-is_veiled.true))
+    sym (covering-unveiled c.args.self.now h s (g.P.Probe.tree c.args.probe.now) c.args.found.now (sym c.is_veiled.ensures ∙
+    c.if-not-is_veiled.true))
 
 pub returns-in-Whole-clause-exact : goal.returns-in-Whole-clause-exact
 returns-in-Whole-clause-exact g c = λ fits h s.
     let t = g.P.Probe.tree c.args.probe.now in
     let living = rw c.in-Whole.is at fits in
     c.covering_from.ensures.exact living
-    ∙ sym (covering-whole c.args.self.now h s t (sym c.is_veiled.ensures ∙ c.if-not-is_veiled.false) c.known.ensures c.in-Whole.dir c.in-Whole.way living)
+    ∙ sym (covering-whole c.args.self.now h s t (sym c.is_veiled.ensures ∙ c.if-not-is_veiled.false) c.known.ensures c.in-Whole.dir
+    c.in-Whole.way living)
     ∙ ap (covering t h) (sym c.in-Whole.is)
 
 pub returns-in-Some-clause-exact : goal.returns-in-Some-clause-exact
 returns-in-Some-clause-exact g c = λ fits h s.
     let t = g.P.Probe.tree c.args.probe.now in
-    sym (covering-own c.args.self.now h s t (sym c.is_veiled.ensures ∙ c.if-not-is_veiled.false) c.in-Slot.dir c.in-Slot.name c.in-Slot.node c.in-Some.perms (sym c.kept.ensures.state ∙ c.in-Some.is))
+    sym (covering-own c.args.self.now h s t (sym c.is_veiled.ensures ∙ c.if-not-is_veiled.false) c.in-Slot.dir c.in-Slot.name c.in-Slot.node
+    c.in-Some.perms (sym c.kept.ensures.state ∙ c.in-Some.is))
     ∙ ap (covering t h) (sym c.in-Slot.is)
 
 pub returns-in-None-clause-exact : goal.returns-in-None-clause-exact
@@ -27,5 +30,6 @@ returns-in-None-clause-exact g c = λ fits h s.
     let t = g.P.Probe.tree c.args.probe.now in
     let living = slot_lives t c.in-Slot.dir c.in-Slot.name c.in-Slot.node (rw c.in-Slot.is at fits) in
     c.covering_from-in-None.ensures.exact living
-    ∙ sym (covering-beneath c.args.self.now h s t (sym c.is_veiled.ensures ∙ c.if-not-is_veiled.false) c.in-Slot.dir c.in-Slot.name c.in-Slot.node (sym c.kept.ensures.state ∙ c.in-None.is))
+    ∙ sym (covering-beneath c.args.self.now h s t (sym c.is_veiled.ensures ∙ c.if-not-is_veiled.false) c.in-Slot.dir c.in-Slot.name
+    c.in-Slot.node (sym c.kept.ensures.state ∙ c.in-None.is))
     ∙ ap (covering t h) (sym c.in-Slot.is)

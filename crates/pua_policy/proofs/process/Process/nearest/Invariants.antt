@@ -11,7 +11,8 @@ invariant-loop-perms g l = record {
   living : IsTrue (is_dir (g.P.Probe.tree l.fn.probe) l.fn.from) → IsTrue (is_dir (g.P.Probe.tree l.fn.probe) l.dir);
   still_nearest : first_veiled (λ dir. veil_at l.self.veils (Dir dir)) (climb (g.P.Probe.tree l.fn.probe) l.dir)
       ≡ first_veiled (λ dir. veil_at l.self.veils (Dir dir)) (climb (g.P.Probe.tree l.fn.probe) l.fn.from);
-  cost : g.P.Probe.count l.probe + length (climb (g.P.Probe.tree l.fn.probe) l.dir) ≤ g.P.Probe.count l.fn.probe + length (climb (g.P.Probe.tree l.fn.probe) l.fn.from);
+  cost : g.P.Probe.count l.probe + length (climb (g.P.Probe.tree l.fn.probe) l.dir) ≤ g.P.Probe.count l.fn.probe
+      + length (climb (g.P.Probe.tree l.fn.probe) l.fn.from);
 }
 
 abbrev pub decreases-loop-perms : goal.decreases-loop-perms

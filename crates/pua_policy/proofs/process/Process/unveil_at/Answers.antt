@@ -22,14 +22,22 @@ if_err (Err x) e p = p
 
 pub returns-in-Some-clause-err : goal.returns-in-Some-clause-err
 returns-in-Some-clause-err c =
-    λ h s. (λ _. unveil_fault_by c.args.self.now h s c.args.place c.args.perms ∙ sym c.in-Some.ensures.fault, λ is. absurd (c.in-Some.ensures.other is))
+    λ h s. (
+      λ _. unveil_fault_by c.args.self.now h s c.args.place c.args.perms ∙ sym c.in-Some.ensures.fault,
+      λ is. absurd (c.in-Some.ensures.other is),
+    )
 
 pub returns-then-is_err-clause-err : goal.returns-then-is_err-clause-err
 returns-then-is_err-clause-err c =
-    λ h s. (λ no. absurd (no refl), λ _. unveil_fault_by c.args.self.now h s c.args.place c.args.perms ∙ sym c.unveil_fault.ensures.fault ∙ c.in_default.is)
+    λ h s. (
+      λ no. absurd (no refl),
+      λ _. unveil_fault_by c.args.self.now h s c.args.place c.args.perms ∙ sym c.unveil_fault.ensures.fault ∙
+          c.in_default.is,
+    )
 
 -- the veils after an insert that was not refused
-put : {T E : Type 0} (r : Result T E) → is_err r ≡ false → (place : Place) (perms : ℕ) (old new : List (Place × ℕ)) → OnOk r (new ≡ insert_entry ghosts.eq old place perms) → new ≡ with_veil place perms old
+put : {T E : Type 0} (r : Result T E) → is_err r ≡ false → (place : Place) (perms : ℕ) (old new : List (Place × ℕ)) →
+    OnOk r (new ≡ insert_entry ghosts.eq old place perms) → new ≡ with_veil place perms old
 put r well place perms old new is = if_no_err r well is ∙ with_veil-insert_entry ghosts.eq same_place-eq place perms old
 
 pub returns-clause-ok : goal.returns-clause-ok
