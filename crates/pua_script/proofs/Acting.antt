@@ -17,14 +17,17 @@ use Rattle.pua_script.proofs.Doing.{attempts_same}
 use Rattle.pua_script.proofs.Possible.{can_be_done}
 
 -- what was granted can be done, where anything was
-pub grants_can_be_done : (table : CallTable) (t : Tree) (h : History) (action : Action) (d : Result Granted Refusal) → WellFormed t → decision_for h d ≡ decide table t h action → IfOk d (CanBeDone t)
+pub grants_can_be_done : (table : CallTable) (t : Tree) (h : History) (action : Action) (d : Result Granted Refusal) → WellFormed t →
+    decision_for h d ≡ decide table t h action → IfOk d (CanBeDone t)
 grants_can_be_done table t h action (Ok g) well is = can_be_done table t h action g well is
 grants_can_be_done table t h action (Err refusal) well is = tt
 
 -- a process acts as it asks where what is done is what was decided
-pub acts : (table : CallTable) (t u : Tree) (before after : ProcessState) (action : Action) (d : Result Granted Refusal) (result : Result Answer WorldFault)
+pub acts : (table : CallTable) (t u : Tree) (before after : ProcessState) (action : Action) (d : Result Granted Refusal)
+    (result : Result Answer WorldFault)
     → ((h : History) → StandsFor before h → decision_for h d ≡ decide table t h action)
-    → ((h : History) (histories : List (ℕ × History)) → StandsFor before h → Attempts t h (come_of (record { tree = t; histories = histories }) h (decision_for h d)) result u after)
+    → ((h : History) (histories : List (ℕ × History)) → StandsFor before h →
+    Attempts t h (come_of (record { tree = t; histories = histories }) h (decision_for h d)) result u after)
     → Acts table t before action result u after
 acts table t u before after action d result same done = λ w h trees s. attempts_same t u h result after _ _
     ((λ i. come_of (record { tree = trees i; histories = w.histories }) h (decide table (trees i) h action))

@@ -23,14 +23,20 @@ stay_self h t s x here lacks = record { row = here; node = refl; covered = refl 
 pub by_other : (a b : History) → filter is_unveil a ≡ filter is_unveil b → (t u : Tree) → UncoveredStay a t u → UncoveredStay b t u
 by_other a b same t u stays s x here lacks =
     let stay = stays s x here (ap has_c (same_cover a b same t (object_in t s x)) ∙ lacks) in
-    record { row = stay.row; node = stay.node; covered = sym (same_cover a b same u (object_in u s x)) ∙ stay.covered ∙ same_cover a b same t (object_in t s x) }
+    record {
+      row = stay.row;
+      node = stay.node;
+      covered = sym (same_cover a b same u (object_in u s x)) ∙ stay.covered ∙
+          same_cover a b same t (object_in t s x);
+    }
 
 pub first_tree : (table : CallTable) (w : World) (asks : List Asked) → TreesAlong table w asks → WellFormed w.tree
 first_tree table w [] trees = trees
 first_tree table w (ask ∷ asks) trees = trees.0
 
 module _ (table : CallTable) (now : History) where
-  spares_along : TakingNeedsC table → (asks : List Asked) (w : World) (members : List ℕ) → Members w members now false → none_done is_exec table w asks members ≡ true
+  spares_along : TakingNeedsC table → (asks : List Asked) (w : World) (members : List ℕ) → Members w members now false →
+      none_done is_exec table w asks members ≡ true
       → members_alone table w asks members ≡ true → TreesAlong table w asks → UncoveredStay now w.tree (world_after table w asks).tree
   spares_along needs [] w members are none alone trees = stay_self now w.tree
   spares_along needs (ask ∷ asks) w members are none alone trees =
@@ -51,7 +57,8 @@ module _ (table : CallTable) (now : History) where
       by false e = e
       by true e = absurd (false≢true (sym lacks ∙ within.tightens.promises cpath (lit< tt, refl) e))
 
-  unchanged_along : ChangingNeedsCpath table → holds (held_set now) cpath ≡ false → (asks : List Asked) (w : World) (members : List ℕ) → Members w members now false
+  unchanged_along : ChangingNeedsCpath table → holds (held_set now) cpath ≡ false → (asks : List Asked) (w : World) (members : List ℕ) →
+      Members w members now false
       → none_done is_exec table w asks members ≡ true → members_alone table w asks members ≡ true → (world_after table w asks).tree ≡ w.tree
   unchanged_along needs lacks [] w members are none alone = refl
   unchanged_along needs lacks (ask ∷ asks) w members are none alone =
@@ -63,7 +70,8 @@ module _ (table : CallTable) (now : History) where
       ∙ cpath_changes table needs w ask asker.0 asker.1 (lacking asker.0 asker.2.within lacks)
 
 pub at_all : (w : World) (members : List ℕ) (now : History) → Members w members now true → Members w members now false
-at_all w members now are m belongs = let one = are m belongs in (one.0, one.1, record { within = one.2.within; dir = λ e. absurd (false≢true e) })
+at_all w members now are m belongs = let one = are m belongs in
+    (one.0, one.1, record { within = one.2.within; dir = λ e. absurd (false≢true e) })
 
 pub families_confine : FamiliesConfine
 families_confine table w asks process now here confined none alone =

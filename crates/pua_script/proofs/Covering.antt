@@ -38,14 +38,16 @@ module _ (t u : Tree) (well : WellFormed t) (well_then : WellFormed u) (h : Hist
   same_dir : (x : ℕ) → node_at u x ≡ node_at t x → is_dir u x ≡ is_dir t x
   same_dir x e = ap (λ o. is_dir_kind (option_map (λ n. n.kind) o)) e
 
-  module _ (some : list_any is_unveil h ≡ true) (stays : (s : Spot) (x : ℕ) → look t s.0 s.1 ≡ Some x → has_c (cover t h (object_in t s x)) ≡ false → IsThere t u s x) where
+  module _ (some : list_any is_unveil h ≡ true) (stays : (s : Spot) (x : ℕ) → look t s.0 s.1 ≡ Some x →
+      has_c (cover t h (object_in t s x)) ≡ false → IsThere t u s x) where
     cover_dir : (v : Tree) → WellFormed v → (s : Spot) (d : ℕ) → is_dir v d ≡ true → cover v h (object_in v s d) ≡ over v d
     cover_dir v w s d is =
         ap (λ b. cover v h (cond b (Whole d (Named s.0 s.1)) (Slot s.0 s.1 (Some d)))) is
         ∙ ap (λ b. cond b (dir_cover v d) All) some
         ∙ nearest_whole v w veil d is
 
-    cover_slot : (v : Tree) (s : Spot) (x : ℕ) → is_dir v x ≡ false → cover v h (object_in v s x) ≡ nearest (perms_kept h (place.Slot s.0 s.1) ∷ map veil (climb v s.0))
+    cover_slot : (v : Tree) (s : Spot) (x : ℕ) → is_dir v x ≡ false →
+        cover v h (object_in v s x) ≡ nearest (perms_kept h (place.Slot s.0 s.1) ∷ map veil (climb v s.0))
     cover_slot v s x is =
         ap (λ b. cover v h (cond b (Whole x (Named s.0 s.1)) (Slot s.0 s.1 (Some x)))) is
         ∙ ap (λ b. cond b (nearest (perms_kept h (place.Slot s.0 s.1) ∷ map veil (climb v s.0))) All) some
@@ -104,9 +106,11 @@ module _ (t u : Tree) (well : WellFormed t) (well_then : WellFormed u) (h : Hist
 
   -- without a veil everything is covered with `c`
   no_veils : (s : Spot) (x : ℕ) → list_any is_unveil h ≡ false → has_c (cover t h (object_in t s x)) ≡ true
-  no_veils s x none = ap (λ b. has_c (cond b (nearest (perms_kept h (place_of (object_in t s x)) ∷ map veil (directories_over t (object_in t s x)))) All)) none
+  no_veils s x none = ap
+      (λ b. has_c (cond b (nearest (perms_kept h (place_of (object_in t s x)) ∷ map veil (directories_over t (object_in t s x)))) All)) none
 
-  pub covers_stay : ((s : Spot) (x : ℕ) → look t s.0 s.1 ≡ Some x → has_c (cover t h (object_in t s x)) ≡ false → IsThere t u s x) → UncoveredStay h t u
+  pub covers_stay : ((s : Spot) (x : ℕ) → look t s.0 s.1 ≡ Some x → has_c (cover t h (object_in t s x)) ≡ false → IsThere t u s x) →
+      UncoveredStay h t u
   covers_stay stays s x here lacks = by (list_any is_unveil h) refl
     where
       by : (b : Bool) → list_any is_unveil h ≡ b → RowStays h t u s x

@@ -22,7 +22,8 @@ module _ (t u : Tree) (h : History) (a : Answer) (q : ProcessState) where
 
   -- an effect on the tree alone
   pub as_edit : (e : Effect) → Edits t h e a u → StandsFor q h → Does t h e a u q
-  as_edit e edits stands = record { told = edits.told; left = edits.left; stands = subst (StandsFor q) (sym edits.same) stands; alone = edits.alone }
+  as_edit e edits stands =
+      record { told = edits.told; left = edits.left; stands = subst (StandsFor q) (sym edits.same) stands; alone = edits.alone }
 
 -- the same where a growth may have been refused
 module _ (t u : Tree) (h : History) (r : Result Answer WorldFault) (q : ProcessState) where

@@ -34,7 +34,8 @@ pub some_none : {A : Type 0} (x : A) → Some x ≡ None → ⊥
 some_none x is = cc
 
 -- a row whose node is no directory in which something stands can be taken away
-cut_ok : (t : Tree) (dir : ℕ) (name : List ℕ) (x : ℕ) → is_dir t dir ≡ true → look t dir name ≡ Some x → is_full_dir t x ≡ false → IsOk (cut t dir name)
+cut_ok : (t : Tree) (dir : ℕ) (name : List ℕ) (x : ℕ) → is_dir t dir ≡ true → look t dir name ≡ Some x → is_full_dir t x ≡ false →
+    IsOk (cut t dir name)
 cut_ok t dir name x lives there alone =
     let is : cut t dir name ≡ Ok (x, without_unnamed (without_row t dir name) x) =
     (λ i. cond (not (lives i)) (Err faults.NotDir) (cut_found t dir name (there i)))
@@ -53,7 +54,8 @@ is_emptied true is = refl
 is_emptied false is = absurd (some_none _ is)
 
 module _ (t : Tree) where
-  removable_at : (dir : ℕ) (name : List ℕ) (o : Option Spot) → o ≡ Some (dir, name) → IsOk (cut t dir name) → (spot : Spot) → o ≡ Some spot → IsOk (cut t spot.0 spot.1)
+  removable_at : (dir : ℕ) (name : List ℕ) (o : Option Spot) → o ≡ Some (dir, name) → IsOk (cut t dir name) → (spot : Spot) →
+      o ≡ Some spot → IsOk (cut t spot.0 spot.1)
   removable_at dir name o here ok spot is = subst (λ s. IsOk (cut t s.0 s.1)) (same_Some _ _ (sym here ∙ is)) ok
 
   no_rmdir : (o : Option Kind) → object_fault t calls.Rmdir (object_of_kind o) ≡ None → ⊥
@@ -65,7 +67,8 @@ module _ (t : Tree) where
 
   pub rmdir_removes : (object : Found) → IsFor t calls.Rmdir object → IsRemovable t object
   rmdir_removes (Whole dir (ways.Named parent name)) for =
-      removable_at parent name (Some (parent, name)) refl (cut_ok t parent name dir for.name.named.0 for.name.named.1 (empty_alone t dir (is_emptied (is_empty t dir) for.kind)))
+      removable_at parent name (Some (parent, name)) refl (cut_ok t parent name dir for.name.named.0 for.name.named.1
+      (empty_alone t dir (is_emptied (is_empty t dir) for.kind)))
   rmdir_removes (Whole dir ways.Dot) for = absurd (some_none _ for.kind)
   rmdir_removes (Whole dir ways.DotDot) for = absurd (some_none _ for.kind)
   rmdir_removes (Whole dir ways.Top) for = absurd (some_none _ for.kind)
@@ -77,4 +80,5 @@ module _ (t : Tree) where
   unlink_removes (Slot dir name None) for = absurd (some_none _ for.kind)
   unlink_removes (Slot dir name (Some x)) for =
       let alone = and_parts (option_eq ◌==◌ (look t dir name) (Some x)) _ (and_parts (is_dir t dir) _ for.name.fits).1 in
-      removable_at dir name (Some (dir, name)) refl (cut_ok t dir name x for.name.named.0 for.name.named.1 (ap (λ b. b && not (has_no_row t x)) (not-true (is_dir t x) alone.1)))
+      removable_at dir name (Some (dir, name)) refl (cut_ok t dir name x for.name.named.0 for.name.named.1
+      (ap (λ b. b && not (has_no_row t x)) (not-true (is_dir t x) alone.1)))

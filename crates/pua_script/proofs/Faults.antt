@@ -4,7 +4,8 @@ use Rattle.std.specs.Prelude.{Option, Some, None, option_map, Result, Ok, Err, n
 use Rattle.pua_tree.specs.Steps.{◌>>=◌}
 use Rattle.pua_tree.specs.Tree.{Tree, is_dir, is_empty, above}
 use Rattle.pua_path.specs.Paths.{parts_of, is_absolute, path_fault, text_fault, text_errno}
-use Rattle.pua_path.specs.Resolution.{Resolved, Directory, Linked, Plain, Nothing, standing_at, is_followed, slot_or, walk, start_of, resolve_parts, resolution_of_text, most_links}
+use Rattle.pua_path.specs.Resolution.{Resolved, Directory, Linked, Plain, Nothing, standing_at, is_followed, slot_or, walk, start_of}
+use Rattle.pua_path.specs.Resolution.{resolve_parts, resolution_of_text, most_links}
 use Rattle.pua_path.specs.Fits.{node_named}
 use Rattle.pua_path.specs.declared.errno.Errno.{Errno}
 use Rattle.pua_path.specs.declared.errno.Errno.TheVariants.{EPERM, ENOENT, EACCES, EINVAL, ENOTEMPTY, ENOSPC, ENOTDIR, ELOOP}
@@ -26,7 +27,8 @@ use Rattle.pua_policy.specs.History.{History, working_dir, may_any, unveil_fault
 use Rattle.pua_policy.specs.Misfits.{misfit, misfit_errno}
 use Rattle.pua_policy.specs.Verdict.{Object, place_of, cover, cover_fault, object_fault, object_of, object_named}
 use Rattle.pua_policy.specs.declared.reason.Misfit.{Misfit}
-use Rattle.pua_policy.specs.declared.reason.Misfit.TheVariants.{Missing, Exists, IsDirectory, IsNoFile, IsNoDirectory, IsNoLink, IsNoProgram, IsNotEmpty, ByDot, ByDotDot, ByNothing}
+use Rattle.pua_policy.specs.declared.reason.Misfit.TheVariants.{Missing, Exists, IsDirectory, IsNoFile, IsNoDirectory, IsNoLink}
+use Rattle.pua_policy.specs.declared.reason.Misfit.TheVariants.{IsNoProgram, IsNotEmpty, ByDot, ByDotDot, ByNothing}
 use Rattle.pua_calls.specs.declared.call.Call.{Call}
 use Rattle.pua_policy.specs.declared.answer.Cover.{Cover}
 use Rattle.pua_policy.specs.declared.answer.Cover.TheVariants as covers
@@ -41,7 +43,9 @@ use Rattle.pua_path.specs.declared.found.Found.TheVariants.{Whole}
 use Rattle.pua_tree.specs.Tree.{Spot}
 use Rattle.pua_policy.specs.Verdict.{or_fault}
 use Rattle.pua_policy.specs.declared.answer.Refusal.TheVariants.{Failed}
-use Rattle.pua_script.specs.Decide.{Change, NoChange, Decision, fails, if_may, unless_fault, if_named as decide_named, decide_object, decide_pair, decide_rename, decide_link, decide_veil, shifting, named_by, dots_fault, top_fault, is_whole, fault_if, kinds_fault, inside_fault, unveil_errno}
+use Rattle.pua_script.specs.Decide.{Change, NoChange, Decision, fails, if_may, unless_fault, if_named as decide_named, decide_object}
+use Rattle.pua_script.specs.Decide.{decide_pair, decide_rename, decide_link, decide_veil, shifting, named_by, dots_fault, top_fault}
+use Rattle.pua_script.specs.Decide.{is_whole, fault_if, kinds_fault, inside_fault, unveil_errno}
 
 -- faults other than ENOSPC
 abbrev pub Apart : Option Errno → Type 0
@@ -74,7 +78,8 @@ inside_apart t x None = λ e. cc
 inside_apart t x (Some spot) = if_apart (is_inside t x spot.0) EINVAL (λ e. cc)
 
 kinds_apart : (t : Tree) (x : ℕ) (old new : Found) → Apart (kinds_fault t x old new)
-kinds_apart t x old (Whole y way) = or_apart _ _ (if_apart (not (is_whole old)) EISDIR (λ e. cc)) (if_apart (not (is_empty t y)) ENOTEMPTY (λ e. cc))
+kinds_apart t x old (Whole y way) =
+    or_apart _ _ (if_apart (not (is_whole old)) EISDIR (λ e. cc)) (if_apart (not (is_empty t y)) ENOTEMPTY (λ e. cc))
 kinds_apart t x old (Slot dir name None) = λ e. cc
 kinds_apart t x old (Slot dir name (Some y)) = if_apart (is_whole old) ENOTDIR (λ e. cc)
 
@@ -110,7 +115,8 @@ slot_apart (part ∷ rest) found errno links other = other
 
 module _ (t : Tree) (mode : Last) (links : ℕ) (follow : ℕ → List ℕ → List Part → Resolved)
     (follows : (from : ℕ) (target : List ℕ) (rest : List Part) → IsApart (follow from target rest)) where
-  linked_apart : (b : Bool) (from : ℕ) (target : List ℕ) (rest : List Part) (found : Found) → IsApart (cond b (follow from target rest) (Ok (found, links)))
+  linked_apart : (b : Bool) (from : ℕ) (target : List ℕ) (rest : List Part) (found : Found) →
+      IsApart (cond b (follow from target rest) (Ok (found, links)))
   linked_apart true from target rest found = follows from target rest
   linked_apart false from target rest found = tt
 
@@ -133,7 +139,8 @@ module _ (t : Tree) (mode : Last) (links : ℕ) (follow : ℕ → List ℕ → L
 resolve_apart : (links : ℕ) (t : Tree) (mode : Last) (dir : ℕ) (by : Way) (ps : List Part) → IsApart (resolve_parts links t mode dir by ps)
 resolve_apart zero t mode dir by ps = walk_apart t mode 0 (λ from target rest. Err ELOOP) (λ from target rest e. cc) ps dir by
 resolve_apart (suc links) t mode dir by ps =
-    walk_apart t mode (suc links) _ (λ from target rest. resolve_apart links t mode (start_of target from) way.Top (parts_of ending.Dot target ++ rest)) ps dir by
+    walk_apart t mode (suc links) _ (λ from target rest. resolve_apart links t mode (start_of target from) way.Top
+    (parts_of ending.Dot target ++ rest)) ps dir by
 
 abbrev errno_of : Result Found Errno → Errno
 errno_of (Ok found) = ENOSPC
@@ -156,7 +163,8 @@ named t from end text mode = by (path_fault text) refl (path_apart text)
   where
     by : (o : Option Errno) → path_fault text ≡ o → Apart (path_fault text) → Named (resolution_of_text t from end text mode)
     by None e apart = rw e
-        (named_if (not (is_absolute text) && not (is_dir t from)) _ (named_from _ (resolve_apart most_links t mode (start_of text from) way.Top (parts_of end text))))
+        (named_if (not (is_absolute text) && not (is_dir t from)) _
+        (named_from _ (resolve_apart most_links t mode (start_of text from) way.Top (parts_of end text))))
     by (Some errno) e apart = rw e (λ is. apart (e ∙ ap (λ r. Some (errno_of r)) is))
 
 -- faults of covers and of what was found
@@ -215,17 +223,21 @@ named_apart (Err errno) f other has = fails_apart errno (λ same. other (ap Err 
 pub granted_apart : (c : Change) → HasRoom (Ok c)
 granted_apart c e = cc
 
-pub object_has_room : (table : CallTable) (t : Tree) (h : History) (c : Call) (path : List ℕ) (f : Found → Change) → HasRoom (decide_object table t h c path (λ x. Ok (f x)))
+pub object_has_room : (table : CallTable) (t : Tree) (h : History) (c : Call) (path : List ℕ) (f : Found → Change) →
+    HasRoom (decide_object table t h c path (λ x. Ok (f x)))
 object_has_room table t h c path f = named_apart (object_named t h c path) _ (named t (working_dir h) (ending_of c) path (last_of c)) λ x.
-    checked_apart _ _ (or_apart _ _ (cover_apart (cover t h x) (rule_of table c).perms) (object_apart t c (object_of t x))) (granted_apart (f x))
+    checked_apart _ _ (or_apart _ _ (cover_apart (cover t h x) (rule_of table c).perms) (object_apart t c (object_of t x)))
+    (granted_apart (f x))
 
-pub pair_has_room : (pair : PairRule) (t : Tree) (h : History) (end : Ending) (old_path new_path : List ℕ) (f : Found → Found → Decision) → ((old new : Found) → HasRoom (f old new)) → HasRoom (decide_pair pair t h end old_path new_path f)
+pub pair_has_room : (pair : PairRule) (t : Tree) (h : History) (end : Ending) (old_path new_path : List ℕ) (f : Found → Found → Decision) →
+    ((old new : Found) → HasRoom (f old new)) → HasRoom (decide_pair pair t h end old_path new_path f)
 pair_has_room pair t h end old_path new_path f has =
     promised_apart (may_any h pair.old.needs.alternatives) _
     (promised_apart (may_any h pair.new.needs.alternatives) _
     (named_apart (named_by pair.old t h end old_path) _ (named t (working_dir h) end old_path pair.old.last) λ old.
     named_apart (named_by pair.new t h end new_path) _ (named t (working_dir h) end new_path pair.new.last) λ new.
-    checked_apart _ _ (or_apart _ _ (cover_apart (cover t h old) pair.old.needs.perms) (cover_apart (cover t h new) pair.new.needs.perms)) (has old new)))
+    checked_apart _ _ (or_apart _ _ (cover_apart (cover t h old) pair.old.needs.perms) (cover_apart (cover t h new) pair.new.needs.perms))
+    (has old new)))
 
 pub rename_has_room : (t : Tree) (old new : Found) (x : Option ℕ) → HasRoom (decide_rename t old new x)
 rename_has_room t old new None = λ e. cc
@@ -233,14 +245,17 @@ rename_has_room t old new (Some x) =
     checked_apart _ _ (or_apart _ _ (dots_apart old) (or_apart _ _ (dots_apart new) (or_apart _ _ (top_apart old) (top_apart new))))
     (by (is_same_node x (node_named new)))
   where
-    by : (same : Bool) → HasRoom (cond {A = Decision} same (Ok NoChange) (unless_fault (or_fault (inside_fault t x (spot_named new)) (kinds_fault t x old new)) (Ok (shifting (spot_named old) (spot_named new)))))
+    by : (same : Bool) → HasRoom
+        (cond {A = Decision} same (Ok NoChange) (unless_fault (or_fault (inside_fault t x (spot_named new)) (kinds_fault t x old new))
+        (Ok (shifting (spot_named old) (spot_named new)))))
     by true = granted_apart NoChange
     by false = checked_apart _ _ (or_apart _ _ (inside_apart t x (spot_named new)) (kinds_apart t x old new)) (granted_apart _)
 
 pub link_has_room : (old new : Found) (x : Option ℕ) → HasRoom (decide_link old new x)
 link_has_room old new None = λ e. cc
 link_has_room old new (Some x) =
-    checked_apart _ _ (or_apart _ _ (if_apart (is_whole old) EPERM (λ e. cc)) (if_apart (is_some (node_named new)) EEXIST (λ e. cc))) (granted_apart _)
+    checked_apart _ _ (or_apart _ _ (if_apart (is_whole old) EPERM (λ e. cc)) (if_apart (is_some (node_named new)) EEXIST (λ e. cc)))
+    (granted_apart _)
 
 pub veil_has_room : (t : Tree) (h : History) (path : List ℕ) (perms : Option ℕ) → HasRoom (decide_veil t h path perms)
 veil_has_room t h path None = λ e. cc

@@ -20,7 +20,9 @@ use Rattle.pua_calls.specs.declared.call.Call.{Call}
 use Rattle.pua_calls.specs.declared.call.Call.TheVariants as call
 use Rattle.pua_policy.specs.declared.answer.May.{May}
 use Rattle.pua_policy.specs.declared.answer.May.TheVariants as may
-use Rattle.pua_script.specs.Decide.{fault_if, is_whole, link_node, unveil_errno, given_set, is_unknown, inside_fault, kinds_fault, Change, NoChange, Decision, if_may, unless_fault, if_named, adding, change_by, decide_rename, decide_link, decide_veil, decide_pair, shifting, ways_fault, covers_fault, named_by}
+use Rattle.pua_script.specs.Decide.{fault_if, is_whole, link_node, unveil_errno, given_set, is_unknown, inside_fault, kinds_fault, Change}
+use Rattle.pua_script.specs.Decide.{NoChange, Decision, if_may, unless_fault, if_named, adding, change_by, decide_rename, decide_link}
+use Rattle.pua_script.specs.Decide.{decide_veil, decide_pair, shifting, ways_fault, covers_fault, named_by}
 use Rattle.pua_script.specs.declared.request.Action.TheVariants.{OnPath, Symlink, Rename, Link, Pledge, Unveil, Lock, Fork, Exit}
 use Rattle.pua_script.specs.Guards.{OnOne, OnTwo, IsShift, IsVeil, DecisionsAreGuarded}
 use Rattle.std.proofs.lemmas.Bool.{and_parts}
@@ -29,7 +31,8 @@ use Rattle.pua_script.specs.Bytes.{is_bytes}
 use Rattle.pua_script.specs.Guards.{IsDecided}
 use Rattle.pua_script.specs.Laws.{RefusalsLackNoRoom}
 use Rattle.pua_script.specs.declared.request.Action.{Action}
-use Rattle.pua_script.proofs.Faults.{promised_apart, checked_apart, if_apart, none_or, path_apart, granted_apart, object_has_room, pair_has_room, rename_has_room, link_has_room, veil_has_room}
+use Rattle.pua_script.proofs.Faults.{promised_apart, checked_apart, if_apart, none_or, path_apart, granted_apart, object_has_room}
+use Rattle.pua_script.proofs.Faults.{pair_has_room, rename_has_room, link_has_room, veil_has_room}
 use Rattle.pua_script.proofs.Grounds.{Grounds, on_adding, on_call, on_rename, on_link, link_leads}
 use Rattle.pua_script.proofs.Linking.{target_is}
 
@@ -66,7 +69,8 @@ second_none (Some errno) b e = cc
 
 module _ (t : Tree) (h : History) where
   -- a call's object, once its promises are held
-  one : (table : CallTable) (c : Call) (path : List ℕ) (g : Found → Change) (change : Change) → may_any h (rule_of table c).alternatives ≡ may.Yes
+  one : (table : CallTable) (c : Call) (path : List ℕ) (g : Found → Change) (change : Change) →
+      may_any h (rule_of table c).alternatives ≡ may.Yes
       → (if_named (object_named t h c path) λ x. unless_fault (found_fault t table h c x) (Ok (g x))) ≡ Ok change
       → (object : Found) × OnOne table t h c path object × (change ≡ g object)
   one table c path g change may e =
@@ -78,21 +82,26 @@ module _ (t : Tree) (h : History) where
 
   -- what both paths named
   abbrev Pair : PairRule → Ending → List ℕ → List ℕ → (Found → Found → Option ℕ → Decision) → Change → Type 0
-  Pair rules end old_path new_path f change = (old : Found) × (new : Found) × (x : ℕ) × OnTwo rules t h end old_path new_path old new x × (f old new (Some x) ≡ Ok change)
+  Pair rules end old_path new_path f change = (old : Found) × (new : Found) × (x : ℕ) × OnTwo rules t h end old_path new_path old new x ×
+      (f old new (Some x) ≡ Ok change)
 
-  pair : (rules : PairRule) (end : Ending) (old new : List ℕ) (f : Found → Found → Option ℕ → Decision) (change : Change) → ((a b : Found) → f a b None ≡ Ok change → ⊥)
+  pair : (rules : PairRule) (end : Ending) (old new : List ℕ) (f : Found → Found → Option ℕ → Decision) (change : Change) →
+      ((a b : Found) → f a b None ≡ Ok change → ⊥)
       → decide_pair rules t h end old new (λ a b. f a b (node_named a)) ≡ Ok change → Pair rules end old new f change
   pair rules end old new f change never e =
       let may_old = from_promised (may_any h rules.old.needs.alternatives) _ change e in
       let may_new = from_promised (may_any h rules.new.needs.alternatives) _ change may_old.1 in
-      let first = from_named (named_by rules.old t h end old) (λ a. if_named (named_by rules.new t h end new) λ b. unless_fault (covers_fault rules t h a b) (f a b (node_named a))) change may_new.1 in
+      let first = from_named (named_by rules.old t h end old) (λ a. if_named (named_by rules.new t h end new) λ b. unless_fault
+      (covers_fault rules t h a b) (f a b (node_named a))) change may_new.1 in
       let a = first.0 in
-      let second = from_named (named_by rules.new t h end new) (λ b. unless_fault (covers_fault rules t h a b) (f a b (node_named a))) change first.2 in
+      let second = from_named (named_by rules.new t h end new) (λ b. unless_fault (covers_fault rules t h a b) (f a b (node_named a)))
+      change first.2 in
       let b = second.0 in
       let free = from_checked (covers_fault rules t h a b) (f a b (node_named a)) change second.2 in
       by a b (node_named a) refl may_old.0 may_new.0 first.1 second.1 free.0 free.1
     where
-      by : (a b : Found) (o : Option ℕ) → node_named a ≡ o → may_any h rules.old.needs.alternatives ≡ may.Yes → may_any h rules.new.needs.alternatives ≡ may.Yes → named_by rules.old t h end old ≡ Ok a → named_by rules.new t h end new ≡ Ok b
+      by : (a b : Found) (o : Option ℕ) → node_named a ≡ o → may_any h rules.old.needs.alternatives ≡ may.Yes →
+          may_any h rules.new.needs.alternatives ≡ may.Yes → named_by rules.old t h end old ≡ Ok a → named_by rules.new t h end new ≡ Ok b
           → covers_fault rules t h a b ≡ None → f a b o ≡ Ok change → Pair rules end old new f change
       by a b None is may_old may_new fa fb none e = absurd (never a b e)
       by a b (Some x) is may_old may_new fa fb none e = (
@@ -105,13 +114,15 @@ module _ (t : Tree) (h : History) where
           found_old = fa;
           found_new = fb;
           covered_old = first_none (cover_fault (cover t h a) rules.old.needs.perms) (cover_fault (cover t h b) rules.new.needs.perms) none;
-          covered_new = second_none (cover_fault (cover t h a) rules.old.needs.perms) (cover_fault (cover t h b) rules.new.needs.perms) none;
+          covered_new = second_none (cover_fault (cover t h a) rules.old.needs.perms) (cover_fault (cover t h b) rules.new.needs.perms)
+              none;
           named = is;
         },
         e,
       )
 
-  renamed : (a b : Found) (x : ℕ) (change : Change) → decide_rename t a b (Some x) ≡ Ok change → (ways_fault a b ≡ None) × ((change ≡ NoChange) ⊎ IsShift t a b x change)
+  renamed : (a b : Found) (x : ℕ) (change : Change) → decide_rename t a b (Some x) ≡ Ok change →
+      (ways_fault a b ≡ None) × ((change ≡ NoChange) ⊎ IsShift t a b x change)
   renamed a b x change e =
       let free = from_checked (ways_fault a b) _ change e in
       (free.0, by (is_same_node x (node_named b)) refl free.1)
@@ -119,7 +130,9 @@ module _ (t : Tree) (h : History) where
       kinds : Option Errno
       kinds = or_fault (inside_fault t x (spot_named b)) (kinds_fault t x a b)
 
-      by : (same : Bool) → is_same_node x (node_named b) ≡ same → cond {A = Decision} same (Ok NoChange) (unless_fault kinds (Ok (shifting (spot_named a) (spot_named b)))) ≡ Ok change → (change ≡ NoChange) ⊎ IsShift t a b x change
+      by : (same : Bool) → is_same_node x (node_named b) ≡ same →
+          cond {A = Decision} same (Ok NoChange) (unless_fault kinds (Ok (shifting (spot_named a) (spot_named b)))) ≡ Ok change →
+          (change ≡ NoChange) ⊎ IsShift t a b x change
       by true is e = inl (is_ok _ _ e)
       by false is e =
           let last = from_checked kinds (Ok (shifting (spot_named a) (spot_named b))) change e in
@@ -130,12 +143,22 @@ module _ (t : Tree) (h : History) where
             is = is_ok _ _ last.1;
           })
 
-  veiled : (path : List ℕ) (letters : Option ℕ) (change : Change) → may_any h (unveil ∷ []) ≡ may.Yes → is_locked h ≡ false → decide_veil t h path letters ≡ Ok change → IsVeil t h path letters change
+  veiled : (path : List ℕ) (letters : Option ℕ) (change : Change) → may_any h (unveil ∷ []) ≡ may.Yes → is_locked h ≡ false →
+      decide_veil t h path letters ≡ Ok change → IsVeil t h path letters change
   veiled path None change may unlocked e = cc
   veiled path (Some perms) change may unlocked e =
       let at = from_named (resolution_of_text t (working_dir h) ending.Dot path Followed) _ change e in
       let free = from_checked (unveil_errno (unveil_fault h (place_of at.0) perms)) _ change at.2 in
-      record { object = at.0; perms = perms; promised = may; unlocked = unlocked; known = refl; found = at.1; room = free.0; is = is_ok _ _ free.1 }
+      record {
+        object = at.0;
+        perms = perms;
+        promised = may;
+        unlocked = unlocked;
+        known = refl;
+        found = at.1;
+        room = free.0;
+        is = is_ok _ _ free.1;
+      }
 
 pub decisions_are_guarded : DecisionsAreGuarded
 decisions_are_guarded table t h (OnPath c path) change e =
@@ -155,7 +178,15 @@ decisions_are_guarded table t h (Link old new) change e =
     let free = from_checked (or_fault (fault_if (is_whole p.0) EPERM) (fault_if (is_some (node_named p.1)) EEXIST)) _ change p.4 in
     let a = fault_if (is_whole p.0) EPERM in
     let b = fault_if (is_some (node_named p.1)) EEXIST in
-    record { old = p.0; new = p.1; node = p.2; two = p.3; no_dir = not_faulty _ EPERM (first_none a b free.0); free = not_faulty _ EEXIST (second_none a b free.0); is = is_ok _ _ free.1 }
+    record {
+      old = p.0;
+      new = p.1;
+      node = p.2;
+      two = p.3;
+      no_dir = not_faulty _ EPERM (first_none a b free.0);
+      free = not_faulty _ EEXIST (second_none a b free.0);
+      is = is_ok _ _ free.1;
+    }
 decisions_are_guarded table t h (Pledge p x) change e =
     let known = from_checked (fault_if (is_unknown p || is_unknown x) EINVAL) _ change e in
     let free = from_checked (pledge_fault h (given_set p) (given_set x)) _ change known.1 in
@@ -177,9 +208,12 @@ module _ (table : CallTable) (t : Tree) (h : History) where
   grounds (Symlink target path) c d = subst (Grounds table t h (Symlink target path)) (sym d.3)
       (on_adding table t h (Symlink target path) call.Symlink path d.0 (link_node target) d.1 refl (target_is target d.2)
       (λ small. let two = and_parts (is_bytes target) (is_bytes path) small in (two.1, link_leads table t h target two.0)) (λ full. full))
-  grounds (Rename old new) c d = on_rename table t h (Rename old new) old new d.old d.new d.node c d.two (λ small. (and_parts (is_bytes old) (is_bytes new) small).1) d.moves
+  grounds (Rename old new) c d =
+      on_rename table t h (Rename old new) old new d.old d.new d.node c d.two (λ small. (and_parts (is_bytes old) (is_bytes new) small).1)
+      d.moves
   grounds (Link old new) c d = subst (Grounds table t h (Link old new)) (sym d.is)
-      (on_link table t h (Link old new) old new d.old d.new d.node d.two d.no_dir d.free (λ small. (and_parts (is_bytes old) (is_bytes new) small).1) (λ full. full))
+      (on_link table t h (Link old new) old new d.old d.new d.node d.two d.no_dir d.free
+      (λ small. (and_parts (is_bytes old) (is_bytes new) small).1) (λ full. full))
   grounds (Pledge p x) c d = subst (Grounds table t h (Pledge p x)) (sym d.is) tt
   grounds (Unveil path perms) c d = subst (Grounds table t h (Unveil path perms)) (sym d.is) (d.promised, d.unlocked)
   grounds Lock c d = subst (Grounds table t h Lock) (sym d.1) tt
@@ -188,13 +222,16 @@ module _ (table : CallTable) (t : Tree) (h : History) where
 
 pub refusals_lack_no_room : RefusalsLackNoRoom
 refusals_lack_no_room table t h (OnPath c path) = promised_apart _ _ (object_has_room table t h c path (change_by table c))
-refusals_lack_no_room table t h (Symlink target path) = promised_apart _ _ (checked_apart _ _ (path_apart target) (object_has_room table t h call.Symlink path (adding (link_node target))))
-refusals_lack_no_room table t h (Rename old new) = pair_has_room table.rename t h ending.Dropped old new _ λ a b. rename_has_room t a b (node_named a)
+refusals_lack_no_room table t h (Symlink target path) =
+    promised_apart _ _ (checked_apart _ _ (path_apart target) (object_has_room table t h call.Symlink path (adding (link_node target))))
+refusals_lack_no_room table t h (Rename old new) =
+    pair_has_room table.rename t h ending.Dropped old new _ λ a b. rename_has_room t a b (node_named a)
 refusals_lack_no_room table t h (Link old new) = pair_has_room table.link t h ending.Dot old new _ λ a b. link_has_room a b (node_named a)
 refusals_lack_no_room table t h (Pledge promises execpromises) =
     checked_apart _ _ (if_apart (is_unknown promises || is_unknown execpromises) EINVAL (λ e. cc))
     (checked_apart _ _ (none_or _ EPERM (λ e. cc)) (granted_apart _))
-refusals_lack_no_room table t h (Unveil path perms) = promised_apart _ _ (checked_apart _ _ (if_apart (is_locked h) EPERM (λ e. cc)) (veil_has_room t h path perms))
+refusals_lack_no_room table t h (Unveil path perms) =
+    promised_apart _ _ (checked_apart _ _ (if_apart (is_locked h) EPERM (λ e. cc)) (veil_has_room t h path perms))
 refusals_lack_no_room table t h Lock = promised_apart _ _ (granted_apart _)
 refusals_lack_no_room table t h (Fork new) = promised_apart _ _ (granted_apart _)
 refusals_lack_no_room table t h Exit = granted_apart _

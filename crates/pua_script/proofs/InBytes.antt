@@ -36,19 +36,24 @@ stands_in_bytes File (Some target) h = cc
 stands_in_bytes Prog (Some target) h = cc
 stands_in_bytes kind None h = refl
 
-made_leads : (hard : Bool) (earlier : List Entry) (e : Entry) (made : Option Node) (rest : List (ℕ × Node)) → made_fits hard earlier e made ≡ true
+made_leads : (hard : Bool) (earlier : List Entry) (e : Entry) (made : Option Node) (rest : List (ℕ × Node)) →
+    made_fits hard earlier e made ≡ true
     → list_all node_leads rest ≡ true → list_all node_leads (cons_option (option_map (λ node. (e.number, node)) made) rest) ≡ true
 made_leads hard earlier e None rest fits all = all
 made_leads hard earlier e (Some node) rest fits all =
-    and_from (leads_to_bytes node.target) _ (stands_in_bytes node.kind node.target (and_parts _ (target_stands node.kind node.target) fits).1) all
+    and_from (leads_to_bytes node.target) _
+    (stands_in_bytes node.kind node.target (and_parts _ (target_stands node.kind node.target) fits).1) all
 
-entries_lead : (hard : Bool) (earlier es : List Entry) → entries_fit hard earlier es ≡ true → list_all node_leads (filter_map made_entry es) ≡ true
+entries_lead : (hard : Bool) (earlier es : List Entry) → entries_fit hard earlier es ≡ true →
+    list_all node_leads (filter_map made_entry es) ≡ true
 entries_lead hard earlier [] fit = refl
 entries_lead hard earlier (e ∷ es) fit =
     let parts = and_parts (entry_fits hard earlier e) (entries_fit hard (earlier ++ e ∷ []) es) fit in
-    made_leads hard earlier e e.made (filter_map made_entry es) (fits_parts hard earlier e parts.0).made (entries_lead hard (earlier ++ e ∷ []) es parts.1)
+    made_leads hard earlier e e.made (filter_map made_entry es) (fits_parts hard earlier e parts.0).made
+    (entries_lead hard (earlier ++ e ∷ []) es parts.1)
 
-targets_lead : (t : Tree) → list_all node_leads t.nodes ≡ true → (x : ℕ) (target : List ℕ) → target_at t x ≡ Some target → is_bytes target ≡ true
+targets_lead : (t : Tree) → list_all node_leads t.nodes ≡ true → (x : ℕ) (target : List ℕ) → target_at t x ≡ Some target →
+    is_bytes target ≡ true
 targets_lead t all x target = by (node_at t x) refl
   where
     by : (o : Option Node) → node_at t x ≡ o → option_and_then (λ n. n.target) o ≡ Some target → is_bytes target ≡ true

@@ -28,12 +28,15 @@ dir_lives None is = cc
 dir_lives (Some node) is = refl
 
 -- what a path named lives
-pub named_lives : (t : Tree) → WellFormed t → (object : Found) (x : ℕ) → NameFits t object → node_named object ≡ Some x → is_living t x ≡ true
+pub named_lives : (t : Tree) → WellFormed t → (object : Found) (x : ℕ) → NameFits t object → node_named object ≡ Some x →
+    is_living t x ≡ true
 named_lives t well (Whole dir way) x fits is = subst (λ y. is_living t y ≡ true) (same_Some dir x is) (dir_lives (node_at t dir) fits.fits)
 named_lives t well (Slot dir name there) x fits is = row_lives t well dir name x (fits.named.1 ∙ is)
 
 -- a link's text without fault is a target
-target_free : (long short nul some : Bool) → option_map text_errno (cond long (Some LongText) (cond (not short) (Some LongComponent) (cond nul (Some NulInText) None))) ≡ None → (long ≡ false) × (short ≡ true) × (nul ≡ false)
+target_free : (long short nul some : Bool) →
+    option_map text_errno (cond long (Some LongText) (cond (not short) (Some LongComponent) (cond nul (Some NulInText) None))) ≡ None →
+    (long ≡ false) × (short ≡ true) × (nul ≡ false)
 target_free true short nul some e = cc
 target_free false false nul some e = cc
 target_free false true true some e = cc
@@ -44,5 +47,6 @@ target_is [] e = cc
 target_is (b ∷ more) e =
     let free = target_free (nat_lt most_path (length (b ∷ more))) (has_short_components (b ∷ more)) (has_byte 0 (b ∷ more)) true e in
     and_from (nat_lt 0 (length (b ∷ more))) _ (lt-ltb 0 (length (b ∷ more)) (omega arith))
-    (and_from (nat_le (length (b ∷ more)) most_target) _ (le-leb (length (b ∷ more)) most_path (ltb-false most_path (length (b ∷ more)) free.0))
+    (and_from (nat_le (length (b ∷ more)) most_target) _
+    (le-leb (length (b ∷ more)) most_path (ltb-false most_path (length (b ∷ more)) free.0))
     (and_from (not (has_byte 0 (b ∷ more))) _ (ap not free.2) free.1))

@@ -13,7 +13,8 @@ use Rattle.pua_policy.proofs.ForCallers.{held_never_grows}
 use Rattle.pua_policy.specs.declared.answer.May.TheVariants as may
 use Rattle.pua_script.specs.declared.request.Action.{Action}
 use Rattle.pua_script.specs.Decide.{Change, NoChange, AddNode, CutRow, ShiftRow, TieRow, BeginProgram, AddEvent, CopyAs, decide}
-use Rattle.pua_script.specs.Replay.{World, Effect, Fails, Kills, Leaves, Copies, history_of, effect, edit_effect, edited_tree, change_effect, refusal_effect}
+use Rattle.pua_script.specs.Replay.{World, Effect, Fails, Kills, Leaves, Copies, history_of, effect, edit_effect, edited_tree}
+use Rattle.pua_script.specs.Replay.{change_effect, refusal_effect}
 use Rattle.pua_script.specs.Limits.{most_processes}
 use Rattle.pua_policy.specs.declared.answer.Refusal.{Refusal}
 use Rattle.pua_policy.specs.declared.answer.Refusal.TheVariants.{Failed, Killed}
@@ -77,14 +78,17 @@ module _ (m : Bool) (t : Tree) (h : History) where
   -- a process that can put no veil may not unveil
   no_unveil : IsConfined h → may_any h (unveil ∷ []) ≡ may.Yes → is_locked h ≡ false → ⊥
   no_unveil (inl locked) says unlocked = true≢false (sym locked ∙ unlocked)
-  no_unveil (inr lacking) says unlocked = by (is_ended h) (has_error h) (ap (λ b. cond (is_ended h) may.Death (cond (b || false) may.Yes (cond (has_error h) may.Enosys may.Death))) (sym lacking) ∙ says)
+  no_unveil (inr lacking) says unlocked =
+      by (is_ended h) (has_error h)
+      (ap (λ b. cond (is_ended h) may.Death (cond (b || false) may.Yes (cond (has_error h) may.Enosys may.Death))) (sym lacking) ∙ says)
     where
       by : (a b : Bool) → cond a may.Death (cond false may.Yes (cond b may.Enosys may.Death)) ≡ may.Yes → ⊥
       by true b e = cc
       by false true e = cc
       by false false e = cc
 
-  steps_by : (table : CallTable) (action : Action) (c : Change) → Grounds table t h action c → IsConfined h → is_exec action ≡ false → (IsTrue (is_chdir action) → IsTrue m) → StepsOn m c
+  steps_by : (table : CallTable) (action : Action) (c : Change) → Grounds table t h action c → IsConfined h → is_exec action ≡ false →
+      (IsTrue (is_chdir action) → IsTrue m) → StepsOn m c
   steps_by table action (BeginProgram left) g confined other moving = absurd (true≢false (sym g ∙ other))
   steps_by table action (AddEvent (Unveiled place perms)) g confined other moving = absurd (no_unveil confined g.0 g.1)
   steps_by table action (AddEvent (Moved dir)) g confined other moving = moving g
@@ -100,8 +104,12 @@ locked_after Ended h locked = locked
 
 pub confined_after : (event : Event) (h : History) → IsConfined h → IsConfined (event ∷ h)
 confined_after event h (inl locked) = inl (locked_after event h locked)
-confined_after event h (inr lacking) = inr (false_from_ne_true _ (λ holding. let again = held_never_grows event h unveil (lit< tt) refl holding in cc (again, lacking)))
+confined_after event h (inr lacking) =
+    inr (false_from_ne_true _ (λ holding. let again = held_never_grows event h unveil (lit< tt) refl holding in cc (again, lacking)))
 
-pub fine_effect : (m : Bool) (table : CallTable) (w : World) (h : History) (action : Action) → IsConfined h → is_exec action ≡ false → (IsTrue (is_chdir action) → IsTrue m) → Fine m h (effect table w h action)
+pub fine_effect : (m : Bool) (table : CallTable) (w : World) (h : History) (action : Action) → IsConfined h → is_exec action ≡ false →
+    (IsTrue (is_chdir action) → IsTrue m) → Fine m h (effect table w h action)
 fine_effect m table w h action confined other moving = by_decision w h (Fine m h) (decide table w.tree h action) (fine_refused m w h)
-    (λ c is. fine_made m w h c (steps_by m w.tree h table action c (grounds table w.tree h action c (decisions_are_guarded table w.tree h action c is)) confined other moving))
+    (λ c is. fine_made m w h c
+    (steps_by m w.tree h table action c (grounds table w.tree h action c (decisions_are_guarded table w.tree h action c is)) confined
+    other moving))
