@@ -33,10 +33,12 @@ six_decide n (p ∷ w ∷ a ∷ b ∷ c ∷ more) = refl
 pub by_fields : (n : ℕ) (line : List ℕ) (fs : List (List ℕ)) → first_fields line ≡ Some fs → request_of n line ≡ request_of_fields n fs
 by_fields n line fs e =
     let read = guarded (list_all is_field (fields line)) (take 6 (fields line)) fs e in
-    ap (λ s. cond s (request_of_fields n (fields line)) (Err (BadLine n))) read.0 ∙ six_decide n (fields line) ∙ ap (request_of_fields n) read.1
+    ap (λ s. cond s (request_of_fields n (fields line)) (Err (BadLine n))) read.0 ∙ six_decide n (fields line) ∙
+    ap (request_of_fields n) read.1
 
 -- what is read can be asked
-pub asked : (n number : ℕ) (process : List ℕ) (more : List (List ℕ)) (action : Action) → number_within 1 999999 process ≡ Some number → action_in n more ≡ Ok action → IsTrue (is_asked (record { process = number; action = action }))
+pub asked : (n number : ℕ) (process : List ℕ) (more : List (List ℕ)) (action : Action) → number_within 1 999999 process ≡ Some number →
+    action_in n more ≡ Ok action → IsTrue (is_asked (record { process = number; action = action }))
 asked n number process more action numbered acts =
     let read = number_read 1 999999 process number (lit< tt) numbered in
     let form = step_read (ok_or (form_in more) (BadCall n)) (action_of n) action acts in

@@ -29,14 +29,18 @@ module _ (t : Tree) (h : History) where
   by_name_room true u = never _ (leaves_not_fails u h)
   by_name_room false u = (λ _. refl, λ _. refl)
 
-  add_lacks : (spot : Spot) (node : Node) → IsFree t spot → (edit_effect h (add t spot.0 spot.1 node) ≡ Fails ENOSPC) ↔ IsTrue (not (has_room t))
+  add_lacks : (spot : Spot) (node : Node) → IsFree t spot →
+      (edit_effect h (add t spot.0 spot.1 node) ≡ Fails ENOSPC) ↔ IsTrue (not (has_room t))
   add_lacks spot node free =
       let is : add t spot.0 spot.1 node ≡ cond (has_room t) (Ok (t.next, with_new t spot.0 spot.1 node)) (Err faults.Full) =
-      λ i. cond (not (free.0 i)) (Err faults.NotDir) (cond (is_some (free.1 i)) (Err faults.Taken) (cond (has_room t) (Ok (t.next, with_new t spot.0 spot.1 node)) (Err faults.Full))) in
+      λ i. cond (not (free.0 i)) (Err faults.NotDir)
+      (cond (is_some (free.1 i)) (Err faults.Taken) (cond (has_room t) (Ok (t.next, with_new t spot.0 spot.1 node)) (Err faults.Full)))
+      in
       let room = by_room (has_room t) (t.next, with_new t spot.0 spot.1 node) in
       (λ e. room.0 (sym (ap (edit_effect h) is) ∙ e), λ full. ap (edit_effect h) is ∙ room.1 full)
 
-  tie_lacks : (spot : Spot) (x : ℕ) → IsFree t spot → is_living t x ≡ true → is_dir t x ≡ false → (edited_tree h (tie t spot.0 spot.1 x) ≡ Fails ENOSPC) ↔ IsTrue (not (has_name_room t))
+  tie_lacks : (spot : Spot) (x : ℕ) → IsFree t spot → is_living t x ≡ true → is_dir t x ≡ false →
+      (edited_tree h (tie t spot.0 spot.1 x) ≡ Fails ENOSPC) ↔ IsTrue (not (has_name_room t))
   tie_lacks spot x free living other =
       let is : tie t spot.0 spot.1 x ≡ cond (has_name_room t) (Ok (with_row t spot.0 spot.1 x)) (Err faults.Full) =
       λ i. cond (not (free.0 i)) (Err faults.NotDir)

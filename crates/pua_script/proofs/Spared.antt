@@ -51,7 +51,8 @@ covered_by_c (Only given) perms needs e = ap (λ b. cond b None (Some EACCES)) (
 
 module _ (t : Tree) (h : History) where
   -- what was found is what stands in its row, as veils see it
-  pub spot_has_c : (object : Found) (spot : Spot) → NameFits t object → spot_named object ≡ Some spot → has_c (cover t h object) ≡ true → SpotHasC t h spot
+  pub spot_has_c : (object : Found) (spot : Spot) → NameFits t object → spot_named object ≡ Some spot → has_c (cover t h object) ≡ true →
+      SpotHasC t h spot
   spot_has_c (Whole dir (way.Named parent name)) spot fits named has x here =
       let place : (parent, name) ≡ spot = cc in
       let here_too : look t parent name ≡ Some x = ap (λ (s : Spot). look t s.0 s.1) place ∙ here in
@@ -88,7 +89,8 @@ module _ (t : Tree) (h : History) where
   HasC _ = Unit {0}
 
   module _ (well : WellFormed t) (table : CallTable) (needs : TakingNeedsC table) where
-    pub has_spot : (x : Found) → NameFits t x → (perms : ℕ) → holds perms creating ≡ true → cover_fault (cover t h x) perms ≡ None → (s : Spot) → spot_named x ≡ Some s → SpotHasC t h s
+    pub has_spot : (x : Found) → NameFits t x → (perms : ℕ) → holds perms creating ≡ true → cover_fault (cover t h x) perms ≡ None →
+        (s : Spot) → spot_named x ≡ Some s → SpotHasC t h s
     has_spot x fits perms has covered s is = spot_has_c x s fits is (c_from_cover (cover t h x) perms has covered)
 
     taking_needs : (c : Call) → takes c ≡ true → NeedsC (rule_of table c)
@@ -101,12 +103,15 @@ module _ (t : Tree) (h : History) where
         let fits = name_fits t well (working_dir h) (ending_of g.call) g.path (last_of g.call) g.object g.on.found in
         has_spot g.object fits _ (taking_needs g.call g.taken) g.on.covered spot g.at
     has_c_by action (ShiftRow from to) g = (
-      has_spot g.old (name_fits t well (working_dir h) Dropped g.old_path table.rename.old.last g.old g.two.found_old) _ needs.rename_old g.two.covered_old from g.at_old,
-      has_spot g.new (name_fits t well (working_dir h) Dropped g.new_path table.rename.new.last g.new g.two.found_new) _ needs.rename_new g.two.covered_new to g.at_new,
+      has_spot g.old (name_fits t well (working_dir h) Dropped g.old_path table.rename.old.last g.old g.two.found_old) _ needs.rename_old
+          g.two.covered_old from g.at_old,
+      has_spot g.new (name_fits t well (working_dir h) Dropped g.new_path table.rename.new.last g.new g.two.found_new) _ needs.rename_new
+          g.two.covered_new to g.at_new,
     )
     has_c_by action _ g = tt
 
-spares_made : (w : World) → WellFormed w.tree → (h : History) (c : Change) → HasC w.tree h c → Spares w.tree h (tree_left w.tree (change_effect w h c))
+spares_made : (w : World) → WellFormed w.tree → (h : History) (c : Change) → HasC w.tree h c →
+    Spares w.tree h (tree_left w.tree (change_effect w h c))
 spares_made w well h (AddNode spot node) has = spares_add w.tree h well spot.0 spot.1 node
 spares_made w well h (CutRow spot) has = spares_cut w.tree h spot.0 spot.1 has
 spares_made w well h (ShiftRow old new) has = spares_shift w.tree h old.0 new.0 old.1 new.1 has.0 has.1

@@ -23,16 +23,20 @@ use Rattle.pua_script.proofs.Grounds.{Grounds, makes, takes}
 use Rattle.pua_script.proofs.Applied.{by_own_tree}
 
 module _ (h : History) (lacks : holds (held_set h) cpath ≡ false) where
-  none_held : (alternatives : List ℕ) → AllByRecursion (λ set. IsTrue (holds set cpath)) alternatives → list_any (holds (held_set h)) alternatives ≡ false
+  none_held : (alternatives : List ℕ) → AllByRecursion (λ set. IsTrue (holds set cpath)) alternatives →
+      list_any (holds (held_set h)) alternatives ≡ false
   none_held [] names = refl
   none_held (set ∷ sets) names = by (holds (held_set h) set) refl (none_held sets names.1)
     where
-      by : (b : Bool) → holds (held_set h) set ≡ b → list_any (holds (held_set h)) sets ≡ false → (b || list_any (holds (held_set h)) sets) ≡ false
+      by : (b : Bool) → holds (held_set h) set ≡ b → list_any (holds (held_set h)) sets ≡ false →
+          (b || list_any (holds (held_set h)) sets) ≡ false
       by true is rest = absurd (false≢true (sym lacks ∙ holds_through (held_set h) set cpath is names.0))
       by false is rest = rest
 
   pub may_not : (alternatives : List ℕ) → AllByRecursion (λ set. IsTrue (holds set cpath)) alternatives → may_any h alternatives ≡ Yes → ⊥
-  may_not alternatives names e = by (is_ended h) (has_error h) (ap (λ b. cond (is_ended h) Death (cond b Yes (cond (has_error h) Enosys Death))) (sym (none_held alternatives names)) ∙ e)
+  may_not alternatives names e =
+      by (is_ended h) (has_error h) (ap (λ b. cond (is_ended h) Death (cond b Yes (cond (has_error h) Enosys Death)))
+      (sym (none_held alternatives names)) ∙ e)
     where
       by : (a c : Bool) → cond a Death (cond c Enosys Death) ≡ Yes → ⊥
       by true c e = cc
@@ -84,4 +88,6 @@ module _ (table : CallTable) (needs : ChangingNeedsCpath table) (t : Tree) (h : 
   no_edit action _ g = refl
 
 pub cpath_changes : CpathChanges
-cpath_changes table needs w ask h here lacks = by_own_tree table w ask h here (λ t. t ≡ w.tree) refl (λ c guards. keeps w h c (no_edit table needs w.tree h lacks ask.action c (grounds table w.tree h ask.action c guards)))
+cpath_changes table needs w ask h here lacks =
+    by_own_tree table w ask h here (λ t. t ≡ w.tree) refl
+    (λ c guards. keeps w h c (no_edit table needs w.tree h lacks ask.action c (grounds table w.tree h ask.action c guards)))

@@ -20,7 +20,9 @@ use Rattle.pua_script.specs.Family.{is_exec, none_done, members_alone}
 abbrev pub NeedsC : Rule → Type 0
 NeedsC rule = IsTrue (holds rule.perms creating)
 
--- what takes a name away needs `c`: two calls, and rename, which takes away its old name and what has the new one. Link takes none away, so nothing is asked of it: the row of its old name stays, but by the new one what it names may be written
+-- what takes a name away needs `c`: two calls, and rename, which takes away its old name and what has the new one. Link
+-- takes none away, so nothing is asked of it: the row of its old name stays, but by the new one what it names may be
+-- written
 pub record TakingNeedsC (table : CallTable) : Type 0 where
   pub rmdir : NeedsC (rule_of table call.Rmdir)
   pub unlink : NeedsC (rule_of table call.Unlink)
@@ -59,12 +61,14 @@ pub record RowStays (h : History) (t u : Tree) (spot : Spot) (x : ℕ) : Type 0 
 
 -- each row that the history doesn't cover with `c` stays
 abbrev pub UncoveredStay : History → Tree → Tree → Type 0
-UncoveredStay h t u = (spot : Spot) (x : ℕ) → look t spot.0 spot.1 ≡ Some x → IsFalse (has_c (cover t h (object_in t spot x))) → RowStays h t u spot x
+UncoveredStay h t u = (spot : Spot) (x : ℕ) → look t spot.0 spot.1 ≡ Some x → IsFalse (has_c (cover t h (object_in t spot x))) →
+    RowStays h t u spot x
 
 -- one request, by the history of the one that asks, from one tree to another; nothing is asked of that history
 abbrev pub EachRequestSpares : Type 0
 EachRequestSpares = (table : CallTable) → TakingNeedsC table → (w : World) (ask : Asked) (h : History) →
-    WellFormed w.tree → WellFormed (apply table w ask).1.tree → history_of w ask.process ≡ Some h → UncoveredStay h w.tree (apply table w ask).1.tree
+    WellFormed w.tree → WellFormed (apply table w ask).1.tree → history_of w ask.process ≡ Some h →
+    UncoveredStay h w.tree (apply table w ask).1.tree
 
 -- and without cpath the tree stays
 abbrev pub CpathChanges : Type 0

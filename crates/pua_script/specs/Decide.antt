@@ -1,5 +1,7 @@
--- What a request decides to change, by the tree and the history of the one that asks: all checks in their order. Of other processes, and of the room that a change needs, nothing is known here.
-use Rattle.std.specs.Prelude.{ℕ, Bool, true, false, not, ◌||◌, if◌then◌else◌, List, [], ◌∷◌, Option, Some, None, option_map, Result, Ok, Err, is_some}
+-- What a request decides to change, by the tree and the history of the one that asks: all checks in their order. Of
+-- other processes, and of the room that a change needs, nothing is known here.
+use Rattle.std.specs.Prelude.{ℕ, Bool, true, false, not, ◌||◌, if◌then◌else◌, List, [], ◌∷◌, Option, Some, None, option_map, Result, Ok}
+use Rattle.std.specs.Prelude.{Err, is_some}
 use Rattle.pua_tree.specs.Tree.{Tree, Node, Spot, is_empty}
 use Rattle.pua_tree.specs.Edits.{is_inside, is_same_node}
 use Rattle.pua_path.specs.Paths.{path_fault}
@@ -7,10 +9,12 @@ use Rattle.pua_path.specs.Resolution.{resolution_of_text}
 use Rattle.pua_path.specs.Fits.{spot_named, node_named}
 use Rattle.pua_calls.specs.Promises.{proc, unveil}
 use Rattle.pua_calls.specs.Calls.{CallTable, NameRule, PairRule, rule_of, last_of, ending_of}
-use Rattle.pua_policy.specs.History.{History, Event, Pledged, Unveiled, Locked, Moved, Ended, working_dir, is_locked, pledge_fault, unveil_fault, may_any}
+use Rattle.pua_policy.specs.History.{History, Event, Pledged, Unveiled, Locked, Moved, Ended, working_dir, is_locked, pledge_fault}
+use Rattle.pua_policy.specs.History.{unveil_fault, may_any}
 use Rattle.pua_policy.specs.Misfits.{misfit, misfit_errno}
 use Rattle.pua_policy.specs.declared.reason.Misfit.{Misfit}
-use Rattle.pua_policy.specs.declared.reason.Misfit.TheVariants.{Missing, Exists, IsDirectory, IsNoFile, IsNoDirectory, IsNotEmpty, ByDot, ByDotDot, ByNothing}
+use Rattle.pua_policy.specs.declared.reason.Misfit.TheVariants.{Missing, Exists, IsDirectory, IsNoFile, IsNoDirectory, IsNotEmpty, ByDot}
+use Rattle.pua_policy.specs.declared.reason.Misfit.TheVariants.{ByDotDot, ByNothing}
 use Rattle.pua_policy.specs.Verdict.{place_of, cover, cover_fault, or_fault, object_of, refusal_of}
 use Rattle.pua_tree.specs.declared.node.Kind.{Kind}
 use Rattle.pua_tree.specs.declared.node.Kind.TheVariants as kind
@@ -38,7 +42,8 @@ use Rattle.pua_script.specs.declared.request.Given.TheVariants.{Good, Unknown}
 use Rattle.pua_script.specs.declared.request.Action.{Action}
 use Rattle.pua_script.specs.declared.request.Action.TheVariants.{OnPath, Symlink, Rename, Link, Pledge, Unveil, Lock, Fork, Exit}
 
--- what a request that is granted changes: nothing, a row of the tree, the program with what it leaves of execpromises, the history by an event, or the number of processes
+-- what a request that is granted changes: nothing, a row of the tree, the program with what it leaves of execpromises,
+-- the history by an event, or the number of processes
 pub data Change : Type 0 where
   NoChange : Change
   AddNode : Spot → Node → Change
@@ -161,11 +166,13 @@ top_by tell _ = None
 -- what is wrong with the ways by which two paths were named: no `.`, no `..`, and not the root
 abbrev pub ways_by : {E : Type 0} → (Side → Found → Misfit → E) → Found → Found → Option E
 ways_by tell old new =
-    or_fault (dots_by (tell Old old) old) (or_fault (dots_by (tell New new) new) (or_fault (top_by (tell Old old) old) (top_by (tell New new) new)))
+    or_fault (dots_by (tell Old old) old)
+    (or_fault (dots_by (tell New new) new) (or_fault (top_by (tell Old old) old) (top_by (tell New new) new)))
 
 -- what is wrong with the new name of a rename, by the kinds of both
 abbrev pub kinds_by : {E : Type 0} → (Misfit → E) → Tree → Found → Found → Option E
-kinds_by tell t old (Whole y way) = or_fault (fault_if (not (is_whole old)) (tell IsDirectory)) (fault_if (not (is_empty t y)) (tell IsNotEmpty))
+kinds_by tell t old (Whole y way) =
+    or_fault (fault_if (not (is_whole old)) (tell IsDirectory)) (fault_if (not (is_empty t y)) (tell IsNotEmpty))
 kinds_by tell t old (Slot dir name None) = None
 kinds_by tell t old (Slot dir name (Some y)) = fault_if (is_whole old) (tell IsNoDirectory)
 
@@ -176,7 +183,8 @@ inside_by fault t x (Some spot) = fault_if (is_inside t x spot.0) fault
 
 -- what is wrong with a link's names: a directory gets none, and the new one is free
 abbrev pub names_by : {E : Type 0} → (Side → Found → Misfit → E) → Found → Found → Option E
-names_by tell old new = or_fault (fault_if (is_whole old) (tell Old old IsNoFile)) (fault_if (is_some (node_named new)) (tell New new Exists))
+names_by tell old new =
+    or_fault (fault_if (is_whole old) (tell Old old IsNoFile)) (fault_if (is_some (node_named new)) (tell New new Exists))
 
 abbrev pub shifting : Option Spot → Option Spot → Change
 shifting (Some old) (Some new) = ShiftRow old new
@@ -198,17 +206,20 @@ is_unknown _ = false
 abbrev pub object_by : {E R : Type 0} → Telling E R → CallTable → Tree → History → Call → List ℕ → (Found → Outcome R) → Outcome R
 object_by told table t h call path further =
     on_named told.failed (told.path Sole t (working_dir h) (ending_of call) path (last_of call)) λ object.
-    unless_failed told.failed (or_fault (told.cover Sole t h object (rule_of table call).perms) (option_map (told.misfit Sole object) (misfit t call (object_of t object)))) (further object)
+    unless_failed told.failed (or_fault (told.cover Sole t h object (rule_of table call).perms)
+    (option_map (told.misfit Sole object) (misfit t call (object_of t object)))) (further object)
 
 abbrev pub call_by : {E R : Type 0} → Telling E R → CallTable → Tree → History → Call → List ℕ → Outcome R
 call_by told table t h call path =
-    unless_refused (told.promises h (rule_of table call).alternatives) (object_by told table t h call path (λ object. Ok (change_by table call object)))
+    unless_refused (told.promises h (rule_of table call).alternatives)
+    (object_by told table t h call path (λ object. Ok (change_by table call object)))
 
 -- the promise, then the target's text, then the path
 abbrev pub symlink_by : {E R : Type 0} → Telling E R → CallTable → Tree → History → List ℕ → List ℕ → Outcome R
 symlink_by told table t h target path =
     unless_refused (told.promises h (rule_of table call.Symlink).alternatives)
-    (unless_failed told.failed (told.target target) (object_by told table t h call.Symlink path (λ object. Ok (adding (link_node target) object))))
+    (unless_failed told.failed (told.target target)
+    (object_by told table t h call.Symlink path (λ object. Ok (adding (link_node target) object))))
 
 -- a rename of what both paths named, once both are covered
 abbrev pub rename_by : {E R : Type 0} → Telling E R → Tree → Found → Found → Option ℕ → Outcome R
@@ -216,7 +227,8 @@ rename_by told t old new None = Err (told.failed (told.misfit Old old Missing))
 rename_by told t old new (Some x) =
     unless_failed told.failed (ways_by told.misfit old new)
     (if is_same_node x (node_named new) then Ok NoChange
-    else unless_failed told.failed (or_fault (inside_by (told.inside old new) t x (spot_named new)) (kinds_by (told.misfit New new) t old new))
+    else unless_failed told.failed (or_fault (inside_by (told.inside old new) t x (spot_named new))
+    (kinds_by (told.misfit New new) t old new))
     (Ok (shifting (spot_named old) (spot_named new))))
 
 -- a further name for what the old path named, once both are covered
@@ -229,14 +241,16 @@ abbrev pub covers_by : {E R : Type 0} → Telling E R → PairRule → Tree → 
 covers_by told pair t h old new = or_fault (told.cover Old t h old pair.old.needs.perms) (told.cover New t h new pair.new.needs.perms)
 
 -- what two paths named, where the veils leave enough of both: the old path first each time
-abbrev pub objects_by : {E R : Type 0} → Telling E R → PairRule → Tree → History → Ending → List ℕ → List ℕ → (Found → Found → Outcome R) → Outcome R
+abbrev pub objects_by : {E R : Type 0} → Telling E R → PairRule → Tree → History → Ending → List ℕ → List ℕ → (Found → Found → Outcome R) →
+    Outcome R
 objects_by told pair t h ending old_path new_path further =
     on_named told.failed (told.path Old t (working_dir h) ending old_path pair.old.last) λ old.
     on_named told.failed (told.path New t (working_dir h) ending new_path pair.new.last) λ new.
     unless_failed told.failed (covers_by told pair t h old new) (further old new)
 
 -- two paths: the promises of both names first
-abbrev pub pair_by : {E R : Type 0} → Telling E R → PairRule → Tree → History → Ending → List ℕ → List ℕ → (Found → Found → Outcome R) → Outcome R
+abbrev pub pair_by : {E R : Type 0} → Telling E R → PairRule → Tree → History → Ending → List ℕ → List ℕ → (Found → Found → Outcome R) →
+    Outcome R
 pair_by told pair t h ending old_path new_path further =
     unless_refused (told.promises h pair.old.needs.alternatives)
     (unless_refused (told.promises h pair.new.needs.alternatives) (objects_by told pair t h ending old_path new_path further))
@@ -254,7 +268,8 @@ veil_by told t h path (Some perms) =
 -- an unveil of a path: the promise and the lock first
 abbrev pub unveil_by : {E R : Type 0} → Telling E R → Tree → History → List ℕ → Option ℕ → Outcome R
 unveil_by told t h path perms =
-    unless_refused (told.promises h (unveil ∷ [])) (unless_failed told.failed (fault_if (is_locked h) told.locked) (veil_by told t h path perms))
+    unless_refused (told.promises h (unveil ∷ [])) (unless_failed told.failed (fault_if (is_locked h) told.locked)
+    (veil_by told t h path perms))
 
 abbrev pub lock_by : {E R : Type 0} → Telling E R → History → Outcome R
 lock_by told h = unless_refused (told.promises h (unveil ∷ [])) (Ok (AddEvent Locked))
@@ -276,7 +291,8 @@ pledge_by told h promises execpromises =
 abbrev pub decide_by : {E R : Type 0} → Telling E R → CallTable → Tree → History → Action → Outcome R
 decide_by told table t h (OnPath call path) = call_by told table t h call path
 decide_by told table t h (Symlink target path) = symlink_by told table t h target path
-decide_by told table t h (Rename old new) = pair_by told table.rename t h ending.Dropped old new (λ a b. rename_by told t a b (node_named a))
+decide_by told table t h (Rename old new) =
+    pair_by told table.rename t h ending.Dropped old new (λ a b. rename_by told t a b (node_named a))
 decide_by told table t h (Link old new) = pair_by told table.link t h ending.Dot old new (λ a b. link_by told a b (node_named a))
 decide_by told table t h (Pledge promises execpromises) = pledge_by told h promises execpromises
 decide_by told table t h (Unveil path perms) = unveil_by told t h path perms
@@ -340,7 +356,8 @@ abbrev pub named_by : NameRule → Tree → History → Ending → List ℕ → 
 named_by name t h ending path = resolution_of_text t (working_dir h) ending path name.last
 
 abbrev pub covers_fault : PairRule → Tree → History → Found → Found → Option Errno
-covers_fault pair t h old new = or_fault (cover_fault (cover t h old) pair.old.needs.perms) (cover_fault (cover t h new) pair.new.needs.perms)
+covers_fault pair t h old new =
+    or_fault (cover_fault (cover t h old) pair.old.needs.perms) (cover_fault (cover t h new) pair.new.needs.perms)
 
 abbrev pub decide_object : CallTable → Tree → History → Call → List ℕ → (Found → Decision) → Decision
 decide_object table t h call path further = object_by refusals table t h call path further

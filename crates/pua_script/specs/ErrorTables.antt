@@ -26,7 +26,8 @@ pledged_error = Pledged (Some error) None ∷ locked_history
 pub record ErrorTables : Type 0 where
   pub before : is_allowed (verdict_on empty_tree error_table locked_history Stat (codes "/")) ≡ false
   pub after : is_allowed (verdict_on empty_tree error_table pledged_error Stat (codes "/")) ≡ true
-  pub asked : history_of (world_after error_table (record { tree = empty_tree; histories = (1, locked_history) ∷ [] }) (record { process = 1; action = Pledge (Good error) Null } ∷ [])) 1 ≡ Some pledged_error
+  pub asked : history_of (world_after error_table (record { tree = empty_tree; histories = (1, locked_history) ∷ [] })
+      (record { process = 1; action = Pledge (Good error) Null } ∷ [])) 1 ≡ Some pledged_error
 
 pub error_tables : ErrorTables
 error_tables = record { before = refl; after = refl; asked = refl }

@@ -45,7 +45,8 @@ DecisionsArePossible = (table : CallTable) (t : Tree) (h : History) (action : Ac
 
 -- such a change fails exactly where it wants room, and then with ENOSPC
 abbrev pub ChangesLackRoom : Type 0
-ChangesLackRoom = (w : World) (h : History) (change : Change) → IsPossible w.tree change → (change_effect w h change ≡ Fails ENOSPC) ↔ IsTrue (wants_room w.tree change)
+ChangesLackRoom = (w : World) (h : History) (change : Change) → IsPossible w.tree change →
+    (change_effect w h change ≡ Fails ENOSPC) ↔ IsTrue (wants_room w.tree change)
 
 -- nothing else is answered ENOSPC: no check before a change is
 abbrev pub RefusalsLackNoRoom : Type 0

@@ -1,5 +1,6 @@
 -- Which bytes are a script of which requests, and else which fault comes first.
-use Rattle.std.specs.Prelude.{◌≡◌, ◌≢◌, MatchResult, ℕ, suc, Bool, not, if◌then◌else◌, List, [], ◌∷◌, length, take, nat_lt, ◌==◌, Option, Some, None, Result, Ok, Err, codes, ok_or, option_map}
+use Rattle.std.specs.Prelude.{◌≡◌, ◌≢◌, MatchResult, ℕ, suc, Bool, not, if◌then◌else◌, List, [], ◌∷◌, length, take, nat_lt, ◌==◌, Option}
+use Rattle.std.specs.Prelude.{Some, None, Result, Ok, Err, codes, ok_or, option_map}
 use Rattle.std.specs.List.{list_all, list_any, slice_split}
 use Rattle.std.specs.Result.{result_ok}
 use Rattle.std.specs.Str.Lines.{lines}
@@ -127,7 +128,8 @@ requests_of n (text ∷ texts) = request_of n text >>= λ request. requests_of (
 
 -- the requests of which the bytes are a script, or their first fault
 abbrev pub script : List ℕ → Result (List Asked) ScriptFault
-script bytes = requests_of 1 (take most_script_lines (lines bytes)) >>= λ requests. if nat_lt most_script_lines (length (lines bytes)) then Err TooMany else Ok requests
+script bytes = requests_of 1 (take most_script_lines (lines bytes)) >>= λ requests. if nat_lt most_script_lines (length (lines bytes)) then
+    Err TooMany else Ok requests
 
 -- a reader answers as the definition does, unless a growth was refused
 abbrev pub IsReadAs : {A : Type 0} → Result A ScriptFault → Result A ScriptFault → Type 0

@@ -22,7 +22,8 @@ pub record Tightens (before after : History) : Type 0 where
   pub promises : (set : ℕ) → NamesNoError set → IsTrue (holds (held_set after) set) → IsTrue (holds (held_set before) set)
   pub confined : IsConfined after
 
--- what it is for a history to allow no more than another over each tree: on each absolute path, and on each path at all where both work in one directory
+-- what it is for a history to allow no more than another over each tree: on each absolute path, and on each path at all
+-- where both work in one directory
 pub record AllowsNoMore (table : CallTable) (before after : History) : Type 0 where
   pub absolute : (t : Tree) (call : Call) (text : List ℕ) → IsTrue (is_absolute text) →
       IsTrue (is_allowed (verdict_on t table after call text)) → IsTrue (is_allowed (verdict_on t table before call text))
@@ -37,7 +38,8 @@ OthersLeave = (table : CallTable) (w : World) (ask : Asked) (process : ℕ) (h :
 -- so where others alone ask it stays: promises, execpromises, veils, lock, directory and end with it
 abbrev pub OthersLeaveAlways : Type 0
 OthersLeaveAlways = (table : CallTable) (w : World) (asks : List Asked) (process : ℕ) (h : History) →
-    history_of w process ≡ Some h → AllByRecursion (λ ask. ask.process ≡ process → ⊥) asks → history_of (world_after table w asks) process ≡ Some h
+    history_of w process ≡ Some h → AllByRecursion (λ ask. ask.process ≡ process → ⊥) asks →
+    history_of (world_after table w asks) process ≡ Some h
 
 -- one request of anyone: a confined process that did no exec is tightened, and stays in its directory but for its own chdir
 pub record IsNarrowedBy (table : CallTable) (w : World) (ask : Asked) (process : ℕ) (h after : History) : Type 0 where

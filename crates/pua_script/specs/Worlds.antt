@@ -47,15 +47,18 @@ pub record HasReplay (s : WorldState) : Type 0 where
 abbrev pub IsOkay : WorldState → Asked → Type 0
 IsOkay s ask = (w : World) → StandsForWorld s w → (apply s.table w ask).0 ≡ Okay
 
--- the answer is the replay's by the world's table, and the world afterwards stands for the replay's, whichever world it stood for; the table stays
+-- the answer is the replay's by the world's table, and the world afterwards stands for the replay's, whichever world it
+-- stood for; the table stays
 abbrev pub IsServed : WorldState → Asked → Answer → WorldState → Type 0
 IsServed before ask answer after =
-    (w : World) → StandsForWorld before w → (answer ≡ (apply before.table w ask).0) × StandsForWorld after (apply before.table w ask).1 × (after.table ≡ before.table)
+    (w : World) → StandsForWorld before w → (answer ≡ (apply before.table w ask).0) × StandsForWorld after (apply before.table w ask).1 ×
+    (after.table ≡ before.table)
 
 -- the same for a list of requests
 abbrev pub AreServed : WorldState → List Asked → List Answer → WorldState → Type 0
 AreServed before asks answers after =
-    (w : World) → StandsForWorld before w → (answers ≡ answers_to before.table w asks) × StandsForWorld after (world_after before.table w asks) × (after.table ≡ before.table)
+    (w : World) → StandsForWorld before w →
+    (answers ≡ answers_to before.table w asks) × StandsForWorld after (world_after before.table w asks) × (after.table ≡ before.table)
 
 -- what the world keeps at a number stands for the history at that number, in each world for which it stands
 abbrev pub IsProcessOf : WorldState → ℕ → Option ProcessState → Type 0
@@ -119,4 +122,5 @@ pub record AnswerAlike (table : CallTable) (v w : World) (asks : List Asked) : T
   pub left : (after : WorldState) × StandsForWorld after (world_after table v asks) × StandsForWorld after (world_after table w asks)
 
 abbrev pub WorldsAnswerAlike : Type 0
-WorldsAnswerAlike = (s : WorldState) (v w : World) (asks : List Asked) → StandsForWorld s v → StandsForWorld s w → AnswerAlike s.table v w asks
+WorldsAnswerAlike = (s : WorldState) (v w : World) (asks : List Asked) → StandsForWorld s v → StandsForWorld s w →
+    AnswerAlike s.table v w asks

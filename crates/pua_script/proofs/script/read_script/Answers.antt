@@ -9,7 +9,8 @@ use Rattle.pua_script.proofs.script.read_script.Goals as goal
 
 pub loop-line-init : goal.loop-line-init
 loop-line-init c =
-    let left : c.into_iter-line-iterator.result ≡ lines c.args.bytes.now = c.into_iter-line-iterator.ensures.into_iter_gives ∙ c.lines-line-items.ensures.value ∙ lines_agree c.args.bytes.now in
+    let left : c.into_iter-line-iterator.result ≡ lines c.args.bytes.now = c.into_iter-line-iterator.ensures.into_iter_gives ∙
+    c.lines-line-items.ensures.value ∙ lines_agree c.args.bytes.now in
     record {
       few = omega arith;
       so_far = begins 60000 (lines c.args.bytes.now) ∙ (λ i. onwards 60000 0 (sym c.new-requests.ensures.items i) (sym left i));
@@ -33,7 +34,8 @@ returns-in_err-add_request c =
     let refuses : fault ≢ OutOfMemory → script c.args.bytes.now ≡ Err fault = λ other.
     c.loop-line.invariant.so_far
     ∙ ap (onwards 60000 c.loop-line.number c.loop-line.requests.items) c.in-Some.ensures.steps
-    ∙ refused 60000 c.loop-line.number c.loop-line.requests.items c.in-Some.line.now c.next.new.self fault less (rw add-one at (c.in_err-add_request.ensures other)) in
+    ∙ refused 60000 c.loop-line.number c.loop-line.requests.items c.in-Some.line.now c.next.new.self fault less
+    (rw add-one at (c.in_err-add_request.ensures other)) in
     let p = err_from_is_err_and c.from_residual.result c.from_residual.ensures.1 in
     rw (p.1, p.2) refuses
 
@@ -48,7 +50,8 @@ loop-line-preserved c =
       few = omega (arith, less);
       so_far = c.loop-line.invariant.so_far
           ∙ ap (onwards 60000 c.loop-line.number c.loop-line.requests.items) c.in-Some.ensures.steps
-          ∙ goes_on 60000 c.loop-line.number c.loop-line.requests.items c.in-Some.line.now c.next.new.self added.0 less (rw add-one at added.1)
+          ∙ goes_on 60000 c.loop-line.number c.loop-line.requests.items c.in-Some.line.now c.next.new.self added.0 less
+          (rw add-one at added.1)
           ∙ (λ i. onwards 60000 (sym next i) (sym added.2 i) c.next.new.self);
     }
 
