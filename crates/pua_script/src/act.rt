@@ -36,8 +36,10 @@ pub(crate) fn act<T: FileTree>(
 ) -> Result<Answer, WorldFault>
     requires living { process.old.ended ≡ false }
     requires other { IsFalse (is_fork action.now) }
-    ensures exact { Acts table.now (T.content tree.old) process.old action.now result (T.content tree.new) process.new }
-    ensures unchanged { OnErr result ((T.content tree.new ≡ T.content tree.old) × (process.new ≡ process.old)) }
+    ensures exact { Acts table.now (T.content tree.old) process.old action.now result
+        (T.content tree.new) process.new }
+    ensures unchanged { OnErr result ((T.content tree.new ≡ T.content tree.old) ×
+        (process.new ≡ process.old)) }
 {
     tree.known();
     process.known();
@@ -172,9 +174,11 @@ fn answer<T: FileTree>(
     requires possible { IfOk granted.now (CanBeDone (T.content tree.old)) }
     ensures exact { (h : History) (histories : List (ℕ × History)) → StandsFor process.old h →
         Attempts (T.content tree.old) h
-        (come_of (record { tree = T.content tree.old; histories = histories }) h (decision_for h granted.now))
+        (come_of (record { tree = T.content tree.old; histories = histories }) h
+        (decision_for h granted.now))
         result (T.content tree.new) process.new }
-    ensures unchanged { OnErr result ((T.content tree.new ≡ T.content tree.old) × (process.new ≡ process.old)) }
+    ensures unchanged { OnErr result ((T.content tree.new ≡ T.content tree.old) ×
+        (process.new ≡ process.old)) }
 {
     match granted {
         Ok(granted) => make(tree, process, granted),

@@ -1,6 +1,7 @@
 //! What granted requests change.
 
-ghost use Rattle.std.specs.Prelude.{◌≡◌, ℕ, List, OnErr, IsOk, IsFalse, IsTrue, None, false, option_copied};
+ghost use Rattle.std.specs.Prelude.{◌≡◌, ℕ, List, OnErr, IsOk, IsFalse, IsTrue, None, false};
+ghost use Rattle.std.specs.Prelude.{option_copied};
 ghost use Rattle.pua_tree.specs.Tree.{Tree, is_dir, is_living, look, target_fits};
 ghost use Rattle.pua_tree.specs.Edits.{add, cut, shift, tie};
 ghost use Rattle.pua_policy.specs.History.{History, StandsFor};
@@ -56,9 +57,11 @@ pub(crate) fn make<T: FileTree>(
     requires possible { CanBeDone (T.content tree.old) granted.now }
     ensures exact { (h : History) (histories : List (ℕ × History)) → StandsFor process.old h →
         Attempts (T.content tree.old) h
-        (come_of (record { tree = T.content tree.old; histories = histories }) h (decision_by h granted.now))
+        (come_of (record { tree = T.content tree.old; histories = histories }) h
+        (decision_by h granted.now))
         result (T.content tree.new) process.new }
-    ensures unchanged { OnErr result ((T.content tree.new ≡ T.content tree.old) × (process.new ≡ process.old)) }
+    ensures unchanged { OnErr result ((T.content tree.new ≡ T.content tree.old) ×
+        (process.new ≡ process.old)) }
 {
     match *granted {
         Granted::NoChange => Ok(Answer::Okay),
@@ -100,7 +103,8 @@ fn add<T: FileTree>(
     requires dir { IsTrue (is_dir (T.content tree.old) dir) }
     requires free { look (T.content tree.old) dir name.now ≡ None }
     ensures exact { (h : History) → AttemptsEdit (T.content tree.old) h
-        (edit_effect h (add (T.content tree.old) dir name.now (record { kind = kind; target = option_copied target.entry })))
+        (edit_effect h (add (T.content tree.old) dir name.now
+        (record { kind = kind; target = option_copied target.entry })))
         result (T.content tree.new) }
     ensures unchanged { OnErr result (T.content tree.new ≡ T.content tree.old) }
 {
@@ -115,7 +119,9 @@ fn add<T: FileTree>(
 /// Takes a row away. What was checked before leaves no fault.
 fn cut<T: FileTree>(tree: &mut T, dir: NodeId, name: &Name) -> Answer
     requires { IsOk (cut (T.content tree.old) dir name.now) }
-    ensures { (h : History) → Edits (T.content tree.old) h (edit_effect h (cut (T.content tree.old) dir name.now)) result (T.content tree.new) }
+    ensures { (h : History) →
+        Edits (T.content tree.old) h (edit_effect h (cut (T.content tree.old) dir name.now)) result
+        (T.content tree.new) }
 {
     match tree.cut(dir, name) {
         Ok(_number) => Answer::Okay,
@@ -188,7 +194,8 @@ fn pledge(
 /// (unveil(2)).
 fn unveil(process: &mut Process, found: &Found, perms: Perms) -> Result<Answer, WorldFault>
     ensures exact { (h : History) (w : World) → StandsFor process.old h →
-        Attempts w.tree h (come_of w h (veiling h (place_of found.now) perms)) result w.tree process.new }
+        Attempts w.tree h (come_of w h (veiling h (place_of found.now) perms)) result w.tree
+        process.new }
     ensures unchanged { OnErr result (process.new ≡ process.old) }
 {
     match process.unveil_at(place_of(found), perms) {

@@ -5,7 +5,9 @@ ghost use Rattle.pua_path.specs.Resolution.{resolution_of_text};
 ghost use Rattle.pua_path.specs.declared.found.Found as founds;
 ghost use Rattle.pua_policy.specs.History.{History, StandsFor};
 ghost use Rattle.pua_policy.specs.Verdict.{place_of};
-ghost use Rattle.pua_script.specs.Decide.{Decision, adding, change_by, decide_call, decide_object, decide_symlink, decide_unveil, going, link_node, removing, veiling};
+ghost use Rattle.pua_script.specs.Decide.{Decision, adding, change_by, decide_call, decide_object};
+ghost use Rattle.pua_script.specs.Decide.{decide_symlink, decide_unveil, going, link_node};
+ghost use Rattle.pua_script.specs.Decide.{removing, veiling};
 ghost use Rattle.pua_script.specs.Judged.{NameFits, decision_for, decision_by, on_judged};
 
 use crate::granted::Granted;
@@ -45,7 +47,8 @@ fn judge_object<T: FileTree>(
     path: &[u8],
 ) -> Result<Found, Refusal>
     ensures { (h : History) → StandsFor process.now h → (further : founds.Found → Decision) →
-        decide_object table.now (T.content tree.now) h call path.now further ≡ on_judged result further }
+        decide_object table.now (T.content tree.now) h call path.now further
+        ≡ on_judged result further }
 {
     let mut probe = Counted::new(tree);
     let last = need(call).last;
@@ -68,7 +71,8 @@ pub(crate) fn judge_call<T: FileTree>(
     path: &[u8],
 ) -> Result<Found, Refusal>
     ensures { (h : History) → StandsFor process.now h →
-        on_judged result (λ object. Ok (change_by table.now call object)) ≡ decide_call table.now (T.content tree.now) h call path.now }
+        on_judged result (λ object. Ok (change_by table.now call object))
+        ≡ decide_call table.now (T.content tree.now) h call path.now }
 {
     promised_for(process, table, call)?;
     judge_object(tree, table, process, call, path)
@@ -80,7 +84,9 @@ pub(crate) fn grant_call<'a>(
     call: Call,
     judged: &'a Result<Found, Refusal>,
 ) -> Result<Granted<'a>, Refusal>
-    ensures { (h : History) → decision_for h result ≡ on_judged judged.now (λ object. Ok (change_by table.now call object)) }
+    ensures { (h : History) →
+        decision_for h result
+        ≡ on_judged judged.now (λ object. Ok (change_by table.now call object)) }
 {
     match judged {
         Ok(found) => Ok(change_by(table, call, found)),
@@ -104,7 +110,9 @@ fn change_by<'a>(table: &CallTable, call: Call, found: &'a Found) -> Granted<'a>
 
 /// A node where nothing stands.
 fn adding<'a>(kind: Kind, target: Option<&'a [u8]>, found: &'a Found) -> Granted<'a>
-    ensures { (h : History) → decision_by h result ≡ Ok (adding (record { kind = kind; target = option_copied target.entry }) found.now) }
+    ensures { (h : History) →
+        decision_by h result ≡ Ok
+        (adding (record { kind = kind; target = option_copied target.entry }) found.now) }
 {
     match (spot_named(found), node_named(found)) {
         (Some((dir, name)), None) => Granted::AddNode(dir, name, kind, target),
@@ -141,7 +149,8 @@ pub(crate) fn judge_symlink<T: FileTree>(
     path: &[u8],
 ) -> Result<Found, Refusal>
     ensures { (h : History) → StandsFor process.now h →
-        on_judged result (λ object. Ok (adding (link_node target.now) object)) ≡ decide_symlink table.now (T.content tree.now) h target.now path.now }
+        on_judged result (λ object. Ok (adding (link_node target.now) object))
+        ≡ decide_symlink table.now (T.content tree.now) h target.now path.now }
 {
     promised_for(process, table, Call::Symlink)?;
     if let Err(errno) = PathText::read(target, Ending::Dot) {
@@ -155,7 +164,9 @@ pub(crate) fn grant_symlink<'a>(
     target: &'a [u8],
     judged: &'a Result<Found, Refusal>,
 ) -> Result<Granted<'a>, Refusal>
-    ensures { (h : History) → decision_for h result ≡ on_judged judged.now (λ object. Ok (adding (link_node target.now) object)) }
+    ensures { (h : History) →
+        decision_for h result
+        ≡ on_judged judged.now (λ object. Ok (adding (link_node target.now) object)) }
 {
     match judged {
         Ok(found) => Ok(adding(Kind::Link, Some(target), found)),
@@ -172,7 +183,8 @@ pub(crate) fn judge_unveil<T: FileTree>(
     perms: Option<Perms>,
 ) -> Result<(Found, Perms), Refusal>
     ensures { (h : History) → StandsFor process.now h →
-        on_judged result (λ veil. veiling h (place_of veil.0) veil.1) ≡ decide_unveil (T.content tree.now) h path.now perms }
+        on_judged result (λ veil. veiling h (place_of veil.0) veil.1)
+        ≡ decide_unveil (T.content tree.now) h path.now perms }
 {
     promised(process, Promises::UNVEIL)?;
     if process.locked() {
@@ -192,7 +204,8 @@ pub(crate) fn judge_unveil<T: FileTree>(
 pub(crate) fn grant_unveil<'a>(
     judged: &'a Result<(Found, Perms), Refusal>,
 ) -> Result<Granted<'a>, Refusal>
-    ensures { (h : History) → decision_for h result ≡ on_judged judged.now (λ veil. veiling h (place_of veil.0) veil.1) }
+    ensures { (h : History) →
+        decision_for h result ≡ on_judged judged.now (λ veil. veiling h (place_of veil.0) veil.1) }
 {
     match judged {
         Ok((found, perms)) => Ok(Granted::Unveil(found, *perms)),

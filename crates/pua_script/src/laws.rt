@@ -2,10 +2,12 @@
 //! function that does nothing.
 
 ghost use Rattle.std.specs.Prelude.{◌≡◌};
-ghost use Rattle.pua_script.specs.Examples.{ExecRows, LinkRows, PairRows, RenameRows, ReplayRows, ScriptRows};
+ghost use Rattle.pua_script.specs.Examples.{ExecRows, LinkRows, PairRows, RenameRows, ReplayRows};
+ghost use Rattle.pua_script.specs.Examples.{ScriptRows};
 ghost use Rattle.pua_script.specs.Guards.{DecisionsAreGuarded};
 ghost use Rattle.pua_script.specs.Limits.{most_script_lines, most_number, most_processes};
-ghost use Rattle.pua_script.specs.Laws.{ChangesLackRoom, DecisionsArePossible, RefusalsLackNoRoom, ReplayComposes, RequestsLackRoom};
+ghost use Rattle.pua_script.specs.Laws.{ChangesLackRoom, DecisionsArePossible, RefusalsLackNoRoom};
+ghost use Rattle.pua_script.specs.Laws.{ReplayComposes, RequestsLackRoom};
 ghost use Rattle.pua_script.specs.ScriptGrammar.{ScriptsAreRead};
 ghost use Rattle.pua_script.specs.Worlds.{WorldsAnswerAlike};
 

@@ -1,10 +1,13 @@
 //! One line of a script.
 
 ghost use Rattle.std.specs.Prelude.{◌≡◌, ◌∷◌, [], map, ok_or};
-ghost use Rattle.pua_script.specs.Scripts.{IsReadAs, is_dash, is_equals, has_empty_word, path_in, given_in, perms_in, unveil_of, with_paths, action_in, action_of, request_of, request_of_fields};
+ghost use Rattle.pua_script.specs.Scripts.{IsReadAs, is_dash, is_equals, has_empty_word, path_in};
+ghost use Rattle.pua_script.specs.Scripts.{given_in, perms_in, unveil_of, with_paths, action_in};
+ghost use Rattle.pua_script.specs.Scripts.{action_of, request_of, request_of_fields};
 ghost use Rattle.pua_script.specs.Scripts.Form.{PledgeForm};
 ghost use Rattle.pua_script.specs.declared.request.Action.TheVariants.{Symlink, Rename, Link};
-ghost use Rattle.pua_script.specs.declared.fault.ScriptFault.TheVariants.{BadCall, BadList, BadPath};
+ghost use Rattle.pua_script.specs.declared.fault.ScriptFault.TheVariants.{BadCall, BadList};
+ghost use Rattle.pua_script.specs.declared.fault.ScriptFault.TheVariants.{BadPath};
 
 use crate::fault::ScriptFault;
 use crate::limits::MOST_NUMBER;

@@ -25,8 +25,10 @@ pub(crate) fn judge_link<T: FileTree>(
     old: &[u8],
     new: &[u8],
 ) -> Result<Pair, Refusal>
-    ensures { (h : History) → StandsFor process.now h → (further : found.Found → found.Found → Decision) →
-        decide_pair table.now.link (T.content tree.now) h ending.Dot old.now new.now further ≡ on_judged result (λ pair. further pair.from pair.to) }
+    ensures { (h : History) → StandsFor process.now h →
+        (further : found.Found → found.Found → Decision) →
+        decide_pair table.now.link (T.content tree.now) h ending.Dot old.now new.now further
+        ≡ on_judged result (λ pair. further pair.from pair.to) }
 {
     judge_pair(tree, table.link(), process, Ending::Dot, old, new)
 }
@@ -34,7 +36,9 @@ pub(crate) fn judge_link<T: FileTree>(
 /// What a link is to change: what its old path named gets a further name, unless something is wrong
 /// with what both paths named.
 pub(crate) fn grant_link<'a>(judged: &'a Result<Pair, Refusal>) -> Result<Granted<'a>, Refusal>
-    ensures { (h : History) → decision_for h result ≡ on_judged judged.now (λ pair. decide_link pair.from pair.to (node_named pair.from)) }
+    ensures { (h : History) →
+        decision_for h result
+        ≡ on_judged judged.now (λ pair. decide_link pair.from pair.to (node_named pair.from)) }
 {
     match judged {
         Ok(pair) => decide_tie(&pair.from, &pair.to),

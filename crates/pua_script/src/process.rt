@@ -19,7 +19,8 @@ use pua_policy::{Process, Refusal};
 /// What a process is answered that does not get what it asks for. It ends where it did what it did not
 /// promise, and else lives on as it was.
 pub(crate) fn refuse(process: &mut Process, refusal: Refusal) -> Answer
-    ensures { (h : History) (t : Tree) → StandsFor process.old h → Does t h (refusal_effect refusal) result t process.new }
+    ensures { (h : History) (t : Tree) → StandsFor process.old h →
+        Does t h (refusal_effect refusal) result t process.new }
 {
     match refusal {
         Refusal::Failed(errno) => Answer::Failed(errno),
