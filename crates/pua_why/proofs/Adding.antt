@@ -13,6 +13,8 @@ pushed_so (Ok x) new all old pushed so = so pushed
 pushed_so (Err e) new all old pushed so = tt
 
 -- the keywords of promises, as they are shown
-pub promises_are : (set : ℕ) (names : List (List ℕ)) (keywords shown : List ℕ) → names ≡ keywords_of set → keywords ≡ joined_words (codes ",") names → shown ≡ or_equals keywords → shown ≡ promises_text set
+pub promises_are : (set : ℕ) (names : List (List ℕ)) (keywords shown : List ℕ) → names ≡ keywords_of set →
+    keywords ≡ joined_words (codes ",") names → shown ≡ or_equals keywords → shown ≡ promises_text set
 unfolding promises_text
-promises_are set names keywords shown named between is = is ∙ ap or_equals between ∙ ap (λ ns. or_equals (joined_words (codes ",") ns)) named
+promises_are set names keywords shown named between is = is ∙ ap or_equals between ∙
+    ap (λ ns. or_equals (joined_words (codes ",") ns)) named

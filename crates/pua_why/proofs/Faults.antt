@@ -22,7 +22,8 @@ module _ (t : Tree) (table : CallTable) (h : History) (c : Call) (text : List �
   abbrev Is : Fault → Type 0
   Is = CallFaultHolds t table h c text
 
-  wrong_true : (object : Found) (wrong : Option Misfit) (bad : Fault) → misfit t c (object_of t object) ≡ wrong → (call_trace t h c text).outcome ≡ Ok object →
+  wrong_true : (object : Found) (wrong : Option Misfit) (bad : Fault) → misfit t c (object_of t object) ≡ wrong →
+      (call_trace t h c text).outcome ≡ Ok object →
       option_map (Unfit Sole object) wrong ≡ Some bad → Is bad
   wrong_true object None bad m o e = cc
   wrong_true object (Some wrong) bad m o e =
@@ -35,12 +36,14 @@ module _ (t : Tree) (table : CallTable) (h : History) (c : Call) (text : List �
       named_true Sole (call_trace t h c text).outcome _ fault Is (λ bad o. o)
       (λ object o e. failed_true _ _ fault Is
       (λ bad e. either_true _ _ bad Is
-      (uncovered_true Sole object (rule_of table c).perms (covering t h object) bad Is (λ none. (o, none)) (λ place given over lacks. (object, o, over, lacks, refl)))
+      (uncovered_true Sole object (rule_of table c).perms (covering t h object) bad Is (λ none. (o, none))
+      (λ place given over lacks. (object, o, over, lacks, refl)))
       (wrong_true object (misfit t c (object_of t object)) bad refl o) e)
       (λ granted. cc) e) e
 
 pub call_faults_hold : CallFaultsHold
 call_faults_hold t table h c text fault e =
     refused_true _ _ fault (CallFaultHolds t table h c text)
-    (λ bad e. unpromised_true h (rule_of table c).alternatives bad (CallFaultHolds t table h c text) (λ ended. ended) (λ error lacks is. is) e)
+    (λ bad e. unpromised_true h (rule_of table c).alternatives bad (CallFaultHolds t table h c text) (λ ended. ended) (λ error lacks is. is)
+    e)
     (λ e. object_true t table h c text (change_by table c) fault e) e

@@ -11,7 +11,8 @@ use Rattle.pua_why.specs.Texts.{names_to_spot, names_to, slashed_names, path_tex
 use Rattle.pua_tree.proofs.ForCallers.{map-reverse}
 
 -- a name more, of a directory that stands in a row
-pub path_more : (t : Tree) (dir n k : ℕ) (row : LentRow) (names : List (List ℕ)) → dir ≢ 0 → Some (lent_entry row).0 ≡ spot_of t dir → k ≡ suc n
+pub path_more : (t : Tree) (dir n k : ℕ) (row : LentRow) (names : List (List ℕ)) → dir ≢ 0 → Some (lent_entry row).0 ≡ spot_of t dir →
+    k ≡ suc n
     → names_to n t row.dir ++ reverse (names ++ row.name.now ∷ []) ≡ names_to k t dir ++ reverse names
 path_more t zero n k row names other stands more = absurd (other refl)
 path_more t (suc d) n k row names other stands more =
@@ -25,8 +26,10 @@ map-push f [] x = refl
 map-push f (y ∷ xs) x = ap (λ zs. f y ∷ zs) (map-push f xs x)
 
 -- the same, where the names are lent
-pub path_pushed : (t : Tree) (dir n k : ℕ) (row : LentRow) (names : List (Bor (List ℕ))) → dir ≢ 0 → Some (lent_entry row).0 ≡ spot_of t dir → k ≡ suc n
-    → names_to n t row.dir ++ reverse (map (λ name. name.now) (names ++ row.name ∷ [])) ≡ names_to k t dir ++ reverse (map (λ name. name.now) names)
+pub path_pushed : (t : Tree) (dir n k : ℕ) (row : LentRow) (names : List (Bor (List ℕ))) → dir ≢ 0 →
+    Some (lent_entry row).0 ≡ spot_of t dir → k ≡ suc n
+    → names_to n t row.dir ++ reverse (map (λ name. name.now) (names ++ row.name ∷ [])) ≡ names_to k t dir
+    ++ reverse (map (λ name. name.now) names)
 path_pushed t dir n k row names other stands more =
     ap (λ ns. names_to n t row.dir ++ reverse ns) (map-push (λ name. name.now) names row.name)
     ∙ path_more t dir n k row (map (λ name. name.now) names) other stands more
@@ -46,7 +49,8 @@ pub path_done : (t : Tree) (dir k : ℕ) (names : List (List ℕ)) → k ≡ 0 �
 path_done t dir k names none = ap (λ m. names_to m t dir ++ names) none
 
 -- the names that were found and turned are those that lead there
-pub found_names : (over new : List (Bor (List ℕ))) (to : List (List ℕ)) → reverse (map (λ name. name.now) over) ≡ to → new ≡ reverse over → map (λ name. name.now) new ≡ to
+pub found_names : (over new : List (Bor (List ℕ))) (to : List (List ℕ)) → reverse (map (λ name. name.now) over) ≡ to → new ≡ reverse over →
+    map (λ name. name.now) new ≡ to
 found_names over new to climbed turned = ap (map (λ name. name.now)) turned ∙ map-reverse (λ name. name.now) over ∙ climbed
 
 -- there are as many rows as are lent
@@ -59,7 +63,8 @@ spot_is t dir name = by (dir_names t dir)
   where
     one : (ns : List (List ℕ)) → slashed_names (ns ++ name ∷ []) ≡ slashed_names ns ++ (47 ∷ spelling name)
     one [] = append-nil (47 ∷ spelling name)
-    one (n ∷ ns) = ap (λ more. (47 ∷ spelling n) ++ more) (one ns) ∙ sym (append_assoc (47 ∷ spelling n) (slashed_names ns) (47 ∷ spelling name))
+    one (n ∷ ns) = ap (λ more. (47 ∷ spelling n) ++ more) (one ns) ∙
+        sym (append_assoc (47 ∷ spelling n) (slashed_names ns) (47 ∷ spelling name))
 
     by : (ns : List (List ℕ)) → path_text (ns ++ name ∷ []) ≡ slashed_names ns ++ (47 ∷ spelling name)
     by [] = append-nil (47 ∷ spelling name)

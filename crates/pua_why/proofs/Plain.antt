@@ -71,9 +71,11 @@ module _ (w : World) where
   is_plain : (change other : Change) → change ≡ other → Plain other → Plain change
   is_plain change other is plain = ap (process_fault w) is ∙ plain
 
-  plain_decided : (table : CallTable) (t : Tree) (h : History) (action : Action) (change : Change) → IsFalse (is_fork action) → IsDecided table t h action change → Plain change
+  plain_decided : (table : CallTable) (t : Tree) (h : History) (action : Action) (change : Change) → IsFalse (is_fork action) →
+      IsDecided table t h action change → Plain change
   plain_decided table t h (OnPath c path) change other d = is_plain change _ d.2 (plain_change table c d.0)
-  plain_decided table t h (Symlink target path) change other d = is_plain change _ d.3 (plain_placing (link_node target) (spot_named d.0) (node_named d.0))
+  plain_decided table t h (Symlink target path) change other d =
+      is_plain change _ d.3 (plain_placing (link_node target) (spot_named d.0) (node_named d.0))
   plain_decided table t h (Rename old new) change other d = moved d.moves
     where
       moved : ((change ≡ NoChange) ⊎ IsShift t d.old d.new d.node change) → Plain change
@@ -86,9 +88,11 @@ module _ (w : World) where
   plain_decided table t h (Fork new) change other d = absurd (true≢false other)
   plain_decided table t h Exit change other d = is_plain change _ d refl
 
-  pub plain_checks : (table : CallTable) (t : Tree) (h : History) (action : Action) → IsFalse (is_fork action) → checks_fault w (change_or_fault table t h action) ≡ refused_by (change_or_fault table t h action)
+  pub plain_checks : (table : CallTable) (t : Tree) (h : History) (action : Action) → IsFalse (is_fork action) →
+      checks_fault w (change_or_fault table t h action) ≡ refused_by (change_or_fault table t h action)
   plain_checks table t h action other = by (change_or_fault table t h action) refl
     where
       by : (o : Outcome Fault) → change_or_fault table t h action ≡ o → checks_fault w o ≡ refused_by o
       by (Err fault) is = refl
-      by (Ok change) is = plain_decided table t h action change other (decisions_are_guarded table t h action change (sym (reasons_give_decisions table t h action) ∙ ap decision_of is))
+      by (Ok change) is = plain_decided table t h action change other
+          (decisions_are_guarded table t h action change (sym (reasons_give_decisions table t h action) ∙ ap decision_of is))

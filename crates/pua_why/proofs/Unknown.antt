@@ -10,7 +10,8 @@ joined_ok : (set : ℕ) (r : Result ℕ Errno) → is_ok (union_or_fault set r) 
 joined_ok set (Ok more) = refl
 joined_ok set (Err errno) = refl
 
-found_unknown : {A : Type 0} (member : A → Option ℕ) (items : List A) → is_some (find (λ x. is_none (member x)) items) ≡ not (is_ok (union_of (map member items)))
+found_unknown : {A : Type 0} (member : A → Option ℕ) (items : List A) →
+    is_some (find (λ x. is_none (member x)) items) ≡ not (is_ok (union_of (map member items)))
 found_unknown member [] = refl
 found_unknown member (x ∷ items) = by (member x) (found_unknown member items)
   where

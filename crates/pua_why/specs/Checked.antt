@@ -11,7 +11,8 @@ use Rattle.pua_script.specs.Replay.{World, history_of, apply}
 use Rattle.pua_script.specs.declared.request.Action.{Action}
 use Rattle.pua_script.specs.declared.answer.Answer.{Answer}
 use Rattle.pua_script.specs.declared.answer.Answer.TheVariants.{Failed}
-use Rattle.pua_why.specs.Reasons.{Fault, NumberTaken, NoProcessLeft, NoRoom, Reason, NeverMade, Ended, Refused, Granted, reason_of, reason, change_or_fault}
+use Rattle.pua_why.specs.Reasons.{Fault, NumberTaken, NoProcessLeft, NoRoom, Reason, NeverMade, Ended, Refused, Granted, reason_of, reason}
+use Rattle.pua_why.specs.Reasons.{change_or_fault}
 
 -- the check that refused
 abbrev pub refused_by : Outcome Fault → Option Fault
@@ -20,7 +21,8 @@ refused_by (Err fault) = Some fault
 
 -- of a change, that no further process is made
 abbrev pub process_fault : World → Change → Option Fault
-process_fault w (CopyAs new) = or_fault (fault_if (is_some (history_of w new)) (NumberTaken new)) (fault_if (nat_le most_processes (length w.histories)) NoProcessLeft)
+process_fault w (CopyAs new) =
+    or_fault (fault_if (is_some (history_of w new)) (NumberTaken new)) (fault_if (nat_le most_processes (length w.histories)) NoProcessLeft)
 process_fault w _ = None
 
 abbrev pub checks_fault : World → Outcome Fault → Option Fault

@@ -33,7 +33,8 @@ covering_in t h dir = if list_any is_unveil h then first_kept (perms_kept h) (ma
 -- place, letters and line of a veil; three dashes where none is kept
 abbrev pub veil_columns : CallTable → World → List Asked → ℕ → Covering → List ℕ
 veil_columns table w asks process (By place given) =
-    place_text (world_after table w asks).tree place ++ 32 ∷ letters_text given ++ 32 ∷ decimal (unwrap_or (since (has_veil_on place given) table w 1 asks process) 0)
+    place_text (world_after table w asks).tree place ++ 32 ∷ letters_text given ++ 32
+    ∷ decimal (unwrap_or (since (has_veil_on place given) table w 1 asks process) 0)
 veil_columns table w asks process _ = codes "- - -"
 
 -- what stands behind a line with these calls on what is so covered

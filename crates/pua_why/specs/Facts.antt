@@ -51,7 +51,8 @@ facts_covered side over None more = Under side over ∷ more
 facts_covered side over (Some fault) more = []
 
 abbrev pub facts_under : Side → Tree → History → Found → ℕ → List Fact → List Fact
-facts_under side t h object perms more = facts_covered side (covering t h object) (uncovered_fault side object perms (covering t h object)) more
+facts_under side t h object perms more =
+    facts_covered side (covering t h object) (uncovered_fault side object perms (covering t h object)) more
 
 -- the links that a call's path follows, and what it names
 abbrev pub call_trace : Tree → History → Call → List ℕ → PathTrace

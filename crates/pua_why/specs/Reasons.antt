@@ -1,5 +1,6 @@
 -- Why a request is answered as it is: what is told of the check at which it is refused, and of the room that its change lacks.
-use Rattle.std.specs.Prelude.{ℕ, Bool, true, false, not, if◌then◌else◌, List, length, nat_le, Option, Some, None, option_map, Result, Ok, Err, is_some, unwrap_or}
+use Rattle.std.specs.Prelude.{ℕ, Bool, true, false, not, if◌then◌else◌, List, length, nat_le, Option, Some, None, option_map, Result, Ok}
+use Rattle.std.specs.Prelude.{Err, is_some, unwrap_or}
 use Rattle.pua_tree.specs.Tree.{Tree}
 use Rattle.pua_path.specs.declared.errno.Errno.TheVariants.{EPERM, ENOENT, E2BIG, EACCES, EAGAIN, EINVAL, ENOSPC, ENOSYS}
 use Rattle.pua_path.specs.declared.found.Found.{Found}
@@ -8,7 +9,8 @@ use Rattle.pua_path.specs.declared.traced.TextFault.{TextFault}
 use Rattle.pua_path.specs.declared.traced.PathFault.{PathFault}
 use Rattle.pua_calls.specs.Promises.{holds}
 use Rattle.pua_calls.specs.Calls.{CallTable}
-use Rattle.pua_policy.specs.History.{History, pledged_set, held_for_exec, has_error, is_within, is_ended, is_locked, perms_kept, veils, most_places}
+use Rattle.pua_policy.specs.History.{History, pledged_set, held_for_exec, has_error, is_within, is_ended, is_locked, perms_kept, veils}
+use Rattle.pua_policy.specs.History.{most_places}
 use Rattle.pua_policy.specs.Verdict.{or_fault}
 use Rattle.pua_policy.specs.declared.place.Place.{Place}
 use Rattle.pua_policy.specs.declared.answer.Refusal.{Refusal}
@@ -83,7 +85,8 @@ told_path side (Err fault) = Err (BadPath side fault)
 abbrev pub uncovered_fault : Side → Found → ℕ → Covering → Option Fault
 uncovered_fault side object perms InView = None
 uncovered_fault side object perms NoneOver = Some (Uncovered side object)
-uncovered_fault side object perms (By place given) = if holds given perms then None else Some (LacksLetters side place given (lacking given perms))
+uncovered_fault side object perms (By place given) =
+    if holds given perms then None else Some (LacksLetters side place given (lacking given perms))
 
 -- what is asked for beyond what was given
 abbrev pub beyond : Option ℕ → Option ℕ → ℕ
@@ -132,7 +135,8 @@ no_room (Fails errno) = Some NoRoom
 no_room _ = None
 
 abbrev pub room_fault : World → History → Change → Option Fault
-room_fault w h (CopyAs new) = or_fault (fault_if (is_some (history_of w new)) (NumberTaken new)) (fault_if (nat_le most_processes (length w.histories)) NoProcessLeft)
+room_fault w h (CopyAs new) =
+    or_fault (fault_if (is_some (history_of w new)) (NumberTaken new)) (fault_if (nat_le most_processes (length w.histories)) NoProcessLeft)
 room_fault w h change = no_room (change_effect w h change)
 
 abbrev pub outcome_fault : World → History → Outcome Fault → Option Fault

@@ -10,4 +10,5 @@ pub returns : goal.returns
 returns g c = λ h stands.
     promises_passed c.promises_fault-fault.result c.object_fault.result _ _ (search rules)
     (c.promises_fault-fault.ensures h stands ∙ ap (λ sets. unpromised_fault (promising h sets)) c.alternatives.ensures)
-    (target_passed c.object_fault.result (text_fault c.args.target.now) _ c.in_default.ensures (c.object_fault.ensures.exact h stands (adding (link_node c.args.target.now))))
+    (target_passed c.object_fault.result (text_fault c.args.target.now) _ c.in_default.ensures
+    (c.object_fault.ensures.exact h stands (adding (link_node c.args.target.now))))

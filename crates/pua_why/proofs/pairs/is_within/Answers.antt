@@ -52,6 +52,7 @@ loop-node-preserved g c =
     record {
       living = λ began. rw ((goes_up g c).1) (above_lives t at c.known.ensures);
       same = λ began. ap (λ d. list_any (λ e. e == c.args.node) (climb t d)) (goes_up g c).1
-          ∙ sym (ap (list_any (λ e. e == c.args.node)) (climb_step t c.known.ensures at (is_higher g c) (goes_up g c).0) ∙ ap (λ b. b || list_any (λ e. e == c.args.node) (climb t (above t at))) other)
+          ∙ sym (ap (list_any (λ e. e == c.args.node)) (climb_step t c.known.ensures at (is_higher g c) (goes_up g c).0) ∙
+          ap (λ b. b || list_any (λ e. e == c.args.node) (climb t (above t at))) other)
           ∙ c.loop-node.invariant.same began;
     }

@@ -11,11 +11,14 @@ loop-set-init c = ap (λ t. string_bytes c.args.text.now ++ t) (joined_is (codes
 pub loop-set-preserved : goal.loop-set-preserved
 loop-set-preserved c =
     c.loop-set.invariant
-    ∙ lack_next (codes ", ") (string_bytes c.loop-set.text) c.loop-set.is_first c.args.held c.args.sets.now c.loop-set.set-index c.set-item.result c.loop-set-test.true
+    ∙ lack_next (codes ", ") (string_bytes c.loop-set.text) c.loop-set.is_first c.args.held c.args.sets.now c.loop-set.set-index
+    c.set-item.result c.loop-set-test.true
     ∙ ap (λ t. t ++ rest (codes ", ") false (lack_words c.args.held (drop (c.loop-set.set-index + 1) c.args.sets.now)))
-    (ap (λ lack. string_bytes c.loop-set.text ++ ((if c.loop-set.is_first then [] else codes ", ") ++ (codes "no " ++ promises_text lack))) (ap (lacking c.args.held) (sym c.set-item.is) ∙ sym c.without.ensures)
+    (ap (λ lack. string_bytes c.loop-set.text ++ ((if c.loop-set.is_first then [] else codes ", ") ++ (codes "no " ++ promises_text lack)))
+    (ap (lacking c.args.held) (sym c.set-item.is) ∙ sym c.without.ensures)
     ∙ sym c.in_ok-push_lack.ensures)
 
 pub returns : goal.returns
 returns c =
-    sym (c.loop-set.invariant ∙ lacks_done (codes ", ") (string_bytes c.loop-set.text) c.loop-set.is_first c.args.held c.args.sets.now c.loop-set.set-index (omega (arith, c.loop-set-test.false)))
+    sym (c.loop-set.invariant ∙ lacks_done (codes ", ") (string_bytes c.loop-set.text) c.loop-set.is_first c.args.held c.args.sets.now
+    c.loop-set.set-index (omega (arith, c.loop-set-test.false)))

@@ -15,7 +15,8 @@ link_words : codes " is link 33" ≡ codes " is link " ++ decimal (most_links + 
 unfolding digits
 link_words = refl
 
-link_told : (t : Tree) (old : List ℕ) (spot : Spot) (stop : Stop) → stop ≡ LinkBeyond spot → old ++ (spot_text t spot ++ codes " is link 33") ≡ old ++ path_fault_text t (Stops stop)
+link_told : (t : Tree) (old : List ℕ) (spot : Spot) (stop : Stop) → stop ≡ LinkBeyond spot →
+    old ++ (spot_text t spot ++ codes " is link 33") ≡ old ++ path_fault_text t (Stops stop)
 link_told t old spot stop is =
     ap (λ words. old ++ (spot_text t spot ++ words)) link_words
     ∙ ap (λ words. old ++ words) (sym (append_assoc (spot_text t spot) (codes " is link ") (decimal (most_links + 1))))
@@ -23,10 +24,14 @@ link_told t old spot stop is =
 
 pub returns-in-LinkBeyond-clause-text : goal.returns-in-LinkBeyond-clause-text
 returns-in-LinkBeyond-clause-text c =
-    on_ok_weaker c.push_at-in-LinkBeyond.result (λ so t is. so t is ∙ link_told t _ _ _ c.in-LinkBeyond.is) c.push_at-in-LinkBeyond.ensures.text
+    on_ok_weaker c.push_at-in-LinkBeyond.result (λ so t is. so t is ∙
+    link_told t _ _ _ c.in-LinkBeyond.is) c.push_at-in-LinkBeyond.ensures.text
 
 pub returns-in-NoEntry-clause-text : goal.returns-in-NoEntry-clause-text
-returns-in-NoEntry-clause-text c = on_ok_weaker c.push_at.result (λ so t is. so t is ∙ ap (λ stop. string_bytes c.args.text.now ++ path_fault_text t (Stops stop)) (sym c.in-NoEntry.is)) c.push_at.ensures.text
+returns-in-NoEntry-clause-text c = on_ok_weaker c.push_at.result (λ so t is. so t is ∙
+    ap (λ stop. string_bytes c.args.text.now ++ path_fault_text t (Stops stop)) (sym c.in-NoEntry.is)) c.push_at.ensures.text
 
 pub returns-in-NoDirectory-clause-text : goal.returns-in-NoDirectory-clause-text
-returns-in-NoDirectory-clause-text c = on_ok_weaker c.push_at-in-NoDirectory.result (λ so t is. so t is ∙ ap (λ stop. string_bytes c.args.text.now ++ path_fault_text t (Stops stop)) (sym c.in-NoDirectory.is)) c.push_at-in-NoDirectory.ensures.text
+returns-in-NoDirectory-clause-text c = on_ok_weaker c.push_at-in-NoDirectory.result (λ so t is. so t is ∙
+    ap (λ stop. string_bytes c.args.text.now ++ path_fault_text t (Stops stop)) (sym c.in-NoDirectory.is))
+    c.push_at-in-NoDirectory.ensures.text

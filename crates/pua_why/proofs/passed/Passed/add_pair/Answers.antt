@@ -13,7 +13,8 @@ returns g c =
     let held = c.alternatives.ensures ∙ ap (λ name. name.needs.alternatives) c.old_name.ensures in
     let held_new = c.alternatives-2.ensures ∙ ap (λ name. name.needs.alternatives) c.new_name.ensures in
     on_ok_weaker c.add_names.result (λ so h stands.
-    both_named c.args.self.now c.add-2.new.self _ c.in-Holds.set c.in-Holds-promising.other Old (name_trace need.old t h c.args.ending c.args.old.now)
+    both_named c.args.self.now c.add-2.new.self _ c.in-Holds.set c.in-Holds-promising.other Old
+    (name_trace need.old t h c.args.ending c.args.old.now)
     (λ old. facts_named New (name_trace need.new t h c.args.ending c.args.new.now) λ new.
     facts_under Old t h old need.old.needs.perms (facts_under New t h new need.new.needs.perms []))
     (promising h need.old.needs.alternatives) (promising h need.new.needs.alternatives)

@@ -10,6 +10,7 @@ returns-clause-text c =
     on_ok_weaker c.push_name.result (λ more t is.
     then_more _ _ _ _ _
     (c.in_ok-push_names.ensures
-    ∙ ap (λ names. string_bytes c.args.text.now ++ slashed_names names) (ap (map (λ name. name.now)) c.as_slice.ensures.value ∙ ap (λ s. s.names) c.self.view_is ∙ c.find.ensures.names t is)) more
+    ∙ ap (λ names. string_bytes c.args.text.now ++ slashed_names names) (ap (map (λ name. name.now)) c.as_slice.ensures.value ∙
+    ap (λ s. s.names) c.self.view_is ∙ c.find.ensures.names t is)) more
     ∙ ap (λ path. string_bytes c.args.text.now ++ path) (sym (spot_is t c.args.dir c.args.name.now)))
     c.push_name.ensures
