@@ -1,5 +1,6 @@
 -- How reasons and facts are written.
-use Rattle.std.specs.Prelude.{ℕ, zero, suc, ◌+◌, Bool, true, false, List, [], ◌∷◌, ◌++◌, map, flat_map, length, ◌==◌, Option, Some, None, codes, decimal, unwrap_or}
+use Rattle.std.specs.Prelude.{ℕ, zero, suc, ◌+◌, Bool, true, false, List, [], ◌∷◌, ◌++◌, map, flat_map, length, ◌==◌, Option, Some, None}
+use Rattle.std.specs.Prelude.{codes, decimal, unwrap_or}
 use Rattle.pua_tree.specs.Limits.{most_name}
 use Rattle.pua_tree.specs.Names.{same_bytes}
 use Rattle.pua_tree.specs.Spelling.{spelling}
@@ -27,8 +28,11 @@ use Rattle.pua_policy.specs.declared.reason.Covering.{Covering}
 use Rattle.pua_policy.specs.declared.reason.Covering.TheVariants.{InView, NoneOver, By}
 use Rattle.pua_script.specs.Decide.{Side, Sole, Old, New}
 use Rattle.pua_policy.specs.declared.reason.Misfit.{Misfit}
-use Rattle.pua_policy.specs.declared.reason.Misfit.TheVariants.{Missing, Exists, IsDirectory, IsNoFile, IsNoDirectory, IsNoLink, IsNoProgram, IsNotEmpty, ByDot, ByDotDot, ByNothing}
-use Rattle.pua_why.specs.Reasons.{Fault, Ends, LacksPromises, BadTarget, BadPath, Uncovered, LacksLetters, Unfit, Inside, UnknownPromise, AsksPromises, IsLocked, UnknownLetter, AsksLetters, NoPlaceLeft, NumberTaken, NoProcessLeft, NoRoom, Reason, NeverMade, Ended, Refused, Granted, reason, answer_of}
+use Rattle.pua_policy.specs.declared.reason.Misfit.TheVariants.{Missing, Exists, IsDirectory, IsNoFile, IsNoDirectory, IsNoLink}
+use Rattle.pua_policy.specs.declared.reason.Misfit.TheVariants.{IsNoProgram, IsNotEmpty, ByDot, ByDotDot, ByNothing}
+use Rattle.pua_why.specs.Reasons.{Fault, Ends, LacksPromises, BadTarget, BadPath, Uncovered, LacksLetters, Unfit, Inside, UnknownPromise}
+use Rattle.pua_why.specs.Reasons.{AsksPromises, IsLocked, UnknownLetter, AsksLetters, NoPlaceLeft, NumberTaken, NoProcessLeft, NoRoom}
+use Rattle.pua_why.specs.Reasons.{Reason, NeverMade, Ended, Refused, Granted, reason, answer_of}
 use Rattle.pua_why.specs.Keys.{reason_key}
 use Rattle.pua_why.specs.Since.{Test, since}
 use Rattle.pua_why.specs.Facts.{Fact, Needs, Follows, Names, Under, facts_of}
@@ -131,7 +135,8 @@ fault_text t (LacksPromises error sets) = joined_words (codes ", ") (map (λ set
 fault_text t (BadTarget fault) = codes "target " ++ text_fault_text fault
 fault_text t (BadPath side fault) = side_text side ++ path_fault_text t fault
 fault_text t (Uncovered side object) = side_text side ++ codes "no veil on " ++ found_text t object ++ codes " or above"
-fault_text t (LacksLetters side place given lacks) = side_text side ++ codes "no " ++ letters_text lacks ++ codes " in " ++ veil_text t place given
+fault_text t (LacksLetters side place given lacks) =
+    side_text side ++ codes "no " ++ letters_text lacks ++ codes " in " ++ veil_text t place given
 fault_text t (Unfit side object misfit) = side_text side ++ misfit_text (found_text t object) misfit
 fault_text t (Inside old new) = side_text New ++ found_text t new ++ codes " is inside " ++ found_text t old
 fault_text t (UnknownPromise of_exec) = codes "unknown promise" ++ of_exec_text of_exec
@@ -168,7 +173,8 @@ abbrev pub since_text : Option ℕ → List ℕ
 since_text None = []
 since_text (Some line) = codes " since line " ++ decimal line
 
--- since which line a reason is told to be so: what is granted has no words, that a process was never made was so from the start, and since when a tree is full is not told
+-- since which line a reason is told to be so: what is granted has no words, that a process was never made was so from
+-- the start, and since when a tree is full is not told
 abbrev pub date_of : Reason → Option ℕ → Option ℕ
 date_of Granted line = None
 date_of NeverMade line = None
@@ -234,4 +240,5 @@ fact_text table w asks ask fact = fact_dated (world_after table w asks).tree (ve
 
 -- all that decides one request after the others, and its answer
 abbrev pub chain : CallTable → World → List Asked → Asked → List (List ℕ)
-chain table w asks ask = map (fact_text table w asks ask) (facts_of table (world_after table w asks) ask) ++ answer_why table w asks ask ∷ []
+chain table w asks ask = map (fact_text table w asks ask) (facts_of table (world_after table w asks) ask) ++ answer_why table w asks ask
+    ∷ []
