@@ -28,13 +28,17 @@ pub okay_is_granted : (table : CallTable) (w : World) (ask : Asked) → Okay ≡
 okay_is_granted table w ask e = granted_only (reason table w ask) (reasons_give_answers table w ask ∙ sym e)
 
 -- and nothing is told behind it
-pub okay_told : (table : CallTable) (w : World) (ask : Asked) (line : Option ℕ) → Okay ≡ (apply table w ask).0 → answer_words table w ask ++ since_text (date_of (reason table w ask) line) ≡ codes "ok"
+pub okay_told : (table : CallTable) (w : World) (ask : Asked) (line : Option ℕ) → Okay ≡ (apply table w ask).0 →
+    answer_words table w ask ++ since_text (date_of (reason table w ask) line) ≡ codes "ok"
 okay_told table w ask line e =
-    ap (λ r. (answer_text (answer_of r) ++ spaced_words (reason_text w.tree r)) ++ since_text (date_of r line)) (okay_is_granted table w ask e)
+    ap (λ r. (answer_text (answer_of r) ++ spaced_words (reason_text w.tree r)) ++ since_text (date_of r line))
+    (okay_is_granted table w ask e)
 
 -- an answer, the words of its reason and the line behind it, one after another
-pub told_in_parts : (table : CallTable) (w : World) (ask : Asked) (line : Option ℕ) (answer : Answer) (r : Reason) (before with_answer with_words after : List ℕ) →
-    answer ≡ (apply table w ask).0 → r ≡ reason table w ask → with_answer ≡ before ++ answer_text answer → with_words ≡ with_answer ++ spaced_words (reason_text w.tree r) → after ≡ with_words ++ since_text (date_of r line) →
+pub told_in_parts : (table : CallTable) (w : World) (ask : Asked) (line : Option ℕ) (answer : Answer) (r : Reason)
+    (before with_answer with_words after : List ℕ) →
+    answer ≡ (apply table w ask).0 → r ≡ reason table w ask → with_answer ≡ before ++ answer_text answer →
+    with_words ≡ with_answer ++ spaced_words (reason_text w.tree r) → after ≡ with_words ++ since_text (date_of r line) →
     after ≡ before ++ (answer_words table w ask ++ since_text (date_of (reason table w ask) line))
 told_in_parts table w ask line answer r before with_answer with_words after told is answered worded dated =
     let same : answer ≡ answer_of (reason table w ask) = told ∙ sym (reasons_give_answers table w ask) in

@@ -1,5 +1,6 @@
 -- A path that follows no link goes the same way in a tree that differs in rows of another name.
-use Rattle.std.proofs.Common.{◌≡◌, ◌≤◌, ℕ, zero, suc, List, [], ◌∷◌, ◌++◌, map, Bool, true, false, Option, Some, None, option_map, Result, Ok, Err, refl, sym, ap, subst, ◌∙◌, arith}
+use Rattle.std.proofs.Common.{◌≡◌, ◌≤◌, ℕ, zero, suc, List, [], ◌∷◌, ◌++◌, map, Bool, true, false, Option, Some, None, option_map, Result}
+use Rattle.std.proofs.Common.{Ok, Err, refl, sym, ap, subst, ◌∙◌, arith}
 use Rattle.std.specs.Prelude.{if◌then◌else◌, ◌&&◌, not}
 use Rattle.std.specs.List.{list_any}
 use Rattle.pua_tree.specs.Names.{same_bytes, components}
@@ -9,7 +10,8 @@ use Rattle.pua_tree.specs.declared.node.Kind.TheVariants as kinds
 use Rattle.pua_path.specs.Limits.{most_links}
 use Rattle.pua_path.specs.Paths.{part_of, parts_of, ending_parts, ends_in_slash, is_absolute, text_fault}
 use Rattle.pua_path.specs.Resolution.{Standing, Directory, Linked, Plain, Nothing, standing_of, standing_at, is_followed, start_of}
-use Rattle.pua_path.specs.Traces.{Trace, PathTrace, at_once, after_links, slot_or_stop, walk_traced, trace_parts, fails_in, as_path_trace, trace_from, trace_of_text}
+use Rattle.pua_path.specs.Traces.{Trace, PathTrace, at_once, after_links, slot_or_stop, walk_traced, trace_parts, fails_in, as_path_trace}
+use Rattle.pua_path.specs.Traces.{trace_from, trace_of_text}
 use Rattle.pua_path.specs.declared.text.Ending.{Ending}
 use Rattle.pua_path.specs.declared.text.Ending.TheVariants as ending
 use Rattle.pua_path.specs.declared.found.Part.{Part}
@@ -228,8 +230,10 @@ module _ (name : List ℕ) (s t : Tree) (fits : WellFormed s) (differ : DifferAt
   parts_go mode zero dir way ps some living others none = absurd (omega arith)
   parts_go mode (suc links) dir way ps some living others none =
       walk_goes mode (suc links)
-      (λ spot target rest. after_links (spot ∷ []) (trace_parts links s mode (start_of target spot.0) Top (parts_of ending.Dot target ++ rest)))
-      (λ spot target rest. after_links (spot ∷ []) (trace_parts links t mode (start_of target spot.0) Top (parts_of ending.Dot target ++ rest)))
+      (λ spot target rest. after_links (spot ∷ []) (trace_parts links s mode (start_of target spot.0) Top (parts_of ending.Dot target
+      ++ rest)))
+      (λ spot target rest. after_links (spot ∷ []) (trace_parts links t mode (start_of target spot.0) Top (parts_of ending.Dot target
+      ++ rest)))
       (λ spot target rest e. more_than_none spot _ e) ps dir way living others none
 
   from_kept : (from : ℕ) (end : Ending) (text : List ℕ) (mode : Last) → has_part name text ≡ false →

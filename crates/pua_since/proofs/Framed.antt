@@ -20,13 +20,17 @@ use Rattle.pua_policy.specs.Verdict.{is_unveil, object_of, or_fault}
 use Rattle.pua_calls.specs.declared.call.Call.{Call}
 use Rattle.pua_calls.specs.declared.call.Call.TheVariants as call
 use Rattle.pua_policy.specs.declared.reason.Covering.TheVariants.{InView}
-use Rattle.pua_script.specs.Decide.{Change, NoChange, AddNode, CutRow, ShiftRow, TieRow, BeginProgram, AddEvent, CopyAs, Outcome, Side, Sole, Old, New, unless_refused, unless_failed, on_named, fault_if, adding, link_node, change_by, object_by, objects_by, link_by, veil_by}
+use Rattle.pua_script.specs.Decide.{Change, NoChange, AddNode, CutRow, ShiftRow, TieRow, BeginProgram, AddEvent, CopyAs, Outcome, Side}
+use Rattle.pua_script.specs.Decide.{Sole, Old, New, unless_refused, unless_failed, on_named, fault_if, adding, link_node, change_by}
+use Rattle.pua_script.specs.Decide.{object_by, objects_by, link_by, veil_by}
 use Rattle.pua_script.specs.Replay.{World, history_of}
 use Rattle.pua_script.specs.declared.request.Action.{Action}
 use Rattle.pua_script.specs.declared.request.Action.TheVariants.{OnPath, Symlink, Rename, Link, Pledge, Unveil, Lock, Fork, Exit}
-use Rattle.pua_why.specs.Reasons.{Fault, BadTarget, Unfit, IsLocked, Ended, unpromised_fault, told_path, uncovered_fault, faults, change_or_fault, reason_of}
+use Rattle.pua_why.specs.Reasons.{Fault, BadTarget, Unfit, IsLocked, Ended, unpromised_fault, told_path, uncovered_fault, faults}
+use Rattle.pua_why.specs.Reasons.{change_or_fault, reason_of}
 use Rattle.pua_why.specs.Checked.{process_fault, checks_fault, checked_by}
-use Rattle.pua_since.specs.Frames.{DifferAt, PathFollowsNone, ActionFollowsNone, FollowsNone, has_part, names_part, is_removal, looks_further, IsSpared, IsUntouched, RowsSpare}
+use Rattle.pua_since.specs.Frames.{DifferAt, PathFollowsNone, ActionFollowsNone, FollowsNone, has_part, names_part, is_removal}
+use Rattle.pua_since.specs.Frames.{looks_further, IsSpared, IsUntouched, RowsSpare}
 use Rattle.pua_since.proofs.FrameWalks.{IsAlike, NamesAlike, IsKept, path_kept}
 use Rattle.std.proofs.lemmas.Bool.{or_parts}
 
@@ -54,7 +58,8 @@ module _ (s t : Tree) (h : History) where
   cover_same : (side : Side) (object : Found) (perms : ℕ) → IsAlike s t object →
       uncovered_fault side object perms (covering t h object) ≡ uncovered_fault side object perms (covering s h object)
   cover_same side object perms alike =
-      ap (λ places. uncovered_fault side object perms (if list_any is_unveil h then first_kept (perms_kept h) places else InView)) alike.places
+      ap (λ places. uncovered_fault side object perms (if list_any is_unveil h then first_kept (perms_kept h) places else InView))
+      alike.places
 
   -- what is wrong with an object, but whether a directory to be removed is empty
   misfit_same : (c : Call) (object : Object) → is_removal c ≡ false → misfit t c object ≡ misfit s c object

@@ -1,5 +1,6 @@
 -- What is kept of all questions holds behind a further request too.
-use Rattle.std.proofs.Common.{◌≡◌, ℕ, zero, suc, ◌<◌, ◌↔◌, List, [], ◌∷◌, ◌++◌, map, length, true, false, Some, None, Option, refl, sym, ap, subst, ◌∙◌, arith}
+use Rattle.std.proofs.Common.{◌≡◌, ℕ, zero, suc, ◌<◌, ◌↔◌, List, [], ◌∷◌, ◌++◌, map, length, true, false, Some, None, Option, refl, sym, ap}
+use Rattle.std.proofs.Common.{subst, ◌∙◌, arith}
 use Rattle.std.specs.Prelude.{All, IsTrue, IsSome, max, slice_get, slice_set}
 use Rattle.std.specs.Option.{option_to_list}
 use Rattle.std.specs.Ordering.{nat_cmp}
@@ -16,7 +17,8 @@ use Rattle.pua_script.specs.declared.answer.Answer.TheVariants.{Okay, Failed, Ki
 use Rattle.pua_script.specs.declared.request.Action.{Action}
 use Rattle.pua_script.specs.declared.request.Action.TheVariants.{OnPath, Symlink, Rename, Link, Pledge, Unveil, Lock, Fork, Exit}
 use Rattle.pua_since.specs.Changes.{has_changed, has_forked, LeavesAsIs}
-use Rattle.pua_since.specs.Watched.{AreHanded, AreWatched, IsAbout, IsBegunIn, IsHanded, IsWatched, forks_with, fork_told, fork_seen, forks_done, forks_left, forebear_by, handed_by, made_by}
+use Rattle.pua_since.specs.Watched.{AreHanded, AreWatched, IsAbout, IsBegunIn, IsHanded, IsWatched, forks_with, fork_told, fork_seen}
+use Rattle.pua_since.specs.Watched.{forks_done, forks_left, forebear_by, handed_by, made_by}
 use Rattle.pua_since.specs.declared.watch.Question.{Question}
 use Rattle.pua_since.specs.declared.watch.Watch.{Watch}
 use Rattle.pua_since.specs.declared.watches.Fork.{Fork as Made}

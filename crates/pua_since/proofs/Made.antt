@@ -26,7 +26,8 @@ use Rattle.pua_why.specs.Since.{parent_by, came_from, forebear}
 abbrev pub IsMade : World → ℕ → Type 0
 IsMade w process = is_some (history_of w process) ≡ true
 
-put_keeps : (process at : ℕ) (h : History) (w : World) → IsMade w process → is_some (find_key nat_cmp process (put nat_cmp at h w.histories)) ≡ true
+put_keeps : (process at : ℕ) (h : History) (w : World) → IsMade w process →
+    is_some (find_key nat_cmp process (put nat_cmp at h w.histories)) ≡ true
 put_keeps process at h w made = by (process == at) refl
   where
     by : (b : Bool) → (process == at) ≡ b → is_some (find_key nat_cmp process (put nat_cmp at h w.histories)) ≡ true
@@ -56,7 +57,8 @@ module _ (table : CallTable) (w : World) (asker new : ℕ) (made : IsMade w new)
   taken h may.Death = refl
 
   pub fork_fails : is_okay (apply table w (record { process = asker; action = Fork new })).0 ≡ false
-  fork_fails = by_request table w (record { process = asker; action = Fork new }) (λ done. is_okay done.0 ≡ false) refl (λ h _. taken h (may_any h (proc ∷ [])))
+  fork_fails = by_request table w (record { process = asker; action = Fork new }) (λ done. is_okay done.0 ≡ false) refl
+      (λ h _. taken h (may_any h (proc ∷ [])))
 
 itself : (table : CallTable) (w : World) (ask : Asked) (process : ℕ) → IsMade w process → came_from table w ask process ≡ process
 itself table w ask process made = by ask.action refl
@@ -65,18 +67,21 @@ itself table w ask process made = by ask.action refl
     same true = refl
     same false = refl
 
-    forked : (new : ℕ) → ask.action ≡ Fork new → (b : Bool) → (new == process) ≡ b → cond (is_okay (apply table w ask).0) (cond b ask.process process) process ≡ process
+    forked : (new : ℕ) → ask.action ≡ Fork new → (b : Bool) → (new == process) ≡ b →
+        cond (is_okay (apply table w ask).0) (cond b ask.process process) process ≡ process
     forked new e false apart = same (is_okay (apply table w ask).0)
     forked new e true is =
         ap (λ b. cond b ask.process process)
         ((λ i. is_okay (apply table w (record { process = ask.process; action = e i })).0)
         ∙ fork_fails table w ask.process new (ap (λ q. is_some (history_of w q)) (eqb-true new process is) ∙ made))
 
-    by : (action : Action) → ask.action ≡ action → cond (is_okay (apply table w ask).0) (parent_by action ask.process process) process ≡ process
+    by : (action : Action) → ask.action ≡ action → cond (is_okay (apply table w ask).0) (parent_by action ask.process process) process
+        ≡ process
     by (Fork new) e = forked new e (new == process) refl
     by _ e = same (is_okay (apply table w ask).0)
 
-pub stays_itself : (table : CallTable) (asks : List Asked) (w : World) (process : ℕ) → IsMade w process → forebear table w asks process ≡ process
+pub stays_itself : (table : CallTable) (asks : List Asked) (w : World) (process : ℕ) → IsMade w process →
+    forebear table w asks process ≡ process
 stays_itself table [] w process made = refl
 stays_itself table (ask ∷ asks) w process made =
     ap (came_from table w ask) (stays_itself table asks (apply table w ask).1 process (request_keeps table w ask process made))

@@ -1,5 +1,6 @@
 -- The requests of a replay are served one after another.
-use Rattle.std.proofs.Common.{◌≡◌, ℕ, zero, suc, ◌+◌, ◌<◌, ◌≤◌, List, [], ◌∷◌, ◌++◌, length, take, drop, get_or, refl, sym, ap, subst, ◌∙◌, arith}
+use Rattle.std.proofs.Common.{◌≡◌, ℕ, zero, suc, ◌+◌, ◌<◌, ◌≤◌, List, [], ◌∷◌, ◌++◌, length, take, drop, get_or, refl, sym, ap, subst, ◌∙◌}
+use Rattle.std.proofs.Common.{arith}
 use Rattle.std.specs.List.{enumerate_from, zip}
 use Rattle.std.proofs.Math.Seq.{drop-cons, take-suc}
 use Rattle.std.proofs.lemmas.List.{length-take, take_all, drop_all}
@@ -95,8 +96,10 @@ module _ (s : WorldState) (start : Watches) (asks : List Asked) (told : List Ans
             let was = so_far.world w stands is in
             let moved : Moves now ask after s.table = subst (Moves now ask after) was.1 moving in
             let v : World = world_after s.table w (take n asks) in
-            let next = moved v was.0 in
-            (subst (StandsForWorld after) (sym (ap (world_after s.table w) taken ∙ one_request_more s.table w (take n asks) ask)) next.0, next.1);
+            let next = moved v was.0 in (
+              subst (StandsForWorld after) (sym (ap (world_after s.table w) taken ∙ one_request_more s.table w (take n asks) ask)) next.0,
+              next.1,
+            );
         watched = λ w stands is watched.
             let was = so_far.world w stands is in
             let asked : Asks now watches ask answer (index + 1) later s.table =

@@ -8,7 +8,8 @@ use Rattle.pua_script.specs.Requests.{Asked}
 use Rattle.pua_script.specs.Replay.{World, answers_to, apply, world_after}
 use Rattle.pua_script.specs.Worlds.{WorldState, StandsForWorld}
 use Rattle.pua_since.specs.Concerns.{TouchesOnly}
-use Rattle.pua_since.specs.Watched.{AreHanded, AreWatched, forks_done, made_by, IsAskedOnce, IsHanded, IsKeptThrough, IsSameTopic, IsWatched}
+use Rattle.pua_since.specs.Watched.{AreHanded, AreWatched, forks_done, made_by, IsAskedOnce, IsHanded, IsKeptThrough, IsSameTopic}
+use Rattle.pua_since.specs.Watched.{IsWatched}
 use Rattle.pua_since.specs.declared.touched.Touched.{Touched}
 use Rattle.pua_since.specs.declared.watch.Watch.{Watch}
 use Rattle.pua_since.specs.declared.watches.Watches.{Watches}

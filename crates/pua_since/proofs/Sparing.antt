@@ -94,7 +94,8 @@ module _ (table : CallTable) (w v : World) (own : ℕ) (only : ChangesProcess ow
   process_same : (question : Question) → TellsSame table w v process question
   process_same (asks.Request action) = ap (checked_by table v action.now) (only.others process other)
       ∙ same_by action.now (history_of w process)
-  process_same (asks.Veil place) = ap (λ (o : Option History). option_map_or (λ h. perms_kept h place.now) o None) (only.others process other)
+  process_same (asks.Veil place) =
+      ap (λ (o : Option History). option_map_or (λ h. perms_kept h place.now) o None) (only.others process other)
 
   process_plain : (question : Question) → IsPlain table w process question → IsPlain table v process question
   process_plain (asks.Request action) plain = (

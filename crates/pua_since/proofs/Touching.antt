@@ -1,5 +1,6 @@
 -- A request changes no more than what it touches.
-use Rattle.std.proofs.Common.{◌≡◌, ◌≢◌, ℕ, ◌+◌, List, ◌∷◌, Bool, true, false, cond, length, Some, None, Option, Ok, Err, refl, sym, ap, subst, ◌∙◌, eq-eqb}
+use Rattle.std.proofs.Common.{◌≡◌, ◌≢◌, ℕ, ◌+◌, List, ◌∷◌, Bool, true, false, cond, length, Some, None, Option, Ok, Err, refl, sym, ap}
+use Rattle.std.proofs.Common.{subst, ◌∙◌, eq-eqb}
 use Rattle.std.specs.Prelude.{◌==◌, IsTrue, Result, is_some, not}
 use Rattle.std.specs.Option.{option_eq}
 use Rattle.std.specs.Ordering.{nat_cmp}
@@ -27,7 +28,8 @@ use Rattle.pua_calls.specs.declared.call.Call.TheVariants as call
 use Rattle.pua_script.specs.Requests.{Asked}
 use Rattle.pua_script.specs.Decide.{Change, NoChange, adding, removing, tying, going, change_by, link_node, plain_node, decide}
 use Rattle.pua_script.specs.Guards.{IsDecided}
-use Rattle.pua_script.specs.Replay.{World, Effect, Fails, Kills, Leaves, Copies, apply, history_of, with_history, answer_to, left_by, change_effect, edit_effect, edited_tree, refusal_effect}
+use Rattle.pua_script.specs.Replay.{World, Effect, Fails, Kills, Leaves, Copies, apply, history_of, with_history, answer_to, left_by}
+use Rattle.pua_script.specs.Replay.{change_effect, edit_effect, edited_tree, refusal_effect}
 use Rattle.pua_script.specs.declared.answer.Answer.{Answer}
 use Rattle.pua_script.specs.declared.answer.Answer.TheVariants as answers
 use Rattle.pua_script.specs.declared.request.Action.{Action}
@@ -35,7 +37,8 @@ use Rattle.pua_script.specs.declared.request.Action.TheVariants.{OnPath, Symlink
 use Rattle.pua_script.proofs.ForCallers.{by_request, by_decision, decisions_are_guarded, name_fits}
 use Rattle.pua_since.specs.Changes.{has_forked}
 use Rattle.pua_since.specs.Frames.{DifferAt}
-use Rattle.pua_since.specs.Concerns.{ChangesOnly, ChangesProcess, TouchesOnly, action_touches, is_bounded, mark_of, row_by, row_touched, row_with, touched_by}
+use Rattle.pua_since.specs.Concerns.{ChangesOnly, ChangesProcess, TouchesOnly, action_touches, is_bounded, mark_of, row_by, row_touched}
+use Rattle.pua_since.specs.Concerns.{row_with, touched_by}
 use Rattle.pua_since.specs.declared.touched.Touched.{Touched}
 use Rattle.pua_since.specs.declared.touched.Touched.TheVariants.{Nothing, Row, Process, Anything}
 use Rattle.pua_since.proofs.Differing.{adding_differs, cutting_differs, tying_differs}
@@ -114,12 +117,14 @@ module _ (table : CallTable) (w : World) (process : ℕ) (sorted : IsTrue (is_so
   no_row : (name : List ℕ) → Does (Row name (mark_of name)) (change_effect w h NoChange)
   no_row name well_then = (record { well = well; differ = same_trees name w.tree; histories = same_histories }, refl)
 
-  adds : (node : Node) → is_dir_kind (Some node.kind) ≡ false → (object : Found) → Does (row_touched (Ok object)) (change_effect w h (adding node object))
+  adds : (node : Node) → is_dir_kind (Some node.kind) ≡ false → (object : Found) →
+      Does (row_touched (Ok object)) (change_effect w h (adding node object))
   adds node plain (Whole dir way) = anything (change_effect w h (adding node (Whole dir way)))
   adds node plain (Slot dir name (Some x)) = no_row name
   adds node plain (Slot dir name None) = by (add w.tree dir name node) refl
     where
-      by : (result : Result (ℕ × Tree) TreeFault) → add w.tree dir name node ≡ result → Does (Row name (mark_of name)) (edit_effect h result)
+      by : (result : Result (ℕ × Tree) TreeFault) → add w.tree dir name node ≡ result →
+          Does (Row name (mark_of name)) (edit_effect h result)
       by (Err fault) is = tt
       by (Ok result) is = λ well_then. (
         record {
@@ -190,7 +195,8 @@ module _ (table : CallTable) (w : World) (process : ℕ) (sorted : IsTrue (is_so
   by_call call.Symlink path object found = anything (change_effect w h (change_by table call.Symlink object))
   by_call _ path object found = nothing
 
-  by_action : (action : Action) (c : Change) → IsDecided table w.tree h action c → Does (action_touches table w process action) (change_effect w h c)
+  by_action : (action : Action) (c : Change) → IsDecided table w.tree h action c →
+      Does (action_touches table w process action) (change_effect w h c)
   by_action (OnPath asked path) c decided =
       subst (λ d. Does (action_touches table w process (OnPath asked path)) (change_effect w h d)) (sym decided.2)
       (by_call asked path decided.0 decided.1.found)

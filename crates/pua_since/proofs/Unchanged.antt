@@ -16,7 +16,8 @@ use Rattle.pua_policy.specs.declared.answer.Refusal.{Refusal}
 use Rattle.pua_policy.specs.declared.answer.Refusal.TheVariants.{Failed, Killed}
 use Rattle.pua_script.specs.Requests.{Asked}
 use Rattle.pua_script.specs.Decide.{Change, NoChange, change_by, decide}
-use Rattle.pua_script.specs.Replay.{World, apply, Effect, Fails, Kills, Leaves, Copies, history_of, answer_to, left_by, change_effect, refusal_effect}
+use Rattle.pua_script.specs.Replay.{World, apply, Effect, Fails, Kills, Leaves, Copies, history_of, answer_to, left_by, change_effect}
+use Rattle.pua_script.specs.Replay.{refusal_effect}
 use Rattle.pua_script.specs.declared.answer.Answer.{Answer}
 use Rattle.pua_script.specs.declared.request.Action.{Action}
 use Rattle.pua_script.specs.declared.request.Action.TheVariants.{OnPath, Symlink, Rename, Link, Pledge, Unveil, Lock, Fork, Exit}

@@ -1,5 +1,6 @@
 -- What is kept of a question holds behind a further request too.
-use Rattle.std.proofs.Common.{◌≡◌, ℕ, ◌+◌, ◌≤◌, List, [], ◌∷◌, ◌++◌, length, Bool, true, false, Some, None, Option, refl, sym, ap, subst, ◌∙◌, arith, eq-eqb}
+use Rattle.std.proofs.Common.{◌≡◌, ℕ, ◌+◌, ◌≤◌, List, [], ◌∷◌, ◌++◌, length, Bool, true, false, Some, None, Option, refl, sym, ap, subst}
+use Rattle.std.proofs.Common.{◌∙◌, arith, eq-eqb}
 use Rattle.std.specs.Prelude.{◌==◌, not, ◌&&◌, if◌then◌else◌}
 use Rattle.std.specs.Option.{option_eq}
 use Rattle.std.proofs.lemmas.Bool.{eqb-true}
@@ -17,7 +18,8 @@ use Rattle.pua_script.specs.declared.request.Action.TheVariants.{OnPath, Symlink
 use Rattle.pua_why.specs.Since.{Test, parent_by, came_from, forebear, since}
 use Rattle.pua_since.specs.Changes.{has_changed, has_forked}
 use Rattle.pua_since.specs.Concerns.{TouchesOnly, is_concerned}
-use Rattle.pua_since.specs.Watched.{IsPlain, IsToldOf, is_same_told, is_told, IsAbout, IsAskedOnce, IsBegunIn, IsWatched, IsHanded, forks_done, forebear_by, handed_by}
+use Rattle.pua_since.specs.Watched.{IsPlain, IsToldOf, is_same_told, is_told, IsAbout, IsAskedOnce, IsBegunIn, IsWatched, IsHanded}
+use Rattle.pua_since.specs.Watched.{forks_done, forebear_by, handed_by}
 use Rattle.pua_since.specs.declared.touched.Touched.{Touched}
 use Rattle.pua_since.specs.declared.watch.Question.{Question}
 use Rattle.pua_since.specs.declared.watch.Question.TheVariants as asks

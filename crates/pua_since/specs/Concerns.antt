@@ -1,5 +1,6 @@
 -- What a request that was served touches of a world, and which questions that concerns.
-use Rattle.std.specs.Prelude.{◌≡◌, ⊤, ℕ, Bool, true, false, not, ◌||◌, ◌&&◌, ◌==◌, ◌+◌, ◌*◌, ◌%◌, List, [], ◌∷◌, length, Option, Some, None, Result, Ok, is_some}
+use Rattle.std.specs.Prelude.{◌≡◌, ⊤, ℕ, Bool, true, false, not, ◌||◌, ◌&&◌, ◌==◌, ◌+◌, ◌*◌, ◌%◌, List, [], ◌∷◌, length, Option, Some, None}
+use Rattle.std.specs.Prelude.{Result, Ok, is_some}
 use Rattle.std.specs.Int.{bit_at}
 use Rattle.pua_tree.specs.Tree.{Tree, WellFormed}
 use Rattle.pua_path.specs.Resolution.{resolution_of_text}

@@ -127,5 +127,6 @@ fact_line watches (Some place) = line_at watches place
 
 -- since which lines what is told of a request behind others is so: its reason, and the veils of its facts
 pub record AreDatesOf (table : CallTable) (w : World) (asks : List Asked) (ask : Asked) (facts : List Fact) (dates : Dates) : Type 0 where
-  pub answer : date_of (reason table (world_after table w asks) ask) dates.answer ≡ reason_since table w asks ask (reason table (world_after table w asks) ask)
+  pub answer : date_of (reason table (world_after table w asks) ask) dates.answer ≡ reason_since table w asks ask
+      (reason table (world_after table w asks) ask)
   pub veils : dates.facts.items ≡ map (veil_since table w asks ask) facts

@@ -10,5 +10,6 @@ abbrev pub invariant-loop-fact : goal.invariant-loop-fact
 invariant-loop-fact g l = record {
   rows : l.paths.rows ≡ l.world.tree.rows;
   told : flat_map with_end (dated_lines l.world.tree (map fact_seen l.fn.passed) l.fn.dates.facts.items)
-      ≡ string_bytes l.text ++ flat_map with_end (dated_lines l.world.tree (map fact_seen (iter_rest l.fact-iterator.a)) (iter_rest l.fact-iterator.b));
+      ≡ string_bytes l.text ++ flat_map with_end (dated_lines l.world.tree (map fact_seen (iter_rest l.fact-iterator.a))
+      (iter_rest l.fact-iterator.b));
 }

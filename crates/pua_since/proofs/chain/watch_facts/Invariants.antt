@@ -11,7 +11,9 @@ use Rattle.pua_since.proofs.chain.watch_facts.Given as goal
 -- whatever keeps the questions so far has those of the first facts at these places
 abbrev pub invariant-loop-fact : goal.invariant-loop-fact
 invariant-loop-fact g l = record {
-  places : (later : List Watch) → IsKeptThrough l.watches.watches.items later → AreFactsAt later l.process l.last (map fact_seen (take l.fact-index l.passed)) l.veils.items;
-  watched : (w : Replayed) (left : List Asked) → StandsForWorld l.world w → AreWatched l.world.table w [] left l.fn.watches → AreWatched l.world.table w [] left l.watches;
+  places : (later : List Watch) → IsKeptThrough l.watches.watches.items later →
+      AreFactsAt later l.process l.last (map fact_seen (take l.fact-index l.passed)) l.veils.items;
+  watched : (w : Replayed) (left : List Asked) → StandsForWorld l.world w → AreWatched l.world.table w [] left l.fn.watches →
+      AreWatched l.world.table w [] left l.watches;
   kept : IsKeptThrough l.fn.watches.watches.items l.watches.watches.items;
 }

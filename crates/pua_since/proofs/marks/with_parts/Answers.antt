@@ -11,7 +11,8 @@ pub loop-piece-preserved : goal.loop-piece-preserved
 loop-piece-preserved c = record {
   kept = λ mark marked. c.with_mark-all.ensures.kept mark (c.loop-piece.invariant.kept mark marked);
   seen = seen_more c.loop-piece.all c.with_mark-all.result c.loop-piece.yielded c.in-Some.piece c.with_mark-all.ensures.kept
-      (subst (λ m. is_marked c.with_mark-all.result m ≡ true) c.mark_of.ensures.exact c.with_mark-all.ensures.here) c.loop-piece.invariant.seen;
+      (subst (λ m. is_marked c.with_mark-all.result m ≡ true) c.mark_of.ensures.exact c.with_mark-all.ensures.here)
+      c.loop-piece.invariant.seen;
 }
 
 pub returns-clause-parts : goal.returns-clause-parts

@@ -13,9 +13,12 @@ use Rattle.pua_since.proofs.reason_lines.watch_lines.Given as goal
 abbrev pub invariant-loop-done : goal.invariant-loop-done
 invariant-loop-done g l = record {
   known : script l.fn.script_bytes ≡ Ok l.fn.requests → AreKnown l.watches.watches.items l.known.entries;
-  lines : script l.fn.script_bytes ≡ Ok l.fn.requests → (n : ℕ) × (requests_of n l.done-iterator.iter.a ≡ Ok (iter_rest l.done-iterator.iter.b.a));
+  lines : script l.fn.script_bytes ≡ Ok l.fn.requests →
+      (n : ℕ) × (requests_of n l.done-iterator.iter.a ≡ Ok (iter_rest l.done-iterator.iter.b.a));
   places : script l.fn.script_bytes ≡ Ok l.fn.requests → (later : List Watch) (rest : List ℕ) → IsKeptThrough l.watches.watches.items later
-      → ArePlacesOf later l.done-iterator.count (iter_rest l.done-iterator.iter.b.a) (iter_rest l.done-iterator.iter.b.b) rest → ArePlacesOf later 0 l.fn.requests l.fn.answers (l.places.items ++ rest);
-  watched : (w : Replayed) (left : List Asked) → StandsForWorld l.world w → AreWatched l.world.table w [] left l.fn.watches → AreWatched l.world.table w [] left l.watches;
+      → ArePlacesOf later l.done-iterator.count (iter_rest l.done-iterator.iter.b.a) (iter_rest l.done-iterator.iter.b.b) rest →
+      ArePlacesOf later 0 l.fn.requests l.fn.answers (l.places.items ++ rest);
+  watched : (w : Replayed) (left : List Asked) → StandsForWorld l.world w → AreWatched l.world.table w [] left l.fn.watches →
+      AreWatched l.world.table w [] left l.watches;
   kept : IsKeptThrough l.fn.watches.watches.items l.watches.watches.items;
 }

@@ -10,7 +10,9 @@ use Rattle.pua_since.proofs.veils.watch_veils.Given as goal
 -- whatever keeps the questions so far has those of the first veils at these places
 abbrev pub invariant-loop-number : goal.invariant-loop-number
 invariant-loop-number g l = record {
-  places : (later : List Watch) → IsKeptThrough l.watches.watches.items later → AreVeilsAt later l.last (map veil_seen (take l.number-index l.veils)) l.own.items;
-  watched : (w : Replayed) (left : List Asked) → StandsForWorld l.world w → AreWatched l.world.table w [] left l.fn.watches → AreWatched l.world.table w [] left l.watches;
+  places : (later : List Watch) → IsKeptThrough l.watches.watches.items later →
+      AreVeilsAt later l.last (map veil_seen (take l.number-index l.veils)) l.own.items;
+  watched : (w : Replayed) (left : List Asked) → StandsForWorld l.world w → AreWatched l.world.table w [] left l.fn.watches →
+      AreWatched l.world.table w [] left l.watches;
   kept : IsKeptThrough l.fn.watches.watches.items l.watches.watches.items;
 }

@@ -45,5 +45,6 @@ returns-in_err-ask-clause-kept g c =
       old.ok.0,
     ) in
     subst (IsKeptThrough old.items) (sym (with_items_is old after same))
-    (kept_more c.args.world.now c.args.touched.now c.args.line place c.args.self.now items c.loop-watch.invariant within watch c.ask.new.self
+    (kept_more c.args.world.now c.args.touched.now c.args.line place c.args.self.now items c.loop-watch.invariant within watch
+    c.ask.new.self
     (ap (get_or items place) c.watch-item.is) c.ask.ensures.topic)

@@ -42,5 +42,6 @@ returns-in-Some-clause-kept c =
 -- where there is a question there is a place
 pub returns-in_default-clause-place : goal.returns-in_default-clause-place
 returns-in_default-clause-place c = λ process question before topic.
-    let within : c.args.place < length c.args.self.now.watches.items = slice_get_within c.args.self.now.watches.items c.args.place topic.watch topic.stands in
+    let within : c.args.place < length c.args.self.now.watches.items =
+    slice_get_within c.args.self.now.watches.items c.args.place topic.watch topic.stands in
     let no : false ≡ true = c.in_default.ensures.variant.1 (search (rules, within)) in cc
