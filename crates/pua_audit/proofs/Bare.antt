@@ -1,5 +1,6 @@
 -- Names at which no veil is kept, and where nothing stands or a file does.
-use Rattle.std.proofs.Common.{ℕ, ◌+◌, ◌≤◌, ◌≡◌, List, [], ◌∷◌, Option, Some, None, Bool, true, false, refl, cond, nat_le, ap, arith, sym, subst, ◌∙◌, Ok}
+use Rattle.std.proofs.Common.{ℕ, ◌+◌, ◌≤◌, ◌≡◌, List, [], ◌∷◌, Option, Some, None, Bool, true, false, refl, cond, nat_le, ap, arith, sym}
+use Rattle.std.proofs.Common.{subst, ◌∙◌, Ok}
 use Rattle.std.specs.Prelude.{IsTrue}
 use Rattle.std.proofs.lemmas.Bool.{le-leb}
 use Rattle.pua_tree.specs.Tree.{Tree, WellFormed, is_dir, found_at, look}
@@ -42,7 +43,8 @@ pub record IsBare (t : Tree) (h : History) (dir : ℕ) (letter : List ℕ) : Typ
 
 -- a name at which no directory stands is found without a link: one set of calls tells it
 module _ (t : Tree) (table : CallTable) (base : Base) (h : History) (dir : ℕ) (letter : List ℕ) (node : Option ℕ) (calls kept : ℕ)
-    (followed : follow t dir (part_of letter) ≡ Ok (Slot dir letter node, 0)) (on_slot : (call : Call) → is_allowed (verdict t table h call (Slot dir letter node)) ≡ has calls call) where
+    (followed : follow t dir (part_of letter) ≡ Ok (Slot dir letter node, 0)) (on_slot : (call : Call) →
+    is_allowed (verdict t table h call (Slot dir letter node)) ≡ has calls call) where
   abbrev slot : Found
   slot = Slot dir letter node
 
@@ -50,7 +52,8 @@ module _ (t : Tree) (table : CallTable) (base : Base) (h : History) (dir : ℕ) 
   on_kept call = ap (λ r. is_allowed (verdict_of t table h call r)) (unlinked_alike t dir (part_of letter) slot followed) ∙ on_slot call
 
   near : (call : Call) → allowed_near t table h dir letter (Ok (slot, 0)) call ≡ has calls call
-  near call = alike (last_of call) (is_allowed (verdict t table h call slot)) (allowed_kept t table h dir letter call) (has calls call) (on_slot call) (on_kept call)
+  near call = alike (last_of call) (is_allowed (verdict t table h call slot)) (allowed_kept t table h dir letter call) (has calls call)
+      (on_slot call) (on_kept call)
 
   entry : (used : ℕ) → used ≤ most_links → IsEntryAt t table base h dir letter (Ok (slot, 0)) used
   entry used low = subst (λ r. IsEntryAt t table base h dir letter r used) followed (entries_stand t table base h dir letter used low)
@@ -59,26 +62,34 @@ module _ (t : Tree) (table : CallTable) (base : Base) (h : History) (dir : ℕ) 
   slot_told = record {
     own = λ used call low.
         let within : nat_le (used + 0) most_links ≡ true = le-leb (used + 0) most_links (omega (arith, low)) in
-        (entry used low).own call ∙ ap (λ b. cond b (allowed_near t table h dir letter (Ok (slot, 0)) call) (allowed_far t table h dir letter call)) within
+        (entry used low).own call ∙
+        ap (λ b. cond b (allowed_near t table h dir letter (Ok (slot, 0)) call) (allowed_far t table h dir letter call)) within
         ∙ near call ∙ ap (λ b. has (cond b calls kept) call) (sym within);
     step = λ used low. (entry used low).step;
   }
 
-module _ (t : Tree) (table : CallTable) (base : Base) (h : History) (dir : ℕ) (letter : List ℕ) (fits : WellFormed t) (living : IsTrue (is_dir t dir)) where
+module _ (t : Tree) (table : CallTable) (base : Base) (h : History) (dir : ℕ) (letter : List ℕ) (fits : WellFormed t)
+    (living : IsTrue (is_dir t dir)) where
   -- one set of calls tells all names where nothing stands
-  pub bare_told : (missing : ℕ) → ((call : Call) → has missing call ≡ allowed_within t table h dir IsMissing call) → IsBare t h dir letter → IsLetter (judge_of t table base h) dir letter missing missing 0 None
+  pub bare_told : (missing : ℕ) → ((call : Call) → has missing call ≡ allowed_within t table h dir IsMissing call) → IsBare t h dir letter →
+      IsLetter (judge_of t table base h) dir letter missing missing 0 None
   bare_told missing told is =
       slot_told t table base h dir letter None missing missing (ap (follow t dir) is.name ∙ missing_follows t dir letter is.none)
-      (λ call. ap (λ left. is_allowed (covered_verdict t table h call left IsMissing)) (unveiled_within t h dir letter None Top fits living is.unveiled) ∙ sym (told call))
+      (λ call. ap (λ left. is_allowed (covered_verdict t table h call left IsMissing)) (unveiled_within t h dir letter None Top fits living
+      is.unveiled) ∙ sym (told call))
 
   -- one tells all files of a kind
-  pub file_told : (x calls kept : ℕ) (kind : Kind) → is_file kind ≡ true → ((call : Call) → has calls call ≡ allowed_within t table h dir (object_of_kind (Some kind)) call)
-      → part_of letter ≡ part.Name letter → found_at t dir letter ≡ Some (x, kind) → policy.perms_kept h (place.Slot dir letter) ≡ None → IsLetter (judge_of t table base h) dir letter calls kept 0 None
+  pub file_told : (x calls kept : ℕ) (kind : Kind) → is_file kind ≡ true →
+      ((call : Call) → has calls call ≡ allowed_within t table h dir (object_of_kind (Some kind)) call)
+      → part_of letter ≡ part.Name letter → found_at t dir letter ≡ Some (x, kind) → policy.perms_kept h (place.Slot dir letter) ≡ None →
+      IsLetter (judge_of t table base h) dir letter calls kept 0 None
   file_told x calls kept kind file told name found unveiled =
       slot_told t table base h dir letter (Some x) calls kept (ap (follow t dir) name ∙ file_follows t dir letter x kind file found)
       (λ call.
-      ap (λ k. is_allowed (covered_verdict t table h call (cover t h (Slot dir letter (Some x))) (object_of_kind k))) (found_kind t dir letter x kind found)
-      ∙ ap (λ left. is_allowed (covered_verdict t table h call left (object_of_kind (Some kind)))) (unveiled_within t h dir letter (Some x) Top fits living unveiled) ∙ sym (told call))
+      ap (λ k. is_allowed (covered_verdict t table h call (cover t h (Slot dir letter (Some x))) (object_of_kind k)))
+      (found_kind t dir letter x kind found)
+      ∙ ap (λ left. is_allowed (covered_verdict t table h call left (object_of_kind (Some kind))))
+      (unveiled_within t h dir letter (Some x) Top fits living unveiled) ∙ sym (told call))
 
 -- where no veil is kept at all, none is kept at a place
 pub no_veil : (veils : List (Place × ℕ)) (place : Place) → has_veil veils ≡ false → veil_at veils place ≡ None

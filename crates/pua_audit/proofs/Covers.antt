@@ -27,7 +27,8 @@ some_leads leads None is = tt
 some_leads leads (Some x) is = leads x is
 
 -- names without a veil of their own, in a directory that has this cover
-pub within_is : (t : Tree) (table : CallTable) (h : History) (fits : WellFormed t) (dir : ℕ) (living : IsTrue (is_dir t dir)) (left : Cover) → left ≡ cover_in t h dir
+pub within_is : (t : Tree) (table : CallTable) (h : History) (fits : WellFormed t) (dir : ℕ) (living : IsTrue (is_dir t dir))
+    (left : Cover) → left ≡ cover_in t h dir
     → (object : Object) (call : Call) → is_allowed (covered_verdict t table h call left object) ≡ allowed_within t table h dir object call
 within_is t table h fits dir living left is object call =
     ap (λ c. is_allowed (covered_verdict t table h call c object)) (is ∙ sym ((covers_descend t h fits).directory dir Top living))
@@ -41,25 +42,30 @@ founds_of t (Ok found) fit = fit
 founds_of t (Err errno) fit = tt
 
 -- what the veils leave of a directory that was found is the cover of the names in it
-pub covered_lead : (t : Tree) (h : History) → WellFormed t → (r : Result Found Errno) (left : Cover) → FoundsFit t r → IfOk r (λ object. left ≡ cover t h object) → IfSome (leads_to r) (λ to. left ≡ cover_in t h to)
+pub covered_lead : (t : Tree) (h : History) → WellFormed t → (r : Result Found Errno) (left : Cover) → FoundsFit t r →
+    IfOk r (λ object. left ≡ cover t h object) → IfSome (leads_to r) (λ to. left ≡ cover_in t h to)
 covered_lead t h fits (Ok (Whole dir way)) left fit is = is ∙ (covers_descend t h fits).directory dir way fit
 covered_lead t h fits (Ok (Slot dir name _)) left fit is = tt
 covered_lead t h fits (Err errno) left fit is = tt
 
 -- what was found gets its cover from the directory over it
 module _ (t : Tree) (h : History) (fits : WellFormed t) (found : Found) (is_fit : FoundFits t found) where
-  pub handed_name : (dir : ℕ) (name : List ℕ) (node : Option ℕ) → found ≡ Slot dir name node → own_or (perms_kept h (place.Slot dir name)) (cover_in t h dir) ≡ cover t h found
+  pub handed_name : (dir : ℕ) (name : List ℕ) (node : Option ℕ) → found ≡ Slot dir name node →
+      own_or (perms_kept h (place.Slot dir name)) (cover_in t h dir) ≡ cover t h found
   handed_name dir name node is = sym ((covers_descend t h fits).at_name dir name node) ∙ ap (cover t h) (sym is)
 
   pub handed_self : (dir : ℕ) (way : Way) → found ≡ Whole dir way → cover_in t h dir ≡ cover t h found
   handed_self dir way is = sym ((covers_descend t h fits).directory dir way (subst (FoundFits t) is is_fit)) ∙ ap (cover t h) (sym is)
 
-  pub handed_below : StandsAsNamed t found → (dir parent : ℕ) (name : List ℕ) → found ≡ Whole dir (Named parent name) → own_or (perms_kept h (place.Dir dir)) (cover_in t h parent) ≡ cover t h found
+  pub handed_below : StandsAsNamed t found → (dir parent : ℕ) (name : List ℕ) → found ≡ Whole dir (Named parent name) →
+      own_or (perms_kept h (place.Dir dir)) (cover_in t h parent) ≡ cover t h found
   handed_below named dir parent name is =
-      sym ((covers_descend t h fits).below parent name dir (subst (StandsAsNamed t) is named).1 (subst (FoundFits t) is is_fit)) ∙ handed_self dir (Named parent name) is
+      sym ((covers_descend t h fits).below parent name dir (subst (StandsAsNamed t) is named).1 (subst (FoundFits t) is is_fit)) ∙
+      handed_self dir (Named parent name) is
 
 -- a directory without a veil of its own has the cover of the one above it
-pub handed_above : (t : Tree) (h : History) → WellFormed t → (from : ℕ) → is_dir t from ≡ true → perms_kept h (place.Dir from) ≡ None → cover_in t h from ≡ cover_in t h (above t from)
+pub handed_above : (t : Tree) (h : History) → WellFormed t → (from : ℕ) → is_dir t from ≡ true → perms_kept h (place.Dir from) ≡ None →
+    cover_in t h from ≡ cover_in t h (above t from)
 handed_above t h fits from living none = (covers_descend t h fits).over from living ∙ ap (λ o. own_or o (cover_in t h (above t from))) none
 
 -- which is what `..` names
@@ -71,12 +77,14 @@ found_or other (Err errno) = other
 abbrev IsAbove : Tree → ℕ → Part → Found → Type 0
 IsAbove t from part object = part ≡ parts.DotDot → object ≡ Whole (above t from) DotDot
 
-found_above : (t : Tree) (from : ℕ) (part : Part) (r : Result Found Errno) → (part ≡ parts.DotDot → r ≡ Ok (Whole (above t from) DotDot)) → IfOk r (IsAbove t from part)
+found_above : (t : Tree) (from : ℕ) (part : Part) (r : Result Found Errno) → (part ≡ parts.DotDot → r ≡ Ok (Whole (above t from) DotDot)) →
+    IfOk r (IsAbove t from part)
 unfolding found_or
 found_above t from part (Ok object) is = λ dots. ap (found_or object) (is dots)
 found_above t from part (Err errno) is = tt
 
-pub named_above : (t : Tree) (from : ℕ) (part : Part) (r : Result Found Errno) → r ≡ found_of (follow t from part) → IfOk r (IsAbove t from part)
+pub named_above : (t : Tree) (from : ℕ) (part : Part) (r : Result Found Errno) → r ≡ found_of (follow t from part) →
+    IfOk r (IsAbove t from part)
 named_above t from part r is = found_above t from part r (λ dots. is ∙ ap (λ p. found_of (follow t from p)) dots)
 
 pub kept_above : (t : Tree) (from : ℕ) (part : Part) (r : Result Found Errno) → r ≡ last t from 0 part Kept → IfOk r (IsAbove t from part)

@@ -23,18 +23,21 @@ flat_map-nil : {A B : Type 0} (xs : List A) → flat_map {A = B} (λ _. []) xs �
 flat_map-nil [] = refl
 flat_map-nil (x ∷ xs) = flat_map-nil xs
 
-pub flat_map-flat_map : {A B C : Type 0} (f : B → List C) (g : A → List B) (xs : List A) → flat_map f (flat_map g xs) ≡ flat_map (λ x. flat_map f (g x)) xs
+pub flat_map-flat_map : {A B C : Type 0} (f : B → List C) (g : A → List B) (xs : List A) →
+    flat_map f (flat_map g xs) ≡ flat_map (λ x. flat_map f (g x)) xs
 flat_map-flat_map f g [] = refl
 flat_map-flat_map f g (x ∷ xs) = flat_map-append f (g x) (flat_map g xs) ∙ ap (λ ys. flat_map f (g x) ++ ys) (flat_map-flat_map f g xs)
 
-pub filter-flat_map : {A B : Type 0} (test : B → Bool) (g : A → List B) (xs : List A) → filter test (flat_map g xs) ≡ flat_map (λ x. filter test (g x)) xs
+pub filter-flat_map : {A B : Type 0} (test : B → Bool) (g : A → List B) (xs : List A) →
+    filter test (flat_map g xs) ≡ flat_map (λ x. filter test (g x)) xs
 filter-flat_map test g [] = refl
 filter-flat_map test g (x ∷ xs) = filter-append test (g x) (flat_map g xs) ∙ ap (λ ys. filter test (g x) ++ ys) (filter-flat_map test g xs)
 
 pub filter-map : {A B : Type 0} (test : B → Bool) (f : A → B) (xs : List A) → filter test (map f xs) ≡ map f (filter (λ x. test (f x)) xs)
 filter-map test f [] = refl
 filter-map test f (x ∷ xs) =
-    elim (test (f x)) as (λ b. cond b (f x ∷ filter test (map f xs)) (filter test (map f xs)) ≡ map f (cond b (x ∷ filter (λ x. test (f x)) xs) (filter (λ x. test (f x)) xs))) [
+    elim (test (f x)) as (λ b. cond b (f x ∷ filter test (map f xs)) (filter test (map f xs))
+    ≡ map f (cond b (x ∷ filter (λ x. test (f x)) xs) (filter (λ x. test (f x)) xs))) [
       | true ↦ ap (λ ys. f x ∷ ys) (filter-map test f xs)
       | false ↦ filter-map test f xs
     ]
@@ -71,7 +74,8 @@ filter-alone test cs = filter-map test (λ c. ([], c)) cs
 abbrev word_calls : Word → List Pair
 word_calls word = map (λ (call : Call). (word, call)) calls
 
-word_calls_behind : (a : List ℕ) (word : Word) (cs : List Call) → map (λ (call : Call). (a ∷ word, call)) cs ≡ map (longer a) (map (λ (call : Call). (word, call)) cs)
+word_calls_behind : (a : List ℕ) (word : Word) (cs : List Call) →
+    map (λ (call : Call). (a ∷ word, call)) cs ≡ map (longer a) (map (λ (call : Call). (word, call)) cs)
 word_calls_behind a word [] = refl
 word_calls_behind a word (c ∷ cs) = ap (λ ps. (a ∷ word, c) ∷ ps) (word_calls_behind a word cs)
 
@@ -87,7 +91,8 @@ pairs_more : (letters : List (List ℕ)) (l : ℕ) → pairs letters (suc l) ≡
 unfolding alone
 pairs_more letters l =
     ap (λ ps. word_calls [] ++ ps) (flat_map-flat_map word_calls (λ a. map (λ word. a ∷ word) (words letters l)) letters
-    ∙ flat_map-cong (λ a. flat_map word_calls (map (λ word. a ∷ word) (words letters l))) (λ a. cons a (pairs letters l)) (λ a. pairs_behind a (words letters l)) letters)
+    ∙ flat_map-cong (λ a. flat_map word_calls (map (λ word. a ∷ word) (words letters l))) (λ a. cons a (pairs letters l))
+    (λ a. pairs_behind a (words letters l)) letters)
 
 pairs_end : (letters : List (List ℕ)) → pairs letters zero ≡ alone calls ++ []
 unfolding alone
@@ -104,7 +109,8 @@ from_state (Some s) go = go s
 
 unfoldable pub below : Judge → List (List ℕ) → ℕ → WordEnd → List Pair
 below w letters zero x = []
-below w letters (suc l) x = from_state (w.step x) (λ s. flat_map (λ a. cons a (here w (Below s a) ++ below w letters l (Below s a))) letters)
+below w letters (suc l) x =
+    from_state (w.step x) (λ s. flat_map (λ a. cons a (here w (Below s a) ++ below w letters l (Below s a))) letters)
 
 unfoldable pub rows : Judge → List (List ℕ) → ℕ → JudgeState → List (List ℕ) → List Pair
 rows w letters l s some = flat_map (λ a. cons a (here w (Below s a) ++ below w letters l (Below s a))) some
@@ -129,20 +135,25 @@ module _ (w : Judge) (letters : List (List ℕ)) where
   behind_filtered : (l : ℕ) → ((x : WordEnd) → IsFiltered l x) → (r : Option JudgeState)
       → flat_map (λ a. cons a (filter (λ p. if_some r (λ s. is_allowed_along w (Below s a) p.0 p.1)) (pairs letters l))) letters
       ≡ from_state r (λ s. flat_map (λ a. cons a (here w (Below s a) ++ below w letters l (Below s a))) letters)
-  behind_filtered l each None = flat_map-cong _ (λ _. []) (λ a. ap (cons a) (filter-none (pairs letters l)) ∙ cons-nil a) letters ∙ flat_map-nil letters
-  behind_filtered l each (Some s) = flat_map-cong _ (λ a. cons a (here w (Below s a) ++ below w letters l (Below s a))) (λ a. ap (cons a) (each (Below s a))) letters
+  behind_filtered l each None = flat_map-cong _ (λ _. []) (λ a. ap (cons a) (filter-none (pairs letters l)) ∙ cons-nil a) letters ∙
+      flat_map-nil letters
+  behind_filtered l each (Some s) =
+      flat_map-cong _ (λ a. cons a (here w (Below s a) ++ below w letters l (Below s a))) (λ a. ap (cons a) (each (Below s a))) letters
 
   -- filtering all pairs gives the lines at the place and those behind it
   pub filtered : (l : ℕ) (x : WordEnd) → IsFiltered l x
   unfolding below allowed_at
-  filtered zero x = ap (filter (λ p. is_allowed_along w x p.0 p.1)) (pairs_end letters) ∙ filter-append (λ p. is_allowed_along w x p.0 p.1) (alone calls) [] ∙ ap (λ ps. ps ++ []) (filter-alone (λ p. is_allowed_along w x p.0 p.1) calls)
+  filtered zero x = ap (filter (λ p. is_allowed_along w x p.0 p.1)) (pairs_end letters) ∙
+      filter-append (λ p. is_allowed_along w x p.0 p.1) (alone calls) [] ∙
+      ap (λ ps. ps ++ []) (filter-alone (λ p. is_allowed_along w x p.0 p.1) calls)
   filtered (suc l) x =
       let test : Pair → Bool = λ p. is_allowed_along w x p.0 p.1 in
       ap (filter test) (pairs_more letters l)
       ∙ filter-append test (alone calls) (flat_map (λ a. cons a (pairs letters l)) letters)
       ∙ ap (λ ps. ps ++ filter test (flat_map (λ a. cons a (pairs letters l)) letters)) (filter-alone test calls)
       ∙ ap (λ ps. here w x ++ ps) (filter-flat_map test (λ a. cons a (pairs letters l)) letters
-      ∙ flat_map-cong _ (λ a. cons a (filter (λ p. test (longer a p)) (pairs letters l))) (λ a. filter-cons test a (pairs letters l)) letters
+      ∙ flat_map-cong _ (λ a. cons a (filter (λ p. test (longer a p)) (pairs letters l))) (λ a. filter-cons test a (pairs letters l))
+      letters
       ∙ behind_filtered l (filtered l) (w.step x))
 
 pub reach_is : (w : Judge) (letters : List (List ℕ)) (limit : ℕ) → reach_along w letters limit ≡ here w Start ++ below w letters limit Start
