@@ -13,7 +13,8 @@ abbrev pub with_read : List (List ℕ) → Result (List (List ℕ)) AuditFault �
 with_read done (Ok more) = Ok (done ++ more)
 with_read done (Err fault) = Err fault
 
-with_read-more : (done : List (List ℕ)) (name : List ℕ) (r : Result (List (List ℕ)) AuditFault) → with_read done (r >>= λ names. Ok (name ∷ names)) ≡ with_read (done ++ name ∷ []) r
+with_read-more : (done : List (List ℕ)) (name : List ℕ) (r : Result (List (List ℕ)) AuditFault) →
+    with_read done (r >>= λ names. Ok (name ∷ names)) ≡ with_read (done ++ name ∷ []) r
 with_read-more done name (Ok more) = ap Ok (sym (append_assoc done (name ∷ []) more))
 with_read-more done name (Err fault) = refl
 
