@@ -1,5 +1,6 @@
 -- What a judge says of the states on the way to pairs, and of the states to which words lead.
-use Rattle.std.specs.Prelude.{◌≡◌, ℕ, zero, suc, ◌-◌, Bool, true, false, ◌&&◌, ◌||◌, ◌==◌, nat_lt, nat_le, List, [], ◌∷◌, length, Option, Some, None, option_map, option_to_list, flat_map, filter_map}
+use Rattle.std.specs.Prelude.{◌≡◌, ℕ, zero, suc, ◌-◌, Bool, true, false, ◌&&◌, ◌||◌, ◌==◌, nat_lt, nat_le, List, [], ◌∷◌, length, Option}
+use Rattle.std.specs.Prelude.{Some, None, option_map, option_to_list, flat_map, filter_map}
 use Rattle.pua_audit.specs.Reach.{Word, Pair}
 use Rattle.pua_audit.specs.Judge.{Judge, WordEnd, Start, Below, reach_along}
 use Rattle.pua_audit.specs.Live.{Stage, shorter}
@@ -51,8 +52,10 @@ some_pair (p ∷ ps) = true
 abbrev pub state_of : Stage → JudgeState
 state_of y = record { dir = y.dir; used = y.links }
 
--- a stage is on the way to a pair of the reach exactly if a letter may come, words of the other letters lead to it, and some pair goes on from it
+-- a stage is on the way to a pair of the reach exactly if a letter may come, words of the other letters lead to it, and
+-- some pair goes on from it
 abbrev pub StagesLive : Type 0
 StagesLive = (w : Judge) (letters : List (List ℕ)) (limit : ℕ) (y : Stage) →
     is_staged y (stages_of w limit Start (reach_along w letters limit))
-    ≡ ((nat_lt 0 y.left && nat_le y.left limit) && (some_pair (rows w letters (y.left - 1) (state_of y) letters) && is_among (state_of y) (reached_from w letters (limit - y.left) Start)))
+    ≡ ((nat_lt 0 y.left && nat_le y.left limit) && (some_pair (rows w letters (y.left - 1) (state_of y) letters)
+    && is_among (state_of y) (reached_from w letters (limit - y.left) Start)))

@@ -24,7 +24,8 @@ module _ (a : Terms) (sound : IsSound a) (letters : AreSound a.limit a.letters.i
   nothing_after closed (Some pair) = ap (filter (λ other. is_lt (pair_cmp pair other))) (closed_reaches (scope_in a) audited closed)
 
   pub lives : is_open (scope_in a) ≡ true → IsTrue (is_dir a.seen.tree (base_dir a.base (plain_history a.process)))
-  lives opened = (and_parts (not (is_ended (plain_history a.process))) (is_dir a.seen.tree (base_dir a.base (plain_history a.process))) opened).1
+  lives opened = (and_parts (not (is_ended (plain_history a.process))) (is_dir a.seen.tree (base_dir a.base (plain_history a.process)))
+      opened).1
 
   pub all_along : is_open (scope_in a) ≡ true → reach_along (judge_in a) (letters_of a) a.limit ≡ reach (scope_in a)
   all_along opened = sym (reaches_along (scope_in a) audited (lives opened))

@@ -10,8 +10,10 @@ pub loop-name-preserved : goal.loop-name-preserved
 loop-name-preserved c =
     let now = map part_bytes c.loop-name.letters.items in
     let more = map part_bytes c.add_letter.new.letters.items in
-    let put : more ≡ with_name c.in-Some.name.now now = c.in_ok-add_letter.ensures ∙ ap (λ p. with_name (part_bytes p) now) c.in_ok-named.ensures in
+    let put : more ≡ with_name c.in-Some.name.now now = c.in_ok-add_letter.ensures ∙
+    ap (λ p. with_name (part_bytes p) now) c.in_ok-named.ensures in
     record {
       rises = subst (Rises name_cmp) (sym put) (with_name_rises c.in-Some.name.now now c.loop-name.invariant.rises);
-      letters = one_more c.loop-name.yielded c.in-Some.name (map part_bytes c.args.letters.now.items) now more c.loop-name.invariant.letters put;
+      letters = one_more c.loop-name.yielded c.in-Some.name (map part_bytes c.args.letters.now.items) now more c.loop-name.invariant.letters
+          put;
     }

@@ -7,7 +7,8 @@ use Rattle.pua_audit.proofs.alphabet.longest.Given as goal
 
 abbrev pub invariant-loop-letter : goal.invariant-loop-letter
 invariant-loop-letter l = record {
-  most : longest (map part_bytes l.letters) ≡ fold (λ most letter. max most (length letter)) l.most (map part_bytes (drop l.letter-index l.letters));
+  most : longest (map part_bytes l.letters) ≡ fold (λ most letter. max most (length letter)) l.most
+      (map part_bytes (drop l.letter-index l.letters));
   parts : AreParts (take l.letter-index l.letters);
   short : l.most ≤ most_name;
 }

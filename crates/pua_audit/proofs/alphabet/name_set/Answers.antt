@@ -10,11 +10,13 @@ use Rattle.pua_audit.proofs.alphabet.name_set.Goals as goal
 
 pub loop-row-preserved : goal.loop-row-preserved
 loop-row-preserved c =
-    one_name_more (λ (row : LentRow). (lent_entry row).0.1) c.loop-row.yielded c.in-Some.row c.loop-row.names.keys c.insert.new.self.keys _ refl c.loop-row.invariant c.in_ok-insert.ensures.keys
+    one_name_more (λ (row : LentRow). (lent_entry row).0.1) c.loop-row.yielded c.in-Some.row c.loop-row.names.keys c.insert.new.self.keys _
+    refl c.loop-row.invariant c.in_ok-insert.ensures.keys
 
 pub returns : goal.returns
 returns c =
-    let ended = YieldsList-end (YieldsList-from_rev_slice c.args.rows.now cc) c.loop-row.yielded _ c.loop-row.yielded_by _ _ c.in-None.is c.next.ensures.steps in
+    let ended = YieldsList-end (YieldsList-from_rev_slice c.args.rows.now cc) c.loop-row.yielded _ c.loop-row.yielded_by _ _ c.in-None.is
+    c.next.ensures.steps in
     c.loop-row.invariant
     ∙ ap (λ (rows : List LentRow). distinct_names (map (λ row. (lent_entry row).0.1) (reverse rows))) ended.0
     ∙ ap (λ (rows : List LentRow). distinct_names (map (λ row. (lent_entry row).0.1) rows)) (reverse-reverse c.args.rows.now)

@@ -22,9 +22,11 @@ returns-clause-begun g c = λ table h base after.
     let letters = map part_bytes c.in-Ok.letters.items in
     let few : length texts ≤ 1024 = omega (arith, length-map c.args.candidates.now (λ s. s.now)) in
     let same : letters ≡ alphabet_of t names = c.in-Ok.ensures t c.requires.rows ∙ ap (alphabet_of t) c.as_slice.ensures.value in
-    let most : c.longest.result ≡ longest letters = c.longest.ensures.longest ∙ ap (λ l. longest (map part_bytes l)) c.as_slice-2.ensures.value in
+    let most : c.longest.result ≡ longest letters = c.longest.ensures.longest ∙
+    ap (λ l. longest (map part_bytes l)) c.as_slice-2.ensures.value in
     let product = same_product c.from.result c.args.limit c.longest.result (longest letters) c.from.ensures most in
-    begun t table h base texts c.args.limit after c.if-limit-gt-MOST_LETTERS.false few names c.in_ok-names.ensures letters same (subst (λ n. n ≤ 1023) product c.if-from-longest-gt-MOST_PATH.false)
+    begun t table h base texts c.args.limit after c.if-limit-gt-MOST_LETTERS.false few names c.in_ok-names.ensures letters same
+    (subst (λ n. n ≤ 1023) product c.if-from-longest-gt-MOST_PATH.false)
 
 pub returns-clause-sound : goal.returns-clause-sound
 returns-clause-sound g c =
@@ -33,7 +35,8 @@ returns-clause-sound g c =
     let names = c.in_ok-names.names.items in
     let letters = map part_bytes c.in-Ok.letters.items in
     let same : letters ≡ alphabet_of t names = c.in-Ok.ensures t c.requires.rows ∙ ap (alphabet_of t) c.as_slice.ensures.value in
-    let most : c.longest.result ≡ longest letters = c.longest.ensures.longest ∙ ap (λ l. longest (map part_bytes l)) c.as_slice-2.ensures.value in
+    let most : c.longest.result ≡ longest letters = c.longest.ensures.longest ∙
+    ap (λ l. longest (map part_bytes l)) c.as_slice-2.ensures.value in
     let product = same_product c.from.result c.args.limit c.longest.result (longest letters) c.from.ensures most in
     record {
       few = c.if-limit-gt-MOST_LETTERS.false;
@@ -47,5 +50,7 @@ pub returns-clause-many : goal.returns-clause-many
 returns-clause-many g c =
     let t = g.P.Probe.tree c.args.probe.now in
     let names = c.in_ok-names.names.items in
-    let same : map part_bytes c.in-Ok.letters.items ≡ alphabet_of t names = c.in-Ok.ensures t c.requires.rows ∙ ap (alphabet_of t) c.as_slice.ensures.value in
-    sym (length-map c.in-Ok.letters.items part_bytes) ∙ ap length same ∙ ap (λ r. length (alphabet_of t (names_or_none r))) (sym c.in_ok-names.ensures)
+    let same : map part_bytes c.in-Ok.letters.items ≡ alphabet_of t names = c.in-Ok.ensures t c.requires.rows ∙
+    ap (alphabet_of t) c.as_slice.ensures.value in
+    sym (length-map c.in-Ok.letters.items part_bytes) ∙ ap length same ∙
+    ap (λ r. length (alphabet_of t (names_or_none r))) (sym c.in_ok-names.ensures)

@@ -12,5 +12,6 @@ returns-then-eq c =
     let path = c.args.path.now in
     let dot : same_bytes path (codes ".") ≡ true = ap (same_bytes path) (sym c.as_slice.ensures) ∙ sym c.eq.ensures ∙ c.if-eq.true in
     let empty = empty_read letters c.args.limit c.args.word.now.items c.requires.empty in
-    let read = ap (λ (b : Base). word_of_path b letters path) c.in-Cwd.is ∙ ap (λ v. cond v (Some []) (word_of_pieces_between letters path)) dot in
+    let read = ap (λ (b : Base). word_of_path b letters path) c.in-Cwd.is ∙
+    ap (λ v. cond v (Some []) (word_of_pieces_between letters path)) dot in
     (ap (word_within c.args.limit) read ∙ empty.0, empty.1)

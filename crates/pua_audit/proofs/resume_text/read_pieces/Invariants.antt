@@ -15,5 +15,6 @@ invariant-loop-piece l =
     record {
       room : l.limit ≤ vec_capacity l.word;
       listed : AreLetters letters l.limit l.word.items;
-      so_far : word_of_pieces letters pieces ≡ behind_word (word_of letters l.word.items) (word_of_pieces letters (drop (length l.yielded) pieces));
+      so_far : word_of_pieces letters pieces ≡ behind_word (word_of letters l.word.items)
+          (word_of_pieces letters (drop (length l.yielded) pieces));
     }

@@ -22,7 +22,8 @@ use Rattle.pua_audit.proofs.audit.Audit.begin.Goals as goal
 
 pub new-requires : goal.new-requires
 new-requires g c =
-    let past : StandsFor c.args.process.now (plain_history c.args.process.now) = stands_for_past c.args.process.now c.known.ensures.history c.known.ensures.stands in
+    let past : StandsFor c.args.process.now (plain_history c.args.process.now) =
+    stands_for_past c.args.process.now c.known.ensures.history c.known.ensures.stands in
     let parts : AreParts c.in_ok-letters.field-0.letters.items = c.in_ok-letters.ensures.sound.sound.parts in
     let short = c.in_ok-letters.ensures.sound.sound.short in
     search rules
@@ -40,12 +41,17 @@ returns-clause-begun g c = λ h stands.
     let known : c.in-Ok-new.terms.letters.items ≡ letters = ap (λ v. v.items) c.in-Ok-new.ensures.letters.1 in (
       b,
       (
-        (subst (λ (u : Tree). beginning u c.args.table.now h c.args.base (map (λ s. s.now) c.args.candidates.now) c.args.limit (option_map (λ s. s.now) c.args.after) ≡ Ok (beginning_with u c.args.table.now h c.args.base c.args.limit c.in_ok-letters.field-0)) c.in-Ok.ensures.tree (c.in_ok-letters.ensures.begun c.args.table.now h)),
+        (subst (λ (u : Tree). beginning u c.args.table.now h c.args.base (map (λ s. s.now) c.args.candidates.now) c.args.limit
+            (option_map (λ s. s.now) c.args.after)
+            ≡ Ok (beginning_with u c.args.table.now h c.args.base c.args.limit c.in_ok-letters.field-0)) c.in-Ok.ensures.tree
+            (c.in_ok-letters.ensures.begun c.args.table.now h)),
         c.in-Ok-begin.ensures.left
             ∙ ap (λ (ls : List Part). rest_after (scope_in c.in-Ok-new.terms) (option_map (pair_in (map part_bytes ls)) after)) known
             ∙ ap (λ (s : Scope). rest_after s (option_map (pair_in (map part_bytes letters)) after)) c.in-Ok-new.ensures.scope
-            ∙ ap (λ (u : Tree). rest_after (scope_with u c.args.table.now (plain_history p) base limit letters) (option_map (pair_in (map part_bytes letters)) after)) c.in-Ok.ensures.tree
-            ∙ rest_by_process t c.args.table.now base (map part_bytes letters) limit p (plain_history p) h past stands (option_map (pair_in (map part_bytes letters)) after),
+            ∙ ap (λ (u : Tree). rest_after (scope_with u c.args.table.now (plain_history p) base limit letters)
+            (option_map (pair_in (map part_bytes letters)) after)) c.in-Ok.ensures.tree
+            ∙ rest_by_process t c.args.table.now base (map part_bytes letters) limit p (plain_history p) h past stands
+            (option_map (pair_in (map part_bytes letters)) after),
         refl,
       ),
     )
@@ -61,7 +67,10 @@ pub returns-clause-letters : goal.returns-clause-letters
 returns-clause-letters g c = λ h b is.
     ap (λ (u : Terms). letters_of u) c.in-Ok-begin.ensures.terms
     ∙ ap (λ (v : List Part). map part_bytes v) (ap (λ v. v.items) c.in-Ok-new.ensures.letters.1)
-    ∙ ap alphabet_in (sym ((subst (λ (u : Tree). beginning u c.args.table.now h c.args.base (map (λ s. s.now) c.args.candidates.now) c.args.limit (option_map (λ s. s.now) c.args.after) ≡ Ok (beginning_with u c.args.table.now h c.args.base c.args.limit c.in_ok-letters.field-0)) c.in-Ok.ensures.tree (c.in_ok-letters.ensures.begun c.args.table.now h))) ∙ is)
+    ∙ ap alphabet_in (sym
+    ((subst (λ (u : Tree). beginning u c.args.table.now h c.args.base (map (λ s. s.now) c.args.candidates.now) c.args.limit
+    (option_map (λ s. s.now) c.args.after) ≡ Ok (beginning_with u c.args.table.now h c.args.base c.args.limit c.in_ok-letters.field-0))
+    c.in-Ok.ensures.tree (c.in_ok-letters.ensures.begun c.args.table.now h))) ∙ is)
 
 abbrev live_in : Result Beginning AuditFault → ℕ
 live_in (Ok b) = length (live_states b.scope)
@@ -79,7 +88,10 @@ returns-clause-live g c = λ h stands b is.
     ∙ ap (λ (s : Scope). length (live_states s)) c.in-Ok-new.ensures.scope
     ∙ ap (λ (u : Tree). length (live_states (scope_with u c.args.table.now (plain_history p) base limit letters))) c.in-Ok.ensures.tree
     ∙ ap length (live_by_process t c.args.table.now base (map part_bytes letters) limit p (plain_history p) h past stands)
-    ∙ ap live_in (sym ((subst (λ (u : Tree). beginning u c.args.table.now h c.args.base (map (λ s. s.now) c.args.candidates.now) c.args.limit (option_map (λ s. s.now) c.args.after) ≡ Ok (beginning_with u c.args.table.now h c.args.base c.args.limit c.in_ok-letters.field-0)) c.in-Ok.ensures.tree (c.in_ok-letters.ensures.begun c.args.table.now h))) ∙ is)
+    ∙ ap live_in (sym ((subst (λ (u : Tree). beginning u c.args.table.now h c.args.base (map (λ s. s.now) c.args.candidates.now)
+    c.args.limit (option_map (λ s. s.now) c.args.after)
+    ≡ Ok (beginning_with u c.args.table.now h c.args.base c.args.limit c.in_ok-letters.field-0)) c.in-Ok.ensures.tree
+    (c.in_ok-letters.ensures.begun c.args.table.now h))) ∙ is)
 
 pub begin-requires : goal.begin-requires
 begin-requires g c κs =

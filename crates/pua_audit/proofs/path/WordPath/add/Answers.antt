@@ -14,6 +14,7 @@ returns-clause-path c = λ word is.
     let start : c.len.result ≡ 0 + length (from_root word) = omega (arith, c.len.ensures, ap length is.bytes) in
     record {
       bytes = c.add_letter.ensures.path ∙ ap (λ bs. bs ++ 47 ∷ a) is.bytes ∙ sym (from_root-push word a);
-      starts = pushed ∙ ap (λ ns. ns ++ c.len.result ∷ []) is.starts ∙ ap (λ n. starts_of 0 word ++ n ∷ []) start ∙ sym (starts-push 0 word a);
+      starts = pushed ∙ ap (λ ns. ns ++ c.len.result ∷ []) is.starts ∙ ap (λ n. starts_of 0 word ++ n ∷ []) start ∙
+          sym (starts-push 0 word a);
       plain = c.plain_with-self.ensures word is;
     }

@@ -7,6 +7,7 @@ use Rattle.pua_audit.proofs.terms.Terms.add_rows.Given as goal
 abbrev pub invariant-loop-row : goal.invariant-loop-row
 invariant-loop-row l = record {
   within : AreAtLetters (letters_of l.self) l.spots.items;
-  rows : (dir letter : ℕ) → letter < length (letters_of l.self) → IsUnmarked dir letter l.spots.items → IsNowhere dir (get_or (letters_of l.self) letter []) (map lent_entry (take l.row-index l.rows));
+  rows : (dir letter : ℕ) → letter < length (letters_of l.self) → IsUnmarked dir letter l.spots.items →
+      IsNowhere dir (get_or (letters_of l.self) letter []) (map lent_entry (take l.row-index l.rows));
   others : (dir letter : ℕ) → IsUnmarked dir letter l.spots.items → IsUnmarked dir letter l.fn.spots.items;
 }

@@ -7,6 +7,7 @@ use Rattle.pua_audit.proofs.terms.Terms.add_veils.Given as goal
 abbrev pub invariant-loop-place : goal.invariant-loop-place
 invariant-loop-place l = record {
   within : AreAtLetters (letters_of l.self) l.spots.items;
-  places : (dir letter : ℕ) → letter < length (letters_of l.self) → IsUnmarked dir letter l.spots.items → AreApartFrom (Slot dir (get_or (letters_of l.self) letter [])) (map (λ place. place.now) (take l.place-index l.places));
+  places : (dir letter : ℕ) → letter < length (letters_of l.self) → IsUnmarked dir letter l.spots.items →
+      AreApartFrom (Slot dir (get_or (letters_of l.self) letter [])) (map (λ place. place.now) (take l.place-index l.places));
   others : (dir letter : ℕ) → IsUnmarked dir letter l.spots.items → IsUnmarked dir letter l.fn.spots.items;
 }

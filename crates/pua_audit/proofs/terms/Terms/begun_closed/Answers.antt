@@ -25,4 +25,5 @@ returns-clause-within c =
     subst (λ (ps : List graph.Pair). AllByRecursion (λ p. IsPair (length (letters_of a)) p) ps) (sym none) tt
 
 pub returns-clause-live : goal.returns-clause-live
-returns-clause-live c = let a = c.args.self.now in sym (live_states_count.none (scope_in a) (audited a c.requires.sound c.requires.letters) c.requires.closed)
+returns-clause-live c = let a = c.args.self.now in
+    sym (live_states_count.none (scope_in a) (audited a c.requires.sound c.requires.letters) c.requires.closed)

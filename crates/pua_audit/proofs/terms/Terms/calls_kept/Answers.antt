@@ -19,8 +19,11 @@ pub returns-then-is_ok-clause-exact : goal.returns-then-is_ok-clause-exact
 returns-then-is_ok-clause-exact g c = λ call.
     let a = c.args.self.now in
     let t = a.seen.tree in
-    let alike = kept_unlinked t c.args.dir c.args.part.now (follow t c.args.dir c.args.part.now) refl (sym c.requires.links ∙ c.if-links-eq0.true) (ap is_ok (sym c.requires.followed) ∙ sym c.is_ok.ensures.value ∙ c.if-is_ok.true) in
-    c.requires.near call ∙ ap (λ (x : Result Found Errno). is_allowed (verdict_of t a.table (plain_history a.process) call x)) (c.requires.followed ∙ sym alike)
+    let alike = kept_unlinked t c.args.dir c.args.part.now (follow t c.args.dir c.args.part.now) refl (sym c.requires.links ∙
+    c.if-links-eq0.true) (ap is_ok (sym c.requires.followed) ∙ sym c.is_ok.ensures.value ∙ c.if-is_ok.true) in
+    c.requires.near call ∙
+    ap (λ (x : Result Found Errno). is_allowed (verdict_of t a.table (plain_history a.process) call x)) (c.requires.followed ∙
+    sym alike)
 
 pub cover_of-cover-requires : goal.cover_of-cover-requires
 cover_of-cover-requires g c κs =
@@ -28,8 +31,14 @@ cover_of-cover-requires g c κs =
     let kept : Result Found Errno = c.last-kept.result in
     let fit : FoundsFit t kept = subst (λ (u : Tree). FoundsFit u kept) c.requires.tree c.last-kept.ensures.fits in
     let named : IfOk kept (StandsAsNamed t) = subst (λ (u : Tree). IfOk kept (StandsAsNamed u)) c.requires.tree c.last-kept.ensures.named in
-    let is : kept ≡ last t c.args.dir 0 c.args.part.now Kept = c.last-kept.ensures.exact ∙ ap (λ (u : Tree). last u c.args.dir 0 c.args.part.now Kept) c.requires.tree in
-    ((refl, tt), (c.last-kept.ensures.tree ∙ c.requires.tree, (c.requires.sound, (fit, (named, (c.requires.covered, (c.requires.living, kept_above t c.args.dir c.args.part.now kept is)))))))
+    let is : kept ≡ last t c.args.dir 0 c.args.part.now Kept = c.last-kept.ensures.exact ∙
+    ap (λ (u : Tree). last u c.args.dir 0 c.args.part.now Kept) c.requires.tree in (
+      (refl, tt),
+      (
+        c.last-kept.ensures.tree ∙ c.requires.tree,
+        (c.requires.sound, (fit, (named, (c.requires.covered, (c.requires.living, kept_above t c.args.dir c.args.part.now kept is))))),
+      ),
+    )
 
 pub calls_on-requires : goal.calls_on-requires
 calls_on-requires g c κs =

@@ -16,7 +16,8 @@ returns-in_ok-over-in-Named c = λ t h fits stands fit named covered.
 pub returns-in-Dot : goal.returns-in-Dot
 returns-in-Dot c =
     let i = c.in-Whole in
-    some_leads (λ left over. λ t h fits stands fit named covered. over t h covered ∙ handed_self t h fits c.args.found.now fit i.dir i.way i.is) c.cover_in-in-Dot.result c.cover_in-in-Dot.ensures
+    some_leads (λ left over. λ t h fits stands fit named covered. over t h covered ∙
+    handed_self t h fits c.args.found.now fit i.dir i.way i.is) c.cover_in-in-Dot.result c.cover_in-in-Dot.ensures
 
 pub returns-in_ok-over-in-Slot : goal.returns-in_ok-over-in-Slot
 returns-in_ok-over-in-Slot c = λ t h fits stands fit named covered.
