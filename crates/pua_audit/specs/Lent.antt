@@ -19,7 +19,8 @@ HasRead old new = new.reads ≤ old.reads + 2 * (suc old.limit * suc (length old
 abbrev pub IsNextLine : AuditState → Option Line → AuditState → Type 0
 IsNextLine old result new =
     (new.tree ≡ old.tree) × (new.base ≡ old.base)
-    × MatchOption result ((old.left ≡ []) × (new.left ≡ [])) (λ line. (word : Word) × ((line.path.now ≡ path_of old.base word) × (old.left ≡ (word, line.call) ∷ new.left)))
+    × MatchOption result ((old.left ≡ []) × (new.left ≡ [])) (λ line. (word : Word) ×
+    ((line.path.now ≡ path_of old.base word) × (old.left ≡ (word, line.call) ∷ new.left)))
     × IsSameAudit old new × HasRead old new
 
 abbrev pub LendsLine : MutBor AuditState → Option Line → Fml

@@ -22,4 +22,5 @@ pub record IsWord (s : Scope) (word : Word) : Type 0 where
 
 -- a text names a pair exactly where it is the text of that pair
 abbrev pub ResumeTextsName : Type 0
-ResumeTextsName = (s : Scope) (text : List ℕ) (pair : Pair) → IsTrue (list_all is_letter s.alphabet) → (resume_pair s text ≡ Some pair) ↔ (IsWord s pair.0 × (text ≡ pair_text s.base pair))
+ResumeTextsName = (s : Scope) (text : List ℕ) (pair : Pair) → IsTrue (list_all is_letter s.alphabet) →
+    (resume_pair s text ≡ Some pair) ↔ (IsWord s pair.0 × (text ≡ pair_text s.base pair))

@@ -29,7 +29,14 @@ judge_in a = judge_of a.seen.tree a.table a.base (plain_history a.process)
 
 -- what is audited
 abbrev pub scope_in : Terms → Scope
-scope_in a = record { tree = a.seen.tree; table = a.table; history = plain_history a.process; base = a.base; alphabet = letters_of a; limit = a.limit }
+scope_in a = record {
+  tree = a.seen.tree;
+  table = a.table;
+  history = plain_history a.process;
+  base = a.base;
+  alphabet = letters_of a;
+  limit = a.limit;
+}
 
 -- the letters at some places of the alphabet
 unfoldable pub word_of : List (List ℕ) → List ℕ → Word

@@ -1,5 +1,6 @@
 -- What the code reads of an audit's beginning.
-use Rattle.std.specs.Prelude.{◌≡◌, ◌<◌, ◌≤◌, ◌*◌, suc, ℕ, Bool, List, length, map, Option, Some, None, Result, Ok, option_map, IfSome, IsTrue, MatchBool}
+use Rattle.std.specs.Prelude.{◌≡◌, ◌<◌, ◌≤◌, ◌*◌, suc, ℕ, Bool, List, length, map, Option, Some, None, Result, Ok, option_map, IfSome}
+use Rattle.std.specs.Prelude.{IsTrue, MatchBool}
 use Rattle.std.specs.List.{AllByRecursion, list_all}
 use Rattle.pua_tree.specs.Tree.{Tree, WellFormed, name_cmp}
 use Rattle.pua_tree.specs.Steps.{◌>>=◌}
@@ -26,7 +27,8 @@ pub record AreLetters (letters : List (List ℕ)) (limit : ℕ) (places : List �
 -- whether there is a word within the limit, and its places in the alphabet
 abbrev pub IsRead : List (List ℕ) → ℕ → Option Word → Bool → List ℕ → Type 0
 IsRead letters limit word result places =
-    MatchBool result ((word_within limit word ≡ Some (word_of letters places)) × AreLetters letters limit places) (word_within limit word ≡ None)
+    MatchBool result ((word_within limit word ≡ Some (word_of letters places)) × AreLetters letters limit places)
+    (word_within limit word ≡ None)
 
 -- the word of some places, and the call
 abbrev pub pair_in : List (List ℕ) → Resumption → Pair
@@ -42,7 +44,8 @@ pub record AreSound (limit : ℕ) (letters : List Part) : Type 0 where
 
 -- what is audited by words of these letters
 abbrev pub scope_with : Tree → CallTable → History → Base → ℕ → List Part → Scope
-scope_with t table h base limit letters = record { tree = t; table = table; history = h; base = base; alphabet = map part_bytes letters; limit = limit }
+scope_with t table h base limit letters =
+    record { tree = t; table = table; history = h; base = base; alphabet = map part_bytes letters; limit = limit }
 
 -- the beginning of an audit, by its resume text
 abbrev pub begun_in : Scope → Option (List ℕ) → Result Beginning AuditFault
@@ -51,7 +54,10 @@ begun_in s after = resume_in s after >>= λ pair. Ok (record { scope = s; after 
 -- the beginning that letters and a pair are
 abbrev pub beginning_with : Tree → CallTable → History → Base → ℕ → Checked → Beginning
 beginning_with t table h base limit b =
-    record { scope = scope_with t table h base limit b.letters.items; after = option_map (pair_in (map part_bytes b.letters.items)) b.after }
+    record {
+      scope = scope_with t table h base limit b.letters.items;
+      after = option_map (pair_in (map part_bytes b.letters.items)) b.after;
+    }
 
 -- its letters are sound, and its word is one of them
 pub record IsChecked (t : Tree) (limit : ℕ) (b : Checked) : Type 0 where

@@ -11,10 +11,15 @@ use Rattle.pua_steps.specs.declared.state.State.{State}
 use Rattle.pua_steps.specs.declared.steps.Entry.{Entry}
 use Rattle.pua_steps.specs.declared.steps.Steps.{Steps}
 
--- a letter in a directory: the calls where its links may be followed, those where they may not, how many they are, and the directory to which it leads
+-- a letter in a directory: the calls where its links may be followed, those where they may not, how many they are, and
+-- the directory to which it leads
 pub record IsLetter (w : Judge) (dir : ℕ) (letter : List ℕ) (all kept links : ℕ) (leads : Option ℕ) : Type 0 where
-  pub own : (used : ℕ) (call : Call) → used ≤ most_links → w.own (Below (record { dir = dir; used = used }) letter) call ≡ has_call (cond (nat_le (used + links) most_links) all kept) (bit_of call)
-  pub step : (used : ℕ) → used ≤ most_links → w.step (Below (record { dir = dir; used = used }) letter) ≡ cond (nat_le (used + links) most_links) (option_map (λ d. record { dir = d; used = used + links }) leads) None
+  pub own : (used : ℕ) (call : Call) → used ≤ most_links →
+      w.own (Below (record { dir = dir; used = used }) letter) call ≡ has_call (cond (nat_le (used + links) most_links) all kept)
+      (bit_of call)
+  pub step : (used : ℕ) → used ≤ most_links →
+      w.step (Below (record { dir = dir; used = used }) letter) ≡ cond (nat_le (used + links) most_links)
+      (option_map (λ d. record { dir = d; used = used + links }) leads) None
 
 -- the entry of a letter, if it has one
 abbrev pub entry_with_letter : ℕ → List Entry → Option Entry
@@ -28,7 +33,8 @@ IsLetterTold w names dir letter missing (Some e) = IsLetter w dir letter e.all e
 
 -- the first letters of an alphabet, in a directory
 abbrev pub IsRowOf : Judge → List (List ℕ) → List ℕ → ℕ → ℕ → ℕ → List Entry → Type 0
-IsRowOf w letters names dir n missing entries = (i : ℕ) → i < n → IsLetterTold w names dir (get_or letters i []) missing (entry_with_letter i entries)
+IsRowOf w letters names dir n missing entries = (i : ℕ) → i < n →
+    IsLetterTold w names dir (get_or letters i []) missing (entry_with_letter i entries)
 
 -- a row for each of some directories, by their numbers
 pub record IsTableOf (w : Judge) (letters : List (List ℕ)) (names : List ℕ) (t : Steps) : Type 0 where
@@ -39,4 +45,5 @@ pub record IsTableOf (w : Judge) (letters : List (List ℕ)) (names : List ℕ) 
 
 -- the graph of such a table has in each state what the judge gives it
 abbrev pub TablesStand : Type 0
-TablesStand = (w : Judge) (letters : List (List ℕ)) (names : List ℕ) (t : Steps) → IsTableOf w letters names t → (s : State) → IsKnown names s → HasJudgedVisits w letters names (graph_of t 0) (IsKnown names) s
+TablesStand = (w : Judge) (letters : List (List ℕ)) (names : List ℕ) (t : Steps) → IsTableOf w letters names t → (s : State) →
+    IsKnown names s → HasJudgedVisits w letters names (graph_of t 0) (IsKnown names) s

@@ -1,6 +1,7 @@
 //! The audit of a process: its reach, pair by pair.
 
-ghost use Rattle.std.specs.Prelude.{◌*◌, ◌≡◌, ◌≢◌, ◌≤◌, ◌+◌, Ok, Err, None, IfOk, IfErr, IfSome, length, map, option_map};
+ghost use Rattle.std.specs.Prelude.{◌*◌, ◌≡◌, ◌≢◌, ◌≤◌, ◌+◌, Ok, Err, None, IfOk, IfErr, IfSome};
+ghost use Rattle.std.specs.Prelude.{length, map, option_map};
 ghost use Rattle.std.specs.Borrow.{sem};
 ghost use Rattle.std.specs.List.{list_all};
 ghost use Rattle.pua_tree.specs.Spelling.{is_plain};
@@ -77,20 +78,29 @@ impl Audit {
         limit: u8,
         after: Option<&[u8]>,
     ) -> Result<Audit, AuditFault>
-        ensures begun { IfOk result (λ audit. (h : History) → StandsFor process.now h → (b : Beginning) ×
-            ((beginning (P.tree probe.old) table.now h base (map (λ s. s.now) candidates.now) limit (option_map (λ s. s.now) after.entry) ≡ Ok b) × (audit.left ≡ still_to_come b) × (b.scope.base ≡ base))) }
+        ensures begun { IfOk result (λ audit. (h : History) → StandsFor process.now h →
+            (b : Beginning) ×
+            ((beginning (P.tree probe.old) table.now h base (map (λ s. s.now) candidates.now) limit
+            (option_map (λ s. s.now) after.entry) ≡ Ok b) × (audit.left ≡ still_to_come b) ×
+            (b.scope.base ≡ base))) }
         ensures of { IfOk result (λ audit. (audit.tree ≡ P.tree probe.old) × (audit.base ≡ base)) }
         ensures refused { IfErr result (λ fault. fault ≢ AuditFault.OutOfMemory → (h : History) →
-            beginning (P.tree probe.old) table.now h base (map (λ s. s.now) candidates.now) limit (option_map (λ s. s.now) after.entry) ≡ Err fault) }
+            beginning (P.tree probe.old) table.now h base (map (λ s. s.now) candidates.now) limit
+            (option_map (λ s. s.now) after.entry) ≡ Err fault) }
         ensures letters { IfOk result (λ audit. (h : History) (b : Beginning) →
-            beginning (P.tree probe.old) table.now h base (map (λ s. s.now) candidates.now) limit (option_map (λ s. s.now) after.entry) ≡ Ok b → audit.alphabet ≡ b.scope.alphabet) }
-        ensures live { IfOk result (λ audit. (h : History) → StandsFor process.now h → (b : Beginning) →
-            beginning (P.tree probe.old) table.now h base (map (λ s. s.now) candidates.now) limit (option_map (λ s. s.now) after.entry) ≡ Ok b → audit.live ≡ length (live_states b.scope)) }
+            beginning (P.tree probe.old) table.now h base (map (λ s. s.now) candidates.now) limit
+            (option_map (λ s. s.now) after.entry) ≡ Ok b → audit.alphabet ≡ b.scope.alphabet) }
+        ensures live { IfOk result (λ audit. (h : History) → StandsFor process.now h →
+            (b : Beginning) →
+            beginning (P.tree probe.old) table.now h base (map (λ s. s.now) candidates.now) limit
+            (option_map (λ s. s.now) after.entry) ≡ Ok b →
+            audit.live ≡ length (live_states b.scope)) }
         ensures reads { IfOk result (λ audit. audit.reads ≤ search_cost * limit) }
         ensures unread { after.entry ≡ None → IfOk result (λ audit. audit.reads ≡ 0) }
         ensures limit { IfOk result (λ audit. audit.limit ≡ limit) }
         ensures tree { P.tree probe.new ≡ P.tree probe.old }
-        ensures cost { P.count probe.new ≤ P.count probe.old + begin_cost (P.tree probe.old) limit (letter_count (P.tree probe.old) (map (λ s. s.now) candidates.now)) }
+        ensures cost { P.count probe.new ≤ P.count probe.old + begin_cost (P.tree probe.old) limit
+            (letter_count (P.tree probe.old) (map (λ s. s.now) candidates.now)) }
     {
         process.known();
         let Ok(rows) = probe.rows(alloc) else {

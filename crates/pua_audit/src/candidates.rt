@@ -11,8 +11,10 @@ use std::alloc::Global;
 /// The names that candidates spell, or the place of the first that spells none, counted from 1.
 pub(crate) fn read_candidates(alloc: Global, spellings: &[&[u8]]) -> Result<Vec<Name>, AuditFault>
     requires { length spellings.now ≤ most_candidates }
-    ensures { MatchResult result (λ names. candidates_from 1 (map (λ s. s.now) spellings.now) ≡ Ok names.items)
-        (λ fault. fault ≢ AuditFault.OutOfMemory → candidates_from 1 (map (λ s. s.now) spellings.now) ≡ Err fault) }
+    ensures { MatchResult result (λ names. candidates_from 1 (map (λ s. s.now) spellings.now)
+        ≡ Ok names.items)
+        (λ fault. fault ≢ AuditFault.OutOfMemory →
+        candidates_from 1 (map (λ s. s.now) spellings.now) ≡ Err fault) }
 {
     let mut names = Vec::new(alloc);
     for (place, spelling) in spellings.iter().enumerate() {

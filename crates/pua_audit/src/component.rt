@@ -26,7 +26,8 @@ impl Model for Component {
 
     ghost view = { λ a. part_of a.bytes.items };
 
-    ghost invariant = { λ a. IsTrue (is_letter a.bytes.items) × (a.plain ≡ list_all is_plain a.bytes.items) };
+    ghost invariant = { λ a. IsTrue (is_letter a.bytes.items) ×
+        (a.plain ≡ list_all is_plain a.bytes.items) };
 }
 
 ghost use Rattle.std.specs.Prelude.{◌≡◌, ◌≤◌, IfOk, IsTrue, length, not};

@@ -2,7 +2,8 @@
 
 ghost use Rattle.std.specs.Prelude.{◌≡◌};
 ghost use Rattle.pua_audit.specs.Limits.{most_candidates, most_letters};
-ghost use Rattle.pua_audit.specs.Laws.{AlphabetRises, ClosedReaches, LiveStatesFew, LiveStatesLive, ReachIsAlong, ReachRises};
+ghost use Rattle.pua_audit.specs.Laws.{AlphabetRises, ClosedReaches, LiveStatesFew, LiveStatesLive};
+ghost use Rattle.pua_audit.specs.Laws.{ReachIsAlong, ReachRises};
 ghost use Rattle.pua_audit.specs.Graphs.{GraphsReach, LiveStatesCount, MasksList};
 ghost use Rattle.pua_audit.specs.Entries.{EntriesStand};
 ghost use Rattle.pua_audit.specs.Table.{TablesStand};

@@ -1,6 +1,7 @@
 //! The making of the table of steps.
 
-ghost use Rattle.std.specs.Prelude.{◌≡◌, ◌<◌, ◌≤◌, ◌+◌, ◌^◌, ℕ, List, length, get_or, IfOk, IsTrue, map};
+ghost use Rattle.std.specs.Prelude.{◌≡◌, ◌<◌, ◌≤◌, ◌+◌, ◌^◌, ℕ, List, length, get_or, IfOk, IsTrue};
+ghost use Rattle.std.specs.Prelude.{map};
 ghost use Rattle.pua_tree.specs.LentRows.{lent_entry};
 ghost use Rattle.pua_tree.specs.Tree.{is_dir, name_cmp};
 ghost use Rattle.pua_policy.specs.Descent.{cover_in};
@@ -47,10 +48,13 @@ impl Terms {
         requires living { IsTrue (is_dir self.now.seen.tree base) }
         requires covered { cover
             ≡ cover_in self.now.seen.tree (plain_history self.now.process) base }
-        ensures table { IfOk result (λ steps. (names : List ℕ) × (IsTableOf (judge_in self.now) (letters_of self.now) names steps × AreApart names × (0 < length names) × (get_or names 0 0 ≡ base))) }
+        ensures table { IfOk result (λ steps. (names : List ℕ) ×
+            (IsTableOf (judge_in self.now) (letters_of self.now) names steps × AreApart names ×
+            (0 < length names) × (get_or names 0 0 ≡ base))) }
         ensures few { IfOk result (λ steps. length steps.rows.items ≤ 2 ^ 32) }
         ensures tree { P.tree probe.new ≡ P.tree probe.old }
-        ensures cost { P.count probe.new ≤ P.count probe.old + table_cost self.now.seen.tree (length self.now.letters.items) }
+        ensures cost { P.count probe.new ≤ P.count probe.old + table_cost self.now.seen.tree
+            (length self.now.letters.items) }
     {
         let spots = self.spots(alloc, rows)?;
         let mut dirs = Directories::new(alloc);

@@ -49,7 +49,8 @@ impl Terms {
         requires parts { AreParts letters.items }
         requires short { limit * suc (longest (map part_bytes letters.items)) ≤ most_path }
         ensures sound { IfOk result (λ terms. IsSound terms) }
-        ensures scope { IfOk result (λ terms. scope_in terms ≡ scope_with (P.tree probe.now) table.now (plain_history process.now) base limit letters.items) }
+        ensures scope { IfOk result (λ terms. scope_in terms ≡ scope_with (P.tree probe.now)
+            table.now (plain_history process.now) base limit letters.items) }
         ensures letters { IfOk result (λ terms. (terms.limit ≡ limit) × (terms.letters ≡ letters)) }
     {
         probe.known();

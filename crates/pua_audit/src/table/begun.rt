@@ -1,6 +1,7 @@
 //! The walk over the table of steps, before its first pair.
 
-ghost use Rattle.std.specs.Prelude.{◌≡◌, ◌<◌, ◌≤◌, ◌+◌, ◌^◌, ◌*◌, true, false, length, Option, option_map, None, IfOk, IfSome, map};
+ghost use Rattle.std.specs.Prelude.{◌≡◌, ◌<◌, ◌≤◌, ◌+◌, ◌^◌, ◌*◌, true, false, length, Option};
+ghost use Rattle.std.specs.Prelude.{option_map, None, IfOk, IfSome, map};
 ghost use Rattle.pua_tree.specs.LentRows.{lent_entry};
 ghost use Rattle.std.specs.List.{AllByRecursion};
 ghost use Rattle.pua_path.specs.declared.found.Found.TheVariants.{Whole};
@@ -51,17 +52,26 @@ impl Terms {
         requires rows { map lent_entry rows.now ≡ self.now.seen.tree.rows }
         requires sound { IsSound self.now }
         requires letters { AreSound self.now.limit self.now.letters.items }
-        requires word { IfSome after (λ r. AreLetters (letters_of self.now) self.now.limit r.word.items) }
+        requires word { IfSome after (λ r. AreLetters (letters_of self.now) self.now.limit
+            r.word.items) }
         ensures ready { IfOk result (λ begun. IsReady begun.walk) }
         ensures limit { IfOk result (λ begun. begun.walk.limit ≡ self.now.limit) }
-        ensures letters { IfOk result (λ begun. begun.walk.tables.steps.letters ≡ length (letters_of self.now)) }
-        ensures pairs { IfOk result (λ begun. rest_after (scope_in self.now) (option_map (pair_in (letters_of self.now)) after) ≡ pairs_at (letters_of self.now) (pairs_of (trail begun.walk))) }
-        ensures within { IfOk result (λ begun. AllByRecursion (λ p. IsPair (length (letters_of self.now)) p) (pairs_of (trail begun.walk))) }
+        ensures letters { IfOk result (λ begun. begun.walk.tables.steps.letters
+            ≡ length (letters_of self.now)) }
+        ensures pairs { IfOk result
+            (λ begun. rest_after (scope_in self.now)
+            (option_map (pair_in (letters_of self.now)) after) ≡ pairs_at (letters_of self.now)
+            (pairs_of (trail begun.walk))) }
+        ensures within { IfOk result
+            (λ begun. AllByRecursion (λ p. IsPair (length (letters_of self.now)) p)
+            (pairs_of (trail begun.walk))) }
         ensures live { IfOk result (λ begun. begun.live ≡ length (live_states (scope_in self.now))) }
-        ensures reads { IfOk result (λ begun. begun.walk.tables.reads ≤ search_cost * self.now.limit) }
+        ensures reads { IfOk result (λ begun. begun.walk.tables.reads
+            ≤ search_cost * self.now.limit) }
         ensures unread { after ≡ None → IfOk result (λ begun. begun.walk.tables.reads ≡ 0) }
         ensures tree { P.tree probe.new ≡ P.tree probe.old }
-        ensures cost { P.count probe.new ≤ P.count probe.old + pairs_cost self.now.seen.tree (length self.now.letters.items) }
+        ensures cost { P.count probe.new ≤ P.count probe.old + pairs_cost self.now.seen.tree
+            (length self.now.letters.items) }
     {
         // Each half is a function, so that its proof begins with what is true there.
         if !self.is_open(probe) {
@@ -83,18 +93,27 @@ impl Terms {
         requires rows { map lent_entry rows.now ≡ self.now.seen.tree.rows }
         requires sound { IsSound self.now }
         requires letters { AreSound self.now.limit self.now.letters.items }
-        requires word { IfSome after (λ r. AreLetters (letters_of self.now) self.now.limit r.word.items) }
+        requires word { IfSome after (λ r. AreLetters (letters_of self.now) self.now.limit
+            r.word.items) }
         requires open { is_open (scope_in self.now) ≡ true }
         ensures ready { IfOk result (λ begun. IsReady begun.walk) }
         ensures limit { IfOk result (λ begun. begun.walk.limit ≡ self.now.limit) }
-        ensures letters { IfOk result (λ begun. begun.walk.tables.steps.letters ≡ length (letters_of self.now)) }
-        ensures pairs { IfOk result (λ begun. rest_after (scope_in self.now) (option_map (pair_in (letters_of self.now)) after) ≡ pairs_at (letters_of self.now) (pairs_of (trail begun.walk))) }
-        ensures within { IfOk result (λ begun. AllByRecursion (λ p. IsPair (length (letters_of self.now)) p) (pairs_of (trail begun.walk))) }
+        ensures letters { IfOk result (λ begun. begun.walk.tables.steps.letters
+            ≡ length (letters_of self.now)) }
+        ensures pairs { IfOk result
+            (λ begun. rest_after (scope_in self.now)
+            (option_map (pair_in (letters_of self.now)) after) ≡ pairs_at (letters_of self.now)
+            (pairs_of (trail begun.walk))) }
+        ensures within { IfOk result
+            (λ begun. AllByRecursion (λ p. IsPair (length (letters_of self.now)) p)
+            (pairs_of (trail begun.walk))) }
         ensures live { IfOk result (λ begun. begun.live ≡ length (live_states (scope_in self.now))) }
-        ensures reads { IfOk result (λ begun. begun.walk.tables.reads ≤ search_cost * self.now.limit) }
+        ensures reads { IfOk result (λ begun. begun.walk.tables.reads
+            ≤ search_cost * self.now.limit) }
         ensures unread { after ≡ None → IfOk result (λ begun. begun.walk.tables.reads ≡ 0) }
         ensures tree { P.tree probe.new ≡ P.tree probe.old }
-        ensures cost { P.count probe.new + 1 ≤ P.count probe.old + pairs_cost self.now.seen.tree (length self.now.letters.items) }
+        ensures cost { P.count probe.new + 1 ≤ P.count probe.old + pairs_cost self.now.seen.tree
+            (length self.now.letters.items) }
     {
         let cover = self.process.cover(probe, &self.base_found());
         let calls = self.calls_on(probe, &Ok(self.base_found()), &cover).bits();
@@ -119,11 +138,17 @@ impl Terms {
         requires closed { is_open (scope_in self.now) ≡ false }
         ensures ready { IfOk result (λ begun. IsReady begun.walk) }
         ensures limit { IfOk result (λ begun. begun.walk.limit ≡ self.now.limit) }
-        ensures letters { IfOk result (λ begun. begun.walk.tables.steps.letters ≡ length (letters_of self.now)) }
-        ensures pairs { IfOk result (λ begun. (after : Option Pair) → rest_after (scope_in self.now) after ≡ pairs_at (letters_of self.now) (pairs_of (trail begun.walk))) }
-        ensures within { IfOk result (λ begun. AllByRecursion (λ p. IsPair (length (letters_of self.now)) p) (pairs_of (trail begun.walk))) }
+        ensures letters { IfOk result (λ begun. begun.walk.tables.steps.letters
+            ≡ length (letters_of self.now)) }
+        ensures pairs { IfOk result (λ begun. (after : Option Pair) →
+            rest_after (scope_in self.now) after ≡ pairs_at (letters_of self.now)
+            (pairs_of (trail begun.walk))) }
+        ensures within { IfOk result
+            (λ begun. AllByRecursion (λ p. IsPair (length (letters_of self.now)) p)
+            (pairs_of (trail begun.walk))) }
         ensures live { IfOk result (λ begun. begun.live ≡ length (live_states (scope_in self.now))) }
-        ensures reads { IfOk result (λ begun. begun.walk.tables.reads ≤ search_cost * self.now.limit) }
+        ensures reads { IfOk result (λ begun. begun.walk.tables.reads
+            ≤ search_cost * self.now.limit) }
         ensures unread { IfOk result (λ begun. begun.walk.tables.reads ≡ 0) }
     {
         let steps = Steps {
@@ -142,7 +167,8 @@ impl Terms {
     /// The base itself, as it is found.
     fn base_found(&self) -> Found
         requires { IsSound self.now }
-        ensures { result ≡ Whole (base_dir self.now.base (plain_history self.now.process)) (base_way self.now.base) }
+        ensures { result ≡ Whole (base_dir self.now.base (plain_history self.now.process))
+            (base_way self.now.base) }
     {
         Found::Whole {
             dir: self.base_dir(),
@@ -166,13 +192,15 @@ fn walk_after(
     requires listed { AreListsOf tables.steps tables.live limit tables.lists }
     requires calls { calls < 2 ^ call_count }
     requires base { IfSome base (λ s. IsState tables.steps s) }
-    requires word { IfSome after (λ r. AllByRecursion (λ letter. letter < tables.steps.letters) r.word.items) }
+    requires word { IfSome after (λ r. AllByRecursion (λ letter. letter < tables.steps.letters)
+        r.word.items) }
     requires few { IfSome after (λ r. length r.word.items ≤ limit) }
     ensures ready { IfOk result (λ walk. IsReady walk) }
     ensures of { IfOk result (λ walk. (walk.tables.steps ≡ tables.steps) × (walk.limit ≡ limit)) }
     ensures reads { IfOk result (λ walk. walk.tables.reads ≤ tables.reads + search_cost * limit) }
     ensures unread { after ≡ None → IfOk result (λ walk. walk.tables.reads ≡ tables.reads) }
-    ensures left { IfOk result (λ walk. pairs_of (trail walk) ≡ pairs_resumed after (graph_reach (graph_of tables.steps) limit calls base)) }
+    ensures left { IfOk result (λ walk. pairs_of (trail walk)
+        ≡ pairs_resumed after (graph_reach (graph_of tables.steps) limit calls base)) }
 {
     let Some(after) = after else {
         return Walk::begin(alloc, tables, calls, base, limit);

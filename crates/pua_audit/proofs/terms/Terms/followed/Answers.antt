@@ -32,16 +32,55 @@ cover_of-cover-requires g c κs =
     let r : Result (Found × ℕ) Errno = c.follow.result in
     let found : Result Found Errno = c.counted-followed.result.0 in
     let is : found ≡ found_of r = c.counted-followed.ensures.found in
-    let followed : r ≡ follow t c.args.dir c.part-part.result = c.follow.ensures.exact ∙ ap (λ (u : Tree). follow u c.args.dir c.part-part.result) c.requires.tree in
-    let fit : FoundsFit t found = subst (FoundsFit t) (sym is) (founds_of t r (subst (λ (u : Tree). IfOk r (λ object. FoundFits u object.0)) c.requires.tree c.follow.ensures.fits)) in
+    let followed : r ≡ follow t c.args.dir c.part-part.result = c.follow.ensures.exact ∙
+    ap (λ (u : Tree). follow u c.args.dir c.part-part.result) c.requires.tree in
+    let fit : FoundsFit t found =
+    subst (FoundsFit t) (sym is)
+    (founds_of t r (subst (λ (u : Tree). IfOk r (λ object. FoundFits u object.0)) c.requires.tree c.follow.ensures.fits)) in
     let named : IfOk found (StandsAsNamed t) =
-    subst (λ (f : Result Found Errno). IfOk f (StandsAsNamed t)) (sym is) (founds_are (StandsAsNamed t) r (subst (λ (u : Tree). IfOk r (λ object. StandsAsNamed u object.0)) c.requires.tree c.follow.ensures.named)) in
-    ((refl, tt), (c.follow.ensures.tree ∙ c.requires.tree, (c.requires.sound, (fit, (named, (c.requires.covered, (c.requires.living, named_above t c.args.dir c.part-part.result found (is ∙ ap found_of followed))))))))
+    subst (λ (f : Result Found Errno). IfOk f (StandsAsNamed t)) (sym is)
+    (founds_are (StandsAsNamed t) r (subst (λ (u : Tree). IfOk r (λ object. StandsAsNamed u object.0)) c.requires.tree
+    c.follow.ensures.named)) in (
+      (refl, tt),
+      (
+        c.follow.ensures.tree ∙ c.requires.tree,
+        (
+          c.requires.sound,
+          (
+            fit,
+            (
+              named,
+              (
+                c.requires.covered,
+                (c.requires.living, named_above t c.args.dir c.part-part.result found (is ∙ ap found_of followed)),
+              ),
+            ),
+          ),
+        ),
+      ),
+    )
 
 pub calls_kept-far-requires : goal.calls_kept-far-requires
 calls_kept-far-requires g c κs =
-    let followed = c.follow.ensures.exact ∙ ap (λ (u : Tree). follow u c.args.dir c.part-part.result) c.requires.tree in
-    ((refl, tt), (c.calls_on-near.ensures.tree ∙ c.cover_of-cover.ensures.tree ∙ c.follow.ensures.tree ∙ c.requires.tree, (c.requires.sound, (c.requires.living, (c.requires.covered, (c.counted-followed.ensures.found ∙ ap found_of followed, (c.counted-followed.ensures.links ∙ ap links_of followed, c.calls_on-near.ensures.exact)))))))
+    let followed = c.follow.ensures.exact ∙ ap (λ (u : Tree). follow u c.args.dir c.part-part.result) c.requires.tree in (
+      (refl, tt),
+      (
+        c.calls_on-near.ensures.tree ∙ c.cover_of-cover.ensures.tree ∙ c.follow.ensures.tree ∙ c.requires.tree,
+        (
+          c.requires.sound,
+          (
+            c.requires.living,
+            (
+              c.requires.covered,
+              (
+                c.counted-followed.ensures.found ∙ ap found_of followed,
+                (c.counted-followed.ensures.links ∙ ap links_of followed, c.calls_on-near.ensures.exact),
+              ),
+            ),
+          ),
+        ),
+      ),
+    )
 
 pub returns-clause-exact : goal.returns-clause-exact
 returns-clause-exact g c =
@@ -52,31 +91,49 @@ returns-clause-exact g c =
     let letter : List ℕ = get_or (letters_of a) c.args.letter [] in
     let r : Result (Found × ℕ) Errno = follow t dir (part_of letter) in
     let at : c.part-part.result ≡ get_or a.letters.items c.args.letter Dot = grind (arith, common_steps) in
-    let part : c.part-part.result ≡ part_of letter = at ∙ sym (letter_part a.letters.items c.args.letter Dot c.requires.sound.parts c.requires.letter) in
-    let followed : c.follow.result ≡ r = c.follow.ensures.exact ∙ ap (λ (u : Tree). follow u dir c.part-part.result) c.requires.tree ∙ ap (follow t dir) part in
+    let part : c.part-part.result ≡ part_of letter = at ∙
+    sym (letter_part a.letters.items c.args.letter Dot c.requires.sound.parts c.requires.letter) in
+    let followed : c.follow.result ≡ r = c.follow.ensures.exact ∙ ap (λ (u : Tree). follow u dir c.part-part.result) c.requires.tree ∙
+    ap (follow t dir) part in
     let found : c.counted-followed.result.0 ≡ found_of r = c.counted-followed.ensures.found ∙ ap found_of followed in
     let links : c.counted-followed.result.1 ≡ links_of r = c.counted-followed.ensures.links ∙ ap links_of followed in
-    let on = λ (call : Call). c.calls_on-near.ensures.exact call ∙ ap (λ (x : Result Found Errno). is_allowed (verdict_of t a.table h call x)) found in
-    let on_kept = λ (call : Call). c.calls_kept-far.ensures.exact call ∙ ap (λ (p : Part). is_allowed (verdict_of t a.table h call (last t dir 0 p Kept))) part in
+    let on = λ (call : Call). c.calls_on-near.ensures.exact call ∙
+    ap (λ (x : Result Found Errno). is_allowed (verdict_of t a.table h call x)) found in
+    let on_kept = λ (call : Call). c.calls_kept-far.ensures.exact call ∙
+    ap (λ (p : Part). is_allowed (verdict_of t a.table h call (last t dir 0 p Kept))) part in
     let near : (call : Call) → has c.union-all.result call ≡ allowed_near t a.table h dir letter r call =
-    λ call. c.union-all.ensures call ∙ ap (λ b. b || has c.keeping.result call) (c.following.ensures call) ∙ ap (λ b. (has c.calls_on-near.result call && not (keeps_link call)) || b) (c.keeping.ensures call)
+    λ call. c.union-all.ensures call ∙ ap (λ b. b || has c.keeping.result call) (c.following.ensures call) ∙
+    ap (λ b. (has c.calls_on-near.result call && not (keeps_link call)) || b) (c.keeping.ensures call)
     ∙ by_both (last_of call) (has c.calls_on-near.result call) (has c.calls_kept-far.result call)
     ∙ ap (λ (b : Bool). elim (last_of call) [ Followed ↦ b | Kept ↦ has c.calls_kept-far.result call ]) (on call)
-    ∙ ap (λ (b : Bool). elim (last_of call) [ Followed ↦ is_allowed (verdict_of t a.table h call (found_of r)) | Kept ↦ b ]) (on_kept call) in
+    ∙ ap (λ (b : Bool). elim (last_of call) [ Followed ↦ is_allowed (verdict_of t a.table h call (found_of r)) | Kept ↦ b ]) (on_kept call)
+    in
     let far : (call : Call) → has c.keeping-2.result call ≡ allowed_far t a.table h dir letter call =
-    λ call. c.keeping-2.ensures call ∙ ap (λ b. b && keeps_link call) (near call) ∙ by_kept (last_of call) (is_allowed (verdict_of t a.table h call (found_of r))) (allowed_kept t a.table h dir letter call) in
+    λ call. c.keeping-2.ensures call ∙ ap (λ b. b && keeps_link call) (near call) ∙
+    by_kept (last_of call) (is_allowed (verdict_of t a.table h call (found_of r))) (allowed_kept t a.table h dir letter call) in
     let told = letter_told t a.table a.base h dir letter c.union-all.result c.keeping-2.result near far in
     subst (λ (n : ℕ). IsLetter (judge_in a) dir letter c.union-all.result c.keeping-2.result n c.directory_of.result) (sym links)
-    (subst (λ (o : Option ℕ). IsLetter (judge_in a) dir letter c.union-all.result c.keeping-2.result (links_of r) o) (sym (c.directory_of.ensures ∙ ap leads_to found)) told)
+    (subst (λ (o : Option ℕ). IsLetter (judge_in a) dir letter c.union-all.result c.keeping-2.result (links_of r) o)
+    (sym (c.directory_of.ensures ∙ ap leads_to found)) told)
 
 pub returns-clause-covered : goal.returns-clause-covered
 returns-clause-covered g c =
     let a = c.args.self.now in
     let h : History = plain_history a.process in
     let fit : FoundsFit a.seen.tree c.counted-followed.result.0 =
-    subst (FoundsFit a.seen.tree) (sym c.counted-followed.ensures.found) (founds_of a.seen.tree c.follow.result (subst (λ (u : Tree). IfOk c.follow.result (λ found. FoundFits u found.0)) c.requires.tree c.follow.ensures.fits)) in
+    subst (FoundsFit a.seen.tree) (sym c.counted-followed.ensures.found)
+    (founds_of a.seen.tree c.follow.result (subst (λ (u : Tree). IfOk c.follow.result (λ found. FoundFits u found.0)) c.requires.tree
+    c.follow.ensures.fits)) in
     subst (λ (o : Option ℕ). IfSome o (λ to. c.cover_of-cover.result ≡ cover_in a.seen.tree h to)) (sym c.directory_of.ensures)
-    (covered_lead a.seen.tree h c.requires.sound.tree c.counted-followed.result.0 c.cover_of-cover.result fit c.cover_of-cover.ensures.exact)
+    (covered_lead a.seen.tree h c.requires.sound.tree c.counted-followed.result.0 c.cover_of-cover.result fit
+    c.cover_of-cover.ensures.exact)
 
 pub returns-clause-cost : goal.returns-clause-cost
-returns-clause-cost g c = omega (arith, c.follow.ensures.cost, c.cover_of-cover.ensures.cost, c.calls_on-near.ensures.cost, c.calls_kept-far.ensures.cost, ap part_cost c.requires.tree)
+returns-clause-cost g c = omega (
+  arith,
+  c.follow.ensures.cost,
+  c.cover_of-cover.ensures.cost,
+  c.calls_on-near.ensures.cost,
+  c.calls_kept-far.ensures.cost,
+  ap part_cost c.requires.tree,
+)

@@ -13,4 +13,5 @@ returns-then-not-is_veiled-clause-veil c = λ name.
     let a = c.args.self.now in
     let h : History = plain_history a.process in
     let place : Place = Slot c.args.dir (part_bytes c.args.letter.now) in
-    sym (veils_are_kept h place) ∙ ap (λ vs. veil_at vs place) (sym c.requires.stands.veils) ∙ no_veil a.process.veils place (sym c.is_veiled.ensures ∙ c.if-not-is_veiled.true)
+    sym (veils_are_kept h place) ∙ ap (λ vs. veil_at vs place) (sym c.requires.stands.veils) ∙
+    no_veil a.process.veils place (sym c.is_veiled.ensures ∙ c.if-not-is_veiled.true)

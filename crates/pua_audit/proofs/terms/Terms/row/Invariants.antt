@@ -10,10 +10,12 @@ use Rattle.pua_audit.proofs.terms.Terms.row.Given as goal
 -- the row has all letters before the next one that is looked up
 abbrev pub invariant-loop-letter : goal.invariant-loop-letter
 invariant-loop-letter g l = record {
-  row : (n : ℕ) → n ≤ length (letters_of l.self) → IsReached l.letter-items l.letter-index n → IsJudgedRow (judge_in l.self) (letters_of l.self) l.dirs.numbers l.dir n l.within.missing l.entries.items;
+  row : (n : ℕ) → n ≤ length (letters_of l.self) → IsReached l.letter-items l.letter-index n →
+      IsJudgedRow (judge_in l.self) (letters_of l.self) l.dirs.numbers l.dir n l.within.missing l.entries.items;
   grown : IsGrown l.fn.dirs.numbers l.dirs.numbers;
   living : AreLiving l.self.seen.tree l.dirs.numbers;
   covered : AreCovered l.self.seen.tree (plain_history l.self.process) l.dirs;
   tree : g.P.Probe.tree l.probe ≡ l.self.seen.tree;
-  cost : g.P.Probe.count l.probe ≤ g.P.Probe.count l.fn.probe + (object_cost l.self.seen.tree + l.letter-index * letter_cost l.self.seen.tree);
+  cost : g.P.Probe.count l.probe ≤ g.P.Probe.count l.fn.probe
+      + (object_cost l.self.seen.tree + l.letter-index * letter_cost l.self.seen.tree);
 }

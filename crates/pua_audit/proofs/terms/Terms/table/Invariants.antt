@@ -17,7 +17,8 @@ invariant-loop-dir g l = record {
   living : AreLiving l.self.seen.tree l.dirs.numbers;
   covered : AreCovered l.self.seen.tree (plain_history l.self.process) l.dirs;
   tree : g.P.Probe.tree l.probe ≡ l.self.seen.tree;
-  cost : g.P.Probe.count l.probe ≤ g.P.Probe.count l.fn.probe + suc (length l.rows.items * row_cost l.self.seen.tree (length l.self.letters.items));
+  cost : g.P.Probe.count l.probe ≤ g.P.Probe.count l.fn.probe
+      + suc (length l.rows.items * row_cost l.self.seen.tree (length l.self.letters.items));
 }
 
 abbrev pub decreases-loop-dir : goal.decreases-loop-dir
