@@ -1,5 +1,6 @@
 -- What is to come after a name is taken.
-use Rattle.std.proofs.Common.{◌≡◌, ◌≢◌, ◌<◌, ℕ, suc, ◌+◌, ◌-◌, List, [], ◌∷◌, ◌++◌, true, false, length, take, drop, refl, sym, ap, subst, ◌∙◌, arith, vec_capacity}
+use Rattle.std.proofs.Common.{◌≡◌, ◌≢◌, ◌<◌, ℕ, suc, ◌+◌, ◌-◌, List, [], ◌∷◌, ◌++◌, true, false, length, take, drop, refl, sym, ap, subst}
+use Rattle.std.proofs.Common.{◌∙◌, arith, vec_capacity}
 use Rattle.std.specs.Prelude.{reverse, Option, Some, None, is_none, not, ◌==◌}
 use Rattle.std.specs.Option.{option_eq}
 use Rattle.std.proofs.lemmas.Bool.{and_from, eq-eqb}
@@ -19,7 +20,8 @@ use Rattle.pua_objects.specs.Laws.{own_or}
 use Rattle.pua_objects.specs.Items.{IsItemOn}
 use Rattle.pua_objects.specs.Spots.{names_at, AreSpots}
 use Rattle.pua_objects.specs.Walk.{Frame, items_to_come, frame_of, others_item, IsBelow, IsDeepEnough, StepsOfWalk}
-use Rattle.pua_objects.specs.Ready.{spots_in, word_in, dirs_in, frame_at, frames_at, names_left, left_in, own_items, IsOpenDir, AreOpenDirs, IsItemReady, IsTaken, IsEntered, IsItemGiven, dir_with_next}
+use Rattle.pua_objects.specs.Ready.{spots_in, word_in, dirs_in, frame_at, frames_at, names_left, left_in, own_items, IsOpenDir, AreOpenDirs}
+use Rattle.pua_objects.specs.Ready.{IsItemReady, IsTaken, IsEntered, IsItemGiven, dir_with_next}
 use Rattle.pua_objects.specs.declared.item.Item.{Item}
 use Rattle.pua_objects.specs.declared.open_dir.OpenDir.{OpenDir}
 use Rattle.pua_objects.specs.declared.open_dir.Coming.TheVariants.{Names, Others}
@@ -32,7 +34,8 @@ use Rattle.pua_objects.proofs.Walking.{reaches, walks_objects}
 pub only_names : (t : Tree) (vs : List (Place × ℕ)) (a : ItemWalk) → a.coming ≡ Names → left_in t vs a ≡ names_left t vs a
 only_names t vs a names = ap (λ k. own_items k (word_in a) (dirs_in a) ++ names_left t vs a) names
 
-module _ (t : Tree) (p : ProcessState) (a b : ItemWalk) (dir : ℕ) (name : List ℕ) (going : a.coming ≡ Names) (ready : IsItemReady t p b) (names : b.coming ≡ Names) (taken : IsTaken t p.veils a b dir name) where
+module _ (t : Tree) (p : ProcessState) (a b : ItemWalk) (dir : ℕ) (name : List ℕ) (going : a.coming ≡ Names) (ready : IsItemReady t p b)
+    (names : b.coming ≡ Names) (taken : IsTaken t p.veils a b dir name) where
   abbrev n : ℕ
   n = length taken.around
 
@@ -85,17 +88,22 @@ module _ (t : Tree) (p : ProcessState) (a b : ItemWalk) (dir : ℕ) (name : List
   here = only_names t p.veils a going ∙ taken.left
 
   -- no directory stands at the name
-  stands_at : (node : Option ℕ) → look t dir name ≡ node → ((x : ℕ) → node ≡ Some x → is_dir t x ≡ false) → left_in t p.veils a ≡ record { word = longer; subject = At (Slot dir name node) } ∷ still
-  stands_at None row other = here ∙ steps.missing before (frames_at t spots word taken.around) name _ taken.names row ∙ ap (λ w. record { word = w ++ name ∷ []; subject = At (Slot dir name None) } ∷ still) word_here
-  stands_at (Some x) row other = here ∙ steps.plain before (frames_at t spots word taken.around) name _ x taken.names row (other x refl) ∙ ap (λ w. record { word = w ++ name ∷ []; subject = At (Slot dir name (Some x)) } ∷ still) word_here
+  stands_at : (node : Option ℕ) → look t dir name ≡ node → ((x : ℕ) → node ≡ Some x → is_dir t x ≡ false) →
+      left_in t p.veils a ≡ record { word = longer; subject = At (Slot dir name node) } ∷ still
+  stands_at None row other = here ∙ steps.missing before (frames_at t spots word taken.around) name _ taken.names row ∙
+      ap (λ w. record { word = w ++ name ∷ []; subject = At (Slot dir name None) } ∷ still) word_here
+  stands_at (Some x) row other = here ∙ steps.plain before (frames_at t spots word taken.around) name _ x taken.names row (other x refl) ∙
+      ap (λ w. record { word = w ++ name ∷ []; subject = At (Slot dir name (Some x)) } ∷ still) word_here
 
   -- what stands there is of the tree
   slot_fits : (node : Option ℕ) → look t dir name ≡ node → ((x : ℕ) → node ≡ Some x → is_dir t x ≡ false) → FoundFits t (Slot dir name node)
   slot_fits None row other = and_from (is_dir t dir) _ opened.0.living (ap is_none row)
   slot_fits (Some x) row other =
-      and_from (is_dir t dir) _ opened.0.living (and_from (option_eq ◌==◌ (look t dir name) (Some x)) _ (ap (λ o. option_eq ◌==◌ o (Some x)) row ∙ eq-eqb x x refl) (ap not (other x refl)))
+      and_from (is_dir t dir) _ opened.0.living (and_from (option_eq ◌==◌ (look t dir name) (Some x)) _
+      (ap (λ o. option_eq ◌==◌ o (Some x)) row ∙ eq-eqb x x refl) (ap not (other x refl)))
 
-  module _ (c : ItemWalk) (spots_same : spots_in c ≡ spots) (word_more : word_in c ≡ longer) (word_cap : vec_capacity c.word ≡ vec_capacity b.word) where
+  module _ (c : ItemWalk) (spots_same : spots_in c ≡ spots) (word_more : word_in c ≡ longer) (word_cap : vec_capacity c.word
+      ≡ vec_capacity b.word) where
     long_now : length c.word.items ≡ suc n
     long_now = sym (length-map c.word.items (λ name. name.now)) ∙ ap length word_more ∙ omega (arith, length_push word name, word_long)
 
@@ -107,7 +115,8 @@ module _ (t : Tree) (p : ProcessState) (a b : ItemWalk) (dir : ℕ) (name : List
       stood_ready = record {
         tree = ready.tree;
         spots = subst (AreSpots t p.veils) (sym spots_same) ready.spots;
-        entered = subst (λ (s : List Spot). AreOpenDirs t p s (dirs_in c)) (sym spots_same) (subst (λ v. AreOpenDirs t p spots (reverse v.items)) (sym dirs_same) ready.entered);
+        entered = subst (λ (s : List Spot). AreOpenDirs t p s (dirs_in c)) (sym spots_same)
+            (subst (λ v. AreOpenDirs t p spots (reverse v.items)) (sym dirs_same) ready.entered);
         dirs_room = omega (arith, ap (λ v. vec_capacity v) dirs_same, ready.dirs_room);
         word_room = omega (arith, word_cap, ready.word_room);
         long = omega (arith, ap (λ v. length v.items) dirs_same, dirs_long, long_now);
@@ -115,14 +124,16 @@ module _ (t : Tree) (p : ProcessState) (a b : ItemWalk) (dir : ℕ) (name : List
         start = λ root. absurd (names_no_root c.coming (coming ∙ names) root);
       }
 
-      pub stood : (node : Option ℕ) (item : Item) → look t dir name ≡ node → ((x : ℕ) → node ≡ Some x → is_dir t x ≡ false) → ((h : History) → StandsFor p h → IsItemOn t h (At (Slot dir name node)) item) → IsItemGiven t p a c item
+      pub stood : (node : Option ℕ) (item : Item) → look t dir name ≡ node → ((x : ℕ) → node ≡ Some x → is_dir t x ≡ false) →
+          ((h : History) → StandsFor p h → IsItemOn t h (At (Slot dir name node)) item) → IsItemGiven t p a c item
       stood node item row other on = record {
         subject = At (Slot dir name node);
         left =
             stands_at node row other
             ∙ (λ i. record { word = sym word_more i; subject = At (Slot dir name node) } ∷ still_from i)
             ∙ ap (λ items. record { word = word_in c; subject = At (Slot dir name node) } ∷ items)
-            ((λ i. items_to_come t p.veils (frames_at t (sym spots_same i) (sym word_more i) ((sym taken.dirs ∙ ap (λ v. reverse v.items) (sym dirs_same)) i))) ∙ sym (only_names t p.veils c (coming ∙ names)));
+            ((λ i. items_to_come t p.veils (frames_at t (sym spots_same i) (sym word_more i) ((sym taken.dirs ∙
+            ap (λ v. reverse v.items) (sym dirs_same)) i))) ∙ sym (only_names t p.veils c (coming ∙ names)));
         fits = (slot_fits node row other, (opened.0.living, row));
         tells = on;
       }
@@ -147,57 +158,69 @@ module _ (t : Tree) (p : ProcessState) (a b : ItemWalk) (dir : ℕ) (name : List
     deep : IsDeepEnough t before
     deep = record { living = opened.0.living; steps = n; reaches = opened.0.reaches; deep = omega (arith, few) }
 
-    module _ (c : ItemWalk) (spots_same : spots_in c ≡ spots) (word_more : word_in c ≡ longer) (word_cap : vec_capacity c.word ≡ vec_capacity b.word) (dirs_cap : vec_capacity c.dirs ≡ vec_capacity b.dirs) (coming : c.coming ≡ Others) (e : IsEntered p b c x) where
-      abbrev new : OpenDir
-      new = dir_with_next x e.next e.cover
+    module _ (c : ItemWalk) (spots_same : spots_in c ≡ spots) (word_more : word_in c ≡ longer) (word_cap : vec_capacity c.word
+        ≡ vec_capacity b.word) (dirs_cap : vec_capacity c.dirs ≡ vec_capacity b.dirs) (coming : c.coming ≡ Others) (e : IsEntered p b c x)
+      where
+        abbrev new : OpenDir
+        new = dir_with_next x e.next e.cover
 
-      dirs_now : dirs_in c ≡ new ∷ inner ∷ taken.around
-      dirs_now = ap reverse e.dirs ∙ reverse_more b.dirs.items new ∙ ap (λ ds. new ∷ ds) taken.dirs
+        dirs_now : dirs_in c ≡ new ∷ inner ∷ taken.around
+        dirs_now = ap reverse e.dirs ∙ reverse_more b.dirs.items new ∙ ap (λ ds. new ∷ ds) taken.dirs
 
-      open_new : IsOpenDir t p spots new (suc n)
-      open_new = record {
-        living = living;
-        reaches = below;
-        cover = λ h stands. e.covered h inner taken.around stands taken.dirs ∙ ap (own_or (perms_kept h (place.Dir x))) (covered h stands) ∙ sym ((covers_descend t h ready.tree).below dir name x row living);
-        passed = e.passed ready.spots.rise;
-      }
+        open_new : IsOpenDir t p spots new (suc n)
+        open_new = record {
+          living = living;
+          reaches = below;
+          cover = λ h stands. e.covered h inner taken.around stands taken.dirs ∙ ap (own_or (perms_kept h (place.Dir x))) (covered h stands)
+              ∙
+              sym ((covers_descend t h ready.tree).below dir name x row living);
+          passed = e.passed ready.spots.rise;
+        }
 
-      pub entered_ready : IsItemReady t p c
-      entered_ready = record {
-        tree = ready.tree;
-        spots = subst (AreSpots t p.veils) (sym spots_same) ready.spots;
-        entered = subst (λ (s : List Spot). AreOpenDirs t p s (dirs_in c)) (sym spots_same) (subst (AreOpenDirs t p spots) (sym dirs_now) (open_new, opened));
-        dirs_room = omega (arith, dirs_cap, ready.dirs_room);
-        word_room = omega (arith, word_cap, ready.word_room);
-        long = omega (arith, long_dirs, long_now c spots_same word_more word_cap);
-        exact = λ _. omega (arith, long_dirs, long_now c spots_same word_more word_cap);
-        start = λ root. absurd (others_no_root c.coming coming root);
-      }
-        where
-          long_dirs : length c.dirs.items ≡ suc (suc n)
-          long_dirs = omega (arith, ap length e.dirs, length_push b.dirs.items new, dirs_long)
+        pub entered_ready : IsItemReady t p c
+        entered_ready = record {
+          tree = ready.tree;
+          spots = subst (AreSpots t p.veils) (sym spots_same) ready.spots;
+          entered = subst (λ (s : List Spot). AreOpenDirs t p s (dirs_in c)) (sym spots_same)
+              (subst (AreOpenDirs t p spots) (sym dirs_now) (open_new, opened));
+          dirs_room = omega (arith, dirs_cap, ready.dirs_room);
+          word_room = omega (arith, word_cap, ready.word_room);
+          long = omega (arith, long_dirs, long_now c spots_same word_more word_cap);
+          exact = λ _. omega (arith, long_dirs, long_now c spots_same word_more word_cap);
+          start = λ root. absurd (others_no_root c.coming coming root);
+        }
+          where
+            long_dirs : length c.dirs.items ≡ suc (suc n)
+            long_dirs = omega (arith, ap length e.dirs, length_push b.dirs.items new, dirs_long)
 
-      frame_now : frame_of t p.veils (before.depth - 1) x longer ≡ frame_at t spots longer new (suc n)
-      frame_now =
-          let depth : before.depth - 1 ≡ length t.nodes - suc (suc n) = omega arith in
-          let whole : longer ≡ take (suc n) longer = sym (take_all (suc n) longer (omega (arith, length_push word name, word_long))) in
-          let first : entries t p.veils x ≡ names_at x (drop e.next spots) = sym (e.names ready.spots.rise ∙ ready.spots.entries x) in
-          (λ i. record { depth = depth i; dir = x; word = whole i; names = first i })
+        frame_now : frame_of t p.veils (before.depth - 1) x longer ≡ frame_at t spots longer new (suc n)
+        frame_now =
+            let depth : before.depth - 1 ≡ length t.nodes - suc (suc n) = omega arith in
+            let whole : longer ≡ take (suc n) longer = sym (take_all (suc n) longer (omega (arith, length_push word name, word_long))) in
+            let first : entries t p.veils x ≡ names_at x (drop e.next spots) = sym (e.names ready.spots.rise ∙ ready.spots.entries x) in
+            (λ i. record { depth = depth i; dir = x; word = whole i; names = first i })
 
-      came : left_in t p.veils a ≡ record { word = longer; subject = At (Whole x (Named dir name)) } ∷ others_item longer x ∷ items_to_come t p.veils (frames_at t spots longer (new ∷ inner ∷ taken.around))
-      came =
-          here
-          ∙ (steps.enters before (frames_at t spots word taken.around) name _ x deep taken.names row living).1
-          ∙ ap (λ w. record { word = w ++ name ∷ []; subject = At (Whole x (Named dir name)) } ∷ others_item (w ++ name ∷ []) x ∷ items_to_come t p.veils (frame_of t p.veils (before.depth - 1) x (w ++ name ∷ []) ∷ frames_at t spots word (inner ∷ taken.around))) word_here
-          ∙ (λ i. record { word = longer; subject = At (Whole x (Named dir name)) } ∷ others_item longer x ∷ items_to_come t p.veils (frame_now i ∷ sym (frames_longer t spots word name (inner ∷ taken.around) (omega (arith, word_long))) i))
+        came : left_in t p.veils a ≡ record { word = longer; subject = At (Whole x (Named dir name)) } ∷ others_item longer x
+            ∷ items_to_come t p.veils (frames_at t spots longer (new ∷ inner ∷ taken.around))
+        came =
+            here
+            ∙ (steps.enters before (frames_at t spots word taken.around) name _ x deep taken.names row living).1
+            ∙ ap (λ w. record { word = w ++ name ∷ []; subject = At (Whole x (Named dir name)) } ∷ others_item (w ++ name ∷ []) x
+            ∷ items_to_come t p.veils (frame_of t p.veils (before.depth - 1) x (w ++ name ∷ [])
+            ∷ frames_at t spots word (inner ∷ taken.around))) word_here
+            ∙ (λ i. record { word = longer; subject = At (Whole x (Named dir name)) } ∷ others_item longer x ∷ items_to_come t p.veils
+            (frame_now i ∷ sym (frames_longer t spots word name (inner ∷ taken.around) (omega (arith, word_long))) i))
 
-      left_now : left_in t p.veils c ≡ others_item longer x ∷ items_to_come t p.veils (frames_at t spots longer (new ∷ inner ∷ taken.around))
-      left_now = (λ i. own_items (coming i) (word_more i) (dirs_now i) ++ items_to_come t p.veils (frames_at t (spots_same i) (word_more i) (dirs_now i)))
+        left_now : left_in t p.veils c ≡ others_item longer x ∷ items_to_come t p.veils
+            (frames_at t spots longer (new ∷ inner ∷ taken.around))
+        left_now = (λ i. own_items (coming i) (word_more i) (dirs_now i) ++ items_to_come t p.veils
+            (frames_at t (spots_same i) (word_more i) (dirs_now i)))
 
-      pub gave : (item : Item) → ((h : History) → StandsFor p h → IsItemOn t h (At (Whole x (Named dir name))) item) → IsItemGiven t p a c item
-      gave item on = record {
-        subject = At (Whole x (Named dir name));
-        left = came ∙ (λ i. record { word = sym word_more i; subject = At (Whole x (Named dir name)) } ∷ sym left_now i);
-        fits = (living, (opened.0.living, row));
-        tells = on;
-      }
+        pub gave : (item : Item) → ((h : History) → StandsFor p h → IsItemOn t h (At (Whole x (Named dir name))) item) →
+            IsItemGiven t p a c item
+        gave item on = record {
+          subject = At (Whole x (Named dir name));
+          left = came ∙ (λ i. record { word = sym word_more i; subject = At (Whole x (Named dir name)) } ∷ sym left_now i);
+          fits = (living, (opened.0.living, row));
+          tells = on;
+        }

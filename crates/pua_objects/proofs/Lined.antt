@@ -83,16 +83,21 @@ kept_or_not true a = refl
 kept_or_not false a = refl
 
 -- a line by what is seen of the object
-pub lined : (t : Tree) (table : CallTable) (h : History) (found : Found) (object : seen.Object) (line : ObjectLine) → object ≡ seen_of t found → line.kind ≡ kind_seen object
-    → ((call : Call) → has line.calls call ≡ ((keeps_link call || not (is_link_seen object)) && is_allowed (verdict t table h call found))) → IsLineOn t table h (At found) line
+pub lined : (t : Tree) (table : CallTable) (h : History) (found : Found) (object : seen.Object) (line : ObjectLine) →
+    object ≡ seen_of t found → line.kind ≡ kind_seen object
+    → ((call : Call) → has line.calls call ≡ ((keeps_link call || not (is_link_seen object)) && is_allowed (verdict t table h call found)))
+    → IsLineOn t table h (At found) line
 lined t table h found object line is kind calls = record {
   kind = ap kind_word (kind ∙ ap kind_seen is) ∙ word_seen t found;
-  calls = λ call. calls call ∙ ap (λ b. (keeps_link call || not b) && is_allowed (verdict t table h call found)) (ap is_link_seen is ∙ link_seen t found);
+  calls = λ call. calls call ∙ ap (λ b. (keeps_link call || not b) && is_allowed (verdict t table h call found)) (ap is_link_seen is ∙
+      link_seen t found);
 }
 
 -- the line of an item, by whether it is about further names
-module _ (t : Tree) (table : CallTable) (h : History) (subject : Subject) (item : given.Item) (on : IsItemOn t h subject item) (line : ObjectLine) where
-  pub others_lined : (dir : ℕ) → item.subject ≡ about.Others dir → (item.cover ≡ cover_in t h dir → IsLineOn t table h (Others dir) line) → IsLineOn t table h subject line
+module _ (t : Tree) (table : CallTable) (h : History) (subject : Subject) (item : given.Item) (on : IsItemOn t h subject item)
+    (line : ObjectLine) where
+  pub others_lined : (dir : ℕ) → item.subject ≡ about.Others dir → (item.cover ≡ cover_in t h dir → IsLineOn t table h (Others dir) line) →
+      IsLineOn t table h subject line
   others_lined dir is lines =
       let same : Others dir ≡ subject = ap (subject_given t) (sym is) ∙ on.subject in
       subst (λ (s : Subject). IsLineOn t table h s line) same (lines (on.cover ∙ ap (cover_on t h) (sym same)))
@@ -103,7 +108,9 @@ module _ (t : Tree) (table : CallTable) (h : History) (subject : Subject) (item 
   no_others (about.Others d) dir other is = other d refl
   no_others (about.Name over name) dir other is = cc
 
-  pub found_lined : ((dir : ℕ) → item.subject ≢ about.Others dir) → ((found : Found) → item.cover ≡ cover t h found → item.object ≡ seen_of t found → IsLineOn t table h (At found) line) → IsLineOn t table h subject line
+  pub found_lined : ((dir : ℕ) → item.subject ≢ about.Others dir) →
+      ((found : Found) → item.cover ≡ cover t h found → item.object ≡ seen_of t found → IsLineOn t table h (At found) line) →
+      IsLineOn t table h subject line
   found_lined other lines = by subject on
     where
       by : (s : Subject) → IsItemOn t h s item → IsLineOn t table h s line

@@ -29,8 +29,10 @@ module _ (t : Tree) (table : CallTable) (h : History) (subject : Subject) (given
     line_is : line_of t table h item ≡ line
     line_is = (λ i. record { word = word; subject = subject; calls = same_calls i })
 
-    by_calls : (items : List Item) (b : Bool) → has_calls line ≡ b → lines_of t table h (item ∷ items) ≡ cond b (line ∷ lines_of t table h items) (lines_of t table h items)
-    by_calls items b is = (λ i. cond (has_calls (line_is i)) (line_is i ∷ lines_of t table h items) (lines_of t table h items)) ∙ ap (λ c. cond c (line ∷ lines_of t table h items) (lines_of t table h items)) is
+    by_calls : (items : List Item) (b : Bool) → has_calls line ≡ b →
+        lines_of t table h (item ∷ items) ≡ cond b (line ∷ lines_of t table h items) (lines_of t table h items)
+    by_calls items b is = (λ i. cond (has_calls (line_is i)) (line_is i ∷ lines_of t table h items) (lines_of t table h items)) ∙
+        ap (λ c. cond c (line ∷ lines_of t table h items) (lines_of t table h items)) is
 
     -- a line without calls is left out
     pub left_out : (items : List Item) → calls_in given.calls ≡ [] → lines_of t table h (item ∷ items) ≡ lines_of t table h items
@@ -44,8 +46,12 @@ module _ (t : Tree) (table : CallTable) (h : History) (subject : Subject) (given
         some_calls (c ∷ cs) some = lt-ltb 0 (length (c ∷ cs)) (omega arith)
 
 -- the line of an item that tells what it is about, over a tree, a process and a table that are the same
-module _ (t u : Tree) (p q : ProcessState) (table other : CallTable) (same_tree : u ≡ t) (same_process : q ≡ p) (same_table : other ≡ table) (subject : Subject) (item : given.Item) (line : ObjectLine) where
-  pub told_lined : ((h : History) → StandsFor q h → IsItemOn u h subject item) → ((h : History) → StandsFor q h → IsItemOn u h subject item → IsLineOn u other h subject line) → (h : History) → StandsFor p h → IsLineOn t table h subject line
+module _ (t u : Tree) (p q : ProcessState) (table other : CallTable) (same_tree : u ≡ t) (same_process : q ≡ p) (same_table : other ≡ table)
+    (subject : Subject) (item : given.Item) (line : ObjectLine) where
+  pub told_lined : ((h : History) → StandsFor q h → IsItemOn u h subject item) →
+      ((h : History) → StandsFor q h → IsItemOn u h subject item → IsLineOn u other h subject line) → (h : History) → StandsFor p h →
+      IsLineOn t table h subject line
   told_lined tells lines h stands =
       let here = subst (λ (x : ProcessState). StandsFor x h) (sym same_process) stands in
-      subst (λ (x : Tree). IsLineOn x table h subject line) same_tree (subst (λ (x : CallTable). IsLineOn u x h subject line) same_table (lines h here (tells h here)))
+      subst (λ (x : Tree). IsLineOn x table h subject line) same_tree (subst (λ (x : CallTable). IsLineOn u x h subject line) same_table
+      (lines h here (tells h here)))

@@ -9,7 +9,8 @@ use Rattle.pua_policy.specs.declared.object.Object.TheVariants as see
 use Rattle.pua_objects.specs.Objects.{At, cover_in}
 use Rattle.pua_objects.specs.Objects as subject
 use Rattle.pua_objects.specs.Walk.{IsBelow}
-use Rattle.pua_objects.specs.Ready.{spots_in, word_in, dirs_in, names_left, own_items, others_in, IsOpenDir, AreOpenDirs, IsItemReady, IsItemGiven}
+use Rattle.pua_objects.specs.Ready.{spots_in, word_in, dirs_in, names_left, own_items, others_in, IsOpenDir, AreOpenDirs, IsItemReady}
+use Rattle.pua_objects.specs.Ready.{IsItemGiven}
 use Rattle.pua_objects.specs.declared.item.Subject.TheVariants as about
 use Rattle.pua_objects.specs.declared.open_dir.OpenDir.{OpenDir}
 use Rattle.pua_objects.specs.declared.open_dir.Coming.TheVariants.{Root, Others, Names}
@@ -38,10 +39,12 @@ module _ (t : Tree) (p : ProcessState) (a : ItemWalk) (ready : IsItemReady t p a
 
   -- the further names of the innermost directory
   pub others_given : (here : OpenDir) → a.coming ≡ Others → ((d : OpenDir) (ds : List OpenDir) → dirs_in a ≡ d ∷ ds → here ≡ d)
-      → IsItemGiven t p a (record a { coming = Names }) (record { subject = about.Others here.dir; object = see.Missing; cover = here.cover })
+      → IsItemGiven t p a (record a { coming = Names })
+      (record { subject = about.Others here.dir; object = see.Missing; cover = here.cover })
   others_given here others own = record {
     subject = subject.Others inner.dir;
-    left = (λ i. own_items (others i) (word_in a) (dirs_in a) ++ names_left t p.veils a) ∙ ap (λ ds. others_in (word_in a) ds ++ names_left t p.veils a) dirs;
+    left = (λ i. own_items (others i) (word_in a) (dirs_in a) ++ names_left t p.veils a) ∙
+        ap (λ ds. others_in (word_in a) ds ++ names_left t p.veils a) dirs;
     fits = opened.0.living;
     tells = λ h stands. record {
       subject = ap (λ (d : OpenDir). subject.Others d.dir) (own inner around dirs);
@@ -54,16 +57,24 @@ module _ (t : Tree) (p : ProcessState) (a : ItemWalk) (ready : IsItemReady t p a
   pub root_given : (here : OpenDir) → a.coming ≡ Root → ((d : OpenDir) (ds : List OpenDir) → dirs_in a ≡ d ∷ ds → here ≡ d)
       → IsItemGiven t p a (record a { coming = Others }) (record { subject = about.Root; object = see.Directory; cover = here.cover })
   root_given here root own =
-      let alone : length around ≡ 0 = omega (arith, ap length dirs, length-reverse a.dirs.items, ready.exact more, ap length (ready.start root)) in
+      let alone : length around ≡ 0 = omega (
+        arith,
+        ap length dirs,
+        length-reverse a.dirs.items,
+        ready.exact more,
+        ap length (ready.start root),
+      ) in
       let at_root : inner.dir ≡ 0 = subst (λ (n : ℕ). IsBelow t n inner.dir) alone opened.0.reaches in
       record {
         subject = At (Whole 0 Top);
         left = (λ i. own_items (root i) (word_in a) (dirs_in a) ++ names_left t p.veils a)
-            ∙ ap (λ w. record { word = w; subject = At (Whole 0 Top) } ∷ (others_in (word_in a) (dirs_in a) ++ names_left t p.veils a)) (sym (ap (map (λ name. name.now)) (ready.start root)));
+            ∙ ap (λ w. record { word = w; subject = At (Whole 0 Top) } ∷ (others_in (word_in a) (dirs_in a) ++ names_left t p.veils a))
+            (sym (ap (map (λ name. name.now)) (ready.start root)));
         fits = (ready.tree.root, tt);
         tells = λ h stands. record {
           subject = refl;
           object = refl;
-          cover = ap (λ (d : OpenDir). d.cover) (own inner around dirs) ∙ opened.0.cover h stands ∙ ap (cover_in t h) at_root ∙ sym ((covers_descend t h ready.tree).directory 0 Top ready.tree.root);
+          cover = ap (λ (d : OpenDir). d.cover) (own inner around dirs) ∙ opened.0.cover h stands ∙ ap (cover_in t h) at_root ∙
+              sym ((covers_descend t h ready.tree).directory 0 Top ready.tree.root);
         };
       }

@@ -5,7 +5,8 @@ use Rattle.std.specs.List.{list_any}
 use Rattle.pua_tree.specs.Tree.{Tree, climb}
 use Rattle.pua_calls.specs.Calls.{CallTable, calls, rule_of}
 use Rattle.pua_policy.specs.History.{History, perms_kept, veils, veil_at, has_veil}
-use Rattle.pua_policy.specs.Verdict.{object_of, object_fault, or_fault, cover_fault, IsMissing, if_promised, allowed_unless, nearest, is_unveil, is_allowed}
+use Rattle.pua_policy.specs.Verdict.{object_of, object_fault, or_fault, cover_fault, IsMissing, if_promised, allowed_unless, nearest}
+use Rattle.pua_policy.specs.Verdict.{is_unveil, is_allowed}
 use Rattle.pua_policy.specs.Laws.{AllowAlike}
 use Rattle.pua_calls.specs.declared.call.Call.{Call}
 use Rattle.pua_policy.specs.declared.place.Place.{Place}
@@ -28,9 +29,12 @@ module _ (t : Tree) (table : CallTable) (h k : History) (alike : AllowAlike h k)
 
   verdict_alike : (call : Call) (subject : Subject) → subject_verdict t table h call subject ≡ subject_verdict t table k call subject
   verdict_alike call (At object) =
-      λ i. if_promised (alike.promises (rule_of table call).alternatives i) (allowed_unless (or_fault (cover_fault (alike.covers t object i) (rule_of table call).perms) (object_fault t call (object_of t object))))
+      λ i. if_promised (alike.promises (rule_of table call).alternatives i)
+      (allowed_unless (or_fault (cover_fault (alike.covers t object i) (rule_of table call).perms)
+      (object_fault t call (object_of t object))))
   verdict_alike call (Others dir) =
-      λ i. if_promised (alike.promises (rule_of table call).alternatives i) (allowed_unless (or_fault (cover_fault (in_alike dir i) (rule_of table call).perms) (object_fault t call IsMissing)))
+      λ i. if_promised (alike.promises (rule_of table call).alternatives i)
+      (allowed_unless (or_fault (cover_fault (in_alike dir i) (rule_of table call).perms) (object_fault t call IsMissing)))
 
   calls_alike : (subject : Subject) → calls_on t table h subject ≡ calls_on t table k subject
   calls_alike subject = λ i. filter (λ call. is_named_by t call subject && is_allowed (verdict_alike call subject i)) calls
@@ -39,4 +43,7 @@ pub objects_decided : ObjectsDecided
 objects_decided t table process h k sh sk =
     let placed : veils h ≡ veils k = sym sh.veils ∙ sk.veils in
     let alike = processes_decide process h k sh sk in
-    λ i. filter has_calls (map {A = Item} {B = Line} (λ item. record { word = item.word; subject = item.subject; calls = calls_alike t table h k alike placed item.subject i }) (items t (placed i)))
+    λ i. filter has_calls
+    (map {A = Item} {B = Line}
+    (λ item. record { word = item.word; subject = item.subject; calls = calls_alike t table h k alike placed item.subject i })
+    (items t (placed i)))

@@ -19,12 +19,15 @@ all_low : (spots : List Spot) → AllByRecursion (λ s. 0 ≤ s.0) spots
 all_low [] = tt
 all_low (s ∷ spots) = (omega arith, all_low spots)
 
-module _ (t : Tree) (p : ProcessState) (fits : WellFormed t) (a : ItemWalk) (left : Cover) (spots : AreSpots t p.veils (spots_in a)) (dirs : a.dirs.items ≡ dir_with_next 0 0 left ∷ []) (word : a.word.items ≡ []) (coming : a.coming ≡ Root) where
-  pub begun_ready : length t.nodes ≤ vec_capacity a.dirs → length t.nodes ≤ vec_capacity a.word → ((h : History) → StandsFor p h → left ≡ cover_in t h 0) → IsItemReady t p a
+module _ (t : Tree) (p : ProcessState) (fits : WellFormed t) (a : ItemWalk) (left : Cover) (spots : AreSpots t p.veils (spots_in a))
+    (dirs : a.dirs.items ≡ dir_with_next 0 0 left ∷ []) (word : a.word.items ≡ []) (coming : a.coming ≡ Root) where
+  pub begun_ready : length t.nodes ≤ vec_capacity a.dirs → length t.nodes ≤ vec_capacity a.word →
+      ((h : History) → StandsFor p h → left ≡ cover_in t h 0) → IsItemReady t p a
   begun_ready dirs_room word_room covered = record {
     tree = fits;
     spots = spots;
-    entered = subst (λ ds. AreOpenDirs t p (spots_in a) (reverse ds)) (sym dirs) (record { living = fits.root; reaches = refl; cover = covered; passed = all_low (spots_in a) }, tt);
+    entered = subst (λ ds. AreOpenDirs t p (spots_in a) (reverse ds)) (sym dirs)
+        (record { living = fits.root; reaches = refl; cover = covered; passed = all_low (spots_in a) }, tt);
     dirs_room = dirs_room;
     word_room = word_room;
     long = omega (arith, ap length dirs);
@@ -37,5 +40,6 @@ module _ (t : Tree) (p : ProcessState) (fits : WellFormed t) (a : ItemWalk) (lef
       let words : word_in a ≡ [] = ap (map (λ name. name.now)) word in
       let ds : dirs_in a ≡ dir_with_next 0 0 left ∷ [] = ap reverse dirs in
       (λ i. own_items (coming i) (words i) (ds i) ++ items_to_come t p.veils (frames_at t (spots_in a) (words i) (ds i)))
-      ∙ (λ i. record { word = []; subject = At (Whole 0 Top) } ∷ others_item [] 0 ∷ items_to_come t p.veils (record { depth = length t.nodes - 1; dir = 0; word = []; names = spots.entries 0 i } ∷ []))
+      ∙ (λ i. record { word = []; subject = At (Whole 0 Top) } ∷ others_item [] 0 ∷ items_to_come t p.veils
+      (record { depth = length t.nodes - 1; dir = 0; word = []; names = spots.entries 0 i } ∷ []))
       ∙ sym (walks_objects t p.veils fits).begins

@@ -1,5 +1,6 @@
 -- The list of objects taken one after another.
-use Rattle.std.proofs.Common.{◌≡◌, ◌≢◌, ◌<◌, ℕ, zero, suc, ◌-◌, List, [], ◌∷◌, ◌++◌, length, Bool, true, false, refl, sym, ap, ◌∙◌, arith, subst, append-nil, append_assoc}
+use Rattle.std.proofs.Common.{◌≡◌, ◌≢◌, ◌<◌, ℕ, zero, suc, ◌-◌, List, [], ◌∷◌, ◌++◌, length, Bool, true, false, refl, sym, ap, ◌∙◌, arith}
+use Rattle.std.proofs.Common.{subst, append-nil, append_assoc}
 use Rattle.std.specs.Prelude.{Option, Some, None, flat_map}
 use Rattle.pua_tree.specs.Tree.{Tree, WellFormed, look, is_dir, above}
 use Rattle.pua_tree.proofs.ForCallers.{Sound, sound_from, Reaches, row_says, above_is, climb_ends}
@@ -19,7 +20,8 @@ module _ (t : Tree) (fits : WellFormed t) (sound : Sound t) (vs : List (Place ×
   item_list depth dir word name o = items_at t (items_below depth t vs) dir word name o
 
   -- the first entry of a frame, whatever stands there
-  first_entry : (f : Frame) (fs : List Frame) (name : List ℕ) (names : List (List ℕ)) (o : Option ℕ) → f.names ≡ name ∷ names → look t f.dir name ≡ o →
+  first_entry : (f : Frame) (fs : List Frame) (name : List ℕ) (names : List (List ℕ)) (o : Option ℕ) → f.names ≡ name ∷ names →
+      look t f.dir name ≡ o →
       items_to_come t vs (f ∷ fs) ≡ item_list f.depth f.dir f.word name o ++ items_to_come t vs (record f { names = names } ∷ fs)
   first_entry f fs name names o are is =
       let g : List ℕ → List Item = λ n. item_list f.depth f.dir f.word n (look t f.dir n) in
@@ -27,14 +29,17 @@ module _ (t : Tree) (fits : WellFormed t) (sound : Sound t) (vs : List (Place ×
       ∙ append_assoc (g name) (flat_map g names) (items_to_come t vs fs)
       ∙ ap (λ p. item_list f.depth f.dir f.word name p ++ (flat_map g names ++ items_to_come t vs fs)) is
 
-  plain_entry : (depth dir : ℕ) (word : Word) (name : List ℕ) (x : ℕ) (b : Bool) → is_dir t x ≡ b → b ≡ false → item_list depth dir word name (Some x) ≡ record { word = word ++ name ∷ []; subject = At (Slot dir name (Some x)) } ∷ []
+  plain_entry : (depth dir : ℕ) (word : Word) (name : List ℕ) (x : ℕ) (b : Bool) → is_dir t x ≡ b → b ≡ false →
+      item_list depth dir word name (Some x) ≡ record { word = word ++ name ∷ []; subject = At (Slot dir name (Some x)) } ∷ []
   plain_entry depth dir word name x b is no_dir = rw (is ∙ no_dir) refl
 
   dir_entry : (depth dir : ℕ) (word : Word) (name : List ℕ) (x : ℕ) → is_dir t x ≡ true → item_list (suc depth) dir word name (Some x) ≡
-      record { word = word ++ name ∷ []; subject = At (Whole x (Named dir name)) } ∷ others_item (word ++ name ∷ []) x ∷ items_in t vs (frame_of t vs depth x (word ++ name ∷ []))
+      record { word = word ++ name ∷ []; subject = At (Whole x (Named dir name)) } ∷ others_item (word ++ name ∷ []) x
+      ∷ items_in t vs (frame_of t vs depth x (word ++ name ∷ []))
   dir_entry depth dir word name x is = rw is refl
 
-  inner_fits : (f : Frame) (name : List ℕ) (x : ℕ) → IsDeepEnough t f → look t f.dir name ≡ Some x → is_dir t x ≡ true → (f.depth ≡ suc (f.depth - 1)) × IsDeepEnough t (frame_of t vs (f.depth - 1) x (f.word ++ name ∷ []))
+  inner_fits : (f : Frame) (name : List ℕ) (x : ℕ) → IsDeepEnough t f → look t f.dir name ≡ Some x → is_dir t x ≡ true →
+      (f.depth ≡ suc (f.depth - 1)) × IsDeepEnough t (frame_of t vs (f.depth - 1) x (f.word ++ name ∷ []))
   inner_fits f name x deep row living =
       let other : x ≢ 0 = (row_says t sound (f.dir, name) x row).3 in
       let over : above t x ≡ f.dir = above_is t x (f.dir, name) other (sound.once x living other) row in
@@ -50,24 +55,29 @@ module _ (t : Tree) (fits : WellFormed t) (sound : Sound t) (vs : List (Place ×
     first_fits = record { living = fits.root; steps = 0; reaches = refl; deep = omega (arith, some) };
     leaves = λ f fs none. ap (λ ns. flat_map (λ n. item_list f.depth f.dir f.word n (look t f.dir n)) ns ++ items_to_come t vs fs) none;
     missing = λ f fs name names are row. first_entry f fs name names None are row;
-    plain = λ f fs name names x are row other. first_entry f fs name names (Some x) are row ∙ ap (λ items. items ++ items_to_come t vs (record f { names = names } ∷ fs)) (plain_entry f.depth f.dir f.word name x (is_dir t x) refl other);
+    plain = λ f fs name names x are row other. first_entry f fs name names (Some x) are row ∙
+        ap (λ items. items ++ items_to_come t vs (record f { names = names } ∷ fs)) (plain_entry f.depth f.dir f.word name x (is_dir t x)
+        refl other);
     enters = λ f fs name names x deep are row living.
         let inner = inner_fits f name x deep row living in (
           inner.1,
           first_entry f fs name names (Some x) are row
               ∙ ap (λ d. item_list d f.dir f.word name (Some x) ++ items_to_come t vs (record f { names = names } ∷ fs)) inner.0
-              ∙ ap (λ items. items ++ items_to_come t vs (record f { names = names } ∷ fs)) (dir_entry (f.depth - 1) f.dir f.word name x living),
+              ∙ ap (λ items. items ++ items_to_come t vs (record f { names = names } ∷ fs))
+              (dir_entry (f.depth - 1) f.dir f.word name x living),
         );
   }
     where
       some : 0 < length t.nodes
       some = climb_ends t sound 0 fits.root 0 refl
 
-      begun : items t vs ≡ record { word = []; subject = At (Whole 0 Top) } ∷ others_item [] 0 ∷ items_to_come t vs (frame_of t vs (length t.nodes - 1) 0 [] ∷ [])
+      begun : items t vs ≡ record { word = []; subject = At (Whole 0 Top) } ∷ others_item [] 0
+          ∷ items_to_come t vs (frame_of t vs (length t.nodes - 1) 0 [] ∷ [])
       begun =
           let deep : length t.nodes ≡ suc (length t.nodes - 1) = omega (arith, some) in
           ap (λ d. items_below d t vs 0 Top []) deep
-          ∙ ap (λ items. record { word = []; subject = At (Whole 0 Top) } ∷ others_item [] 0 ∷ items) (sym (append-nil (items_in t vs (frame_of t vs (length t.nodes - 1) 0 []))))
+          ∙ ap (λ items. record { word = []; subject = At (Whole 0 Top) } ∷ others_item [] 0 ∷ items)
+          (sym (append-nil (items_in t vs (frame_of t vs (length t.nodes - 1) 0 []))))
 
 pub walks_objects : WalksObjects
 walks_objects t vs fits = walk_steps t fits (sound_from t fits) vs
