@@ -1,5 +1,6 @@
 -- A walk's fields between two calls, and what they say is still to come.
-use Rattle.std.specs.Prelude.{⊤, ◌≡◌, ◌≢◌, ◌≤◌, ◌+◌, ℕ, suc, ◌-◌, List, [], ◌∷◌, ◌++◌, length, take, drop, map, reverse, filter, true, Option, MatchOption, vec_capacity}
+use Rattle.std.specs.Prelude.{⊤, ◌≡◌, ◌≢◌, ◌≤◌, ◌+◌, ℕ, suc, ◌-◌, List, [], ◌∷◌, ◌++◌, length, take, drop, map, reverse, filter, true}
+use Rattle.std.specs.Prelude.{Option, MatchOption, vec_capacity}
 use Rattle.std.specs.List.{AllByRecursion}
 use Rattle.pua_tree.specs.Tree.{Tree, WellFormed, Spot, is_dir, spot_cmp}
 use Rattle.pua_path.specs.declared.found.Way.TheVariants.{Top}
@@ -39,7 +40,12 @@ dirs_in a = reverse a.dirs.items
 -- a directory with so many around it
 abbrev pub frame_at : Tree → List Spot → Word → OpenDir → ℕ → Frame
 frame_at t spots word inner around =
-    record { depth = length t.nodes - suc around; dir = inner.dir; word = take around word; names = names_at inner.dir (drop inner.next spots) }
+    record {
+      depth = length t.nodes - suc around;
+      dir = inner.dir;
+      word = take around word;
+      names = names_at inner.dir (drop inner.next spots);
+    }
 
 -- directories, the innermost first
 abbrev pub frames_at : Tree → List Spot → Word → List OpenDir → List Frame
@@ -112,7 +118,8 @@ pub record IsEntered (process : ProcessState) (old new : ItemWalk) (id : ℕ) : 
   pub dirs : new.dirs.items ≡ old.dirs.items ++ dir_with_next id next cover ∷ []
   pub passed : Rises spot_cmp (spots_in old) → AllByRecursion (λ s. id ≤ s.0) (drop next (spots_in old))
   pub names : Rises spot_cmp (spots_in old) → names_at id (drop next (spots_in old)) ≡ names_at id (spots_in old)
-  pub covered : (h : History) (inner : OpenDir) (around : List OpenDir) → StandsFor process h → dirs_in old ≡ inner ∷ around → cover ≡ own_or (perms_kept h (place.Dir id)) inner.cover
+  pub covered : (h : History) (inner : OpenDir) (around : List OpenDir) → StandsFor process h → dirs_in old ≡ inner ∷ around →
+      cover ≡ own_or (perms_kept h (place.Dir id)) inner.cover
 
 -- an item is the first that is to come, and the others stay to come
 abbrev pub IsItemGiven : Tree → ProcessState → ItemWalk → ItemWalk → given.Item → Type 0
@@ -126,13 +133,16 @@ abbrev pub lines_of : Tree → CallTable → History → List Item → List Line
 lines_of t table h items = filter has_calls (map (line_of t table h) items)
 
 -- the first of the lines is given, and the others stay
-pub record IsLineListed (t : Tree) (table : CallTable) (process : ProcessState) (old new : List Item) (word : Word) (given : ObjectLine) : Type 0 where
+pub record IsLineListed (t : Tree) (table : CallTable) (process : ProcessState) (old new : List Item) (word : Word) (given : ObjectLine) :
+    Type 0 where
   pub subject : Subject
   pub kind : kind_word given.kind ≡ subject_word t subject
-  pub lines : (h : History) → StandsFor process h → lines_of t table h old ≡ record { word = word; subject = subject; calls = calls_in given.calls } ∷ lines_of t table h new
+  pub lines : (h : History) → StandsFor process h →
+      lines_of t table h old ≡ record { word = word; subject = subject; calls = calls_in given.calls } ∷ lines_of t table h new
 
 abbrev pub HasNoLine : Tree → CallTable → ProcessState → List Item → Type 0
 HasNoLine t table process items = (h : History) → StandsFor process h → lines_of t table h items ≡ []
 
 abbrev pub IsNextLineListed : Tree → CallTable → ProcessState → List Item → Option ObjectLine → Word → List Item → Type 0
-IsNextLineListed t table process old result word new = MatchOption result (HasNoLine t table process old × HasNoLine t table process new) (IsLineListed t table process old new word)
+IsNextLineListed t table process old result word new =
+    MatchOption result (HasNoLine t table process old × HasNoLine t table process new) (IsLineListed t table process old new word)

@@ -14,12 +14,14 @@ returns c = λ t h found stands covered seen.
     let object = c.args.object in
     let allows : Call → Bool = λ call. is_allowed (verdict t c.args.table.now h call found) in
     let judged : (call : Call) → has c.allowed-calls.result call ≡ allows call =
-    λ call. c.allowed-calls.ensures t h (object_of t found) stands seen call ∙ ap (λ (left : Cover). is_allowed (covered_verdict t c.args.table.now h call left (object_of t found))) covered in
+    λ call. c.allowed-calls.ensures t h (object_of t found) stands seen call ∙
+    ap (λ (left : Cover). is_allowed (covered_verdict t c.args.table.now h call left (object_of t found))) covered in
     let listed : (call : Call) → has c.if-eq.calls call ≡ ((keeps_link call || not (is_link_seen object)) && allows call) =
     elim c.if-eq.branch [
       | then-eq w ↦ λ call.
           let link : object ≡ see.Link = search rules in
-          ap (λ set. has set call) w.calls-is ∙ w.keeping-calls.ensures call ∙ ap (λ b. b && keeps_link call) (judged call) ∙ kept_alone (keeps_link call) (allows call)
+          ap (λ set. has set call) w.calls-is ∙ w.keeping-calls.ensures call ∙ ap (λ b. b && keeps_link call) (judged call) ∙
+          kept_alone (keeps_link call) (allows call)
           ∙ ap (λ o. (keeps_link call || not (is_link_seen o)) && allows call) (sym link)
       | else-eq w ↦ λ call.
           let other : is_link_seen object ≡ false = no_link object (λ link. search rules) in

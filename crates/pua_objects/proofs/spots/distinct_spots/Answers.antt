@@ -9,7 +9,12 @@ use Rattle.pua_objects.proofs.spots.distinct_spots.Goals as goal
 
 pub returns-clause-spots : goal.returns-clause-spots
 returns-clause-spots c =
-    let collected : map spot_now c.in_ok-spots.spots.items ≡ map row_spot c.args.rows.now = IfOk-at_ok _ c.in_ok-spots.was (map_from_collect _ c.collect.ensures.ran (YieldsList-from_map_by _ spot_now row_spot (YieldsList-from_slice c.args.rows.now cc) c.map.ensures.closure (λ x r q k. search (rules, tests)))) in
+    let collected : map spot_now c.in_ok-spots.spots.items ≡ map row_spot c.args.rows.now =
+    IfOk-at_ok _ c.in_ok-spots.was
+    (map_from_collect _ c.collect.ensures.ran (YieldsList-from_map_by _ spot_now row_spot (YieldsList-from_slice c.args.rows.now cc)
+    c.map.ensures.closure (λ x r q k. search (rules, tests)))) in
     let veiled = filter_map veil_spot (map (λ place. place.now) c.args.places.now) in
-    distinct _ (λ x y. spots_tie x.0 y.0 x.1.now y.1.now) (map row_spot c.args.rows.now ++ veiled) c.add_veiled.new.spots.items c.sort.new.self.items c.dedup.new.self.items
-    (c.in_ok-add_veiled.ensures.spots ∙ ap (λ rows. rows ++ veiled) collected) c.in_ok-sort.ensures.permutation c.in_ok-sort.ensures.sorted c.dedup.ensures.filtered
+    distinct _ (λ x y. spots_tie x.0 y.0 x.1.now y.1.now) (map row_spot c.args.rows.now ++ veiled) c.add_veiled.new.spots.items
+    c.sort.new.self.items c.dedup.new.self.items
+    (c.in_ok-add_veiled.ensures.spots ∙ ap (λ rows. rows ++ veiled) collected) c.in_ok-sort.ensures.permutation c.in_ok-sort.ensures.sorted
+    c.dedup.ensures.filtered

@@ -12,11 +12,15 @@ pub returns-in-Ok-clause-spots : goal.returns-in-Ok-clause-spots
 returns-in-Ok-clause-spots c = λ t all.
     let vs = c.args.process.now.veils in
     let given = c.args.rows.now in
-    let rows : map row_spot given ≡ map (λ row. row.0) t.rows = sym (map-map (λ row. row.0) lent_entry given) ∙ ap (map (λ row. row.0)) all in
-    let veils : map (λ place. place.now) c.deref.result.now ≡ map (λ veil. veil.0) vs = ap (map (λ place. place.now)) c.deref.ensures.value ∙ c.in_ok-places.ensures in
-    let both : map row_spot given ++ filter_map veil_spot (map (λ place. place.now) c.deref.result.now) ≡ map (λ row. row.0) t.rows ++ filter_map veil_spot (map (λ veil. veil.0) vs)
+    let rows : map row_spot given ≡ map (λ row. row.0) t.rows = sym (map-map (λ row. row.0) lent_entry given) ∙
+    ap (map (λ row. row.0)) all in
+    let veils : map (λ place. place.now) c.deref.result.now ≡ map (λ veil. veil.0) vs = ap (map (λ place. place.now)) c.deref.ensures.value
+    ∙ c.in_ok-places.ensures in
+    let both : map row_spot given ++ filter_map veil_spot (map (λ place. place.now) c.deref.result.now) ≡ map (λ row. row.0) t.rows
+    ++ filter_map veil_spot (map (λ veil. veil.0) vs)
     = (λ i. rows i ++ filter_map veil_spot (veils i)) in
-    spots_of t vs (map spot_now c.in-Ok.spots.items) (subst (λ given. AreInOrder given (map spot_now c.in-Ok.spots.items)) both c.in-Ok.ensures.spots)
+    spots_of t vs (map spot_now c.in-Ok.spots.items) (subst (λ given. AreInOrder given (map spot_now c.in-Ok.spots.items)) both
+    c.in-Ok.ensures.spots)
 
 pub returns-in-Ok-clause-places : goal.returns-in-Ok-clause-places
 returns-in-Ok-clause-places c = λ h stands.

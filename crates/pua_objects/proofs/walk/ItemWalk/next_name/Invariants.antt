@@ -11,7 +11,8 @@ invariant-loop-dir l = record {
   spots : l.self.spots ≡ l.fn.self.spots;
   word : l.self.word ≡ l.fn.self.word;
   ready : (t : Tree) (process : ProcessState) → IsItemReady t process l.fn.self → l.fn.self.coming ≡ Names → IsItemReady t process l.self;
-  so_far : (t : Tree) (process : ProcessState) → IsItemReady t process l.fn.self → l.fn.self.coming ≡ Names → names_left t process.veils l.fn.self ≡ names_left t process.veils l.self;
+  so_far : (t : Tree) (process : ProcessState) → IsItemReady t process l.fn.self → l.fn.self.coming ≡ Names →
+      names_left t process.veils l.fn.self ≡ names_left t process.veils l.self;
 }
 
 abbrev pub decreases-loop-dir : goal.decreases-loop-dir

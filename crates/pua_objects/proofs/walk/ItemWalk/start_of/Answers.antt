@@ -12,7 +12,10 @@ returns c =
     let n = c.partition_point.result in
     let dir = c.args.dir in
     let Starts : List (ℕ × Bor (List ℕ)) → Type 0 = λ lent. Rises spot_cmp (map spot_now lent)
-    → AllByRecursion (λ (y : Spot). dir ≤ y.0) (drop n (map spot_now lent)) × (names_at dir (drop n (map spot_now lent)) ≡ names_at dir (map spot_now lent)) in
+    → AllByRecursion (λ (y : Spot). dir ≤ y.0) (drop n (map spot_now lent)) ×
+    (names_at dir (drop n (map spot_now lent)) ≡ names_at dir (map spot_now lent)) in
     let here = subst Starts c.deref.ensures.value
-    (starts dir n c.deref.result.now c.partition_point.ensures.bound (λ parted. IsPartitionPoint-from_clause (λ (y : ℕ × Bor (List ℕ)). ltb y.0 dir) _ _ c.partition_point.ensures.partitioned parted (λ a r q k. search rules))) in
+    (starts dir n c.deref.result.now c.partition_point.ensures.bound
+    (λ parted. IsPartitionPoint-from_clause (λ (y : ℕ × Bor (List ℕ)). ltb y.0 dir) _ _ c.partition_point.ensures.partitioned parted
+    (λ a r q k. search rules))) in
     record { passed = λ rises. (here rises).0; names = λ rises. (here rises).1 }
