@@ -22,15 +22,20 @@ use Rattle.pua_ever.proofs.Unedited.{unedited_along}
 use Rattle.pua_ever.proofs.Ending.{foreseen}
 
 -- of any members within a history
-complete_within : (table : CallTable) → NoCallNeedsError table → EditsNeedC table → (w : World) (asks : List Asked) (members : List ℕ) (now : History) →
-    Members w members now false → VeilsStand w.tree now → TreesAlong table w asks → none_done is_exec table w asks members ≡ true → members_alone table w asks members ≡ true →
-    (member : ℕ) → is_member (family table w asks members) member ≡ true → HasHistoryOf (world_after table w asks) member (Foresees w.tree table now (world_after table w asks).tree)
+complete_within : (table : CallTable) → NoCallNeedsError table → EditsNeedC table →
+    (w : World) (asks : List Asked) (members : List ℕ) (now : History) →
+    Members w members now false → VeilsStand w.tree now → TreesAlong table w asks → none_done is_exec table w asks members ≡ true →
+    members_alone table w asks members ≡ true →
+    (member : ℕ) → is_member (family table w asks members) member ≡ true →
+    HasHistoryOf (world_after table w asks) member (Foresees w.tree table now (world_after table w asks).tree)
 complete_within table sound needs w asks members now are stand trees none alone member belongs =
     let well = first_tree table w asks trees in
     let u = (world_after table w asks).tree in
-    let k = stays_along table sound needs w.tree now well stand asks w members are none alone trees (at_first table w.tree now well stand) in
+    let k = stays_along table sound needs w.tree now well stand asks w members are none alone trees (at_first table w.tree now well stand)
+    in
     let last = members_after table now asks w members false are none member belongs in
-    let edit : (may_edit table now ≡ true) ⊎ (u ≡ w.tree) = by (may_edit table now) refl (λ lacks. unedited_along table sound now lacks asks w members are none alone) in (
+    let edit : (may_edit table now ≡ true) ⊎ (u ≡ w.tree) =
+    by (may_edit table now) refl (λ lacks. unedited_along table sound now lacks asks w members are none alone) in (
       last.0,
       last.1,
       λ from call text e.
@@ -45,10 +50,12 @@ complete_within table sound needs w asks members now are stand trees none alone 
 
 pub ever_complete : EverComplete
 ever_complete table sound needs w asks process now here confined stand trees none alone member belongs =
-    complete_within table sound needs w asks (process ∷ []) now (at_all w (process ∷ []) now (begins table now w process here confined)) stand trees none alone member belongs
+    complete_within table sound needs w asks (process ∷ []) now (at_all w (process ∷ []) now (begins table now w process here confined))
+    stand trees none alone member belongs
 
 pub ever_of_many : EverOfMany
 ever_of_many table sound needs w asks members now acts stand trees none alone member belongs =
     complete_within table sound needs w asks members now
-    (λ m belongs. let one = acts m belongs in (one.0, one.1, record { within = record { tightens = one.2.0; ended = one.2.1 }; dir = λ e. absurd (false≢true e) }))
+    (λ m belongs. let one = acts m belongs in
+    (one.0, one.1, record { within = record { tightens = one.2.0; ended = one.2.1 }; dir = λ e. absurd (false≢true e) }))
     stand trees none alone member belongs

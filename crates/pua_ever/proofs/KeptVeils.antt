@@ -30,7 +30,8 @@ veils_once (Ended ∷ h) = veils_once h
 
 found_once : (vs : List (Place × ℕ)) (at : Place) (perms : ℕ) → Once vs → Among vs (at, perms) → veil_at vs at ≡ Some perms
 found_once [] at perms once a = absurd a
-found_once (v ∷ vs) at perms once (inl e) = ap (λ (w : Place × ℕ). cond (same_place at w.0) (Some w.1) (veil_at vs at)) e ∙ ap (λ b. cond b (Some perms) (veil_at vs at)) (same_place_refl at)
+found_once (v ∷ vs) at perms once (inl e) = ap (λ (w : Place × ℕ). cond (same_place at w.0) (Some w.1) (veil_at vs at)) e ∙
+    ap (λ b. cond b (Some perms) (veil_at vs at)) (same_place_refl at)
 found_once (v ∷ vs) at perms once (inr a) = by (same_place at v.0) refl (found_once vs at perms once.1 a)
   where
     by : (s : Bool) → same_place at v.0 ≡ s → veil_at vs at ≡ Some perms → veil_at (v ∷ vs) at ≡ Some perms

@@ -12,7 +12,8 @@ use Rattle.pua_calls.specs.declared.call.Call.TheVariants as call
 use Rattle.pua_ever.specs.Ever.{removable_dir, lasting_dir}
 
 -- of something but a directory
-pub plain_alike : (u : Tree) (c : Call) (k : Option Kind) → object_fault u c (object_of_kind k) ≡ object_fault empty_tree c (object_of_kind k)
+pub plain_alike : (u : Tree) (c : Call) (k : Option Kind) →
+    object_fault u c (object_of_kind k) ≡ object_fault empty_tree c (object_of_kind k)
 plain_alike u call.Stat None = refl
 plain_alike u call.Stat (Some kind.File) = refl
 plain_alike u call.Stat (Some kind.Prog) = refl
@@ -88,7 +89,8 @@ plain_alike u call.Exec (Some kind.Dir) = refl
 abbrev pub dir_as : Bool → Object
 dir_as b = cond b removable_dir lasting_dir
 
-pub dir_alike : (u : Tree) (c : Call) (d : ℕ) (w : Way) (b : Bool) → (c ≡ call.Rmdir → b ≡ true) → object_fault u c (IsDir d w) ≡ None → object_fault empty_tree c (dir_as b) ≡ None
+pub dir_alike : (u : Tree) (c : Call) (d : ℕ) (w : Way) (b : Bool) → (c ≡ call.Rmdir → b ≡ true) → object_fault u c (IsDir d w) ≡ None →
+    object_fault empty_tree c (dir_as b) ≡ None
 dir_alike u call.Stat d w true sure e = e
 dir_alike u call.Stat d w false sure e = e
 dir_alike u call.Lstat d w true sure e = e

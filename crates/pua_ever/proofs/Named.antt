@@ -50,9 +50,11 @@ module _ (t : Tree) (well : WellFormed t) (table : CallTable) (h : History) wher
       by None e = e
       by (Some n) e = refl
 
-  pub name_calls : (dir : ℕ) (name : List ℕ) (o : Option ℕ) → SubjectFits t (At (Slot dir name o)) → (object : seen.Object) (left : Cover) (set : ℕ)
+  pub name_calls : (dir : ℕ) (name : List ℕ) (o : Option ℕ) → SubjectFits t (At (Slot dir name o)) →
+      (object : seen.Object) (left : Cover) (set : ℕ)
       → object ≡ object_seen t (object_of t (Slot dir name o)) → left ≡ cover t h (Slot dir name o)
-      → ((kind : Option Kind) → object ≡ object_seen empty_tree (object_of_kind kind) → (call : Call) → has set call ≡ kind_allowed t table h left kind call)
+      → ((kind : Option Kind) → object ≡ object_seen empty_tree (object_of_kind kind) → (call : Call) →
+      has set call ≡ kind_allowed t table h left kind call)
       → (call : Call) → has set call ≡ is_ever_allowed t table h (At (Slot dir name o)) call
   name_calls dir name None fits object left set is covered all call =
       all None (is ∙ refl) call
@@ -60,10 +62,12 @@ module _ (t : Tree) (well : WellFormed t) (table : CallTable) (h : History) wher
   name_calls dir name (Some x) fits object left set is covered all call =
       all (kind_at t x) (is ∙ seen_alike t (kind_at t x)) call
       ∙ (λ i. (keeps_link call || not (is_link_kind (kind_at t x)))
-      && is_allowed_under table h (if has_kind dir name x fits.1.1 i then named_covers t table h (kind_at t x) (covered i) else covered i ∷ []) (object_of_kind (kind_at t x)) call)
+      && is_allowed_under table h (if has_kind dir name x fits.1.1 i then named_covers t table h (kind_at t x) (covered i) else covered i
+      ∷ []) (object_of_kind (kind_at t x)) call)
 
   -- whether the name of a thing can come to be free, by the thing's own cover
-  free_by : (about : Subject) (spot : Spot) → SubjectFits t about → own_spot about ≡ Some spot → is_free t h spot ≡ has_c (cover_on t h about)
+  free_by : (about : Subject) (spot : Spot) → SubjectFits t about → own_spot about ≡ Some spot →
+      is_free t h spot ≡ has_c (cover_on t h about)
   free_by (At (Slot dir name (Some x))) spot fits own =
       let plain : is_dir t x ≡ false = not-true (is_dir t x) (and_parts _ _ (and_parts (is_dir t dir) _ fits.0).1).1 in
       let here : is_free t h (dir, name) ≡ has_c (cover t h (Slot dir name (Some x))) = rw (fits.1.1, plain) refl in
@@ -96,8 +100,10 @@ module _ (t : Tree) (well : WellFormed t) (table : CallTable) (h : History) wher
     }
 
     -- and one that can
-    pub freed : (left : Cover) (perms : ℕ) (set : ℕ) → left ≡ cover_on t h about → perms_kept h (place.Slot spot.0 spot.1) ≡ Some perms → (may_edit table h && has_c left) ≡ true
-        → ((call : Call) → has set call ≡ is_allowed (covered_verdict empty_tree table h call (Only perms) IsMissing)) → AreOnFreed t table h (own_spot about) set
+    pub freed : (left : Cover) (perms : ℕ) (set : ℕ) → left ≡ cover_on t h about → perms_kept h (place.Slot spot.0 spot.1) ≡ Some perms →
+        (may_edit table h && has_c left) ≡ true
+        → ((call : Call) → has set call ≡ is_allowed (covered_verdict empty_tree table h call (Only perms) IsMissing)) →
+        AreOnFreed t table h (own_spot about) set
     freed left perms set covered kept_here can all = record {
       none = λ e. absurd (Some≢None spot (own ∙ e));
       some = λ other is call.
@@ -118,24 +124,28 @@ module _ (t : Tree) (well : WellFormed t) (table : CallTable) (h : History) wher
             ∙ ap (λ c. may_edit table h && has_c c) (sym covered) ∙ can
 
   -- the name at which an item stands is that of its thing
-  own_by : (s : about.Subject) (object : seen.Object) → SubjectFits t (subject_given t s) → object ≡ object_on t (subject_given t s) → own_given s object ≡ own_spot (subject_given t s)
+  own_by : (s : about.Subject) (object : seen.Object) → SubjectFits t (subject_given t s) → object ≡ object_on t (subject_given t s) →
+      own_given s object ≡ own_spot (subject_given t s)
   own_by subject.Root object fits is = refl
   own_by (subject.Dir id dir name) object fits is = refl
   own_by (subject.Others dir) object fits is = refl
   own_by (subject.Name dir name) object fits is = by (look t dir name.now) refl fits is
     where
-      plain : (x : ℕ) (k : Option Kind) → is_some k ≡ true → object ≡ object_seen t (object_of_kind k) → own_given (subject.Name dir name) object ≡ Some (dir, name.now)
+      plain : (x : ℕ) (k : Option Kind) → is_some k ≡ true → object ≡ object_seen t (object_of_kind k) →
+          own_given (subject.Name dir name) object ≡ Some (dir, name.now)
       plain x None some is = cc
       plain x (Some kinds.Dir) some is = ap (own_given (subject.Name dir name)) is
       plain x (Some kinds.File) some is = ap (own_given (subject.Name dir name)) is
       plain x (Some kinds.Prog) some is = ap (own_given (subject.Name dir name)) is
       plain x (Some kinds.Link) some is = ap (own_given (subject.Name dir name)) is
 
-      by : (o : Option ℕ) → look t dir name.now ≡ o → SubjectFits t (At (Slot dir name.now o)) → object ≡ object_on t (At (Slot dir name.now o)) → own_given (subject.Name dir name) object ≡ own_spot (At (Slot dir name.now o))
+      by : (o : Option ℕ) → look t dir name.now ≡ o → SubjectFits t (At (Slot dir name.now o)) →
+          object ≡ object_on t (At (Slot dir name.now o)) → own_given (subject.Name dir name) object ≡ own_spot (At (Slot dir name.now o))
       by None row fits is = ap (own_given (subject.Name dir name)) is
       by (Some x) row fits is = plain x (kind_at t x) (has_kind dir name.now x row) is
 
-  pub own_name_is : (about : Subject) (item : given.Item) → SubjectFits t about → IsItemOn t h about item → own_given item.subject item.object ≡ own_spot about
+  pub own_name_is : (about : Subject) (item : given.Item) → SubjectFits t about → IsItemOn t h about item →
+      own_given item.subject item.object ≡ own_spot about
   own_name_is about item fits on =
       let same = on.subject in
       own_by item.subject item.object (subst (SubjectFits t) (sym same) fits) (on.object ∙ ap (object_on t) (sym same)) ∙ ap own_spot same

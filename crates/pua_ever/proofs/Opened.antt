@@ -37,7 +37,8 @@ pub fails : {X : Type 0} (p : X → Bool) (xs : List X) → list_all p xs ≡ fa
 fails p [] e = absurd (true≢false e)
 fails {X} p (x ∷ xs) e = by (p x) refl e (fails p xs)
   where
-    by : (b : Bool) → p x ≡ b → (b && list_all p xs) ≡ false → (list_all p xs ≡ false → (y : X) × Among xs y × (p y ≡ false)) → (y : X) × Among (x ∷ xs) y × (p y ≡ false)
+    by : (b : Bool) → p x ≡ b → (b && list_all p xs) ≡ false → (list_all p xs ≡ false → (y : X) × Among xs y × (p y ≡ false)) →
+        (y : X) × Among (x ∷ xs) y × (p y ≡ false)
     by true is e more = let found = more e in (found.0, inr found.1, found.2)
     by false is e more = (x, inl refl, is)
 
@@ -60,7 +61,8 @@ pub opening_some : (o : Option ℕ) → is_some (if_c o) ≡ true → (perms : �
 opening_some None e = absurd (false≢true e)
 opening_some (Some perms) e = by (has_c (Only perms)) refl e
   where
-    by : (b : Bool) → has_c (Only perms) ≡ b → is_some (cond b (Some (Only perms)) None) ≡ true → (p : ℕ) × (Some perms ≡ Some p) × (has_c (Only p) ≡ true)
+    by : (b : Bool) → has_c (Only perms) ≡ b → is_some (cond b (Some (Only perms)) None) ≡ true →
+        (p : ℕ) × (Some perms ≡ Some p) × (has_c (Only p) ≡ true)
     by true is e = (perms, refl, is)
     by false is e = absurd (false≢true e)
 
@@ -91,7 +93,10 @@ module _ (t : Tree) (h : History) (well : WellFormed t) where
       by : (b : Bool) → can_empty t h y ≡ b → can_empty t h y ≡ false
       by false e = e
       by true all =
-          let one = all_among (λ row. not (row.0.0 == y) || has_c (row_cover t h row.0 row.1)) t.rows (s, x) all (found_among s x t.rows row) in
+          let one = all_among (λ row. not (row.0.0 == y) || has_c (row_cover t h row.0 row.1)) t.rows (
+            s,
+            x,
+          ) all (found_among s x t.rows row) in
           let differs : (not (s.0 == y) || has_c (row_cover t h s x)) ≡ false = (λ i. not (eq-eqb s.0 y at i) || lacks i) in
           absurd (false≢true (sym differs ∙ one))
 
@@ -103,7 +108,8 @@ module _ (t : Tree) (h : History) (well : WellFormed t) where
       let veil = barred_is (perms_kept h (place.Dir x)) two.1 in
       let n : x ≢ 0 = λ z. false≢true (sym (not-true _ two.0) ∙ eq-eqb x 0 z) in
       let row = row_of t (sound_from t well) x one.0 n in
-      barred_row row.0 x y row.1 (sym row.2 ∙ same_Some _ _ parts.1) (ap has_c (dir_row t h well row.0 x one.0 ∙ own_dir t h well x veil.0 one.0 n veil.1) ∙ veil.2)
+      barred_row row.0 x y row.1 (sym row.2 ∙ same_Some _ _ parts.1) (ap has_c (dir_row t h well row.0 x one.0 ∙
+      own_dir t h well x veil.0 one.0 n veil.1) ∙ veil.2)
   held_bars (place.Slot d name) y e = by (look t d name) refl parts.0
     where
       parts : ((is_no_dir t (look t d name) && is_barred h (place.Slot d name)) ≡ true) × (Some d ≡ Some y)
@@ -114,7 +120,8 @@ module _ (t : Tree) (h : History) (well : WellFormed t) where
       by (Some x) row both =
           let one = and_parts (not (is_dir t x)) _ both in
           let veil = barred_is (perms_kept h (place.Slot d name)) one.1 in
-          barred_row (d, name) x y row (same_Some d y parts.1) (ap has_c (slot_row t h well (d, name) x (not-true _ one.0) ∙ ap (λ o. own_or o (cover_in t h d)) veil.1) ∙ veil.2)
+          barred_row (d, name) x y row (same_Some d y parts.1) (ap has_c (slot_row t h well (d, name) x (not-true _ one.0) ∙
+          ap (λ o. own_or o (cover_in t h d)) veil.1) ∙ veil.2)
 
   -- and in a directory with `c` nothing else stays
   module _ (y : ℕ) (is : is_dir t y ≡ true) (has : has_c (cover_in t h y) ≡ true) where
@@ -128,19 +135,27 @@ module _ (t : Tree) (h : History) (well : WellFormed t) where
         n = (row_says t (sound_from t well) s x row).3
 
         dir_held : is_dir t x ≡ true → (o : Option ℕ) → perms_kept h (place.Dir x) ≡ o → Among held y
-        dir_held dir None e = absurd (false≢true (sym lacks ∙ ap has_c (dir_row t h well s x dir ∙ under_dir t h well s x dir row e) ∙ over))
+        dir_held dir None e = absurd (false≢true (sym lacks ∙ ap has_c (dir_row t h well s x dir ∙ under_dir t h well s x dir row e) ∙
+            over))
         dir_held dir (Some perms) e =
             let bad : has_c (Only perms) ≡ false = ap has_c (sym (dir_row t h well s x dir ∙ own_dir t h well x perms dir n e)) ∙ lacks in
-            let zero_no : not (x == 0) ≡ true = elim (x == 0) as (λ b. (x == 0) ≡ b → not b ≡ true) [ true ↦ λ z. absurd (n (eqb-true x 0 z)) | false ↦ λ z. refl ] refl in
+            let zero_no : not (x == 0) ≡ true = elim (x == 0) as (λ b. (x == 0) ≡ b → not b ≡ true) [
+              | true ↦ λ z. absurd (n (eqb-true x 0 z))
+              | false ↦ λ z. refl
+            ] refl in
             among_filter_map (held_dir t h) (places_of h) (place.Dir x) y (place_among h (place.Dir x) perms e)
-            (when _ _ (and_from (is_dir t x) _ dir (and_from (not (x == 0)) _ zero_no (ap is_without_c e ∙ ap not bad))) ∙ ap Some (above_row t well y s x row dir ∙ at))
+            (when _ _ (and_from (is_dir t x) _ dir (and_from (not (x == 0)) _ zero_no (ap is_without_c e ∙ ap not bad))) ∙
+            ap Some (above_row t well y s x row dir ∙ at))
 
         slot_held : is_dir t x ≡ false → (o : Option ℕ) → perms_kept h (place.Slot s.0 s.1) ≡ o → Among held y
-        slot_held plain None e = absurd (false≢true (sym lacks ∙ ap has_c (slot_row t h well s x plain ∙ ap (λ o. own_or o (cover_in t h s.0)) e) ∙ over))
+        slot_held plain None e =
+            absurd (false≢true (sym lacks ∙ ap has_c (slot_row t h well s x plain ∙ ap (λ o. own_or o (cover_in t h s.0)) e) ∙ over))
         slot_held plain (Some perms) e =
-            let bad : has_c (Only perms) ≡ false = ap has_c (sym (slot_row t h well s x plain ∙ ap (λ o. own_or o (cover_in t h s.0)) e)) ∙ lacks in
+            let bad : has_c (Only perms) ≡ false = ap has_c (sym (slot_row t h well s x plain ∙ ap (λ o. own_or o (cover_in t h s.0)) e)) ∙
+            lacks in
             among_filter_map (held_dir t h) (places_of h) (place.Slot s.0 s.1) y (place_among h (place.Slot s.0 s.1) perms e)
-            (when _ _ (and_from (is_no_dir t (look t s.0 s.1)) _ (ap (is_no_dir t) row ∙ ap not plain) (ap is_without_c e ∙ ap not bad)) ∙ ap Some at)
+            (when _ _ (and_from (is_no_dir t (look t s.0 s.1)) _ (ap (is_no_dir t) row ∙ ap not plain) (ap is_without_c e ∙ ap not bad)) ∙
+            ap Some at)
 
         by : (b : Bool) → is_dir t x ≡ b → Among held y
         by true dir = dir_held dir (perms_kept h (place.Dir x)) refl
@@ -158,7 +173,9 @@ module _ (t : Tree) (h : History) (well : WellFormed t) where
         by false false any e =
             let row = fails (λ row. not (row.0.0 == y) || has_c (row_cover t h row.0 row.1)) t.rows e in
             let two = neither (row.0.0.0 == y) _ row.2 in
-            absurd (false≢true (sym any ∙ any_among (λ other. other == y) held y (bars_held row.0.0 row.0.1 (among_rows t well row.0 row.1) (eqb-true _ _ two.0) two.1) (eq-eqb y y refl)))
+            absurd (false≢true (sym any ∙
+            any_among (λ other. other == y) held y (bars_held row.0.0 row.0.1 (among_rows t well row.0 row.1) (eqb-true _ _ two.0)
+            two.1) (eq-eqb y y refl)))
 
   -- something has `c` outside of a directory
   module _ (veiled : list_any is_unveil h ≡ true) (y : ℕ) where
@@ -172,21 +189,25 @@ module _ (t : Tree) (h : History) (well : WellFormed t) where
     outside_any : has_c_outside t h y ≡ true → list_any (is_outside t y) opened ≡ true
     outside_any more = elim (or_cases _ _ more) [ inl a ↦ by_dir (any_found _ _ a) | inr a ↦ by_veil (any_found _ _ a) ]
       where
-        opens : (at : Place) (perms d : ℕ) → perms_kept h at ≡ Some perms → has_c (Only perms) ≡ true → dir_of_place at ≡ d → is_dir t d ≡ true → is_below t y d ≡ false → list_any (is_outside t y) opened ≡ true
+        opens : (at : Place) (perms d : ℕ) → perms_kept h at ≡ Some perms → has_c (Only perms) ≡ true → dir_of_place at ≡ d →
+            is_dir t d ≡ true → is_below t y d ≡ false → list_any (is_outside t y) opened ≡ true
         opens at perms d e has same is outside =
             any_among (is_outside t y) opened d
             (among_filter_map (opened_dir h) (places_of h) at d (place_among h at perms e)
             (when _ _ (ap is_some (opening_from (perms_kept h at) perms e has)) ∙ ap Some same))
             (and_from (is_dir t d) _ is (ap not outside))
 
-        by_dir : (d : ℕ) × Among (directories t) d × ((not (is_below t y d) && has_c (cover_in t h d)) ≡ true) → list_any (is_outside t y) opened ≡ true
+        by_dir : (d : ℕ) × Among (directories t) d × ((not (is_below t y d) && has_c (cover_in t h d)) ≡ true) →
+            list_any (is_outside t y) opened ≡ true
         by_dir (d, a, both) =
             let parts = and_parts _ _ both in
             let is = among_dir t well d a in
             let from = origin t well h veiled d is parts.1 in
-            opens (place.Dir from.dir) from.perms from.dir from.veil (ap has_c (sym from.cover) ∙ parts.1) refl from.living (not_below from.dir d is from.below (not-true _ parts.0))
+            opens (place.Dir from.dir) from.perms from.dir from.veil (ap has_c (sym from.cover) ∙
+            parts.1) refl from.living (not_below from.dir d is from.below (not-true _ parts.0))
 
-        by_veil : (veil : Place × ℕ) × Among (veils h) veil × (opens_outside t y veil.0 veil.1 ≡ true) → list_any (is_outside t y) opened ≡ true
+        by_veil : (veil : Place × ℕ) × Among (veils h) veil × (opens_outside t y veil.0 veil.1 ≡ true) →
+            list_any (is_outside t y) opened ≡ true
         by_veil ((place.Slot d name, perms), a, all) =
             let one = and_parts (is_dir t d) _ all in
             let two = and_parts (not (is_below t y d)) _ one.1 in
