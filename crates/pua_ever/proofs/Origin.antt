@@ -23,7 +23,8 @@ module _ (t : Tree) (well : WellFormed t) where
   below_over : (y d : ℕ) → is_dir t d ≡ true → d ≢ 0 → is_below t y (above t d) ≡ true → is_below t y d ≡ true
   below_over y d is n below = ap (list_any (λ e. e == y)) (climb_step t well d n is) ∙ or_right (d == y) _ below
 
-  below_steps : (y x steps d : ℕ) → Reaches t steps d → is_dir t d ≡ true → is_below t x d ≡ true → is_below t y x ≡ true → is_below t y d ≡ true
+  below_steps : (y x steps d : ℕ) → Reaches t steps d → is_dir t d ≡ true → is_below t x d ≡ true → is_below t y x ≡ true →
+      is_below t y d ≡ true
   below_steps y x zero d root is inner outer = by (d == x) refl
     where
       by : (b : Bool) → (d == x) ≡ b → is_below t y d ≡ true
@@ -31,9 +32,11 @@ module _ (t : Tree) (well : WellFormed t) where
       by false differs =
           let other : x ≢ 0 = λ e. false≢true (sym differs ∙ eq-eqb d x (root ∙ sym e)) in
           absurd (false≢true (sym (ap (is_below t x) root ∙ root_below t well x other) ∙ inner))
-  below_steps y x (suc steps) d up is inner outer = by (d == x) refl (below_steps y x steps (above t d) up.1 (above_dir t (sound_from t well) d is up.0))
+  below_steps y x (suc steps) d up is inner outer =
+      by (d == x) refl (below_steps y x steps (above t d) up.1 (above_dir t (sound_from t well) d is up.0))
     where
-      by : (b : Bool) → (d == x) ≡ b → (is_below t x (above t d) ≡ true → is_below t y x ≡ true → is_below t y (above t d) ≡ true) → is_below t y d ≡ true
+      by : (b : Bool) → (d == x) ≡ b → (is_below t x (above t d) ≡ true → is_below t y x ≡ true → is_below t y (above t d) ≡ true) →
+          is_below t y d ≡ true
       by true same rest = subst (λ z. is_below t y z ≡ true) (sym (eqb-true d x same)) outer
       by false differs rest = below_over y d is up.0 (rest (sym (below_up t well x d differs up.0 is) ∙ inner) outer)
 
@@ -56,9 +59,17 @@ module _ (t : Tree) (well : WellFormed t) where
       pub below : is_below t dir d ≡ true
 
     here : (d perms : ℕ) → is_dir t d ≡ true → perms_kept h (place.Dir d) ≡ Some perms → Origin d
-    here d perms is e = record { dir = d; living = is; perms = perms; veil = e; cover = own_cover d perms is e; below = below_self t well d d (eq-eqb d d refl) is }
+    here d perms is e = record {
+      dir = d;
+      living = is;
+      perms = perms;
+      veil = e;
+      cover = own_cover d perms is e;
+      below = below_self t well d d (eq-eqb d d refl) is;
+    }
 
-    origin_in : list_any is_unveil h ≡ true → (steps d : ℕ) → Reaches t steps d → is_dir t d ≡ true → has_c (cover_in t h d) ≡ true → Origin d
+    origin_in : list_any is_unveil h ≡ true → (steps d : ℕ) → Reaches t steps d → is_dir t d ≡ true → has_c (cover_in t h d) ≡ true →
+        Origin d
     origin_in veiled zero d root is has = by (perms_kept h (place.Dir d)) refl
       where
         by : (o : Option ℕ) → perms_kept h (place.Dir d) ≡ o → Origin d
@@ -68,7 +79,8 @@ module _ (t : Tree) (well : WellFormed t) where
             ap (cover_in t h) root ∙ (covers_descend t h well).root
             ∙ (λ i. own_or ((ap (λ z. perms_kept h (place.Dir z)) (sym root) ∙ e) i) (if veiled i then Nothing else All)) in
             absurd (false≢true (ap has_c (sym none) ∙ has))
-    origin_in veiled (suc steps) d up is has = by (perms_kept h (place.Dir d)) refl (origin_in veiled steps (above t d) up.1 (above_dir t (sound_from t well) d is up.0))
+    origin_in veiled (suc steps) d up is has =
+        by (perms_kept h (place.Dir d)) refl (origin_in veiled steps (above t d) up.1 (above_dir t (sound_from t well) d is up.0))
       where
         by : (o : Option ℕ) → perms_kept h (place.Dir d) ≡ o → (has_c (cover_in t h (above t d)) ≡ true → Origin (above t d)) → Origin d
         by (Some perms) e more = here d perms is e
@@ -76,7 +88,14 @@ module _ (t : Tree) (well : WellFormed t) where
             let row = row_of t (sound_from t well) d is up.0 in
             let same : cover_in t h d ≡ cover_in t h (above t d) = under_dir t h well row.0 d is row.1 e ∙ ap (cover_in t h) (sym row.2) in
             let from = more (ap has_c (sym same) ∙ has) in
-            record { dir = from.dir; living = from.living; perms = from.perms; veil = from.veil; cover = same ∙ from.cover; below = below_over from.dir d is up.0 from.below }
+            record {
+              dir = from.dir;
+              living = from.living;
+              perms = from.perms;
+              veil = from.veil;
+              cover = same ∙ from.cover;
+              below = below_over from.dir d is up.0 from.below;
+            }
 
     pub origin : list_any is_unveil h ≡ true → (d : ℕ) → is_dir t d ≡ true → has_c (cover_in t h d) ≡ true → Origin d
     origin veiled d is = let up = way_up t well 0 d is in origin_in veiled up.0 d up.1 is

@@ -28,7 +28,8 @@ both true true e = (refl, refl)
 both true false e = absurd (Some≢None LinkLacksC e)
 both false b e = absurd (Some≢None RenameLacksC e)
 
-table_parts : (table : CallTable) (o : Option Call) → table_refusal table o ≡ None → (o ≡ None) × (both_need_c table.rename ≡ true) × (new_needs_c table.link ≡ true)
+table_parts : (table : CallTable) (o : Option Call) → table_refusal table o ≡ None →
+    (o ≡ None) × (both_need_c table.rename ≡ true) × (new_needs_c table.link ≡ true)
 table_parts table None e = let two = both (both_need_c table.rename) (new_needs_c table.link) e in (refl, two.0, two.1)
 table_parts table (Some c) e = absurd (Some≢None (LacksC c) e)
 
@@ -52,7 +53,8 @@ all_need table e =
       link_new = parts.2;
     }
 
-neither : (table : CallTable) (b : Bool) (o : Option Call) → cond b (Some CanUnveil) (table_refusal table o) ≡ None → (b ≡ false) × (table_refusal table o ≡ None)
+neither : (table : CallTable) (b : Bool) (o : Option Call) → cond b (Some CanUnveil) (table_refusal table o) ≡ None →
+    (b ≡ false) × (table_refusal table o ≡ None)
 neither table true o e = absurd (Some≢None CanUnveil e)
 neither table false o e = (refl, e)
 
@@ -64,7 +66,9 @@ confined h none = by (is_locked h) (is_ended h) (holds (held_set h) unveil) refl
     by false true p locked ended has = inr ended
     by false false false locked ended has = inl (inr has)
     by false false true locked ended has =
-        let can : can_unveil h ≡ true = (λ i. not (locked i) && is_yes (if ended i then Death else (if has i || false then Yes else (if has_error h then Enosys else Death)))) in
+        let can : can_unveil h ≡ true =
+        (λ i. not (locked i) && is_yes
+        (if ended i then Death else (if has i || false then Yes else (if has_error h then Enosys else Death)))) in
         absurd (false≢true (sym none ∙ can))
 
 module _ (table : CallTable) (h : History) (none : refusal table h ≡ None) where

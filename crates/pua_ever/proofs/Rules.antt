@@ -5,5 +5,29 @@ use Rattle.pua_script.proofs.ForCallers.{rules_narrow}
 use Rattle.pua_ever.specs.Laws.{RulesEditByC}
 
 pub rules_edit_by_c : RulesEditByC
-rules_edit_by_c Profile = ((rules_narrow Profile).error, record { create = refl; mkdir = refl; rmdir = refl; unlink = refl; symlink = refl; rename_old = refl; rename_new = refl; link_new = refl })
-rules_edit_by_c Openbsd = ((rules_narrow Openbsd).error, record { create = refl; mkdir = refl; rmdir = refl; unlink = refl; symlink = refl; rename_old = refl; rename_new = refl; link_new = refl })
+rules_edit_by_c Profile = (
+  (rules_narrow Profile).error,
+  record {
+    create = refl;
+    mkdir = refl;
+    rmdir = refl;
+    unlink = refl;
+    symlink = refl;
+    rename_old = refl;
+    rename_new = refl;
+    link_new = refl;
+  },
+)
+rules_edit_by_c Openbsd = (
+  (rules_narrow Openbsd).error,
+  record {
+    create = refl;
+    mkdir = refl;
+    rmdir = refl;
+    unlink = refl;
+    symlink = refl;
+    rename_old = refl;
+    rename_new = refl;
+    link_new = refl;
+  },
+)

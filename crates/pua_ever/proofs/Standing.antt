@@ -18,7 +18,8 @@ use Rattle.pua_path.specs.declared.found.Found.TheVariants.{Whole, Slot}
 use Rattle.pua_path.proofs.ForCallers.{resolutions_fit}
 use Rattle.pua_calls.specs.Calls.{CallTable}
 use Rattle.pua_calls.specs.declared.rules.ExecPromises.{ExecPromises}
-use Rattle.pua_policy.specs.History.{History, Pledged, Unveiled, Locked, Moved, Ended, perms_kept, same_place, held_for_exec, is_pledge, after_exec, working_dir, new_history}
+use Rattle.pua_policy.specs.History.{History, Pledged, Unveiled, Locked, Moved, Ended, perms_kept, same_place, held_for_exec, is_pledge}
+use Rattle.pua_policy.specs.History.{after_exec, working_dir, new_history}
 use Rattle.pua_policy.specs.Verdict.{place_of}
 use Rattle.pua_policy.proofs.ForCallers.{same_place_is}
 use Rattle.pua_calls.specs.declared.call.Call.{Call}
@@ -28,8 +29,10 @@ use Rattle.pua_script.specs.Requests.{Asked}
 use Rattle.pua_script.specs.Limits.{most_processes}
 use Rattle.pua_script.specs.Worlds.{history_left}
 use Rattle.pua_script.specs.Bytes.{is_in_bytes, are_in_bytes, IsByteTree}
-use Rattle.pua_script.specs.Replay.{World, Effect, Fails, Kills, Leaves, Copies, refusal_effect, change_effect, come_of, edit_effect, edited_tree, history_of, left_by, apply, world_after, new_world}
-use Rattle.pua_script.specs.Decide.{Change, NoChange, AddNode, CutRow, ShiftRow, TieRow, BeginProgram, AddEvent, CopyAs, change_by, decide, link_node}
+use Rattle.pua_script.specs.Replay.{World, Effect, Fails, Kills, Leaves, Copies, refusal_effect, change_effect, come_of, edit_effect}
+use Rattle.pua_script.specs.Replay.{edited_tree, history_of, left_by, apply, world_after, new_world}
+use Rattle.pua_script.specs.Decide.{Change, NoChange, AddNode, CutRow, ShiftRow, TieRow, BeginProgram, AddEvent, CopyAs, change_by, decide}
+use Rattle.pua_script.specs.Decide.{link_node}
 use Rattle.pua_script.specs.Guards.{IsDecided}
 use Rattle.pua_policy.specs.declared.answer.Refusal.{Refusal}
 use Rattle.pua_policy.specs.declared.answer.Refusal.TheVariants.{Failed, Killed}
@@ -37,7 +40,9 @@ use Rattle.pua_tree.specs.Edits.{add, cut, shift, tie}
 use Rattle.pua_objects.proofs.ForCallers.{named_within_text}
 use Rattle.pua_script.specs.declared.request.Action.{Action}
 use Rattle.pua_script.specs.declared.request.Action.TheVariants.{OnPath, Symlink, Rename, Link, Pledge, Unveil, Lock, Fork, Exit}
-use Rattle.pua_script.proofs.ForCallers.{replays_keep_trees, replays_keep_byte_trees, listings_list_byte_trees, scripts_ask_in_bytes, by_request, by_decision, decisions_are_guarded, by_placing, by_cutting, by_going, by_tying, by_moves}
+use Rattle.pua_script.proofs.ForCallers.{replays_keep_trees, replays_keep_byte_trees, listings_list_byte_trees, scripts_ask_in_bytes}
+use Rattle.pua_script.proofs.ForCallers.{by_request, by_decision, decisions_are_guarded, by_placing, by_cutting, by_going, by_tying}
+use Rattle.pua_script.proofs.ForCallers.{by_moves}
 use Rattle.pua_ever.specs.Laws.{EditsNeedC, VeilsStand, dir_of_place, PlacesStand, ReplaysKeepPlaces, EverAsRead}
 use Rattle.pua_ever.proofs.Growing.{numbers_grow}
 use Rattle.pua_ever.proofs.Covers.{living_dir, below_next}
@@ -89,14 +94,16 @@ module _ (table : CallTable) (w : World) (h : History) (well : WellFormed w.tree
 
   stood_by : (action : Action) (c : Change) → IsDecided table w.tree h action c → Stood c
   stood_by (OnPath asked path) c d = subst Stood (sym d.2) (stood_call asked d.0)
-  stood_by (Symlink target path) c d = subst Stood (sym d.3) (by_placing Stood tt (link_node target) (spot_named d.0) (node_named d.0) (λ s is. tt))
+  stood_by (Symlink target path) c d =
+      subst Stood (sym d.3) (by_placing Stood tt (link_node target) (spot_named d.0) (node_named d.0) (λ s is. tt))
   stood_by (Rename old new) c d = by_moves Stood tt w.tree d.old d.new d.node c d.moves (λ s r is is_new. tt)
   stood_by (Link old new) c d = subst Stood (sym d.is) (by_tying Stood tt d.node (spot_named d.new) (λ s is. tt))
   stood_by (Pledge p x) c d = subst Stood (sym d.is) stand
   stood_by (Unveil path perms) c d =
       subst Stood (sym d.is)
       (veiled w.tree h well stand d.object d.perms
-      ((resolutions_fit w.tree well).whole (working_dir h) Dot path Followed d.object (named_within_text w.tree (working_dir h) Dot path Followed d.object d.found)).fits)
+      ((resolutions_fit w.tree well).whole (working_dir h) Dot path Followed d.object (named_within_text w.tree (working_dir h) Dot path
+      Followed d.object d.found)).fits)
   stood_by Lock c d = subst Stood (sym d.1) stand
   stood_by (Fork new) c d = subst Stood (sym d.1) tt
   stood_by Exit c d = subst Stood (sym d) stand
@@ -137,20 +144,25 @@ module _ (table : CallTable) (needs : EditsNeedC table) where
   step : (w : World) (ask : Asked) → WellFormed w.tree → PlacesStand w → PlacesStand (apply table w ask).1
   step w ask well places =
       by_request table w ask (λ done. w.tree.next ≤ done.1.tree.next → PlacesStand done.1) (λ _. places)
-      (λ h here more. left h (come_of w h (decide table w.tree h ask.action)) (stand_decided table w h well (places ask.process h here) ask.action) more)
+      (λ h here more. left h (come_of w h (decide table w.tree h ask.action)) (stand_decided table w h well (places ask.process h here)
+      ask.action) more)
       (numbers_grow table needs w ask well)
     where
       later : (u : Tree) → w.tree.next ≤ u.next → (g : History) → VeilsStand w.tree g → VeilsStand u g
       later u more g stand at perms is = let below : dir_of_place at < w.tree.next = stand at perms is in omega (arith, more, below)
 
-      new_or_old : (u : Tree) → w.tree.next ≤ u.next → (k : ℕ) (g : History) → VeilsStand w.tree g → (process : ℕ) (f : History) → find_key nat_cmp process (put nat_cmp k g w.histories) ≡ Some f → VeilsStand u f
+      new_or_old : (u : Tree) → w.tree.next ≤ u.next → (k : ℕ) (g : History) → VeilsStand w.tree g → (process : ℕ) (f : History) →
+          find_key nat_cmp process (put nat_cmp k g w.histories) ≡ Some f → VeilsStand u f
       new_or_old u more k g stand process f is = elim (same_or_other nat_cmp nat_cmp_total nat_cmp-IsAntisymmetric process k) [
-        | inl same ↦ (let this : g ≡ f = same_Some g f (sym (put_here nat_cmp nat_cmp_total nat_cmp-IsAntisymmetric k g w.histories) ∙ ap (λ p. find_key nat_cmp p (put nat_cmp k g w.histories)) (sym same.0) ∙ is) in
+        | inl same ↦ (let this : g ≡ f = same_Some g f (sym (put_here nat_cmp nat_cmp_total nat_cmp-IsAntisymmetric k g w.histories) ∙
+            ap (λ p. find_key nat_cmp p (put nat_cmp k g w.histories)) (sym same.0) ∙ is) in
             later u more f (subst (VeilsStand w.tree) this stand))
-        | inr other ↦ later u more f (places process f (sym (put_elsewhere nat_cmp nat_cmp_total nat_cmp-IsAntisymmetric process k g w.histories other.0) ∙ is))
+        | inr other ↦ later u more f
+            (places process f (sym (put_elsewhere nat_cmp nat_cmp_total nat_cmp-IsAntisymmetric process k g w.histories other.0) ∙ is))
       ]
 
-      left : (h : History) (e : Effect) → VeilsStand w.tree (history_left h e) → w.tree.next ≤ (left_by w ask.process h e).tree.next → PlacesStand (left_by w ask.process h e)
+      left : (h : History) (e : Effect) → VeilsStand w.tree (history_left h e) → w.tree.next ≤ (left_by w ask.process h e).tree.next →
+          PlacesStand (left_by w ask.process h e)
       left h (Fails errno) stand more = places
       left h Kills stand more = new_or_old w.tree more ask.process (Ended ∷ h) stand
       left h (Leaves u after) stand more = new_or_old u more ask.process after stand
@@ -158,7 +170,8 @@ module _ (table : CallTable) (needs : EditsNeedC table) where
 
 pub replays_keep_places : ReplaysKeepPlaces
 replays_keep_places table needs w [] trees places = places
-replays_keep_places table needs w (ask ∷ asks) trees places = replays_keep_places table needs (apply table w ask).1 asks trees.1 (step table needs w ask trees.0 places)
+replays_keep_places table needs w (ask ∷ asks) trees places =
+    replays_keep_places table needs (apply table w ask).1 asks trees.1 (step table needs w ask trees.0 places)
 
 -- at the beginning there are no veils
 new_places : (t : Tree) → PlacesStand (new_world t)
@@ -170,14 +183,18 @@ new_places t process h is at perms e = by process is
     by : (process : ℕ) → history_of (new_world t) process ≡ Some h → dir_of_place at < t.next
     by process is = elim (same_or_other nat_cmp nat_cmp_total nat_cmp-IsAntisymmetric process 1) [
       | inl same ↦ absurd (none (sym (same_Some new_history h (ap (λ p. history_of (new_world t) p) (sym same.0) ∙ is))))
-      | inr other ↦ absurd (Some≢None h (sym is ∙ put_elsewhere nat_cmp nat_cmp_total nat_cmp-IsAntisymmetric process 1 new_history [] other.0))
+      | inr other ↦ absurd (Some≢None h (sym is ∙
+          put_elsewhere nat_cmp nat_cmp_total nat_cmp-IsAntisymmetric process 1 new_history [] other.0))
     ]
 
 pub ever_as_read : EverAsRead
 ever_as_read table sound needs tree_bytes script_bytes t first asks listed scripted process now here confined none alone member belongs =
-    let bytes = and_parts (are_in_bytes first) (are_in_bytes asks) (sym (list_all-append (λ ask. is_in_bytes ask.action) first asks) ∙ scripts_ask_in_bytes script_bytes (first ++ asks) scripted) in
+    let bytes = and_parts (are_in_bytes first) (are_in_bytes asks) (sym (list_all-append (λ ask. is_in_bytes ask.action) first asks) ∙
+    scripts_ask_in_bytes script_bytes (first ++ asks) scripted) in
     let w = world_after table (new_world t) first in
     let tree : IsByteTree t = listings_list_byte_trees tree_bytes t listed in
     let left = replays_keep_byte_trees table (new_world t) first tree bytes.0 in
-    let places = replays_keep_places table needs (new_world t) first (replays_keep_trees table (new_world t) first tree bytes.0) (new_places t) in
-    ever_complete table sound needs w asks process now here confined (places process now here) (replays_keep_trees table w asks left bytes.1) none alone member belongs
+    let places = replays_keep_places table needs (new_world t) first (replays_keep_trees table (new_world t) first tree bytes.0)
+    (new_places t) in
+    ever_complete table sound needs w asks process now here confined (places process now here)
+    (replays_keep_trees table w asks left bytes.1) none alone member belongs

@@ -36,14 +36,18 @@ module _ (table : CallTable) (w : World) (h : History) (lacks : may_edit table h
   -- no edit is promised
   unpromised : (edit : Call) → Among edit_calls edit → may_any h (rule_of table edit).alternatives ≡ Yes → ⊥
   unpromised edit a e =
-      false≢true (sym lacks ∙ or_right (is_yes (may_any h table.rename.new.needs.alternatives)) _ (or_right (is_yes (may_any h table.link.new.needs.alternatives)) _
+      false≢true (sym lacks ∙
+      or_right (is_yes (may_any h table.rename.new.needs.alternatives)) _
+      (or_right (is_yes (may_any h table.link.new.needs.alternatives)) _
       (any_among (λ edit. is_yes (may_any h (rule_of table edit).alternatives)) edit_calls edit a (ap is_yes e))))
 
   no_rename : may_any h table.rename.new.needs.alternatives ≡ Yes → ⊥
   no_rename e = false≢true (sym lacks ∙ or_left (is_yes (may_any h table.rename.new.needs.alternatives)) _ (ap is_yes e))
 
   no_link : may_any h table.link.new.needs.alternatives ≡ Yes → ⊥
-  no_link e = false≢true (sym lacks ∙ or_right (is_yes (may_any h table.rename.new.needs.alternatives)) _ (or_left (is_yes (may_any h table.link.new.needs.alternatives)) _ (ap is_yes e)))
+  no_link e = false≢true (sym lacks ∙
+      or_right (is_yes (may_any h table.rename.new.needs.alternatives)) _ (or_left (is_yes (may_any h table.link.new.needs.alternatives)) _
+      (ap is_yes e)))
 
   keeps_call : (c : Call) (x : Found) → may_any h (rule_of table c).alternatives ≡ Yes → Keeps (change_by table c x)
   keeps_call call.Create x is = absurd (unpromised call.Create (inl refl) is)
@@ -72,12 +76,15 @@ module _ (table : CallTable) (w : World) (h : History) (lacks : may_edit table h
   keeps_by (Fork new) c d = subst Keeps (sym d.1) (keeps_copy new)
   keeps_by Exit c d = subst Keeps (sym d) refl
 
-pub unedited : (table : CallTable) (w : World) (ask : Asked) (h : History) → history_of w ask.process ≡ Some h → may_edit table h ≡ false → (apply table w ask).1.tree ≡ w.tree
-unedited table w ask h here lacks = by_own_tree table w ask h here (λ u. u ≡ w.tree) refl (λ c guards. keeps_by table w h lacks ask.action c guards)
+pub unedited : (table : CallTable) (w : World) (ask : Asked) (h : History) → history_of w ask.process ≡ Some h → may_edit table h ≡ false →
+    (apply table w ask).1.tree ≡ w.tree
+unedited table w ask h here lacks =
+    by_own_tree table w ask h here (λ u. u ≡ w.tree) refl (λ c guards. keeps_by table w h lacks ask.action c guards)
 
 -- who edits nothing by what it holds edits nothing by what is left of it
 module _ (table : CallTable) (sound : NoCallNeedsError table) (now : History) where
-  pub yes_before : (h : History) → IsWithin now h → (sets : List ℕ) → AllByRecursion NamesNoError sets → is_yes (may_any h sets) ≡ true → is_yes (may_any now sets) ≡ true
+  pub yes_before : (h : History) → IsWithin now h → (sets : List ℕ) → AllByRecursion NamesNoError sets → is_yes (may_any h sets) ≡ true →
+      is_yes (may_any now sets) ≡ true
   yes_before h within sets fine e = by (may_any h sets) refl e
     where
       by : (m : May) → may_any h sets ≡ m → is_yes m ≡ true → is_yes (may_any now sets) ≡ true
@@ -90,16 +97,21 @@ module _ (table : CallTable) (sound : NoCallNeedsError table) (now : History) wh
       by (is_yes (may_any h table.rename.new.needs.alternatives)) (is_yes (may_any h table.link.new.needs.alternatives))
       (list_any (λ edit. is_yes (may_any h (rule_of table edit).alternatives)) edit_calls) refl refl refl
     where
-      by : (a b c : Bool) → is_yes (may_any h table.rename.new.needs.alternatives) ≡ a → is_yes (may_any h table.link.new.needs.alternatives) ≡ b
+      by : (a b c : Bool) → is_yes (may_any h table.rename.new.needs.alternatives) ≡ a →
+          is_yes (may_any h table.link.new.needs.alternatives) ≡ b
           → list_any (λ edit. is_yes (may_any h (rule_of table edit).alternatives)) edit_calls ≡ c → may_edit table h ≡ false
-      by true b c is in_link e = absurd (false≢true (sym lacks ∙ or_left _ _ (yes_before h within table.rename.new.needs.alternatives sound.rename.1 is)))
+      by true b c is in_link e =
+          absurd (false≢true (sym lacks ∙ or_left _ _ (yes_before h within table.rename.new.needs.alternatives sound.rename.1 is)))
       by false true c is in_link e =
           absurd (false≢true (sym lacks ∙ or_right (is_yes (may_any now table.rename.new.needs.alternatives)) _
           (or_left _ _ (yes_before h within table.link.new.needs.alternatives sound.link.1 in_link))))
       by false false true is in_link e =
           let found = any_found (λ edit. is_yes (may_any h (rule_of table edit).alternatives)) edit_calls e in
-          absurd (false≢true (sym lacks ∙ or_right (is_yes (may_any now table.rename.new.needs.alternatives)) _ (or_right (is_yes (may_any now table.link.new.needs.alternatives)) _
-          (any_among (λ edit. is_yes (may_any now (rule_of table edit).alternatives)) edit_calls found.0 found.1 (yes_before h within (rule_of table found.0).alternatives (sound.calls found.0) found.2)))))
+          absurd (false≢true (sym lacks ∙
+          or_right (is_yes (may_any now table.rename.new.needs.alternatives)) _
+          (or_right (is_yes (may_any now table.link.new.needs.alternatives)) _
+          (any_among (λ edit. is_yes (may_any now (rule_of table edit).alternatives)) edit_calls found.0 found.1
+          (yes_before h within (rule_of table found.0).alternatives (sound.calls found.0) found.2)))))
       by false false false is in_link e = λ i. is i || (in_link i || e i)
 
   pub unedited_along : may_edit table now ≡ false → (asks : List Asked) (w : World) (members : List ℕ) → Members w members now false

@@ -3,7 +3,8 @@
 -- ever be allowed on it. A thing **has c** where what covers it has the letter `c`; where there is no veil
 -- at all, everything has. What has no `c` is never moved, replaced or removed; but where link needs less of
 -- its old name, it can be given a further one.
-use Rattle.std.specs.Prelude.{ℕ, Bool, true, false, not, ◌&&◌, ◌||◌, if◌then◌else◌, List, [], ◌∷◌, ◌++◌, map, filter, filter_map, flat_map, ◌==◌, Option, Some, None, is_some, is_none, nat_lt, length, codes}
+use Rattle.std.specs.Prelude.{ℕ, Bool, true, false, not, ◌&&◌, ◌||◌, if◌then◌else◌, List, [], ◌∷◌, ◌++◌, map, filter, filter_map, flat_map}
+use Rattle.std.specs.Prelude.{◌==◌, Option, Some, None, is_some, is_none, nat_lt, length, codes}
 use Rattle.std.specs.List.{list_any, list_all}
 use Rattle.pua_tree.specs.Tree.{Tree, Node, Spot, is_dir_kind, is_dir, look, kind_at, climb, empty_tree}
 use Rattle.pua_tree.specs.declared.node.Kind.{Kind}

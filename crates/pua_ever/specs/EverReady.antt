@@ -1,5 +1,6 @@
 -- A list's fields between two calls, and what they say is still to come.
-use Rattle.std.specs.Prelude.{◌≡◌, ◌⊎◌, ℕ, Bool, true, false, not, ◌&&◌, ◌||◌, if◌then◌else◌, is_some, List, [], ◌∷◌, ◌++◌, filter, flat_map, ◌==◌, Option, Some, None, MatchOption}
+use Rattle.std.specs.Prelude.{◌≡◌, ◌⊎◌, ℕ, Bool, true, false, not, ◌&&◌, ◌||◌, if◌then◌else◌, is_some, List, [], ◌∷◌, ◌++◌, filter}
+use Rattle.std.specs.Prelude.{flat_map, ◌==◌, Option, Some, None, MatchOption}
 use Rattle.std.specs.List.{list_any}
 use Rattle.pua_tree.specs.Tree.{Tree, WellFormed, Spot, is_dir}
 use Rattle.pua_tree.specs.declared.node.Kind.{Kind}
@@ -20,7 +21,8 @@ use Rattle.pua_objects.specs.Objects.{At, Item, cover_in}
 use Rattle.pua_objects.specs.declared.item.Item as given
 use Rattle.pua_objects.specs.declared.item.Subject as about
 use Rattle.pua_objects.specs.declared.item.Subject.TheVariants as subject
-use Rattle.pua_ever.specs.Ever.{New, NewDir, NewOthers, NewFile, NewLink, Thing, can_empty, may_edit, may_link, named_covers, is_allowed_under, is_ever_allowed, can_be_freed, has_ever_calls}
+use Rattle.pua_ever.specs.Ever.{New, NewDir, NewOthers, NewFile, NewLink, Thing, can_empty, may_edit, may_link, named_covers}
+use Rattle.pua_ever.specs.Ever.{is_allowed_under, is_ever_allowed, can_be_freed, has_ever_calls}
 use Rattle.pua_ever.specs.EverLines.{ever_lines_of, IsThing, line_with}
 use Rattle.pua_ever.specs.EverState.{Left, Now, Freed, Coming}
 use Rattle.pua_ever.specs.Laws.{EditsNeedC}

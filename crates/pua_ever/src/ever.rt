@@ -1,6 +1,7 @@
 //! All that a process and what it forks can ever touch, line by line.
 
-ghost use Rattle.std.specs.Prelude.{◌≡◌, ◌⊎◌, ◌<◌, ◌≤◌, ◌∷◌, [], true, Some, None, IfOk, OnOk, OnSome};
+ghost use Rattle.std.specs.Prelude.{◌≡◌, ◌⊎◌, ◌<◌, ◌≤◌, ◌∷◌, [], true, Some, None, IfOk, OnOk};
+ghost use Rattle.std.specs.Prelude.{OnSome};
 ghost use Rattle.std.specs.Prelude.{MatchResult, length, map, take};
 ghost use Rattle.pua_tree.specs.Tree.{Tree};
 ghost use Rattle.pua_policy.specs.History.{History, StandsFor, is_ended};
@@ -62,7 +63,8 @@ impl<'t, T: FileTree> Model for Ever<'t, T> {
       left = things_left a.items.tree a.items.word a.last a.items.left a.coming;
     } };
 
-    ghost invariant = { λ a. IsEverReady a.items.tree a.items.process a.table a.prospects a.last a.items.left a.coming };
+    ghost invariant = { λ a. IsEverReady a.items.tree a.items.process a.table a.prospects a.last
+        a.items.left a.coming };
 }
 
 impl<'t, T: FileTree> Ever<'t, T> {
@@ -117,7 +119,8 @@ impl<'t, T: FileTree> Ever<'t, T> {
     pub fn next_line(&mut self) -> Option<EverLine>
         ensures of { (self.new.tree ≡ self.old.tree) × (self.new.process ≡ self.old.process)
             × (self.new.table ≡ self.old.table) }
-        ensures line { IsNextEverListed self.old.tree self.old.table self.old.process self.old.left result
+        ensures line { IsNextEverListed self.old.tree self.old.table self.old.process self.old.left
+            result
             self.new.word self.new.left }
         ensures fewer { OnSome result (length self.new.left < length self.old.left) }
         ensures shared { take self.new.shared self.new.word ≡ take self.new.shared self.old.word }
@@ -142,7 +145,8 @@ impl<'t, T: FileTree> Ever<'t, T> {
     fn next_given(&mut self) -> Option<EverLine>
         ensures of { (self.new.tree ≡ self.old.tree) × (self.new.process ≡ self.old.process)
             × (self.new.table ≡ self.old.table) }
-        ensures line { IsNextGiven self.old.tree self.old.table self.old.process self.old.left result
+        ensures line { IsNextGiven self.old.tree self.old.table self.old.process self.old.left
+            result
             self.new.word self.new.left }
         ensures shared { take self.new.shared self.new.word ≡ take self.new.shared self.old.word }
         ensures less { self.new.shared ≤ self.old.shared }

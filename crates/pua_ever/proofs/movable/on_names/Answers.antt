@@ -14,4 +14,5 @@ returns c = λ h stands call.
     let under : List Cover → Bool = λ covers. is_allowed_under c.args.table.now h covers IsMissing call in
     let named = c.under-at_names.ensures h IsMissing stands refl call ∙ ap under c.deref.ensures.value in
     let inside = c.on_dirs-in_dirs.ensures h IsMissing stands refl call in
-    c.union.ensures call ∙ (λ i. named i || inside i) ∙ sym (list_any-append passes found.names.items (found.dirs.items ++ found.entrances.items))
+    c.union.ensures call ∙ (λ i. named i || inside i) ∙
+    sym (list_any-append passes found.names.items (found.dirs.items ++ found.entrances.items))

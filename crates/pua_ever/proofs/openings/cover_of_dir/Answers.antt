@@ -11,4 +11,5 @@ cover-requires g c = λ k. ((refl, tt), subst (λ t. FoundFits t (Whole c.args.d
 pub returns : goal.returns
 returns g c = λ h stands.
     let t = g.T.FileTree.content c.args.tree.now in
-    c.cover.ensures.exact h stands ∙ ap (λ u. cover u h (Whole c.args.dir Top)) c.new.ensures.tree ∙ (covers_descend t h c.known.ensures).directory c.args.dir Top c.requires
+    c.cover.ensures.exact h stands ∙ ap (λ u. cover u h (Whole c.args.dir Top)) c.new.ensures.tree ∙
+    (covers_descend t h c.known.ensures).directory c.args.dir Top c.requires

@@ -23,7 +23,8 @@ module _ (g : Over) (c : After-saturating_add-count g) where
 
   -- so one directory less is left
   less : length (climb t c.loop-at.at) ≡ length (climb t c.in-Some.above) + 1
-  less = length-climb_step t c.known.ensures c.loop-at.at (eqb-false c.loop-at.at 0 (not-true _ (sym c.loop-at-test.ensures))) up.0 ∙ ap (λ d. length (climb t d) + 1) (sym same)
+  less = length-climb_step t c.known.ensures c.loop-at.at (eqb-false c.loop-at.at 0 (not-true _ (sym c.loop-at-test.ensures))) up.0 ∙
+      ap (λ d. length (climb t d) + 1) (sym same)
 
 pub loop-at-smaller : goal.loop-at-smaller
 loop-at-smaller g c = omega (arith, less g c)

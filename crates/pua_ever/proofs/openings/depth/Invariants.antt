@@ -8,7 +8,8 @@ invariant-loop-at g l = record {
   passed : ℕ;
   count : l.count ≡ min (passed + 1) 18446744073709551615;
   living : is_dir (g.T.FileTree.content l.fn.tree) l.at ≡ is_dir (g.T.FileTree.content l.fn.tree) l.fn.dir;
-  all : is_dir (g.T.FileTree.content l.fn.tree) l.fn.dir ≡ true → passed + length (climb (g.T.FileTree.content l.fn.tree) l.at) ≡ length (climb (g.T.FileTree.content l.fn.tree) l.fn.dir);
+  all : is_dir (g.T.FileTree.content l.fn.tree) l.fn.dir ≡ true →
+      passed + length (climb (g.T.FileTree.content l.fn.tree) l.at) ≡ length (climb (g.T.FileTree.content l.fn.tree) l.fn.dir);
 }
 
 -- which gets shorter

@@ -7,7 +7,8 @@ use Rattle.pua_ever.proofs.openings.is_below.Given as goal
 abbrev pub invariant-loop-node : goal.invariant-loop-node
 invariant-loop-node g l = record {
   living : IsTrue (is_dir (g.T.FileTree.content l.fn.tree) l.at);
-  same : list_any (λ d. d == l.fn.node) (climb (g.T.FileTree.content l.fn.tree) l.at) ≡ list_any (λ d. d == l.fn.node) (climb (g.T.FileTree.content l.fn.tree) l.fn.dir);
+  same : list_any (λ d. d == l.fn.node) (climb (g.T.FileTree.content l.fn.tree) l.at) ≡ list_any (λ d. d == l.fn.node)
+      (climb (g.T.FileTree.content l.fn.tree) l.fn.dir);
 }
 
 abbrev pub decreases-loop-node : goal.decreases-loop-node

@@ -8,7 +8,10 @@ cover-requires g c = λ k.
     let t = g.T.FileTree.content c.args.tree.now in (
       (refl, tt),
       subst (λ u. FoundFits u c.found_in-found.result) (sym c.new.ensures.tree)
-          (subst (FoundFits t) (sym c.found_in-found.ensures) (row_fits t c.known.ensures (c.args.dir, c.args.name.now) c.args.node c.requires)),
+          (subst (FoundFits t) (sym c.found_in-found.ensures) (row_fits t c.known.ensures (
+            c.args.dir,
+            c.args.name.now,
+          ) c.args.node c.requires)),
     )
 
 pub returns : goal.returns

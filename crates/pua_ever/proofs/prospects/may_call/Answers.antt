@@ -8,5 +8,10 @@ use Rattle.pua_ever.proofs.prospects.may_call.Goals as goal
 
 pub returns : goal.returns
 returns c = λ h stands.
-    any_from_yields_List (λ edit. is_yes (may_any h (rule_of c.args.table.now edit).alternatives)) _ _ _ c.any.ensures.ran (YieldsList-from_slice edit_calls cc)
-    (λ x b q k. (search (rules, tests), let all : (h : History) → StandsFor c.args.process.now h → b ≡ is_yes (may_any h (rule_of c.args.table.now x.now).alternatives) = search (rules, tests) in all h stands))
+    any_from_yields_List (λ edit. is_yes (may_any h (rule_of c.args.table.now edit).alternatives)) _ _ _ c.any.ensures.ran
+    (YieldsList-from_slice edit_calls cc)
+    (λ x b q k. (
+      search (rules, tests),
+      let all : (h : History) → StandsFor c.args.process.now h →
+          b ≡ is_yes (may_any h (rule_of c.args.table.now x.now).alternatives) = search (rules, tests) in all h stands,
+    ))

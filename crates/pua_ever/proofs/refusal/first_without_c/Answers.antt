@@ -7,4 +7,5 @@ use Rattle.pua_ever.proofs.refusal.first_without_c.Goals as goal
 pub returns : goal.returns
 returns c =
     c.copied.ensures
-    ∙ find_from_yields_List (lacks_c c.args.table.now) _ _ c.find.result c.find.ensures.ran (YieldsList-from_slice changing_calls cc) (λ x b q k. search (rules, tests))
+    ∙ find_from_yields_List (lacks_c c.args.table.now) _ _ c.find.result c.find.ensures.ran (YieldsList-from_slice changing_calls cc)
+    (λ x b q k. search (rules, tests))

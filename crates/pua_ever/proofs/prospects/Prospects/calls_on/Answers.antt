@@ -35,7 +35,8 @@ returns-in-Name c = λ t h about well needs stands found fits on call.
     let dir = c.in-Name.field-0 in
     let name = c.in-Name.field-1.now in
     let same : At (Slot dir name (look t dir name)) ≡ about = sym (ap (subject_given t) c.in-Name.is) ∙ on.subject in
-    name_calls t well c.args.table.now h dir name (look t dir name) (subst (SubjectFits t) (sym same) fits) c.args.item.now.object c.args.item.now.cover c.on_name.result
+    name_calls t well c.args.table.now h dir name (look t dir name) (subst (SubjectFits t) (sym same) fits) c.args.item.now.object
+    c.args.item.now.cover c.on_name.result
     (on.object ∙ ap (object_on t) (sym same))
     (on.cover ∙ ap (cover_on t h) (sym same))
     (λ kind seen call. c.on_name.ensures t h kind stands found seen call)

@@ -9,7 +9,8 @@ use Rattle.pua_ever.proofs.prospects.Prospects.calls_on_freed.Goals as goal
 
 pub returns-in_default : goal.returns-in_default
 returns-in_default c = λ t h about well stands found fits on.
-    no_name t well c.args.table.now h (own_spot about) (c.in_default.ensures ∙ own_name_is t well c.args.table.now h about c.args.item.now fits on)
+    no_name t well c.args.table.now h (own_spot about) (c.in_default.ensures ∙
+    own_name_is t well c.args.table.now h about c.args.item.now fits on)
 
 pub returns-in_default-kept : goal.returns-in_default-kept
 returns-in_default-kept c = λ t h about well stands found fits on.
@@ -22,7 +23,8 @@ pub returns : goal.returns
 returns c = λ t h about well stands found fits on.
     let table = c.args.table.now in
     let item = c.args.item.now in
-    freed t well table h about (c.in-Some.own.0, c.in-Some.own.1.now) fits (c.in-Some.ensures ∙ own_name_is t well table h about item fits on) item.cover c.in-Some-kept.perms c.allowed.result
+    freed t well table h about (c.in-Some.own.0, c.in-Some.own.1.now) fits (c.in-Some.ensures ∙
+    own_name_is t well table h about item fits on) item.cover c.in-Some-kept.perms c.allowed.result
     on.cover
     (sym (c.in-Some-kept.ensures.history h stands))
     (and_from (may_edit table h) _ (sym found.edits ∙ c.if-not-self.false) (sym c.has_c.ensures ∙ c.if-not-has_c.false))
