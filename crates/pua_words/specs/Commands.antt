@@ -15,7 +15,8 @@ abbrev pub MayBeAsked : Processes → Type 0
 MayBeAsked (One process) = IsProcessNumber process
 MayBeAsked All = ⊤
 
--- an audit is asked of a process that may have been made, and so is a list for ever, a single request, and a list of objects unless it is asked of all
+-- an audit is asked of a process that may have been made, and so is a list for ever, a single request, and a list of
+-- objects unless it is asked of all
 abbrev pub AsksSoundly : Text → Type 0
 AsksSoundly Run = ⊤
 AsksSoundly RunWhy = ⊤
@@ -30,7 +31,8 @@ abbrev pub run_asked : Bool → Text
 run_asked false = Run
 run_asked true = RunWhy
 
--- the list that is asked for of these processes, of now or for ever, with reasons or without; all have no list for ever together, and a list for ever has no reasons
+-- the list that is asked for of these processes, of now or for ever, with reasons or without; all have no list for ever
+-- together, and a list for ever has no reasons
 abbrev pub list_asked : Bool → Bool → Processes → Option Text
 list_asked false false processes = Some (Objects (record { processes = processes }))
 list_asked false true processes = Some (ObjectsWhy (record { processes = processes }))

@@ -1,7 +1,8 @@
 //! The words of the command line, read by `clap`.
 
 ghost use Rattle.std.specs.Prelude.{◌≡◌, ◌↔◌, IfErr, IfOk, IfSome, Some, codes, map, option_map};
-ghost use Rattle.pua_words.specs.Commands.{MayBeAsked, AsksSoundly, IsProcessNumber, list_asked, run_asked};
+ghost use Rattle.pua_words.specs.Commands.{MayBeAsked, AsksSoundly, IsProcessNumber, list_asked};
+ghost use Rattle.pua_words.specs.Commands.{run_asked};
 ghost use Rattle.pua_words.specs.Usages.{IsStop, line_for};
 
 use crate::command::{AuditWords, Command, EverWords, ObjectWords, Processes, Text, WhyWords};
@@ -358,7 +359,8 @@ fn list_of<'a>(ever: bool, why: bool, processes: Processes) -> Option<Text<'a>>
 /// The process of a number, or all; None for any other text.
 fn read_processes(text: Option<&str>) -> Option<Processes>
     ensures sound { IfSome result MayBeAsked }
-    ensures all { (result ≡ Some Processes.All) ↔ (option_map (λ s. s.now) text.entry ≡ Some (codes "all")) }
+    ensures all { (result ≡ Some Processes.All) ↔ (option_map (λ s. s.now) text.entry
+        ≡ Some (codes "all")) }
 {
     match text {
         Some("all") => Some(Processes::All),
@@ -425,7 +427,8 @@ fn read_base(text: Option<&str>) -> Base
 
 /// The rules of this name, which are those of the profile where none are named.
 fn read_rules(text: Option<&str>) -> Rules
-    ensures { (result ≡ Rules.Openbsd) ↔ (option_map (λ s. s.now) text.entry ≡ Some (codes "openbsd")) }
+    ensures { (result ≡ Rules.Openbsd) ↔ (option_map (λ s. s.now) text.entry
+        ≡ Some (codes "openbsd")) }
 {
     match text {
         Some("openbsd") => Rules::Openbsd,
