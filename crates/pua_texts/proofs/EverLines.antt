@@ -22,26 +22,33 @@ use Rattle.pua_texts.specs.Lines.{with_end}
 -- the line of a thing, by what the code gives of it
 abbrev pub text_given : given.EverLine → List (Bor (List ℕ)) → List ℕ
 text_given given names =
-    with_end (kind_word (kind_of given.thing) ++ 32 ∷ path_or_new given.thing (map (λ name. name.now) names) ++ 32 ∷ with_commas (map call_name (calls_in given.calls)))
+    with_end (kind_word (kind_of given.thing) ++ 32 ∷ path_or_new given.thing (map (λ name. name.now) names) ++ 32
+    ∷ with_commas (map call_name (calls_in given.calls)))
 
-given_text : (t : Tree) (about : Thing) (thing : EverThing) (word : Word) → IsThing t about thing → thing_text t word about ≡ kind_word (kind_of thing) ++ 32 ∷ path_or_new thing word
+given_text : (t : Tree) (about : Thing) (thing : EverThing) (word : Word) → IsThing t about thing →
+    thing_text t word about ≡ kind_word (kind_of thing) ++ 32 ∷ path_or_new thing word
 given_text t (Stands subject) (told.Stands kind) word is = ap (λ k. k ++ 32 ∷ printed_path Root word) (sym is)
 given_text t (Comes new) (told.Comes kind) word is = ap (λ k. k ++ 32 ∷ codes "new") (sym is)
 given_text t (Stands subject) (told.Comes kind) word is = absurd is
 given_text t (Comes new) (told.Stands kind) word is = absurd is
 
 -- the line that a list gives stands before those that it has still to give
-pub line_next : (t u : Tree) (a b : CallTable) (p q : ProcessState) (h : History) (old new : List Left) (word : Word) (given : given.EverLine) (names : List (Bor (List ℕ)))
+pub line_next : (t u : Tree) (a b : CallTable) (p q : ProcessState) (h : History) (old new : List Left) (word : Word)
+    (given : given.EverLine) (names : List (Bor (List ℕ)))
     → t ≡ u → a ≡ b → p ≡ q → StandsFor q h → IsEverListed t a p old new word given → map (λ name. name.now) names ≡ word
     → ever_lines u (ever_lines_of u b h old) ≡ text_given given names ++ ever_lines u (ever_lines_of u b h new)
 line_next t u a b p q h old new word given names same equal alike stands listed is =
     subst (λ (v : Tree). ever_lines v (ever_lines_of v b h old) ≡ text_given given names ++ ever_lines v (ever_lines_of v b h new)) same
-    (subst (λ (c : CallTable). ever_lines t (ever_lines_of t c h old) ≡ text_given given names ++ ever_lines t (ever_lines_of t c h new)) equal
+    (subst (λ (c : CallTable). ever_lines t (ever_lines_of t c h old) ≡ text_given given names ++ ever_lines t (ever_lines_of t c h new))
+    equal
     (ap (ever_lines t) (listed.lines h (subst (λ (r : ProcessState). StandsFor r h) (sym alike) stands))
-    ∙ ap (λ text. with_end (text ++ 32 ∷ with_commas (map call_name (calls_in given.calls))) ++ ever_lines t (ever_lines_of t a h new)) (given_text t listed.about given.thing word listed.thing)
-    ∙ ap (λ (w : Word). with_end (kind_word (kind_of given.thing) ++ 32 ∷ path_or_new given.thing w ++ 32 ∷ with_commas (map call_name (calls_in given.calls))) ++ ever_lines t (ever_lines_of t a h new)) (sym is)))
+    ∙ ap (λ text. with_end (text ++ 32 ∷ with_commas (map call_name (calls_in given.calls))) ++ ever_lines t (ever_lines_of t a h new))
+    (given_text t listed.about given.thing word listed.thing)
+    ∙ ap (λ (w : Word). with_end (kind_word (kind_of given.thing) ++ 32 ∷ path_or_new given.thing w ++ 32
+    ∷ with_commas (map call_name (calls_in given.calls))) ++ ever_lines t (ever_lines_of t a h new)) (sym is)))
 
-pub no_line : (t u : Tree) (a b : CallTable) (p q : ProcessState) (h : History) (left : List Left) → t ≡ u → a ≡ b → p ≡ q → StandsFor q h → HasNoEverLine t a p left → ever_lines u (ever_lines_of u b h left) ≡ []
+pub no_line : (t u : Tree) (a b : CallTable) (p q : ProcessState) (h : History) (left : List Left) → t ≡ u → a ≡ b → p ≡ q → StandsFor q h →
+    HasNoEverLine t a p left → ever_lines u (ever_lines_of u b h left) ≡ []
 no_line t u a b p q h left same equal alike stands none =
     subst (λ (v : Tree). ever_lines v (ever_lines_of v b h left) ≡ []) same
     (subst (λ (c : CallTable). ever_lines t (ever_lines_of t c h left) ≡ []) equal

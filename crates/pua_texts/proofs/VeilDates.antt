@@ -1,10 +1,12 @@
 -- Since which lines the veils of a process have their letters.
-use Rattle.std.proofs.Common.{◌≡◌, ℕ, ◌+◌, ◌<◌, List, [], ◌∷◌, ◌++◌, Bool, true, false, cond, map, take, drop, length, get_or, min, refl, sym, ap, ◌∙◌, subst, arith}
+use Rattle.std.proofs.Common.{◌≡◌, ℕ, ◌+◌, ◌<◌, List, [], ◌∷◌, ◌++◌, Bool, true, false, cond, map, take, drop, length, get_or, min, refl}
+use Rattle.std.proofs.Common.{sym, ap, ◌∙◌, subst, arith}
 use Rattle.std.specs.Prelude.{⊤, Option, Some, None, flat_map}
 use Rattle.std.specs.Option.{option_map_or}
 use Rattle.std.proofs.lemmas.List.{drop_more, length-append, length-map, map-append}
 use Rattle.std.proofs.Math.Seq.{take-append_seam, drop-append_seam}
-use Rattle.pua_policy.specs.History.{History, Pledged, Unveiled, Locked, Moved, Ended, ProcessState, StandsFor, perms_kept, same_place, veil_at, veils, with_veil}
+use Rattle.pua_policy.specs.History.{History, Pledged, Unveiled, Locked, Moved, Ended, ProcessState, StandsFor, perms_kept, same_place}
+use Rattle.pua_policy.specs.History.{veil_at, veils, with_veil}
 use Rattle.pua_policy.specs.declared.place.Place.{Place}
 use Rattle.pua_policy.proofs.ForCallers.{veils_are_kept, same_place_is, same_place_refl, still_unveiled, same_place_turned}
 use Rattle.pua_script.specs.Replay.{history_of}
@@ -23,10 +25,11 @@ AreApart (veil ∷ vs) = (veil_at vs veil.0 ≡ None) × AreApart vs
 
 apart_with : (place : Place) (perms : ℕ) (vs : List (Place × ℕ)) → AreApart vs → AreApart (with_veil place perms vs)
 apart_with place perms [] apart = (refl, tt)
-apart_with place perms (v ∷ vs) apart = elim (same_place place v.0) as (λ here. same_place place v.0 ≡ here → AreApart (cond here ((v.0, perms) ∷ vs) (v ∷ with_veil place perms vs))) [
-  | true ↦ λ is. apart
-  | false ↦ λ is. (still_unveiled place perms vs v.0 (same_place_turned v.0 place ∙ is) apart.0, apart_with place perms vs apart.1)
-] refl
+apart_with place perms (v ∷ vs) apart = elim (same_place place v.0) as (λ here. same_place place v.0 ≡ here →
+    AreApart (cond here ((v.0, perms) ∷ vs) (v ∷ with_veil place perms vs))) [
+      | true ↦ λ is. apart
+      | false ↦ λ is. (still_unveiled place perms vs v.0 (same_place_turned v.0 place ∙ is) apart.0, apart_with place perms vs apart.1)
+    ] refl
 
 veils_apart : (h : History) → AreApart (veils h)
 veils_apart [] = tt
@@ -53,11 +56,14 @@ each_at : (vs : List (Place × ℕ)) → AreApart vs → AreAt (veil_at vs) vs
 each_at [] apart = tt
 each_at (v ∷ vs) apart = (ap (λ b. cond b (Some v.1) (veil_at vs v.0)) (same_place_refl v.0), behind v vs vs apart.0 (each_at vs apart.1))
 
-module _ (p : Posed) (process : ℕ) (state : ProcessState) (h : History) (is : history_of (world_left p) process ≡ Some h) (stands : StandsFor state h) where
+module _ (p : Posed) (process : ℕ) (state : ProcessState) (h : History) (is : history_of (world_left p) process ≡ Some h)
+    (stands : StandsFor state h) where
   at_place : (place : Place) → kept_in (world_left p) process place ≡ veil_at state.veils place
-  at_place place = ap (λ o. option_map_or (λ h. perms_kept h place) o None) is ∙ sym (veils_are_kept h place) ∙ ap (λ vs. veil_at vs place) (sym stands.veils)
+  at_place place = ap (λ o. option_map_or (λ h. perms_kept h place) o None) is ∙ sym (veils_are_kept h place) ∙
+      ap (λ vs. veil_at vs place) (sym stands.veils)
 
-  each_dated : (us : List (Place × ℕ)) → AreAt (veil_at state.veils) us → map (veil_date p.table p.world p.asks) (map (λ veil. (process, veil.0)) us) ≡ veil_dates p process us
+  each_dated : (us : List (Place × ℕ)) → AreAt (veil_at state.veils) us →
+      map (veil_date p.table p.world p.asks) (map (λ veil. (process, veil.0)) us) ≡ veil_dates p process us
   each_dated [] are = refl
   each_dated (u ∷ us) are = λ i. (ap (letters_date p.table p.world p.asks process u.0) (at_place u.0 ∙ are.0)) i ∷ each_dated us are.1 i
 
@@ -92,13 +98,17 @@ module _ (p : Posed) (s : WorldState) (numbers : List ℕ) (i d : ℕ) (within :
       ∙ ap (λ o. map (veil_date p.table p.world p.asks) (veils_of (get_or numbers i d) o) ++ dates (drop (i + 1) numbers)) is
 
   -- a number that was never made has none
-  pub none_dated : process_at s (get_or numbers i d) ≡ None → left ≡ map (veil_date p.table p.world p.asks) (flat_map (veils_at s) (drop i numbers))
+  pub none_dated : process_at s (get_or numbers i d) ≡ None →
+      left ≡ map (veil_date p.table p.world p.asks) (flat_map (veils_at s) (drop i numbers))
       → left ≡ map (veil_date p.table p.world p.asks) (flat_map (veils_at s) (drop (i + 1) numbers))
   none_dated is dated = by_number None is dated
 
   -- those of a process stand before those of the others
-  pub some_dated : (state : ProcessState) (h : History) → process_at s (get_or numbers i d) ≡ Some state → history_of (world_left p) (get_or numbers i d) ≡ Some h → StandsFor state h
+  pub some_dated : (state : ProcessState) (h : History) → process_at s (get_or numbers i d) ≡ Some state →
+      history_of (world_left p) (get_or numbers i d) ≡ Some h → StandsFor state h
       → left ≡ map (veil_date p.table p.world p.asks) (flat_map (veils_at s) (drop i numbers))
-      → left ≡ veil_dates p (get_or numbers i d) state.veils ++ map (veil_date p.table p.world p.asks) (flat_map (veils_at s) (drop (i + 1) numbers))
+      → left ≡ veil_dates p (get_or numbers i d) state.veils ++ map (veil_date p.table p.world p.asks)
+      (flat_map (veils_at s) (drop (i + 1) numbers))
   some_dated state h is made stands dated =
-      by_number (Some state) is dated ∙ ap (λ own. own ++ dates (drop (i + 1) numbers)) (dates_are p (get_or numbers i d) state h made stands)
+      by_number (Some state) is dated ∙
+      ap (λ own. own ++ dates (drop (i + 1) numbers)) (dates_are p (get_or numbers i d) state h made stands)

@@ -8,4 +8,5 @@ returns-clause-name c =
     let name : List ℕ = call_name c.args.call in
     c.truncate.ensures
     ∙ ap (take _) c.push.ensures
-    ∙ name_kept _ c.args.block.now c.padded_name-padded.result.now name (omega (arith, c.len.ensures, ap length c.name.ensures)) c.padded_name-padded.ensures.name
+    ∙ name_kept _ c.args.block.now c.padded_name-padded.result.now name (omega (arith, c.len.ensures, ap length c.name.ensures))
+    c.padded_name-padded.ensures.name

@@ -11,4 +11,5 @@ returns c =
     let many : length (with_end (32 ∷ name)) ≡ length name + 2 = omega (arith, length-append name (10 ∷ [])) in
     c.truncate.ensures
     ∙ ap (take _) c.push.ensures
-    ∙ name_kept _ c.args.block.now padded (with_end (32 ∷ name)) (omega (arith, c.len.ensures, ap length c.name.ensures)) (ap (λ k. take k padded) many ∙ c.padded_end-padded.ensures.end)
+    ∙ name_kept _ c.args.block.now padded (with_end (32 ∷ name)) (omega (arith, c.len.ensures, ap length c.name.ensures))
+    (ap (λ k. take k padded) many ∙ c.padded_end-padded.ensures.end)

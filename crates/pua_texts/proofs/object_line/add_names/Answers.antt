@@ -23,7 +23,8 @@ loop-call-preserved c =
       })
       | else-contains w ↦ rw (w.block-is, w.is_first-is) (record {
         short = omega (arith, c.loop-call.invariant.short);
-        names = ap (λ t. block ++ t) (sym (call_left set before i c.loop-call-test.true (sym c.contains.ensures ∙ w.if-contains.false))) ∙ c.loop-call.invariant.names;
+        names = ap (λ t. block ++ t) (sym (call_left set before i c.loop-call-test.true (sym c.contains.ensures ∙ w.if-contains.false))) ∙
+            c.loop-call.invariant.names;
       })
     ]
 

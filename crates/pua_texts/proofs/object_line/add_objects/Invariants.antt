@@ -13,7 +13,9 @@ invariant-loop-line g l = record {
   process : l.list.process ≡ l.fn.list.process;
   table : l.list.table ≡ l.fn.list.table;
   kept : IsKept l.list.word l.path;
-  lines : (h : History) → StandsFor l.fn.list.process h → Passing (object_lines l.fn.list.tree (lines_of l.fn.list.tree l.fn.list.table h l.fn.list.left)) (object_lines l.fn.list.tree (lines_of l.fn.list.tree l.fn.list.table h l.list.left))
+  lines : (h : History) → StandsFor l.fn.list.process h →
+      Passing (object_lines l.fn.list.tree (lines_of l.fn.list.tree l.fn.list.table h l.fn.list.left))
+      (object_lines l.fn.list.tree (lines_of l.fn.list.tree l.fn.list.table h l.list.left))
       l.fn.block l.block (g.S.Sink.written l.fn.sink) (g.S.Sink.written l.sink) (g.S.Sink.failed l.fn.sink) (g.S.Sink.failed l.sink);
 }
 

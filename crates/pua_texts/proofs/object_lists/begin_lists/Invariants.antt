@@ -6,4 +6,5 @@ use Rattle.pua_texts.proofs.object_lists.begin_lists.Given as goal
 
 -- the lists so far are those of the numbers so far
 abbrev pub invariant-loop-number : goal.invariant-loop-number
-invariant-loop-number g l = (w : World) → StandsForWorld l.fn.world w → AreProcessLists l.fn.world.table w (take l.number-index l.numbers) l.lists.items
+invariant-loop-number g l = (w : World) → StandsForWorld l.fn.world w →
+    AreProcessLists l.fn.world.table w (take l.number-index l.numbers) l.lists.items

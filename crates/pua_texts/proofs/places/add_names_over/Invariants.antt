@@ -9,5 +9,6 @@ abbrev pub invariant-loop : goal.invariant-loop
 invariant-loop l = record {
   room : vec_capacity l.names ≡ vec_capacity l.fn.names;
   count : vec_len l.names ≡ vec_len l.fn.names + l.counter;
-  names : (t : Tree) → map lent_entry l.rows ≡ t.rows → map (λ name. name.now) l.names.items ++ names_up (length l.rows - l.counter) t l.at ≡ map (λ name. name.now) l.fn.names.items ++ names_up (length l.rows) t l.fn.dir;
+  names : (t : Tree) → map lent_entry l.rows ≡ t.rows → map (λ name. name.now) l.names.items ++ names_up (length l.rows - l.counter) t l.at
+      ≡ map (λ name. name.now) l.fn.names.items ++ names_up (length l.rows) t l.fn.dir;
 }

@@ -14,4 +14,5 @@ loop-name-preserved c =
 
 pub returns : goal.returns
 returns c =
-    sym (c.loop-name.invariant ∙ joined_done (string_bytes c.loop-name.text) (if c.loop-name.is_first then [] else 44 ∷ []) c.args.names.now c.loop-name.name-index (omega (arith, c.loop-name-test.false)))
+    sym (c.loop-name.invariant ∙ joined_done (string_bytes c.loop-name.text) (if c.loop-name.is_first then [] else 44 ∷ []) c.args.names.now
+    c.loop-name.name-index (omega (arith, c.loop-name-test.false)))

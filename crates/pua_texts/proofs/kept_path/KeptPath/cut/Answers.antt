@@ -17,4 +17,9 @@ returns-then-count-len c = λ old new kept short same.
 
 pub returns-else-count-len : goal.returns-else-count-len
 returns-else-count-len c = λ old new kept short same.
-    all_kept old new c.args.count c.args.self.now kept (omega (arith, c.len.ensures, ap (λ (s : KeptPathState). length s.starts) c.self.view_is, c.if-count-len.false)) short same
+    all_kept old new c.args.count c.args.self.now kept (omega (
+      arith,
+      c.len.ensures,
+      ap (λ (s : KeptPathState). length s.starts) c.self.view_is,
+      c.if-count-len.false,
+    )) short same
