@@ -1,5 +1,6 @@
 -- What a list says of the state of a process: its promises, whether it may put veils, and its veils with where their places stand.
-use Rattle.std.specs.Prelude.{◌↔◌, ◌⊎◌, ◌≡◌, ℕ, zero, suc, Bool, if◌then◌else◌, List, [], ◌∷◌, ◌++◌, flat_map, length, reverse, Option, Some, None, codes, decimal}
+use Rattle.std.specs.Prelude.{◌↔◌, ◌⊎◌, ◌≡◌, ℕ, zero, suc, Bool, if◌then◌else◌, List, [], ◌∷◌, ◌++◌, flat_map, length, reverse, Option}
+use Rattle.std.specs.Prelude.{Some, None, codes, decimal}
 use Rattle.std.specs.Option.{option_map_or}
 use Rattle.pua_tree.specs.Tree.{Tree, is_dir, spot_of}
 use Rattle.pua_calls.specs.Promises.{holds, unveil, keywords_of, perm_letters}

@@ -11,5 +11,6 @@ abbrev pub invariant-loop-veil : goal.invariant-loop-veil
 invariant-loop-veil l = record {
   rows : l.paths.rows ≡ l.fn.paths.rows;
   count : vec_len l.columns ≡ l.veil-index;
-  columns : (p : Posed) (number : ℕ) → l.fn.paths.rows ≡ (world_left p).tree.rows → l.lines ≡ veil_dates p number (map shown l.veils) → map veil_state l.columns.items ≡ veils_behind p number (map shown (take l.veil-index l.veils));
+  columns : (p : Posed) (number : ℕ) → l.fn.paths.rows ≡ (world_left p).tree.rows → l.lines ≡ veil_dates p number (map shown l.veils) →
+      map veil_state l.columns.items ≡ veils_behind p number (map shown (take l.veil-index l.veils));
 }

@@ -18,7 +18,8 @@ loop-number-preserved-in_default g c = λ p stands ruled dated.
     let now = c.loop-number.invariant p stands ruled dated in (
       none_dated p c.args.world.now numbers i _ c.loop-number-test.true c.loop-number.left.now (sym c.in_default.ensures.state) now.0,
       subst (λ (ns : List ℕ). AreWhyListsOf p ns c.loop-number.lists.items) (sym (take_more numbers i _ c.loop-number-test.true))
-          (none_more (history_of (world_left p)) (IsWhyListOf p) (take i numbers) c.loop-number.lists.items _ now.1 (none_made (history_of (world_left p) _) (c.in_default.ensures.history (world_left p) stands))),
+          (none_more (history_of (world_left p)) (IsWhyListOf p) (take i numbers) c.loop-number.lists.items _ now.1
+          (none_made (history_of (world_left p) _) (c.in_default.ensures.history (world_left p) stands))),
     )
 
 pub loop-number-preserved : goal.loop-number-preserved
@@ -32,15 +33,20 @@ loop-number-preserved g c = λ p stands ruled dated.
     let number = get_or numbers i 0 in
     let own : List (Option ℕ) = veil_dates p number process.veils in
     let rest = map (veil_date p.table p.world p.asks) (flat_map (veils_at c.args.world.now) (drop (i + 1) numbers)) in
-    let is : left ≡ own ++ rest = some_dated p c.args.world.now numbers i _ c.loop-number-test.true left process made.history (sym c.in-Some.ensures.state) made.is made.stands now.0 in
+    let is : left ≡ own ++ rest =
+    some_dated p c.args.world.now numbers i _ c.loop-number-test.true left process made.history (sym c.in-Some.ensures.state) made.is
+    made.stands now.0 in
     let split = c.in_ok-own.ensures own rest (length_dates p number process.veils) is in
     let pushed = c.in_ok-push_list.ensures p made.history stands ruled made.stands split.0 in (
       split.1,
       subst (λ (lists : List WhyListState). AreWhyListsOf p (take (i + 1) numbers) lists) (sym pushed.items)
-          (subst (λ (ns : List ℕ). AreWhyListsOf p ns (c.loop-number.lists.items ++ pushed.list ∷ [])) (sym (take_more numbers i _ c.loop-number-test.true))
-          (one_more (history_of (world_left p)) (IsWhyListOf p) (take i numbers) c.loop-number.lists.items _ made.history pushed.list now.1 made.is pushed.is)),
+          (subst (λ (ns : List ℕ). AreWhyListsOf p ns (c.loop-number.lists.items ++ pushed.list ∷ []))
+          (sym (take_more numbers i _ c.loop-number-test.true))
+          (one_more (history_of (world_left p)) (IsWhyListOf p) (take i numbers) c.loop-number.lists.items _ made.history pushed.list now.1
+          made.is pushed.is)),
     )
 
 pub returns : goal.returns
 returns g c = λ p stands ruled dated.
-    subst (λ (ns : List ℕ). AreWhyListsOf p ns c.loop-number.lists.items) (take_all c.loop-number.number-index c.args.numbers.now (omega (arith, c.loop-number-test.false))) (c.loop-number.invariant p stands ruled dated).1
+    subst (λ (ns : List ℕ). AreWhyListsOf p ns c.loop-number.lists.items) (take_all c.loop-number.number-index c.args.numbers.now
+    (omega (arith, c.loop-number-test.false))) (c.loop-number.invariant p stands ruled dated).1

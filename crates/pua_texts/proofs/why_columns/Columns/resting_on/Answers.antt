@@ -17,13 +17,17 @@ loop-call-preserved g c =
     let i = c.loop-call.call-index in
     let set = c.args.calls in
     let table = c.args.self.now.table in
-    let own = λ (h : History) (call : Call). ap (λ (s : ColumnsState). let_by (promising h (rule_of s.table call).alternatives)) c.self.view_is in
+    let own = λ (h : History) (call : Call). ap (λ (s : ColumnsState). let_by (promising h (rule_of s.table call).alternatives))
+    c.self.view_is in
     elim c.if-contains.branch [
       | then-contains w ↦ rw w.resting-is (λ h stands.
           ap (λ r. bit_or r (resting_on table h (filter (has set) (drop (i + 1) calls)))) w.union-resting.ensures
-          ∙ sym (rest_taken table h set c.loop-call.resting w.let_by.result i c.loop-call-test.true (sym c.contains.ensures ∙ w.if-contains.true) (w.let_by.ensures h stands ∙ own h (get_or calls i Stat)))
+          ∙ sym (rest_taken table h set c.loop-call.resting w.let_by.result i c.loop-call-test.true (sym c.contains.ensures ∙
+          w.if-contains.true) (w.let_by.ensures h stands ∙ own h (get_or calls i Stat)))
           ∙ c.loop-call.invariant h stands)
-      | else-contains w ↦ rw w.resting-is (λ h stands. sym (rest_passed table h set c.loop-call.resting i c.loop-call-test.true (sym c.contains.ensures ∙ w.if-contains.false)) ∙ c.loop-call.invariant h stands)
+      | else-contains w ↦ rw w.resting-is
+          (λ h stands. sym (rest_passed table h set c.loop-call.resting i c.loop-call-test.true (sym c.contains.ensures ∙
+          w.if-contains.false)) ∙ c.loop-call.invariant h stands)
     ]
 
 pub returns : goal.returns
