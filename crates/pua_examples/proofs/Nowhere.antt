@@ -9,7 +9,8 @@ use Rattle.pua_policy.specs.declared.answer.Verdict.TheVariants.{Allowed}
 use Rattle.pua_objects.specs.Objects.{objects}
 use Rattle.pua_objects.specs.Laws.{Complete}
 
-pub nowhere : Complete → (t : Tree) (table : CallTable) (h : History) → WellFormed t → objects t table h ≡ [] → (call : Call) (text : List ℕ) → verdict_on t table h call text ≢ Allowed
+pub nowhere : Complete → (t : Tree) (table : CallTable) (h : History) → WellFormed t → objects t table h ≡ [] →
+    (call : Call) (text : List ℕ) → verdict_on t table h call text ≢ Allowed
 nowhere complete t table h tree none call text allowed =
     let listed = complete t table h (working_dir h) call text tree allowed in
     omega (arith, listed.listed.1, ap length none)

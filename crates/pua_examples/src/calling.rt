@@ -1,7 +1,8 @@
 //! A caller of each library, from a listing and a script to what a process can still do. The page for
 //! callers, docs/CALLING.md, goes through these functions.
 
-ghost use Rattle.std.specs.Prelude.{◌≡◌, ◌≢◌, ℕ, List, [], Some, None, Ok, Err, IfOk, IfErr, IsTrue, IsFalse, nat_eq};
+ghost use Rattle.std.specs.Prelude.{◌≡◌, ◌≢◌, ℕ, List, [], Some, None, Ok, Err, IfOk, IfErr};
+ghost use Rattle.std.specs.Prelude.{IsTrue, IsFalse, nat_eq};
 ghost use Rattle.std.specs.List.{list_any};
 ghost use Rattle.pua_tree.specs.Listing.{listing};
 ghost use Rattle.pua_path.specs.Fits.{FoundsFit};
@@ -129,7 +130,8 @@ pub(crate) fn is_reached<T: FileTree>(
     limit: u8,
     call: Call,
 ) -> Result<bool, AuditFault>
-    ensures reached { IfOk result (λ reached. (h : History) → StandsFor process.now h → (b : Beginning)
+    ensures reached { IfOk result (λ reached. (h : History) → StandsFor process.now h →
+        (b : Beginning)
         × (beginning (T.content tree.now) table.now h Root [] limit None ≡ Ok b)
         × (reached ≡ list_any (λ pair. nat_eq (call_number pair.1) (call_number call))
         (still_to_come b))) }

@@ -40,7 +40,8 @@ module _ (rules : CallTable) (t : Tree) (asks : List Asked) (wanted : Wanted) wh
   stands_in : (audit : AuditState) (a : IsAuditedOver rules t asks wanted audit) → StandsForWorld a.after left_by
   stands_in audit a = left_by_same a.run.before.table rules (new_world t) asks a.run.table (a.run.served (new_world t) a.run.new).1
 
-  process_in : (audit : AuditState) (a : IsAuditedOver rules t asks wanted audit) → StandsAt (Some a.process) (history_of left_by wanted.process)
+  process_in : (audit : AuditState) (a : IsAuditedOver rules t asks wanted audit) →
+      StandsAt (Some a.process) (history_of left_by wanted.process)
   process_in audit a =
       subst (λ kept. StandsAt kept (history_of left_by wanted.process)) a.there ((stands_in audit a).processes wanted.process)
 

@@ -5,22 +5,26 @@ use Rattle.pua_tree.specs.Steps.{◌>>=◌}
 use Rattle.pua_policy.specs.History.{History}
 use Rattle.pua_script.specs.Replay.{history_of}
 use Rattle.pua_audit.specs.Begin.{Beginning}
-use Rattle.pua_tool.specs.Texts.{Chosen, Wanted, Replayed, as_audit, beginning_of, replay_of, audit_start, begun_after, audit_after, audit_text, text_of}
+use Rattle.pua_tool.specs.Texts.{Chosen, Wanted, Replayed, as_audit, beginning_of, replay_of, audit_start, begun_after, audit_after}
+use Rattle.pua_tool.specs.Texts.{audit_text, text_of}
 use Rattle.pua_tool.specs.EverTexts.{Answers}
 use Rattle.pua_tool.specs.declared.fault.ToolFault.{ToolFault}
 use Rattle.pua_tool.specs.declared.fault.ToolFault.TheVariants.{NoProcess}
 
 module _ (choice : Chosen) (tree_bytes script_bytes : List ℕ) (wanted : Wanted) where
-  pub audit_is : (done : Replayed) → replay_of choice tree_bytes script_bytes ≡ Ok done → audit_text choice tree_bytes script_bytes wanted ≡ audit_after done wanted
+  pub audit_is : (done : Replayed) → replay_of choice tree_bytes script_bytes ≡ Ok done →
+      audit_text choice tree_bytes script_bytes wanted ≡ audit_after done wanted
   unfolding audit_start
   audit_is done r = λ i. (r i >>= λ done. begun_after done wanted) >>= λ b. Ok (text_of wanted b)
 
   -- what refuses the replay comes first
-  pub replay_refuses : (fault : ToolFault) → replay_of choice tree_bytes script_bytes ≡ Err fault → audit_text choice tree_bytes script_bytes wanted ≡ Err fault
+  pub replay_refuses : (fault : ToolFault) → replay_of choice tree_bytes script_bytes ≡ Err fault →
+      audit_text choice tree_bytes script_bytes wanted ≡ Err fault
   unfolding audit_start
   replay_refuses fault r = λ i. (r i >>= λ done. begun_after done wanted) >>= λ b. Ok (text_of wanted b)
 
-  pub replay_answers : (done : Replayed) (r : Result (Unit {0}) ToolFault) (a b : Option (List ℕ)) (n m : ℕ) → replay_of choice tree_bytes script_bytes ≡ Ok done
+  pub replay_answers : (done : Replayed) (r : Result (Unit {0}) ToolFault) (a b : Option (List ℕ)) (n m : ℕ) →
+      replay_of choice tree_bytes script_bytes ≡ Ok done
       → Answers (audit_after done wanted) r a b n m → Answers (audit_text choice tree_bytes script_bytes wanted) r a b n m
   replay_answers done r a b n m is = subst (λ (answer : Result (List ℕ) ToolFault). Answers answer r a b n m) (sym (audit_is done is))
 
@@ -30,7 +34,8 @@ module _ (done : Replayed) (wanted : Wanted) where
 
   abbrev after_by : Option History → Result (List ℕ) ToolFault
   after_by made =
-      (ok_or made NoProcess >>= λ h. as_audit (beginning_of done.world.tree done.table h wanted) >>= λ b. Ok (record { answers = done.answers; beginning = b }))
+      (ok_or made NoProcess >>= λ h. as_audit (beginning_of done.world.tree done.table h wanted) >>= λ b. Ok
+      (record { answers = done.answers; beginning = b }))
       >>= λ b. Ok (text_of wanted b)
 
   -- the text of the audit that begins

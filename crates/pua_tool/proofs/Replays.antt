@@ -13,16 +13,19 @@ use Rattle.pua_tool.specs.Texts.{Chosen, Replayed, as_listing, as_script, table_
 use Rattle.pua_tool.specs.declared.fault.ToolFault.{ToolFault}
 
 -- a world that stands for what one table leaves stands for what the same table leaves
-pub left_by_same : {state : WorldState} (a b : CallTable) (w : World) (asks : List Asked) → a ≡ b → StandsForWorld state (world_after a w asks) → StandsForWorld state (world_after b w asks)
+pub left_by_same : {state : WorldState} (a b : CallTable) (w : World) (asks : List Asked) → a ≡ b →
+    StandsForWorld state (world_after a w asks) → StandsForWorld state (world_after b w asks)
 left_by_same {state} a b w asks same = subst (λ (t : CallTable). StandsForWorld state (world_after t w asks)) same
 
 module _ (choice : Chosen) (tree_bytes script_bytes : List ℕ) where
   abbrev left_by : CallTable → Tree → List Asked → Replayed
-  left_by table t asks = record { table = table; answers = answers_to table (new_world t) asks; world = world_after table (new_world t) asks }
+  left_by table t asks =
+      record { table = table; answers = answers_to table (new_world t) asks; world = world_after table (new_world t) asks }
 
   pub replayed_is : (table : CallTable) (t : Tree) (asks : List Asked)
       → table_by choice ≡ Ok table → as_listing (listing tree_bytes) ≡ Ok t → as_script (script script_bytes) ≡ Ok asks
-      → replay_of choice tree_bytes script_bytes ≡ Ok (record { table = table; answers = answers_to table (new_world t) asks; world = world_after table (new_world t) asks })
+      → replay_of choice tree_bytes script_bytes
+      ≡ Ok (record { table = table; answers = answers_to table (new_world t) asks; world = world_after table (new_world t) asks })
   unfolding replay_of
   replayed_is table t asks b l s = λ i. b i >>= λ table. l i >>= λ t. s i >>= λ asks. Ok (left_by table t asks)
 

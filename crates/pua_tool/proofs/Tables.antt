@@ -9,7 +9,8 @@ use Rattle.pua_calls.proofs.ForCallers.{texts_need_no_error}
 use Rattle.pua_script.proofs.ForCallers.{rules_narrow}
 use Rattle.pua_tool.specs.Texts.{Chosen, as_table, table_by, with_rows}
 
-rows_need_no_error : (base : CallTable) → NoCallNeedsError base → (rows : Option (List ℕ)) (table : CallTable) → with_rows base rows ≡ Ok table → NoCallNeedsError table
+rows_need_no_error : (base : CallTable) → NoCallNeedsError base → (rows : Option (List ℕ)) (table : CallTable) →
+    with_rows base rows ≡ Ok table → NoCallNeedsError table
 rows_need_no_error base sound None table is = subst NoCallNeedsError same sound
   where
     same : base ≡ table
@@ -23,4 +24,5 @@ rows_need_no_error base sound (Some text) table is = by (table_over base text) r
     by (Err fault) reads is = cc
 
 pub tables_need_no_error : (choice : Chosen) (table : CallTable) → table_by choice ≡ Ok table → NoCallNeedsError table
-tables_need_no_error choice table is = rows_need_no_error (table_by_rules choice.rules) (rules_narrow choice.rules).error choice.rows table is
+tables_need_no_error choice table is = rows_need_no_error (table_by_rules choice.rules) (rules_narrow choice.rules).error choice.rows table
+    is

@@ -38,4 +38,5 @@ AnswersAlike t u = (rules : CallTable) (asks : List Asked) (answers said : List 
 -- and so are the lines of an audit
 abbrev pub LinesAlike : Tree → Tree → Type 0
 LinesAlike t u = (rules : CallTable) (asks : List Asked) (wanted : Wanted) (audit other : AuditState) →
-    IsAuditedOver rules t asks wanted audit → IsAuditedOver rules u asks wanted other → pair_lines audit.base audit.left ≡ pair_lines other.base other.left
+    IsAuditedOver rules t asks wanted audit → IsAuditedOver rules u asks wanted other →
+    pair_lines audit.base audit.left ≡ pair_lines other.base other.left

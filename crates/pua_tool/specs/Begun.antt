@@ -16,4 +16,5 @@ pub record IsReplay (replay : Replay) (done : Replayed) : Type 0 where
 
 -- the replay of these requests over a tree, by a table
 abbrev pub replay_by : CallTable → Tree → List Asked → Replayed
-replay_by table t asks = record { table = table; answers = answers_to table (new_world t) asks; world = world_after table (new_world t) asks }
+replay_by table t asks =
+    record { table = table; answers = answers_to table (new_world t) asks; world = world_after table (new_world t) asks }

@@ -25,7 +25,8 @@ objects_after table answers w numbers = answer_lines 1 answers ++ lists_of table
 abbrev pub lists_asked : Replayed → Processes → Result (List ℕ) ToolFault
 lists_asked done which = numbers_asked done.world which >>= λ numbers. Ok (objects_after done.table done.answers done.world numbers)
 
--- the lists of processes at the end of a script over a listing, or the first fault: the table's, the listing's, the script's, or a process never made
+-- the lists of processes at the end of a script over a listing, or the first fault: the table's, the listing's, the
+-- script's, or a process never made
 unfoldable pub objects_text : Chosen → List ℕ → List ℕ → Processes → Result (List ℕ) ToolFault
 objects_text choice tree_bytes script_bytes which = do
   done ← replay_of choice tree_bytes script_bytes

@@ -126,14 +126,17 @@ abbrev pub HasAnswered : Held → Option (List ℕ) → Option (List ℕ) → Ty
 HasAnswered held old new = ((command : Command) × AsksSoundly command.text × IsDone held command old new)
     ⊎ ((text : List ℕ) × (0 < length text) × Adds text old new)
 
--- why words ended with a device's status: a command's input is missing and nothing was written, or a put failed and a front of a text was written
+-- why words ended with a device's status: a command's input is missing and nothing was written, or a put failed and a
+-- front of a text was written
 abbrev pub HasHalted : Held → Option (List ℕ) → Option (List ℕ) → ℕ → ℕ → Type 0
 HasHalted held old new before after =
-    ((command : Command) × AsksSoundly command.text × ((LacksInput held command × (new ≡ old)) ⊎ IsCutShort held command old new before after))
+    ((command : Command) × AsksSoundly command.text ×
+    ((LacksInput held command × (new ≡ old)) ⊎ IsCutShort held command old new before after))
     ⊎ ((text : List ℕ) × AddsFront text old new × HasFailed before after)
 
 -- the same after the output was handed on, or could not be: where nothing was written, known bytes stay, and a front may be the whole text
 abbrev pub HasEnded : Held → Option (List ℕ) → Option (List ℕ) → ℕ → ℕ → Type 0
 HasEnded held old new before after =
-    ((command : Command) × AsksSoundly command.text × ((LacksInput held command × Keeps old new) ⊎ IsCutShort held command old new before after))
+    ((command : Command) × AsksSoundly command.text ×
+    ((LacksInput held command × Keeps old new) ⊎ IsCutShort held command old new before after))
     ⊎ ((text : List ℕ) × AddsFront text old new × HasFailed before after)

@@ -11,7 +11,8 @@ use Rattle.pua_tool.specs.declared.posed.Posed.{Posed}
 
 -- a world over the tree of a listing, as no request was served yet
 abbrev pub IsNewOver : List ℕ → CallTable → WorldState → Type 0
-IsNewOver tree_bytes table world = (t : Tree) × (as_listing (listing tree_bytes) ≡ Ok t) × StandsForWorld world (new_world t) × (world.table ≡ table)
+IsNewOver tree_bytes table world = (t : Tree) × (as_listing (listing tree_bytes) ≡ Ok t) × StandsForWorld world (new_world t) ×
+    (world.table ≡ table)
 
 -- a script with the worlds before and after it, and its answers
 pub record IsPosed (posed : Posed) (p : Asking) : Type 0 where

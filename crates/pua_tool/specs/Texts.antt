@@ -35,11 +35,23 @@ pub record Wanted : Type 0 where
   pub candidates : List (List ℕ)
 
 abbrev pub wants_of : Job → Wanted
-wants_of job = record { limit = job.limit; process = job.process; base = job.base; after = option_map (λ text. text.now) job.after; candidates = map (λ text. text.now) job.candidates.now }
+wants_of job = record {
+  limit = job.limit;
+  process = job.process;
+  base = job.base;
+  after = option_map (λ text. text.now) job.after;
+  candidates = map (λ text. text.now) job.candidates.now;
+}
 
 -- what the words of an audit ask for
 abbrev pub wanted_by : AuditWords → Wanted
-wanted_by words = record { limit = words.limit; process = words.process; base = words.base; after = option_map (λ text. text.now) words.after; candidates = map (λ text. text.now) words.names.items }
+wanted_by words = record {
+  limit = words.limit;
+  process = words.process;
+  base = words.base;
+  after = option_map (λ text. text.now) words.after;
+  candidates = map (λ text. text.now) words.names.items;
+}
 
 -- the bytes of a text that may be given
 abbrev pub given_bytes : Option (Bor (List ℕ)) → Option (List ℕ)
@@ -126,7 +138,8 @@ begun_after done wanted = do
   b ← as_audit (beginning_of done.world.tree done.table h wanted)
   Ok (record { answers = done.answers; beginning = b })
 
--- the audit of a process at the end of a script over a listing, or the first fault: the table's, the listing's, the script's, a process never made, or what no audit begins with
+-- the audit of a process at the end of a script over a listing, or the first fault: the table's, the listing's, the
+-- script's, a process never made, or what no audit begins with
 unfoldable pub audit_start : Chosen → List ℕ → List ℕ → Wanted → Result BegunAudit ToolFault
 audit_start choice tree_bytes script_bytes wanted = do
   done ← replay_of choice tree_bytes script_bytes

@@ -42,7 +42,8 @@ as_request (Err fault) = Err (Request fault)
 abbrev pub chain_lines : Posed → Asked → List ℕ
 chain_lines p ask = flat_map with_end (chain p.table p.world p.asks ask)
 
--- what decides the request with these fields behind a script over a listing, or the first fault: the table's, the listing's, the script's, or that of the fields
+-- what decides the request with these fields behind a script over a listing, or the first fault: the table's, the
+-- listing's, the script's, or that of the fields
 unfoldable pub why_text : Chosen → List ℕ → List ℕ → ℕ → List (List ℕ) → Result (List ℕ) ToolFault
 why_text choice tree_bytes script_bytes process fields = do
   p ← posed_script choice tree_bytes script_bytes
@@ -53,7 +54,8 @@ why_text choice tree_bytes script_bytes process fields = do
 abbrev pub why_lists_asked : Posed → Processes → Result (List ℕ) ToolFault
 why_lists_asked p which = numbers_asked (world_left p) which >>= λ numbers. Ok (reason_lines p ++ why_lists_of p numbers)
 
--- the lists with reasons at the end of a script over a listing, or the first fault: the table's, the listing's, the script's, or a process never made
+-- the lists with reasons at the end of a script over a listing, or the first fault: the table's, the listing's, the
+-- script's, or a process never made
 unfoldable pub objects_why_text : Chosen → List ℕ → List ℕ → Processes → Result (List ℕ) ToolFault
 objects_why_text choice tree_bytes script_bytes which = do
   p ← posed_script choice tree_bytes script_bytes

@@ -16,11 +16,14 @@ returns-in_err-list g c =
     let fault = c.in_err-list.field-0.0 in
     let w = wants_of c.args.job.now in
     let p = err_from_is_err_and c.from_residual.result c.from_residual.ensures.1 in
-    let refuses : (done : Replayed) → IsReplay c.args.replay.now done → fault ≢ OutOfMemory → audit_after done w ≡ Err fault = λ done replay other.
+    let refuses : (done : Replayed) → IsReplay c.args.replay.now done → fault ≢ OutOfMemory → audit_after done w ≡ Err fault =
+    λ done replay other.
     let made = is_made c.in-Some.process.now (history_of done.world w.process) (c.in-Some.ensures.history done.world replay.stands) in
     after_refused done w made.history fault made.is
-    ((λ i. as_audit (beginning_of (sym (c.tree.ensures ∙ replay.stands.tree) i) (sym (c.table.ensures ∙ replay.table) i) made.history w)) ∙ c.in_err-list.ensures.refused other made.history) in
-    rw (p.1, p.2) (λ done replay. answers_refused (audit_after done w) fault (g.S.Sink.written c.args.sink.now) (g.S.Sink.failed c.args.sink.now) c.in_err-list.ensures.unwritten (refuses done replay))
+    ((λ i. as_audit (beginning_of (sym (c.tree.ensures ∙ replay.stands.tree) i) (sym (c.table.ensures ∙ replay.table) i) made.history w)) ∙
+    c.in_err-list.ensures.refused other made.history) in
+    rw (p.1, p.2) (λ done replay. answers_refused (audit_after done w) fault (g.S.Sink.written c.args.sink.now)
+    (g.S.Sink.failed c.args.sink.now) c.in_err-list.ensures.unwritten (refuses done replay))
 
 pub returns : goal.returns
 returns g c = λ done replay.
@@ -31,11 +34,16 @@ returns g c = λ done replay.
     let b = begins.0 in
     let same : beginning_of done.world.tree done.table h w ≡ Ok b =
     (λ i. beginning_of (sym (c.tree.ensures ∙ replay.stands.tree) i) (sym (c.table.ensures ∙ replay.table) i) h w) ∙ begins.1 in
-    let front : c.as_str.result.now ≡ front_of w.after w.process done.answers = c.as_str.ensures.value ∙ c.in-Ok.ensures ∙ ap (front_of w.after w.process) (c.as_slice.ensures.value ∙ replay.answers) in
+    let front : c.as_str.result.now ≡ front_of w.after w.process done.answers = c.as_str.ensures.value ∙ c.in-Ok.ensures ∙
+    ap (front_of w.after w.process) (c.as_slice.ensures.value ∙ replay.answers) in
     let text = text_of w (record { answers = done.answers; beginning = b }) in
-    let written : Tells text c.write_audit.result (g.S.Sink.written c.args.sink.now) (g.S.Sink.written c.write_audit.new.sink) (g.S.Sink.failed c.args.sink.now) (g.S.Sink.failed c.write_audit.new.sink) =
-    subst (λ (t : List ℕ). Tells t c.write_audit.result (g.S.Sink.written c.args.sink.now) (g.S.Sink.written c.write_audit.new.sink) (g.S.Sink.failed c.args.sink.now) (g.S.Sink.failed c.write_audit.new.sink))
+    let written : Tells text c.write_audit.result (g.S.Sink.written c.args.sink.now) (g.S.Sink.written c.write_audit.new.sink)
+    (g.S.Sink.failed c.args.sink.now) (g.S.Sink.failed c.write_audit.new.sink) =
+    subst (λ (t : List ℕ). Tells t c.write_audit.result (g.S.Sink.written c.args.sink.now) (g.S.Sink.written c.write_audit.new.sink)
+    (g.S.Sink.failed c.args.sink.now) (g.S.Sink.failed c.write_audit.new.sink))
     (λ i. front i ++ pair_lines (begins.3 i) (begins.2 i))
     c.write_audit.ensures in
-    answers_told (audit_after done w) text c.told.result (g.S.Sink.written c.args.sink.now) (g.S.Sink.written c.write_audit.new.sink) (g.S.Sink.failed c.args.sink.now) (g.S.Sink.failed c.write_audit.new.sink) (after_begun done w h b made.is same)
-    (c.told.ensures text (g.S.Sink.written c.args.sink.now) (g.S.Sink.written c.write_audit.new.sink) (g.S.Sink.failed c.args.sink.now) (g.S.Sink.failed c.write_audit.new.sink) written)
+    answers_told (audit_after done w) text c.told.result (g.S.Sink.written c.args.sink.now) (g.S.Sink.written c.write_audit.new.sink)
+    (g.S.Sink.failed c.args.sink.now) (g.S.Sink.failed c.write_audit.new.sink) (after_begun done w h b made.is same)
+    (c.told.ensures text (g.S.Sink.written c.args.sink.now) (g.S.Sink.written c.write_audit.new.sink) (g.S.Sink.failed c.args.sink.now)
+    (g.S.Sink.failed c.write_audit.new.sink) written)

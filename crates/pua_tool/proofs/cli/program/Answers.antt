@@ -9,7 +9,8 @@ use Rattle.pua_tool.proofs.cli.program.Goals as goal
 pub returns-clause-usage : goal.returns-clause-usage
 returns-clause-usage g c same =
     let line = with_end (usage_line_text (line_for (map (λ word. word.now) c.args.words.now))) in
-    let other = not_done c.flush-flushed.result c.command-status.result c.at_end.result c.at_end.ensures.kept c.at_end.ensures.device same in
+    let other = not_done c.flush-flushed.result c.command-status.result c.at_end.result c.at_end.ensures.kept c.at_end.ensures.device same
+    in
     subst (λ e. IsLineTold line (g.E.Sink.written c.args.err.now) (g.E.Sink.written e) (g.E.Sink.failed c.args.err.now) (g.E.Sink.failed e))
     (sym (c.at_end.ensures.untold other))
     (c.command-status.ensures.usage (sym (c.at_end.ensures.stopped other) ∙ same))
@@ -17,7 +18,8 @@ returns-clause-usage g c same =
 pub returns-clause-device : goal.returns-clause-device
 returns-clause-device g c same =
     ended_by_status (g.I.Inputs.holds c.args.inputs.now) c.flush-flushed.result c.command-status.result c.at_end.result _ _ _ _ _ _
-    c.at_end.ensures.kept c.at_end.ensures.stopped c.flush-flushed.ensures.unfailed c.flush-flushed.ensures.rises c.flush-flushed.ensures.bytes
+    c.at_end.ensures.kept c.at_end.ensures.stopped c.flush-flushed.ensures.unfailed c.flush-flushed.ensures.rises
+    c.flush-flushed.ensures.bytes
     c.command-status.ensures.done c.command-status.ensures.unfailed c.command-status.ensures.device same
 
 pub returns-clause-told : goal.returns-clause-told

@@ -7,4 +7,8 @@ pub returns-in-Usage-clause-told : goal.returns-in-Usage-clause-told
 returns-in-Usage-clause-told g c other = (Usage c.in-Usage.line, sym c.finish.ensures.status, c.finish.ensures.told)
 
 pub returns-in-OutOfMemory-clause-told : goal.returns-in-OutOfMemory-clause-told
-returns-in-OutOfMemory-clause-told g c other = (Tool OutOfMemory, sym c.finish-in-OutOfMemory.ensures.status, c.finish-in-OutOfMemory.ensures.told)
+returns-in-OutOfMemory-clause-told g c other = (
+  Tool OutOfMemory,
+  sym c.finish-in-OutOfMemory.ensures.status,
+  c.finish-in-OutOfMemory.ensures.told,
+)

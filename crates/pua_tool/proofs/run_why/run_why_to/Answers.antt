@@ -11,7 +11,8 @@ use Rattle.pua_tool.proofs.run_why.run_why_to.Goals as goal
 pub returns-in_err-posed-clause-refused : goal.returns-in_err-posed-clause-refused
 returns-in_err-posed-clause-refused g c =
     let fault = c.in_err-posed.field-0.0 in
-    let refuses : fault ≢ Write → fault ≢ OutOfMemory → run_why_text (choice_of c.args.table) c.args.tree_bytes.now c.args.script_bytes.now ≡ Err fault = λ unwritten other.
+    let refuses : fault ≢ Write → fault ≢ OutOfMemory → run_why_text (choice_of c.args.table) c.args.tree_bytes.now c.args.script_bytes.now
+    ≡ Err fault = λ unwritten other.
     run_refuses (choice_of c.args.table) c.args.tree_bytes.now c.args.script_bytes.now fault (c.in_err-posed.ensures.refused other) in
     let p = err_from_is_err_and c.from_residual.result c.from_residual.ensures.1 in
     rw (p.1, p.2) refuses
@@ -23,7 +24,8 @@ returns-clause-whole g c =
     let b = g.S.Sink.written c.put_text.new.sink in
     let n = g.S.Sink.failed c.args.sink.now in
     let m = g.S.Sink.failed c.put_text.new.sink in
-    let told = subst (λ (text : List ℕ). Answers (Ok text) c.put_text.result a b n m) (c.as_str.ensures.value ∙ c.in-Ok.ensures posed.0 posed.2 posed.3) c.put_text.ensures in
+    let told = subst (λ (text : List ℕ). Answers (Ok text) c.put_text.result a b n m) (c.as_str.ensures.value ∙
+    c.in-Ok.ensures posed.0 posed.2 posed.3) c.put_text.ensures in
     answers_whole (run_why_text (choice_of c.args.table) c.args.tree_bytes.now c.args.script_bytes.now) a b n m c.put_text.result
     (run_told (choice_of c.args.table) c.args.tree_bytes.now c.args.script_bytes.now posed.0 c.put_text.result a b n m posed.1 told)
 
@@ -34,7 +36,8 @@ returns-clause-unfailed g c =
     let b = g.S.Sink.written c.put_text.new.sink in
     let n = g.S.Sink.failed c.args.sink.now in
     let m = g.S.Sink.failed c.put_text.new.sink in
-    let told = subst (λ (text : List ℕ). Answers (Ok text) c.put_text.result a b n m) (c.as_str.ensures.value ∙ c.in-Ok.ensures posed.0 posed.2 posed.3) c.put_text.ensures in
+    let told = subst (λ (text : List ℕ). Answers (Ok text) c.put_text.result a b n m) (c.as_str.ensures.value ∙
+    c.in-Ok.ensures posed.0 posed.2 posed.3) c.put_text.ensures in
     answers_unfailed (run_why_text (choice_of c.args.table) c.args.tree_bytes.now c.args.script_bytes.now) a b n m c.put_text.result
     (run_told (choice_of c.args.table) c.args.tree_bytes.now c.args.script_bytes.now posed.0 c.put_text.result a b n m posed.1 told)
 
@@ -45,7 +48,8 @@ returns-clause-write g c =
     let b = g.S.Sink.written c.put_text.new.sink in
     let n = g.S.Sink.failed c.args.sink.now in
     let m = g.S.Sink.failed c.put_text.new.sink in
-    let told = subst (λ (text : List ℕ). Answers (Ok text) c.put_text.result a b n m) (c.as_str.ensures.value ∙ c.in-Ok.ensures posed.0 posed.2 posed.3) c.put_text.ensures in
+    let told = subst (λ (text : List ℕ). Answers (Ok text) c.put_text.result a b n m) (c.as_str.ensures.value ∙
+    c.in-Ok.ensures posed.0 posed.2 posed.3) c.put_text.ensures in
     answers_write (run_why_text (choice_of c.args.table) c.args.tree_bytes.now c.args.script_bytes.now) a b n m c.put_text.result
     (run_told (choice_of c.args.table) c.args.tree_bytes.now c.args.script_bytes.now posed.0 c.put_text.result a b n m posed.1 told)
 
@@ -56,7 +60,8 @@ returns-clause-refused g c =
     let b = g.S.Sink.written c.put_text.new.sink in
     let n = g.S.Sink.failed c.args.sink.now in
     let m = g.S.Sink.failed c.put_text.new.sink in
-    let told = subst (λ (text : List ℕ). Answers (Ok text) c.put_text.result a b n m) (c.as_str.ensures.value ∙ c.in-Ok.ensures posed.0 posed.2 posed.3) c.put_text.ensures in
+    let told = subst (λ (text : List ℕ). Answers (Ok text) c.put_text.result a b n m) (c.as_str.ensures.value ∙
+    c.in-Ok.ensures posed.0 posed.2 posed.3) c.put_text.ensures in
     answers_fault (run_why_text (choice_of c.args.table) c.args.tree_bytes.now c.args.script_bytes.now) a b n m c.put_text.result
     (run_told (choice_of c.args.table) c.args.tree_bytes.now c.args.script_bytes.now posed.0 c.put_text.result a b n m posed.1 told)
 
@@ -67,6 +72,7 @@ returns-clause-unwritten g c =
     let b = g.S.Sink.written c.put_text.new.sink in
     let n = g.S.Sink.failed c.args.sink.now in
     let m = g.S.Sink.failed c.put_text.new.sink in
-    let told = subst (λ (text : List ℕ). Answers (Ok text) c.put_text.result a b n m) (c.as_str.ensures.value ∙ c.in-Ok.ensures posed.0 posed.2 posed.3) c.put_text.ensures in
+    let told = subst (λ (text : List ℕ). Answers (Ok text) c.put_text.result a b n m) (c.as_str.ensures.value ∙
+    c.in-Ok.ensures posed.0 posed.2 posed.3) c.put_text.ensures in
     answers_unwritten (run_why_text (choice_of c.args.table) c.args.tree_bytes.now c.args.script_bytes.now) a b n m c.put_text.result
     (run_told (choice_of c.args.table) c.args.tree_bytes.now c.args.script_bytes.now posed.0 c.put_text.result a b n m posed.1 told)

@@ -12,4 +12,5 @@ loop-field-preserved c =
 
 pub returns : goal.returns
 returns c =
-    sym (fields_done c.loop-field.line.items c.args.fields.now c.loop-field.field-index (omega (arith, c.loop-field-test.false))) ∙ c.loop-field.invariant
+    sym (fields_done c.loop-field.line.items c.args.fields.now c.loop-field.field-index (omega (arith, c.loop-field-test.false))) ∙
+    c.loop-field.invariant

@@ -9,6 +9,7 @@ use Rattle.pua_refused.proofs.policy.verdicts.allowed_without_permissions.Goals 
 
 pub unreachable-requires : goal.unreachable-requires
 unreachable-requires c =
-    let fault : is_allowed (covered_verdict empty_tree c.standard.result new_history Stat (Only 0) IsFile) ≡ false = rw c.standard.ensures refl in
+    let fault : is_allowed (covered_verdict empty_tree c.standard.result new_history Stat (Only 0) IsFile) ≡ false =
+    rw c.standard.ensures refl in
     let not_allowed = c.contains.ensures ∙ c.allowed-calls.ensures empty_tree new_history IsFile c.in-Ok.ensures refl Stat ∙ fault in
     false≢true (sym not_allowed ∙ c.if-contains.true)

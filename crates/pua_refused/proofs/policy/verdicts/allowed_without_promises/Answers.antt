@@ -8,5 +8,6 @@ use Rattle.pua_refused.proofs.policy.verdicts.allowed_without_promises.Goals as 
 
 pub unreachable-requires : goal.unreachable-requires
 unreachable-requires c =
-    let not_allowed : c.contains.result ≡ false = c.contains.ensures ∙ c.allowed-calls.ensures empty_tree (Ended ∷ new_history) IsFile (c.end.ensures new_history c.in-Ok.ensures) refl Stat in
+    let not_allowed : c.contains.result ≡ false = c.contains.ensures ∙
+    c.allowed-calls.ensures empty_tree (Ended ∷ new_history) IsFile (c.end.ensures new_history c.in-Ok.ensures) refl Stat in
     false≢true (sym not_allowed ∙ c.if-contains.true)

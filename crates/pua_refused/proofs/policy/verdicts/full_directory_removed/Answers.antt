@@ -10,6 +10,8 @@ use Rattle.pua_refused.proofs.policy.verdicts.full_directory_removed.Goals as go
 
 pub unreachable-requires : goal.unreachable-requires
 unreachable-requires c =
-    let fault : is_allowed (covered_verdict empty_tree c.standard.result new_history Rmdir All (IsDir 0 Top)) ≡ false = rw c.standard.ensures refl in
-    let not_allowed = c.contains.ensures ∙ c.allowed-calls.ensures empty_tree new_history (IsDir 0 Top) c.in-Ok.ensures refl Rmdir ∙ fault in
+    let fault : is_allowed (covered_verdict empty_tree c.standard.result new_history Rmdir All (IsDir 0 Top)) ≡ false =
+    rw c.standard.ensures refl in
+    let not_allowed = c.contains.ensures ∙ c.allowed-calls.ensures empty_tree new_history (IsDir 0 Top) c.in-Ok.ensures refl Rmdir ∙
+    fault in
     false≢true (sym not_allowed ∙ c.if-contains.true)
