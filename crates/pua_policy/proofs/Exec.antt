@@ -88,9 +88,9 @@ stands_given left p h s set e =
     })
 
 -- without them the working directory alone stays
-pub stands_alone : (left : ExecPromises) (p : ProcessState) (h : History) → StandsFor p h → p.execpromises ≡ None → p.ended ≡ false →
-    StandsFor (record { promises = None; execpromises = None; veils = []; locked = false; dir = p.dir; ended = p.ended })
+pub stands_alone : (left : ExecPromises) (p : ProcessState) (h : History) → StandsFor p h → p.execpromises ≡ None →
+    StandsFor (record { promises = None; execpromises = None; veils = []; locked = false; dir = p.dir; ended = false })
     (after_exec left h)
-stands_alone left p h s e lives =
+stands_alone left p h s e =
     let none : held_for_exec h ≡ None = sym s.execpromises ∙ e in
-    rw none (record { promises = refl; execpromises = refl; veils = refl; locked = refl; dir = s.dir; ended = lives })
+    rw none (record { promises = refl; execpromises = refl; veils = refl; locked = refl; dir = s.dir; ended = refl })

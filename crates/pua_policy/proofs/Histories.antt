@@ -127,7 +127,7 @@ module _ (p : ProcessState) (led : HasHistory p) where
   led_by_exec left set given =
       record { history = after_exec left led.history; stands = stands_given left p led.history led.stands set given }
 
-  pub led_by_plain_exec : p.execpromises ≡ None → p.ended ≡ false
-      → HasHistory (record { promises = None; execpromises = None; veils = []; locked = false; dir = p.dir; ended = p.ended })
-  led_by_plain_exec none lives =
-      record { history = after_exec Unset led.history; stands = stands_alone Unset p led.history led.stands none lives }
+  pub led_by_plain_exec : p.execpromises ≡ None
+      → HasHistory (record { promises = None; execpromises = None; veils = []; locked = false; dir = p.dir; ended = false })
+  led_by_plain_exec none =
+      record { history = after_exec Unset led.history; stands = stands_alone Unset p led.history led.stands none }

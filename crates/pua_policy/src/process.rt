@@ -226,15 +226,16 @@ impl Process {
         self.exec_by(ExecPromises::Unset)
     }
 
-    /// The same, where `left` says whether execpromises that were given are unset or stay.
+    /// The same, where `left` says whether execpromises that were given are unset or stay. One that
+    /// has ended stays so where execpromises were given, and else begins anew.
     pub fn exec_by(&mut self, left: ExecPromises)
-        requires { self.old.ended ≡ false }
         ensures { (h : History) → StandsFor self.old h → StandsFor self.new (after_exec left h) }
     {
         let Some(promises) = self.execpromises else {
             self.promises = None;
             self.veils.clear();
             self.locked = false;
+            self.ended = false;
             return;
         };
         self.promises = Some(promises);

@@ -1,12 +1,12 @@
 -- What is done where it was decided.
 use Rattle.std.proofs.Common.{◌≡◌, ℕ, List, sym, ap, ◌∙◌}
-use Rattle.std.specs.Prelude.{Result, Ok, Err, IfOk}
-use Rattle.pua_tree.specs.Tree.{Tree, WellFormed}
+use Rattle.std.specs.Prelude.{Result}
+use Rattle.pua_tree.specs.Tree.{Tree}
 use Rattle.pua_calls.specs.Calls.{CallTable}
 use Rattle.pua_policy.specs.History.{ProcessState, History, StandsFor}
 use Rattle.pua_policy.specs.declared.answer.Refusal.{Refusal}
 use Rattle.pua_script.specs.Decide.{decide}
-use Rattle.pua_script.specs.Judged.{CanBeDone, decision_for}
+use Rattle.pua_script.specs.Judged.{decision_for}
 use Rattle.pua_script.specs.Replay.{come_of}
 use Rattle.pua_script.specs.Worlds.{Acts, Attempts}
 use Rattle.pua_script.specs.declared.answer.Answer.{Answer}
@@ -14,13 +14,6 @@ use Rattle.pua_script.specs.declared.fault.WorldFault.{WorldFault}
 use Rattle.pua_script.specs.declared.granted.Granted.{Granted}
 use Rattle.pua_script.specs.declared.request.Action.{Action}
 use Rattle.pua_script.proofs.Doing.{attempts_same}
-use Rattle.pua_script.proofs.Possible.{can_be_done}
-
--- what was granted can be done, where anything was
-pub grants_can_be_done : (table : CallTable) (t : Tree) (h : History) (action : Action) (d : Result Granted Refusal) → WellFormed t →
-    decision_for h d ≡ decide table t h action → IfOk d (CanBeDone t)
-grants_can_be_done table t h action (Ok g) well is = can_be_done table t h action g well is
-grants_can_be_done table t h action (Err refusal) well is = tt
 
 -- a process acts as it asks where what is done is what was decided
 pub acts : (table : CallTable) (t u : Tree) (before after : ProcessState) (action : Action) (d : Result Granted Refusal)

@@ -22,10 +22,9 @@ use Rattle.pua_calls.specs.Calls.{CallTable, ending_of, last_of}
 use Rattle.pua_policy.specs.History.{History, working_dir}
 use Rattle.pua_calls.specs.declared.call.Call.{Call}
 use Rattle.pua_calls.specs.declared.call.Call.TheVariants as call
-use Rattle.pua_script.specs.Decide.{Change, AddNode, CutRow, ShiftRow, TieRow, is_whole, fault_if, kinds_fault, inside_fault, decide}
+use Rattle.pua_script.specs.Decide.{Change, AddNode, CutRow, ShiftRow, TieRow, is_whole, fault_if, kinds_fault, inside_fault}
 use Rattle.pua_script.specs.Guards.{IsPossible}
-use Rattle.pua_script.specs.Judged.{NameFits, CanBeDone, decision_by}
-use Rattle.pua_script.specs.declared.granted.Granted.{Granted}
+use Rattle.pua_script.specs.Judged.{NameFits}
 use Rattle.pua_script.specs.declared.granted.Granted.TheVariants as granted
 use Rattle.pua_script.specs.Laws.{DecisionsArePossible}
 use Rattle.pua_script.specs.declared.request.Action.{Action}
@@ -114,12 +113,3 @@ module _ (t : Tree) where
 pub decisions_are_possible : DecisionsArePossible
 decisions_are_possible table t h action change well is =
     possible_by t well h table action change (grounds table t h action change (decisions_are_guarded table t h action change is))
-
--- what the code decides can be done
-pub can_be_done : (table : CallTable) (t : Tree) (h : History) (action : Action) (g : Granted) → WellFormed t →
-    decision_by h g ≡ decide table t h action → CanBeDone t g
-can_be_done table t h action (granted.AddNode dir name kind target) well is = decisions_are_possible table t h action _ well (sym is)
-can_be_done table t h action (granted.CutRow dir name) well is = decisions_are_possible table t h action _ well (sym is)
-can_be_done table t h action (granted.ShiftRow from name to new_name) well is = decisions_are_possible table t h action _ well (sym is)
-can_be_done table t h action (granted.TieRow dir name x) well is = decisions_are_possible table t h action _ well (sym is)
-can_be_done table t h action _ well is = tt

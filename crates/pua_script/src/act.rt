@@ -1,11 +1,11 @@
-//! What a living process's request does, where it makes no process: it is judged, and then it is done.
+//! What a process's request does, where it makes no process: it is judged, and then it is done.
 //!
 //! Each request with paths has a function of its own: a compiled function clears all its variables when
 //! it begins, and what a path names takes some 280 bytes.
 
-ghost use Rattle.std.specs.Prelude.{◌≡◌, ℕ, List, IfOk, OnErr, IsFalse, false};
+ghost use Rattle.std.specs.Prelude.{◌≡◌, ℕ, List, OnErr, IsFalse};
 ghost use Rattle.pua_policy.specs.History.{History, StandsFor};
-ghost use Rattle.pua_script.specs.Judged.{CanBeDone, decision_for};
+ghost use Rattle.pua_script.specs.Judged.{decision_for};
 ghost use Rattle.pua_script.specs.Replay.{come_of};
 ghost use Rattle.pua_calls.specs.Calls.{CallTable as Rules};
 ghost use Rattle.pua_script.specs.Worlds.{Acts, Attempts, is_fork};
@@ -26,7 +26,7 @@ use pua_calls::{Call, CallTable, Perms};
 use pua_policy::{Process, Refusal};
 use pua_tree::FileTree;
 
-/// Does what a living process asks for, where it is no fork. All checks come first, in their order;
+/// Does what a process asks for, where it is no fork. All checks come first, in their order;
 /// what is granted then lends the names of what they found. Whether the tree has room is asked last.
 pub(crate) fn act<T: FileTree>(
     tree: &mut T,
@@ -34,7 +34,6 @@ pub(crate) fn act<T: FileTree>(
     process: &mut Process,
     action: &Action,
 ) -> Result<Answer, WorldFault>
-    requires living { process.old.ended ≡ false }
     requires other { IsFalse (is_fork action.now) }
     ensures exact { Acts table.now (T.content tree.old) process.old action.now result
         (T.content tree.new) process.new }
@@ -71,7 +70,6 @@ fn call_on<T: FileTree>(
     call: Call,
     path: &[u8],
 ) -> Result<Answer, WorldFault>
-    requires living { process.old.ended ≡ false }
     ensures exact { Acts table.now (T.content tree.old) process.old (OnPath call path.now)
         result (T.content tree.new) process.new }
     ensures unchanged { OnErr result
@@ -91,7 +89,6 @@ fn symlink<T: FileTree>(
     target: &[u8],
     path: &[u8],
 ) -> Result<Answer, WorldFault>
-    requires living { process.old.ended ≡ false }
     ensures exact { Acts table.now (T.content tree.old) process.old (Symlink target.now path.now)
         result (T.content tree.new) process.new }
     ensures unchanged { OnErr result
@@ -99,8 +96,8 @@ fn symlink<T: FileTree>(
 {
     tree.known();
     process.known();
-    let object = judge_symlink(tree, table, process, target, path);
-    answer(tree, process, &grant_symlink(target, &object))
+    let judged = judge_symlink(tree, table, process, target, path);
+    answer(tree, process, &grant_symlink(&judged))
 }
 
 /// Renames what the old path names.
@@ -111,7 +108,6 @@ fn rename<T: FileTree>(
     old: &[u8],
     new: &[u8],
 ) -> Result<Answer, WorldFault>
-    requires living { process.old.ended ≡ false }
     ensures exact { Acts table.now (T.content tree.old) process.old (Rename old.now new.now)
         result (T.content tree.new) process.new }
     ensures unchanged { OnErr result
@@ -132,7 +128,6 @@ fn link<T: FileTree>(
     old: &[u8],
     new: &[u8],
 ) -> Result<Answer, WorldFault>
-    requires living { process.old.ended ≡ false }
     ensures exact { Acts table.now (T.content tree.old) process.old (Link old.now new.now)
         result (T.content tree.new) process.new }
     ensures unchanged { OnErr result
@@ -151,7 +146,6 @@ fn unveil<T: FileTree>(
     path: &[u8],
     perms: Option<Perms>,
 ) -> Result<Answer, WorldFault>
-    requires living { process.old.ended ≡ false }
     ensures exact { (table : Rules) →
         Acts table (T.content tree.old) process.old (Unveil path.now perms)
         result (T.content tree.new) process.new }
@@ -170,8 +164,6 @@ fn answer<T: FileTree>(
     process: &mut Process,
     granted: &Result<Granted<'_>, Refusal>,
 ) -> Result<Answer, WorldFault>
-    requires living { process.old.ended ≡ false }
-    requires possible { IfOk granted.now (CanBeDone (T.content tree.old)) }
     ensures exact { (h : History) (histories : List (ℕ × History)) → StandsFor process.old h →
         Attempts (T.content tree.old) h
         (come_of (record { tree = T.content tree.old; histories = histories }) h

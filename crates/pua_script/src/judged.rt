@@ -1,6 +1,6 @@
 //! What paths name to a process, and what requests on one path are to change.
 
-ghost use Rattle.std.specs.Prelude.{◌≡◌, Ok, IfOk, option_copied};
+ghost use Rattle.std.specs.Prelude.{◌≡◌, Ok, IfOk};
 ghost use Rattle.pua_path.specs.Resolution.{resolution_of_text};
 ghost use Rattle.pua_path.specs.declared.found.Found as founds;
 ghost use Rattle.pua_policy.specs.History.{History, StandsFor};
@@ -9,15 +9,16 @@ ghost use Rattle.pua_script.specs.Decide.{Decision, adding, change_by, decide_ca
 ghost use Rattle.pua_script.specs.Decide.{decide_symlink, decide_unveil, going, link_node};
 ghost use Rattle.pua_script.specs.Decide.{removing, veiling};
 ghost use Rattle.pua_script.specs.Judged.{NameFits, decision_for, decision_by, on_judged};
+ghost use Rattle.pua_script.specs.Judged.{node_made};
 
-use crate::granted::Granted;
+use crate::granted::{Granted, NewNode};
 use crate::pair::{node_named, spot_named};
 use pua_calls::needs::{ending, need};
 use pua_calls::{Call, CallTable, Perms, Promises};
 use pua_path::{Counted, Ending, Errno, Found, Last, PathText, Probe, resolve};
 use pua_policy::judge::{object_verdict, promised, promised_for};
 use pua_policy::{Process, Refusal};
-use pua_tree::{FileTree, Kind, NodeId};
+use pua_tree::{FileTree, NodeId};
 
 /// What a path names from a directory.
 #[inline(always)]
@@ -99,8 +100,8 @@ fn change_by<'a>(table: &CallTable, call: Call, found: &'a Found) -> Granted<'a>
     ensures { (h : History) → decision_by h result ≡ Ok (change_by table.now call found.now) }
 {
     match call {
-        Call::Create => adding(Kind::File, None, found),
-        Call::Mkdir => adding(Kind::Dir, None, found),
+        Call::Create => adding(NewNode::File, found),
+        Call::Mkdir => adding(NewNode::Directory, found),
         Call::Rmdir | Call::Unlink => removing(found),
         Call::Chdir => entering(found),
         Call::Exec => Granted::BeginProgram(table.execpromises()),
@@ -109,13 +110,12 @@ fn change_by<'a>(table: &CallTable, call: Call, found: &'a Found) -> Granted<'a>
 }
 
 /// A node where nothing stands.
-fn adding<'a>(kind: Kind, target: Option<&'a [u8]>, found: &'a Found) -> Granted<'a>
+fn adding<'a>(node: NewNode<'a>, found: &'a Found) -> Granted<'a>
     ensures { (h : History) →
-        decision_by h result ≡ Ok
-        (adding (record { kind = kind; target = option_copied target.entry }) found.now) }
+        decision_by h result ≡ Ok (adding (node_made node.entry) found.now) }
 {
     match (spot_named(found), node_named(found)) {
-        (Some((dir, name)), None) => Granted::AddNode(dir, name, kind, target),
+        (Some((dir, name)), None) => Granted::AddNode(dir, name, node),
         _ => Granted::NoChange,
     }
 }
@@ -140,36 +140,38 @@ fn entering<'a>(found: &'a Found) -> Granted<'a>
     }
 }
 
-/// What the path of a symlink names: the promise, then the target's text, then the path.
-pub(crate) fn judge_symlink<T: FileTree>(
+/// The target of a symlink, and what its path names: the promise, then the target's text, then the
+/// path.
+pub(crate) fn judge_symlink<'a, T: FileTree>(
     tree: &T,
     table: &CallTable,
     process: &Process,
-    target: &[u8],
+    target: &'a [u8],
     path: &[u8],
-) -> Result<Found, Refusal>
+) -> Result<(PathText<'a>, Found), Refusal>
     ensures { (h : History) → StandsFor process.now h →
-        on_judged result (λ object. Ok (adding (link_node target.now) object))
+        on_judged result (λ link. Ok (adding (link_node link.0.bytes) link.1))
         ≡ decide_symlink table.now (T.content tree.now) h target.now path.now }
 {
     promised_for(process, table, Call::Symlink)?;
-    if let Err(errno) = PathText::read(target, Ending::Dot) {
-        return Err(Refusal::Failed(errno));
-    }
-    judge_object(tree, table, process, Call::Symlink, path)
+    let target = match PathText::read(target, Ending::Dot) {
+        Ok(target) => target,
+        Err(errno) => return Err(Refusal::Failed(errno)),
+    };
+    let found = judge_object(tree, table, process, Call::Symlink, path)?;
+    Ok((target, found))
 }
 
-/// A link with this target, where nothing stands.
+/// A link with its target, where nothing stands.
 pub(crate) fn grant_symlink<'a>(
-    target: &'a [u8],
-    judged: &'a Result<Found, Refusal>,
+    judged: &'a Result<(PathText<'a>, Found), Refusal>,
 ) -> Result<Granted<'a>, Refusal>
     ensures { (h : History) →
         decision_for h result
-        ≡ on_judged judged.now (λ object. Ok (adding (link_node target.now) object)) }
+        ≡ on_judged judged.now (λ link. Ok (adding (link_node link.0.bytes) link.1)) }
 {
     match judged {
-        Ok(found) => Ok(adding(Kind::Link, Some(target), found)),
+        Ok((target, found)) => Ok(adding(NewNode::Link(target), found)),
         Err(refusal) => Err(*refusal),
     }
 }

@@ -11,7 +11,7 @@ returns c = λ h s. rw c.left_for_exec-self-inside.ensures (stands_given c.args.
 pub invariant_of-self : goal.invariant_of-self
 invariant_of-self c =
     rw (c.clear.ensures.empty, c.in_default.is)
-    (led_by_plain_exec _ c.self.invariant c.in_default.is (ap (λ p. p.ended) c.self.view_is ∙ c.requires))
+    (led_by_plain_exec _ c.self.invariant c.in_default.is)
 
 pub invariant_of-self-2 : goal.invariant_of-self-2
 invariant_of-self-2 c = rw c.left_for_exec-self-inside.ensures (led_by_exec _ c.self.invariant c.args.left c.in-Some.promises c.in-Some.is)
