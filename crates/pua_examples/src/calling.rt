@@ -21,7 +21,7 @@ ghost use Rattle.pua_tool.specs.Texts.{by_standard};
 ghost use Rattle.pua_examples.specs.Calling.{first_fault};
 
 use pua_audit::{Audit, AuditFault, Base};
-use pua_calls::needs::{ending, need};
+use pua_calls::needs::ending;
 use pua_calls::{Call, CallTable};
 use pua_objects::{Objects, completeness_law};
 use pua_path::{Counted, Ending, Errno, Found, Last, PathText, resolve};
@@ -94,13 +94,7 @@ pub(crate) fn ask<T: FileTree>(
         result ≡ verdict_on (T.content tree.now) table.now h call path.now }
 {
     let mut probe = Counted::new(tree);
-    let found = name(
-        &mut probe,
-        process.dir(),
-        path,
-        ending(call),
-        need(call).last,
-    );
+    let found = name(&mut probe, process.dir(), path, ending(call), call.last());
     verdict_of(&mut probe, process, table, call, found)
 }
 

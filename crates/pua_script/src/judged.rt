@@ -13,7 +13,7 @@ ghost use Rattle.pua_script.specs.Judged.{node_made};
 
 use crate::granted::{Granted, NewNode};
 use crate::pair::{node_named, spot_named};
-use pua_calls::needs::{ending, need};
+use pua_calls::needs::ending;
 use pua_calls::{Call, CallTable, Perms, Promises};
 use pua_path::{Counted, Ending, Errno, Found, Last, PathText, Probe, resolve};
 use pua_policy::judge::{object_verdict, promised, promised_for};
@@ -52,7 +52,7 @@ fn judge_object<T: FileTree>(
         ≡ on_judged result further }
 {
     let mut probe = Counted::new(tree);
-    let last = need(call).last;
+    let last = call.last();
     let found = match named(&mut probe, process.dir(), path, ending(call), last) {
         Ok(found) => found,
         Err(errno) => return Err(Refusal::Failed(errno)),

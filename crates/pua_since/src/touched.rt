@@ -10,7 +10,7 @@ ghost use Rattle.pua_since.specs.Concerns.{touched_by};
 
 use crate::marks::mark_of;
 use pua_calls::Call;
-use pua_calls::needs::{ending, need};
+use pua_calls::needs::ending;
 use pua_path::{Counted, Ending, Found, Last, PathText, resolve};
 use pua_policy::Process;
 use pua_script::{Action, Answer, Request, World};
@@ -53,7 +53,7 @@ fn action_touches<T: FileTree>(world: &World<T>, process: u32, action: &Action) 
     match action {
         Action::OnPath(call, path) => call_touches(world, process, *call, path.bytes()),
         Action::Symlink(_, path) => {
-            let last = need(Call::Symlink).last;
+            let last = Call::Symlink.last();
             row_by(world, process, path.bytes(), ending(Call::Symlink), last)
         }
         Action::Link(_, path) => {
@@ -73,9 +73,7 @@ fn call_touches<T: FileTree>(world: &World<T>, process: u32, call: Call, path: &
         result ≡ call_touches w process call path.now }
 {
     match call {
-        Call::Create | Call::Unlink => {
-            row_by(world, process, path, ending(call), need(call).last)
-        }
+        Call::Create | Call::Unlink => { row_by(world, process, path, ending(call), call.last()) }
         Call::Chdir | Call::Exec => Touched::Process(process),
         Call::Mkdir | Call::Rmdir | Call::Symlink => Touched::Anything,
         _ => Touched::Nothing,

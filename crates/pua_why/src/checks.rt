@@ -16,7 +16,7 @@ ghost use Rattle.pua_why.specs.Reasons.{unveil_beyond};
 ghost use Rattle.pua_why.specs.Seen.{fault_seen, side_seen};
 
 use crate::told::{Fault, Side};
-use pua_calls::needs::{ending, need};
+use pua_calls::needs::ending;
 use pua_calls::{Call, CallTable, Perms, Promises};
 use pua_path::{
     Counted, Ending, Found, Last, Links, PathFault, PathText, Probe, text_fault, trace,
@@ -140,7 +140,7 @@ fn object_fault<'s, T: FileTree>(
         (λ object. Ok (change object))) }
 {
     let mut probe = Counted::new(tree);
-    let last = need(call).last;
+    let last = call.last();
     let found = match traced(&mut probe, process.dir(), path, ending(call), last, links) {
         Ok(found) => found,
         Err(fault) => return Some(Fault::BadPath(Side::Sole, fault)),

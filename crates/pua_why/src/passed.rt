@@ -19,7 +19,7 @@ ghost use Rattle.pua_why.specs.Seen.{fact_seen, on_named_fact, side_seen};
 
 use crate::checks::traced;
 use crate::told::{Fact, Side};
-use pua_calls::needs::{ending, need};
+use pua_calls::needs::ending;
 use pua_calls::{Call, CallTable, PairNeed, Perms, Promises};
 use pua_path::{Counted, Ending, Found, Last, Links, Probe, Spot, Way};
 use pua_policy::{Covering, Place, Process, Promising};
@@ -144,7 +144,7 @@ impl Passed {
             facts_under Sole (T.content tree.now) h object (rule_of table.now call).perms [])) }
     {
         let mut probe = Counted::new(tree);
-        let (dir, last) = (process.dir(), need(call).last);
+        let (dir, last) = (process.dir(), call.last());
         match self.add_name(&mut probe, Side::Sole, dir, path, ending(call), last)? {
             Some(found) => {
                 let perms = table.perms(call);
