@@ -1,17 +1,36 @@
 -- The parts of a line as its reader finds them.
-use Rattle.std.proofs.Common.{◌≡◌, ℕ, ◌≤◌, cond, List, [], ◌∷◌, map, length, take, Some, Ok, Err, refl, ap, ◌∙◌, arith, lit<}
+use Rattle.std.proofs.Common.{◌≡◌, ℕ, ◌≤◌, not, ◌&&◌, ◌||◌, eqb, leb, cond, List, [], ◌∷◌, map, length, take, Some, None, Ok, Err}
+use Rattle.std.proofs.Common.{refl, ap, ◌∙◌, arith, lit<}
 use Rattle.std.specs.Borrow.{Bor}
 use Rattle.std.specs.Prelude.{IsTrue, ok_or}
 use Rattle.std.specs.List.{list_all}
-use Rattle.std.proofs.lemmas.Bool.{and_from, le-leb}
-use Rattle.pua_tree.specs.Spelling.{fields, is_field, number_within}
+use Rattle.std.proofs.lemmas.Bool.{and_parts, and_from, le-leb, leb-true, ne_eqb, not-true}
+use Rattle.pua_tree.specs.Names.{has_byte}
+use Rattle.pua_tree.specs.Spelling.{is_plain, escaped_byte, with_front, unspelled_from, bytes_spelled, fields, is_field, number_within}
+use Rattle.pua_tree.specs.Listing.{only_if}
 use Rattle.pua_tree.specs.Fields.{first_fields}
-use Rattle.pua_tree.proofs.ForCallers.{guarded, number_read, ok_or_read, step_read}
-use Rattle.pua_script.specs.Requests.{is_asked}
+use Rattle.pua_tree.proofs.ForCallers.{guarded, number_read, only_if_read, ok_or_read, step_read}
+use Rattle.pua_script.specs.Requests.{has_no_nul, is_asked}
 use Rattle.pua_script.specs.declared.request.Action.{Action}
 use Rattle.pua_script.specs.declared.fault.ScriptFault.TheVariants.{BadLine, BadCall}
 use Rattle.pua_script.specs.Scripts.{action_in, form_in, action_of, request_of_fields, request_of}
 use Rattle.pua_script.proofs.Grammar.{action_read, askable}
+
+-- a field of plain bytes is the text that it spells, and none of them is NUL
+pub plain_path : (field : List ℕ) → IsTrue (list_all is_plain field) → only_if has_no_nul (bytes_spelled field) ≡ Some field
+plain_path [] h = refl
+plain_path (b ∷ more) h =
+    let parts = and_parts (is_plain b) (list_all is_plain more) h in
+    let visible = and_parts (leb 33 b) (leb b 126 && not (eqb b 92)) parts.0 in
+    let above = leb-true 33 b visible.0 in
+    let behind = only_if_read has_no_nul (bytes_spelled more) more (plain_path more parts.1) in
+    ap (λ t. only_if has_no_nul
+    (with_front (cond t (escaped_byte more) (cond (is_plain b) (Some b) None)) (unspelled_from (cond t 3 0) more)))
+    (not-true (eqb b 92) (and_parts (leb b 126) _ visible.1).1)
+    ∙ ap (λ t. only_if has_no_nul (with_front (cond t (Some b) None) (bytes_spelled more))) parts.0
+    ∙ ap (λ text. only_if has_no_nul (with_front (Some b) text)) behind.0
+    ∙ ap (λ t. cond (not (t || has_byte 0 more)) (Some (b ∷ more)) None) (ne_eqb b 0 (omega (arith, above)))
+    ∙ ap (λ t. cond t (Some (b ∷ more)) None) behind.1
 
 -- no call has more than two arguments
 pub many_arguments : (n : ℕ) (fs : List (Bor (List ℕ))) → 4 ≤ length fs → action_in n (map (λ f. f.now) fs) ≡ Err (BadCall n)

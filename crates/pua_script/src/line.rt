@@ -13,7 +13,7 @@ use crate::fault::ScriptFault;
 use crate::limits::MOST_NUMBER;
 use crate::request::{Action, Given, PathBytes, Request};
 use pua_calls::{Call, Perms, Promises};
-use pua_tree::{Fields, number_within, unspelled};
+use pua_tree::{Fields, are_plain, number_within, unspelled};
 use std::alloc::Global;
 
 /// Reads one line of a script, whose number is told with a fault. `OutOfMemory` where a growth was
@@ -161,12 +161,17 @@ fn read_unveil(alloc: Global, number: u32, path: &[u8], perms: &[u8]) -> Result<
     Ok(Action::Unveil(path, read_perms(perms)))
 }
 
-/// The bytes of a path or a target; `=` is the empty text.
+/// The bytes of a path or a target; `=` is the empty text. Plain bytes, as most fields have, spell
+/// themselves, and none is NUL.
+#[tactic(auto, using(crate::proofs::Reading::plain_path))]
 fn read_path(alloc: Global, number: u32, field: &[u8]) -> Result<PathBytes, ScriptFault>
     ensures { IsReadAs (ok_or (path_in field.now) (BadPath number)) result }
 {
     if is_empty_text(field) {
         return Ok(PathBytes::new(Vec::new(alloc)));
+    }
+    if are_plain(field) {
+        return PathBytes::copied(alloc, field).map_err(|_| ScriptFault::OutOfMemory);
     }
     match unspelled(alloc, field) {
         Ok(Some(bytes)) if !bytes.contains(&0) => Ok(PathBytes::new(bytes)),
