@@ -3,7 +3,9 @@
 -- climbing in a tree, one directory after another
 pub use Rattle.pua_policy.proofs.Climbs.{climb_step, length-climb_step}
 -- what a process keeps decides what it may do
-pub use Rattle.pua_policy.proofs.Standing.{processes_decide}
+pub use Rattle.pua_policy.proofs.Standing.{processes_decide, cover_by, unveil_fault_by}
+-- and is what is left of a history, after each event and after an exec
+pub use Rattle.pua_policy.proofs.Histories.{keeps, stands, state_after, state_more, state_by_exec, state_exec}
 -- no event brings back a promise but `error`
 pub use Rattle.pua_policy.proofs.Narrowing.{held_never_grows}
 -- what both of two sets have, the second has, and what a set holds, a set that holds it holds

@@ -74,11 +74,6 @@ abbrev pub narrowed_set : Option ℕ → Option ℕ → Option ℕ
 narrowed_set given None = given
 narrowed_set given (Some request) = Some (meet request given)
 
--- a pledge is refused if it asks for more in either argument, unless `error` is held
-abbrev pub pledge_fault : History → Option ℕ → Option ℕ → Option Errno
-pledge_fault h promises execpromises =
-    if has_error h || (is_within promises (pledged_set h) && is_within execpromises (held_for_exec h)) then None else Some EPERM
-
 abbrev pub same_place : Place → Place → Bool
 same_place (Dir a) (Dir b) = a == b
 same_place (Slot a n) (Slot b m) = a == b && same_bytes n m
@@ -165,13 +160,6 @@ after_exec left h = by_given (held_for_exec h)
     by_given (Some promises) = Pledged (Some promises) (left_for_exec left promises) ∷ filter (λ event. not (is_pledge event)) h
     by_given None = Moved (working_dir h) ∷ []
 
--- whether promises allow a call that needs one of these sets
-abbrev pub may_any : History → List ℕ → May
-may_any h alternatives =
-    if is_ended h then Death
-    else (if list_any (holds (held_set h)) alternatives then Yes
-    else (if has_error h then Enosys else Death))
-
 -- what a process keeps of its history; its promises are None until a pledge gives some, since that pledge alone may name any
 pub record ProcessState : Type 0 where
   pub promises : Option ℕ
@@ -180,6 +168,43 @@ pub record ProcessState : Type 0 where
   pub locked : Bool
   pub dir : ℕ
   pub ended : Bool
+
+-- what is left of a history
+abbrev pub state_of : History → ProcessState
+state_of h = record {
+  promises = pledged_set h;
+  execpromises = held_for_exec h;
+  veils = veils h;
+  locked = is_locked h;
+  dir = working_dir h;
+  ended = is_ended h;
+}
+
+-- the promises that a process holds
+abbrev pub held_on : ProcessState → ℕ
+held_on p = unwrap_or p.promises (all_promises - error)
+
+-- a pledge is refused if it asks for more in either argument, unless `error` is held
+abbrev pub pledge_fault_on : ProcessState → Option ℕ → Option ℕ → Option Errno
+pledge_fault_on p promises execpromises =
+    if holds (held_on p) error || (is_within promises p.promises && is_within execpromises p.execpromises) then None else Some EPERM
+
+abbrev pub pledge_fault : History → Option ℕ → Option ℕ → Option Errno
+pledge_fault h promises execpromises = pledge_fault_on (state_of h) promises execpromises
+
+-- why permissions may not be kept at a place, by what a process keeps
+abbrev pub unveil_fault_on : ProcessState → Place → ℕ → Option UnveilFault
+unveil_fault_on p place perms = if p.locked then Some NotPermitted else place_fault (veil_at p.veils place) (length p.veils) perms
+
+-- whether promises allow a call that needs one of these sets
+abbrev pub may_any_on : ProcessState → List ℕ → May
+may_any_on p alternatives =
+    if p.ended then Death
+    else (if list_any (holds (held_on p)) alternatives then Yes
+    else (if holds (held_on p) error then Enosys else Death))
+
+abbrev pub may_any : History → List ℕ → May
+may_any h alternatives = may_any_on (state_of h) alternatives
 
 -- the process stands for the history
 pub record StandsFor (process : ProcessState) (h : History) : Type 0 where

@@ -5,7 +5,7 @@ ghost use Rattle.pua_tree.specs.Tree.{is_dir, climb};
 ghost use Rattle.pua_policy.specs.Descent.{own_or};
 ghost use Rattle.pua_policy.specs.History.{History, StandsFor, perms_kept, veil_at};
 ghost use Rattle.pua_policy.specs.Reasons.{covering, first_veiled, covering_at};
-ghost use Rattle.pua_policy.specs.Verdict.{FoundFits, cover, nearest};
+ghost use Rattle.pua_policy.specs.Verdict.{FoundFits, cover, cover_on, nearest};
 
 use crate::answer::Cover;
 use crate::place::Place;
@@ -22,6 +22,7 @@ impl Process {
     /// probe's tree as it stands. At most as many looks at the tree as it has nodes.
     pub fn cover<'t, P: Probe<'t>>(&self, probe: &mut P, found: &Found) -> Cover
         requires { FoundFits (P.tree probe.old) found.now }
+        ensures state { result ≡ cover_on (P.tree probe.old) self.now found.now }
         ensures exact { (h : History) → StandsFor self.now h →
             result ≡ cover (P.tree probe.old) h found.now }
         ensures tree { P.tree probe.new ≡ P.tree probe.old }

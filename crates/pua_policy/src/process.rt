@@ -51,18 +51,18 @@ impl Model for Process {
     }) };
 }
 
-ghost use Rattle.std.specs.Prelude.{◌≡◌, ◌≢◌, ◌-◌, [], ◌∷◌, length, map};
-ghost use Rattle.std.specs.Prelude.{if◌then◌else◌, false, Option, Some, None, IfSome, unwrap_or};
+ghost use Rattle.std.specs.Prelude.{◌≡◌, ◌≢◌, ◌-◌, [], ◌∷◌, map};
+ghost use Rattle.std.specs.Prelude.{false, Option, Some, None, IfSome, unwrap_or};
 ghost use Rattle.std.specs.Prelude.{Err, IfOk, OnOk, OnErr, IfErr, MatchResult};
 ghost use Rattle.std.specs.List.{list_any};
 ghost use Rattle.pua_calls.specs.Promises.{holds, all_promises, error};
 ghost use Rattle.pua_calls.specs.declared.rules.ExecPromises.TheVariants.{Unset};
 ghost use Rattle.pua_policy.specs.History.{History, StandsFor, new_history, HasHistory, after_exec};
 ghost use Rattle.pua_policy.specs.History.{Pledged, Unveiled, Locked, Moved, Ended};
-ghost use Rattle.pua_policy.specs.History.{pledge_fault, unveil_fault, place_fault, is_within};
-ghost use Rattle.pua_policy.specs.History.{narrowed_set, may_any, is_locked, is_ended, working_dir};
+ghost use Rattle.pua_policy.specs.History.{pledge_fault, unveil_fault, unveil_fault_on, is_within};
+ghost use Rattle.pua_policy.specs.History.{narrowed_set, may_any, may_any_on, is_locked, is_ended};
 ghost use Rattle.pua_policy.specs.History.{pledged_set, held_set, held_for_exec, left_for_exec};
-ghost use Rattle.pua_policy.specs.History.{perms_kept, veils, veil_at, has_veil};
+ghost use Rattle.pua_policy.specs.History.{perms_kept, veils, veil_at, has_veil, working_dir};
 
 impl Process {
     /// A new process, in the root: it holds every promise but `error`, and has no veil (this
@@ -263,7 +263,8 @@ impl Process {
     /// the sets, `Enosys` where it holds none and holds `error`, and else `Death` (pledge(2)). One
     /// that has ended may do nothing: `Death`.
     pub fn may_any(&self, alternatives: &[Promises]) -> May
-        ensures { (h : History) → StandsFor self.now h → result ≡ may_any h alternatives.now }
+        ensures state { result ≡ may_any_on self.now alternatives.now }
+        ensures history { (h : History) → StandsFor self.now h → result ≡ may_any h alternatives.now }
     {
         let held = self.held();
         if self.ended {
@@ -279,8 +280,7 @@ impl Process {
 
     /// Why permissions may not be kept at a place.
     fn unveil_fault(&self, place: &Place, perms: Perms) -> Option<UnveilFault>
-        ensures fault { result ≡ (if self.now.locked then Some UnveilFault.NotPermitted else
-            place_fault (veil_at self.now.veils place.now) (length self.now.veils) perms) }
+        ensures fault { result ≡ unveil_fault_on self.now place.now perms }
         ensures other { IfSome result (λ fault. fault ≢ UnveilFault.OutOfMemory) }
     {
         if self.locked {

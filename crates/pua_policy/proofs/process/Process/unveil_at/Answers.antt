@@ -1,12 +1,12 @@
-use Rattle.std.proofs.Common.{◌≡◌, ◌∙◌, ℕ, List, sym, ap, refl, true, false}
+use Rattle.std.proofs.Common.{◌≡◌, ◌∙◌, ℕ, List, sym, ap, subst, refl, true, false}
 use Rattle.std.specs.Prelude.{Result, Ok, Err, OnOk, OnErr}
 use Rattle.std.specs.Result.{is_err}
 use Rattle.indexmap.specs.IndexMap.{insert_entry}
 use Rattle.pua_policy.specs.declared.place.Place.{Place}
-use Rattle.pua_policy.specs.History.{with_veil, veil_at}
+use Rattle.pua_policy.specs.History.{StandsFor, Unveiled, with_veil, veil_at}
 use Rattle.pua_policy.specs.declared.answer.UnveilFault.TheVariants.{OutOfMemory}
 use Rattle.pua_policy.proofs.Standing.{unveil_fault_by}
-use Rattle.pua_policy.proofs.Histories.{led_by_veil}
+use Rattle.pua_policy.proofs.Histories.{stands_after, led_after}
 use Rattle.pua_policy.proofs.Places.{same_place-eq}
 use Rattle.pua_policy.proofs.Veils.{with_veil-insert_entry, veil_at-lookup}
 use Rattle.pua_policy.specs.contracts.place.PlacePartialEq.TheImpl.{ghosts}
@@ -43,15 +43,8 @@ put r well place perms old new is = if_no_err r well is ∙ with_veil-insert_ent
 pub returns-clause-ok : goal.returns-clause-ok
 returns-clause-ok c = λ h s. (
   unveil_fault_by c.args.self.now h s c.args.place c.args.perms ∙ sym c.unveil_fault.ensures.fault ∙ c.in_default.is,
-  record {
-    promises = ap (λ p. p.promises) c.self.view_is ∙ s.promises;
-    execpromises = ap (λ p. p.execpromises) c.self.view_is ∙ s.execpromises;
-    veils = put c.insert.result (sym c.is_err.ensures.value ∙ c.if-is_err.false) c.args.place c.args.perms _ _ c.insert.ensures.entries
-        ∙ ap (with_veil c.args.place c.args.perms) (ap (λ p. p.veils) c.self.view_is ∙ s.veils);
-    locked = ap (λ p. p.locked) c.self.view_is ∙ s.locked;
-    dir = ap (λ p. p.dir) c.self.view_is ∙ s.dir;
-    ended = ap (λ p. p.ended) c.self.view_is ∙ s.ended;
-  },
+  rw (put c.insert.result (sym c.is_err.ensures.value ∙ c.if-is_err.false) c.args.place c.args.perms _ _ c.insert.ensures.entries)
+      (stands_after _ h (subst (λ p. StandsFor p h) (sym c.self.view_is) s) (Unveiled c.args.place c.args.perms)),
 )
 
 pub returns-in-Some-clause-memory : goal.returns-in-Some-clause-memory
@@ -66,4 +59,4 @@ returns-then-is_err-clause-memory c = λ _.
 pub invariant_of-self-2 : goal.invariant_of-self-2
 invariant_of-self-2 c =
     rw (put c.insert.result (sym c.is_err.ensures.value ∙ c.if-is_err.false) c.args.place c.args.perms _ _ c.insert.ensures.entries)
-    (led_by_veil _ c.self.invariant c.args.place c.args.perms)
+    (led_after _ c.self.invariant (Unveiled c.args.place c.args.perms))
