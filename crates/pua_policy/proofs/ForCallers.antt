@@ -3,7 +3,7 @@
 -- climbing in a tree, one directory after another
 pub use Rattle.pua_policy.proofs.Climbs.{climb_step, length-climb_step}
 -- what a process keeps decides what it may do
-pub use Rattle.pua_policy.proofs.Standing.{processes_decide, cover_by, unveil_fault_by}
+pub use Rattle.pua_policy.proofs.Standing.{processes_decide, kept_by, cover_by, unveil_fault_by}
 -- and is what is left of a history, after each event and after an exec
 pub use Rattle.pua_policy.proofs.Histories.{keeps, stands, state_after, state_more, state_by_exec, state_exec}
 -- no event brings back a promise but `error`
@@ -24,6 +24,6 @@ pub use Rattle.pua_policy.proofs.Veils.{veils_are_kept, same_place_is, same_plac
 pub use Rattle.pua_policy.proofs.Standing.{any_veil}
 -- what is told of promises, of veils and of objects
 pub use Rattle.pua_policy.proofs.Lacking.{suffices, least, lackings_hold, promisings_hold, promisings_answer}
-pub use Rattle.pua_policy.proofs.Coverings.{coverings_cover}
+pub use Rattle.pua_policy.proofs.Coverings.{coverings_cover, covering_by}
 pub use Rattle.pua_policy.proofs.NearestVeil.{coverings_hold}
 pub use Rattle.pua_policy.proofs.Misfits.{misfits_hold}

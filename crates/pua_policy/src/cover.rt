@@ -4,7 +4,7 @@ ghost use Rattle.std.specs.Prelude.{◌≡◌, ◌+◌, ◌≤◌, length, map, 
 ghost use Rattle.pua_tree.specs.Tree.{is_dir, climb};
 ghost use Rattle.pua_policy.specs.Descent.{own_or};
 ghost use Rattle.pua_policy.specs.History.{History, StandsFor, perms_kept, veil_at};
-ghost use Rattle.pua_policy.specs.Reasons.{covering, first_veiled, covering_at};
+ghost use Rattle.pua_policy.specs.Reasons.{covering, covering_at, covering_on, first_veiled};
 ghost use Rattle.pua_policy.specs.Verdict.{FoundFits, cover, cover_on, nearest};
 
 use crate::answer::Cover;
@@ -45,6 +45,8 @@ impl Process {
     /// That is said of what was found in the probe's tree as it stands. Whatever the object is, it
     /// takes at most as many looks at the tree as that has nodes.
     pub fn covering<'t, P: Probe<'t>>(&self, probe: &mut P, found: &Found) -> Covering
+        ensures state { FoundFits (P.tree probe.old) found.now →
+            result ≡ covering_on (P.tree probe.old) self.now found.now }
         ensures exact { FoundFits (P.tree probe.old) found.now →
             (h : History) → StandsFor self.now h →
             result ≡ covering (P.tree probe.old) h found.now }
