@@ -57,7 +57,8 @@ first_over kept_at (d ∷ ds) = by (kept_at (place.Dir d)) (first_over kept_at d
     by None e = e
 
 -- a process covers an object as its history does
-pub covering_by : (p : ProcessState) (h : History) → StandsFor p h → (t : Tree) (object : Found) → covering t h object ≡ covering_on t p object
+pub covering_by : (p : ProcessState) (h : History) → StandsFor p h → (t : Tree) (object : Found) →
+    covering t h object ≡ covering_on t p object
 covering_by p h s t object = λ i. covering_with ((any_veil h ∙ ap has_veil (sym s.veils)) i) (λ place. kept_by p h s place i) t object
 
 module _ (p : ProcessState) (t : Tree) where

@@ -11,8 +11,6 @@ pub use Rattle.pua_policy.proofs.Narrowing.{held_never_grows}
 -- what both of two sets have, the second has, and what a set holds, a set that holds it holds
 pub use Rattle.pua_policy.proofs.Narrowing.{second_holds}
 pub use Rattle.pua_policy.proofs.Veils.{holds_through}
--- what an exec keeps of a history
-pub use Rattle.pua_policy.proofs.Exec.{others, no_promises, no_execpromises, same_veils, same_lock, same_dirs, same_end}
 -- names without a veil of their own are covered as their directory is, and get one verdict where nothing stands
 pub use Rattle.pua_policy.proofs.Unveiled.{unveiled_alike, unveiled_within, missing_alike}
 -- covers, one directory after another

@@ -39,7 +39,8 @@ pub fn promised(process: &Process, promises: Promises) -> Result<(), Refusal>
 /// Whether a process holds what a call needs by a table: all promises of one of its alternatives.
 /// Without them the call fails, or the process is killed, as without those of `promised`.
 pub fn promised_for(process: &Process, table: &CallTable, call: Call) -> Result<(), Refusal>
-    ensures state { result_err result ≡ refusal_of (may_any_on process.now (rule_of table.now call).alternatives) }
+    ensures state { result_err result
+        ≡ refusal_of (may_any_on process.now (rule_of table.now call).alternatives) }
     ensures exact { (h : History) → StandsFor process.now h → MatchResult result
         (λ _. may_any h (rule_of table.now call).alternatives ≡ May.Yes)
         (λ refusal. refusal_of (may_any h (rule_of table.now call).alternatives) ≡ Some refusal) }

@@ -264,7 +264,8 @@ impl Process {
     /// that has ended may do nothing: `Death`.
     pub fn may_any(&self, alternatives: &[Promises]) -> May
         ensures state { result ≡ may_any_on self.now alternatives.now }
-        ensures history { (h : History) → StandsFor self.now h → result ≡ may_any h alternatives.now }
+        ensures history { (h : History) → StandsFor self.now h →
+            result ≡ may_any h alternatives.now }
     {
         let held = self.held();
         if self.ended {

@@ -9,40 +9,25 @@ use Rattle.std.specs.FinMap.Entries.{find-put, is_sorted-put, length-put}
 use Rattle.std.specs.Map.{lookup}
 use Rattle.pua_tree.specs.Tree.{Tree}
 use Rattle.pua_tree.specs.declared.fault.TreeFault.{TreeFault}
-use Rattle.pua_path.specs.Paths.{path_fault}
-use Rattle.pua_path.specs.Resolution.{resolution_of_text}
 use Rattle.pua_path.specs.declared.errno.Errno.{Errno}
-use Rattle.pua_path.specs.declared.errno.Errno.TheVariants.{EPERM, EINVAL, EAGAIN}
-use Rattle.pua_path.specs.declared.text.Ending.{Ending}
-use Rattle.pua_path.specs.declared.text.Ending.TheVariants as ending
-use Rattle.pua_path.specs.declared.found.Found.{Found}
-use Rattle.pua_path.specs.declared.found.Last.TheVariants.{Followed}
-use Rattle.pua_calls.specs.Promises.{proc, unveil}
-use Rattle.pua_calls.specs.Calls.{CallTable, PairRule, rule_of, ending_of, last_of}
-use Rattle.pua_policy.specs.History.{History, Pledged, Unveiled, Locked, Ended, ProcessState, is_ended}
-use Rattle.pua_policy.specs.Verdict.{place_of, cover_fault, or_fault, object_fault, object_of, object_named}
-use Rattle.pua_policy.specs.Laws.{AllowAlike}
-use Rattle.pua_policy.proofs.ForCallers.{processes_decide}
-use Rattle.pua_calls.specs.declared.call.Call.{Call}
-use Rattle.pua_calls.specs.declared.call.Call.TheVariants as call
+use Rattle.pua_path.specs.declared.errno.Errno.TheVariants.{EAGAIN}
+use Rattle.pua_calls.specs.Calls.{CallTable}
+use Rattle.pua_policy.specs.History.{History, Ended, ProcessState, state_of, is_ended, after_exec}
+use Rattle.pua_policy.proofs.ForCallers.{stands}
 use Rattle.pua_script.specs.Requests.{Asked}
 use Rattle.pua_script.specs.declared.answer.Answer.{Answer}
 use Rattle.pua_script.specs.declared.answer.Answer.TheVariants.{Gone}
 use Rattle.pua_script.specs.declared.request.Action.{Action}
-use Rattle.pua_script.specs.declared.request.Action.TheVariants.{OnPath, Symlink, Rename, Link, Pledge, Unveil, Lock, Fork, Exit}
-use Rattle.pua_script.specs.Decide.{fault_if, link_node, unveil_errno, given_set, is_unknown, Change, NoChange, AddNode, CutRow, ShiftRow}
-use Rattle.pua_script.specs.Decide.{TieRow, BeginProgram, AddEvent, CopyAs, Decision, if_may, unless_fault, if_named, adding, change_by}
-use Rattle.pua_script.specs.Decide.{decide_pair, decide_veil, decide}
+use Rattle.pua_script.specs.Decide.{Change, NoChange, AddNode, CutRow, ShiftRow, TieRow, BeginProgram, AddEvent, CopyAs, Decision}
+use Rattle.pua_script.specs.Decide.{refusals, decide_by, decide}
 use Rattle.pua_script.specs.Replay.{World, Effect, Fails, Kills, Leaves, Copies, history_of, effect, edit_effect, edited_tree, answer_to}
 use Rattle.pua_script.specs.Replay.{left_by, answer_and_world, apply, answers_to, world_after, change_effect, come_of}
 use Rattle.pua_tree.specs.Edits.{add, cut, shift, tie}
-use Rattle.pua_policy.specs.History.{after_exec}
-use Rattle.pua_policy.specs.Verdict.{found_fault}
 use Rattle.pua_policy.specs.declared.answer.Refusal.TheVariants.{Failed, Killed}
 use Rattle.pua_script.specs.Limits.{most_processes}
 use Rattle.pua_script.specs.Worlds.{WorldState, StandsAt, StandsForWorld, WorldsAnswerAlike, process_at}
 use Rattle.pua_script.proofs.StoodFor.{nat_turned}
-use Rattle.pua_script.proofs.Histories.{Same, state_of, same_self, same_from_standing, stands_from_same, same_more, same_after_exec}
+use Rattle.pua_script.proofs.Histories.{Same, same_from_standing, same_more, same_after_exec, same_asker}
 use Rattle.pua_tree.proofs.ForCallers.{holds, nat_tie}
 use Rattle.std.specs.Bool.{passes}
 
@@ -54,47 +39,9 @@ data SameEffect : Effect → Effect → Type 0 where
   copies : {new : ℕ} → SameEffect (Copies new) (Copies new)
 
 module _ (h k : History) (a : Same h k) where
-  allow : AllowAlike h k
-  allow = processes_decide (state_of h) h k (stands_from_same h h (same_self h)) (stands_from_same h k a)
-
   -- a decision rests on what a process keeps of its history
-  call_alike : (table : CallTable) (t : Tree) (c : Call) (path : List ℕ) (f : Found → Change)
-      → (if_named (object_named t h c path) λ x. unless_fault (found_fault t table h c x) (Ok (f x)))
-      ≡ (if_named (object_named t k c path) λ x. unless_fault (found_fault t table k c x) (Ok (f x)))
-  call_alike table t c path f i = if_named (resolution_of_text t (a.dir i) (ending_of c) path (last_of c))
-      λ x. unless_fault (or_fault (cover_fault (allow.covers t x i) (rule_of table c).perms) (object_fault t c (object_of t x))) (Ok (f x))
-
-  pair_alike : (pair : PairRule) (t : Tree) (end : Ending) (old new : List ℕ) (f : Found → Found → Decision) →
-      decide_pair pair t h end old new f ≡ decide_pair pair t k end old new f
-  pair_alike pair t end old new f i =
-      if_may (allow.promises pair.old.needs.alternatives i) (if_may (allow.promises pair.new.needs.alternatives i)
-      (if_named (resolution_of_text t (a.dir i) end old pair.old.last) λ x. if_named (resolution_of_text t (a.dir i) end new pair.new.last)
-      λ y.
-      unless_fault (or_fault (cover_fault (allow.covers t x i) pair.old.needs.perms)
-      (cover_fault (allow.covers t y i) pair.new.needs.perms)) (f x y)))
-
-  veil_alike : (t : Tree) (path : List ℕ) (letters : Option ℕ) → decide_veil t h path letters ≡ decide_veil t k path letters
-  veil_alike t path None = refl
-  veil_alike t path (Some perms) =
-      λ i. if_named (resolution_of_text t (a.dir i) ending.Dot path Followed) λ x. unless_fault
-      (unveil_errno (allow.unveils (place_of x) perms i)) (Ok (AddEvent (Unveiled (place_of x) perms)))
-
   decide_alike : (table : CallTable) (t : Tree) (action : Action) → decide table t h action ≡ decide table t k action
-  decide_alike table t (OnPath c path) =
-      λ i. if_may (allow.promises (rule_of table c).alternatives i) (call_alike table t c path (change_by table c) i)
-  decide_alike table t (Symlink target path) =
-      λ i. if_may (allow.promises (rule_of table call.Symlink).alternatives i)
-      (unless_fault (path_fault target) (call_alike table t call.Symlink path (adding (link_node target)) i))
-  decide_alike table t (Rename old new) = pair_alike table.rename t ending.Dropped old new _
-  decide_alike table t (Link old new) = pair_alike table.link t ending.Dot old new _
-  decide_alike table t (Pledge p x) =
-      λ i. unless_fault (fault_if (is_unknown p || is_unknown x) EINVAL) (unless_fault (allow.pledges (given_set p) (given_set x) i)
-      (Ok (AddEvent (Pledged (given_set p) (given_set x)))))
-  decide_alike table t (Unveil path perms) =
-      λ i. if_may (allow.promises (unveil ∷ []) i) (unless_fault (fault_if (a.locked i) EPERM) (veil_alike t path perms i))
-  decide_alike table t Lock = λ i. if_may (allow.promises (unveil ∷ []) i) (Ok (AddEvent Locked))
-  decide_alike table t (Fork new) = λ i. if_may (allow.promises (proc ∷ []) i) (Ok (CopyAs new))
-  decide_alike table t Exit = refl
+  decide_alike table t action = ap (λ asker. decide_by refusals table t asker action) (same_asker h k a)
 
   same_edited : (r s : Result (ℕ × Tree) TreeFault) → r ≡ s → SameEffect (edit_effect h r) (edit_effect k s)
   same_edited r s e = subst (λ o. SameEffect (edit_effect h r) (edit_effect k o)) e (by r)
@@ -213,7 +160,7 @@ module _ (v w : World) (same : SameWorlds v w) where
       let d = effect table v h ask.action in
       let e = effect table w k ask.action in
       subst (λ b. SameDone (cond b (Gone, v) (answer_to d, left_by v ask.process h d)) (answer_and_world table w ask (Some k)))
-      (sym at.ended)
+      (ap (λ p. p.ended) (sym at))
       (same_gone_if (is_ended k) _ _ (same_left ask.process h k at d e (same_effect table h k at ask.action)))
 
   same_step : (table : CallTable) (ask : Asked) → SameDone (apply table v ask) (apply table w ask)
@@ -254,11 +201,11 @@ own_stands : (o g : Option History) → SameAt o g → StandsAt (option_map stat
 own_stands None None at = tt
 own_stands None (Some k) at = absurd at
 own_stands (Some h) None at = absurd at
-own_stands (Some h) (Some k) at = stands_from_same h k at
+own_stands (Some h) (Some k) at = stands (state_of h) k at
 
 same_at_self : (o : Option History) → SameAt o o
 same_at_self None = tt
-same_at_self (Some h) = same_self h
+same_at_self (Some h) = refl
 
 own_world : CallTable → World → WorldState
 own_world table v = record { tree = v.tree; table = table; processes = own_processes v.histories }

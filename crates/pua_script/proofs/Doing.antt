@@ -1,5 +1,5 @@
 -- What a process does, by the effect of what it asks for.
-use Rattle.std.proofs.Common.{◌≡◌, ℕ, Some, Result, Ok, Err, sym, ap, subst}
+use Rattle.std.proofs.Common.{◌≡◌, Some, Result, Ok, Err, sym, ap, subst}
 use Rattle.pua_tree.specs.Tree.{Tree}
 use Rattle.pua_policy.specs.History.{ProcessState, History, StandsFor}
 use Rattle.pua_policy.specs.Verdict.{refusal_of}

@@ -43,7 +43,8 @@ use Rattle.pua_path.specs.declared.found.Found.TheVariants.{Whole}
 use Rattle.pua_tree.specs.Tree.{Spot}
 use Rattle.pua_policy.specs.Verdict.{or_fault}
 use Rattle.pua_policy.specs.declared.answer.Refusal.TheVariants.{Failed}
-use Rattle.pua_script.specs.Decide.{Change, NoChange, Decision, fails, if_may, unless_fault, if_named as decide_named, decide_object}
+use Rattle.pua_script.specs.Decide.{Change, NoChange, Decision, fails, if_may, unless_fault, if_named as decide_named, asker_of}
+use Rattle.pua_script.specs.Decide.{decide_object}
 use Rattle.pua_script.specs.Decide.{decide_pair, decide_rename, decide_link, decide_veil, shifting, named_by, dots_fault, top_fault}
 use Rattle.pua_script.specs.Decide.{is_whole, fault_if, kinds_fault, inside_fault, unveil_errno}
 
@@ -224,13 +225,13 @@ pub granted_apart : (c : Change) → HasRoom (Ok c)
 granted_apart c e = cc
 
 pub object_has_room : (table : CallTable) (t : Tree) (h : History) (c : Call) (path : List ℕ) (f : Found → Change) →
-    HasRoom (decide_object table t h c path (λ x. Ok (f x)))
+    HasRoom (decide_object table t (asker_of h) c path (λ x. Ok (f x)))
 object_has_room table t h c path f = named_apart (object_named t h c path) _ (named t (working_dir h) (ending_of c) path (last_of c)) λ x.
     checked_apart _ _ (or_apart _ _ (cover_apart (cover t h x) (rule_of table c).perms) (object_apart t c (object_of t x)))
     (granted_apart (f x))
 
 pub pair_has_room : (pair : PairRule) (t : Tree) (h : History) (end : Ending) (old_path new_path : List ℕ) (f : Found → Found → Decision) →
-    ((old new : Found) → HasRoom (f old new)) → HasRoom (decide_pair pair t h end old_path new_path f)
+    ((old new : Found) → HasRoom (f old new)) → HasRoom (decide_pair pair t (asker_of h) end old_path new_path f)
 pair_has_room pair t h end old_path new_path f has =
     promised_apart (may_any h pair.old.needs.alternatives) _
     (promised_apart (may_any h pair.new.needs.alternatives) _
@@ -257,7 +258,7 @@ link_has_room old new (Some x) =
     checked_apart _ _ (or_apart _ _ (if_apart (is_whole old) EPERM (λ e. cc)) (if_apart (is_some (node_named new)) EEXIST (λ e. cc)))
     (granted_apart _)
 
-pub veil_has_room : (t : Tree) (h : History) (path : List ℕ) (perms : Option ℕ) → HasRoom (decide_veil t h path perms)
+pub veil_has_room : (t : Tree) (h : History) (path : List ℕ) (perms : Option ℕ) → HasRoom (decide_veil t (asker_of h) path perms)
 veil_has_room t h path None = λ e. cc
 veil_has_room t h path (Some perms) = named_apart _ _ (named t (working_dir h) ending.Dot path Followed) λ x.
     checked_apart _ _ (veil_apart (unveil_fault h (place_of x) perms)) (granted_apart _)

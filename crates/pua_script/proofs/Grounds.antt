@@ -21,7 +21,7 @@ use Rattle.pua_script.specs.Family.{is_exec, is_chdir}
 use Rattle.pua_script.specs.Guards.{OnOne, OnTwo, IsShift}
 use Rattle.pua_script.specs.Laws.{lacks_room}
 use Rattle.pua_script.specs.declared.request.Action.{Action}
-use Rattle.pua_script.specs.declared.request.Action.TheVariants.{OnPath, Symlink}
+use Rattle.pua_script.specs.declared.request.Action.TheVariants.{OnPath}
 
 -- the calls that make a name, and those that take one away
 abbrev pub makes : Call → Bool

@@ -22,7 +22,7 @@ use Rattle.pua_policy.specs.declared.answer.May.{May}
 use Rattle.pua_policy.specs.declared.answer.May.TheVariants as may
 use Rattle.pua_script.specs.Decide.{fault_if, is_whole, link_node, unveil_errno, given_set, is_unknown, inside_fault, kinds_fault, Change}
 use Rattle.pua_script.specs.Decide.{NoChange, Decision, if_may, unless_fault, if_named, adding, change_by, decide_rename, decide_link}
-use Rattle.pua_script.specs.Decide.{decide_veil, decide_pair, shifting, ways_fault, covers_fault, named_by}
+use Rattle.pua_script.specs.Decide.{asker_of, covers_by, decide_veil, decide_pair, shifting, ways_fault, named_by}
 use Rattle.pua_script.specs.declared.request.Action.TheVariants.{OnPath, Symlink, Rename, Link, Pledge, Unveil, Lock, Fork, Exit}
 use Rattle.pua_script.specs.Guards.{OnOne, OnTwo, IsShift, IsVeil, DecisionsAreGuarded}
 use Rattle.std.proofs.lemmas.Bool.{and_parts}
@@ -87,22 +87,22 @@ module _ (t : Tree) (h : History) where
 
   pair : (rules : PairRule) (end : Ending) (old new : List ℕ) (f : Found → Found → Option ℕ → Decision) (change : Change) →
       ((a b : Found) → f a b None ≡ Ok change → ⊥)
-      → decide_pair rules t h end old new (λ a b. f a b (node_named a)) ≡ Ok change → Pair rules end old new f change
+      → decide_pair rules t (asker_of h) end old new (λ a b. f a b (node_named a)) ≡ Ok change → Pair rules end old new f change
   pair rules end old new f change never e =
       let may_old = from_promised (may_any h rules.old.needs.alternatives) _ change e in
       let may_new = from_promised (may_any h rules.new.needs.alternatives) _ change may_old.1 in
       let first = from_named (named_by rules.old t h end old) (λ a. if_named (named_by rules.new t h end new) λ b. unless_fault
-      (covers_fault rules t h a b) (f a b (node_named a))) change may_new.1 in
+      (covers_by rules t (asker_of h) a b) (f a b (node_named a))) change may_new.1 in
       let a = first.0 in
-      let second = from_named (named_by rules.new t h end new) (λ b. unless_fault (covers_fault rules t h a b) (f a b (node_named a)))
-      change first.2 in
+      let second = from_named (named_by rules.new t h end new)
+      (λ b. unless_fault (covers_by rules t (asker_of h) a b) (f a b (node_named a))) change first.2 in
       let b = second.0 in
-      let free = from_checked (covers_fault rules t h a b) (f a b (node_named a)) change second.2 in
+      let free = from_checked (covers_by rules t (asker_of h) a b) (f a b (node_named a)) change second.2 in
       by a b (node_named a) refl may_old.0 may_new.0 first.1 second.1 free.0 free.1
     where
       by : (a b : Found) (o : Option ℕ) → node_named a ≡ o → may_any h rules.old.needs.alternatives ≡ may.Yes →
           may_any h rules.new.needs.alternatives ≡ may.Yes → named_by rules.old t h end old ≡ Ok a → named_by rules.new t h end new ≡ Ok b
-          → covers_fault rules t h a b ≡ None → f a b o ≡ Ok change → Pair rules end old new f change
+          → covers_by rules t (asker_of h) a b ≡ None → f a b o ≡ Ok change → Pair rules end old new f change
       by a b None is may_old may_new fa fb none e = absurd (never a b e)
       by a b (Some x) is may_old may_new fa fb none e = (
         a,
@@ -144,7 +144,7 @@ module _ (t : Tree) (h : History) where
           })
 
   veiled : (path : List ℕ) (letters : Option ℕ) (change : Change) → may_any h (unveil ∷ []) ≡ may.Yes → is_locked h ≡ false →
-      decide_veil t h path letters ≡ Ok change → IsVeil t h path letters change
+      decide_veil t (asker_of h) path letters ≡ Ok change → IsVeil t h path letters change
   veiled path None change may unlocked e = cc
   veiled path (Some perms) change may unlocked e =
       let at = from_named (resolution_of_text t (working_dir h) ending.Dot path Followed) _ change e in

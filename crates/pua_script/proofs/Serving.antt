@@ -176,7 +176,7 @@ pub all_serve : (s : WorldState) (ask : Asked) (r : Result Answer WorldFault) (t
     → Acts s.table s.tree p ask.action r t q →
     IfOk r (λ answer. IsServed s ask answer (record { tree = t; table = s.table; processes = more }))
 all_serve s ask (Ok answer) t p q more there living changed counted acts =
-    serves s ask answer t p q more (sym there) living changed counted (λ w h stands own. acts w h (sym stands.tree) own)
+    serves s ask answer t p q more (sym there) living changed counted (λ w h stands own. acts.does w h (sym stands.tree) own)
 all_serve s ask (Err fault) t p q more there living changed counted acts = tt
 
 -- where a growth was refused, the replay answers `ok`
@@ -184,7 +184,8 @@ pub all_okay : (s : WorldState) (ask : Asked) (r : Result Answer WorldFault) (t 
     Some p ≡ process_at s ask.process → p.ended ≡ false
     → Acts s.table s.tree p ask.action r t q → OnErr r (IsOkay s ask)
 all_okay s ask (Ok answer) t p q there living acts = tt
-all_okay s ask (Err fault) t p q there living acts = is_okay s ask p (sym there) living (λ w h stands own. acts w h (sym stands.tree) own)
+all_okay s ask (Err fault) t p q there living acts =
+    is_okay s ask p (sym there) living (λ w h stands own. acts.does w h (sym stands.tree) own)
 
 -- where it was not, the replay goes on
 pub goes_on : (r : Result Answer WorldFault) (s after : WorldState) (ask : Asked) → HasReplay s →

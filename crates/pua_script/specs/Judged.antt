@@ -5,10 +5,11 @@ use Rattle.pua_tree.specs.Tree.{Node, Tree, Spot}
 use Rattle.pua_tree.specs.declared.node.Kind.TheVariants as kind
 use Rattle.pua_path.specs.Fits.{FoundFits, StandsAsNamed}
 use Rattle.pua_path.specs.declared.found.Found.{Found}
-use Rattle.pua_policy.specs.History.{History, Locked, Moved, Ended}
+use Rattle.pua_policy.specs.History.{Locked, Moved, Ended}
 use Rattle.pua_policy.specs.Verdict.{place_of}
 use Rattle.pua_policy.specs.declared.answer.Refusal.{Refusal}
-use Rattle.pua_script.specs.Decide.{NoChange, AddNode, CutRow, ShiftRow, TieRow, BeginProgram, AddEvent, Decision, pledging, veiling}
+use Rattle.pua_script.specs.Decide.{NoChange, AddNode, CutRow, ShiftRow, TieRow, BeginProgram, AddEvent, Asking, Decision, pledging}
+use Rattle.pua_script.specs.Decide.{veiling}
 use Rattle.pua_script.specs.Decide.{plain_node, link_node}
 use Rattle.pua_script.specs.declared.granted.Granted.{Granted}
 use Rattle.pua_script.specs.declared.granted.Granted.TheVariants as granted
@@ -31,18 +32,18 @@ node_made new_nodes.Directory = plain_node kind.Dir
 node_made (new_nodes.Link target) = link_node target.now.bytes
 
 -- what was granted, as a decision: of a pledge and an unveil the process itself judges the last check
-abbrev pub decision_by : History → Granted → Decision
-decision_by h granted.NoChange = Ok NoChange
-decision_by h (granted.AddNode dir name node) = Ok (AddNode (dir, name.now) (node_made node))
-decision_by h (granted.CutRow dir name) = Ok (CutRow (dir, name.now))
-decision_by h (granted.ShiftRow from name to new_name) = Ok (ShiftRow (from, name.now) (to, new_name.now))
-decision_by h (granted.TieRow dir name x) = Ok (TieRow (dir, name.now) x)
-decision_by h (granted.BeginProgram left) = Ok (BeginProgram left)
-decision_by h (granted.Pledge promises execpromises) = pledging h promises execpromises
-decision_by h (granted.Unveil object perms) = veiling h (place_of object.now) perms
-decision_by h granted.Lock = Ok (AddEvent Locked)
-decision_by h (granted.Enter dir) = Ok (AddEvent (Moved dir))
-decision_by h granted.Exit = Ok (AddEvent Ended)
+abbrev pub decision_by : Asking → Granted → Decision
+decision_by asker granted.NoChange = Ok NoChange
+decision_by asker (granted.AddNode dir name node) = Ok (AddNode (dir, name.now) (node_made node))
+decision_by asker (granted.CutRow dir name) = Ok (CutRow (dir, name.now))
+decision_by asker (granted.ShiftRow from name to new_name) = Ok (ShiftRow (from, name.now) (to, new_name.now))
+decision_by asker (granted.TieRow dir name x) = Ok (TieRow (dir, name.now) x)
+decision_by asker (granted.BeginProgram left) = Ok (BeginProgram left)
+decision_by asker (granted.Pledge promises execpromises) = pledging asker promises execpromises
+decision_by asker (granted.Unveil object perms) = veiling asker (place_of object.now) perms
+decision_by asker granted.Lock = Ok (AddEvent Locked)
+decision_by asker (granted.Enter dir) = Ok (AddEvent (Moved dir))
+decision_by asker granted.Exit = Ok (AddEvent Ended)
 
 -- further checks of what was judged
 abbrev pub on_judged : {X : Type 0} → Result X Refusal → (X → Decision) → Decision
@@ -50,6 +51,6 @@ on_judged (Ok x) further = further x
 on_judged (Err refusal) further = Err refusal
 
 -- what was granted, or refused, as a decision
-abbrev pub decision_for : History → Result Granted Refusal → Decision
-decision_for h (Ok granted) = decision_by h granted
-decision_for h (Err refusal) = Err refusal
+abbrev pub decision_for : Asking → Result Granted Refusal → Decision
+decision_for asker (Ok granted) = decision_by asker granted
+decision_for asker (Err refusal) = Err refusal

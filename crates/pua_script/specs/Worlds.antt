@@ -112,9 +112,9 @@ AttemptsEdit t h effect (Ok answer) tree = Edits t h effect answer tree
 AttemptsEdit t h effect (Err fault) tree = answer_to effect ≡ Okay
 
 -- a living process did what it asked for, whichever history it stands for
-abbrev pub Acts : CallTable → Tree → ProcessState → Action → Result Answer WorldFault → Tree → ProcessState → Type 0
-Acts table t before action result tree after =
-    (w : World) (h : History) → w.tree ≡ t → StandsFor before h → Attempts t h (effect table w h action) result tree after
+pub record Acts (table : CallTable) (t : Tree) (before : ProcessState) (action : Action) (result : Result Answer WorldFault) (tree : Tree)
+    (after : ProcessState) : Type 0 where
+  pub does : (w : World) (h : History) → w.tree ≡ t → StandsFor before h → Attempts t h (effect table w h action) result tree after
 
 -- two worlds of the replay for which one world stands answer alike by each table, and one world stands for both afterwards
 pub record AnswerAlike (table : CallTable) (v w : World) (asks : List Asked) : Type 0 where

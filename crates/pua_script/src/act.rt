@@ -5,6 +5,7 @@
 
 ghost use Rattle.std.specs.Prelude.{◌≡◌, ℕ, List, OnErr, IsFalse};
 ghost use Rattle.pua_policy.specs.History.{History, StandsFor};
+ghost use Rattle.pua_script.specs.Decide.{asker_of};
 ghost use Rattle.pua_script.specs.Judged.{decision_for};
 ghost use Rattle.pua_script.specs.Replay.{come_of};
 ghost use Rattle.pua_calls.specs.Calls.{CallTable as Rules};
@@ -167,7 +168,7 @@ fn answer<T: FileTree>(
     ensures exact { (h : History) (histories : List (ℕ × History)) → StandsFor process.old h →
         Attempts (T.content tree.old) h
         (come_of (record { tree = T.content tree.old; histories = histories }) h
-        (decision_for h granted.now))
+        (decision_for (asker_of h) granted.now))
         result (T.content tree.new) process.new }
     ensures unchanged { OnErr result ((T.content tree.new ≡ T.content tree.old) ×
         (process.new ≡ process.old)) }

@@ -5,7 +5,7 @@ ghost use Rattle.pua_tree.specs.Tree.{Tree, target_fits};
 ghost use Rattle.pua_tree.specs.Edits.{add, cut, shift, tie};
 ghost use Rattle.pua_policy.specs.History.{History, StandsFor};
 ghost use Rattle.pua_policy.specs.Verdict.{place_of};
-ghost use Rattle.pua_script.specs.Decide.{pledging, veiling};
+ghost use Rattle.pua_script.specs.Decide.{asker_of, pledging, veiling};
 ghost use Rattle.pua_script.specs.Judged.{decision_by, node_made};
 ghost use Rattle.pua_script.specs.Replay.{World, come_of, edit_effect, edited_tree};
 ghost use Rattle.pua_script.specs.Worlds.{Attempts, AttemptsEdit, Does, Edits};
@@ -78,7 +78,7 @@ pub(crate) fn make<T: FileTree>(
     ensures exact { (h : History) (histories : List (ℕ × History)) → StandsFor process.old h →
         Attempts (T.content tree.old) h
         (come_of (record { tree = T.content tree.old; histories = histories }) h
-        (decision_by h granted.now))
+        (decision_by (asker_of h) granted.now))
         result (T.content tree.new) process.new }
     ensures unchanged { OnErr result ((T.content tree.new ≡ T.content tree.old) ×
         (process.new ≡ process.old)) }
@@ -190,7 +190,8 @@ fn pledge(
     execpromises: Option<Promises>,
 ) -> Answer
     ensures { (h : History) (w : World) → StandsFor process.old h →
-        Does w.tree h (come_of w h (pledging h promises execpromises)) result w.tree process.new }
+        Does w.tree h (come_of w h (pledging (asker_of h) promises execpromises)) result w.tree
+        process.new }
 {
     match process.pledge(promises, execpromises) {
         Ok(()) => Answer::Okay,
@@ -202,8 +203,8 @@ fn pledge(
 /// (unveil(2)).
 fn unveil(process: &mut Process, found: &Found, perms: Perms) -> Result<Answer, WorldFault>
     ensures exact { (h : History) (w : World) → StandsFor process.old h →
-        Attempts w.tree h (come_of w h (veiling h (place_of found.now) perms)) result w.tree
-        process.new }
+        Attempts w.tree h (come_of w h (veiling (asker_of h) (place_of found.now) perms)) result
+        w.tree process.new }
     ensures unchanged { OnErr result (process.new ≡ process.old) }
 {
     match process.unveil_at(place_of(found), perms) {

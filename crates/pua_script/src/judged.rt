@@ -3,13 +3,12 @@
 ghost use Rattle.std.specs.Prelude.{◌≡◌, Ok, IfOk};
 ghost use Rattle.pua_path.specs.Resolution.{resolution_of_text};
 ghost use Rattle.pua_path.specs.declared.found.Found as founds;
-ghost use Rattle.pua_policy.specs.History.{History, StandsFor};
 ghost use Rattle.pua_policy.specs.Verdict.{place_of};
-ghost use Rattle.pua_script.specs.Decide.{Decision, adding, change_by, decide_call, decide_object};
-ghost use Rattle.pua_script.specs.Decide.{decide_symlink, decide_unveil, going, link_node};
-ghost use Rattle.pua_script.specs.Decide.{removing, veiling};
-ghost use Rattle.pua_script.specs.Judged.{NameFits, decision_for, decision_by, on_judged};
-ghost use Rattle.pua_script.specs.Judged.{node_made};
+ghost use Rattle.pua_script.specs.Decide.{Asking, Decision, adding, asker_on, change_by};
+ghost use Rattle.pua_script.specs.Decide.{decide_call, decide_object, decide_symlink};
+ghost use Rattle.pua_script.specs.Decide.{decide_unveil, going, link_node, removing, veiling};
+ghost use Rattle.pua_script.specs.Judged.{NameFits, decision_for, decision_by};
+ghost use Rattle.pua_script.specs.Judged.{node_made, on_judged};
 
 use crate::granted::{Granted, NewNode};
 use crate::pair::{node_named, spot_named};
@@ -47,8 +46,8 @@ fn judge_object<T: FileTree>(
     call: Call,
     path: &[u8],
 ) -> Result<Found, Refusal>
-    ensures { (h : History) → StandsFor process.now h → (further : founds.Found → Decision) →
-        decide_object table.now (T.content tree.now) h call path.now further
+    ensures { (further : founds.Found → Decision) →
+        decide_object table.now (T.content tree.now) (asker_on process.now) call path.now further
         ≡ on_judged result further }
 {
     let mut probe = Counted::new(tree);
@@ -71,9 +70,8 @@ pub(crate) fn judge_call<T: FileTree>(
     call: Call,
     path: &[u8],
 ) -> Result<Found, Refusal>
-    ensures { (h : History) → StandsFor process.now h →
-        on_judged result (λ object. Ok (change_by table.now call object))
-        ≡ decide_call table.now (T.content tree.now) h call path.now }
+    ensures { on_judged result (λ object. Ok (change_by table.now call object))
+        ≡ decide_call table.now (T.content tree.now) (asker_on process.now) call path.now }
 {
     promised_for(process, table, call)?;
     judge_object(tree, table, process, call, path)
@@ -85,8 +83,8 @@ pub(crate) fn grant_call<'a>(
     call: Call,
     judged: &'a Result<Found, Refusal>,
 ) -> Result<Granted<'a>, Refusal>
-    ensures { (h : History) →
-        decision_for h result
+    ensures { (asker : Asking) →
+        decision_for asker result
         ≡ on_judged judged.now (λ object. Ok (change_by table.now call object)) }
 {
     match judged {
@@ -97,7 +95,8 @@ pub(crate) fn grant_call<'a>(
 
 /// What an allowed call changes, by what its path named.
 fn change_by<'a>(table: &CallTable, call: Call, found: &'a Found) -> Granted<'a>
-    ensures { (h : History) → decision_by h result ≡ Ok (change_by table.now call found.now) }
+    ensures { (asker : Asking) →
+        decision_by asker result ≡ Ok (change_by table.now call found.now) }
 {
     match call {
         Call::Create => adding(NewNode::File, found),
@@ -111,8 +110,8 @@ fn change_by<'a>(table: &CallTable, call: Call, found: &'a Found) -> Granted<'a>
 
 /// A node where nothing stands.
 fn adding<'a>(node: NewNode<'a>, found: &'a Found) -> Granted<'a>
-    ensures { (h : History) →
-        decision_by h result ≡ Ok (adding (node_made node.entry) found.now) }
+    ensures { (asker : Asking) →
+        decision_by asker result ≡ Ok (adding (node_made node.entry) found.now) }
 {
     match (spot_named(found), node_named(found)) {
         (Some((dir, name)), None) => Granted::AddNode(dir, name, node),
@@ -122,7 +121,7 @@ fn adding<'a>(node: NewNode<'a>, found: &'a Found) -> Granted<'a>
 
 /// The row of what has a name.
 fn removing<'a>(found: &'a Found) -> Granted<'a>
-    ensures { (h : History) → decision_by h result ≡ Ok (removing found.now) }
+    ensures { (asker : Asking) → decision_by asker result ≡ Ok (removing found.now) }
 {
     match (spot_named(found), node_named(found)) {
         (Some((dir, name)), Some(_)) => Granted::CutRow(dir, name),
@@ -132,7 +131,7 @@ fn removing<'a>(found: &'a Found) -> Granted<'a>
 
 /// A directory as the working directory.
 fn entering<'a>(found: &'a Found) -> Granted<'a>
-    ensures { (h : History) → decision_by h result ≡ Ok (going found.now) }
+    ensures { (asker : Asking) → decision_by asker result ≡ Ok (going found.now) }
 {
     match found {
         Found::Whole { dir, .. } => Granted::Enter(*dir),
@@ -149,9 +148,9 @@ pub(crate) fn judge_symlink<'a, T: FileTree>(
     target: &'a [u8],
     path: &[u8],
 ) -> Result<(PathText<'a>, Found), Refusal>
-    ensures { (h : History) → StandsFor process.now h →
-        on_judged result (λ link. Ok (adding (link_node link.0.bytes) link.1))
-        ≡ decide_symlink table.now (T.content tree.now) h target.now path.now }
+    ensures { on_judged result (λ link. Ok (adding (link_node link.0.bytes) link.1))
+        ≡ decide_symlink table.now (T.content tree.now) (asker_on process.now) target.now
+        path.now }
 {
     promised_for(process, table, Call::Symlink)?;
     let target = match PathText::read(target, Ending::Dot) {
@@ -166,8 +165,8 @@ pub(crate) fn judge_symlink<'a, T: FileTree>(
 pub(crate) fn grant_symlink<'a>(
     judged: &'a Result<(PathText<'a>, Found), Refusal>,
 ) -> Result<Granted<'a>, Refusal>
-    ensures { (h : History) →
-        decision_for h result
+    ensures { (asker : Asking) →
+        decision_for asker result
         ≡ on_judged judged.now (λ link. Ok (adding (link_node link.0.bytes) link.1)) }
 {
     match judged {
@@ -184,9 +183,8 @@ pub(crate) fn judge_unveil<T: FileTree>(
     path: &[u8],
     perms: Option<Perms>,
 ) -> Result<(Found, Perms), Refusal>
-    ensures { (h : History) → StandsFor process.now h →
-        on_judged result (λ veil. veiling h (place_of veil.0) veil.1)
-        ≡ decide_unveil (T.content tree.now) h path.now perms }
+    ensures { on_judged result (λ veil. veiling (asker_on process.now) (place_of veil.0) veil.1)
+        ≡ decide_unveil (T.content tree.now) (asker_on process.now) path.now perms }
 {
     promised(process, Promises::UNVEIL)?;
     if process.locked() {
@@ -206,8 +204,9 @@ pub(crate) fn judge_unveil<T: FileTree>(
 pub(crate) fn grant_unveil<'a>(
     judged: &'a Result<(Found, Perms), Refusal>,
 ) -> Result<Granted<'a>, Refusal>
-    ensures { (h : History) →
-        decision_for h result ≡ on_judged judged.now (λ veil. veiling h (place_of veil.0) veil.1) }
+    ensures { (asker : Asking) →
+        decision_for asker result
+        ≡ on_judged judged.now (λ veil. veiling asker (place_of veil.0) veil.1) }
 {
     match judged {
         Ok((found, perms)) => Ok(Granted::Unveil(found, *perms)),

@@ -3,7 +3,8 @@
 ghost use Rattle.std.specs.Prelude.{◌≡◌};
 ghost use Rattle.pua_tree.specs.Tree.{Tree};
 ghost use Rattle.pua_policy.specs.History.{History, StandsFor};
-ghost use Rattle.pua_script.specs.Decide.{decide_lock, decide_pledge, given_set, is_unknown};
+ghost use Rattle.pua_script.specs.Decide.{Asking, asker_on, decide_lock, decide_pledge, given_set};
+ghost use Rattle.pua_script.specs.Decide.{is_unknown};
 ghost use Rattle.pua_script.specs.Judged.{decision_for};
 ghost use Rattle.pua_script.specs.Replay.{refusal_effect};
 ghost use Rattle.pua_script.specs.Worlds.{Does};
@@ -36,8 +37,8 @@ pub(crate) fn decide_pledge<'a>(
     promises: &Given,
     execpromises: &Given,
 ) -> Result<Granted<'a>, Refusal>
-    ensures { (h : History) →
-        decision_for h result ≡ decide_pledge h promises.now execpromises.now }
+    ensures { (asker : Asking) →
+        decision_for asker result ≡ decide_pledge asker promises.now execpromises.now }
 {
     if is_unknown(promises) || is_unknown(execpromises) {
         return Err(Refusal::Failed(Errno::EINVAL));
@@ -62,7 +63,7 @@ fn given_set(given: &Given) -> Option<Promises>
 
 /// What an unveil with two NULLs is to change.
 pub(crate) fn decide_lock<'a>(process: &Process) -> Result<Granted<'a>, Refusal>
-    ensures { (h : History) → StandsFor process.now h → decision_for h result ≡ decide_lock h }
+    ensures { decision_for (asker_on process.now) result ≡ decide_lock (asker_on process.now) }
 {
     promised(process, Promises::UNVEIL)?;
     Ok(Granted::Lock)

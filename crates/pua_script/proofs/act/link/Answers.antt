@@ -1,13 +1,12 @@
 use Rattle.std.proofs.Common.{sym, ◌∙◌}
 use Rattle.pua_path.specs.Fits.{node_named}
-use Rattle.pua_script.specs.Decide.{decide_link}
+use Rattle.pua_script.specs.Decide.{asker_on, decide_link}
 use Rattle.pua_script.specs.declared.request.Action.TheVariants.{Link}
 use Rattle.pua_script.proofs.Acting.{acts}
 use Rattle.pua_script.proofs.act.link.Goals as goal
 
 pub returns-clause-exact : goal.returns-clause-exact
 returns-clause-exact g c =
-    let t = g.T.FileTree.content c.args.tree.now in
-    acts c.args.table.now t _ c.args.process.now _ (Link c.args.old.now c.args.new.now) c.grant_link.result c.answer.result
-    (λ h s. c.grant_link.ensures h ∙ sym (c.judge_link-pair.ensures h s (λ a b. decide_link a b (node_named a))))
-    c.answer.ensures.exact
+    acts c.args.table.now _ c.args.process.now (Link c.args.old.now c.args.new.now) c.grant_link.result
+    (c.grant_link.ensures (asker_on c.args.process.now) ∙ sym (c.judge_link-pair.ensures (λ a b. decide_link a b (node_named a))))
+    _ _ c.answer.result c.answer.ensures.exact

@@ -1,11 +1,10 @@
 use Rattle.std.proofs.Common.{◌∙◌}
+use Rattle.pua_script.specs.Decide.{asker_on}
 use Rattle.pua_script.specs.declared.request.Action.TheVariants.{Symlink}
 use Rattle.pua_script.proofs.Acting.{acts}
 use Rattle.pua_script.proofs.act.symlink.Goals as goal
 
 pub returns-clause-exact : goal.returns-clause-exact
 returns-clause-exact g c =
-    let t = g.T.FileTree.content c.args.tree.now in
-    acts c.args.table.now t _ c.args.process.now _ (Symlink c.args.target.now c.args.path.now) c.grant_symlink.result c.answer.result
-    (λ h s. c.grant_symlink.ensures h ∙ c.judge_symlink-judged.ensures h s)
-    c.answer.ensures.exact
+    acts c.args.table.now _ c.args.process.now (Symlink c.args.target.now c.args.path.now) c.grant_symlink.result
+    (c.grant_symlink.ensures (asker_on c.args.process.now) ∙ c.judge_symlink-judged.ensures) _ _ c.answer.result c.answer.ensures.exact

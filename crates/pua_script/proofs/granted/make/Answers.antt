@@ -1,6 +1,7 @@
 use Rattle.std.proofs.Common.{◌≡◌, ℕ, List, ap}
 use Rattle.pua_policy.specs.History.{History}
 use Rattle.pua_tree.specs.Tree.{Tree}
+use Rattle.pua_script.specs.Decide.{asker_of}
 use Rattle.pua_script.specs.Judged.{decision_by}
 use Rattle.pua_script.specs.Replay.{come_of}
 use Rattle.pua_script.specs.declared.granted.Granted.{Granted}
@@ -9,9 +10,9 @@ use Rattle.pua_script.proofs.granted.make.Goals as goal
 
 -- what a change comes to over a tree
 comes : (t : Tree) (histories : List (ℕ × History)) (h : History) (a b : Granted) → a ≡ b →
-    come_of (record { tree = t; histories = histories }) h (decision_by h a) ≡ come_of (record { tree = t; histories = histories }) h
-    (decision_by h b)
-comes t histories h a b is = ap (λ x. come_of (record { tree = t; histories = histories }) h (decision_by h x)) is
+    come_of (record { tree = t; histories = histories }) h (decision_by (asker_of h) a)
+    ≡ come_of (record { tree = t; histories = histories }) h (decision_by (asker_of h) b)
+comes t histories h a b is = ap (λ x. come_of (record { tree = t; histories = histories }) h (decision_by (asker_of h) x)) is
 
 pub returns-in-AddNode-clause-exact : goal.returns-in-AddNode-clause-exact
 returns-in-AddNode-clause-exact g c = λ h histories s.

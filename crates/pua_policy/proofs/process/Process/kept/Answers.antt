@@ -12,7 +12,4 @@ returns-clause-state c =
     ∙ ap (λ process. veil_at process.veils c.args.place.now) c.self.view_is
 
 pub returns-clause-history : goal.returns-clause-history
-returns-clause-history c = λ h stands.
-    c.copied.ensures ∙ c.get.ensures.value ∙ veil_at-lookup ghosts.eq same_place-eq c.args.place.now _
-    ∙ ap (λ process. veil_at process.veils c.args.place.now) c.self.view_is
-    ∙ sym (kept_by c.args.self.now h stands c.args.place.now)
+returns-clause-history c = λ h stands. returns-clause-state c ∙ sym (kept_by c.args.self.now h stands c.args.place.now)
