@@ -19,7 +19,7 @@ use Rattle.pua_script.specs.Decide.{Change, Outcome, Side, Sole, Old, New, unles
 use Rattle.pua_policy.specs.Misfits.{misfit}
 use Rattle.pua_policy.specs.declared.reason.Covering.TheVariants.{InView}
 use Rattle.pua_policy.specs.Reasons.{Promising, Holds, HasEnded, Lacks, promising, kept_or, first_kept, covering, cover_of}
-use Rattle.pua_why.specs.Reasons.{Fault, Unfit, unpromised_fault, told_path, uncovered_fault, faults}
+use Rattle.pua_why.specs.Reasons.{Fault, Unfit, unpromised_fault, told_path, uncovered_fault, faults, faults_of}
 use Rattle.pua_why.specs.Facts.{Fact, Needs, Follows, Names, Under, needing, facts_promised, facts_found, facts_named, facts_covered}
 use Rattle.pua_why.specs.Facts.{facts_under, call_trace, call_facts, name_trace, pair_facts}
 use Rattle.pua_why.specs.Texts.{answer_why, why_lines}
@@ -163,8 +163,8 @@ module _ (pair : PairRule) (t : Tree) (h : History) (end : Ending) (a b : List �
       ∷ facts_covered Old (covering t h old) (first_none (of_old old) (of_new new) none i)
       (facts_covered New (covering t h new) (second_none (of_old old) (of_new new) none i) []))))
 
-  pair_told : (further : Found → Found → Outcome Fault) (change : Change) → pair_by faults pair t h end a b further ≡ Ok change →
-      PairFactsOf pair t h end a b
+  pair_told : (further : Found → Found → Outcome Fault) (change : Change) →
+      pair_by faults pair t (faults_of h) end a b further ≡ Ok change → PairFactsOf pair t h end a b
   pair_told further change e =
       by (promising h pair.old.needs.alternatives) refl (promising h pair.new.needs.alternatives) refl first.outcome refl second.outcome
       refl e

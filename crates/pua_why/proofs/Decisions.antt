@@ -39,7 +39,7 @@ use Rattle.pua_script.specs.Limits.{most_processes}
 use Rattle.pua_script.specs.Decide.{Change, NoChange, AddNode, CutRow, ShiftRow, TieRow, BeginProgram, AddEvent, CopyAs, Outcome, Decision}
 use Rattle.pua_script.specs.Decide.{Side, Sole, Old, New, unless_refused, unless_failed, on_named, adding, link_node, change_by, shifting}
 use Rattle.pua_script.specs.Decide.{tying, fault_if, dots_by, top_by, ways_by, kinds_by, inside_by, is_whole, given_set, is_unknown}
-use Rattle.pua_script.specs.Decide.{object_by, rename_by, link_by, pair_by, veil_by, unveil_errno, refusals, decide}
+use Rattle.pua_script.specs.Decide.{object_by, rename_by, link_by, pair_by, veil_by, unveil_errno, refusals, asker_of, decide}
 use Rattle.pua_policy.specs.Misfits.{misfit_errno}
 use Rattle.pua_policy.specs.declared.reason.Misfit.{Misfit}
 use Rattle.pua_policy.specs.declared.reason.Misfit.TheVariants.{IsDirectory, IsNoFile, IsNoDirectory, IsNotEmpty, Exists}
@@ -57,8 +57,8 @@ use Rattle.pua_policy.specs.Reasons.{Promising, Holds, HasEnded, Lacks, promisin
 use Rattle.pua_why.specs.Reasons as reasons
 use Rattle.pua_why.specs.Reasons.{Fault, BadTarget, LacksLetters, Unfit, Inside, UnknownPromise, AsksPromises, IsLocked, AsksLetters}
 use Rattle.pua_why.specs.Reasons.{NoPlaceLeft, NumberTaken, NoProcessLeft, fault_refusal, unpromised_fault, told_path, uncovered_fault}
-use Rattle.pua_why.specs.Reasons.{beyond, pledge_beyond, place_beyond, unveil_beyond, faults, change_or_fault, no_room, room_fault}
-use Rattle.pua_why.specs.Reasons.{outcome_fault, reason_of, reason_by, refusal_answer, answer_of}
+use Rattle.pua_why.specs.Reasons.{beyond, pledge_beyond, place_beyond, unveil_beyond, faults, faults_of, change_or_fault, no_room}
+use Rattle.pua_why.specs.Reasons.{room_fault, outcome_fault, reason_of, reason_by, refusal_answer, answer_of}
 use Rattle.pua_why.specs.Laws.{decision_of, ReasonsGiveDecisions, verdict_by, ReasonsGiveVerdicts, ReasonsGiveAnswers}
 use Rattle.pua_policy.proofs.ForCallers.{promisings_answer, coverings_cover}
 
@@ -167,7 +167,8 @@ module _ (t : Tree) (h : History) where
 
   -- a call of the table, whose promises are held
   call_told : (table : CallTable) (c : Call) (path : List ℕ) (f : Found → Change) →
-      decision_of (object_by faults table t h c path (λ x. Ok (f x))) ≡ object_by refusals table t h c path (λ x. Ok (f x))
+      decision_of (object_by faults table t (faults_of h) c path (λ x. Ok (f x)))
+      ≡ object_by refusals table t (asker_of h) c path (λ x. Ok (f x))
   call_told table c path f =
       named_told Sole (trace_of_text t (working_dir h) (ending_of c) path (last_of c)).outcome (object_named t h c path) _ _
       (text_traces_answer t (working_dir h) (ending_of c) path (last_of c)) λ x.
@@ -177,7 +178,7 @@ module _ (t : Tree) (h : History) where
   -- two paths
   pair_told : (rules : PairRule) (end : Ending) (old new : List ℕ) (f : Found → Found → Outcome Fault) (g : Found → Found → Decision) →
       ((a b : Found) → decision_of (f a b) ≡ g a b) →
-      decision_of (pair_by faults rules t h end old new f) ≡ pair_by refusals rules t h end old new g
+      decision_of (pair_by faults rules t (faults_of h) end old new f) ≡ pair_by refusals rules t (asker_of h) end old new g
   pair_told rules end old new f g each =
       refused_told _ _ _ _ (promises_told h rules.old.needs.alternatives)
       (refused_told _ _ _ _ (promises_told h rules.new.needs.alternatives)
@@ -284,7 +285,7 @@ unveil_told h place perms = by (is_locked h)
     by false = place_told place (perms_kept h place) (length (veils h)) perms
 
 veil_told : (t : Tree) (h : History) (path : List ℕ) (letters : Option ℕ) →
-    decision_of (veil_by faults t h path letters) ≡ veil_by refusals t h path letters
+    decision_of (veil_by faults t (faults_of h) path letters) ≡ veil_by refusals t (asker_of h) path letters
 veil_told t h path None = refl
 veil_told t h path (Some perms) =
     named_told Sole (trace_of_text t (working_dir h) ending.Dot path Followed).outcome (resolution_of_text t (working_dir h) ending.Dot path

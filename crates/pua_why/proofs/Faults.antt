@@ -11,7 +11,7 @@ use Rattle.pua_script.specs.Decide.{Change, Sole, change_by, object_by}
 use Rattle.pua_policy.specs.declared.reason.Misfit.{Misfit}
 use Rattle.pua_policy.specs.Misfits.{misfit}
 use Rattle.pua_policy.specs.Reasons.{covering}
-use Rattle.pua_why.specs.Reasons.{Fault, Unfit, faults}
+use Rattle.pua_why.specs.Reasons.{Fault, Unfit, faults, faults_of}
 use Rattle.pua_why.specs.Facts.{call_trace}
 use Rattle.pua_policy.specs.ReasonLaws.{MisfitHolds}
 use Rattle.pua_why.specs.Laws.{CallFaultHolds, CallFaultsHold}
@@ -31,7 +31,8 @@ module _ (t : Tree) (table : CallTable) (h : History) (c : Call) (text : List �
       subst Is same (o, m, subst (λ x. IfSome x (MisfitHolds t (object_of t object))) m (misfits_hold t c (object_of t object)))
 
   -- once its promises are held
-  pub object_true : (f : Found → Change) (fault : Fault) → object_by faults table t h c text (λ x. Ok (f x)) ≡ Err fault → Is fault
+  pub object_true : (f : Found → Change) (fault : Fault) →
+      object_by faults table t (faults_of h) c text (λ x. Ok (f x)) ≡ Err fault → Is fault
   object_true f fault e =
       named_true Sole (call_trace t h c text).outcome _ fault Is (λ bad o. o)
       (λ object o e. failed_true _ _ fault Is

@@ -6,9 +6,10 @@ use Rattle.pua_tree.specs.Tree.{Spot}
 use Rattle.pua_path.specs.declared.found.Found.{Found}
 use Rattle.pua_path.specs.declared.traced.PathFault.{PathFault}
 use Rattle.pua_path.specs.Traces.{PathTrace}
-use Rattle.pua_policy.specs.History.{History, held_set, is_locked, perms_kept, veils}
+use Rattle.pua_policy.specs.History.{History, ProcessState, StandsFor, veil_at}
+use Rattle.pua_policy.proofs.ForCallers.{keeps, kept_by, covering_by}
 use Rattle.pua_policy.specs.declared.place.Place.{Place}
-use Rattle.pua_why.specs.Reasons.{IsLocked, place_beyond, unveil_beyond}
+use Rattle.pua_why.specs.Reasons.{IsLocked, place_beyond, unveil_beyond_on, faults_by, faults_on, faults_of}
 use Rattle.pua_policy.specs.Reasons.{Promising, Holds}
 use Rattle.pua_script.specs.Decide.{Outcome, Side, unless_refused, unless_failed}
 use Rattle.pua_path.specs.declared.traced.TextFault.{TextFault}
@@ -51,9 +52,9 @@ both_named old one final set other side trace more p q held held_too first rest 
     ∙ (λ i. old ++ facts_promised (held i) (facts_promised (held_too i) (facts_named side trace more)))
 
 -- what is kept at a place decides, where the veils are not locked
-pub kept_beyond : (h : History) (place : Place) (perms given : ℕ) → false ≡ is_locked h → Some given ≡ perms_kept h place →
-    place_beyond place (Some given) (length (veils h)) perms ≡ unveil_beyond h place perms
-kept_beyond h place perms given unlocked at = λ i. if unlocked i then Some IsLocked else place_beyond place (at i) (length (veils h)) perms
+pub kept_beyond : (p : ProcessState) (place : Place) (perms given : ℕ) → false ≡ p.locked → Some given ≡ veil_at p.veils place →
+    place_beyond place (Some given) (length p.veils) perms ≡ unveil_beyond_on p (veil_at p.veils) place perms
+kept_beyond p place perms given unlocked at = λ i. if unlocked i then Some IsLocked else place_beyond place (at i) (length p.veils) perms
 
 -- held promises let the further checks decide
 pub promises_passed : (fault further : Option told.Fault) (p : Option reasons.Fault) (d : Outcome reasons.Fault) → is_some fault ≡ false →
@@ -67,3 +68,7 @@ pub target_passed : (further : Option told.Fault) (o : Option TextFault) (d : Ou
     → option_map fault_seen further ≡ refused_by d →
     option_map fault_seen further ≡ refused_by (unless_failed (λ fault. fault) (option_map reasons.BadTarget o) d)
 target_passed further o d none rest = rest ∙ ap (λ q. refused_by (unless_failed (λ fault. fault) (option_map reasons.BadTarget q) d)) none
+
+-- a process is told faults as its history is
+pub faults_stand : (p : ProcessState) (h : History) → StandsFor p h → faults_on p ≡ faults_of h
+faults_stand p h s = λ i. faults_by (keeps p h s i) (λ t object. sym (covering_by p h s t object) i) (λ place. sym (kept_by p h s place) i)

@@ -37,8 +37,8 @@ use Rattle.pua_policy.specs.declared.reason.Covering.TheVariants.{By}
 use Rattle.pua_policy.specs.Reasons.{promising, covering}
 use Rattle.pua_why.specs.Reasons.{Fault, Ends, LacksPromises, BadTarget, BadPath, Uncovered, LacksLetters, Unfit, Inside, UnknownPromise}
 use Rattle.pua_why.specs.Reasons.{AsksPromises, IsLocked, UnknownLetter, AsksLetters, NoPlaceLeft, NumberTaken, NoProcessLeft, NoRoom}
-use Rattle.pua_why.specs.Reasons.{unpromised_fault, beyond, asks_beyond, place_beyond, unveil_beyond, faults, change_or_fault, no_room}
-use Rattle.pua_why.specs.Reasons.{room_fault, outcome_fault}
+use Rattle.pua_why.specs.Reasons.{unpromised_fault, beyond, asks_beyond, place_beyond, unveil_beyond, faults, faults_of, change_or_fault}
+use Rattle.pua_why.specs.Reasons.{no_room, room_fault, outcome_fault}
 use Rattle.pua_why.specs.Facts.{name_trace}
 use Rattle.pua_why.specs.Laws.{CallFaultHolds, decision_of}
 use Rattle.pua_why.specs.Truths.{PromiseFaultHolds, SymlinkFaultHolds, side_outcome, PairFaultHolds, PledgeFaultHolds, UnveilFaultHolds}
@@ -167,12 +167,12 @@ module _ (pair : PairRule) (t : Tree) (h : History) (end : Ending) (a b : List �
   cover_true : (side : Side) (object : Found) (bad : Fault) (perms : ℕ) → Led side object →
       ((place : Place) (given : ℕ) → covering t h object ≡ By place given → holds given perms ≡ false →
       Pair (LacksLetters side place given (lacking given perms))) →
-      faults.cover side t h object perms ≡ Some bad → Pair bad
+      (faults_of h).cover side t object perms ≡ Some bad → Pair bad
   cover_true side object bad perms o lacks e = uncovered_true side object perms (covering t h object) bad Pair (λ none. (o, none)) lacks e
 
   pair_true : (further : Found → Found → Outcome Fault) (fault : Fault) →
       ((old new : Found) → Led Old old → Led New new → further old new ≡ Err fault → Pair fault) →
-      pair_by faults pair t h end a b further ≡ Err fault → Pair fault
+      pair_by faults pair t (faults_of h) end a b further ≡ Err fault → Pair fault
   pair_true further fault each e =
       refused_true _ _ fault Pair
       (λ bad e. unpromised_true h pair.old.needs.alternatives bad Pair (λ ended. ended) (λ error lacks is. inl is) e)
@@ -244,7 +244,7 @@ module _ (t : Tree) (h : History) (path : List ℕ) where
       by true v e = let same : IsLocked ≡ bad = cc in subst (Veil (Some perms)) same v
       by false v e = place_true place (perms_kept h place) perms bad refl e
 
-  veil_true : (letters : Option ℕ) (fault : Fault) → veil_by faults t h path letters ≡ Err fault → Veil letters fault
+  veil_true : (letters : Option ℕ) (fault : Fault) → veil_by faults t (faults_of h) path letters ≡ Err fault → Veil letters fault
   veil_true None fault e = subst (Veil None) (same_fault UnknownLetter fault e) refl
   veil_true (Some perms) fault e =
       named_true Sole (trace_of_text t (working_dir h) ending.Dot path Followed).outcome _ fault (Veil (Some perms)) (λ bad o. o)

@@ -2,10 +2,11 @@
 
 ghost use Rattle.std.specs.Prelude.{◌≡◌, IfOk, None, option_map};
 ghost use Rattle.pua_policy.specs.History.{History, StandsFor};
+ghost use Rattle.pua_script.specs.Decide.{decide_by};
 ghost use Rattle.pua_script.specs.Replay.{World as Replayed, apply};
 ghost use Rattle.pua_script.specs.Worlds.{StandsForWorld};
 ghost use Rattle.pua_why.specs.Checked.{reason_checked, checks_fault, granted_by, refused_by};
-ghost use Rattle.pua_why.specs.Reasons.{reason, change_or_fault};
+ghost use Rattle.pua_why.specs.Reasons.{change_or_fault, faults, faults_on, reason};
 ghost use Rattle.pua_why.specs.Seen.{fault_seen, reason_seen};
 
 use crate::checks::{call_fault, symlink_fault, unveil_fault};
@@ -81,6 +82,7 @@ fn granted_by<'s>(answer: Answer) -> Reason<'s>
 }
 
 /// The check of a living process's request that fails.
+#[tactic(auto, using(crate::proofs::Needing::faults_stand))]
 fn request_fault<'w, T: FileTree>(
     alloc: Global,
     world: &'w World<T>,
@@ -124,9 +126,9 @@ fn fault_of<'s, T: FileTree>(
     process: &Process,
     action: &Action,
 ) -> Result<Option<Fault<'s>>, OutOfMemory>
-    ensures { IfOk result (λ fault. (h : History) → StandsFor process.now h →
-        option_map fault_seen fault
-        ≡ refused_by (change_or_fault table.now (T.content tree.now) h action.now)) }
+    ensures { IfOk result (λ fault. option_map fault_seen fault
+        ≡ refused_by (decide_by faults table.now (T.content tree.now) (faults_on process.now)
+        action.now)) }
 {
     let mut links = Links::new(alloc)?;
     match action {

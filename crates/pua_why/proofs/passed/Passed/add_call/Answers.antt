@@ -14,4 +14,5 @@ returns-in_ok-add-in-Holds g c =
     on_ok_weaker c.add_object.result (λ so h stands.
     promised_named c.args.self.now c.add.new.self _ c.in-Holds.set Sole (call_trace t h c.args.call c.args.path.now)
     (λ object. facts_under Sole t h object rule.perms []) (promising h rule.alternatives)
-    (c.in-Holds.ensures h stands ∙ ap (promising h) c.alternatives.ensures) c.in_ok-add-in-Holds.ensures (so h stands)) c.add_object.ensures
+    (c.in-Holds.ensures.history h stands ∙ ap (promising h) c.alternatives.ensures) c.in_ok-add-in-Holds.ensures (so h stands))
+    c.add_object.ensures

@@ -18,5 +18,6 @@ returns g c =
     (λ old. facts_named New (name_trace need.new t h c.args.ending c.args.new.now) λ new.
     facts_under Old t h old need.old.needs.perms (facts_under New t h new need.new.needs.perms []))
     (promising h need.old.needs.alternatives) (promising h need.new.needs.alternatives)
-    (c.in-Holds.ensures h stands ∙ ap (promising h) held) (c.in-Holds-promising.ensures h stands ∙ ap (promising h) held_new)
+    (c.in-Holds.ensures.history h stands ∙ ap (promising h) held)
+    (c.in-Holds-promising.ensures.history h stands ∙ ap (promising h) held_new)
     (c.in_ok-add.ensures ∙ ap (λ set. c.args.self.now ++ Needs set ∷ []) c.union.ensures) (so h stands)) c.add_names.ensures

@@ -16,7 +16,8 @@ returns g c = λ h stands.
     let path = c.args.path.now in
     unveil_named c.args.self.now c.add.new.self c.add_name.new.self c.in-Holds.set c.in_ok-add_name.field-0
     (trace_of_text t (working_dir h) Dot path Followed)
-    (promising h (unveil ∷ [])) (is_locked h) (c.in-Holds.ensures h stands) (c.if-locked.ensures.history h stands) c.in_ok-add.ensures
+    (promising h (unveil ∷ [])) (is_locked h) (c.in-Holds.ensures.history h stands) (c.if-locked.ensures.history h stands)
+    c.in_ok-add.ensures
     (c.in_ok-add_name.ensures.exact (λ object. [])
     ∙ (λ i. c.add.new.self ++ facts_named Sole (trace_of_text (c.new-probe.ensures.tree i) (c.dir-dir.ensures.history h stands i) Dot path
     Followed) (λ object. [])))
