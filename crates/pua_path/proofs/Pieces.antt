@@ -1,5 +1,5 @@
 -- Pieces of texts: components, a slash at the end, and whether a text can be read, along a cut.
-use Rattle.std.proofs.Common.{IsTrue, ◌≡◌, ℕ, zero, suc, Bool, true, false, not, ◌&&◌, ◌||◌, cond, List, [], ◌∷◌, ◌++◌, length, map, refl}
+use Rattle.std.proofs.Common.{◌≡◌, ℕ, zero, suc, Bool, true, false, not, ◌&&◌, ◌||◌, cond, List, [], ◌∷◌, ◌++◌, length, map, refl}
 use Rattle.std.proofs.Common.{sym, ap, ◌∙◌, append-nil, arith, lt-ltb, get_or, take, drop, ◌<◌, ◌≤◌, Some, None, position, drop-cons}
 use Rattle.std.proofs.Common.{ltb-false, take_all, ne_eqb, eqb-true, Fits, w8}
 use Rattle.std.specs.Prelude.{◌==◌, if◌then◌else◌, nat_lt, nat_le, option_map}
@@ -14,7 +14,7 @@ use Rattle.std.proofs.lemmas.List.Quantifiers.{position-Some}
 use Rattle.std.proofs.lemmas.Bool.{and_parts, or_parts}
 use Rattle.std.proofs.lemmas.Bool.Decides.{nat_tests}
 use Rattle.std.proofs.Math.Bool.{or-false}
-use Rattle.pua_tree.specs.Names.{is_name, is_name_byte, same_bytes, has_byte, components, has_short_components}
+use Rattle.pua_tree.specs.Names.{is_name_byte, has_byte, components, has_short_components}
 use Rattle.pua_path.specs.Paths.{part_of, ends_in_slash, ending_parts, parts_of, path_fault, text_errno}
 use Rattle.pua_path.specs.Limits.{most_path}
 use Rattle.pua_path.specs.Pieces.{begins_slash, IsCutAtSlash}
@@ -22,7 +22,7 @@ use Rattle.pua_path.specs.Remaining.{slash_part, rest_parts, is_readable, is_pie
 use Rattle.pua_path.specs.declared.traced.TextFault.TheVariants.{LongText, LongComponent, NulInText}
 use Rattle.pua_path.specs.declared.text.Ending.TheVariants as ending
 use Rattle.pua_path.specs.declared.found.Part.{Part}
-use Rattle.pua_path.specs.declared.found.Part.TheVariants.{Dot, DotDot, Name}
+use Rattle.pua_path.specs.declared.found.Part.TheVariants.{Dot}
 
 abbrev pub slash : ℕ → Bool
 slash b = b == 47
@@ -390,28 +390,6 @@ trimmed_readable path trimmed text h same nul e =
     ∙ ap (λ v. not v && has_short_components trimmed) nul
     ∙ ap (λ pieces. not (has_byte 0 path) && list_all (λ piece. nat_le (length piece) 255) pieces) same
     ∙ path_readable path h
-
--- the part that a piece is
-pub piece_dot : (piece : List ℕ) → same_bytes piece (46 ∷ []) ≡ true → part_of piece ≡ Dot
-piece_dot piece one = rw one refl
-
-pub piece_dots : (piece : List ℕ) → same_bytes piece (46 ∷ []) ≡ false → same_bytes piece (46 ∷ 46 ∷ []) ≡ true → part_of piece ≡ DotDot
-piece_dots piece one two = rw (one, two) refl
-
-pub piece_named : (piece : List ℕ) → same_bytes piece (46 ∷ []) ≡ false → same_bytes piece (46 ∷ 46 ∷ []) ≡ false →
-    part_of piece ≡ Name piece
-piece_named piece one two = rw (one, two) refl
-
--- one that is neither one dot nor two is a name
-pub piece_is_name : (piece : List ℕ) → is_piece piece ≡ true → same_bytes piece (46 ∷ []) ≡ false →
-    same_bytes piece (46 ∷ 46 ∷ []) ≡ false → IsTrue (is_name piece)
-piece_is_name piece h one two =
-    let a = and_parts (nat_lt 0 (length piece)) (nat_le (length piece) 255 && list_all is_name_byte piece) h in
-    let b = and_parts (nat_le (length piece) 255) (list_all is_name_byte piece) a.1 in
-    rw (a.0, b.0, b.1, one, two) refl
-
--- how a piece is seen to be one part or another
-pub ruleset pieces = (piece_dot, piece_dots, piece_named, piece_is_name)
 
 pub text_readable : (target text : List ℕ) → is_readable target ≡ true → text ≡ after_slashes target → is_readable text ≡ true
 text_readable target text r e = ap is_readable e ∙ is_readable-after_slashes target ∙ r

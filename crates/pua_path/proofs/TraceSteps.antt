@@ -1,8 +1,8 @@
 -- What a trace comes to at a name.
 use Rattle.std.proofs.Common.{◌≡◌, ℕ, zero, suc, Bool, List, [], ◌∷◌, ◌++◌, Some, None, refl, sym, ap, ◌∙◌, append_assoc, Option, Result}
-use Rattle.std.proofs.Common.{Ok, Err, arith, le-ltb}
-use Rattle.std.specs.Prelude.{if◌then◌else◌, nat_lt}
-use Rattle.pua_tree.specs.Tree.{Tree, Spot, above}
+use Rattle.std.proofs.Common.{Ok, Err}
+use Rattle.std.specs.Prelude.{if◌then◌else◌}
+use Rattle.pua_tree.specs.Tree.{Tree, Spot}
 use Rattle.pua_path.specs.Paths.{parts_of}
 use Rattle.pua_path.specs.Remaining.{has_no_part}
 use Rattle.pua_path.specs.Resolution.{Standing, Directory, Linked, Plain, Nothing, standing_at, is_followed, start_of}
@@ -70,13 +70,6 @@ module _ (t : Tree) (mode : Last) where
       trace_parts links t mode dir way ps ≡ walk_traced t mode links (followed_traced links t mode) dir way ps
   trace_walks zero dir way ps = refl
   trace_walks (suc links) dir way ps = refl
-
-  -- two dots follow no link
-  pub trace_dotdot : (links dir : ℕ) (way : Way) (rest : List Part) (spot : Spot) →
-      trace_parts links t mode dir way (parts.DotDot ∷ rest) ≡ after_links (if nat_lt links links then spot ∷ [] else [])
-      (trace_parts links t mode (above t dir) ways.DotDot rest)
-  trace_dotdot zero dir way rest spot = refl
-  trace_dotdot (suc links) dir way rest spot = rw (le-ltb (suc links) (suc links) (omega arith)) refl
 
   pub trace_name : (links dir : ℕ) (way : Way) (name : List ℕ) (rest : List Part) (s : Standing) → s ≡ standing_at t dir name →
       trace_parts links t mode dir way (parts.Name name ∷ rest) ≡ met_traced t mode links (followed_traced links t mode) dir name rest s

@@ -355,7 +355,6 @@ impl<'a> Resolving<'a> {
     }
 
     /// Resolves the part that a piece is, as `enter` does.
-    #[tactic(auto, using(crate::proofs::Pieces::pieces))]
     fn enter_piece<'n, 't: 'a, P: Probe<'t>>(
         &mut self,
         probe: &mut P,
@@ -378,14 +377,16 @@ impl<'a> Resolving<'a> {
         ensures count { P.count probe.new ≤ P.count probe.old + 3 }
         ensures named { IfOk result AreNamed }
     {
-        if piece == b".".as_slice() {
-            self.way = Nameless::Dot;
-            Ok(None)
-        } else if piece == b"..".as_slice() {
-            self.climb(probe);
-            Ok(None)
-        } else {
-            self.enter_name(probe, piece, mode)
+        match piece {
+            [b'.'] => {
+                self.way = Nameless::Dot;
+                Ok(None)
+            }
+            [b'.', b'.'] => {
+                self.climb(probe);
+                Ok(None)
+            }
+            _ => self.enter_name(probe, piece, mode),
         }
     }
 
