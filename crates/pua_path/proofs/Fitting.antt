@@ -185,13 +185,17 @@ resolutions_fit t fits = record {
 }
 
 -- what parts name is of the tree, and stands at the name by which it was found
-pub parts_fit : (t : Tree) (links : ℕ) (mode : Last) (r : Resolved) → Lands t mode links r → IfOk r (λ found. FoundFits t found.0)
-parts_fit t links mode (Ok found) is = is.0.fits
-parts_fit t links mode (Err errno) is = tt
+pub parts_fit : (t : Tree) → WellFormed t → (links dir : ℕ) (mode : Last) (ps : List Part) (r : Resolved) → is_dir t dir ≡ true →
+    r ≡ resolve_parts links t mode dir Top ps → IfOk r (λ found. FoundFits t found.0)
+parts_fit t fits links dir mode ps (Ok found) living e =
+    (subst (Lands t mode links) (sym e) (lands t fits mode links ps dir living)).0.fits
+parts_fit t fits links dir mode ps (Err errno) living e = tt
 
-pub parts_named : (t : Tree) (links : ℕ) (mode : Last) (r : Resolved) → Lands t mode links r → IfOk r (λ found. StandsAsNamed t found.0)
-parts_named t links mode (Ok found) is = is.0.named
-parts_named t links mode (Err errno) is = tt
+pub parts_named : (t : Tree) → WellFormed t → (links dir : ℕ) (mode : Last) (ps : List Part) (r : Resolved) → is_dir t dir ≡ true →
+    r ≡ resolve_parts links t mode dir Top ps → IfOk r (λ found. StandsAsNamed t found.0)
+parts_named t fits links dir mode ps (Ok found) living e =
+    (subst (Lands t mode links) (sym e) (lands t fits mode links ps dir living)).0.named
+parts_named t fits links dir mode ps (Err errno) living e = tt
 
 -- the same of what a path names
 pub founds_fit : (t : Tree) → WellFormed t → (from : ℕ) (ending : Ending) (text : List ℕ) (mode : Last) (found : Result Found Errno) →

@@ -18,7 +18,8 @@ use Rattle.pua_path.specs.declared.found.Way.{Way}
 use Rattle.pua_path.specs.declared.found.Way.TheVariants as ways
 use Rattle.pua_path.specs.declared.found.Found.{Found}
 use Rattle.pua_path.specs.declared.found.Found.TheVariants.{Whole, Slot}
-use Rattle.pua_path.proofs.Steps.{followed, resolve_end, resolve_dot, resolve_dotdot, resolve_directory, resolve_name, resolve_kept}
+use Rattle.pua_path.specs.Onward.{followed}
+use Rattle.pua_path.proofs.Steps.{resolve_end, resolve_dot, resolve_dotdot, resolve_directory, resolve_name, resolve_kept}
 use Rattle.pua_path.proofs.Steps.{resolve_linked}
 
 -- answers that agree are decided alike

@@ -5,24 +5,27 @@ mod tracing;
 ghost use Rattle.std.specs.Prelude.{◌≡◌, ◌≤◌, ◌<◌, ◌+◌, ◌-◌, ◌*◌};
 ghost use Rattle.std.specs.Prelude.{[], ◌∷◌, ◌++◌, Some, None, Ok, Err, is_some};
 ghost use Rattle.std.specs.Prelude.{IsTrue, IfSome, IfOk, IfErr, OnOk};
-ghost use Rattle.std.specs.Prelude.{not, false, ◌&&◌, ◌==◌, if◌then◌else◌};
+ghost use Rattle.std.specs.Prelude.{not, true, false, ◌&&◌, ◌==◌, if◌then◌else◌, length};
 ghost use Rattle.pua_tree.specs.Names.{is_name};
 ghost use Rattle.pua_tree.specs.Tree.{above, is_dir};
 ghost use Rattle.pua_path.specs.Resolution.{resolution, resolve_parts, step, last, follow};
-ghost use Rattle.pua_path.specs.Resolution.{standing_at, is_followed, start_of};
+ghost use Rattle.pua_path.specs.Resolution.{standing_at, start_of};
 ghost use Rattle.pua_path.specs.Limits.{most_links};
 ghost use Rattle.pua_path.specs.Paths.{is_absolute, part_of, parts_of};
-ghost use Rattle.pua_path.specs.Walks.{way_of, lent_name, found_seen, all_found, standing_seen};
+ghost use Rattle.pua_path.specs.Walks.{way_of, lent_name, found_seen, standing_seen};
 ghost use Rattle.pua_path.specs.Walks.{IsNamed, AreNamed, IsSeenIn, CanGoOn, LeadsOn, TracesOn};
+ghost use Rattle.pua_path.specs.Onward.{followed, is_followed_at, onward_by, onward_seen};
+ghost use Rattle.pua_path.specs.Onward.{IsOnwardIn, IsByName, IsTargetIn};
 ghost use Rattle.pua_path.specs.Walks.{resolved_of, walk_end, potential_of};
-ghost use Rattle.pua_path.specs.Bounds.{part_cost};
+ghost use Rattle.pua_path.specs.Bounds.{part_cost, most_parts};
 ghost use Rattle.pua_path.specs.Fits.{FoundFits, FoundsFit, StandsAsNamed};
-ghost use Rattle.pua_path.specs.Remaining.{Remaining, has_no_part, is_piece, is_readable};
+ghost use Rattle.pua_path.specs.Remaining.{Remaining, is_piece, is_readable, rest_parts};
 ghost use Rattle.pua_path.specs.declared.errno.Errno.TheVariants.{ELOOP, ENOENT, ENOTDIR};
 ghost use Rattle.pua_path.specs.declared.found.Way.TheVariants as ways;
 ghost use Rattle.pua_path.specs.declared.resolver.Nameless.TheVariants as nameless;
 ghost use Rattle.pua_path.specs.declared.found.Part.TheVariants as parts;
-ghost use Rattle.pua_path.specs.declared.found.Found.TheVariants.{Slot};
+ghost use Rattle.pua_path.specs.declared.resolver.LentFound.TheVariants as lent;
+ghost use Rattle.pua_path.specs.declared.resolver.Onward.TheVariants as onward;
 ghost use Rattle.pua_path.specs.declared.text.Ending.TheVariants as ending;
 
 use crate::errno::Errno;
@@ -58,6 +61,34 @@ pub fn resolve<'t, P: Probe<'t>>(
     };
     let mut walk = Resolving::new(start, MOST_LINKS, Rest::of_text(text));
     walk.finish(probe, mode)
+}
+
+/// Follows the first link of a resolution, and resolves what is left of the text behind it; and how
+/// many links are left then.
+fn follow_counted<'a, 't: 'a, P: Probe<'t>>(
+    probe: &mut P,
+    dir: NodeId,
+    left: u8,
+    target: &'a [u8],
+    text: &'a [u8],
+    mode: Last,
+) -> Result<(Found, u8), Errno>
+    requires dir { IsTrue (is_dir (P.tree probe.old) dir) }
+    requires left { left ≤ most_links }
+    requires target { IsTargetIn (P.tree probe.old) target.now }
+    requires readable { IsTrue (is_readable text.now) }
+    ensures exact { let parts = rest_parts text.now in
+        result ≡ followed left (P.tree probe.old) mode dir target.now parts }
+    ensures left { IfOk result (λ found. found.1 ≤ left) }
+    ensures tree { P.tree probe.new ≡ P.tree probe.old }
+    ensures count { let left_parts = length (rest_parts text.now) in
+        P.count probe.new
+        ≤ P.count probe.old + 3 * (left_parts + most_parts (P.tree probe.old) * left) }
+{
+    probe.known();
+    let mut walk = Resolving::new(dir, left, Rest::of_top(text));
+    walk.follow(target)?;
+    walk.finish_counted(probe, mode)
 }
 
 /// What one part that another follows leads to, by the rules of `resolve`, `used` links having been
@@ -160,11 +191,14 @@ fn resolve_part<'t, P: Probe<'t>>(
     ensures cost { P.count probe.new ≤ P.count probe.old + part_cost (P.tree probe.old) }
 {
     probe.known();
-    let mut walk = Resolving::new(dir, left, Rest::none());
-    match walk.enter(probe, part, mode) {
-        Ok(Some(lent)) => Ok((lent.found(), walk.left)),
-        Ok(None) => walk.finish_counted(probe, mode),
-        Err(errno) => Err(errno),
+    match lead_by_part(probe, dir, part, mode) {
+        Onward::Directory(dir, way) => {
+            let way = way.way();
+            Ok((Found::Whole { dir, way }, left))
+        }
+        Onward::Link(target) => follow_counted(probe, dir, left, target, &[], mode),
+        Onward::Found(lent) => Ok((lent.found(), left)),
+        Onward::Nowhere(errno) => Err(errno),
     }
 }
 
@@ -210,6 +244,7 @@ enum Standing<'t> {
     Nothing,
 }
 
+#[inline(always)]
 fn standing_at<'t, P: Probe<'t>>(probe: &mut P, dir: NodeId, name: &[u8]) -> Standing<'t>
     ensures standing { standing_seen result ≡ standing_at (P.tree probe.old) dir name.now }
     ensures stands { IsSeenIn (P.tree probe.old) result }
@@ -289,6 +324,144 @@ impl Nameless {
     }
 }
 
+/// What one part leads to.
+#[derive(Clone, Copy)]
+enum Onward<'n> {
+    /// A directory, and how it was named. By a name one is found at once where it is the last part,
+    /// and otherwise nobody asks how it was named: so `Top` stands there.
+    Directory(NodeId, Nameless),
+    /// A link that is followed.
+    Link(&'n [u8]),
+    /// What the path names.
+    Found(LentFound<'n>),
+    /// No further, and why.
+    Nowhere(Errno),
+}
+
+/// What the part that a piece is leads to from a directory; `is_last` says that none is behind it.
+/// As it stands in the loop over the pieces, no answer on the way is written to memory.
+#[inline(always)]
+fn lead_by_piece<'n, 't: 'n, P: Probe<'t>>(
+    probe: &mut P,
+    dir: NodeId,
+    piece: &'n [u8],
+    is_last: bool,
+    mode: Last,
+) -> Onward<'n>
+    requires piece { IsTrue (is_piece piece.now) }
+    requires dir { IsTrue (is_dir (P.tree probe.old) dir) }
+    ensures exact { let part = part_of piece.now in
+        onward_seen result ≡ onward_by (P.tree probe.old) mode dir part is_last }
+    ensures stands { IsOnwardIn (P.tree probe.old) result }
+    ensures named { IsByName piece.now result }
+    ensures tree { P.tree probe.new ≡ P.tree probe.old }
+    ensures count { P.count probe.new ≤ P.count probe.old + 3 }
+{
+    match piece {
+        [b'.'] => Onward::Directory(dir, Nameless::Dot),
+        [b'.', b'.'] => Onward::Directory(above(probe, dir), Nameless::DotDot),
+        _ => lead_by_name(probe, dir, piece, is_last, mode),
+    }
+}
+
+/// The same of a part that is the last one.
+fn lead_by_part<'n, 't: 'n, P: Probe<'t>>(
+    probe: &mut P,
+    dir: NodeId,
+    part: &'n Part,
+    mode: Last,
+) -> Onward<'n>
+    requires { IsTrue (is_dir (P.tree probe.old) dir) }
+    ensures exact { onward_seen result ≡ onward_by (P.tree probe.old) mode dir part.now true }
+    ensures stands { IsOnwardIn (P.tree probe.old) result }
+    ensures tree { P.tree probe.new ≡ P.tree probe.old }
+    ensures count { P.count probe.new ≤ P.count probe.old + 3 }
+{
+    match part {
+        Part::Dot => Onward::Directory(dir, Nameless::Dot),
+        Part::DotDot => Onward::Directory(above(probe, dir), Nameless::DotDot),
+        Part::Name(name) => lead_by_name(probe, dir, name.bytes(), true, mode),
+    }
+}
+
+/// The same of a name.
+#[inline(always)]
+fn lead_by_name<'n, 't: 'n, P: Probe<'t>>(
+    probe: &mut P,
+    dir: NodeId,
+    name: &'n [u8],
+    is_last: bool,
+    mode: Last,
+) -> Onward<'n>
+    requires name { IsTrue (is_name name.now) }
+    ensures exact { let part = parts.Name name.now in
+        onward_seen result ≡ onward_by (P.tree probe.old) mode dir part is_last }
+    ensures stands { IsOnwardIn (P.tree probe.old) result }
+    ensures tree { P.tree probe.new ≡ P.tree probe.old }
+    ensures count { P.count probe.new ≤ P.count probe.old + 3 }
+{
+    match standing_at(probe, dir, name) {
+        Standing::Directory(node) => {
+            if !is_last {
+                return Onward::Directory(node, Nameless::Top);
+            }
+            Onward::Found(LentFound::Whole {
+                dir: node,
+                parent: dir,
+                name,
+            })
+        }
+        Standing::Linked(node, target) => {
+            if is_followed(mode, is_last) {
+                return Onward::Link(target);
+            }
+            let node = Some(node);
+            Onward::Found(LentFound::Slot { dir, name, node })
+        }
+        Standing::Plain(node) => end_at(dir, name, Some(node), is_last, Errno::ENOTDIR),
+        Standing::Nothing => end_at(dir, name, None, is_last, Errno::ENOENT),
+    }
+}
+
+fn is_followed(mode: Last, is_last: bool) -> bool
+    ensures { result ≡ is_followed_at mode is_last }
+{
+    match mode {
+        Last::Followed => true,
+        Last::Kept => !is_last,
+    }
+}
+
+/// What is no directory is found where no part is left.
+#[inline(always)]
+fn end_at<'n>(
+    dir: NodeId,
+    name: &'n [u8],
+    node: Option<NodeId>,
+    is_last: bool,
+    errno: Errno,
+) -> Onward<'n>
+    ensures { result ≡ (if is_last then onward.Found (lent.Slot dir name.entry node)
+        else onward.Nowhere errno) }
+{
+    if !is_last {
+        return Onward::Nowhere(errno);
+    }
+    Onward::Found(LentFound::Slot { dir, name, node })
+}
+
+/// The directory above a directory.
+fn above<'t, P: Probe<'t>>(probe: &mut P, dir: NodeId) -> NodeId
+    requires { IsTrue (is_dir (P.tree probe.old) dir) }
+    ensures above { result ≡ above (P.tree probe.old) dir }
+    ensures lives { IsTrue (is_dir (P.tree probe.old) result) }
+    ensures tree { P.tree probe.new ≡ P.tree probe.old }
+    ensures count { P.count probe.new ≤ P.count probe.old + 1 }
+{
+    probe.known();
+    probe.parent(dir).unwrap_or(NodeId::ROOT)
+}
+
 /// A resolution on its way: the directory where it is, how that was named, how many links it may
 /// still follow, and the parts that are left.
 #[derive(Drop)]
@@ -354,13 +527,13 @@ impl<'a> Resolving<'a> {
         }
     }
 
-    /// Resolves the part that a piece is, as `enter` does.
-    fn enter_piece<'n, 't: 'a, P: Probe<'t>>(
+    /// Resolves the part that a piece is, and answers what was found, where it ends the resolution.
+    fn enter_piece<'t: 'a, P: Probe<'t>>(
         &mut self,
         probe: &mut P,
-        piece: &'n [u8],
+        piece: &'a [u8],
         mode: Last,
-    ) -> Result<Option<LentFound<'n>>, Errno>
+    ) -> Result<Option<LentFound<'a>>, Errno>
         requires piece { IsTrue (is_piece piece.now) }
         requires ready { CanGoOn (P.tree probe.old) self.old.here self.old.left self.old.rest }
         ensures exact { let part = part_of piece.now in
@@ -377,144 +550,19 @@ impl<'a> Resolving<'a> {
         ensures count { P.count probe.new ≤ P.count probe.old + 3 }
         ensures named { IfOk result AreNamed }
     {
-        match piece {
-            [b'.'] => {
-                self.way = Nameless::Dot;
+        match lead_by_piece(probe, self.here, piece, self.rest.is_done(), mode) {
+            Onward::Directory(dir, way) => {
+                self.here = dir;
+                self.way = way;
                 Ok(None)
             }
-            [b'.', b'.'] => {
-                self.climb(probe);
-                Ok(None)
-            }
-            _ => self.enter_name(probe, piece, mode),
-        }
-    }
-
-    /// Resolves one part; the answer is what was found, where it ends the resolution.
-    fn enter<'n, 't: 'a, P: Probe<'t>>(
-        &mut self,
-        probe: &mut P,
-        part: &'n Part,
-        mode: Last,
-    ) -> Result<Option<LentFound<'n>>, Errno>
-        requires ready { CanGoOn (P.tree probe.old) self.old.here self.old.left self.old.rest }
-        ensures exact { LeadsOn (P.tree probe.old) mode part.now self.old result self.new }
-        ensures ready { CanGoOn (P.tree probe.old) self.new.here self.new.left self.new.rest }
-        ensures left { self.new.left ≤ self.old.left }
-        ensures potential { let t = P.tree probe.old in
-            potential_of t self.new ≤ potential_of t self.old }
-        ensures tree { P.tree probe.new ≡ P.tree probe.old }
-        ensures count { P.count probe.new ≤ P.count probe.old + 3 }
-        ensures named { IfOk result AreNamed }
-    {
-        match part {
-            Part::Dot => {
-                self.way = Nameless::Dot;
-                Ok(None)
-            }
-            Part::DotDot => {
-                self.climb(probe);
-                Ok(None)
-            }
-            Part::Name(name) => self.enter_name(probe, name.bytes(), mode),
-        }
-    }
-
-    /// Goes to the directory above.
-    fn climb<'t, P: Probe<'t>>(&mut self, probe: &mut P)
-        requires ready { CanGoOn (P.tree probe.old) self.old.here self.old.left self.old.rest }
-        ensures above { self.new.here ≡ above (P.tree probe.old) self.old.here }
-        ensures way { self.new.way ≡ nameless.DotDot }
-        ensures left { self.new.left ≡ self.old.left }
-        ensures rest { self.new.rest ≡ self.old.rest }
-        ensures ready { CanGoOn (P.tree probe.old) self.new.here self.new.left self.new.rest }
-        ensures tree { P.tree probe.new ≡ P.tree probe.old }
-        ensures count { P.count probe.new ≤ P.count probe.old + 1 }
-    {
-        self.here = probe.parent(self.here).unwrap_or(NodeId::ROOT);
-        self.way = Nameless::DotDot;
-    }
-
-    /// Resolves a name, as `enter` does.
-    fn enter_name<'n, 't: 'a, P: Probe<'t>>(
-        &mut self,
-        probe: &mut P,
-        name: &'n [u8],
-        mode: Last,
-    ) -> Result<Option<LentFound<'n>>, Errno>
-        requires name { IsTrue (is_name name.now) }
-        requires ready { CanGoOn (P.tree probe.old) self.old.here self.old.left self.old.rest }
-        ensures exact { let part = parts.Name name.now in
-            LeadsOn (P.tree probe.old) mode part self.old result self.new }
-        ensures traced { let part = parts.Name name.now in
-            TracesOn (P.tree probe.old) mode part name.now self.old result self.new }
-        ensures ready { CanGoOn (P.tree probe.old) self.new.here self.new.left self.new.rest }
-        ensures left { self.new.left ≤ self.old.left }
-        ensures potential { let t = P.tree probe.old in
-            potential_of t self.new ≤ potential_of t self.old }
-        ensures tree { P.tree probe.new ≡ P.tree probe.old }
-        ensures count { P.count probe.new ≤ P.count probe.old + 3 }
-        ensures named { IfOk result AreNamed }
-    {
-        let dir = self.here;
-        match standing_at(probe, dir, name) {
-            Standing::Directory(node) => {
-                if self.rest.is_done() {
-                    return Ok(Some(LentFound::Whole {
-                        dir: node,
-                        parent: dir,
-                        name,
-                    }));
-                }
-                self.here = node;
-                Ok(None)
-            }
-            Standing::Linked(node, target) => {
-                if !self.is_followed(mode) {
-                    return Ok(Some(LentFound::Slot {
-                        dir,
-                        name,
-                        node: Some(node),
-                    }));
-                }
+            Onward::Link(target) => {
                 self.follow(target)?;
                 Ok(None)
             }
-            Standing::Plain(node) => self.end_at(name, Some(node), Errno::ENOTDIR),
-            Standing::Nothing => self.end_at(name, None, Errno::ENOENT),
+            Onward::Found(lent) => Ok(Some(lent)),
+            Onward::Nowhere(errno) => Err(errno),
         }
-    }
-
-    fn is_followed(&self, mode: Last) -> bool
-        ensures { result ≡ is_followed mode self.now.rest.parts }
-    {
-        match mode {
-            Last::Followed => true,
-            Last::Kept => !self.rest.is_done(),
-        }
-    }
-
-    /// What is no directory is found where no part is left.
-    fn end_at<'n>(
-        &self,
-        name: &'n [u8],
-        node: Option<NodeId>,
-        errno: Errno,
-    ) -> Result<Option<LentFound<'n>>, Errno>
-        requires { IsTrue (is_name name.now) }
-        ensures exact { all_found result ≡
-            (if has_no_part self.now.rest.parts then Ok (Some (Slot self.now.here name.now node))
-            else Err errno) }
-        ensures named { IfOk result AreNamed }
-    {
-        if !self.rest.is_done() {
-            return Err(errno);
-        }
-        Ok(Some(LentFound::Slot {
-            dir: self.here,
-            name,
-            node,
-        }))
     }
 
     /// Follows a link: its target comes before the parts that are left.

@@ -39,31 +39,31 @@ ghost use Rattle.pua_path.specs.Paths.{part_of, parts_of};
 ghost use Rattle.pua_path.specs.Remaining.{has_no_part, is_piece, is_readable, rest_parts};
 ghost use Rattle.pua_path.specs.declared.text.Ending.TheVariants as ending;
 
-impl<'a> Rest<'a> {
-    /// No part.
-    #[inline(always)]
-    pub(crate) fn none() -> Rest<'a>
-        ensures parts { result.parts ≡ [] }
-        ensures depth { result.depth ≡ 0 }
-    {
-        Rest::of_top(&[])
+/// What is left of a path where nothing of it is read yet.
+pub(crate) fn unread<'a>(text: &PathText<'a>) -> &'a [u8]
+    ensures parts { rest_parts result.now ≡ parts_of text.now.ending text.now.bytes }
+    ensures readable { IsTrue (is_readable result.now) }
+{
+    let bytes = text.bytes();
+    match text.ending() {
+        Ending::Dot => after_slashes(bytes),
+        Ending::Dropped => after_slashes(before_slashes(bytes)),
     }
+}
 
+impl<'a> Rest<'a> {
     /// The parts of a path.
     #[inline(always)]
     pub(crate) fn of_text(text: &PathText<'a>) -> Rest<'a>
         ensures parts { result.parts ≡ parts_of text.now.ending text.now.bytes }
         ensures depth { result.depth ≡ 0 }
     {
-        let bytes = text.bytes();
-        match text.ending() {
-            Ending::Dot => Rest::of_top(after_slashes(bytes)),
-            Ending::Dropped => Rest::of_top(after_slashes(before_slashes(bytes))),
-        }
+        Rest::of_top(unread(text))
     }
 
+    /// The parts of what is left of a text.
     #[inline(always)]
-    fn of_top(top: &'a [u8]) -> Rest<'a>
+    pub(crate) fn of_top(top: &'a [u8]) -> Rest<'a>
         requires { IsTrue (is_readable top.now) }
         ensures parts { result.parts ≡ rest_parts top.now }
         ensures depth { result.depth ≡ 0 }
