@@ -7,7 +7,6 @@ use Rattle.pua_tree.specs.Steps.{◌>>=◌}
 use Rattle.pua_path.specs.Paths.{parts_of, is_absolute}
 use Rattle.pua_path.specs.Resolution.{Resolved, Standing, Directory, Linked, Plain, Nothing, standing_at, walk, start_of, resolve_parts}
 use Rattle.pua_path.specs.Resolution.{resolution, dir_with_links, step, most_links}
-use Rattle.pua_path.specs.Walks.{resolved_of}
 use Rattle.pua_path.specs.declared.errno.Errno.{Errno}
 use Rattle.pua_path.specs.declared.errno.Errno.TheVariants.{ENOENT, ENOTDIR, ELOOP}
 use Rattle.pua_path.specs.declared.text.Ending.{Ending}
@@ -74,22 +73,9 @@ starts_at true start begin further e = cc
 starts_at false start begin further e = let same : start ≡ begin = cc in ap further same
 
 -- the resolution of a path from where it starts
-pub resolution_starts : (t : Tree) (from : ℕ) (end : Ending) (text : List ℕ) (mode : Last) (start : ℕ) (found : Resolved) →
+pub resolution_starts : (t : Tree) (from : ℕ) (end : Ending) (text : List ℕ) (mode : Last) (start : ℕ) (found : Result Found Errno) →
     Some start ≡ (if not (is_absolute text) && not (is_dir t from) then None else Some (start_of text from)) →
-    found ≡ resolve_parts most_links t mode start ways.Top (parts_of end text) → (found >>= λ f. Ok f.0) ≡ resolution t from end text mode
+    found ≡ (resolve_parts most_links t mode start ways.Top (parts_of end text) >>= λ f. Ok f.0) → found ≡ resolution t from end text mode
 resolution_starts t from end text mode start found s e =
-    ap (λ r. r >>= λ f. Ok f.0) e
-    ∙ starts_at (not (is_absolute text) && not (is_dir t from)) start (start_of text from)
+    e ∙ starts_at (not (is_absolute text) && not (is_dir t from)) start (start_of text from)
     (λ begin. resolve_parts most_links t mode begin ways.Top (parts_of end text) >>= λ f. Ok f.0) s
-
--- an answer, apart from the links left
-pub ended_found : (r : Result Found Errno) (left : ℕ) → (resolved_of r left >>= λ f. Ok f.0) ≡ r
-ended_found (Ok found) left = refl
-ended_found (Err errno) left = refl
-
--- what a walk from there answers
-pub resolution_ends : (t : Tree) (from : ℕ) (end : Ending) (text : List ℕ) (mode : Last) (start : ℕ) (r : Result Found Errno) (left : ℕ) →
-    Some start ≡ (if not (is_absolute text) && not (is_dir t from) then None else Some (start_of text from)) →
-    resolved_of r left ≡ resolve_parts most_links t mode start ways.Top (parts_of end text) → r ≡ resolution t from end text mode
-resolution_ends t from end text mode start r left s e = sym (ended_found r left) ∙
-    resolution_starts t from end text mode start (resolved_of r left) s e

@@ -361,6 +361,11 @@ rest_parts-some x xs = by (after_slashes (x ∷ xs)) refl
         ap (λ p. has_no_part (map part_of p ++ slash_part (ends_in_slash (x ∷ xs)))) pieces
         ∙ some_component y ys (slash_part (ends_in_slash (x ∷ xs))) (head-after_slashes (x ∷ xs) y ys e)
 
+-- no part is left exactly where nothing of the text is
+pub no_part_left : (text : List ℕ) → (length text == 0) ≡ has_no_part (rest_parts text)
+no_part_left [] = refl
+no_part_left (x ∷ xs) = ne_eqb (length (x ∷ xs)) 0 (λ e. omega (arith, e)) ∙ sym (rest_parts-some x xs)
+
 -- a target of slashes alone has no parts
 pub no_parts : (target text : List ℕ) → text ≡ after_slashes target → (length text == 0) ≡ true → parts_of ending.Dot target ≡ []
 no_parts target [] e n = parts_of-begin target ∙ ap rest_parts (sym e)

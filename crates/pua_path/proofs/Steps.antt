@@ -1,10 +1,11 @@
 -- What one part does to a resolution.
 use Rattle.std.proofs.Common.{◌≡◌, ℕ, zero, suc, true, false, List, [], ◌∷◌, ◌++◌, Some, None, refl, sym, ap, ◌∙◌, Ok, Err}
-use Rattle.std.proofs.Common.{arith, Bool, ◌<◌, ◌-◌}
-use Rattle.std.specs.Prelude.{if◌then◌else◌}
+use Rattle.std.proofs.Common.{arith, Bool, ◌<◌, ◌-◌, length}
+use Rattle.std.specs.Prelude.{if◌then◌else◌, ◌==◌}
 use Rattle.pua_tree.specs.Tree.{Tree, above}
-use Rattle.pua_path.specs.Paths.{parts_of}
-use Rattle.pua_path.specs.Remaining.{has_no_part}
+use Rattle.pua_path.specs.Paths.{part_of, parts_of}
+use Rattle.pua_path.specs.Remaining.{has_no_part, rest_parts}
+use Rattle.pua_path.proofs.Pieces.{no_part_left}
 use Rattle.pua_path.specs.Resolution.{Resolved, Standing, Directory, Linked, Plain, Nothing, standing_at, is_followed, slot_or, walk}
 use Rattle.pua_path.specs.Resolution.{start_of, resolve_parts}
 use Rattle.pua_path.specs.Onward.{Onward, Goes, Follows, Ends, Fails, followed, onward_at, onward_by}
@@ -134,6 +135,14 @@ resolve_onward t mode links dir way part rest last r l e =
     by (parts.Name name) =
         resolve_name t mode links dir way name rest (standing_at t dir name) refl
         ∙ met_onward t mode links dir name rest (standing_at t dir name)
+
+-- and the first piece of what is left of a text
+pub text_onward : (t : Tree) (mode : Last) (links dir : ℕ) (way : Way) (text piece rest : List ℕ) (last : Bool) (r : Onward) →
+    rest_parts text ≡ part_of piece ∷ rest_parts rest → last ≡ (length rest == 0) → r ≡ onward_by t mode dir (part_of piece) last →
+    resolve_parts links t mode dir way (rest_parts text) ≡ led_on t mode links dir (rest_parts rest) r
+text_onward t mode links dir way text piece rest last r p l e =
+    ap (resolve_parts links t mode dir way) p
+    ∙ resolve_onward t mode links dir way (part_of piece) (rest_parts rest) last r (l ∙ no_part_left rest) e
 
 -- a link that may be followed, by where the walk is then
 pub followed_on : (t : Tree) (mode : Last) (links from : ℕ) (target : List ℕ) (rest : List Part) (after here : ℕ) (way : Way)

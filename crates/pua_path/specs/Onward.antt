@@ -1,8 +1,9 @@
 -- What one part leads to.
-use Rattle.std.specs.Prelude.{ℕ, zero, suc, ◌≤◌, Bool, true, not, ◌++◌, if◌then◌else◌, List, length, Some, None, Err}
+use Rattle.std.specs.Prelude.{ℕ, zero, suc, ◌≤◌, Bool, true, not, ◌++◌, if◌then◌else◌, List, length, Some, None, Result, Ok, Err}
 use Rattle.std.specs.Prelude.{IsTrue}
 use Rattle.pua_tree.specs.Names.{is_name}
 use Rattle.pua_tree.specs.Tree.{Tree, is_dir, above}
+use Rattle.pua_tree.specs.Steps.{◌>>=◌}
 use Rattle.pua_path.specs.Paths.{parts_of}
 use Rattle.pua_path.specs.Remaining.{is_readable}
 use Rattle.pua_path.specs.Resolution.{Resolved, Standing, Directory, Linked, Plain, Nothing, standing_at, start_of, resolve_parts}
@@ -56,6 +57,10 @@ abbrev pub followed : ℕ → Tree → Last → ℕ → List ℕ → List Part �
 followed zero t mode from target rest = Err ELOOP
 followed (suc links) t mode from target rest =
     resolve_parts links t mode (start_of target from) ways.Top (parts_of Dot target ++ rest)
+
+-- what was found, apart from the links left
+abbrev pub found_alone : Resolved → Result Found Errno
+found_alone resolved = resolved >>= λ found. Ok found.0
 
 -- the same of a part, its names and targets lent
 abbrev pub onward_seen : declared.Onward → Onward

@@ -88,11 +88,6 @@ traced_on spot linked (Ok None) left further = after_links (if linked then spot 
 traced_on spot linked (Ok (Some found)) left further = at_once (Ok (found, left))
 traced_on spot linked (Err errno) left further = at_once (Err (stop_at spot errno))
 
--- what a resolution answers, and the links left then
-abbrev pub resolved_of : Result Found Errno → ℕ → Resolved
-resolved_of (Ok found) left = Ok (found, left)
-resolved_of (Err errno) left = Err errno
-
 -- where a resolution on its way comes to: by the parts that it has left, and with one more before them
 abbrev pub walk_end : Tree → Last → Resolving → Resolved
 walk_end t mode walk = resolve_parts walk.left t mode walk.here (way_of walk.way) walk.rest.parts

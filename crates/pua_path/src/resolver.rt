@@ -15,8 +15,8 @@ ghost use Rattle.pua_path.specs.Paths.{is_absolute, part_of, parts_of};
 ghost use Rattle.pua_path.specs.Walks.{way_of, lent_name, found_seen, standing_seen};
 ghost use Rattle.pua_path.specs.Walks.{IsNamed, AreNamed, IsSeenIn, CanGoOn, LeadsOn, TracesOn};
 ghost use Rattle.pua_path.specs.Onward.{followed, is_followed_at, onward_by, onward_seen};
-ghost use Rattle.pua_path.specs.Onward.{IsOnwardIn, IsByName, IsTargetIn};
-ghost use Rattle.pua_path.specs.Walks.{resolved_of, walk_end, potential_of};
+ghost use Rattle.pua_path.specs.Onward.{found_alone, IsOnwardIn, IsByName, IsTargetIn};
+ghost use Rattle.pua_path.specs.Walks.{walk_end, potential_of};
 ghost use Rattle.pua_path.specs.Bounds.{part_cost, most_parts};
 ghost use Rattle.pua_path.specs.Fits.{FoundFits, FoundsFit, StandsAsNamed};
 ghost use Rattle.pua_path.specs.Remaining.{Remaining, is_piece, is_readable, rest_parts};
@@ -31,8 +31,9 @@ ghost use Rattle.pua_path.specs.declared.text.Ending.TheVariants as ending;
 use crate::errno::Errno;
 use crate::found::{Found, Last, Part, Way};
 use crate::limits::MOST_LINKS;
+use crate::piece::next_piece;
 use crate::probe::Probe;
-use crate::rest::Rest;
+use crate::rest::{Rest, unread};
 use crate::text::PathText;
 use pua_tree::{Kind, Name, NodeId};
 pub use tracing::trace;
@@ -59,12 +60,69 @@ pub fn resolve<'t, P: Probe<'t>>(
     let Some(start) = start_of(probe, from, text.bytes()) else {
         return Err(Errno::ENOENT);
     };
-    let mut walk = Resolving::new(start, MOST_LINKS, Rest::of_text(text));
-    walk.finish(probe, mode)
+    resolve_text(probe, start, MOST_LINKS, unread(text), mode)
 }
 
-/// Follows the first link of a resolution, and resolves what is left of the text behind it; and how
-/// many links are left then.
+/// What the parts of a text name from a directory. It has no room for the targets of links: from
+/// the first link on `follow_on` goes on, which has it, so that a path without links pays for none.
+fn resolve_text<'t, P: Probe<'t>>(
+    probe: &mut P,
+    start: NodeId,
+    left: u8,
+    text: &[u8],
+    mode: Last,
+) -> Result<Found, Errno>
+    requires dir { IsTrue (is_dir (P.tree probe.old) start) }
+    requires left { left ≤ most_links }
+    requires readable { IsTrue (is_readable text.now) }
+    ensures exact { let t = P.tree probe.old in let parts = rest_parts text.now in
+        result ≡ found_alone (resolve_parts left t mode start ways.Top parts) }
+    ensures tree { P.tree probe.new ≡ P.tree probe.old }
+{
+    let mut here = start;
+    let mut way = Nameless::Top;
+    let mut rest = text;
+    while !rest.is_empty() {
+        let (piece, behind) = next_piece(rest);
+        rest = behind;
+        match lead_by_piece(probe, here, piece, rest.is_empty(), mode) {
+            Onward::Directory(dir, named) => {
+                here = dir;
+                way = named;
+            }
+            Onward::Link(target) => return follow_on(probe, here, left, target, rest, mode),
+            Onward::Found(lent) => return Ok(lent.found()),
+            Onward::Nowhere(errno) => return Err(errno),
+        }
+    }
+    Ok(Found::Whole {
+        dir: here,
+        way: way.way(),
+    })
+}
+
+/// Follows the first link of a resolution, and resolves what is left of the text behind it.
+fn follow_on<'a, 't: 'a, P: Probe<'t>>(
+    probe: &mut P,
+    dir: NodeId,
+    left: u8,
+    target: &'a [u8],
+    text: &'a [u8],
+    mode: Last,
+) -> Result<Found, Errno>
+    requires dir { IsTrue (is_dir (P.tree probe.old) dir) }
+    requires left { left ≤ most_links }
+    requires target { IsTargetIn (P.tree probe.old) target.now }
+    requires readable { IsTrue (is_readable text.now) }
+    ensures exact { let t = P.tree probe.old in let parts = rest_parts text.now in
+        result ≡ found_alone (followed left t mode dir target.now parts) }
+    ensures tree { P.tree probe.new ≡ P.tree probe.old }
+{
+    let (found, _) = follow_counted(probe, dir, left, target, text, mode)?;
+    Ok(found)
+}
+
+/// The same, and how many links are left then.
 fn follow_counted<'a, 't: 'a, P: Probe<'t>>(
     probe: &mut P,
     dir: NodeId,
@@ -88,7 +146,7 @@ fn follow_counted<'a, 't: 'a, P: Probe<'t>>(
     probe.known();
     let mut walk = Resolving::new(dir, left, Rest::of_top(text));
     walk.follow(target)?;
-    walk.finish_counted(probe, mode)
+    walk.finish(probe, mode)
 }
 
 /// What one part that another follows leads to, by the rules of `resolve`, `used` links having been
@@ -485,31 +543,8 @@ impl<'a> Resolving<'a> {
         }
     }
 
-    /// Resolves the parts that are left.
-    fn finish<'t: 'a, P: Probe<'t>>(&mut self, probe: &mut P, mode: Last) -> Result<Found, Errno>
-        requires ready { CanGoOn (P.tree probe.old) self.old.here self.old.left self.old.rest }
-        ensures exact { resolved_of result self.new.left
-            ≡ walk_end (P.tree probe.old) mode self.old }
-        ensures left { self.new.left ≤ self.old.left }
-        ensures tree { P.tree probe.new ≡ P.tree probe.old }
-        ensures count { P.count probe.new
-            ≤ P.count probe.old + 3 * potential_of (P.tree probe.old) self.old }
-    {
-        while let Some(piece) = self.rest.next() {
-            match self.enter_piece(probe, piece, mode) {
-                Ok(None) => {}
-                Ok(Some(lent)) => return Ok(lent.found()),
-                Err(errno) => return Err(errno),
-            }
-        }
-        Ok(Found::Whole {
-            dir: self.here,
-            way: self.way.way(),
-        })
-    }
-
     /// Resolves the parts that are left, and answers how many links are left too.
-    fn finish_counted<'t: 'a, P: Probe<'t>>(
+    fn finish<'t: 'a, P: Probe<'t>>(
         &mut self,
         probe: &mut P,
         mode: Last,
@@ -521,10 +556,16 @@ impl<'a> Resolving<'a> {
         ensures count { P.count probe.new
             ≤ P.count probe.old + 3 * potential_of (P.tree probe.old) self.old }
     {
-        match self.finish(probe, mode) {
-            Ok(found) => Ok((found, self.left)),
-            Err(errno) => Err(errno),
+        while let Some(piece) = self.rest.next() {
+            match self.enter_piece(probe, piece, mode) {
+                Ok(None) => {}
+                Ok(Some(lent)) => return Ok((lent.found(), self.left)),
+                Err(errno) => return Err(errno),
+            }
         }
+        let way = self.way.way();
+        let dir = self.here;
+        Ok((Found::Whole { dir, way }, self.left))
     }
 
     /// Resolves the part that a piece is, and answers what was found, where it ends the resolution.

@@ -1,0 +1,21 @@
+use Rattle.std.proofs.Common.{◌≡◌, length, IsTrue}
+use Rattle.pua_tree.specs.Tree.{is_dir}
+use Rattle.pua_path.specs.Remaining.{is_readable, rest_parts}
+use Rattle.pua_path.specs.Resolution.{resolve_parts}
+use Rattle.pua_path.specs.Walks.{way_of}
+use Rattle.pua_path.specs.declared.found.Way.TheVariants.{Top}
+use Rattle.pua_path.proofs.resolver.resolve_text.Given as goal
+
+abbrev pub invariant-loop-way : goal.invariant-loop-way
+invariant-loop-way g l =
+    let t = g.P.Probe.tree l.fn.probe in
+    record {
+      tree : g.P.Probe.tree l.probe ≡ t;
+      lives : IsTrue (is_dir t l.here);
+      readable : IsTrue (is_readable l.rest);
+      so_far : resolve_parts l.fn.left t l.fn.mode l.here (way_of l.way) (rest_parts l.rest) ≡ resolve_parts l.fn.left t l.fn.mode
+          l.fn.start Top (rest_parts l.fn.text);
+    }
+
+abbrev pub decreases-loop-way : goal.decreases-loop-way
+decreases-loop-way g l = length (rest_parts l.rest)
