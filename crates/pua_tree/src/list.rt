@@ -98,11 +98,11 @@ impl FileTree for ListTree {
 
     #[tactic(auto, using(crate::proofs::Rows::entry_names))]
     fn names(&self, alloc: Global) -> Result<Vec<Name>, TreeFault> {
-        row_names(alloc, &self.rows).map_err(|_| TreeFault::OutOfMemory)
+        Ok(row_names(alloc, &self.rows)?)
     }
 
     fn rows(&self, alloc: Global) -> Result<Vec<LentRow<'_>>, OutOfMemory> {
-        lent_rows(alloc, &self.rows).map_err(|_| OutOfMemory)
+        Ok(lent_rows(alloc, &self.rows)?)
     }
 
     fn add(
@@ -114,7 +114,7 @@ impl FileTree for ListTree {
     ) -> Result<NodeId, TreeFault> {
         may_add(self, dir, &name)?;
         let alloc = *self.nodes.allocator();
-        let target = copied_target(alloc, target).map_err(|_| TreeFault::OutOfMemory)?;
+        let target = copied_target(alloc, target)?;
         let number = self.next;
         let node = NodeId::new(number);
         let entry = LineEntry {
@@ -124,17 +124,13 @@ impl FileTree for ListTree {
             node,
             made: Some(MadeNode { kind, target }),
         };
-        match self.put(entry) {
-            Ok(()) => Ok(node),
-            Err(OutOfMemory) => Err(TreeFault::OutOfMemory),
-        }
+        self.put(entry)?;
+        Ok(node)
     }
 
     fn tie(&mut self, dir: NodeId, name: Name, node: NodeId) -> Result<(), TreeFault> {
         may_tie(self, dir, &name, node)?;
-        if self.rows.reserve(1).is_err() {
-            return Err(TreeFault::OutOfMemory);
-        }
+        self.rows.reserve(1)?;
         put_row(&mut self.rows, ListRow { dir, name, node });
         Ok(())
     }
@@ -176,18 +172,14 @@ impl FileTree for ListTree {
 
 impl Gathered for ListTree {
     fn root_alone(alloc: Global, rows: usize) -> Result<ListTree, OutOfMemory> {
-        let Ok(rows) = Vec::with_capacity(alloc, rows) else {
-            return Err(OutOfMemory);
-        };
+        let rows = Vec::with_capacity(alloc, rows)?;
         let mut nodes = Vec::new(alloc);
         let root = ListNode {
             id: NodeId::ROOT,
             kind: Kind::Dir,
             target: None,
         };
-        if nodes.push(root).is_err() {
-            return Err(OutOfMemory);
-        }
+        nodes.push(root)?;
         Ok(ListTree {
             rows,
             nodes,
@@ -196,9 +188,7 @@ impl Gathered for ListTree {
     }
 
     fn put(&mut self, entry: LineEntry) -> Result<(), OutOfMemory> {
-        if reserve_one(&mut self.rows, &mut self.nodes).is_err() {
-            return Err(OutOfMemory);
-        }
+        reserve_one(&mut self.rows, &mut self.nodes)?;
         let LineEntry {
             number,
             parent: dir,

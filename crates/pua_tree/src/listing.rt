@@ -14,7 +14,7 @@ ghost use Rattle.pua_tree.specs.Listing.{entries_of, entry_or_fault, only_if, no
 ghost use Rattle.pua_tree.specs.Listing.{Entry as Said};
 ghost use Rattle.pua_tree.specs.Reading.{Gathers, IsGathered, entry_said, said_node};
 
-use crate::fault::{ListingFault, OutOfMemory};
+use crate::fault::ListingFault;
 use crate::field::number_within;
 use crate::gathered::{Gathered, LineEntry, MadeNode};
 use crate::line::{ListingLine, read_line};
@@ -149,14 +149,11 @@ impl<T: Gathered> Reading<T> {
         ensures hard { IfOk result (λ reading. reading.hard ≡ hard) }
         ensures err { OnErr result (result ≡ Err ListingFault.OutOfMemory) }
     {
-        match T::root_alone(alloc, rows) {
-            Ok(tree) => Ok(Reading {
-                hard,
-                tree,
-                greatest: 0,
-            }),
-            Err(OutOfMemory) => Err(ListingFault::OutOfMemory),
-        }
+        Ok(Reading {
+            hard,
+            tree: T::root_alone(alloc, rows)?,
+            greatest: 0,
+        })
     }
 
     /// Reads line `n`, which comes after those read so far.
@@ -182,10 +179,8 @@ impl<T: Gathered> Reading<T> {
             return Err(ListingFault::TooMany(n));
         }
         self.greatest = entry.number;
-        match self.tree.put(entry) {
-            Ok(()) => Ok(()),
-            Err(OutOfMemory) => Err(ListingFault::OutOfMemory),
-        }
+        self.tree.put(entry)?;
+        Ok(())
     }
 
     /// What line `n` says, whether or not its name is free and there is room for it.
@@ -294,9 +289,8 @@ fn target_of(
     if kind != Kind::Link {
         return Ok(None);
     }
-    match unspelled(alloc, line.last) {
-        Ok(Some(target)) if is_target(target.as_slice()) => Ok(Some(target)),
-        Ok(_) => Err(ListingFault::BadTarget(n)),
-        Err(_) => Err(ListingFault::OutOfMemory),
+    match unspelled(alloc, line.last)? {
+        Some(target) if is_target(target.as_slice()) => Ok(Some(target)),
+        _ => Err(ListingFault::BadTarget(n)),
     }
 }

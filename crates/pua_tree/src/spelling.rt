@@ -68,9 +68,7 @@ pub fn unspelled(alloc: Global, text: &[u8]) -> Result<Option<Vec<u8>>, OutOfMem
     let Some(len) = unspell_into(text, &mut []) else {
         return Ok(None);
     };
-    let Ok(mut bytes) = vec![in alloc; 0; len] else {
-        return Err(OutOfMemory);
-    };
+    let mut bytes = vec![in alloc; 0; len]?;
     unspell_into(text, bytes.as_mut_slice());
     Ok(Some(bytes))
 }
@@ -81,13 +79,7 @@ fn as_it_stands(alloc: Global, text: &[u8]) -> Result<Option<Vec<u8>>, OutOfMemo
     requires { IsTrue (list_all is_plain text.now) }
     ensures { IfOk result (λ o. option_map (λ v. v.items) o ≡ bytes_spelled text.now) }
 {
-    let Ok(mut bytes) = Vec::with_capacity(alloc, text.len()) else {
-        return Err(OutOfMemory);
-    };
-    if bytes.extend_from_slice(text).is_err() {
-        return Err(OutOfMemory);
-    }
-    Ok(Some(bytes))
+    Ok(Some(Vec::from_slice(alloc, text)?))
 }
 
 /// Writes the bytes that a text spells into a room, as far as they fit, and answers how many they

@@ -20,13 +20,13 @@ pub returns : goal.returns
 returns c =
     let first = c.in-Some.ensures in
     let room : List ℕ = c.as_mut_slice.result.now in
-    let made = c.in-Ok.ensures in
+    let made = c.in_ok-bytes.ensures in
     let fits : length room ≡ c.in-Some.len = omega (arith, made.len, c.as_mut_slice.ensures.len) in
     let filled = whole c.args.text.now room c.unspell_into-2.new.room c.in-Some.len c.unspell_into-2.result (
       first.0,
       first.1,
       first.2,
     ) c.unspell_into-2.ensures fits in
-    let full : length c.unspell_into-2.new.room ≡ c.in-Ok.bytes.len =
+    let full : length c.unspell_into-2.new.room ≡ c.in_ok-bytes.bytes.len =
     omega (arith, c.unspell_into-2.auto.room, c.as_mut_slice.ensures.len) in
-    ap Some (take_at c.unspell_into-2.new.room _ c.in-Ok.bytes.len full) ∙ sym filled
+    ap Some (take_at c.unspell_into-2.new.room _ c.in_ok-bytes.bytes.len full) ∙ sym filled

@@ -36,8 +36,8 @@ put-requires g c =
     fit_follows c.args.self.now.hard t c.args.self.now.greatest es e h (entry_read c.args.self.now.hard es c.args.n c.args.text.now e count
     read).1
 
-pub returns-in-Ok-clause-exact : goal.returns-in-Ok-clause-exact
-returns-in-Ok-clause-exact g c = λ es h count.
+pub returns-clause-exact : goal.returns-clause-exact
+returns-clause-exact g c = λ es h count.
     let t = g.T.FileTree.content c.args.self.now.tree in
     let e = entry_said c.in_ok-entry.entry in
     let free : is_some (look t e.parent e.name) ≡ false = search rules in
@@ -46,7 +46,7 @@ returns-in-Ok-clause-exact g c = λ es h count.
     let fits : Fits c.args.self.now.hard es e = (entry_read c.args.self.now.hard es c.args.n c.args.text.now e count read).1 in (
       e,
       read,
-      subst (λ (u : tree.Tree). Gathers c.args.self.now.hard u e.number (es ++ e ∷ [])) (sym c.in-Ok.ensures.grown)
+      subst (λ (u : tree.Tree). Gathers c.args.self.now.hard u e.number (es ++ e ∷ [])) (sym c.in_ok-put.ensures.grown)
           (gathered_more c.args.self.now.hard t c.args.self.now.greatest es e h fits),
     )
 

@@ -1,4 +1,4 @@
-use Rattle.std.proofs.Common.{◌≡◌, ◌≢◌, ◌∙◌, ℕ, Option, Some, None, Ok, sym, ap, subst, is_some}
+use Rattle.std.proofs.Common.{rules, ◌≡◌, ◌≢◌, ◌∙◌, ℕ, Option, Some, None, Ok, sym, ap, subst, is_some}
 use Rattle.std.specs.Ordering.{nat_cmp}
 use Rattle.std.specs.FinMap.{find}
 use Rattle.pua_tree.specs.Tree as tree
@@ -17,8 +17,8 @@ invariant_of-self c = (
   c.reserve_row.ensures.kept,
 )
 
-pub returns-then-is_err-clause-unchanged : goal.returns-then-is_err-clause-unchanged
-returns-then-is_err-clause-unchanged c = c.reserve_row.ensures.same c.self.inside.next ∙ c.self.view_is
+pub returns-in_err-reserve_row-clause-unchanged : goal.returns-in_err-reserve_row-clause-unchanged
+returns-in_err-reserve_row-clause-unchanged c = grind (rules, c.reserve_row.ensures.same c.self.inside.next, c.self.view_is)
 
 pub take_row-requires-clause-there : goal.take_row-requires-clause-there
 take_row-requires-clause-there c = sym c.row.ensures ∙ c.in-Some-row.is

@@ -1,4 +1,4 @@
-use Rattle.std.proofs.Common.{◌≡◌, ◌∙◌, Ok, None, sym, ap, subst}
+use Rattle.std.proofs.Common.{rules, ◌≡◌, ◌∙◌, Ok, None, sym, ap, subst}
 use Rattle.pua_tree.specs.Tree as tree
 use Rattle.pua_tree.specs.Tree.{WellFormed, is_dir}
 use Rattle.pua_tree.specs.Edits.{with_row}
@@ -13,8 +13,8 @@ invariant_of-self c = (
   c.reserve_row.ensures.kept,
 )
 
-pub returns-then-is_err-clause-unchanged : goal.returns-then-is_err-clause-unchanged
-returns-then-is_err-clause-unchanged c = c.reserve_row.ensures.same c.self.inside.next ∙ c.self.view_is
+pub returns-in_err-reserve_row-clause-unchanged : goal.returns-in_err-reserve_row-clause-unchanged
+returns-in_err-reserve_row-clause-unchanged c = search (rules, c.reserve_row.ensures.same c.self.inside.next ∙ c.self.view_is)
 
 pub put_row-requires-clause-free : goal.put_row-requires-clause-free
 put_row-requires-clause-free c =

@@ -1,4 +1,4 @@
-use Rattle.std.proofs.Common.{◌≡◌, ◌∙◌, sym, ap, subst}
+use Rattle.std.proofs.Common.{arith, ◌≡◌, ◌∙◌, sym, ap, subst}
 use Rattle.std.specs.FinMap.{put, find}
 use Rattle.pua_tree.specs.Tree as tree
 use Rattle.pua_tree.specs.Tree.{WellFormed, spot_cmp}
@@ -16,8 +16,8 @@ invariant_of-self c = (
   c.reserve_node.ensures.kept,
 )
 
-pub returns-then-is_err-clause-unchanged : goal.returns-then-is_err-clause-unchanged
-returns-then-is_err-clause-unchanged c = c.reserve_node.ensures.same c.self.inside.next ∙ c.self.view_is
+pub returns-in_err-reserve_node-clause-unchanged : goal.returns-in_err-reserve_node-clause-unchanged
+returns-in_err-reserve_node-clause-unchanged c = grind (arith, c.reserve_node.ensures.same c.self.inside.next, c.self.view_is)
 
 pub add_made-requires-clause-new : goal.add_made-requires-clause-new
 add_made-requires-clause-new c =
