@@ -36,10 +36,8 @@ impl Links {
     pub fn new(alloc: Global) -> Result<Links, OutOfMemory>
         ensures { IfOk result (λ links. links ≡ []) }
     {
-        match Vec::with_capacity(alloc, MOST_LINKS as usize) {
-            Ok(spots) => Ok(Links { spots }),
-            Err(_) => Err(OutOfMemory),
-        }
+        let spots = Vec::with_capacity(alloc, MOST_LINKS as usize)?;
+        Ok(Links { spots })
     }
 
     /// Drops them, and keeps the room.
