@@ -70,9 +70,7 @@ impl Process {
     pub fn new(alloc: Global) -> Result<Process, OutOfMemory>
         ensures { IfOk result (λ process. StandsFor process new_history) }
     {
-        let Ok(veils) = IndexMap::with_capacity(alloc, FIRST_PLACES) else {
-            return Err(OutOfMemory);
-        };
+        let veils = IndexMap::with_capacity(alloc, FIRST_PLACES)?;
         Ok(Process {
             promises: None,
             execpromises: None,
@@ -202,9 +200,7 @@ impl Process {
     pub fn fork(&self, alloc: Global) -> Result<Process, OutOfMemory>
         ensures { IfOk result (λ copy. copy ≡ self.now) }
     {
-        let Ok(veils) = self.veils.clone() else {
-            return Err(OutOfMemory);
-        };
+        let veils = self.veils.clone()?;
         Ok(Process {
             promises: self.promises,
             execpromises: self.execpromises,
@@ -310,7 +306,7 @@ impl Process {
         ensures { IfOk result (λ places.
             map (λ place. place.now) places.items ≡ map (λ veil. veil.0) self.now.veils) }
     {
-        lent_places(alloc, &self.veils).map_err(|_| OutOfMemory)
+        Ok(lent_places(alloc, &self.veils)?)
     }
 
     /// Lends the places with veils, in the order in which they were first kept, each with the
@@ -321,7 +317,7 @@ impl Process {
         ensures history { IfOk result (λ lent. (h : History) → StandsFor self.now h →
             map (λ veil. (veil.0.now, veil.1.now)) lent.items ≡ veils h) }
     {
-        lent_veils(alloc, &self.veils).map_err(|_| OutOfMemory)
+        Ok(lent_veils(alloc, &self.veils)?)
     }
 
     /// Whether a veil is kept.
