@@ -41,8 +41,6 @@ pub(crate) fn act<T: FileTree>(
     ensures unchanged { OnErr result ((T.content tree.new ≡ T.content tree.old) ×
         (process.new ≡ process.old)) }
 {
-    tree.known();
-    process.known();
     match action {
         Action::OnPath(call, path) => call_on(tree, table, process, *call, path.bytes()),
         Action::Symlink(target, path) => {
@@ -76,8 +74,6 @@ fn call_on<T: FileTree>(
     ensures unchanged { OnErr result
         ((T.content tree.new ≡ T.content tree.old) × (process.new ≡ process.old)) }
 {
-    tree.known();
-    process.known();
     let object = judge_call(tree, table, process, call, path);
     answer(tree, process, &grant_call(table, call, &object))
 }
@@ -95,8 +91,6 @@ fn symlink<T: FileTree>(
     ensures unchanged { OnErr result
         ((T.content tree.new ≡ T.content tree.old) × (process.new ≡ process.old)) }
 {
-    tree.known();
-    process.known();
     let judged = judge_symlink(tree, table, process, target, path);
     answer(tree, process, &grant_symlink(&judged))
 }
@@ -114,8 +108,6 @@ fn rename<T: FileTree>(
     ensures unchanged { OnErr result
         ((T.content tree.new ≡ T.content tree.old) × (process.new ≡ process.old)) }
 {
-    tree.known();
-    process.known();
     let pair = judge_rename(tree, table, process, old, new);
     let granted = grant_rename(tree, &pair);
     answer(tree, process, &granted)
@@ -134,8 +126,6 @@ fn link<T: FileTree>(
     ensures unchanged { OnErr result
         ((T.content tree.new ≡ T.content tree.old) × (process.new ≡ process.old)) }
 {
-    tree.known();
-    process.known();
     let pair = judge_link(tree, table, process, old, new);
     answer(tree, process, &grant_link(&pair))
 }
@@ -153,8 +143,6 @@ fn unveil<T: FileTree>(
     ensures unchanged { OnErr result
         ((T.content tree.new ≡ T.content tree.old) × (process.new ≡ process.old)) }
 {
-    tree.known();
-    process.known();
     let veil = judge_unveil(tree, process, path, perms);
     answer(tree, process, &grant_unveil(&veil))
 }
