@@ -25,9 +25,7 @@ pub(crate) fn alphabet(
     ensures { IfOk result (λ letters. (t : Tree) → map lent_entry rows.now ≡ t.rows →
         map part_bytes letters.items ≡ alphabet_of t candidates.now) }
 {
-    let Ok(names) = row_names(alloc, rows) else {
-        return Err(OutOfMemory);
-    };
+    let names = row_names(alloc, rows)?;
     let mut letters = named(alloc, names.as_slice())?;
     add_names(alloc, &mut letters, candidates)?;
     add_letter(&mut letters, Component::dots(alloc)?)?;
@@ -59,13 +57,9 @@ fn named(alloc: Global, names: &[&Name]) -> Result<Vec<Component>, OutOfMemory>
     ensures { IfOk result (λ letters. map part_bytes letters.items
         ≡ map (λ name. name.now) names.now) }
 {
-    let Ok(mut letters) = Vec::with_capacity(alloc, names.len()) else {
-        return Err(OutOfMemory);
-    };
+    let mut letters = Vec::with_capacity(alloc, names.len())?;
     for name in names {
-        let Ok(()) = letters.push(Component::named(alloc, *name)?) else {
-            return Err(OutOfMemory);
-        };
+        letters.push(Component::named(alloc, *name)?)?;
     }
     Ok(letters)
 }
@@ -91,9 +85,7 @@ fn add_letter(letters: &mut Vec<Component>, letter: Component) -> Result<(), Out
     let Err(place) = place_of(letters.as_slice(), letter.bytes()) else {
         return Ok(());
     };
-    if letters.insert(place, letter).is_err() {
-        return Err(OutOfMemory);
-    }
+    letters.insert(place, letter)?;
     Ok(())
 }
 

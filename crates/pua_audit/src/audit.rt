@@ -103,18 +103,12 @@ impl Audit {
             (letter_count (P.tree probe.old) (map (λ s. s.now) candidates.now)) }
     {
         process.known();
-        let Ok(rows) = probe.rows(alloc) else {
-            return Err(AuditFault::OutOfMemory);
-        };
+        let rows = probe.rows(alloc)?;
         let Checked { letters, after } = beginning::check(
             alloc, &*probe, &rows, base, candidates, limit, after,
         )?;
-        let Ok(terms) = Terms::new(alloc, &*probe, process, table, base, limit, letters) else {
-            return Err(AuditFault::OutOfMemory);
-        };
-        let Ok(pairs) = Pairs::begin(alloc, probe, &rows, terms, after) else {
-            return Err(AuditFault::OutOfMemory);
-        };
+        let terms = Terms::new(alloc, &*probe, process, table, base, limit, letters)?;
+        let pairs = Pairs::begin(alloc, probe, &rows, terms, after)?;
         Ok(Audit { pairs })
     }
 

@@ -94,9 +94,7 @@ fn letters_within<'t, P: Probe<'t>>(
     }
     let names = read_candidates(alloc, candidates)?;
     probe.known();
-    let Ok(letters) = alphabet(alloc, rows, names.as_slice()) else {
-        return Err(AuditFault::OutOfMemory);
-    };
+    let letters = alphabet(alloc, rows, names.as_slice())?;
     if usize::from(limit) * (longest(letters.as_slice()) + 1) > MOST_PATH {
         return Err(AuditFault::TooLong);
     }

@@ -63,9 +63,7 @@ impl Pairs {
             (length terms.letters.items) }
     {
         let BegunWalk { walk, live } = terms.begun(alloc, probe, rows, after)?;
-        let Ok(path) = WordPath::new(alloc, terms.limit, terms.most_bytes()) else {
-            return Err(OutOfMemory);
-        };
+        let path = WordPath::new(alloc, terms.limit, terms.most_bytes())?;
         Ok(Pairs {
             terms,
             walk,

@@ -63,9 +63,7 @@ impl Terms {
         while let Some(dir) = dirs.at(rows.len()) {
             let over = dirs.cover_at(rows.len());
             let row = self.row(alloc, probe, &spots, &mut dirs, dir, over)?;
-            let Ok(()) = rows.push(row) else {
-                return Err(OutOfMemory);
-            };
+            rows.push(row)?;
         }
         Ok(Steps {
             letters: self.letters.len(),

@@ -119,15 +119,9 @@ impl Terms {
         let calls = self.calls_on(probe, &Ok(self.base_found()), &cover).bits();
         let steps = self.table(alloc, probe, rows, self.base_dir(), cover)?;
         let base = Some(State { dir: 0, used: 0 });
-        let Ok(tables) = Tables::fill(alloc, steps, self.limit) else {
-            return Err(OutOfMemory);
-        };
-        let Ok(live) = tables.count(alloc, base, self.limit) else {
-            return Err(OutOfMemory);
-        };
-        let Ok(walk) = walk_after(alloc, tables, calls, base, self.limit, after) else {
-            return Err(OutOfMemory);
-        };
+        let tables = Tables::fill(alloc, steps, self.limit)?;
+        let live = tables.count(alloc, base, self.limit)?;
+        let walk = walk_after(alloc, tables, calls, base, self.limit, after)?;
         Ok(BegunWalk { walk, live })
     }
 
@@ -155,12 +149,8 @@ impl Terms {
             letters: self.letters.len(),
             rows: Vec::new(alloc),
         };
-        let Ok(tables) = Tables::fill(alloc, steps, self.limit) else {
-            return Err(OutOfMemory);
-        };
-        let Ok(walk) = Walk::begin(alloc, tables, 0, None, self.limit) else {
-            return Err(OutOfMemory);
-        };
+        let tables = Tables::fill(alloc, steps, self.limit)?;
+        let walk = Walk::begin(alloc, tables, 0, None, self.limit)?;
         Ok(BegunWalk { walk, live: 0 })
     }
 

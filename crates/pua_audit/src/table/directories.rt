@@ -54,16 +54,12 @@ impl Directories {
         ensures covered { IfOk result (λ _. (t : Tree) (h : History) → cover ≡ cover_in t h dir →
             AreCovered t h self.old → AreCovered t h self.new) }
     {
-        let Ok((place, added)) = self.numbers.insert_full(dir.number()) else {
-            return Err(OutOfMemory);
-        };
+        let (place, added) = self.numbers.insert_full(dir.number())?;
         let place = place as u32;
         if !added {
             return Ok(place);
         }
-        let Ok(()) = self.covers.push(cover) else {
-            return Err(OutOfMemory);
-        };
+        self.covers.push(cover)?;
         Ok(place)
     }
 

@@ -109,9 +109,7 @@ impl Letter {
             links: self.links,
             to,
         };
-        let Ok(()) = entries.push(entry) else {
-            return Err(OutOfMemory);
-        };
+        entries.push(entry)?;
         Ok(())
     }
 

@@ -146,9 +146,7 @@ impl Terms {
             return Ok(());
         };
         let letter = *letter;
-        let Ok(()) = spots.push(LetterSpot { dir, letter }) else {
-            return Err(OutOfMemory);
-        };
+        spots.push(LetterSpot { dir, letter })?;
         Ok(())
     }
 
@@ -165,9 +163,7 @@ impl Terms {
             if self.letters[place].is_name() {
                 continue;
             }
-            let Ok(()) = dots.push(place) else {
-                return Err(OutOfMemory);
-            };
+            dots.push(place)?;
         }
         Ok(dots)
     }
@@ -182,9 +178,7 @@ impl Spots {
             letters.items) }
     {
         let mut letters = letters_at(alloc, spots_in(self.names.as_slice(), dir))?;
-        let Ok(()) = letters.extend_from_slice(self.dots.as_slice()) else {
-            return Err(OutOfMemory);
-        };
+        letters.extend_from_slice(self.dots.as_slice())?;
         letters.sort_unstable();
         letters.dedup();
         Ok(letters)
@@ -211,9 +205,7 @@ fn letters_at(alloc: Global, spots: &[LetterSpot]) -> Result<Vec<usize>, OutOfMe
 {
     let mut letters = Vec::new(alloc);
     for spot in spots {
-        let Ok(()) = letters.push(spot.letter) else {
-            return Err(OutOfMemory);
-        };
+        letters.push(spot.letter)?;
     }
     Ok(letters)
 }

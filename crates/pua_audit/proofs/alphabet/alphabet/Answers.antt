@@ -13,14 +13,14 @@ pub add_names-requires : goal.add_names-requires
 add_names-requires c =
     let names = map (λ row. (lent_entry row).0.1) c.args.rows.now in
     let read : map part_bytes c.in_ok-letters.letters.items ≡ distinct_names names = c.in_ok-letters.ensures ∙
-    ap (map (λ name. name.now)) c.as_slice.ensures.value ∙ c.in-Ok.ensures in
+    ap (map (λ name. name.now)) c.as_slice.ensures.value ∙ c.in_ok-names.ensures in
     subst (Rises name_cmp) (sym read) (distinct_names_rise names)
 
 pub add_letter-requires : goal.add_letter-requires
 add_letter-requires c =
     let names = map (λ row. (lent_entry row).0.1) c.args.rows.now in
     let read : map part_bytes c.in_ok-letters.letters.items ≡ distinct_names names = c.in_ok-letters.ensures ∙
-    ap (map (λ name. name.now)) c.as_slice.ensures.value ∙ c.in-Ok.ensures in
+    ap (map (λ name. name.now)) c.as_slice.ensures.value ∙ c.in_ok-names.ensures in
     let rises : Rises name_cmp (map part_bytes c.in_ok-letters.letters.items) =
     subst (Rises name_cmp) (sym read) (distinct_names_rise names) in
     subst (Rises name_cmp) (sym c.in_ok-add_names.ensures)
@@ -29,7 +29,7 @@ add_letter-requires c =
 pub returns : goal.returns
 returns c = λ t whole.
     let read : map part_bytes c.in_ok-letters.letters.items ≡ distinct_names (map (λ row. (lent_entry row).0.1) c.args.rows.now) =
-    c.in_ok-letters.ensures ∙ ap (map (λ name. name.now)) c.as_slice.ensures.value ∙ c.in-Ok.ensures in
+    c.in_ok-letters.ensures ∙ ap (map (λ name. name.now)) c.as_slice.ensures.value ∙ c.in_ok-names.ensures in
     let same = sym (map-map (λ (row : Spot × _). row.0.1) lent_entry c.args.rows.now) ∙ ap (map (λ row. row.0.1)) whole in
     c.in_ok-add_letter.ensures ∙ ap (λ p. with_name (part_bytes p) (map part_bytes c.add_names.new.letters.items)) c.in_ok-dots.ensures
     ∙ ap (with_name (codes "..")) (c.in_ok-add_names.ensures ∙ ap (with_names c.args.candidates.now) (read ∙ ap distinct_names same) ∙

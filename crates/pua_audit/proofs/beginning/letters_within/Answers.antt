@@ -19,9 +19,9 @@ returns-clause-begun g c = λ table h base after.
     let t = g.P.Probe.tree c.args.probe.now in
     let texts = map (λ s. s.now) c.args.candidates.now in
     let names = c.in_ok-names.names.items in
-    let letters = map part_bytes c.in-Ok.letters.items in
+    let letters = map part_bytes c.in_ok-letters.letters.items in
     let few : length texts ≤ 1024 = omega (arith, length-map c.args.candidates.now (λ s. s.now)) in
-    let same : letters ≡ alphabet_of t names = c.in-Ok.ensures t c.requires.rows ∙ ap (alphabet_of t) c.as_slice.ensures.value in
+    let same : letters ≡ alphabet_of t names = c.in_ok-letters.ensures t c.requires.rows ∙ ap (alphabet_of t) c.as_slice.ensures.value in
     let most : c.longest.result ≡ longest letters = c.longest.ensures.longest ∙
     ap (λ l. longest (map part_bytes l)) c.as_slice-2.ensures.value in
     let product = same_product c.from.result c.args.limit c.longest.result (longest letters) c.from.ensures most in
@@ -33,8 +33,8 @@ returns-clause-sound g c =
     let t = g.P.Probe.tree c.args.probe.now in
     let texts = map (λ s. s.now) c.args.candidates.now in
     let names = c.in_ok-names.names.items in
-    let letters = map part_bytes c.in-Ok.letters.items in
-    let same : letters ≡ alphabet_of t names = c.in-Ok.ensures t c.requires.rows ∙ ap (alphabet_of t) c.as_slice.ensures.value in
+    let letters = map part_bytes c.in_ok-letters.letters.items in
+    let same : letters ≡ alphabet_of t names = c.in_ok-letters.ensures t c.requires.rows ∙ ap (alphabet_of t) c.as_slice.ensures.value in
     let most : c.longest.result ≡ longest letters = c.longest.ensures.longest ∙
     ap (λ l. longest (map part_bytes l)) c.as_slice-2.ensures.value in
     let product = same_product c.from.result c.args.limit c.longest.result (longest letters) c.from.ensures most in
@@ -50,7 +50,7 @@ pub returns-clause-many : goal.returns-clause-many
 returns-clause-many g c =
     let t = g.P.Probe.tree c.args.probe.now in
     let names = c.in_ok-names.names.items in
-    let same : map part_bytes c.in-Ok.letters.items ≡ alphabet_of t names = c.in-Ok.ensures t c.requires.rows ∙
+    let same : map part_bytes c.in_ok-letters.letters.items ≡ alphabet_of t names = c.in_ok-letters.ensures t c.requires.rows ∙
     ap (alphabet_of t) c.as_slice.ensures.value in
-    sym (length-map c.in-Ok.letters.items part_bytes) ∙ ap length same ∙
+    sym (length-map c.in_ok-letters.letters.items part_bytes) ∙ ap length same ∙
     ap (λ r. length (alphabet_of t (names_or_none r))) (sym c.in_ok-names.ensures)

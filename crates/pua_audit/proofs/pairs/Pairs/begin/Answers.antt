@@ -13,9 +13,9 @@ returns-clause-ready g c =
       limit = got.limit;
       letters = got.letters;
       pairs = got.within;
-      path = along_none (letters_of c.args.terms) w.word.items c.in-Ok.path c.in-Ok.ensures.path;
-      bytes = omega (arith, c.most_bytes.ensures, c.in-Ok.ensures.bytes);
-      starts = c.in-Ok.ensures.letters;
+      path = along_none (letters_of c.args.terms) w.word.items c.in_ok-path.path c.in_ok-path.ensures.path;
+      bytes = omega (arith, c.most_bytes.ensures, c.in_ok-path.ensures.bytes);
+      starts = c.in_ok-path.ensures.letters;
     }
 
 pub returns-clause-left : goal.returns-clause-left

@@ -17,7 +17,7 @@ loop-place-preserved c =
     let is : bytes ≡ get_or letters place [] = c.bytes.ensures.bytes ∙ ap part_bytes c.index-letters-place.is ∙
     sym (get_or-map part_bytes c.args.letters.now place c.index-letters-place.result [] c.loop-place-test.true) in
     let found = λ (other : List ℕ). get_by (λ k. bytes_eq other k.now) l.places in
-    let updated = hash_map_updates_str bytes l.places c.insert.new.self (Some place) c.in-Ok-insert.ensures.updates in
+    let updated = hash_map_updates_str bytes l.places c.insert.new.self (Some place) c.in_ok-insert.ensures.updates in
     record {
       each = λ letter low. updated (get_or letters letter []) ∙
           placed_more letters c.requires place letter here low bytes is (found (get_or letters letter [])) (l.invariant.each letter);

@@ -15,4 +15,4 @@ pub loop-spot-preserved : goal.loop-spot-preserved
 loop-spot-preserved c =
     let l = c.loop-spot in
     letter_more c.args.spots.now c.spot-item.result l.spot-index l.letters.items _ c.loop-spot-test.true c.spot-item.is l.invariant
-    c.in-Ok.ensures.items
+    c.in_ok-push.ensures.items

@@ -20,7 +20,7 @@ returns-clause-within c =
     let spot : LetterSpot = record { dir = c.args.dir; letter = c.in-Some.letter.now } in
     let low = subst (λ (o : Option ℕ). IfSome o (λ n. n < length letters)) (sym c.in-Some.ensures.value)
     (c.requires.placed.within c.bytes.result.now) in
-    subst (AreAtLetters letters) (sym c.in-Ok.ensures.items) (all_pushed (λ (s : LetterSpot). s.letter < length letters)
+    subst (AreAtLetters letters) (sym c.in_ok-push.ensures.items) (all_pushed (λ (s : LetterSpot). s.letter < length letters)
     c.args.spots.now.items spot c.requires.within low)
 
 -- a letter stands at one place
@@ -30,11 +30,11 @@ returns-clause-here c = λ letter low unmarked same.
     let spot : LetterSpot = record { dir = c.args.dir; letter = place } in
     let named = ap (λ (b : List ℕ). get_by (λ k. bytes_eq b k.now) c.args.letters.now) (c.bytes.ensures.bytes ∙ sym same) in
     let apart = all_front (λ (s : LetterSpot). s.dir ≡ c.args.dir →
-    s.letter ≢ letter) c.args.spots.now.items spot (subst (IsUnmarked c.args.dir letter) c.in-Ok.ensures.items unmarked) in
+    s.letter ≢ letter) c.args.spots.now.items spot (subst (IsUnmarked c.args.dir letter) c.in_ok-push.ensures.items unmarked) in
     apart.1 refl (same_Some place letter (c.in-Some.ensures.value ∙ named ∙ c.requires.placed.each letter low))
 
 pub returns-clause-others : goal.returns-clause-others
 returns-clause-others c = λ other letter unmarked.
     let spot : LetterSpot = record { dir = c.args.dir; letter = c.in-Some.letter.now } in
     (all_front (λ (s : LetterSpot). s.dir ≡ other →
-    s.letter ≢ letter) c.args.spots.now.items spot (subst (IsUnmarked other letter) c.in-Ok.ensures.items unmarked)).0
+    s.letter ≢ letter) c.args.spots.now.items spot (subst (IsUnmarked other letter) c.in_ok-push.ensures.items unmarked)).0

@@ -73,9 +73,9 @@ returns-clause-pairs g c =
     let within : AllByRecursion (λ p. IsPair (length (letters_of a)) p) ps =
     subst (λ n. AllByRecursion (λ p. IsPair n p) ps) made.1.0.many (reach_is_within t a.limit set (Some (record { dir = 0; used = 0 }))
     made.1.0.table (record { dir = omega (arith, made.1.2, made.1.0.dirs); used = omega arith })) in
-    let left = c.in-Ok-walk_after.ensures.left ∙
+    let left = c.in_ok-walk.ensures.left ∙
     ap (λ (t : Steps). pairs_resumed c.args.after (graph.graph_reach (graph_of t) a.limit set (Some (record { dir = 0; used = 0 }))))
-    c.in-Ok.ensures.steps in
+    c.in_ok-tables.ensures.steps in
     scope_after (scope_in a) c.args.after ps c.requires.letters.rises c.requires.word within same ∙ ap (pairs_at (letters_of a)) (sym left)
 
 pub returns-clause-within : goal.returns-clause-within
@@ -88,9 +88,9 @@ returns-clause-within g c =
     subst (λ n. AllByRecursion (λ p. IsPair n p) ps) made.1.0.many
     (reach_is_within t a.limit c.bits-calls.result (Some (record { dir = 0; used = 0 })) made.1.0.table
     (record { dir = omega (arith, made.1.2, made.1.0.dirs); used = omega arith })) in
-    let left = c.in-Ok-walk_after.ensures.left ∙
+    let left = c.in_ok-walk.ensures.left ∙
     ap (λ (t : Steps). pairs_resumed c.args.after (graph.graph_reach (graph_of t) a.limit c.bits-calls.result
-    (Some (record { dir = 0; used = 0 })))) c.in-Ok.ensures.steps in
+    (Some (record { dir = 0; used = 0 })))) c.in_ok-tables.ensures.steps in
     subst (λ (qs : List graph.Pair). AllByRecursion (λ p. IsPair (length (letters_of a)) p) qs) (sym left)
     (pairs_stay (length (letters_of a)) c.args.after ps within)
 
@@ -101,8 +101,8 @@ returns-clause-live g c =
     let own = λ (call : Call). ap (λ (n : ℕ). has n call) c.bits-calls.ensures.number ∙ c.calls_on.ensures.exact call ∙
     ap (λ (f : Found). is_allowed (verdict a.seen.tree a.table (plain_history a.process) call f)) c.base_found-2.ensures in
     let first = ap (λ (d : ℕ). Some (record { dir = d; used = 0 })) (sym (made.1.3 ∙ c.base_dir.ensures)) in
-    c.in-Ok-count.ensures ∙
-    ap (λ (t : Steps). live_count (graph_of t) a.limit (Some (record { dir = 0; used = 0 })) a.limit) c.in-Ok.ensures.steps
+    c.in_ok-live.ensures ∙
+    ap (λ (t : Steps). live_count (graph_of t) a.limit (Some (record { dir = 0; used = 0 })) a.limit) c.in_ok-tables.ensures.steps
     ∙ sym (begun_live (scope_in a) made.0 c.in_ok-steps.steps made.1.0 made.1.2 c.bits-calls.result own first
     (audited a c.requires.sound c.requires.letters) (lives a c.requires.sound c.requires.letters c.requires.open) made.1.1)
 
@@ -114,8 +114,8 @@ known_below letters limit n (Some r) same h = subst (λ k. AllByRecursion (λ le
 pub walk_after-requires-clause-word : goal.walk_after-requires-clause-word
 walk_after-requires-clause-word g c =
     let a = c.args.self.now in
-    known_below (letters_of a) a.limit c.in-Ok.tables.steps.letters c.args.after (ap (λ (t : Steps). t.letters) c.in-Ok.ensures.steps ∙
-    c.in_ok-steps.ensures.table.1.0.many) c.requires.word
+    known_below (letters_of a) a.limit c.in_ok-tables.tables.steps.letters c.args.after (ap (λ (t : Steps). t.letters)
+    c.in_ok-tables.ensures.steps ∙ c.in_ok-steps.ensures.table.1.0.many) c.requires.word
 
 -- the tables of the table of steps
 
@@ -128,7 +128,7 @@ fill-requires-clause-fits g c =
 
 pub count-requires-clause-sized : goal.count-requires-clause-sized
 count-requires-clause-sized g c =
-    subst (λ (t : Steps). IsSized t c.in-Ok.tables.live c.args.self.now.limit) (sym c.in-Ok.ensures.steps) c.in-Ok.ensures.sized
+    subst (λ t. IsSized t c.in_ok-tables.tables.live c.args.self.now.limit) (sym c.in_ok-tables.ensures.steps) c.in_ok-tables.ensures.sized
 
 first_state : (w : Judge) (letters : List (List ℕ)) (names : List ℕ) (t : Steps) → IsTableOf w letters names t → 0 < length names
     → IsState t (record { dir = 0; used = 0 })
@@ -137,7 +137,7 @@ first_state w letters names t is some = record { dir = omega (arith, some, is.di
 pub count-requires-clause-base : goal.count-requires-clause-base
 count-requires-clause-base g c =
     let made = c.in_ok-steps.ensures.table in
-    subst (λ (t : Steps). IsState t (record { dir = 0; used = 0 })) (sym c.in-Ok.ensures.steps)
+    subst (λ (t : Steps). IsState t (record { dir = 0; used = 0 })) (sym c.in_ok-tables.ensures.steps)
     (first_state (judge_in c.args.self.now) (letters_of c.args.self.now) made.0 c.in_ok-steps.steps made.1.0 made.1.2)
 
 pub count-requires-clause-limit : goal.count-requires-clause-limit
@@ -148,21 +148,21 @@ small dirs rows same few = omega arith
 
 pub count-requires-clause-small : goal.count-requires-clause-small
 count-requires-clause-small g c =
-    small c.in-Ok.tables.live.dirs (length c.in_ok-steps.steps.rows.items) c.in-Ok.ensures.sized.dirs c.in_ok-steps.ensures.few
+    small c.in_ok-tables.tables.live.dirs _ c.in_ok-tables.ensures.sized.dirs c.in_ok-steps.ensures.few
 
 -- the walk over them
 
 pub walk_after-requires-clause-table : goal.walk_after-requires-clause-table
-walk_after-requires-clause-table g c = subst IsTable (sym c.in-Ok.ensures.steps) c.in_ok-steps.ensures.table.1.0.table
+walk_after-requires-clause-table g c = subst IsTable (sym c.in_ok-tables.ensures.steps) c.in_ok-steps.ensures.table.1.0.table
 
 pub walk_after-requires-clause-sized : goal.walk_after-requires-clause-sized
 walk_after-requires-clause-sized g c =
-    subst (λ (t : Steps). IsSized t c.in-Ok.tables.live c.args.self.now.limit) (sym c.in-Ok.ensures.steps) c.in-Ok.ensures.sized
+    subst (λ t. IsSized t c.in_ok-tables.tables.live c.args.self.now.limit) (sym c.in_ok-tables.ensures.steps) c.in_ok-tables.ensures.sized
 
 pub walk_after-requires-clause-listed : goal.walk_after-requires-clause-listed
 walk_after-requires-clause-listed g c =
-    subst (λ (t : Steps). AreListsOf t c.in-Ok.tables.live c.args.self.now.limit c.in-Ok.tables.lists) (sym c.in-Ok.ensures.steps)
-    c.in-Ok.ensures.listed
+    subst (λ (t : Steps). AreListsOf t c.in_ok-tables.tables.live c.args.self.now.limit c.in_ok-tables.tables.lists)
+    (sym c.in_ok-tables.ensures.steps) c.in_ok-tables.ensures.listed
 
 pub walk_after-requires-clause-calls : goal.walk_after-requires-clause-calls
 walk_after-requires-clause-calls g c = c.bits-calls.ensures.calls
@@ -170,7 +170,7 @@ walk_after-requires-clause-calls g c = c.bits-calls.ensures.calls
 pub walk_after-requires-clause-base : goal.walk_after-requires-clause-base
 walk_after-requires-clause-base g c =
     let made = c.in_ok-steps.ensures.table in
-    subst (λ (t : Steps). IsState t (record { dir = 0; used = 0 })) (sym c.in-Ok.ensures.steps)
+    subst (λ (t : Steps). IsState t (record { dir = 0; used = 0 })) (sym c.in_ok-tables.ensures.steps)
     (first_state (judge_in c.args.self.now) (letters_of c.args.self.now) made.0 c.in_ok-steps.steps made.1.0 made.1.2)
 
 known_few : (letters : List (List ℕ)) (limit : ℕ) (o : Option Resumption) → IfSome o (λ r. AreLetters letters limit r.word.items)
@@ -182,25 +182,25 @@ pub walk_after-requires-clause-few : goal.walk_after-requires-clause-few
 walk_after-requires-clause-few g c = known_few (letters_of c.args.self.now) c.args.self.now.limit c.args.after c.requires.word
 
 pub returns-clause-ready : goal.returns-clause-ready
-returns-clause-ready g c = c.in-Ok-walk_after.ensures.ready
+returns-clause-ready g c = c.in_ok-walk.ensures.ready
 
 pub returns-clause-limit : goal.returns-clause-limit
-returns-clause-limit g c = c.in-Ok-walk_after.ensures.of.1
+returns-clause-limit g c = c.in_ok-walk.ensures.of.1
 
 pub returns-clause-letters : goal.returns-clause-letters
 returns-clause-letters g c =
-    ap (λ (t : Steps). t.letters) (c.in-Ok-walk_after.ensures.of.0 ∙ c.in-Ok.ensures.steps) ∙ c.in_ok-steps.ensures.table.1.0.many
+    ap (λ (t : Steps). t.letters) (c.in_ok-walk.ensures.of.0 ∙ c.in_ok-tables.ensures.steps) ∙ c.in_ok-steps.ensures.table.1.0.many
 
 reads_more : (now before limit : ℕ) → now ≤ before + search_cost * limit → before ≡ 0 → now ≤ search_cost * limit
 reads_more now before limit more none = omega arith
 
 pub returns-clause-reads : goal.returns-clause-reads
 returns-clause-reads g c =
-    reads_more c.in-Ok-walk_after.walk.tables.reads c.in-Ok.tables.reads c.args.self.now.limit c.in-Ok-walk_after.ensures.reads
-    c.in-Ok.ensures.reads
+    reads_more c.in_ok-walk.walk.tables.reads c.in_ok-tables.tables.reads c.args.self.now.limit c.in_ok-walk.ensures.reads
+    c.in_ok-tables.ensures.reads
 
 pub returns-clause-unread : goal.returns-clause-unread
-returns-clause-unread g c = λ none. c.in-Ok-walk_after.ensures.unread none ∙ c.in-Ok.ensures.reads
+returns-clause-unread g c = λ none. c.in_ok-walk.ensures.unread none ∙ c.in_ok-tables.ensures.reads
 
 -- the looks at the tree
 
@@ -220,20 +220,20 @@ returns-in_err-steps-clause-cost g c =
     looks _ _ _ _ (length a.letters.items) (g.P.Probe.tree c.args.probe.now) a.seen.tree c.requires.tree c.cover-cover.ensures.cost
     c.calls_on.ensures.cost c.table.ensures.cost
 
-pub returns-in_default-clause-cost : goal.returns-in_default-clause-cost
-returns-in_default-clause-cost g c =
+pub returns-in_err-tables-clause-cost : goal.returns-in_err-tables-clause-cost
+returns-in_err-tables-clause-cost g c =
     let a = c.args.self.now in
     looks _ _ _ _ (length a.letters.items) (g.P.Probe.tree c.args.probe.now) a.seen.tree c.requires.tree c.cover-cover.ensures.cost
     c.calls_on.ensures.cost c.table.ensures.cost
 
-pub returns-in_default-count-clause-cost : goal.returns-in_default-count-clause-cost
-returns-in_default-count-clause-cost g c =
+pub returns-in_err-live-clause-cost : goal.returns-in_err-live-clause-cost
+returns-in_err-live-clause-cost g c =
     let a = c.args.self.now in
     looks _ _ _ _ (length a.letters.items) (g.P.Probe.tree c.args.probe.now) a.seen.tree c.requires.tree c.cover-cover.ensures.cost
     c.calls_on.ensures.cost c.table.ensures.cost
 
-pub returns-in_default-walk_after-clause-cost : goal.returns-in_default-walk_after-clause-cost
-returns-in_default-walk_after-clause-cost g c =
+pub returns-in_err-walk-clause-cost : goal.returns-in_err-walk-clause-cost
+returns-in_err-walk-clause-cost g c =
     let a = c.args.self.now in
     looks _ _ _ _ (length a.letters.items) (g.P.Probe.tree c.args.probe.now) a.seen.tree c.requires.tree c.cover-cover.ensures.cost
     c.calls_on.ensures.cost c.table.ensures.cost

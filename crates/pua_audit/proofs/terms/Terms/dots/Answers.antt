@@ -48,7 +48,7 @@ pub loop-place-preserved : goal.loop-place-preserved
 loop-place-preserved c =
     let letters : List Part = c.args.self.now.letters.items in
     let l = c.loop-place in
-    let items = c.in-Ok.ensures.items in
+    let items = c.in_ok-push.ensures.items in
     let inside : l.place < length letters = omega (arith, c.len-place-end.ensures, c.loop-place-test.true) in
     record {
       within = subst (AllByRecursion (λ letter. letter < length letters)) (sym items)

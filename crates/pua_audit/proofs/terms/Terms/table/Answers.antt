@@ -37,7 +37,7 @@ loop-dir-preserved g c =
     subst (λ (n : ℕ). IsJudgedRow (judge_in a) (letters_of a) new n (length (letters_of a)) row.missing row.entries.items) here
     (subst (λ (n : ℕ). IsJudgedRow (judge_in a) (letters_of a) new c.in-Some.dir n row.missing row.entries.items)
     (sym (length-map a.letters.items part_bytes)) c.in_ok-row.ensures.row) in
-    let items : c.push.new.self.items ≡ rows ++ row ∷ [] = c.in-Ok.ensures.items in
+    let items : c.push.new.self.items ≡ rows ++ row ∷ [] = c.in_ok-push.ensures.items in
     record {
       rows = subst (AreRows (judge_in a) (letters_of a) new) (sym items) (rows_pushed (judge_in a) (letters_of a) l.dirs.numbers new rows
           row grown l.invariant.within l.invariant.rows last inside);
@@ -97,8 +97,8 @@ returns-in_err-row-clause-cost g c =
       next_within a.seen.tree (length a.letters.items) (length l.rows.items) l.dirs.numbers numbers l.invariant.living inside,
     )
 
-pub returns-in_default-push-clause-cost : goal.returns-in_default-push-clause-cost
-returns-in_default-push-clause-cost g c =
+pub returns-in_err-push-clause-cost : goal.returns-in_err-push-clause-cost
+returns-in_err-push-clause-cost g c =
     let a = c.args.self.now in
     let l = c.loop-dir in
     let numbers : AreNumbers l.dirs.numbers =
@@ -197,7 +197,7 @@ loop-dir-smaller g c =
     let known = c.in-Some.ensures in
     let count : c.len.result ≡ length l.rows.items = omega (arith, c.len.ensures) in
     fewer_left c.len.result (length l.rows.items) (length c.push.new.self.items) (length l.dirs.numbers) count known.dir.0 known.few
-    (one_longer l.rows.items c.push.new.self.items c.in_ok-row.row c.in-Ok.ensures.items)
+    (one_longer l.rows.items c.push.new.self.items c.in_ok-row.row c.in_ok-push.ensures.items)
 
 -- after the last row
 

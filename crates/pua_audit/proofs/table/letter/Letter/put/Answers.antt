@@ -40,6 +40,6 @@ returns-clause-row c = λ w letters dir letter row.
       links = c.requires.links;
       to = to.1;
     } in
-    subst (IsJudgedRow w letters dirs dir (n + 1) c.args.missing) (sym c.in-Ok.ensures.items)
+    subst (IsJudgedRow w letters dirs dir (n + 1) c.args.missing) (sym c.in_ok-push.ensures.items)
     (row_added w letters dir c.args.missing dirs n e es (row_grown w letters dir c.args.missing c.args.dirs.now.numbers dirs n es
     c.in_ok-to.ensures.grown row) here refl fits)

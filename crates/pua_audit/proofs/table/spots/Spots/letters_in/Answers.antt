@@ -18,7 +18,7 @@ returns c =
     let here : List LetterSpot = c.spots_in.result.now in
     let at : List ℕ = map (λ (s : LetterSpot). s.letter) here in
     let all : List ℕ = c.dedup.new.self.items in
-    let gathered : c.extend_from_slice.new.self.items ≡ at ++ dots = c.in-Ok.ensures.items ∙
+    let gathered : c.extend_from_slice.new.self.items ≡ at ++ dots = c.in_ok-extend_from_slice.ensures.items ∙
     (λ i. c.in_ok-letters.ensures i ++ c.as_slice-2.ensures.value i) in
     let is = dedup_is _ _ _ c.dedup.ensures.filtered in
     let moved = c.sort_unstable.ensures.permutation in
