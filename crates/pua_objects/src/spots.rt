@@ -25,10 +25,7 @@ pub(crate) fn spots<'t>(
         IfOk result (λ spots. AreSpots t process.now.veils (map spot_now spots.items)) }
 {
     let places = process.places(alloc)?;
-    match distinct_spots(alloc, rows, &places) {
-        Ok(spots) => Ok(spots),
-        Err(_) => Err(OutOfMemory),
-    }
+    Ok(distinct_spots(alloc, rows, &places)?)
 }
 
 /// The spots of rows and of veils, each once, in order.

@@ -54,12 +54,8 @@ impl<'t> ItemWalk<'t> {
         let rows = tree.rows(alloc)?;
         let most = rows.len() + 1;
         let spots = spots(alloc, &rows, process)?;
-        let Ok(mut dirs) = Vec::with_capacity(alloc, most) else {
-            return Err(OutOfMemory);
-        };
-        let Ok(word) = Vec::with_capacity(alloc, most) else {
-            return Err(OutOfMemory);
-        };
+        let mut dirs = Vec::with_capacity(alloc, most)?;
+        let word = Vec::with_capacity(alloc, most)?;
         let cover = process.own_cover(&Place::Dir(NodeId::ROOT), outermost(process));
         dirs.push_reserved(OpenDir {
             dir: NodeId::ROOT,

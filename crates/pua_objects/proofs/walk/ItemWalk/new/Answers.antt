@@ -18,13 +18,13 @@ returns-clause-ready g c =
     let p = c.args.process.now in
     let left = c.own_cover-cover.result in
     let spots = c.in_ok-spots.ensures.spots t (ap (map lent_entry) c.deref.ensures.value ∙ c.in_ok-rows.ensures) in
-    let dirs = c.push_reserved.ensures.items ∙ ap (λ ds. ds ++ dir_with_next 0 0 left ∷ []) c.in-Ok.ensures.items in
+    let dirs = c.push_reserved.ensures.items ∙ ap (λ ds. ds ++ dir_with_next 0 0 left ∷ []) c.in_ok-dirs.ensures.items in
     let rows : length c.in_ok-rows.rows.items ≡ length t.rows = sym (length-map c.in_ok-rows.rows.items lent_entry) ∙
     ap length c.in_ok-rows.ensures in
     let few = nodes_few t c.known.ensures in
-    begun_ready t p c.known.ensures _ left spots dirs c.in-Ok-with_capacity.ensures.items refl
-    (omega (arith, few, rows, c.len-most.ensures, c.in-Ok.ensures.capacity, c.push_reserved.ensures.capacity))
-    (omega (arith, few, rows, c.len-most.ensures, c.in-Ok-with_capacity.ensures.capacity))
+    begun_ready t p c.known.ensures _ left spots dirs c.in_ok-word.ensures.items refl
+    (omega (arith, few, rows, c.len-most.ensures, c.in_ok-dirs.ensures.capacity, c.push_reserved.ensures.capacity))
+    (omega (arith, few, rows, c.len-most.ensures, c.in_ok-word.ensures.capacity))
     (λ h stands. c.own_cover-cover.ensures h stands ∙ ap (own_or (perms_kept h (place.Dir 0))) (c.outermost.ensures h stands) ∙
     sym (covers_descend t h c.known.ensures).root)
 
@@ -33,11 +33,11 @@ returns-clause-left g c =
     let t = g.T.FileTree.content c.args.tree.now in
     let left = c.own_cover-cover.result in
     let spots = c.in_ok-spots.ensures.spots t (ap (map lent_entry) c.deref.ensures.value ∙ c.in_ok-rows.ensures) in
-    let dirs = c.push_reserved.ensures.items ∙ ap (λ ds. ds ++ dir_with_next 0 0 left ∷ []) c.in-Ok.ensures.items in
+    let dirs = c.push_reserved.ensures.items ∙ ap (λ ds. ds ++ dir_with_next 0 0 left ∷ []) c.in_ok-dirs.ensures.items in
     let a : ItemWalk = record {
       spots = c.in_ok-spots.spots;
       dirs = c.push_reserved.new.self;
-      word = c.in-Ok-with_capacity.word;
+      word = c.in_ok-word.word;
       coming = Root;
     } in
-    begun_left t c.args.process.now c.known.ensures a left spots dirs c.in-Ok-with_capacity.ensures.items refl
+    begun_left t c.args.process.now c.known.ensures a left spots dirs c.in_ok-word.ensures.items refl
