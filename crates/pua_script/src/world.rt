@@ -103,10 +103,7 @@ impl<T: FileTree> World<T> {
     pub fn numbers(&self, alloc: Global) -> Result<Vec<u32>, OutOfMemory>
         ensures { IfOk result (λ numbers. AreNumbersOf self.now numbers.items) }
     {
-        match sorted_keys(alloc, &self.processes) {
-            Ok(numbers) => Ok(numbers),
-            Err(_) => Err(OutOfMemory),
-        }
+        Ok(sorted_keys(alloc, &self.processes)?)
     }
 
     /// Serves one request, and answers it, by the rules of the calls' manual pages, and by this
@@ -205,9 +202,7 @@ fn first_process(alloc: Global) -> Result<IndexMap<u32, Process>, OutOfMemory>
 {
     let process = Process::new(alloc)?;
     let mut processes = IndexMap::new(alloc);
-    let Ok(_) = processes.insert(FIRST_PROCESS, process) else {
-        return Err(OutOfMemory);
-    };
+    processes.insert(FIRST_PROCESS, process)?;
     Ok(processes)
 }
 
