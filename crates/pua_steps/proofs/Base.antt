@@ -1,6 +1,6 @@
 -- Lemmas of lists, of no one subject.
-use Rattle.std.proofs.Common.{◌≡◌, Bool, true, false, cond, List, [], ◌∷◌, ◌++◌, refl}
-use Rattle.std.specs.List.{AllByRecursion, filter}
+use Rattle.pua_steps.proofs.Common.{◌≡◌, Bool, true, false, cond, List, [], ◌∷◌, ◌++◌, refl, AllByRecursion}
+use Rattle.std.specs.List.{filter}
 
 -- what follows from a fact of each element
 pub all_weaker : {A : Type 0} (P Q : A → Type 0) → ((x : A) → P x → Q x) → (xs : List A) → AllByRecursion P xs → AllByRecursion Q xs

@@ -1,15 +1,8 @@
 -- The table of steps and that of live states: steps stay among its directories, and what is not live has no pair.
-use Rattle.std.proofs.Common.{ℕ, suc, ◌+◌, ◌-◌, ◌*◌, ◌<◌, ◌≤◌, ◌≡◌, List, [], ◌∷◌, Some, true, false, cond, ◌==◌, nat_lt, refl, arith}
-use Rattle.std.proofs.Common.{length, map, get_or, suc-mul, mul-le-mul_right}
-use Rattle.std.specs.Prelude.{IfSome}
-use Rattle.std.specs.List.{range_with_len, AllByRecursion}
-use Rattle.pua_steps.specs.Graph.{Pair, below, some_pair}
-use Rattle.pua_steps.specs.Table.{visit_of, missing_visit, gap, visits_from, graph_of, missing_at, entries_at, IsEntry, IsState, IsTable}
-use Rattle.pua_steps.specs.Live.{IsSized, live_of}
-use Rattle.pua_steps.specs.declared.state.State.{State}
-use Rattle.pua_steps.specs.declared.visit.Visit.{Visit}
-use Rattle.pua_steps.specs.declared.steps.Entry.{Entry}
-use Rattle.pua_steps.specs.declared.steps.Steps.{Steps}
+use Rattle.pua_steps.proofs.Common.{ℕ, suc, ◌+◌, ◌-◌, ◌*◌, ◌<◌, ◌≤◌, ◌≡◌, List, [], ◌∷◌, Some, true, false, cond, ◌==◌, nat_lt, refl, arith}
+use Rattle.pua_steps.proofs.Common.{length, map, get_or, suc-mul, mul-le-mul_right, IfSome, range_with_len, AllByRecursion, Pair, below}
+use Rattle.pua_steps.proofs.Common.{some_pair, visit_of, missing_visit, gap, visits_from, graph_of, missing_at, entries_at, IsEntry}
+use Rattle.pua_steps.proofs.Common.{IsState, IsTable, IsSized, live_of, State, Visit, Entry, Steps}
 use Rattle.pua_steps.specs.declared.live.Live as table
 use Rattle.pua_steps.proofs.Visits.{visit_is}
 use Rattle.pua_steps.proofs.Base.{all_joined}

@@ -1,23 +1,11 @@
 -- A walk's tables and frames are within the bound on visits.
-use Rattle.std.proofs.Common.{ℕ, zero, suc, ◌+◌, ◌-◌, ◌*◌, ◌≤◌, ◌≡◌, List, [], ◌∷◌, Option, Some, None, true, false, cond, ◌==◌, refl, ap}
-use Rattle.std.proofs.Common.{arith, sym, ◌∙◌, length, map, length-append}
-use Rattle.std.specs.Prelude.{IfSome, MatchOption}
-use Rattle.std.specs.List.{range_with_len, AllByRecursion}
-use Rattle.std.proofs.lemmas.List.{length-map}
-use Rattle.pua_steps.specs.Calls.{calls_of}
-use Rattle.pua_steps.specs.Trail.{TrailEvent, pairs_of}
-use Rattle.pua_steps.specs.Table.{IsTable, IsState, IsEntry, Rising, visits_from, gap, missing_visit, visit_of, missing_at}
-use Rattle.pua_steps.specs.Lists.{IsOpen, within, narrow_of, rest_of, list_of}
-use Rattle.pua_steps.specs.Live.{live_of, IsSized}
-use Rattle.pua_steps.specs.Ready.{looks, trail, IsReady, AreOpen, rests_of}
-use Rattle.pua_steps.specs.declared.state.State.{State}
-use Rattle.pua_steps.specs.declared.visit.Visit.{Visit}
-use Rattle.pua_steps.specs.declared.frame.Frame.{Frame}
-use Rattle.pua_steps.specs.declared.steps.Entry.{Entry}
-use Rattle.pua_steps.specs.declared.steps.Steps.{Steps}
-use Rattle.pua_steps.specs.declared.walk.Walk.{Walk}
+use Rattle.pua_steps.proofs.Common.{ℕ, zero, suc, ◌+◌, ◌-◌, ◌*◌, ◌≤◌, ◌≡◌, List, [], ◌∷◌, Option, Some, None, true, false, cond, ◌==◌, refl}
+use Rattle.pua_steps.proofs.Common.{ap, arith, sym, ◌∙◌, length, map, length-append, IfSome, range_with_len, AllByRecursion, length-map}
+use Rattle.pua_steps.proofs.Common.{calls_of, TrailEvent, pairs_of, IsTable, IsState, IsEntry, Rising, visits_from, gap, missing_visit}
+use Rattle.pua_steps.proofs.Common.{visit_of, missing_at, IsOpen, within, narrow_of, rest_of, list_of, live_of, IsSized, looks, trail}
+use Rattle.pua_steps.proofs.Common.{IsReady, AreOpen, rests_of, State, Visit, Frame, Entry, Steps, Walk, Lists}
+use Rattle.std.specs.Prelude.{MatchOption}
 use Rattle.pua_steps.specs.declared.live.Live as table
-use Rattle.pua_steps.specs.declared.lists.Lists.{Lists}
 use Rattle.pua_steps.proofs.Closing.{visits_stay}
 use Rattle.pua_steps.proofs.Listing.{all_within, list_known, list_rises}
 use Rattle.pua_steps.proofs.Narrowing.{prunes, lists_live}

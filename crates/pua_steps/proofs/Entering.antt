@@ -1,16 +1,8 @@
 -- A walk that has gone to the word with one letter more.
-use Rattle.std.proofs.Common.{ℕ, ◌+◌, ◌-◌, ◌<◌, ◌≤◌, ◌≡◌, ◌^◌, List, [], ◌∷◌, ◌++◌, true, ap, arith, sym, ◌∙◌, length, subst, vec_capacity}
-use Rattle.std.proofs.lemmas.List.{length_push}
-use Rattle.std.specs.Prelude.{IfSome}
-use Rattle.pua_steps.specs.Table.{IsTable, IsState}
-use Rattle.pua_steps.specs.Lists.{AreListsOf, IsOpen}
-use Rattle.pua_steps.specs.Live.{IsSized, live_of}
-use Rattle.pua_steps.specs.Ready.{AreOpen, IsReady}
-use Rattle.pua_steps.specs.declared.frame.Frame.{Frame}
-use Rattle.pua_steps.specs.declared.steps.Steps.{Steps}
+use Rattle.pua_steps.proofs.Common.{ℕ, ◌+◌, ◌-◌, ◌<◌, ◌≤◌, ◌≡◌, ◌^◌, List, [], ◌∷◌, ◌++◌, true, ap, arith, sym, ◌∙◌, length, subst}
+use Rattle.pua_steps.proofs.Common.{vec_capacity, length_push, IfSome, IsTable, IsState, AreListsOf, IsOpen, IsSized, live_of, AreOpen}
+use Rattle.pua_steps.proofs.Common.{IsReady, Frame, Steps, Lists, Walk}
 use Rattle.pua_steps.specs.declared.live.Live as table
-use Rattle.pua_steps.specs.declared.lists.Lists.{Lists}
-use Rattle.pua_steps.specs.declared.walk.Walk.{Walk}
 use Rattle.pua_steps.proofs.Base.{all_pushed}
 
 pub entered_ready : (t : Steps) (v : table.Live) (ls : Lists) (limit : ℕ) (word : List ℕ) (front : List Frame) (f : Frame) (letter : ℕ)

@@ -1,26 +1,20 @@
 -- Bounds that tell of live states, letter by letter.
-use Rattle.std.proofs.Common.{ℕ, zero, suc, ◌+◌, ◌-◌, ◌*◌, ◌<◌, ◌≤◌, ◌≡◌, max, List, [], ◌∷◌, ◌++◌, Option, Some, None, Bool, true, false}
-use Rattle.std.proofs.Common.{cond, not, ◌||◌, ◌==◌, nat_lt, nat_le, refl, ap, arith, sym, ◌∙◌, length, get_or, option_map, ◌^◌, suc-mul}
-use Rattle.std.proofs.Common.{zero-mul, mul-le-mul_right, length-append, inl, inr, subst}
-use Rattle.std.specs.Prelude.{filter, IfSome}
+use Rattle.pua_steps.proofs.Common.{ℕ, zero, suc, ◌+◌, ◌-◌, ◌*◌, ◌<◌, ◌≤◌, ◌≡◌, max, List, [], ◌∷◌, ◌++◌, Option, Some, None, Bool, true}
+use Rattle.pua_steps.proofs.Common.{false, cond, not, ◌||◌, ◌==◌, nat_lt, nat_le, refl, ap, arith, sym, ◌∙◌, length, get_or, option_map}
+use Rattle.pua_steps.proofs.Common.{◌^◌, suc-mul, mul-le-mul_right, length-append, inl, inr, subst, IfSome, range_with_len, bit_at_above}
+use Rattle.pua_steps.proofs.Common.{cases_lt, cases_eq, cases_Bool, eqb-true, le-leb, lt-leb, lt-ltb, le-ltb, and_parts, w16, has_call}
+use Rattle.pua_steps.proofs.Common.{calls_of, Graph, Pair, cons, alone, below, rows, some_pair, visit_of, missing_visit, has_gap, end_of}
+use Rattle.pua_steps.proofs.Common.{first_of, visits_from, graph_of, missing_at, entries_at, IsEntry, IsState, IsBound, IsSized, live_of}
+use Rattle.pua_steps.proofs.Common.{bound_of, State, Visit, Entry, Steps, or-false}
+use Rattle.std.proofs.Common.{zero-mul}
+use Rattle.std.specs.Prelude.{filter}
 use Rattle.std.specs.Int.{trailing_zeros}
-use Rattle.std.specs.List.{range_with_len}
-use Rattle.std.proofs.lemmas.Nat.Bits.{bit_at-trailing_zeros, bit_at_above}
-use Rattle.std.proofs.lemmas.Bool.{cases_lt, cases_eq, cases_Bool, eqb-true, eqb-false, le-leb, lt-leb, lt-ltb, le-ltb, not-true, and_parts}
+use Rattle.std.proofs.lemmas.Nat.Bits.{bit_at-trailing_zeros}
+use Rattle.std.proofs.lemmas.Bool.{eqb-false, not-true}
 use Rattle.std.proofs.Math.Nat.{eq-or-lt_of_le}
-use mir.Syntax.{w16}
-use Rattle.pua_steps.specs.Calls.{has_call, calls_of}
-use Rattle.pua_steps.specs.Graph.{Graph, Pair, cons, alone, below, rows, some_pair}
-use Rattle.pua_steps.specs.Table.{visit_of, missing_visit, has_gap, end_of, first_of, visits_from, graph_of, missing_at, entries_at}
-use Rattle.pua_steps.specs.Table.{IsEntry, IsState}
-use Rattle.pua_steps.specs.Live.{IsBound, IsFilled, IsSized, live_of, bound_of}
-use Rattle.pua_steps.specs.declared.state.State.{State}
-use Rattle.pua_steps.specs.declared.visit.Visit.{Visit}
-use Rattle.pua_steps.specs.declared.steps.Entry.{Entry}
-use Rattle.pua_steps.specs.declared.steps.Steps.{Steps}
+use Rattle.pua_steps.specs.Live.{IsFilled}
 use Rattle.pua_steps.specs.declared.live.Live as table
 use Rattle.pua_steps.proofs.Visits.{from_gap, from_entry, from_end}
-use Rattle.std.proofs.Math.Bool.{or-false}
 
 some_append : (ps qs : List Pair) → some_pair (ps ++ qs) ≡ (some_pair ps || some_pair qs)
 some_append [] qs = refl

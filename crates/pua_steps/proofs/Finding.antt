@@ -1,22 +1,11 @@
 -- The frame and the visit that a search for a letter finds.
-use Rattle.std.proofs.Common.{ℕ, zero, suc, ◌+◌, ◌<◌, ◌≤◌, ◌≡◌, List, [], ◌∷◌, Option, Some, None, cond, ◌==◌, refl, ap, arith, sym, ◌∙◌}
-use Rattle.std.proofs.Common.{length, take, drop, get_or, inl, inr, subst, ◌^◌}
-use Rattle.std.proofs.lemmas.Bool.{cases_Bool, cases_eq, eq-eqb, eqb-true}
-use Rattle.std.specs.Prelude.{IfSome}
-use Rattle.std.specs.List.{AllByRecursion}
-use Rattle.pua_steps.specs.Order.{IsSplit}
-use Rattle.pua_steps.specs.Table.{IsTable, IsState, IsVisit, IsEntry, Rising, visit_of, missing_visit, first_of, with_letter, visits_from}
-use Rattle.pua_steps.specs.Table.{missing_at}
-use Rattle.pua_steps.specs.Lists.{AreListsOf, IsOpen, within, span_of, list_of, narrow_of, rest_of}
-use Rattle.pua_steps.specs.declared.state.State.{State}
-use Rattle.pua_steps.specs.declared.visit.Visit.{Visit}
-use Rattle.pua_steps.specs.declared.steps.Entry.{Entry}
-use Rattle.pua_steps.specs.declared.steps.Row.{Row}
-use Rattle.pua_steps.specs.declared.steps.Steps.{Steps}
-use Rattle.pua_steps.specs.declared.frame.Frame.{Frame}
+use Rattle.pua_steps.proofs.Common.{ℕ, zero, suc, ◌+◌, ◌<◌, ◌≤◌, ◌≡◌, List, [], ◌∷◌, Option, Some, None, cond, ◌==◌, refl, ap, arith, sym}
+use Rattle.pua_steps.proofs.Common.{◌∙◌, length, take, drop, get_or, inl, inr, subst, ◌^◌, cases_Bool, cases_eq, eq-eqb, eqb-true, IfSome}
+use Rattle.pua_steps.proofs.Common.{AllByRecursion, IsSplit, IsTable, IsState, IsVisit, IsEntry, Rising, visit_of, missing_visit, first_of}
+use Rattle.pua_steps.proofs.Common.{visits_from, missing_at, AreListsOf, IsOpen, within, span_of, list_of, narrow_of, rest_of, State, Visit}
+use Rattle.pua_steps.proofs.Common.{Entry, Row, Steps, Frame, Span, Lists}
+use Rattle.pua_steps.specs.Table.{with_letter}
 use Rattle.pua_steps.specs.declared.live.Live as table
-use Rattle.pua_steps.specs.declared.lists.Span.{Span}
-use Rattle.pua_steps.specs.declared.lists.Lists.{Lists}
 use Rattle.pua_steps.proofs.Visits.{some_at, all_at, row_missing, visit_is}
 use Rattle.pua_steps.proofs.Listing.{all_within, drop-drop, list_rises}
 use Rattle.pua_steps.proofs.Splitting.{Cut, cut_at, split_missed, split_found}

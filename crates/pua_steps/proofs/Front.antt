@@ -1,9 +1,7 @@
 -- The letters at the front of a word that stay.
-use Rattle.std.proofs.Common.{ℕ, ◌≤◌, ◌≡◌, List, [], ◌∷◌, ◌++◌, refl, ap, arith, sym, ◌∙◌, length, length-append, append_assoc, take}
-use Rattle.std.proofs.Common.{Option}
-use Rattle.std.specs.Prelude.{option_to_list}
+use Rattle.pua_steps.proofs.Common.{ℕ, ◌≤◌, ◌≡◌, List, [], ◌∷◌, ◌++◌, refl, ap, arith, sym, ◌∙◌, length, length-append, append_assoc, take}
+use Rattle.pua_steps.proofs.Common.{Option, option_to_list, IsLonger}
 use Rattle.std.proofs.lemmas.List.{take-append-le, take-take}
-use Rattle.pua_steps.specs.Lists.{IsLonger}
 use Rattle.pua_steps.specs.Ready.{StaysFront}
 use Rattle.pua_steps.proofs.Listing.{longer_length}
 

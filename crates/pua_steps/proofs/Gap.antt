@@ -1,14 +1,8 @@
 -- How many visits may stand before the first pair.
-use Rattle.std.proofs.Common.{ℕ, zero, suc, ◌+◌, ◌-◌, ◌*◌, ◌≤◌, ◌≡◌, List, [], ◌∷◌, ◌++◌, Option, Some, None, Bool, true, false, cond, refl}
-use Rattle.std.proofs.Common.{ap, arith, sym, ◌∙◌, length, suc-mul, mul-le-mul_right}
-use Rattle.std.specs.Prelude.{flat_map, IfSome}
-use Rattle.std.specs.List.{AllByRecursion}
-use Rattle.pua_steps.specs.Calls.{calls_of}
-use Rattle.pua_steps.specs.Graph.{Graph, Word, below, some_pair}
-use Rattle.pua_steps.specs.Trail.{TrailEvent, Live, pairs_of, under, under_all, with_calls, deeper, branches, pending, ahead}
-use Rattle.pua_steps.specs.Ready.{looks}
-use Rattle.pua_steps.specs.declared.state.State.{State}
-use Rattle.pua_steps.specs.declared.visit.Visit.{Visit}
+use Rattle.pua_steps.proofs.Common.{ℕ, zero, suc, ◌+◌, ◌-◌, ◌*◌, ◌≤◌, ◌≡◌, List, [], ◌∷◌, ◌++◌, Option, Some, None, Bool, true, false, cond}
+use Rattle.pua_steps.proofs.Common.{refl, ap, arith, sym, ◌∙◌, length, suc-mul, mul-le-mul_right, flat_map, IfSome, AllByRecursion}
+use Rattle.pua_steps.proofs.Common.{calls_of, Graph, Word, below, some_pair, TrailEvent, Live, pairs_of, under, under_all, with_calls}
+use Rattle.pua_steps.proofs.Common.{deeper, branches, pending, ahead, looks, State, Visit}
 use Rattle.pua_steps.proofs.Lines.{Prunes, pairs-deeper}
 
 -- the visits before the first pair, or all of them

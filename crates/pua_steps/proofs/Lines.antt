@@ -1,14 +1,11 @@
 -- What the pairs of a trail are.
-use Rattle.std.proofs.Common.{ℕ, zero, suc, ◌-◌, ◌≤◌, ◌≡◌, List, [], ◌∷◌, ◌++◌, Option, Some, None, true, false, cond, refl, ap, arith, sym}
-use Rattle.std.proofs.Common.{◌∙◌, append-nil}
+use Rattle.pua_steps.proofs.Common.{ℕ, zero, suc, ◌-◌, ◌≤◌, ◌≡◌, List, [], ◌∷◌, ◌++◌, Option, Some, None, true, false, cond, refl, ap}
+use Rattle.pua_steps.proofs.Common.{arith, sym, ◌∙◌, append-nil, flat_map, IfSome, AllByRecursion, calls_of, Graph, cons, alone, below}
+use Rattle.pua_steps.proofs.Common.{rows, TrailEvent, Live, pairs_of, under, under_all, with_calls, deeper, branches, pending, ahead, State}
+use Rattle.pua_steps.proofs.Common.{Visit}
 use Rattle.std.proofs.lemmas.List.Elements.{filter_map-append}
-use Rattle.std.specs.Prelude.{flat_map, IfSome}
-use Rattle.std.specs.List.{AllByRecursion}
-use Rattle.pua_steps.specs.Calls.{calls_of}
-use Rattle.pua_steps.specs.Graph.{Graph, longer, cons, alone, from_state, below, rows, graph_reach}
-use Rattle.pua_steps.specs.Trail.{TrailEvent, Live, pairs_of, under, under_all, with_calls, if_live, deeper, branches, pending, ahead}
-use Rattle.pua_steps.specs.declared.state.State.{State}
-use Rattle.pua_steps.specs.declared.visit.Visit.{Visit}
+use Rattle.pua_steps.specs.Graph.{longer, from_state, graph_reach}
+use Rattle.pua_steps.specs.Trail.{if_live}
 
 pub pairs-append : (xs ys : List TrailEvent) → pairs_of (xs ++ ys) ≡ pairs_of xs ++ pairs_of ys
 pairs-append xs ys = filter_map-append (λ e. e) xs ys

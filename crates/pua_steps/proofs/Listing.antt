@@ -1,21 +1,14 @@
 -- The lists of a walk, one after another.
-use Rattle.std.proofs.Common.{ℕ, zero, suc, ◌+◌, ◌-◌, ◌*◌, ◌<◌, ◌≤◌, ◌≡◌, List, [], ◌∷◌, ◌++◌, Option, Some, None, Bool, true, false, not}
-use Rattle.std.proofs.Common.{◌||◌, ◌==◌, cond, max, refl, ap, arith, sym, ◌∙◌, length, length-append, append_assoc, append-nil, filter}
-use Rattle.std.proofs.Common.{take, drop, get_or, inl, inr, subst}
+use Rattle.pua_steps.proofs.Common.{ℕ, zero, suc, ◌+◌, ◌-◌, ◌*◌, ◌<◌, ◌≤◌, ◌≡◌, List, [], ◌∷◌, ◌++◌, Option, Some, None, Bool, true, false}
+use Rattle.pua_steps.proofs.Common.{not, ◌||◌, ◌==◌, cond, max, refl, ap, arith, sym, ◌∙◌, length, length-append, append_assoc, append-nil}
+use Rattle.pua_steps.proofs.Common.{filter, take, drop, get_or, inl, inr, subst, cases_lt, IfSome, AllByRecursion, bound_of, is_useful}
+use Rattle.pua_steps.proofs.Common.{list_of, within, span_of, IsListAt, AreListsOf, IsLonger, IsTable, IsEntry, Rising, entries_at}
+use Rattle.pua_steps.proofs.Common.{missing_at, Entry, Steps, Span, Lists}
 use Rattle.std.proofs.Math.ListN.{get_or-append}
 use Rattle.std.proofs.Math.Seq.{drop-append_seam}
 use Rattle.std.proofs.lemmas.List.{take-append-le}
-use Rattle.std.proofs.lemmas.Bool.{cases_lt}
-use Rattle.std.specs.Prelude.{IfSome}
-use Rattle.std.specs.List.{AllByRecursion}
-use Rattle.pua_steps.specs.Live.{bound_of}
-use Rattle.pua_steps.specs.Lists.{is_useful, list_of, within, span_of, IsListAt, IsLayer, AreListsOf, IsLonger}
-use Rattle.pua_steps.specs.Table.{IsTable, IsEntry, Rising, entries_at, missing_at}
-use Rattle.pua_steps.specs.declared.steps.Entry.{Entry}
-use Rattle.pua_steps.specs.declared.steps.Steps.{Steps}
+use Rattle.pua_steps.specs.Lists.{IsLayer}
 use Rattle.pua_steps.specs.declared.live.Live as table
-use Rattle.pua_steps.specs.declared.lists.Span.{Span}
-use Rattle.pua_steps.specs.declared.lists.Lists.{Lists}
 use Rattle.pua_steps.proofs.Filling.{at_end}
 use Rattle.pua_steps.proofs.Base.{all_filtered}
 

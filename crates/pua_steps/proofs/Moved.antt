@@ -1,13 +1,6 @@
 -- What is known of tables is known of the same tables with another count.
-use Rattle.std.proofs.Common.{ℕ, ◌≡◌, List, sym, subst}
-use Rattle.pua_steps.specs.Table.{IsTable}
-use Rattle.pua_steps.specs.Lists.{AreListsOf}
-use Rattle.pua_steps.specs.Live.{IsSized}
-use Rattle.pua_steps.specs.Ready.{AreOpen}
-use Rattle.pua_steps.specs.declared.frame.Frame.{Frame}
-use Rattle.pua_steps.specs.declared.steps.Steps.{Steps}
+use Rattle.pua_steps.proofs.Common.{ℕ, ◌≡◌, List, sym, subst, IsTable, AreListsOf, IsSized, AreOpen, Frame, Steps, Lists}
 use Rattle.pua_steps.specs.declared.live.Live as table
-use Rattle.pua_steps.specs.declared.lists.Lists.{Lists}
 
 module _ (t u : Steps) (v w : table.Live) (ls ms : Lists) (steps : u ≡ t) (live : w ≡ v) (lists : ms ≡ ls) where
   pub moved_table : IsTable t → IsTable u

@@ -1,12 +1,8 @@
 -- One step of each definition, as the code meets it.
-use Rattle.std.proofs.Common.{ℕ, zero, suc, ◌+◌, ◌-◌, ◌≡◌, List, [], ◌∷◌, ◌++◌, Some, None, true, false, refl, ap, arith, sym, ◌∙◌, length}
-use Rattle.std.proofs.Common.{append_assoc, append-nil}
-use Rattle.std.proofs.lemmas.List.{map-append}
-use Rattle.pua_steps.specs.Calls.{calls_of}
-use Rattle.pua_steps.specs.Graph.{Graph, Word}
-use Rattle.pua_steps.specs.Trail.{TrailEvent, Live, behind, under, under_all, with_calls, deeper, branches, pending}
-use Rattle.pua_steps.specs.declared.state.State.{State}
-use Rattle.pua_steps.specs.declared.visit.Visit.{Visit}
+use Rattle.pua_steps.proofs.Common.{ℕ, zero, suc, ◌+◌, ◌-◌, ◌≡◌, List, [], ◌∷◌, ◌++◌, Some, None, true, false, refl, ap, arith, sym, ◌∙◌}
+use Rattle.pua_steps.proofs.Common.{length, append_assoc, append-nil, map-append, calls_of, Graph, Word, TrailEvent, Live, under, under_all}
+use Rattle.pua_steps.proofs.Common.{with_calls, deeper, branches, pending, State, Visit}
+use Rattle.pua_steps.specs.Trail.{behind}
 
 -- letters in front
 

@@ -1,20 +1,11 @@
 -- The lists leave out what gives nothing, so they have the same pairs as the table: what a walk over them needs.
-use Rattle.std.proofs.Common.{ℕ, zero, suc, ◌+◌, ◌-◌, ◌*◌, ◌<◌, ◌≤◌, ◌≡◌, List, [], ◌∷◌, ◌++◌, Option, Some, None, Bool, true, false, not}
-use Rattle.std.proofs.Common.{◌||◌, ◌==◌, cond, nat_lt, refl, ap, arith, sym, ◌∙◌, map, filter, get_or, inl, inr, suc-mul, mul-le-mul_right}
-use Rattle.std.proofs.Common.{subst}
-use Rattle.std.specs.Prelude.{IfSome}
-use Rattle.std.specs.List.{AllByRecursion}
-use Rattle.std.proofs.lemmas.Bool.{cases_Bool, eqb-true, le-ltb}
-use Rattle.pua_steps.specs.Graph.{Graph, Pair, cons, alone, below, rows, graph_reach, some_pair}
-use Rattle.pua_steps.specs.Calls.{calls_of}
-use Rattle.pua_steps.specs.Trail.{pairs_of, ahead, deeper}
-use Rattle.pua_steps.specs.Table.{visit_of, gap, visits_from, graph_of, missing_at, entries_at, IsEntry, IsState, IsTable}
-use Rattle.pua_steps.specs.Live.{IsSized, IsBound, live_of, entrance, bound_of}
-use Rattle.pua_steps.specs.Lists.{is_useful, list_of, narrow_of}
-use Rattle.pua_steps.specs.declared.state.State.{State}
-use Rattle.pua_steps.specs.declared.visit.Visit.{Visit}
-use Rattle.pua_steps.specs.declared.steps.Entry.{Entry}
-use Rattle.pua_steps.specs.declared.steps.Steps.{Steps}
+use Rattle.pua_steps.proofs.Common.{ℕ, zero, suc, ◌+◌, ◌-◌, ◌*◌, ◌<◌, ◌≤◌, ◌≡◌, List, [], ◌∷◌, ◌++◌, Option, Some, None, Bool, true, false}
+use Rattle.pua_steps.proofs.Common.{not, ◌||◌, ◌==◌, cond, nat_lt, refl, ap, arith, sym, ◌∙◌, map, filter, get_or, inl, inr, suc-mul}
+use Rattle.pua_steps.proofs.Common.{mul-le-mul_right, subst, IfSome, AllByRecursion, cases_Bool, eqb-true, le-ltb, Graph, Pair, cons, alone}
+use Rattle.pua_steps.proofs.Common.{below, rows, some_pair, calls_of, pairs_of, ahead, deeper, visit_of, gap, visits_from, graph_of}
+use Rattle.pua_steps.proofs.Common.{missing_at, entries_at, IsEntry, IsState, IsTable, IsSized, IsBound, live_of, entrance, bound_of}
+use Rattle.pua_steps.proofs.Common.{is_useful, list_of, narrow_of, State, Visit, Entry, Steps}
+use Rattle.pua_steps.specs.Graph.{graph_reach}
 use Rattle.pua_steps.specs.declared.live.Live as table
 use Rattle.pua_steps.proofs.Filling.{below_none, below_end, below_some, entry_gives}
 use Rattle.pua_steps.proofs.Lines.{Prunes, pairs-fresh}

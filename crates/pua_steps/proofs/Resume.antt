@@ -1,23 +1,19 @@
 -- What comes after a pair, step by step along its word.
-use Rattle.std.proofs.Common.{ℕ, zero, suc, ◌+◌, ◌-◌, ◌<◌, ◌≤◌, ◌≡◌, List, [], ◌∷◌, ◌++◌, Option, Some, None, Bool, true, false, cond}
-use Rattle.std.proofs.Common.{nat_lt, ◌==◌, refl, ap, arith, sym, ◌∙◌, length, filter, append_assoc, append-nil, length-append, map, get_or}
-use Rattle.std.proofs.lemmas.List.{map-append}
+use Rattle.pua_steps.proofs.Common.{ℕ, zero, suc, ◌+◌, ◌-◌, ◌<◌, ◌≤◌, ◌≡◌, List, [], ◌∷◌, ◌++◌, Option, Some, None, Bool, true, false, cond}
+use Rattle.pua_steps.proofs.Common.{nat_lt, ◌==◌, refl, ap, arith, sym, ◌∙◌, length, filter, append_assoc, append-nil, length-append, map}
+use Rattle.pua_steps.proofs.Common.{get_or, map-append, flat_map, IfSome, AllByRecursion, calls_of, Graph, Word, Pair, cons, alone, below}
+use Rattle.pua_steps.proofs.Common.{rows, pairs_after, IsSplit, to_give, TrailEvent, Live, pairs_of, under_all, with_calls, deeper}
+use Rattle.pua_steps.proofs.Common.{branches, pending, ahead, State, Visit}
 use Rattle.std.proofs.lemmas.List.Elements.{filter-append, filter_agree}
 use Rattle.std.proofs.lemmas.Grind.{flat_map-append}
 use Rattle.std.proofs.lemmas.Cmp.{tied_itself, nat_cmp_total}
 use Rattle.std.specs.Cmp.{nat_cmp_is}
-use Rattle.std.specs.Prelude.{flat_map, IfSome}
-use Rattle.std.specs.List.{AllByRecursion}
 use Rattle.std.specs.Ordering.{nat_cmp, ordering_then, is_lt}
 use Rattle.std.specs.Cmp.Lexicographic.{slice_cmp}
 use Rattle.std.specs.declared.cmp.Ordering.TheVariants.{Less, Equal, Greater}
-use Rattle.pua_steps.specs.Calls.{calls_of}
-use Rattle.pua_steps.specs.Graph.{Graph, Word, Pair, longer, cons, alone, below, rows}
-use Rattle.pua_steps.specs.Order.{comes_after, pairs_after, IsSplit}
-use Rattle.pua_steps.specs.Resuming.{cons_all, to_give}
-use Rattle.pua_steps.specs.Trail.{TrailEvent, Live, pairs_of, under_all, with_calls, deeper, branches, pending, ahead}
-use Rattle.pua_steps.specs.declared.state.State.{State}
-use Rattle.pua_steps.specs.declared.visit.Visit.{Visit}
+use Rattle.pua_steps.specs.Graph.{longer}
+use Rattle.pua_steps.specs.Order.{comes_after}
+use Rattle.pua_steps.specs.Resuming.{cons_all}
 use Rattle.pua_steps.proofs.Moves.{pending_push, pending_back}
 use Rattle.pua_steps.proofs.Turns.{nothing_pending}
 use Rattle.pua_steps.proofs.Sets.{no_calls}

@@ -1,14 +1,9 @@
 -- Visits before the next letter on which something is allowed.
-use Rattle.std.proofs.Common.{min, ℕ, zero, suc, ◌+◌, ◌≡◌, List, [], ◌∷◌, ◌++◌, Option, Some, None, true, false, cond, ◌==◌, refl, ap}
-use Rattle.std.proofs.Common.{arith, sym, ◌∙◌, length, is_none}
-use Rattle.std.proofs.lemmas.Bool.{and_parts, eqb-true}
-use Rattle.pua_steps.specs.Calls.{calls_of}
-use Rattle.pua_steps.specs.Graph.{Graph}
-use Rattle.pua_steps.specs.Trail.{TrailEvent, Live, under, with_calls, deeper, branches}
-use Rattle.pua_steps.specs.Live.{entrance}
-use Rattle.pua_steps.specs.Ready.{looks, IsCounted, is_idle, after_visit}
-use Rattle.pua_steps.specs.declared.state.State.{State}
-use Rattle.pua_steps.specs.declared.visit.Visit.{Visit}
+use Rattle.pua_steps.proofs.Common.{min, ℕ, zero, suc, ◌+◌, ◌≡◌, List, [], ◌∷◌, ◌++◌, Option, Some, None, true, false, cond, ◌==◌, refl, ap}
+use Rattle.pua_steps.proofs.Common.{arith, sym, ◌∙◌, length, and_parts, eqb-true, calls_of, Graph, TrailEvent, Live, under, with_calls}
+use Rattle.pua_steps.proofs.Common.{deeper, branches, entrance, looks, IsCounted, State, Visit}
+use Rattle.std.proofs.Common.{is_none}
+use Rattle.pua_steps.specs.Ready.{is_idle, after_visit}
 use Rattle.pua_steps.proofs.Moves.{under-nil, deeper_none, deeper_dead, branches_more, branches_none}
 use Rattle.pua_steps.proofs.Sets.{no_calls}
 

@@ -1,11 +1,8 @@
 -- Sets of calls as lists.
-use Rattle.std.proofs.Common.{ℕ, zero, suc, ◌+◌, ◌<◌, ◌≤◌, ◌≡◌, [], ◌∷◌, Bool, true, false, cond, ◌==◌, ◌&&◌, nat_lt, refl, ap, arith, sym}
-use Rattle.std.proofs.Common.{◌∙◌, filter, inl, inr}
+use Rattle.pua_steps.proofs.Common.{ℕ, zero, suc, ◌+◌, ◌<◌, ◌≤◌, ◌≡◌, [], ◌∷◌, Bool, true, false, cond, ◌==◌, ◌&&◌, nat_lt, refl, ap, arith}
+use Rattle.pua_steps.proofs.Common.{sym, ◌∙◌, filter, inl, inr, bit_at, range_with_len, cases_eq, cases_lt, lt-ltb, le-ltb, has_call}
+use Rattle.pua_steps.proofs.Common.{calls_of}
 use Rattle.std.specs.Prelude.{◌≢◌}
-use Rattle.std.specs.Int.{bit_at}
-use Rattle.std.specs.List.{range_with_len}
-use Rattle.std.proofs.lemmas.Bool.{cases_eq, cases_lt, lt-ltb, le-ltb}
-use Rattle.pua_steps.specs.Calls.{has_call, calls_of}
 
 module _ (f g : ℕ → Bool) where
   same_from : (k n : ℕ) → ((i : ℕ) → k ≤ i → i < k + n → g i ≡ f i) → filter f (range_with_len k n) ≡ filter g (range_with_len k n)

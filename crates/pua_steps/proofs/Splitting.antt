@@ -1,14 +1,9 @@
 -- Where a letter stands among those of a state.
-use Rattle.std.proofs.Common.{ℕ, zero, suc, ◌+◌, ◌-◌, ◌<◌, ◌≤◌, ◌≡◌, List, [], ◌∷◌, ◌++◌, None, true, false, not, cond, ◌==◌, refl, ap}
-use Rattle.std.proofs.Common.{arith, sym, ◌∙◌, map, drop, append_assoc, inl, inr, subst, nat_le, option_map}
-use Rattle.std.proofs.lemmas.List.{map-append}
-use Rattle.std.proofs.lemmas.Bool.{cases_Bool, eqb-true}
-use Rattle.std.specs.Prelude.{IfSome, take}
-use Rattle.std.specs.List.{range_with_len, AllByRecursion}
-use Rattle.pua_steps.specs.Order.{IsSplit}
-use Rattle.pua_steps.specs.Table.{visit_of, missing_visit, gap, first_of, visits_from, Rising}
-use Rattle.pua_steps.specs.declared.visit.Visit.{Visit}
-use Rattle.pua_steps.specs.declared.steps.Entry.{Entry}
+use Rattle.pua_steps.proofs.Common.{ℕ, zero, suc, ◌+◌, ◌-◌, ◌<◌, ◌≤◌, ◌≡◌, List, [], ◌∷◌, ◌++◌, None, true, false, not, cond, ◌==◌, refl}
+use Rattle.pua_steps.proofs.Common.{ap, arith, sym, ◌∙◌, map, drop, append_assoc, inl, inr, subst, nat_le, option_map, map-append}
+use Rattle.pua_steps.proofs.Common.{cases_Bool, eqb-true, IfSome, range_with_len, AllByRecursion, IsSplit, visit_of, missing_visit, gap}
+use Rattle.pua_steps.proofs.Common.{first_of, visits_from, Rising, Visit, Entry}
+use Rattle.std.specs.Prelude.{take}
 use Rattle.pua_steps.proofs.Base.{all_joined}
 
 -- numbers in order

@@ -1,19 +1,14 @@
 -- Sets of numbers of links, moved along entries.
-use Rattle.std.proofs.Common.{ℕ, zero, suc, ◌+◌, ◌-◌, ◌^◌, ◌<◌, ◌≤◌, ◌≡◌, max, List, ◌∷◌, Option, Some, None, false, ◌||◌, ◌&&◌, ◌==◌}
-use Rattle.std.proofs.Common.{nat_le, refl, ap, arith, sym, ◌∙◌, length, get_or, set, drop, bit_or, inl, inr, subst}
-use Rattle.std.specs.Prelude.{IfSome}
-use Rattle.std.specs.Int.{bit_at}
-use Rattle.std.specs.List.{AllByRecursion}
+use Rattle.pua_steps.proofs.Common.{ℕ, zero, suc, ◌+◌, ◌-◌, ◌^◌, ◌<◌, ◌≤◌, ◌≡◌, max, List, ◌∷◌, Option, Some, None, false, ◌||◌, ◌&&◌, ◌==◌}
+use Rattle.pua_steps.proofs.Common.{nat_le, refl, ap, arith, sym, ◌∙◌, length, get_or, set, drop, inl, inr, subst, IfSome, bit_at}
+use Rattle.pua_steps.proofs.Common.{AllByRecursion, cases_eq, eq-eqb, ne_eqb, has_state, lands_some, IsEntry, Entry, Steps, or-false}
+use Rattle.std.proofs.Common.{bit_or}
 use Rattle.std.proofs.lemmas.List.{get_or-set_same, get_or-set_other}
 use Rattle.std.proofs.lemmas.Nat.{or_lt}
 use Rattle.std.proofs.lemmas.Nat.Bits.{bit_at_or, bit_at-lt}
-use Rattle.std.proofs.lemmas.Bool.{cases_eq, eq-eqb, ne_eqb}
-use Rattle.pua_steps.specs.Reached.{has_state, lands, lands_some}
-use Rattle.pua_steps.specs.Table.{IsEntry}
-use Rattle.pua_steps.specs.declared.steps.Entry.{Entry}
-use Rattle.pua_steps.specs.declared.steps.Steps.{Steps}
+use Rattle.pua_steps.specs.Reached.{lands}
 use Rattle.pua_steps.proofs.Base.{all_weaker}
-use Rattle.std.proofs.Math.Bool.{or-false, or_assoc}
+use Rattle.std.proofs.Math.Bool.{or_assoc}
 
 either : (a b : ℕ) → a < 2 → b < 2 → (max a b == 1) ≡ ((a == 1) || (b == 1))
 either zero zero h k = refl

@@ -1,28 +1,23 @@
 -- Sets of numbers of links tell of the states to which words lead.
-use Rattle.std.proofs.Common.{ℕ, zero, suc, ◌+◌, ◌-◌, ◌*◌, ◌^◌, ◌<◌, ◌≤◌, ◌≡◌, List, [], ◌∷◌, ◌++◌, Option, Some, None, Bool, true, false}
-use Rattle.std.proofs.Common.{cond, ◌||◌, ◌&&◌, ◌==◌, nat_lt, nat_le, refl, ap, arith, sym, ◌∙◌, length, map, get_or, set, option_map}
-use Rattle.std.proofs.Common.{count_ones, bit_and, inl, inr, subst}
-use Rattle.std.specs.Prelude.{IfSome, option_to_list, flat_map, ◌⊎◌}
-use Rattle.std.specs.Int.{bit_at}
-use Rattle.std.specs.List.{range_with_len, AllByRecursion, cons_option}
+use Rattle.pua_steps.proofs.Common.{ℕ, zero, suc, ◌+◌, ◌-◌, ◌*◌, ◌^◌, ◌<◌, ◌≤◌, ◌≡◌, List, [], ◌∷◌, ◌++◌, Option, Some, None, Bool, true}
+use Rattle.pua_steps.proofs.Common.{false, cond, ◌||◌, ◌&&◌, ◌==◌, nat_lt, nat_le, refl, ap, arith, sym, ◌∙◌, length, map, get_or, set}
+use Rattle.pua_steps.proofs.Common.{option_map, count_ones, bit_and, inl, inr, subst, IfSome, option_to_list, flat_map, bit_at}
+use Rattle.pua_steps.proofs.Common.{range_with_len, AllByRecursion, bit_at_above, cases_eq, cases_lt, and_parts, eqb-true, eq-eqb, ne_eqb}
+use Rattle.pua_steps.proofs.Common.{le-leb, lt-leb, below, some_pair, visit_of, missing_visit, gap, visits_from, graph_of, missing_at}
+use Rattle.pua_steps.proofs.Common.{entries_at, IsState, IsTable, IsSized, states_after, distinct, has_state, AreSets, lands_some}
+use Rattle.pua_steps.proofs.Common.{lands_from, total, State, Visit, Entry, Steps, or-false}
+use Rattle.std.specs.Prelude.{◌⊎◌}
+use Rattle.std.specs.List.{cons_option}
 use Rattle.std.proofs.lemmas.List.Elements.{filter_map-append}
 use Rattle.std.proofs.lemmas.List.{get_or-set_same, get_or-set_other, length-set}
-use Rattle.std.proofs.lemmas.Nat.Bits.{bit_at-zero, bit_at_above}
-use Rattle.std.proofs.lemmas.Bool.{cases_eq, cases_order, cases_lt, and_parts, or_cases, eqb-true, eq-eqb, ne_eqb, leb-true, le-leb, lt-leb}
-use Rattle.pua_steps.specs.Graph.{below, some_pair}
-use Rattle.pua_steps.specs.Table.{visit_of, missing_visit, gap, visits_from, graph_of, missing_at, entries_at, IsState, IsTable}
-use Rattle.pua_steps.specs.Live.{IsSized}
-use Rattle.pua_steps.specs.Reached.{states_behind, states_after, is_same, is_among, distinct, live_among, has_state, AreSets, lands}
-use Rattle.pua_steps.specs.Reached.{lands_some, lands_from, total}
-use Rattle.pua_steps.specs.declared.state.State.{State}
-use Rattle.pua_steps.specs.declared.visit.Visit.{Visit}
-use Rattle.pua_steps.specs.declared.steps.Entry.{Entry}
-use Rattle.pua_steps.specs.declared.steps.Steps.{Steps}
+use Rattle.std.proofs.lemmas.Nat.Bits.{bit_at-zero}
+use Rattle.std.proofs.lemmas.Bool.{cases_order, or_cases, leb-true}
+use Rattle.pua_steps.specs.Reached.{states_behind, is_same, is_among, live_among, lands}
 use Rattle.pua_steps.specs.declared.live.Live as table
 use Rattle.pua_steps.proofs.Counting.{same_is, among_filter, distinct_by_rows, Within, layer_ones, total_same, count, count_same}
 use Rattle.pua_steps.proofs.Closing.{states_stay, bound_at}
 use Rattle.pua_steps.proofs.Base.{all_filtered, all_joined}
-use Rattle.std.proofs.Math.Bool.{or_assoc, or-false}
+use Rattle.std.proofs.Math.Bool.{or_assoc}
 use Rattle.std.specs.Cmp.{both_ways}
 
 -- lists with a member that passes

@@ -1,14 +1,11 @@
 -- What a bound and a list say of an entry.
-use Rattle.std.proofs.Common.{◌≡◌, ◌≢◌, ◌<◌, ◌≤◌, ℕ, Bool, true, false, not, ◌||◌, ◌==◌, nat_lt, sym, ap, ◌∙◌, arith, inl, inr}
+use Rattle.pua_steps.proofs.Common.{◌≡◌, ◌<◌, ◌≤◌, ℕ, Bool, true, false, not, ◌||◌, ◌==◌, nat_lt, sym, ap, ◌∙◌, arith, inl, inr, cases_Bool}
+use Rattle.pua_steps.proofs.Common.{cases_eq, eqb-true, lt-ltb, le-ltb, bound_of, is_useful, graph_of, visit_of, Entry, Steps}
+use Rattle.std.proofs.Common.{◌≢◌}
 use Rattle.std.specs.Prelude.{◌⊎◌}
-use Rattle.std.proofs.lemmas.Bool.{cases_Bool, cases_eq, eqb-true, eqb-false, lt-ltb, le-ltb}
+use Rattle.std.proofs.lemmas.Bool.{eqb-false}
 use Rattle.pua_steps.specs.Limits.{most_links}
-use Rattle.pua_steps.specs.Live.{bound_of}
-use Rattle.pua_steps.specs.Lists.{is_useful}
-use Rattle.pua_steps.specs.Table.{graph_of, visit_of}
 use Rattle.pua_steps.specs.Telling.{gives, EntriesTell, IsAmong}
-use Rattle.pua_steps.specs.declared.steps.Entry.{Entry}
-use Rattle.pua_steps.specs.declared.steps.Steps.{Steps}
 use Rattle.pua_steps.specs.declared.live.Live as table
 use Rattle.pua_steps.proofs.Filling.{entry_gives}
 use Rattle.pua_steps.proofs.Narrowing.{cells, useless}

@@ -1,11 +1,7 @@
 -- What each turn of the code does to what is still to be done.
-use Rattle.std.proofs.Common.{ℕ, suc, ◌+◌, ◌-◌, ◌<◌, ◌≡◌, List, [], ◌∷◌, ◌++◌, Option, Some, None, true, refl, ap, arith, sym, ◌∙◌, length}
-use Rattle.std.proofs.Common.{length-append, append-nil}
-use Rattle.std.specs.Prelude.{option_to_list}
-use Rattle.pua_steps.specs.Graph.{Graph, Word}
-use Rattle.pua_steps.specs.Trail.{TrailEvent, Live, under_all, with_calls, deeper, pending, ahead}
-use Rattle.pua_steps.specs.declared.state.State.{State}
-use Rattle.pua_steps.specs.declared.visit.Visit.{Visit}
+use Rattle.pua_steps.proofs.Common.{ℕ, suc, ◌+◌, ◌-◌, ◌<◌, ◌≡◌, List, [], ◌∷◌, ◌++◌, Option, Some, None, true, refl, ap, arith, sym, ◌∙◌}
+use Rattle.pua_steps.proofs.Common.{length, length-append, append-nil, option_to_list, Graph, Word, TrailEvent, Live, under_all, with_calls}
+use Rattle.pua_steps.proofs.Common.{deeper, pending, ahead, State, Visit}
 use Rattle.pua_steps.proofs.Moves.{under_all-nil, under_all-line, deeper_live, pending_push, pending_back}
 
 module _ (g : Graph) (live : Live) (limit : ℕ) where

@@ -1,16 +1,12 @@
 -- The letters of an open state, one after another.
-use Rattle.std.proofs.Common.{ℕ, zero, suc, ◌+◌, ◌-◌, ◌<◌, ◌≤◌, ◌≡◌, List, [], ◌∷◌, ◌++◌, Bool, true, false, not, cond, nat_lt, nat_le}
-use Rattle.std.proofs.Common.{◌==◌, refl, ap, arith, sym, ◌∙◌, length, map, drop, get_or, Some, None, Option, option_map, inl, inr, subst}
-use Rattle.std.proofs.Common.{◌^◌}
-use Rattle.std.specs.Prelude.{IfSome}
-use Rattle.std.specs.List.{range_with_len, AllByRecursion}
-use Rattle.std.proofs.lemmas.Bool.{and_parts, and_cases, not-true, ltb-true, ltb-false, leb-true, cases_Bool}
+use Rattle.pua_steps.proofs.Common.{ℕ, zero, suc, ◌+◌, ◌-◌, ◌<◌, ◌≤◌, ◌≡◌, List, [], ◌∷◌, ◌++◌, Bool, true, false, not, cond, nat_lt}
+use Rattle.pua_steps.proofs.Common.{nat_le, ◌==◌, refl, ap, arith, sym, ◌∙◌, length, map, drop, get_or, Some, None, Option, option_map, inl}
+use Rattle.pua_steps.proofs.Common.{inr, subst, ◌^◌, IfSome, range_with_len, AllByRecursion, and_parts, cases_Bool, entries_at, missing_at}
+use Rattle.pua_steps.proofs.Common.{visit_of, missing_visit, gap, has_gap, end_of, first_of, visits_from, IsEntry, IsVisit, IsState, Rising}
+use Rattle.pua_steps.proofs.Common.{Entry, Row, Steps}
+use Rattle.std.proofs.lemmas.Bool.{and_cases, not-true, ltb-true, ltb-false, leb-true}
 use Rattle.std.proofs.lemmas.List.{get_or-map}
-use Rattle.pua_steps.specs.Table.{entries_in, missing_in, entries_at, missing_at, visit_of, missing_visit, gap, has_gap, end_of, first_of}
-use Rattle.pua_steps.specs.Table.{visits_from, IsEntry, IsVisit, IsState, Rising}
-use Rattle.pua_steps.specs.declared.steps.Entry.{Entry}
-use Rattle.pua_steps.specs.declared.steps.Row.{Row}
-use Rattle.pua_steps.specs.declared.steps.Steps.{Steps}
+use Rattle.pua_steps.specs.Table.{entries_in, missing_in}
 
 gap_more : (m next n : ℕ) → (m == 0) ≡ false → gap m next (suc n) ≡ missing_visit m next ∷ gap m (next + 1) n
 unfolding gap

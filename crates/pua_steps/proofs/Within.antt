@@ -1,16 +1,10 @@
 -- The pairs that a table of steps gives are of its letters and of calls that there are.
-use Rattle.std.proofs.Common.{ℕ, zero, suc, ◌+◌, ◌-◌, ◌<◌, ◌≤◌, List, [], ◌∷◌, ◌++◌, Option, Some, None, Bool, true, false, cond, ◌==◌}
-use Rattle.std.proofs.Common.{arith, map, flat_map, filter}
-use Rattle.std.specs.Prelude.{IfSome}
-use Rattle.std.specs.List.{range_with_len, AllByRecursion}
-use Rattle.pua_steps.specs.Calls.{has_call, calls_of}
-use Rattle.pua_steps.specs.Graph.{Pair, cons, alone, below}
-use Rattle.pua_steps.specs.Table.{visit_of, missing_visit, gap, visits_from, graph_of, missing_at, entries_at, IsEntry, IsState, IsTable}
+use Rattle.pua_steps.proofs.Common.{ℕ, zero, suc, ◌+◌, ◌-◌, ◌<◌, ◌≤◌, List, [], ◌∷◌, ◌++◌, Option, Some, None, Bool, true, false, cond}
+use Rattle.pua_steps.proofs.Common.{◌==◌, arith, map, filter, IfSome, range_with_len, AllByRecursion, has_call, calls_of, Pair, cons, alone}
+use Rattle.pua_steps.proofs.Common.{below, visit_of, missing_visit, gap, visits_from, graph_of, missing_at, entries_at, IsEntry, IsState}
+use Rattle.pua_steps.proofs.Common.{IsTable, State, Visit, Entry, Steps}
+use Rattle.std.proofs.Common.{flat_map}
 use Rattle.pua_steps.specs.Within.{IsPair, ReachIsWithin}
-use Rattle.pua_steps.specs.declared.state.State.{State}
-use Rattle.pua_steps.specs.declared.visit.Visit.{Visit}
-use Rattle.pua_steps.specs.declared.steps.Entry.{Entry}
-use Rattle.pua_steps.specs.declared.steps.Steps.{Steps}
 use Rattle.pua_steps.proofs.Closing.{Stays, states_stay}
 use Rattle.pua_steps.proofs.Visits.{visit_is}
 use Rattle.pua_steps.proofs.Base.{all_joined}

@@ -1,6 +1,4 @@
-use Rattle.std.proofs.Common.{◌≡◌, ◌+◌, ◌<◌, refl, arith, ◌∙◌, subst, inl, inr}
-use Rattle.std.proofs.lemmas.Bool.{cases_lt}
-use Rattle.std.specs.Int.{bit_at}
+use Rattle.pua_steps.proofs.Common.{◌≡◌, ◌+◌, ◌<◌, refl, arith, ◌∙◌, subst, inl, inr, cases_lt, bit_at}
 use Rattle.pua_steps.proofs.Sets.{calls_dropped}
 use Rattle.pua_steps.proofs.calls.calls_after.Goals as goal
 

@@ -1,9 +1,5 @@
-use Rattle.std.proofs.Common.{◌≡◌, ◌+◌, true, sym, subst, ◌∙◌, arith}
-use Rattle.pua_steps.specs.Lists.{narrow_of, rest_of}
-use Rattle.pua_steps.specs.Live.{live_of}
-use Rattle.pua_steps.specs.Trail.{branches}
-use Rattle.pua_steps.specs.Ready.{IsCounted, is_idle}
-use Rattle.pua_steps.specs.declared.visit.Visit.{Visit}
+use Rattle.pua_steps.proofs.Common.{◌≡◌, ◌+◌, true, sym, subst, ◌∙◌, arith, narrow_of, rest_of, live_of, branches, IsCounted, Visit}
+use Rattle.pua_steps.specs.Ready.{is_idle}
 use Rattle.pua_steps.proofs.Seeks.{counted_none, counted_one, looks_zero, found, passed, none_found}
 use Rattle.pua_steps.proofs.seek.next_visit.Goals as goal
 

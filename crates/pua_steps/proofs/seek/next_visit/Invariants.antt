@@ -1,8 +1,4 @@
-use Rattle.std.proofs.Common.{◌≡◌, ℕ, length}
-use Rattle.pua_steps.specs.Lists.{IsOpen, narrow_of, rest_of}
-use Rattle.pua_steps.specs.Live.{live_of}
-use Rattle.pua_steps.specs.Trail.{branches}
-use Rattle.pua_steps.specs.Ready.{IsCounted, looks}
+use Rattle.pua_steps.proofs.Common.{◌≡◌, ℕ, length, IsOpen, narrow_of, rest_of, live_of, branches, IsCounted, looks}
 use Rattle.pua_steps.proofs.seek.next_visit.Given as goal
 
 abbrev pub invariant-loop-visit : goal.invariant-loop-visit

@@ -1,6 +1,4 @@
-use Rattle.std.proofs.Common.{ℕ, ◌≡◌, ◌-◌, ◌<◌, ◌++◌, ◌∷◌, [], refl, ◌∙◌, arith}
-use Rattle.std.proofs.lemmas.List.{get_or_default}
-use Rattle.pua_steps.specs.declared.lists.Lists.{Lists}
+use Rattle.pua_steps.proofs.Common.{ℕ, ◌≡◌, ◌-◌, ◌<◌, ◌++◌, ◌∷◌, [], refl, ◌∙◌, arith, get_or_default, Lists}
 use Rattle.pua_steps.proofs.Listing.{longer_none, list_same, shared_layer, made_layer, listed_more}
 use Rattle.pua_steps.proofs.lists.Lists.add_layer.Goals as goal
 

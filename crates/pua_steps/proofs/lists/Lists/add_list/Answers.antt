@@ -1,11 +1,5 @@
-use Rattle.std.proofs.Common.{ℕ, ◌≡◌, ◌+◌, ◌<◌, ◌≤◌, ◌∷◌, [], None, length, drop, get_or, refl, ap, sym, ◌∙◌}
-use Rattle.std.proofs.lemmas.List.{drop_more}
-use Rattle.std.proofs.Math.ListN.{drop_of_length-le}
-use Rattle.pua_steps.specs.Lists.{list_of}
-use Rattle.pua_steps.specs.Table.{entries_at}
-use Rattle.pua_steps.specs.declared.steps.Entry.{Entry}
-use Rattle.pua_steps.specs.declared.steps.Row.{Row}
-use Rattle.pua_steps.specs.declared.steps.Steps.{Steps}
+use Rattle.pua_steps.proofs.Common.{ℕ, ◌≡◌, ◌+◌, ◌<◌, ◌≤◌, ◌∷◌, [], None, length, drop, get_or, refl, ap, sym, ◌∙◌, drop_more}
+use Rattle.pua_steps.proofs.Common.{drop_of_length-le, list_of, entries_at, Entry, Row, Steps}
 use Rattle.pua_steps.proofs.Visits.{row_entries}
 use Rattle.pua_steps.proofs.lists.Lists.add_list.Goals as goal
 

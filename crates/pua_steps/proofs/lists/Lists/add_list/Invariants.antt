@@ -1,6 +1,4 @@
-use Rattle.std.proofs.Common.{◌≡◌, ◌++◌, drop, filter}
-use Rattle.pua_steps.specs.Lists.{is_useful, list_of}
-use Rattle.pua_steps.specs.Table.{entries_at, missing_at}
+use Rattle.pua_steps.proofs.Common.{◌≡◌, ◌++◌, drop, filter, is_useful, list_of, entries_at, missing_at}
 use Rattle.pua_steps.proofs.lists.Lists.add_list.Given as goal
 
 abbrev pub invariant-loop-entry : goal.invariant-loop-entry

@@ -1,13 +1,6 @@
-use Rattle.std.proofs.Common.{ℕ, ◌≡◌, ◌+◌, ◌<◌, ◌∷◌, [], List, length, get_or, ap, sym, ◌∙◌, arith, inl, inr, subst}
-use Rattle.std.proofs.lemmas.Bool.{cases_lt}
-use Rattle.std.proofs.lemmas.List.{length_push}
+use Rattle.pua_steps.proofs.Common.{ℕ, ◌≡◌, ◌+◌, ◌<◌, ◌∷◌, [], List, length, get_or, ap, sym, ◌∙◌, arith, inl, inr, subst, cases_lt}
+use Rattle.pua_steps.proofs.Common.{length_push, AllByRecursion, list_of, IsListAt, IsLonger, IsEntry, Entry, Steps, Span}
 use Rattle.std.proofs.Math.Seq.{get_or-append_seam}
-use Rattle.std.specs.List.{AllByRecursion}
-use Rattle.pua_steps.specs.Lists.{list_of, IsListAt, IsLonger}
-use Rattle.pua_steps.specs.Table.{IsEntry}
-use Rattle.pua_steps.specs.declared.steps.Entry.{Entry}
-use Rattle.pua_steps.specs.declared.steps.Steps.{Steps}
-use Rattle.pua_steps.specs.declared.lists.Span.{Span}
 use Rattle.pua_steps.proofs.Listing.{no_span, longer_on, longer_at, list_stays, list_last, list_known}
 use Rattle.pua_steps.proofs.lists.Lists.add_lists.Goals as goal
 use Rattle.pua_steps.proofs.Base.{all_joined}

@@ -1,9 +1,4 @@
-use Rattle.std.proofs.Common.{◌≡◌, ◌<◌, ◌+◌, ℕ, length, get_or}
-use Rattle.std.specs.List.{AllByRecursion}
-use Rattle.pua_steps.specs.Lists.{list_of, IsListAt, IsLonger}
-use Rattle.pua_steps.specs.Table.{IsEntry}
-use Rattle.pua_steps.specs.declared.steps.Entry.{Entry}
-use Rattle.pua_steps.specs.declared.lists.Span.{Span}
+use Rattle.pua_steps.proofs.Common.{◌≡◌, ◌<◌, ◌+◌, ℕ, length, get_or, AllByRecursion, list_of, IsListAt, IsLonger, IsEntry, Entry, Span}
 use Rattle.pua_steps.proofs.lists.Lists.add_lists.Given as goal
 
 abbrev pub invariant-loop-dir : goal.invariant-loop-dir

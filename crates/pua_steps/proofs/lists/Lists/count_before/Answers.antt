@@ -1,11 +1,8 @@
-use Rattle.std.proofs.Common.{ℕ, zero, suc, ◌≡◌, ◌<◌, ◌≤◌, ◌+◌, ◌*◌, ◌/◌, ◌-◌, ◌^◌, ◌∙◌, refl, ap, List, length, min, get_or, take, drop}
-use Rattle.std.proofs.Common.{sym, subst, arith, pow-suc}
+use Rattle.pua_steps.proofs.Common.{ℕ, zero, suc, ◌≡◌, ◌<◌, ◌≤◌, ◌+◌, ◌*◌, ◌-◌, ◌^◌, ◌∙◌, refl, ap, List, length, min, get_or, take, drop}
+use Rattle.pua_steps.proofs.Common.{sym, subst, arith, IfSome, AllByRecursion, within, Rising, first_of, Entry}
+use Rattle.std.proofs.Common.{◌/◌}
+use Rattle.std.proofs.Common.{pow-suc}
 use Rattle.std.proofs.lemmas.List.{length-take}
-use Rattle.std.specs.Prelude.{IfSome}
-use Rattle.std.specs.List.{AllByRecursion}
-use Rattle.pua_steps.specs.Lists.{within}
-use Rattle.pua_steps.specs.Table.{Rising, first_of}
-use Rattle.pua_steps.specs.declared.steps.Entry.{Entry}
 use Rattle.pua_steps.proofs.Finding.{no_entry, upward, before_place, after_place}
 use Rattle.pua_steps.proofs.Listing.{part_is}
 use Rattle.pua_steps.proofs.lists.Lists.count_before.Goals as goal

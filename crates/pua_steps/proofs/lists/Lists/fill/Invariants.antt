@@ -1,4 +1,4 @@
-use Rattle.pua_steps.specs.Lists.{AreListsOf}
+use Rattle.pua_steps.proofs.Common.{AreListsOf}
 use Rattle.pua_steps.proofs.lists.Lists.fill.Given as goal
 
 abbrev pub invariant-loop-left : goal.invariant-loop-left

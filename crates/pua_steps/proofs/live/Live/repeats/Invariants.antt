@@ -1,4 +1,4 @@
-use Rattle.std.proofs.Common.{◌≡◌, ◌<◌, ◌+◌, ◌-◌, ◌*◌, ℕ, get_or}
+use Rattle.pua_steps.proofs.Common.{◌≡◌, ◌<◌, ◌+◌, ◌-◌, ◌*◌, ℕ, get_or}
 use Rattle.pua_steps.proofs.live.Live.repeats.Given as goal
 
 abbrev pub invariant-loop-dir : goal.invariant-loop-dir

@@ -1,4 +1,4 @@
-use Rattle.std.proofs.Common.{sym, ◌∙◌, length, arith}
+use Rattle.pua_steps.proofs.Common.{sym, ◌∙◌, length, arith}
 use Rattle.pua_steps.proofs.Finding.{part_rises, missed_open, missed_visit, missed_split, found_entry, found_open, found_visit, found_split}
 use Rattle.pua_steps.proofs.tables.Tables.find.Goals as goal
 

@@ -1,9 +1,5 @@
-use Rattle.std.proofs.Common.{ℕ, ◌∙◌, refl, length, sym, ap, arith, subst}
-use Rattle.pua_steps.specs.Lists.{narrow_of}
-use Rattle.pua_steps.specs.Live.{live_of}
-use Rattle.pua_steps.specs.Calls.{calls_of}
-use Rattle.pua_steps.specs.Trail.{pairs_of, ahead}
-use Rattle.pua_steps.specs.Ready.{AreOpen, rests_of}
+use Rattle.pua_steps.proofs.Common.{ℕ, ◌∙◌, refl, length, sym, ap, arith, subst, narrow_of, live_of, calls_of, pairs_of, ahead, AreOpen}
+use Rattle.pua_steps.proofs.Common.{rests_of}
 use Rattle.pua_steps.proofs.Narrowing.{whole_tested, tested_is}
 use Rattle.pua_steps.proofs.walk.Walk.begin.Goals as goal
 

@@ -1,15 +1,6 @@
-use Rattle.std.proofs.Common.{◌≡◌, ◌-◌, ◌∷◌, ◌++◌, [], suc, length, sym, ap, ◌∙◌, arith, ◌≤◌, subst}
-use Rattle.std.proofs.lemmas.List.{map-append, length-map}
-use Rattle.pua_steps.specs.Table.{IsState}
-use Rattle.pua_steps.specs.Lists.{narrow_of, rest_of}
-use Rattle.pua_steps.specs.Live.{live_of, entrance}
-use Rattle.pua_steps.specs.Order.{IsSplit}
-use Rattle.pua_steps.specs.Ready.{rests_of}
-use Rattle.pua_steps.specs.Resuming.{to_give}
-use Rattle.pua_steps.specs.declared.frame.Frame.{Frame}
+use Rattle.pua_steps.proofs.Common.{◌≡◌, ◌-◌, ◌∷◌, ◌++◌, [], suc, length, sym, ap, ◌∙◌, arith, ◌≤◌, subst, map-append, length-map, IsState}
+use Rattle.pua_steps.proofs.Common.{narrow_of, rest_of, live_of, entrance, IsSplit, rests_of, to_give, Frame, Visit, Walk}
 use Rattle.pua_steps.specs.declared.live.Live as table
-use Rattle.pua_steps.specs.declared.visit.Visit.{Visit}
-use Rattle.pua_steps.specs.declared.walk.Walk.{Walk}
 use Rattle.pua_steps.proofs.Narrowing.{prunes, tested_below}
 use Rattle.pua_steps.proofs.Costing.{rest_is}
 use Rattle.pua_steps.proofs.Resume.{give_on}

@@ -1,9 +1,5 @@
-use Rattle.std.proofs.Common.{◌≡◌, ◌+◌, [], length, refl, sym, ap, ◌∙◌, arith}
-use Rattle.pua_steps.specs.Lists.{narrow_of, rest_of}
-use Rattle.pua_steps.specs.Live.{live_of}
-use Rattle.pua_steps.specs.Calls.{calls_of}
-use Rattle.pua_steps.specs.Ready.{looks, trail, rests_of}
-use Rattle.pua_steps.specs.Trail.{ahead}
+use Rattle.pua_steps.proofs.Common.{◌≡◌, ◌+◌, [], length, refl, sym, ap, ◌∙◌, arith, narrow_of, rest_of, live_of, calls_of, looks, trail}
+use Rattle.pua_steps.proofs.Common.{rests_of, ahead}
 use Rattle.pua_steps.proofs.Seeks.{counted_none, counted_more, looks_zero, looks-looks, looks-length}
 use Rattle.pua_steps.proofs.Front.{front_none, front_more}
 use Rattle.pua_steps.proofs.Turning.{given_by}

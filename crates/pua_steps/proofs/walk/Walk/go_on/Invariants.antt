@@ -1,5 +1,6 @@
-use Rattle.std.proofs.Common.{◌≡◌, ◌≢◌, ℕ, length}
-use Rattle.pua_steps.specs.Ready.{IsCounted, IsReady, IsSameWalk, StaysFront, looks, trail}
+use Rattle.pua_steps.proofs.Common.{◌≡◌, ℕ, length, IsCounted, IsReady, IsSameWalk, looks, trail}
+use Rattle.std.proofs.Common.{◌≢◌}
+use Rattle.pua_steps.specs.Ready.{StaysFront}
 use Rattle.pua_steps.proofs.walk.Walk.go_on.Given as goal
 
 abbrev pub invariant-words : goal.invariant-words

@@ -1,17 +1,7 @@
-use Rattle.std.proofs.Common.{◌≡◌, ◌+◌, ◌-◌, ◌<◌, ◌≤◌, ◌∷◌, ℕ, List, length, drop, get_or, None, true, refl, sym, ap, ◌∙◌, arith, subst}
-use Rattle.std.proofs.lemmas.List.{drop_more}
-use Rattle.std.proofs.Math.ListN.{drop_of_length-le}
-use Rattle.std.specs.Prelude.{IfSome}
-use Rattle.pua_steps.specs.Calls.{calls_of}
-use Rattle.pua_steps.specs.Order.{pairs_after}
-use Rattle.pua_steps.specs.Table.{IsState}
-use Rattle.pua_steps.specs.Lists.{narrow_of}
-use Rattle.pua_steps.specs.Live.{live_of}
-use Rattle.pua_steps.specs.Trail.{pairs_of, ahead}
-use Rattle.pua_steps.specs.Ready.{rests_of}
-use Rattle.pua_steps.specs.Resuming.{to_give, to_give_after}
-use Rattle.pua_steps.specs.declared.steps.Steps.{Steps}
-use Rattle.pua_steps.specs.declared.walk.Walk.{Walk}
+use Rattle.pua_steps.proofs.Common.{◌≡◌, ◌+◌, ◌-◌, ◌<◌, ◌≤◌, ◌∷◌, ℕ, List, length, drop, get_or, None, true, refl, sym, ap, ◌∙◌, arith}
+use Rattle.pua_steps.proofs.Common.{subst, drop_more, drop_of_length-le, IfSome, calls_of, pairs_after, IsState, narrow_of, live_of}
+use Rattle.pua_steps.proofs.Common.{pairs_of, ahead, rests_of, to_give, Steps, Walk}
+use Rattle.pua_steps.specs.Resuming.{to_give_after}
 use Rattle.pua_steps.proofs.Narrowing.{prunes}
 use Rattle.pua_steps.proofs.Costing.{states_of}
 use Rattle.pua_steps.proofs.Resume.{all_index}

@@ -1,8 +1,5 @@
-use Rattle.std.proofs.Common.{◌≡◌, ◌≤◌, ◌+◌, ◌*◌, drop, length}
+use Rattle.pua_steps.proofs.Common.{◌≡◌, ◌≤◌, ◌+◌, ◌*◌, drop, length, pairs_after, pairs_of, IsReady, IsSameWalk, trail}
 use Rattle.pua_steps.specs.Limits.{search_cost}
-use Rattle.pua_steps.specs.Order.{pairs_after}
-use Rattle.pua_steps.specs.Trail.{pairs_of}
-use Rattle.pua_steps.specs.Ready.{IsReady, IsSameWalk, trail}
 use Rattle.pua_steps.specs.Resuming.{to_give_after}
 use Rattle.pua_steps.proofs.walk.Walk.go_to.Given as goal
 

@@ -1,4 +1,4 @@
-use Rattle.std.proofs.Common.{arith}
+use Rattle.pua_steps.proofs.Common.{arith}
 use Rattle.pua_steps.proofs.Costing.{pairs_by, cost_by}
 use Rattle.pua_steps.proofs.walk.Walk.next_call.Goals as goal
 

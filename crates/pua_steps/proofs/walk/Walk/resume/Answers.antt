@@ -1,7 +1,5 @@
-use Rattle.std.proofs.Common.{◌≤◌, ◌+◌, ◌*◌, length, ◌<◌, ◌∙◌, ap, sym, subst}
-use Rattle.std.specs.List.{AllByRecursion}
+use Rattle.pua_steps.proofs.Common.{◌≤◌, ◌+◌, ◌*◌, length, ◌<◌, ◌∙◌, ap, sym, subst, AllByRecursion, pairs_after}
 use Rattle.pua_steps.specs.Limits.{search_cost}
-use Rattle.pua_steps.specs.Order.{pairs_after}
 use Rattle.pua_steps.specs.declared.tables.Tables.{Tables}
 use Rattle.pua_steps.proofs.walk.Walk.resume.Goals as goal
 

@@ -1,19 +1,8 @@
-use Rattle.std.proofs.Common.{◌<◌, ◌^◌, ℕ, List, true, ◌≡◌, ◌+◌, ◌-◌, ◌≤◌, length, take, set, vec_capacity, [], ◌∷◌, ◌++◌, refl, sym, arith}
-use Rattle.std.proofs.Common.{◌∙◌, ap, subst}
-use Rattle.std.proofs.lemmas.List.{length_push}
-use Rattle.std.proofs.lemmas.Grind.{common_steps}
-use Rattle.std.specs.Prelude.{IfSome, option_to_list}
+use Rattle.pua_steps.proofs.Common.{◌<◌, ◌^◌, ℕ, List, true, ◌≡◌, ◌+◌, ◌-◌, ◌≤◌, length, take, set, vec_capacity, [], ◌∷◌, ◌++◌, refl, sym}
+use Rattle.pua_steps.proofs.Common.{arith, ◌∙◌, ap, subst, length_push, common_steps, IfSome, option_to_list, IsState, IsOpen, narrow_of}
+use Rattle.pua_steps.proofs.Common.{rest_of, live_of, calls_of, ahead, pending, IsCounted, looks, AreOpen, rests_of, Frame, Steps, Lists}
 use Rattle.pua_steps.proofs.Entering.{entered_ready}
-use Rattle.pua_steps.specs.Table.{IsState}
-use Rattle.pua_steps.specs.Lists.{IsOpen, narrow_of, rest_of}
-use Rattle.pua_steps.specs.Live.{live_of}
-use Rattle.pua_steps.specs.Calls.{calls_of}
-use Rattle.pua_steps.specs.Trail.{ahead, pending}
-use Rattle.pua_steps.specs.Ready.{IsCounted, looks, AreOpen, rests_of}
-use Rattle.pua_steps.specs.declared.frame.Frame.{Frame}
-use Rattle.pua_steps.specs.declared.steps.Steps.{Steps}
 use Rattle.pua_steps.specs.declared.live.Live as table
-use Rattle.pua_steps.specs.declared.lists.Lists.{Lists}
 use Rattle.pua_steps.proofs.Seeks.{counted_none, counted_more, looks_zero, looks-looks}
 use Rattle.pua_steps.proofs.Listing.{longer_none}
 use Rattle.pua_steps.proofs.Front.{longer_popped, front_by, front_gone}

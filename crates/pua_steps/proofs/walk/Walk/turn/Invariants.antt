@@ -1,6 +1,5 @@
-use Rattle.std.proofs.Common.{◌≡◌, ◌≤◌, ◌-◌, ℕ, None, length}
-use Rattle.pua_steps.specs.Ready.{IsCounted, looks, left_over, AreOpen, HasSoundTables, IsSameWalk}
-use Rattle.pua_steps.specs.Lists.{IsLonger}
+use Rattle.pua_steps.proofs.Common.{◌≡◌, ◌≤◌, ◌-◌, ℕ, None, length, IsCounted, looks, AreOpen, IsSameWalk, IsLonger}
+use Rattle.pua_steps.specs.Ready.{left_over, HasSoundTables}
 use Rattle.pua_steps.proofs.walk.Walk.turn.Given as goal
 
 abbrev pub invariant-loop-self : goal.invariant-loop-self
