@@ -1,20 +1,15 @@
 -- Lemmas of no one subject: tests, options, results, byte strings and lists.
-use Rattle.std.proofs.Common.{◌≡◌, ◌≢◌, ◌<◌, Bool, true, false, cond, T, ℕ, List, [], ◌∷◌, ◌++◌, map, reverse, find, Option, Some, None}
-use Rattle.std.proofs.Common.{Result, Ok, Err, ok_or, option_map, unwrap_or, is_some, is_ok, eqb, nat_cmp, refl, sym, ap, subst, ◌∙◌}
-use Rattle.std.proofs.Common.{true≢false, is_eq}
-use Rattle.std.specs.Prelude.{IsTrue}
+use Rattle.pua_tree.proofs.Common.{◌≡◌, ◌≢◌, ◌<◌, Bool, true, false, cond, T, ℕ, List, [], ◌∷◌, ◌++◌, map, reverse, Option, Some, None}
+use Rattle.pua_tree.proofs.Common.{Result, Ok, Err, option_map, unwrap_or, is_some, eqb, refl, sym, ap, subst, ◌∙◌, true≢false, IsTrue}
+use Rattle.pua_tree.proofs.Common.{Equal-is, nat_cmp_total, tied_itself, Greater, eq_by_cmp, nat_cmp-IsAntisymmetric, same_from_decides}
+use Rattle.pua_tree.proofs.Common.{map-append, reverse-append, bytes_decides, only_if, same_bytes}
+use Rattle.std.proofs.Common.{find}
+use Rattle.std.proofs.Common.{ok_or, is_ok, nat_cmp}
+use Rattle.std.proofs.Common.{is_eq}
 use Rattle.std.specs.Result.{result_ok}
-use Rattle.std.specs.Cmp.{Equal-is, nat_cmp_is, nat_cmp_total, tied_itself}
-use Rattle.std.specs.declared.cmp.Ordering.TheVariants.{Greater}
-use Rattle.std.specs.Ordering.{eq_by_cmp}
-use Rattle.std.specs.FinMap.{nat_cmp-IsAntisymmetric}
+use Rattle.std.specs.Cmp.{nat_cmp_is}
 use Rattle.std.proofs.lemmas.Bool.{eq-eqb, eqb-true}
-use Rattle.std.proofs.lemmas.Bool.Decides.{same_from_decides}
-use Rattle.std.proofs.lemmas.List.{map-append, reverse-append}
-use lib.Pointwise.{bytes_decides}
 use Rattle.pua_tree.specs.Steps.{◌>>=◌}
-use Rattle.pua_tree.specs.Listing.{only_if}
-use Rattle.pua_tree.specs.Names.{same_bytes}
 
 -- a fact as a test's answer; std's `passes` turns it round
 pub holds : (b : Bool) → T b → b ≡ true

@@ -1,9 +1,9 @@
 -- The number that digits write.
-use Rattle.std.proofs.Common.{◌≡◌, ℕ, zero, suc, ◌+◌, ◌-◌, ◌*◌, ◌<◌, ◌≤◌, List, [], ◌∷◌, length, get_or, Some, None, sym, arith, cond, leb}
-use Rattle.std.proofs.Common.{fold, take}
-use Rattle.std.proofs.lemmas.Bool.{cond-false, lt-leb}
+use Rattle.pua_tree.proofs.Common.{◌≡◌, ℕ, zero, suc, ◌+◌, ◌-◌, ◌*◌, ◌<◌, ◌≤◌, List, [], ◌∷◌, length, get_or, Some, None, sym, arith, cond}
+use Rattle.pua_tree.proofs.Common.{leb, take, cond-false, decimal_value}
+use Rattle.std.proofs.Common.{fold}
+use Rattle.std.proofs.lemmas.Bool.{lt-leb}
 use Rattle.std.proofs.lemmas.List.Sums.{fold_more}
-use Rattle.pua_tree.specs.Spelling.{decimal_value}
 
 abbrev with_digit : ℕ → ℕ → ℕ
 with_digit n b = 10 * n + (b - 48)

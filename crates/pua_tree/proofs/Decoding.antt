@@ -1,7 +1,5 @@
 -- Decoding a spelling byte by byte into a room.
-use Rattle.std.proofs.Common.{ℕ, ◌+◌, List, length, Option, Some, None}
-use Rattle.pua_tree.specs.Spelling.{bytes_spelled}
-use Rattle.pua_tree.specs.Writes.{room_after}
+use Rattle.pua_tree.proofs.Common.{ℕ, ◌+◌, List, length, Option, Some, None, bytes_spelled, room_after}
 
 -- how many bytes there are and the room with them, where some were written before
 abbrev pub added : List ℕ → ℕ → Option (List ℕ) → Option (ℕ × List ℕ)

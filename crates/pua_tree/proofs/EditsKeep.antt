@@ -1,18 +1,17 @@
 -- What an edit leaves is a tree.
-use Rattle.std.proofs.Common.{◌≡◌, ◌≢◌, ◌⊎◌, ℕ, zero, suc, ◌+◌, ◌≤◌, ◌<◌, Bool, true, false, not, ◌&&◌, cond, T, List, length, Option, Some}
-use Rattle.std.proofs.Common.{None, option_map, Ok, Err, is_some, ◌==◌, refl, sym, ap, subst, ◌∙◌, arith, inl, inr, eqb-true, eq-eqb}
+use Rattle.pua_tree.proofs.Common.{◌≡◌, ◌≢◌, ◌⊎◌, ℕ, zero, suc, ◌+◌, ◌≤◌, ◌<◌, Bool, true, false, not, ◌&&◌, cond, T, List, length, Option}
+use Rattle.pua_tree.proofs.Common.{Some, None, option_map, Ok, Err, is_some, ◌==◌, refl, sym, ap, subst, ◌∙◌, arith, inl, inr, eqb-true}
+use Rattle.pua_tree.proofs.Common.{eq-eqb, list_any, nat_cmp, nat_cmp_total, is_sorted, nat_cmp-IsAntisymmetric, is_sorted-put}
+use Rattle.pua_tree.proofs.Common.{is_sorted-where_key, and_from, and_parts, false≢true, eqb-false, is_name, Node, Spot, Tree, WellFormed}
+use Rattle.pua_tree.proofs.Common.{spot_cmp, is_dir, is_dir_kind, is_living, look, above, climb_within, row_fits, target_fits, with_row}
+use Rattle.pua_tree.proofs.Common.{without_row, without_unnamed, with_row_moved}
 use Rattle.std.proofs.Common.{ne_eqb}
-use Rattle.std.specs.List.{list_any}
-use Rattle.std.specs.Ordering.{nat_cmp}
-use Rattle.std.specs.Cmp.{nat_cmp_total}
-use Rattle.std.specs.FinMap.{find as find_key, is_sorted, nat_cmp-IsAntisymmetric}
-use Rattle.std.specs.FinMap.Entries.{is_sorted-put, is_sorted-where_key}
-use Rattle.std.proofs.lemmas.Bool.{and_from, and_parts, or_parts, not-false, false≢true, eqb-false}
-use Rattle.pua_tree.specs.Names.{is_name}
-use Rattle.pua_tree.specs.Tree.{Node, Spot, Tree, WellFormed, spot_cmp, node_at, is_dir, is_dir_kind, is_living, look, above, climb}
-use Rattle.pua_tree.specs.Tree.{climb_within, has_no_row, rows_of, row_fits, target_fits}
-use Rattle.pua_tree.specs.Edits.{with_row, without_row, without_node, without_unnamed, with_new, add, tie, cut, cut_found, shift}
-use Rattle.pua_tree.specs.Edits.{shift_found, with_row_moved, is_full_dir, is_inside, is_same_node, is_full_dir_there, has_room}
+use Rattle.std.specs.FinMap.{find as find_key}
+use Rattle.std.proofs.lemmas.Bool.{or_parts, not-false}
+use Rattle.pua_tree.specs.Tree.{node_at, climb}
+use Rattle.pua_tree.specs.Tree.{has_no_row, rows_of}
+use Rattle.pua_tree.specs.Edits.{without_node, with_new, add, tie, cut, cut_found, shift}
+use Rattle.pua_tree.specs.Edits.{shift_found, is_full_dir, is_inside, is_same_node, is_full_dir_there, has_room}
 use Rattle.pua_tree.specs.Edits.{has_name_room}
 use Rattle.pua_tree.specs.Laws.{EditsKeepTrees}
 use Rattle.pua_tree.specs.declared.fault.TreeFault.TheVariants.{Missing, Taken, NotDir, NotEmpty, Inside, Full, IsDir}

@@ -1,26 +1,22 @@
 -- The rows and nodes of a listing's entries, looked up and added to.
-use Rattle.std.proofs.Common.{◌≡◌, ℕ, suc, ◌+◌, ◌<◌, ◌≤◌, Bool, true, false, cond, not, ◌&&◌, ◌||◌, T, eqb, leb, ltb, List, [], ◌∷◌, ◌++◌}
-use Rattle.std.proofs.Common.{map, length, Option, Some, None, option_map, is_some, refl, sym, ap, subst, ◌∙◌, arith, append-nil}
-use Rattle.std.proofs.Common.{append_assoc, add-one, is_eq, nat_cmp, true≢false, inl, inr}
-use Rattle.std.specs.Prelude.{IsTrue}
-use Rattle.std.specs.List.{list_all, list_any, filter_map, cons_option}
-use Rattle.std.specs.Cmp.{Equal-is, tied_itself}
-use Rattle.std.specs.Ordering.{eq_by_cmp}
-use Rattle.std.specs.FinMap.{put, find, is_sorted}
-use Rattle.std.specs.FinMap.Entries.{find-put, length-put, is_sorted-put, same_entries, find-append, by_order}
+use Rattle.pua_tree.proofs.Common.{◌≡◌, ℕ, suc, ◌+◌, ◌<◌, ◌≤◌, Bool, true, false, cond, not, ◌&&◌, ◌||◌, T, eqb, leb, ltb, List, [], ◌∷◌}
+use Rattle.pua_tree.proofs.Common.{◌++◌, map, length, Option, Some, None, option_map, is_some, refl, sym, ap, subst, ◌∙◌, arith, append-nil}
+use Rattle.pua_tree.proofs.Common.{append_assoc, true≢false, inl, inr, IsTrue, list_all, list_any, cons_option, Equal-is, tied_itself}
+use Rattle.pua_tree.proofs.Common.{eq_by_cmp, put, find, is_sorted, find-put, is_sorted-put, same_entries, by_order, lt-ltb, ltb-true}
+use Rattle.pua_tree.proofs.Common.{ne_eqb, and_parts, and_from, or_cases, not-true, le-leb, leb-true, same_from_decides, bytes_decides}
+use Rattle.pua_tree.proofs.Common.{same_bytes, is_name, Node, Spot, spot_cmp, is_dir, is_dir_kind, is_living, Entry, is_taken}
+use Rattle.pua_tree.proofs.Common.{is_earlier_dir, is_earlier_other, last_number, tree_of, entry_fits, entries_fit, made_fits, tree_with}
+use Rattle.pua_tree.proofs.Common.{grown_by}
+use Rattle.std.proofs.Common.{add-one, is_eq, nat_cmp}
+use Rattle.std.specs.List.{filter_map}
+use Rattle.std.specs.FinMap.Entries.{length-put, find-append}
 use Rattle.std.proofs.Math.Bool.{and-false}
-use Rattle.std.proofs.lemmas.Bool.{lt-ltb, ltb-true, eq-eqb, eqb-true, ne_eqb, and_parts, and_from, or_cases, not-true, not_from_false}
-use Rattle.std.proofs.lemmas.Bool.{le-leb, leb-true}
-use Rattle.std.proofs.lemmas.Bool.Decides.{same_from_decides, Decides-eqb}
+use Rattle.std.proofs.lemmas.Bool.{eq-eqb, eqb-true, not_from_false}
+use Rattle.std.proofs.lemmas.Bool.Decides.{Decides-eqb}
 use Rattle.std.proofs.lemmas.List.{map_push}
 use Rattle.std.proofs.lemmas.List.Elements.{filter_map-append}
-use lib.Pointwise.{bytes_decides}
-use Rattle.pua_tree.specs.Names.{same_bytes, is_name}
-use Rattle.pua_tree.specs.Tree.{Node, Spot, spot_cmp, is_dir, is_dir_kind, is_living}
-use Rattle.pua_tree.specs.Listing.{Entry, is_taken, makes_dir, makes_other, is_earlier_dir, is_earlier_other, rows_of_entries, made_entry}
-use Rattle.pua_tree.specs.Listing.{root_node, last_number, tree_of}
-use Rattle.pua_tree.specs.Grammar.{entry_fits, entries_fit, made_fits}
-use Rattle.pua_tree.specs.Reading.{tree_with, grown_by}
+use Rattle.pua_tree.specs.Listing.{makes_dir, makes_other, rows_of_entries, made_entry}
+use Rattle.pua_tree.specs.Listing.{root_node}
 use Rattle.pua_tree.proofs.Base.{none, nat_tie, greater}
 use Rattle.pua_tree.proofs.Content.{spots_total, exact_spots}
 

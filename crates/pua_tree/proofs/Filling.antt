@@ -1,9 +1,7 @@
 -- Fields are taken off a line one by one, and the first six kept.
-use Rattle.std.proofs.Common.{◌≡◌, ◌≤◌, ◌&&◌, ℕ, Bool, true, false, List, [], ◌∷◌, ◌++◌, length, Option, Some, None, sym, ap, ◌∙◌, cond}
-use Rattle.std.proofs.Common.{take}
-use Rattle.std.specs.List.{list_all}
-use Rattle.std.proofs.lemmas.List.{append-nil, take_all, take-append-le}
-use Rattle.pua_tree.specs.Spelling.{is_field}
+use Rattle.pua_tree.proofs.Common.{◌≡◌, ◌≤◌, ◌&&◌, ℕ, Bool, true, false, List, [], ◌∷◌, ◌++◌, length, Option, Some, None, sym, ap, ◌∙◌}
+use Rattle.pua_tree.proofs.Common.{cond, take, list_all, take_all, is_field}
+use Rattle.std.proofs.lemmas.List.{append-nil, take-append-le}
 
 -- what becomes of fields that were kept, and those that are still to be read
 abbrev pub filled : List (List ℕ) → List (List ℕ) → Option (List (List ℕ))

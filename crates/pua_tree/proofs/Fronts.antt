@@ -1,16 +1,12 @@
 -- Names in the order of the numbers that their first bytes write.
-use Rattle.std.proofs.Common.{◌≡◌, ℕ, zero, suc, ◌+◌, ◌-◌, ◌*◌, ◌<◌, ◌≤◌, true, List, [], ◌∷◌, ◌++◌, length, get_or, replicate, refl, sym}
-use Rattle.std.proofs.Common.{ap, subst, ◌∙◌, arith, nat_lt, nat_le, true≢false}
-use Rattle.std.specs.Prelude.{IsTrue}
-use Rattle.std.specs.declared.cmp.Ordering.{Ordering}
-use Rattle.std.specs.declared.cmp.Ordering.TheVariants.{Less, Equal, Greater}
-use Rattle.std.specs.Ordering.{nat_cmp, ordering_then, MatchOrdering, is_ne}
-use Rattle.std.specs.Cmp.{ranks, nat_cmp_is, nat_cmp_total, tied_itself}
+use Rattle.pua_tree.proofs.Common.{◌≡◌, ℕ, zero, suc, ◌+◌, ◌-◌, ◌*◌, ◌<◌, ◌≤◌, true, List, [], ◌∷◌, ◌++◌, length, get_or, replicate, refl}
+use Rattle.pua_tree.proofs.Common.{sym, ap, subst, ◌∙◌, arith, nat_lt, nat_le, true≢false, IsTrue, Ordering, Less, Equal, Greater, nat_cmp}
+use Rattle.pua_tree.proofs.Common.{ordering_then, nat_cmp_total, tied_itself, list_all, and_parts, ltb-true, is_name, padded_name}
+use Rattle.std.specs.Ordering.{MatchOrdering, is_ne}
+use Rattle.std.specs.Cmp.{ranks, nat_cmp_is}
 use Rattle.std.specs.Cmp.Lexicographic.{slice_cmp}
 use Rattle.std.specs.Int.{w64, from_be_bytes}
-use Rattle.std.specs.List.{list_all}
-use Rattle.std.proofs.lemmas.Bool.{and_parts, ltb-true}
-use Rattle.pua_tree.specs.Names.{is_name, is_name_byte, front, padded_name}
+use Rattle.pua_tree.specs.Names.{is_name_byte, front}
 use Rattle.pua_tree.proofs.Base.{greater}
 
 -- eight bytes of a longer list as a number

@@ -1,10 +1,8 @@
 -- What a reader has gathered of a listing, looked up and added to.
-use Rattle.std.proofs.Common.{◌≡◌, ◌<◌, ◌≤◌, ℕ, Bool, List, [], ◌∷◌, ◌++◌, Ok, Err, true, false, is_some, ltb, refl, sym, ap, subst, ◌∙◌}
-use Rattle.std.proofs.lemmas.Bool.{le-ltb, lt-ltb}
-use Rattle.pua_tree.specs.Tree.{Tree, look}
+use Rattle.pua_tree.proofs.Common.{◌≡◌, ◌<◌, ◌≤◌, ℕ, Bool, List, [], ◌∷◌, ◌++◌, Ok, Err, true, false, is_some, ltb, refl, sym, ap, subst}
+use Rattle.pua_tree.proofs.Common.{◌∙◌, le-ltb, lt-ltb, Tree, look, is_taken, tree_of, Gathers, Follows, tree_with}
 use Rattle.pua_tree.specs.Listing as listing
-use Rattle.pua_tree.specs.Listing.{is_taken, tree_of, entry_or_fault}
-use Rattle.pua_tree.specs.Reading.{Gathers, Follows, tree_with}
+use Rattle.pua_tree.specs.Listing.{entry_or_fault}
 use Rattle.pua_tree.specs.declared.fault.ListingFault.TheVariants.{Taken, TooMany}
 use Rattle.pua_tree.proofs.ListingIsTree as trees
 use Rattle.pua_tree.proofs.Entries.{Fits, fits_from, entries_push, taken_is_found, last_number_push, tree_push}

@@ -1,14 +1,8 @@
 -- Entries put in the order of their keys: what is found in them, and how many there are of some kind.
-use Rattle.std.proofs.Common.{◌≡◌, ℕ, ◌+◌, Bool, not, cond, T, List, [], ◌∷◌, Option, Some, None, count_by, refl, sym, ap, subst, ◌∙◌}
-use Rattle.std.proofs.Common.{arith, inl, inr}
-use Rattle.std.specs.declared.cmp.Ordering.{Ordering}
-use Rattle.std.specs.declared.cmp.Ordering.TheVariants.{Less, Equal, Greater}
-use Rattle.std.specs.Ordering.{is_eq}
-use Rattle.std.specs.Cmp.{IsTotalOrder}
-use Rattle.std.specs.FinMap.{find, put, is_sorted}
-use Rattle.std.specs.FinMap.Entries.{by_order, is_sorted-put, is_sorted-where_key}
+use Rattle.pua_tree.proofs.Common.{◌≡◌, ℕ, ◌+◌, Bool, not, cond, T, List, [], ◌∷◌, Option, Some, None, count_by, refl, sym, ap, subst, ◌∙◌}
+use Rattle.pua_tree.proofs.Common.{arith, inl, inr, Ordering, Less, Equal, Greater, is_eq, IsTotalOrder, find, put, is_sorted, by_order}
+use Rattle.pua_tree.proofs.Common.{is_sorted-put, is_sorted-where_key, in_order, with_entry}
 use Rattle.std.proofs.lemmas.List.Recursion.{is_sum_by}
-use Rattle.pua_tree.specs.Slots.{in_order, with_entry}
 use Rattle.pua_tree.proofs.Base.{Some≢None}
 use Rattle.pua_tree.proofs.Tallies.{one, same_or_other, without, absent, sorted_head, sorted_tail}
 

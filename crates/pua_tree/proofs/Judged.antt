@@ -1,16 +1,12 @@
 -- How a line is judged by what the lines before it have gathered.
-use Rattle.std.proofs.Common.{◌≡◌, ℕ, Bool, not, ◌&&◌, List, [], Option, Some, None, Ok, Err, IsTrue, ltb, refl, ap, ◌∙◌}
-use Rattle.pua_tree.specs.Names.{is_target}
-use Rattle.pua_tree.specs.Spelling.{name_of, number_within, bytes_spelled}
-use Rattle.pua_tree.specs.Tree.{Node, Tree, is_dir, is_living}
+use Rattle.pua_tree.proofs.Common.{◌≡◌, ℕ, Bool, not, ◌&&◌, List, [], Option, Some, None, Ok, Err, ltb, refl, ap, ◌∙◌, is_target, name_of}
+use Rattle.pua_tree.proofs.Common.{number_within, bytes_spelled, Node, Tree, is_dir, is_living, ListingLine, only_if, number_in, parent_in}
+use Rattle.pua_tree.proofs.Common.{hard_node_in, node_of, listing_line, entry_of, last_number, is_earlier_dir, is_earlier_other, Gathers}
+use Rattle.pua_tree.proofs.Common.{Kind, Link, ListingFault}
+use Rattle.std.proofs.Common.{IsTrue}
 use Rattle.pua_tree.specs.Listing as listing
-use Rattle.pua_tree.specs.Listing.{ListingLine, only_if, number_in, parent_in, hard_node_in, node_of, listing_line, entry_of}
-use Rattle.pua_tree.specs.Listing.{entry_or_fault, last_number, is_earlier_dir, is_earlier_other}
-use Rattle.pua_tree.specs.Reading.{Gathers}
-use Rattle.pua_tree.specs.declared.node.Kind.{Kind}
-use Rattle.pua_tree.specs.declared.node.Kind.TheVariants.{Link}
+use Rattle.pua_tree.specs.Listing.{entry_or_fault}
 use Rattle.pua_tree.specs.declared.fault.NameFault.{NameFault}
-use Rattle.pua_tree.specs.declared.fault.ListingFault.{ListingFault}
 use Rattle.pua_tree.specs.declared.fault.ListingFault.TheVariants.{BadParent, BadName, BadNode}
 use Rattle.pua_tree.proofs.Base.{only_if_same}
 use Rattle.pua_tree.proofs.Entries.{entries_rise, earlier_dir_is_found, earlier_other_is_found}

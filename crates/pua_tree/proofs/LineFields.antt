@@ -1,12 +1,10 @@
 -- A line by the first six of its fields.
-use Rattle.std.proofs.Common.{◌≡◌, ◌<◌, ◌≤◌, ◌⊎◌, ℕ, Bool, true, false, List, [], ◌∷◌, length, get_or, map, Option, Some, None, refl, sym}
-use Rattle.std.proofs.Common.{ap, ◌∙◌, arith, cond, take, inl, inr, option_map}
+use Rattle.pua_tree.proofs.Common.{◌≡◌, ◌<◌, ◌≤◌, ◌⊎◌, ℕ, Bool, true, false, List, [], ◌∷◌, length, get_or, map, Option, Some, None, refl}
+use Rattle.pua_tree.proofs.Common.{sym, ap, ◌∙◌, arith, cond, take, inl, inr, option_map, list_all, fields, is_field, ListingLine}
+use Rattle.pua_tree.proofs.Common.{listing_line, line_of_fields, Kind}
 use Rattle.std.specs.Borrow.{Bor}
-use Rattle.std.specs.List.{list_all}
 use Rattle.pua_tree.specs.Fields.{first_fields}
-use Rattle.pua_tree.specs.Spelling.{fields, is_field}
-use Rattle.pua_tree.specs.Listing.{ListingLine, listing_line, line_of_fields, plain_kind, long_kind}
-use Rattle.pua_tree.specs.declared.node.Kind.{Kind}
+use Rattle.pua_tree.specs.Listing.{plain_kind, long_kind}
 
 -- a line with six fields or more is none
 line_of_fields-take : (hard : Bool) (all : List (List ℕ)) → line_of_fields hard all ≡ line_of_fields hard (take 6 all)

@@ -1,22 +1,15 @@
 -- Edits of the lists that hold a tree, as edits of the tree.
-use Rattle.std.proofs.Common.{◌≡◌, ◌≤◌, ℕ, ◌+◌, ◌++◌, ltb, IsTrue, true, false, not, ◌&&◌, ◌||◌, cond, List, [], ◌∷◌, map, Option, Some}
-use Rattle.std.proofs.Common.{None, option_map, ◌==◌, count_by, eqb, refl, sym, ap, ◌∙◌}
-use Rattle.std.specs.List.{list_all, list_any, cons_option}
-use Rattle.std.specs.Ordering.{nat_cmp, is_eq}
-use Rattle.std.specs.FinMap.{is_sorted, put}
-use Rattle.std.specs.FinMap.Entries.{where_key, is_sorted-where_key}
-use Rattle.std.proofs.lemmas.Bool.{and_parts, and_from}
+use Rattle.pua_tree.proofs.Common.{◌≡◌, ◌≤◌, ℕ, ◌+◌, ◌++◌, ltb, true, false, not, ◌&&◌, ◌||◌, cond, List, [], ◌∷◌, map, Option, Some, None}
+use Rattle.pua_tree.proofs.Common.{option_map, ◌==◌, count_by, eqb, refl, sym, ap, ◌∙◌, list_all, list_any, cons_option, nat_cmp, is_eq}
+use Rattle.pua_tree.proofs.Common.{is_sorted, put, where_key, is_sorted-where_key, and_parts, and_from, sum_by-zero, WellFormed}
+use Rattle.pua_tree.proofs.Common.{without_row, without_unnamed, with_row, Entry, Enters, grown_by, row_entry, node_entry, held_tree}
+use Rattle.pua_tree.proofs.Common.{ListRow, passes}
+use Rattle.std.proofs.Common.{IsTrue}
 use Rattle.std.proofs.lemmas.List.{append-nil}
-use Rattle.std.proofs.lemmas.List.Folds.{sum_by-zero}
 use Rattle.pua_tree.specs.Tree as tree
-use Rattle.pua_tree.specs.Tree.{WellFormed, node_fits}
-use Rattle.pua_tree.specs.Edits.{without_row, without_unnamed, without_node, with_row}
-use Rattle.pua_tree.specs.Listing.{Entry}
-use Rattle.pua_tree.specs.Reading.{Enters, grown_by}
-use Rattle.pua_tree.specs.ListTree.{row_entry, node_entry, held_tree}
-use Rattle.pua_tree.specs.declared.list.ListRow.{ListRow}
+use Rattle.pua_tree.specs.Tree.{node_fits}
+use Rattle.pua_tree.specs.Edits.{without_node}
 use Rattle.pua_tree.specs.declared.list.ListNode.{ListNode}
-use Rattle.std.specs.Bool.{passes}
 use Rattle.pua_tree.proofs.Base.{holds}
 use Rattle.pua_tree.proofs.Entries.{put_last}
 use Rattle.pua_tree.proofs.Raised.{raised_keeps}

@@ -1,25 +1,25 @@
 -- A listing is read as the entries that its lines spell, and as nothing else.
-use Rattle.std.proofs.Common.{◌≡◌, ℕ, suc, ◌+◌, ◌<◌, ◌≤◌, Bool, true, false, cond, not, ◌&&◌, leb, ltb, List, [], ◌∷◌, ◌++◌, map, length}
-use Rattle.std.proofs.Common.{Option, Some, None, Result, Ok, Err, ok_or, option_map, decimal, codes, refl, sym, ap, subst, ◌∙◌, arith}
-use Rattle.std.proofs.Common.{append-nil, append_assoc, true≢false}
-use Rattle.std.specs.Prelude.{IsTrue}
-use Rattle.std.specs.List.{list_all, join_with_byte}
+use Rattle.pua_tree.proofs.Common.{◌≡◌, ℕ, suc, ◌+◌, ◌<◌, ◌≤◌, Bool, true, false, cond, not, ◌&&◌, leb, ltb, List, [], ◌∷◌, ◌++◌, map}
+use Rattle.pua_tree.proofs.Common.{length, Option, Some, None, Result, Ok, Err, option_map, refl, sym, ap, subst, ◌∙◌, arith, append-nil}
+use Rattle.pua_tree.proofs.Common.{append_assoc, true≢false, IsTrue, list_all, lt-ltb, ltb-true, ltb-false, le-ltb, and_parts, and_from}
+use Rattle.pua_tree.proofs.Common.{cond-true, cond-false, length-append, is_name, is_target, has_byte, same_bytes, bytes_spelled, name_of}
+use Rattle.pua_tree.proofs.Common.{fields, is_field, number_within, Node, Tree, WellFormed, Entry, ListingLine, line_of_fields}
+use Rattle.pua_tree.proofs.Common.{listing_line, last_number, is_earlier_dir, is_earlier_other, only_if, number_in, parent_in, hard_node_in}
+use Rattle.pua_tree.proofs.Common.{node_of, is_taken, entry_of, tree_of, made_fits, entry_fits, entries_fit, Kind, Dir, File, Prog, Link}
+use Rattle.pua_tree.proofs.Common.{ListingFault}
+use Rattle.std.proofs.Common.{ok_or, decimal, codes}
+use Rattle.std.specs.List.{join_with_byte}
 use Rattle.std.specs.Str.Lines.{lines}
 use Rattle.std.specs.Result.{result_ok}
-use Rattle.std.proofs.lemmas.Bool.{lt-ltb, ltb-true, ltb-false, le-ltb, eq-eqb, eqb-true, and_parts, and_from, cond-true, cond-false}
-use Rattle.std.proofs.lemmas.List.{length-append}
-use Rattle.pua_tree.specs.Names.{is_name, is_target, has_byte, has_short_components, same_bytes}
-use Rattle.pua_tree.specs.Spelling.{spelling, bytes_spelled, name_of, fields, is_field, number_within}
+use Rattle.std.proofs.lemmas.Bool.{eq-eqb, eqb-true}
+use Rattle.pua_tree.specs.Names.{has_short_components}
+use Rattle.pua_tree.specs.Spelling.{spelling}
 use Rattle.pua_tree.specs.Steps.{◌>>=◌}
-use Rattle.pua_tree.specs.Tree.{Node, Tree, WellFormed}
-use Rattle.pua_tree.specs.Listing.{Entry, ListingLine, plain_kind, long_kind, line_of_fields, listing_line, last_number, is_earlier_dir}
-use Rattle.pua_tree.specs.Listing.{is_earlier_other, only_if, number_in, parent_in, hard_node_in, target_in, node_of, is_taken, entry_of}
-use Rattle.pua_tree.specs.Listing.{entries_of, tree_of, header, after_header, listing_of_lines}
-use Rattle.pua_tree.specs.Grammar.{listing_kind_word, line_word, target_field, last_field, entry_text, target_stands, made_fits, entry_fits}
-use Rattle.pua_tree.specs.Grammar.{entries_fit, header_text, ListingsAreRead, SecondFormsAgree, ListingsListTrees, SpellingsAreRead}
-use Rattle.pua_tree.specs.declared.node.Kind.{Kind}
-use Rattle.pua_tree.specs.declared.node.Kind.TheVariants.{Dir, File, Prog, Link}
-use Rattle.pua_tree.specs.declared.fault.ListingFault.{ListingFault}
+use Rattle.pua_tree.specs.Listing.{plain_kind, long_kind}
+use Rattle.pua_tree.specs.Listing.{target_in}
+use Rattle.pua_tree.specs.Listing.{entries_of, header, after_header, listing_of_lines}
+use Rattle.pua_tree.specs.Grammar.{listing_kind_word, line_word, target_field, last_field, entry_text, target_stands}
+use Rattle.pua_tree.specs.Grammar.{header_text, ListingsAreRead, SecondFormsAgree, ListingsListTrees, SpellingsAreRead}
 use Rattle.pua_tree.specs.declared.fault.ListingFault.TheVariants.{BadHeader, BadLine, BadNumber, BadParent, BadName, BadTarget, Taken}
 use Rattle.pua_tree.specs.declared.fault.ListingFault.TheVariants.{TooMany, BadNode}
 use Rattle.pua_tree.proofs.Base.{same_Some, None≢Some, Some≢None, mapped, Err≢Ok, same_Ok, past, passed, ok_or_read, result_ok_read}

@@ -1,14 +1,11 @@
 -- What a listing describes is a tree.
-use Rattle.std.proofs.Common.{◌≡◌, ℕ, ◌+◌, Bool, true, false, ltb, List, [], ◌∷◌, ◌++◌, length, Option, Some, None, is_some, refl, sym}
-use Rattle.std.proofs.Common.{subst, ◌∙◌, arith, append-nil, append_assoc}
-use Rattle.std.specs.Prelude.{IsTrue}
-use Rattle.std.proofs.lemmas.Bool.{lt-ltb, eqb-true, and_parts, not-true}
-use Rattle.pua_tree.specs.Tree.{Node, WellFormed, is_dir, is_living, look, target_fits}
-use Rattle.pua_tree.specs.Listing.{Entry, rows_of_entries, tree_of}
-use Rattle.pua_tree.specs.Grammar.{entry_fits, entries_fit, made_fits, target_stands}
-use Rattle.pua_tree.specs.Reading.{Follows, Enters}
-use Rattle.pua_tree.specs.declared.node.Kind.{Kind}
-use Rattle.pua_tree.specs.declared.node.Kind.TheVariants.{Dir, File, Prog, Link}
+use Rattle.pua_tree.proofs.Common.{◌≡◌, ℕ, ◌+◌, Bool, true, false, ltb, List, [], ◌∷◌, ◌++◌, length, Option, Some, None, is_some, refl, sym}
+use Rattle.pua_tree.proofs.Common.{subst, ◌∙◌, arith, append-nil, append_assoc, IsTrue, lt-ltb, and_parts, not-true, Node, WellFormed}
+use Rattle.pua_tree.proofs.Common.{is_dir, is_living, look, target_fits, Entry, tree_of, entry_fits, entries_fit, made_fits, Follows}
+use Rattle.pua_tree.proofs.Common.{Enters, Kind, Dir, File, Prog, Link}
+use Rattle.std.proofs.lemmas.Bool.{eqb-true}
+use Rattle.pua_tree.specs.Listing.{rows_of_entries}
+use Rattle.pua_tree.specs.Grammar.{target_stands}
 use Rattle.pua_tree.proofs.Raised.{grown_keeps}
 use Rattle.pua_tree.proofs.Entries.{Fits, fits_parts, entries_rise, entries_push, earlier_dir_is_found, earlier_other_is_found}
 use Rattle.pua_tree.proofs.Entries.{taken_is_found, rows_few, tree_push}

@@ -1,11 +1,7 @@
 -- How a name is kept in an array.
-use Rattle.std.proofs.Common.{◌≡◌, ◌≢◌, ◌==◌, ℕ, ◌-◌, ◌<◌, ◌≤◌, true, false, List, length, take, replicate, refl, sym, ap, ◌∙◌, arith}
-use Rattle.std.proofs.Common.{nat_lt, Some, Err}
-use Rattle.std.proofs.lemmas.Bool.{cond-true, cond-false, ne_eqb, lt-ltb}
-use Rattle.std.proofs.lemmas.List.{take_at}
-use Rattle.pua_tree.specs.Names.{has_byte, padded_name}
-use Rattle.pua_tree.specs.Spelling.{name_of, name_of_bytes, bytes_spelled}
-use Rattle.pua_tree.specs.Writes.{room_after}
+use Rattle.pua_tree.proofs.Common.{◌≡◌, ◌≢◌, ◌==◌, ℕ, ◌-◌, ◌<◌, ◌≤◌, true, false, List, length, take, replicate, refl, sym, ap, ◌∙◌, arith}
+use Rattle.pua_tree.proofs.Common.{nat_lt, Some, Err, cond-true, cond-false, ne_eqb, lt-ltb, take_at, has_byte, padded_name, name_of}
+use Rattle.pua_tree.proofs.Common.{name_of_bytes, bytes_spelled, room_after}
 use Rattle.pua_tree.specs.declared.fault.NameFault.TheVariants.{BadSpelling, TooLong}
 use Rattle.pua_tree.proofs.Overwriting.{overwritten-zeros}
 use Rattle.pua_tree.proofs.Slashes.{has_slash-unspelled}

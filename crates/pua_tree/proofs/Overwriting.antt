@@ -1,9 +1,9 @@
 -- What a write of bytes into a room of a fixed length leaves.
-use Rattle.std.proofs.Common.{◌≡◌, ℕ, suc, ◌≤◌, List, [], ◌∷◌, ◌++◌, length, take, drop, set, replicate, refl, sym, ap, ◌∙◌, arith}
-use Rattle.std.proofs.lemmas.List.{set_past, set_at, append_assoc, append-nil, length_push, length-append, drop_all, take_all}
+use Rattle.pua_tree.proofs.Common.{◌≡◌, ℕ, suc, ◌≤◌, List, [], ◌∷◌, ◌++◌, length, take, drop, replicate, refl, sym, ap, ◌∙◌, arith}
+use Rattle.pua_tree.proofs.Common.{length-append, take_all, padded_name, room_after}
+use Rattle.std.proofs.Common.{set}
+use Rattle.std.proofs.lemmas.List.{set_past, set_at, append_assoc, append-nil, length_push, drop_all}
 use Rattle.std.proofs.lemmas.List.{drop-replicate, length-replicate}
-use Rattle.pua_tree.specs.Names.{padded_name}
-use Rattle.pua_tree.specs.Writes.{room_after}
 
 -- past the room nothing is written
 overwritten-past : (room : List ℕ) (at : ℕ) (bytes : List ℕ) → length room ≤ at → room_after room at bytes ≡ room

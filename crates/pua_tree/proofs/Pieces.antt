@@ -1,8 +1,8 @@
 -- The pieces of a text between separators.
-use Rattle.std.proofs.Common.{◌≡◌, ◌≤◌, ◌&&◌, ◌==◌, ℕ, ◌+◌, Bool, true, false, List, [], ◌∷◌, length, Some, None, refl, ap, ◌∙◌, arith}
-use Rattle.std.proofs.Common.{cond, not, suc, nat_lt, nat_le, take, drop, sym}
-use Rattle.std.specs.List.{list_all, filter, slice_split, position, position_or_len, onto_first}
-use Rattle.std.proofs.lemmas.Bool.{and_from, cond-true, le-leb, lt-ltb, ltb-true, ltb-false}
+use Rattle.pua_tree.proofs.Common.{◌≡◌, ◌≤◌, ◌&&◌, ◌==◌, ℕ, ◌+◌, Bool, true, false, List, [], ◌∷◌, length, Some, None, refl, ap, ◌∙◌, arith}
+use Rattle.pua_tree.proofs.Common.{cond, not, suc, nat_lt, nat_le, take, drop, sym, list_all, slice_split, onto_first, and_from, cond-true}
+use Rattle.pua_tree.proofs.Common.{le-leb, lt-ltb, ltb-true, ltb-false}
+use Rattle.std.specs.List.{filter, position, position_or_len}
 use Rattle.std.proofs.lemmas.List.Splits.{slice_split_first}
 use Rattle.pua_tree.specs.Names.{has_short_components}
 use Rattle.pua_tree.proofs.Base.{guarded}

@@ -1,16 +1,15 @@
 -- Where a key stands among entries in order, as a binary search finds it.
-use Rattle.std.proofs.Common.{◌≡◌, ◌≢◌, ◌<◌, ◌≤◌, ℕ, zero, suc, List, [], ◌∷◌, length, get_or, set, not, map, Some, None, Result, Ok, Err}
-use Rattle.std.proofs.Common.{IfOk, IfErr, Bool, true, false, cond, T, IsTrue, ◌&&◌, refl, sym, ap, subst, ◌∙◌, inl, inr, arith}
+use Rattle.pua_tree.proofs.Common.{◌≡◌, ◌≢◌, ◌<◌, ◌≤◌, ℕ, zero, suc, List, [], ◌∷◌, length, get_or, not, map, Some, None, Result, Ok, Err}
+use Rattle.pua_tree.proofs.Common.{Bool, true, false, cond, T, ◌&&◌, refl, sym, ap, subst, ◌∙◌, inl, inr, arith, Ordering, Less, Equal}
+use Rattle.pua_tree.proofs.Common.{Greater, passes, is_eq, is_lt, IsTotalOrder, tied_itself, find, put, is_sorted, where_key, below_all}
+use Rattle.pua_tree.proofs.Common.{by_order}
+use Rattle.std.proofs.Common.{set}
+use Rattle.std.proofs.Common.{IfOk, IfErr, IsTrue}
 use Rattle.std.proofs.lemmas.Bool.{cases_lt}
 use Rattle.std.specs.List.{insert, remove, HoldsAt}
 use Rattle.std.specs.List.Sorted.{IsNonDecreasingBy, IsBinarySearchResult, IsSearchInRange}
-use Rattle.std.specs.declared.cmp.Ordering.{Ordering}
-use Rattle.std.specs.declared.cmp.Ordering.TheVariants.{Less, Equal, Greater}
-use Rattle.std.specs.Bool.{passes}
-use Rattle.std.specs.Ordering.{is_eq, is_lt, ordering_reverse, ordering_index}
-use Rattle.std.specs.Cmp.{IsTotalOrder, tied_itself, alike_right}
-use Rattle.std.specs.FinMap.{find, put, is_sorted}
-use Rattle.std.specs.FinMap.Entries.{where_key, below_all, by_order}
+use Rattle.std.specs.Ordering.{ordering_reverse, ordering_index}
+use Rattle.std.specs.Cmp.{alike_right}
 
 pub left : (a b : Bool) → T (a && b) → T a
 left true b h = tt

@@ -1,8 +1,6 @@
 -- A tree whose next number is raised is a tree.
-use Rattle.std.proofs.Common.{◌≤◌, ◌+◌, ℕ, zero, suc, Option, Some, None, refl, arith}
-use Rattle.pua_tree.specs.Tree.{Node, Tree, WellFormed, above}
-use Rattle.pua_tree.specs.Listing.{Entry}
-use Rattle.pua_tree.specs.Reading.{Follows, Enters, tree_with, grown_by}
+use Rattle.pua_tree.proofs.Common.{◌≤◌, ◌+◌, ℕ, zero, suc, Option, Some, None, refl, arith, Node, Tree, WellFormed, above, Entry, Follows}
+use Rattle.pua_tree.proofs.Common.{Enters, tree_with, grown_by}
 use Rattle.pua_tree.proofs.EditsKeep.{edits_keep_trees}
 use Rattle.pua_tree.proofs.Sound.{Sound, Reaches, sound_from, well_formed_from}
 

@@ -1,27 +1,21 @@
 -- What rows in order say of a directory and of a node.
-use Rattle.std.proofs.Common.{◌≡◌, ◌<◌, ◌≤◌, ℕ, zero, suc, List, [], ◌∷◌, ◌++◌, length, get_or, map, Option, Some, None, Result, Ok, Err}
-use Rattle.std.proofs.Common.{Bool, true, false, not, cond, ◌&&◌, ◌||◌, ◌==◌, ◌≢◌, T, IsTrue, unwrap_or, option_map, find, refl, sym, ap}
-use Rattle.std.proofs.Common.{◌∙◌, inl, inr, arith, is_ok, reverse, Bor}
-use Rattle.std.specs.List.{list_all, list_any}
+use Rattle.pua_tree.proofs.Common.{◌≡◌, ◌<◌, ◌≤◌, ℕ, zero, suc, List, [], ◌∷◌, ◌++◌, length, get_or, map, Option, Some, None, Result, Ok}
+use Rattle.pua_tree.proofs.Common.{Err, Bool, true, false, not, cond, ◌&&◌, ◌||◌, ◌==◌, ◌≢◌, T, unwrap_or, option_map, refl, sym, ap, ◌∙◌}
+use Rattle.pua_tree.proofs.Common.{inl, inr, arith, reverse, list_all, list_any, Less, Equal, Greater, nat_cmp, ordering_then, is_sorted}
+use Rattle.pua_tree.proofs.Common.{nat_cmp-IsAntisymmetric, map-append, reverse-append, by_order, Spot, Tree, distinct_names, spot_cmp}
+use Rattle.pua_tree.proofs.Common.{name_cmp, above, is_dir, is_living, row_fits, is_name, row_entry, lent_entry, ListRow, passes}
+use Rattle.std.proofs.Common.{IsTrue, find}
+use Rattle.std.proofs.Common.{is_ok, Bor}
 use Rattle.std.specs.List.Sorted.{IsNonDecreasingBy, IsBinarySearchResult, IsSearchInRange}
-use Rattle.std.specs.declared.cmp.Ordering.TheVariants.{Less, Equal, Greater}
-use Rattle.std.specs.Ordering.{nat_cmp, ordering_index, ordering_then}
-use Rattle.std.specs.FinMap.{is_sorted, nat_cmp-IsAntisymmetric}
+use Rattle.std.specs.Ordering.{ordering_index}
 use Rattle.std.proofs.lemmas.Bool.{cases_lt}
-use Rattle.std.proofs.lemmas.List.{map-append, reverse-append}
 use Rattle.std.specs.BTreeSet.{insert_key}
 use Rattle.std.specs.Ordering.{match_ordering}
-use Rattle.std.specs.FinMap.Entries.{by_order}
 use Rattle.std.proofs.lemmas.Bool.Decides.{nat_tests}
-use Rattle.pua_tree.specs.Tree.{Spot, Tree, with_name, distinct_names, spot_cmp, name_cmp, spot_of, above, is_dir, is_living, row_fits}
-use Rattle.pua_tree.specs.Names.{is_name}
-use Rattle.pua_tree.specs.ListTree.{row_entry}
-use Rattle.pua_tree.specs.LentRows.{lent_entry}
-use Rattle.pua_tree.specs.declared.list.ListRow.{ListRow}
+use Rattle.pua_tree.specs.Tree.{with_name, spot_of}
 use Rattle.pua_tree.specs.declared.tree.LentRow.{LentRow}
 use Rattle.pua_tree.proofs.Base.{find-map}
 use Rattle.pua_tree.proofs.Content.{spots_total}
-use Rattle.std.specs.Bool.{passes}
 use Rattle.pua_tree.proofs.Places.{left, right, rises}
 
 -- of two spots in order the later is of no lower directory

@@ -1,26 +1,21 @@
 -- What edits of a tree in slots rest on, by what the tree is.
-use Rattle.std.proofs.Common.{◌≡◌, ◌≢◌, ◌≤◌, ℕ, ◌+◌, Bool, true, false, not, ◌==◌, cond, T, List, Option, Some, None, option_map, is_some}
-use Rattle.std.proofs.Common.{refl, sym, ap, ◌∙◌, arith, inl, inr, eqb, eqb-true, eq-eqb, ne_eqb, Ok}
-use Rattle.std.specs.Prelude.{IfSome, IsSome, option_and_then}
-use Rattle.std.specs.Ordering.{nat_cmp, is_eq}
-use Rattle.std.specs.FinMap.{find, put, is_sorted}
-use Rattle.std.specs.FinMap.Entries.{where_key, is_sorted-put, is_sorted-where_key, same_entries}
-use Rattle.std.proofs.lemmas.Bool.{false≢true}
-use Rattle.std.proofs.lemmas.List.Folds.{sum_by-zero}
+use Rattle.pua_tree.proofs.Common.{◌≡◌, ◌≢◌, ◌≤◌, ℕ, ◌+◌, Bool, true, false, not, ◌==◌, cond, T, List, Option, Some, None, option_map}
+use Rattle.pua_tree.proofs.Common.{is_some, refl, sym, ap, ◌∙◌, arith, inl, inr, eqb, eqb-true, eq-eqb, Ok, IfSome, IsSome, option_and_then}
+use Rattle.pua_tree.proofs.Common.{nat_cmp, is_eq, find, put, is_sorted, where_key, is_sorted-put, is_sorted-where_key, same_entries}
+use Rattle.pua_tree.proofs.Common.{false≢true, sum_by-zero, Tree, WellFormed, spot_cmp, is_dir, is_dir_kind, is_living, look, Entry, Enters}
+use Rattle.pua_tree.proofs.Common.{grown_by, row_at, slot_of, node_in, made_of, held_rows, held_nodes, held_in_slots, rows_in, names_of}
+use Rattle.pua_tree.proofs.Common.{AreConsistent, Dir, Slots, SlotNode}
+use Rattle.std.proofs.Common.{ne_eqb}
 use Rattle.slab.specs.Slab.{get as slot_get}
 use Rattle.pua_tree.specs.Tree as tree
-use Rattle.pua_tree.specs.Tree.{Tree, WellFormed, spot_cmp, is_dir, is_dir_kind, is_living, look, empty_tree}
+use Rattle.pua_tree.specs.Tree.{empty_tree}
 use Rattle.pua_tree.specs.Edits.{add, tie}
-use Rattle.pua_tree.specs.Listing.{Entry}
-use Rattle.pua_tree.specs.Reading.{Enters, grown_by, said_node}
+use Rattle.pua_tree.specs.Reading.{said_node}
 use Rattle.pua_tree.specs.declared.gathered.MadeNode.{MadeNode}
 use Rattle.pua_tree.proofs.Raised.{raised_keeps}
 use Rattle.pua_tree.specs.declared.fault.TreeFault.TheVariants.{NotDir, Taken, Missing, IsDir}
-use Rattle.pua_tree.specs.Slots.{row_at, slot_of, node_in, made_of, held_rows, held_nodes, held_in_slots, rows_in, names_of, one_at}
-use Rattle.pua_tree.specs.Slots.{AreConsistent, IsNew, MayStand, with_made}
-use Rattle.pua_tree.specs.declared.node.Kind.TheVariants.{Dir}
-use Rattle.pua_tree.specs.declared.slots.Slots.{Slots}
-use Rattle.pua_tree.specs.declared.slots.SlotNode.{SlotNode}
+use Rattle.pua_tree.specs.Slots.{one_at}
+use Rattle.pua_tree.specs.Slots.{IsNew, MayStand, with_made}
 use Rattle.pua_tree.proofs.Base.{mapped, none, past}
 use Rattle.pua_tree.proofs.Content.{spots_total, exact_spots}
 use Rattle.pua_tree.proofs.Tallies.{tally_counts, all_from_found, same_or_other, put_here, put_elsewhere, without_here, without_elsewhere}

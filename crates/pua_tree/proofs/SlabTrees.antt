@@ -1,16 +1,10 @@
 -- A tree in slots, looked up by what each node knows of how it stands.
-use Rattle.std.proofs.Common.{◌≡◌, ℕ, Bool, true, false, not, ◌&&◌, ◌||◌, ◌==◌, cond, List, [], ◌∷◌, Option, Some, None, option_map, refl}
-use Rattle.std.proofs.Common.{sym, ap, subst, ◌∙◌, eqb, eqb-true}
-use Rattle.std.specs.Prelude.{IfSome, option_and_then}
-use Rattle.std.specs.List.{list_any, list_all}
-use Rattle.std.proofs.lemmas.Bool.{eqb-false, false≢true}
-use Rattle.std.proofs.lemmas.List.Folds.{sum_by-zero}
+use Rattle.pua_tree.proofs.Common.{◌≡◌, ℕ, Bool, true, false, not, ◌&&◌, ◌||◌, ◌==◌, cond, List, [], ◌∷◌, Option, Some, None, option_map}
+use Rattle.pua_tree.proofs.Common.{refl, sym, ap, subst, ◌∙◌, eqb, eqb-true, IfSome, option_and_then, list_any, list_all, eqb-false}
+use Rattle.pua_tree.proofs.Common.{false≢true, sum_by-zero, Tree, WellFormed, spot_cmp, kind_at, is_dir, is_dir_kind, above, node_in}
+use Rattle.pua_tree.proofs.Common.{made_of, held_rows, held_in_slots, AreConsistent, Dir, Slots, SlotNode}
 use Rattle.pua_tree.specs.Tree as tree
-use Rattle.pua_tree.specs.Tree.{Tree, WellFormed, spot_cmp, kind_at, target_at, parent, is_empty, is_dir, is_dir_kind, above, has_no_row}
-use Rattle.pua_tree.specs.Slots.{node_in, made_of, held_rows, held_in_slots, AreConsistent}
-use Rattle.pua_tree.specs.declared.node.Kind.TheVariants.{Dir}
-use Rattle.pua_tree.specs.declared.slots.Slots.{Slots}
-use Rattle.pua_tree.specs.declared.slots.SlotNode.{SlotNode}
+use Rattle.pua_tree.specs.Tree.{target_at, parent, is_empty, has_no_row}
 use Rattle.pua_tree.proofs.SlotsHold.{nodes_found}
 use Rattle.pua_tree.proofs.Sound.{sound_from, row_of, dir_kind}
 

@@ -1,10 +1,10 @@
 -- A slash stands for itself, so a spelling has one exactly where its bytes have one.
-use Rattle.std.proofs.Common.{◌≡◌, ◌≢◌, ℕ, ◌+◌, ◌-◌, ◌*◌, Bool, true, false, ◌&&◌, ◌||◌, ◌==◌, List, [], ◌∷◌, Option, Some, None, refl, sym}
-use Rattle.std.proofs.Common.{ap, ◌∙◌, arith, cond, inl, inr, subst, nat_le, not}
-use Rattle.std.proofs.lemmas.Bool.{cases_eq, ne_eqb, and_parts}
+use Rattle.pua_tree.proofs.Common.{◌≡◌, ◌≢◌, ℕ, ◌+◌, ◌-◌, ◌*◌, Bool, true, false, ◌&&◌, ◌||◌, ◌==◌, List, [], ◌∷◌, Option, Some, None, refl}
+use Rattle.pua_tree.proofs.Common.{sym, ap, ◌∙◌, arith, cond, inl, inr, subst, nat_le, not, ne_eqb, and_parts, has_byte, bytes_spelled}
+use Rattle.pua_tree.proofs.Common.{with_front, is_plain}
+use Rattle.std.proofs.lemmas.Bool.{cases_eq}
 use Rattle.std.proofs.lemmas.Bool.Decides.{nat_tests}
-use Rattle.pua_tree.specs.Names.{has_byte}
-use Rattle.pua_tree.specs.Spelling.{bytes_spelled, unspelled_from, with_front, escaped_byte, is_plain, is_octal}
+use Rattle.pua_tree.specs.Spelling.{unspelled_from, escaped_byte, is_octal}
 use Rattle.pua_tree.proofs.Base.{guarded}
 
 -- a front and what is after it, where both are spelled

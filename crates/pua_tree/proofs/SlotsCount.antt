@@ -1,23 +1,15 @@
 -- As many rows and nodes are held as the maps have entries.
-use Rattle.std.proofs.Common.{◌≡◌, ℕ, suc, Bool, true, false, cond, List, [], ◌∷◌, map, length, Option, Some, None, option_map, refl, sym}
-use Rattle.std.proofs.Common.{ap, ◌∙◌, eqb-true, eq-eqb, true≢false}
-use Rattle.std.specs.Prelude.{IsSome, option_and_then}
-use Rattle.std.specs.Map.{lookup, keys_of}
+use Rattle.pua_tree.proofs.Common.{◌≡◌, ℕ, suc, Bool, true, false, cond, List, [], ◌∷◌, map, length, Option, Some, None, option_map, refl}
+use Rattle.pua_tree.proofs.Common.{sym, ap, ◌∙◌, eqb-true, eq-eqb, true≢false, IsSome, option_and_then, lookup, keys_of, Ordering, Less}
+use Rattle.pua_tree.proofs.Common.{Equal, Greater, nat_cmp, is_eq, find, put, by_order, Slab, index_map_len, spot_cmp, made_of, in_order}
+use Rattle.pua_tree.proofs.Common.{with_entry, held_rows, held_nodes, Slots, SlotNode}
 use Rattle.std.specs.List.{IsDistinct, AllByRecursion}
 use Rattle.std.proofs.lemmas.Map.Keys.{IsDistinct-head, IsDistinct-tail}
-use Rattle.std.specs.declared.cmp.Ordering.{Ordering}
-use Rattle.std.specs.declared.cmp.Ordering.TheVariants.{Less, Equal, Greater}
-use Rattle.std.specs.Ordering.{nat_cmp, is_eq}
-use Rattle.std.specs.FinMap.{find, put}
-use Rattle.std.specs.FinMap.Entries.{by_order}
-use Rattle.slab.specs.Slab.{Slab, get as slot_get}
-use Rattle.indexmap.specs.IndexMap.{index_map_len, IsUnique}
+use Rattle.slab.specs.Slab.{get as slot_get}
+use Rattle.indexmap.specs.IndexMap.{IsUnique}
 use Rattle.pua_tree.specs.Tree as tree
-use Rattle.pua_tree.specs.Tree.{spot_cmp}
-use Rattle.pua_tree.specs.Slots.{made_of, in_order, with_entry, held_rows, held_nodes, IsFiled}
+use Rattle.pua_tree.specs.Slots.{IsFiled}
 use Rattle.pua_tree.specs.declared.spot.Spot.{Spot}
-use Rattle.pua_tree.specs.declared.slots.Slots.{Slots}
-use Rattle.pua_tree.specs.declared.slots.SlotNode.{SlotNode}
 use Rattle.pua_tree.specs.contracts.spot.SpotPartialEq.TheImpl.{ghosts as spot_ghosts}
 use Rattle.pua_tree.specs.contracts.node.NodeIdPartialEq.TheImpl.{ghosts as number_ghosts}
 use Rattle.pua_tree.proofs.Base.{Some≢None}

@@ -1,23 +1,13 @@
 -- What is found in the rows and nodes that slots hold, and how they change.
-use Rattle.std.proofs.Common.{◌≡◌, ℕ, Bool, true, false, not, ◌==◌, cond, T, List, [], ◌∷◌, map, Option, Some, None, option_map, refl, sym}
-use Rattle.std.proofs.Common.{ap, subst, ◌∙◌, eqb-true, eq-eqb}
-use Rattle.std.specs.Prelude.{option_and_then}
-use Rattle.std.specs.Map.{lookup}
-use Rattle.std.specs.Ordering.{nat_cmp, is_eq, eq_by_cmp}
-use Rattle.std.specs.Cmp.{nat_cmp_total, tied_itself, Equal-is}
-use Rattle.std.specs.FinMap.{find, put, is_sorted, nat_cmp-IsAntisymmetric}
-use Rattle.std.specs.FinMap.Entries.{where_key, find-put, is_sorted-put, is_sorted-where_key, same_entries}
-use Rattle.std.proofs.lemmas.Bool.{and_parts, and_from}
-use Rattle.std.proofs.lemmas.Bool.Decides.{same_from_decides}
-use lib.Pointwise.{bytes_decides}
+use Rattle.pua_tree.proofs.Common.{◌≡◌, ℕ, Bool, true, false, not, ◌==◌, cond, T, List, [], ◌∷◌, map, Option, Some, None, option_map, refl}
+use Rattle.pua_tree.proofs.Common.{sym, ap, subst, ◌∙◌, eqb-true, eq-eqb, option_and_then, lookup, nat_cmp, is_eq, eq_by_cmp, nat_cmp_total}
+use Rattle.pua_tree.proofs.Common.{tied_itself, Equal-is, find, put, is_sorted, nat_cmp-IsAntisymmetric, where_key, find-put, is_sorted-put}
+use Rattle.pua_tree.proofs.Common.{is_sorted-where_key, same_entries, and_parts, and_from, same_from_decides, bytes_decides, Slab, spot_cmp}
+use Rattle.pua_tree.proofs.Common.{row_at, node_in, made_of, in_order, with_entry, held_rows, held_nodes, Slots, SlotNode}
 use Rattle.indexmap.specs.IndexMap.{UpdatesBy}
-use Rattle.slab.specs.Slab.{Slab, get as slot_get}
+use Rattle.slab.specs.Slab.{get as slot_get}
 use Rattle.pua_tree.specs.Tree as tree
-use Rattle.pua_tree.specs.Tree.{spot_cmp}
-use Rattle.pua_tree.specs.Slots.{row_at, node_in, made_of, in_order, with_entry, held_rows, held_nodes}
 use Rattle.pua_tree.specs.declared.spot.Spot.{Spot}
-use Rattle.pua_tree.specs.declared.slots.Slots.{Slots}
-use Rattle.pua_tree.specs.declared.slots.SlotNode.{SlotNode}
 use Rattle.pua_tree.specs.contracts.spot.SpotPartialEq.TheImpl.{ghosts as spot_ghosts}
 use Rattle.pua_tree.specs.contracts.node.NodeIdPartialEq.TheImpl.{ghosts as number_ghosts}
 use Rattle.pua_tree.proofs.Content.{spots_total, exact_spots}

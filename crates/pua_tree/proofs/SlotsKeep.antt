@@ -1,19 +1,14 @@
 -- Rows put into slots and taken out of them leave every node knowing how it stands.
-use Rattle.std.proofs.Common.{◌≡◌, ◌≢◌, ℕ, ◌+◌, ◌-◌, ◌<◌, ◌^◌, true, false, not, ◌==◌, cond, List, length, Option, Some, None, option_map}
-use Rattle.std.proofs.Common.{refl, sym, ap, ◌∙◌, arith, inl, inr, eqb-true, eq-eqb, ne_eqb}
-use Rattle.std.specs.Prelude.{IfSome}
-use Rattle.std.specs.Ordering.{is_eq}
-use Rattle.std.specs.FinMap.{find, put}
-use Rattle.std.specs.FinMap.Entries.{where_key}
+use Rattle.pua_tree.proofs.Common.{◌≡◌, ◌≢◌, ℕ, ◌+◌, ◌-◌, ◌<◌, ◌^◌, true, false, not, ◌==◌, cond, List, length, Option, Some, None}
+use Rattle.pua_tree.proofs.Common.{option_map, refl, sym, ap, ◌∙◌, arith, inl, inr, eqb-true, eq-eqb, IfSome, is_eq, find, put, where_key}
+use Rattle.pua_tree.proofs.Common.{spot_cmp, row_at, node_in, made_of, held_rows, held_nodes, rows_in, names_of, AreConsistent, Dir, Slots}
+use Rattle.pua_tree.proofs.Common.{SlotNode}
+use Rattle.std.proofs.Common.{ne_eqb}
 use Rattle.std.proofs.lemmas.List.Sums.{count_by-le-length}
 use Rattle.indexmap.specs.IndexMap.{UpdatesBy}
 use Rattle.pua_tree.specs.Tree as tree
-use Rattle.pua_tree.specs.Tree.{spot_cmp}
-use Rattle.pua_tree.specs.Slots.{row_at, node_in, made_of, held_rows, held_nodes, rows_in, names_of, with_stance, one_at, row_gained}
-use Rattle.pua_tree.specs.Slots.{row_lost, name_gained, name_lost, Restands, AreConsistent, MayStand}
-use Rattle.pua_tree.specs.declared.node.Kind.TheVariants.{Dir}
-use Rattle.pua_tree.specs.declared.slots.Slots.{Slots}
-use Rattle.pua_tree.specs.declared.slots.SlotNode.{SlotNode}
+use Rattle.pua_tree.specs.Slots.{with_stance, one_at, row_gained}
+use Rattle.pua_tree.specs.Slots.{row_lost, name_gained, name_lost, Restands, MayStand}
 use Rattle.pua_tree.specs.declared.slots.Stance.{Stance}
 use Rattle.pua_tree.specs.contracts.spot.SpotPartialEq.TheImpl.{ghosts as spot_ghosts}
 use Rattle.pua_tree.proofs.Base.{mapped, same_Some, Some≢None}

@@ -1,20 +1,16 @@
 -- The names in rows, as a set, whatever the order in which the rows stand.
-use Rattle.std.proofs.Common.{◌≡◌, ℕ, Bool, Bor, true, false, cond, ◌||◌, T, List, [], ◌∷◌, ◌++◌, map, reverse, Option, Some, None, refl}
-use Rattle.std.proofs.Common.{sym, ap, subst, ◌∙◌}
-use Rattle.std.specs.List.{list_any}
-use Rattle.std.specs.Map.{keys_of}
-use Rattle.std.specs.declared.cmp.Ordering.TheVariants.{Less, Equal, Greater}
-use Rattle.std.specs.Ordering.{eq_by_cmp, match_ordering}
+use Rattle.pua_tree.proofs.Common.{◌≡◌, ℕ, Bool, true, false, cond, ◌||◌, T, List, [], ◌∷◌, ◌++◌, map, reverse, Option, Some, None, refl}
+use Rattle.pua_tree.proofs.Common.{sym, ap, subst, ◌∙◌, list_any, keys_of, Less, Equal, Greater, eq_by_cmp, find, put, is_sorted}
+use Rattle.pua_tree.proofs.Common.{nat_cmp-IsAntisymmetric, by_order, find-put, is_sorted-put, same_entries, map-append, reverse-append}
+use Rattle.pua_tree.proofs.Common.{name_cmp, spot_cmp, distinct_names, in_order, held_rows, Slots}
+use Rattle.std.proofs.Common.{Bor}
+use Rattle.std.specs.Ordering.{match_ordering}
 use Rattle.std.specs.BTreeSet.{insert_key}
 use Rattle.std.specs.Cmp.Lexicographic.{nat_list_cmp_total}
-use Rattle.std.specs.FinMap.{find, put, is_sorted, nat_cmp-IsAntisymmetric, slice_cmp-IsAntisymmetric}
-use Rattle.std.specs.FinMap.Entries.{by_order, find-put, is_sorted-put, same_entries}
-use Rattle.std.proofs.lemmas.List.{map-append, reverse-append}
+use Rattle.std.specs.FinMap.{slice_cmp-IsAntisymmetric}
 use Rattle.pua_tree.specs.Tree as tree
-use Rattle.pua_tree.specs.Tree.{name_cmp, spot_cmp, with_name, distinct_names}
-use Rattle.pua_tree.specs.Slots.{in_order, held_rows}
+use Rattle.pua_tree.specs.Tree.{with_name}
 use Rattle.pua_tree.specs.declared.spot.Spot.{Spot}
-use Rattle.pua_tree.specs.declared.slots.Slots.{Slots}
 use Rattle.pua_tree.proofs.Content.{exact_spots}
 use Rattle.pua_tree.proofs.Rows.{with_name_is}
 

@@ -1,15 +1,10 @@
 -- Nodes put into slots and taken out of them.
-use Rattle.std.proofs.Common.{◌≡◌, ◌≢◌, ℕ, ◌+◌, true, false, ◌==◌, cond, Option, Some, None, is_some, refl, sym, ap, subst, ◌∙◌, arith}
-use Rattle.std.proofs.Common.{eqb-true, eq-eqb, ne_eqb, true≢false}
-use Rattle.std.specs.Prelude.{IsSome, option_and_then}
-use Rattle.std.specs.FinMap.{find}
-use Rattle.std.proofs.lemmas.Bool.{eqb-false}
-use Rattle.indexmap.specs.IndexMap.{index_map_len}
+use Rattle.pua_tree.proofs.Common.{◌≡◌, ◌≢◌, ℕ, ◌+◌, true, false, ◌==◌, cond, Option, Some, None, is_some, refl, sym, ap, subst, ◌∙◌, arith}
+use Rattle.pua_tree.proofs.Common.{eqb-true, eq-eqb, true≢false, IsSome, option_and_then, find, eqb-false, index_map_len, spot_cmp, slot_of}
+use Rattle.pua_tree.proofs.Common.{node_in, held_rows, rows_in, names_of, AreConsistent, Slots, SlotNode}
+use Rattle.std.proofs.Common.{ne_eqb}
 use Rattle.slab.specs.Slab.{get as slot_get, slab_len, Updates}
-use Rattle.pua_tree.specs.Tree.{spot_cmp}
-use Rattle.pua_tree.specs.Slots.{slot_of, node_in, held_rows, rows_in, names_of, IsFiled, AreConsistent}
-use Rattle.pua_tree.specs.declared.slots.Slots.{Slots}
-use Rattle.pua_tree.specs.declared.slots.SlotNode.{SlotNode}
+use Rattle.pua_tree.specs.Slots.{IsFiled}
 use Rattle.pua_tree.proofs.Base.{same_Some, None≢Some}
 use Rattle.pua_tree.proofs.SlotsKeep.{named}
 

@@ -1,15 +1,13 @@
 -- The rows of a map, sorted by their spots, are the rows that are held.
-use Rattle.std.proofs.Common.{◌≡◌, ℕ, ◌+◌, Bool, true, false, cond, ◌&&◌, T, List, [], ◌∷◌, map, length, Some, None, refl, sym, ap, subst}
-use Rattle.std.proofs.Common.{◌∙◌, arith, IsPermutation, true≢false}
-use Rattle.std.specs.Map.{lookup, keys_of}
+use Rattle.pua_tree.proofs.Common.{◌≡◌, ℕ, ◌+◌, Bool, true, false, cond, ◌&&◌, T, List, [], ◌∷◌, map, length, Some, None, refl, sym, ap}
+use Rattle.pua_tree.proofs.Common.{subst, ◌∙◌, arith, true≢false, lookup, keys_of, Ordering, Less, Equal, Greater, nat_cmp, is_eq, is_lt}
+use Rattle.pua_tree.proofs.Common.{eq_by_cmp, ordering_then, IsTotalOrder, Equal-is, find, is_sorted, below_all, same_entries, spot_cmp}
+use Rattle.pua_tree.proofs.Common.{name_cmp, lent_entry, held_rows, Slots}
+use Rattle.std.proofs.Common.{IsPermutation}
 use Rattle.std.specs.List.{IsDistinct, AllByRecursion}
 use Rattle.std.specs.List.Sorted.{IsSorted, IsStrictlySortedBy}
-use Rattle.std.specs.declared.cmp.Ordering.{Ordering}
-use Rattle.std.specs.declared.cmp.Ordering.TheVariants.{Less, Equal, Greater}
-use Rattle.std.specs.Ordering.{nat_cmp, is_eq, is_lt, eq_by_cmp, ordering_then, ordering_reverse}
-use Rattle.std.specs.Cmp.{IsTotalOrder, eq_by_cmp_equiv, Equal-is}
-use Rattle.std.specs.FinMap.{find, is_sorted}
-use Rattle.std.specs.FinMap.Entries.{below_all, same_entries}
+use Rattle.std.specs.Ordering.{ordering_reverse}
+use Rattle.std.specs.Cmp.{eq_by_cmp_equiv}
 use Rattle.std.proofs.lemmas.List.Sorted.{Contains-permutation, IsPermutation-map, IsPermutation-sym}
 use Rattle.std.proofs.lemmas.Map.Keys.{IsDistinct-IsPermutation, apart_from_distinct, sorted_from_all_adjacent, sorted_head, sorted_tail}
 use Rattle.std.proofs.lemmas.Map.Views.{Contains-from_lookup, lookup-from_Contains}
@@ -18,11 +16,7 @@ use Rattle.std.proofs.lemmas.List.{length-map}
 use lib.ListN.{get_or}
 use Rattle.indexmap.specs.IndexMap.{IsUnique}
 use Rattle.pua_tree.specs.Tree as tree
-use Rattle.pua_tree.specs.Tree.{spot_cmp, name_cmp}
-use Rattle.pua_tree.specs.LentRows.{lent_entry}
-use Rattle.pua_tree.specs.Slots.{held_rows}
 use Rattle.pua_tree.specs.declared.spot.Spot.{Spot}
-use Rattle.pua_tree.specs.declared.slots.Slots.{Slots}
 use Rattle.pua_tree.specs.declared.tree.LentRow.{LentRow}
 use Rattle.pua_tree.specs.contracts.spot.SpotPartialEq.TheImpl.{ghosts as spot_ghosts}
 use Rattle.pua_tree.specs.contracts.tree.LentRowOrd.TheImpl.{ghosts as lent_ghosts}

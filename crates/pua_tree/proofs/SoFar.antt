@@ -1,12 +1,11 @@
 -- How far the lines of a listing have been read.
-use Rattle.std.proofs.Common.{◌≡◌, ◌≢◌, ◌≤◌, ◌+◌, ℕ, suc, Bool, List, [], ◌∷◌, ◌++◌, length, Ok, Err, sym, ap, ◌∙◌, refl, map, arith}
+use Rattle.pua_tree.proofs.Common.{◌≡◌, ◌≢◌, ◌≤◌, ◌+◌, ℕ, suc, Bool, List, [], ◌∷◌, ◌++◌, length, Ok, Err, sym, ap, ◌∙◌, refl, map, arith}
+use Rattle.pua_tree.proofs.Common.{Tree, entry_of, tree_of, Gathers, ListingFault}
 use Rattle.std.proofs.Common.{length-append, add-one}
 use Rattle.std.specs.Prelude.{codes}
-use Rattle.pua_tree.specs.Tree.{Tree}
 use Rattle.pua_tree.specs.Listing as listing
-use Rattle.pua_tree.specs.Listing.{entry_of, entries_of, tree_of, after_header, listing_of_lines}
-use Rattle.pua_tree.specs.Reading.{Gathers, IsGathered}
-use Rattle.pua_tree.specs.declared.fault.ListingFault.{ListingFault}
+use Rattle.pua_tree.specs.Listing.{entries_of, after_header, listing_of_lines}
+use Rattle.pua_tree.specs.Reading.{IsGathered}
 use Rattle.pua_tree.specs.declared.fault.ListingFault.TheVariants.{BadLine}
 use Rattle.bstr.specs.Text.{lines_of, without_terminator}
 use Rattle.pua_tree.proofs.Base.{other_word}

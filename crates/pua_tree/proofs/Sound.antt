@@ -1,20 +1,17 @@
 -- A well-formed tree by its look-ups, and climbing by the number of steps to the root.
-use Rattle.std.proofs.Common.{◌≡◌, ◌≢◌, ℕ, zero, suc, ◌+◌, ◌≤◌, ◌<◌, true, false, ◌||◌, cond, T, List, length, Option, Some, None}
-use Rattle.std.proofs.Common.{option_map, unwrap_or, is_some, ◌==◌, refl, sym, ap, subst, ◌∙◌, arith, inl, inr, eqb-true, eq-eqb, leb-true}
+use Rattle.pua_tree.proofs.Common.{◌≡◌, ◌≢◌, ℕ, zero, suc, ◌+◌, ◌≤◌, ◌<◌, true, false, ◌||◌, cond, T, List, length, Option, Some, None}
+use Rattle.pua_tree.proofs.Common.{option_map, unwrap_or, is_some, ◌==◌, refl, sym, ap, subst, ◌∙◌, arith, inl, inr, eqb-true, eq-eqb}
+use Rattle.pua_tree.proofs.Common.{option_and_then, passes, list_any, nat_cmp, nat_cmp_total, is_sorted, nat_cmp-IsAntisymmetric}
+use Rattle.pua_tree.proofs.Common.{is_sorted-where_key, and_parts, and_from, or_cases, false≢true, not-true, is_name, Node, Spot, Tree}
+use Rattle.pua_tree.proofs.Common.{WellFormed, spot_cmp, kind_at, look, is_dir, is_dir_kind, is_living, above, climb_within, row_fits}
+use Rattle.pua_tree.proofs.Common.{target_fits, Kind, Dir, File, Prog, Link}
+use Rattle.std.proofs.Common.{leb-true}
 use Rattle.std.proofs.Common.{le-leb, ltb-true, lt-ltb}
-use Rattle.std.specs.Prelude.{option_and_then}
-use Rattle.std.specs.Bool.{passes}
-use Rattle.std.specs.List.{list_any}
-use Rattle.std.specs.Ordering.{nat_cmp}
-use Rattle.std.specs.Cmp.{nat_cmp_total}
-use Rattle.std.specs.FinMap.{find as find_key, is_sorted, nat_cmp-IsAntisymmetric}
-use Rattle.std.specs.FinMap.Entries.{length_without, is_sorted-where_key}
-use Rattle.std.proofs.lemmas.Bool.{and_parts, and_from, or_cases, or_from, or_left, or_right, false≢true, not-true}
-use Rattle.pua_tree.specs.Names.{is_name}
-use Rattle.pua_tree.specs.Tree.{Node, Spot, Tree, WellFormed, spot_cmp, node_at, kind_at, look, found_at, is_dir, is_dir_kind, is_living}
-use Rattle.pua_tree.specs.Tree.{above, climb_within, rows_of, row_fits, node_fits, target_fits, rows_fit_kind}
-use Rattle.pua_tree.specs.declared.node.Kind.{Kind}
-use Rattle.pua_tree.specs.declared.node.Kind.TheVariants.{Dir, File, Prog, Link}
+use Rattle.std.specs.FinMap.{find as find_key}
+use Rattle.std.specs.FinMap.Entries.{length_without}
+use Rattle.std.proofs.lemmas.Bool.{or_from, or_left, or_right}
+use Rattle.pua_tree.specs.Tree.{node_at, found_at}
+use Rattle.pua_tree.specs.Tree.{rows_of, node_fits, rows_fit_kind}
 use Rattle.pua_tree.proofs.Base.{holds}
 use Rattle.pua_tree.proofs.Content.{spots_total, exact_spots}
 use Rattle.pua_tree.proofs.Tallies.{tally, tally_counts, without, without_elsewhere, all_found, all_from_found, found_from_tally, only_key}

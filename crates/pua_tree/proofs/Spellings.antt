@@ -1,21 +1,24 @@
 -- Each byte string has one spelling, each number one decimal, and fields are what stands between spaces.
-use Rattle.std.proofs.Common.{◌≡◌, ℕ, zero, suc, ◌+◌, ◌-◌, ◌*◌, ◌/◌, ◌%◌, ◌^◌, ◌<◌, ◌≤◌, Bool, true, false, cond, not, ◌&&◌, ◌||◌, eqb, leb}
-use Rattle.std.proofs.Common.{ltb, List, [], ◌∷◌, ◌++◌, length, drop, get_or, Option, Some, None, Ok, Err, decimal, fold, refl, sym, ap}
-use Rattle.std.proofs.Common.{subst, ◌∙◌, arith, true≢false, ◌⊎◌, inl, inr, pos_of_ne-zero, rules}
-use Rattle.std.specs.Prelude.{IsTrue}
-use Rattle.std.specs.List.{list_all, onto_first, join_with_byte}
-use Rattle.std.proofs.lemmas.Bool.{lt-ltb, le-leb, leb-true, ltb-true, le-ltb, eq-eqb, eqb-true, eqb-false, ne_eqb, and_parts, and_from}
-use Rattle.std.proofs.lemmas.Bool.{not-true, not_from_false, or_cases, or_left, or_right, cases_eq, cond-true, cond-false}
-use Rattle.std.proofs.lemmas.List.{length-append}
+use Rattle.pua_tree.proofs.Common.{◌≡◌, ℕ, zero, suc, ◌+◌, ◌-◌, ◌*◌, ◌^◌, ◌<◌, ◌≤◌, Bool, true, false, cond, not, ◌&&◌, ◌||◌, eqb, leb, ltb}
+use Rattle.pua_tree.proofs.Common.{List, [], ◌∷◌, ◌++◌, length, drop, get_or, Option, Some, None, Ok, Err, refl, sym, ap, subst, ◌∙◌, arith}
+use Rattle.pua_tree.proofs.Common.{true≢false, ◌⊎◌, inl, inr, rules, IsTrue, list_all, onto_first, lt-ltb, le-leb, leb-true, ltb-true}
+use Rattle.pua_tree.proofs.Common.{le-ltb, eqb-false, ne_eqb, and_parts, and_from, not-true, or_cases, cond-true, cond-false, length-append}
+use Rattle.pua_tree.proofs.Common.{is_name, same_bytes, has_byte, is_plain, with_front, bytes_spelled, name_of, name_of_bytes, fields}
+use Rattle.pua_tree.proofs.Common.{is_field, decimal_value, number_within}
+use Rattle.std.proofs.Common.{◌/◌, ◌%◌}
+use Rattle.std.proofs.Common.{decimal, fold}
+use Rattle.std.proofs.Common.{pos_of_ne-zero}
+use Rattle.std.specs.List.{join_with_byte}
+use Rattle.std.proofs.lemmas.Bool.{eq-eqb, eqb-true}
+use Rattle.std.proofs.lemmas.Bool.{not_from_false, or_left, or_right, cases_eq}
 use Rattle.std.proofs.lemmas.List.Folds.{list_all-append}
 use Rattle.std.proofs.lemmas.List.Splits.{join_with_byte-slice_split}
 use Rattle.std.proofs.lemmas.Str.Parse.{IsNumeralModel, numerals_by_fold}
 use Rattle.std.proofs.lemmas.Fmt.{decimal_digit, digits_decimal, digits_value-decimal, decimal-digits_value, decimal_nonempty}
 use Rattle.std.proofs.lemmas.Fmt.{first_decimal}
-use Rattle.pua_tree.specs.Names.{is_name, same_bytes, has_byte, is_name_byte}
-use Rattle.pua_tree.specs.Spelling.{is_plain, byte_spelling, spelling, is_octal, escaped_byte, front_byte, with_front, unspelled_from}
-use Rattle.pua_tree.specs.Spelling.{bytes_spelled, name_of, name_of_bytes, fields, is_field, is_digit, is_decimal, decimal_value}
-use Rattle.pua_tree.specs.Spelling.{number_within}
+use Rattle.pua_tree.specs.Names.{is_name_byte}
+use Rattle.pua_tree.specs.Spelling.{byte_spelling, spelling, is_octal, escaped_byte, front_byte, unspelled_from}
+use Rattle.pua_tree.specs.Spelling.{is_digit, is_decimal}
 use Rattle.pua_tree.specs.declared.fault.NameFault.TheVariants.{BadSpelling, Empty, TooLong, NotAName}
 pub use Rattle.pua_tree.proofs.Base.{same_Some, None≢Some, guarded, Err≢Ok, same_Ok, passed, tested}
 

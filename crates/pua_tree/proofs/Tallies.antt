@@ -1,14 +1,11 @@
 -- Lists of entries in the order of their keys: what is found in them, and how many entries have a value of some kind.
-use Rattle.std.proofs.Common.{◌≡◌, ◌≢◌, ◌⊎◌, ℕ, ◌+◌, ◌≤◌, Bool, true, false, not, ◌&&◌, cond, T, List, [], ◌∷◌, Option, Some, None}
-use Rattle.std.proofs.Common.{option_map, count_by, find as find_where, refl, sym, ap, subst, ◌∙◌, arith, inl, inr}
-use Rattle.std.specs.List.{list_all, list_any}
-use Rattle.std.specs.declared.cmp.Ordering.{Ordering}
-use Rattle.std.specs.declared.cmp.Ordering.TheVariants.{Less, Equal, Greater}
-use Rattle.std.specs.Ordering.{is_eq, is_lt}
-use Rattle.std.specs.Cmp.{IsTotalOrder, tied_itself, Equal-is}
-use Rattle.std.specs.FinMap.{find, put, is_sorted}
-use Rattle.std.specs.FinMap.Entries.{by_order, where_key, below_all, find-put, find-where_key}
-use Rattle.std.proofs.lemmas.Bool.{and_parts, and_from, or_parts, false≢true}
+use Rattle.pua_tree.proofs.Common.{◌≡◌, ◌≢◌, ◌⊎◌, ℕ, ◌+◌, ◌≤◌, Bool, true, false, not, ◌&&◌, cond, T, List, [], ◌∷◌, Option, Some, None}
+use Rattle.pua_tree.proofs.Common.{option_map, count_by, refl, sym, ap, subst, ◌∙◌, arith, inl, inr, list_all, list_any, Ordering, Less}
+use Rattle.pua_tree.proofs.Common.{Equal, Greater, is_eq, is_lt, IsTotalOrder, tied_itself, Equal-is, find, put, is_sorted, by_order}
+use Rattle.pua_tree.proofs.Common.{where_key, below_all, find-put, and_parts, and_from, false≢true}
+use Rattle.std.proofs.Common.{find as find_where}
+use Rattle.std.specs.FinMap.Entries.{find-where_key}
+use Rattle.std.proofs.lemmas.Bool.{or_parts}
 use Rattle.std.proofs.lemmas.List.Recursion.{is_sum_by}
 use Rattle.pua_tree.proofs.Base.{same_Some, Some≢None}
 

@@ -1,12 +1,12 @@
 -- The first field of a line by its first byte that is not visible.
-use Rattle.std.proofs.Common.{◌≡◌, ◌<◌, ◌≤◌, ◌&&◌, ◌==◌, ℕ, ◌+◌, Bool, true, false, List, [], ◌∷◌, ◌++◌, length, get_or, Some, None, refl}
-use Rattle.std.proofs.Common.{sym, ap, ◌∙◌, arith, cond, not, suc, nat_lt, nat_le, take, drop, true≢false}
-use Rattle.std.specs.List.{list_all, onto_first, position, position_or_len}
-use Rattle.std.proofs.lemmas.Bool.{and_parts, and_from, ltb-true, ltb-false, lt-ltb, eqb-true, not-true, not-false}
+use Rattle.pua_tree.proofs.Common.{◌≡◌, ◌<◌, ◌≤◌, ◌&&◌, ◌==◌, ℕ, ◌+◌, Bool, true, false, List, [], ◌∷◌, ◌++◌, length, get_or, Some, None}
+use Rattle.pua_tree.proofs.Common.{refl, sym, ap, ◌∙◌, arith, cond, not, suc, nat_lt, nat_le, take, drop, true≢false, list_all, onto_first}
+use Rattle.pua_tree.proofs.Common.{and_parts, and_from, ltb-true, ltb-false, lt-ltb, not-true, take_all, fields, is_field}
+use Rattle.std.specs.List.{position, position_or_len}
+use Rattle.std.proofs.lemmas.Bool.{eqb-true, not-false}
 use Rattle.std.proofs.lemmas.List.Splits.{slice_split-cons_no}
 use Rattle.std.proofs.lemmas.List.Sums.{split_at_first, prefix_len_stops}
-use Rattle.std.proofs.lemmas.List.{take_all, length-take-le}
-use Rattle.pua_tree.specs.Spelling.{fields, is_field}
+use Rattle.std.proofs.lemmas.List.{length-take-le}
 use Rattle.pua_tree.proofs.Pieces.{not_found}
 use Rattle.pua_tree.proofs.Base.{guarded}
 

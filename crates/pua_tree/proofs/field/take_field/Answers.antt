@@ -1,7 +1,5 @@
-use Rattle.std.proofs.Common.{◌∙◌, ◌+◌, ◌∷◌, get_or, sym, ap, arith, take}
-use Rattle.std.proofs.lemmas.Bool.{ne_eqb}
+use Rattle.pua_tree.proofs.Common.{◌∙◌, ◌+◌, ◌∷◌, get_or, sym, ap, arith, take, ne_eqb, fields}
 use Rattle.std.proofs.lemmas.List.{take_rest}
-use Rattle.pua_tree.specs.Spelling.{fields}
 use Rattle.pua_tree.proofs.VisibleFields.{some_byte, whole_line, field_taken, no_byte, bad_byte}
 use Rattle.pua_tree.proofs.field.take_field.Goals.{then-end-eq0-via-then-end-eq0, then-end-eq0-via-else-end-eq0+then-line-end-ne32}
 use Rattle.pua_tree.proofs.field.take_field.Goals as goal

@@ -1,5 +1,4 @@
-use Rattle.std.proofs.Common.{◌≡◌, Bool, true, false, List, ℕ, Some, None, cond, refl, sym, ◌∙◌}
-use Rattle.pua_tree.specs.Names.{is_name}
+use Rattle.pua_tree.proofs.Common.{◌≡◌, Bool, true, false, List, ℕ, Some, None, cond, refl, sym, ◌∙◌, is_name}
 use Rattle.pua_tree.proofs.Base.{Some≢None}
 use Rattle.pua_tree.proofs.Sound.{only_names_found}
 use Rattle.pua_tree.proofs.judgement.find.Goals as goal

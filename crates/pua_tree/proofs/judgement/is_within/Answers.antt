@@ -1,8 +1,5 @@
-use Rattle.std.proofs.Common.{◌≡◌, ◌≢◌, ◌+◌, ◌-◌, ◌==◌, ◌∙◌, ℕ, sym, ap, arith, suc, true, false, cond, Option, Some, None, unwrap_or}
-use Rattle.std.proofs.Common.{eqb-true}
-use Rattle.std.specs.List.{list_any}
-use Rattle.std.proofs.lemmas.Bool.{eqb-false}
-use Rattle.pua_tree.specs.Tree.{climb_within, above, is_dir}
+use Rattle.pua_tree.proofs.Common.{◌≡◌, ◌≢◌, ◌+◌, ◌-◌, ◌==◌, ◌∙◌, ℕ, sym, ap, arith, suc, true, false, cond, Option, Some, None, unwrap_or}
+use Rattle.pua_tree.proofs.Common.{eqb-true, list_any, eqb-false, climb_within, above, is_dir}
 use Rattle.pua_tree.proofs.Sound.{climb_here, climb_root, climb_more, climb_last, sound_from, above_dir}
 use Rattle.pua_tree.proofs.judgement.is_within.Goals as goal
 

@@ -1,6 +1,5 @@
-use Rattle.std.proofs.Common.{ℕ, ◌≡◌, ◌+◌, ◌==◌, true}
-use Rattle.std.specs.List.{list_any}
-use Rattle.pua_tree.specs.Tree.{climb, climb_within, is_dir}
+use Rattle.pua_tree.proofs.Common.{ℕ, ◌≡◌, ◌+◌, ◌==◌, true, list_any, climb_within, is_dir}
+use Rattle.pua_tree.specs.Tree.{climb}
 use Rattle.pua_tree.proofs.judgement.is_within.Given as goal
 
 -- the rest of the climb, from a directory, decides

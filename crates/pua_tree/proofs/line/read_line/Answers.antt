@@ -1,7 +1,7 @@
-use Rattle.std.proofs.Common.{◌≡◌, ◌<◌, ◌≤◌, ◌⊎◌, ℕ, List, [], length, sym, ap, ◌∙◌, arith, inl, inr, option_map}
+use Rattle.pua_tree.proofs.Common.{◌≡◌, ◌<◌, ◌≤◌, ◌⊎◌, ℕ, List, [], length, sym, ap, ◌∙◌, arith, inl, inr, option_map, ltb-true, ltb-false}
+use Rattle.pua_tree.proofs.Common.{leb-true, line_of_fields}
 use Rattle.std.specs.Borrow.{Bor}
-use Rattle.std.proofs.lemmas.Bool.{ltb-true, ltb-false, leb-true, leb-false}
-use Rattle.pua_tree.specs.Listing.{line_of_fields}
+use Rattle.std.proofs.lemmas.Bool.{leb-false}
 use Rattle.pua_tree.proofs.LineFields.{line_of-first_fields, line_of_fields-four, line_of_fields-five, line_of_fields-other, plain_line}
 use Rattle.pua_tree.proofs.LineFields.{long_line}
 use Rattle.pua_tree.proofs.Lifetimes.{in_four}

@@ -1,5 +1,4 @@
-use Rattle.std.proofs.Common.{◌≡◌, ◌==◌, rules, tests, sym, ◌∙◌}
-use Rattle.std.specs.List.{list_all, slice_split}
+use Rattle.pua_tree.proofs.Common.{◌≡◌, ◌==◌, rules, tests, sym, ◌∙◌, list_all, slice_split}
 use Rattle.std.proofs.lemmas.Iterator.Search.{all_from_yields_List}
 use Rattle.std.proofs.lemmas.Iterator.Splits.{YieldsList-from_slice_split}
 use Rattle.pua_tree.proofs.Pieces.{is_short, has_short_components-pieces, short_text}

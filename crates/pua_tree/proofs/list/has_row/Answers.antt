@@ -1,6 +1,4 @@
-use Rattle.std.proofs.Common.{rules, ◌∙◌}
-use Rattle.std.proofs.lemmas.Fn.{always_returns_same}
-use Rattle.pua_tree.specs.declared.list.ListRow.{ListRow}
+use Rattle.pua_tree.proofs.Common.{rules, ◌∙◌, always_returns_same, ListRow}
 use Rattle.pua_tree.proofs.Rows.{any_row}
 use Rattle.pua_tree.proofs.list.has_row.Goals as goal
 

@@ -1,8 +1,6 @@
-use Rattle.std.proofs.Common.{rules, tests}
+use Rattle.pua_tree.proofs.Common.{rules, tests, lent_entry, row_entry}
 use Rattle.std.proofs.lemmas.Iterator.{YieldsList-from_slice, YieldsList-from_map_by}
 use Rattle.std.proofs.lemmas.Iterator.Consumers.{map_from_collect}
-use Rattle.pua_tree.specs.LentRows.{lent_entry}
-use Rattle.pua_tree.specs.ListTree.{row_entry}
 use Rattle.pua_tree.proofs.list.lent_rows.Goals as goal
 
 pub returns : goal.returns

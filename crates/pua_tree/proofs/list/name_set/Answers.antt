@@ -1,9 +1,7 @@
-use Rattle.std.proofs.Common.{◌∙◌, ap, map, reverse, List}
+use Rattle.pua_tree.proofs.Common.{◌∙◌, ap, map, reverse, List, distinct_names, ListRow}
 use Rattle.std.proofs.lemmas.List.{reverse-reverse}
 use Rattle.std.proofs.lemmas.Iterator.Adapters.{YieldsList-from_rev_slice}
 use Rattle.std.proofs.lemmas.Iterator.Consumers.{YieldsList-end}
-use Rattle.pua_tree.specs.Tree.{distinct_names}
-use Rattle.pua_tree.specs.declared.list.ListRow.{ListRow}
 use Rattle.pua_tree.proofs.Rows.{one_name_more}
 use Rattle.pua_tree.proofs.list.name_set.Goals as goal
 

@@ -1,8 +1,4 @@
-use Rattle.std.proofs.Common.{rules}
-use Rattle.std.proofs.lemmas.Fn.{always_returns_same}
-use Rattle.std.specs.Cmp.{nat_cmp_total}
-use Rattle.std.specs.FinMap.{nat_cmp-IsAntisymmetric}
-use Rattle.pua_tree.specs.ListTree.{node_entry}
+use Rattle.pua_tree.proofs.Common.{rules, always_returns_same, nat_cmp_total, nat_cmp-IsAntisymmetric, node_entry}
 use Rattle.pua_tree.specs.declared.list.ListNode.{ListNode}
 use Rattle.pua_tree.proofs.Places.{found_place, missing_place, key_place}
 use Rattle.pua_tree.proofs.list.node_place.Goals as goal

@@ -1,8 +1,4 @@
-use Rattle.std.proofs.Common.{rules}
-use Rattle.std.proofs.lemmas.Fn.{always_returns_same}
-use Rattle.pua_tree.specs.Tree.{Spot, spot_cmp}
-use Rattle.pua_tree.specs.ListTree.{row_entry}
-use Rattle.pua_tree.specs.declared.list.ListRow.{ListRow}
+use Rattle.pua_tree.proofs.Common.{rules, always_returns_same, Spot, spot_cmp, row_entry, ListRow}
 use Rattle.pua_tree.proofs.Content.{spots_total, exact_spots}
 use Rattle.pua_tree.proofs.Places.{found_place, missing_place, key_place, put_place}
 use Rattle.pua_tree.proofs.list.row_place.Goals as goal

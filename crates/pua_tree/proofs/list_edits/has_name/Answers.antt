@@ -1,7 +1,6 @@
-use Rattle.std.proofs.Common.{◌==◌, rules, tests}
+use Rattle.pua_tree.proofs.Common.{◌==◌, rules, tests, ListRow}
 use Rattle.std.proofs.lemmas.Iterator.{YieldsList-from_slice}
 use Rattle.std.proofs.lemmas.Iterator.Search.{any_from_yields_List}
-use Rattle.pua_tree.specs.declared.list.ListRow.{ListRow}
 use Rattle.pua_tree.proofs.list_edits.has_name.Goals as goal
 
 pub returns : goal.returns

@@ -1,4 +1,4 @@
-use Rattle.std.proofs.Common.{◌∙◌, sym}
+use Rattle.pua_tree.proofs.Common.{◌∙◌, sym}
 use Rattle.pua_tree.proofs.ListEdits.{unnamed_taken, named_kept}
 use Rattle.pua_tree.proofs.list_edits.take_unnamed.Goals as goal
 

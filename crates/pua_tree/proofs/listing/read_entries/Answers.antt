@@ -1,5 +1,4 @@
-use Rattle.std.proofs.Common.{◌≡◌, ◌∷◌, ◌∙◌, refl, rules}
-use Rattle.std.proofs.lemmas.Result.{err_from_is_err_and}
+use Rattle.pua_tree.proofs.Common.{◌≡◌, ◌∷◌, ◌∙◌, refl, rules, err_from_is_err_and}
 use Rattle.pua_tree.proofs.SoFar.{one_more, one_stops, still_gathered}
 use Rattle.pua_tree.proofs.listing.read_entries.Goals as goal
 

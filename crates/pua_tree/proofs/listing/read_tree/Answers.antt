@@ -1,5 +1,4 @@
-use Rattle.std.proofs.Common.{◌∙◌, Ok, sym, ap}
-use Rattle.std.proofs.lemmas.Result.{err_from_is_err_and}
+use Rattle.pua_tree.proofs.Common.{◌∙◌, Ok, sym, ap, err_from_is_err_and}
 use Rattle.pua_tree.proofs.SoFar.{by_lines, no_root, entries_fault, entries_tree}
 use Rattle.pua_tree.proofs.listing.read_tree.Goals as goal
 

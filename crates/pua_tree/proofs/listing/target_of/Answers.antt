@@ -1,8 +1,5 @@
-use Rattle.std.proofs.Common.{◌≡◌, Some, sym, rules, IsTrue}
-use Rattle.pua_tree.specs.Spelling.{bytes_spelled}
-use Rattle.pua_tree.specs.Names.{is_target}
-use Rattle.pua_tree.specs.declared.node.Kind.TheVariants.{Link}
-use Rattle.pua_tree.specs.Lines.{line_read}
+use Rattle.pua_tree.proofs.Common.{◌≡◌, Some, sym, rules, bytes_spelled, is_target, Link, line_read}
+use Rattle.std.proofs.Common.{IsTrue}
 use Rattle.pua_tree.proofs.Judged.{link_target}
 use Rattle.pua_tree.proofs.listing.target_of.Goals as goal
 

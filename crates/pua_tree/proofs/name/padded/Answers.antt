@@ -1,4 +1,4 @@
-use Rattle.std.proofs.Common.{ℕ, ◌++◌, List, length, drop, replicate, ap, ◌∙◌}
+use Rattle.pua_tree.proofs.Common.{ℕ, ◌++◌, List, length, drop, replicate, ap, ◌∙◌}
 use Rattle.std.proofs.lemmas.List.{drop-replicate}
 use Rattle.pua_tree.proofs.name.padded.Goals as goal
 

@@ -1,7 +1,8 @@
-use Rattle.std.proofs.Common.{◌≡◌, ℕ, ◌-◌, ◌<◌, true, false, List, [], ◌∷◌, length, get_or, take, drop, Some, refl, sym, ◌∙◌, arith, ne_eqb}
+use Rattle.pua_tree.proofs.Common.{◌≡◌, ℕ, ◌-◌, ◌<◌, true, false, List, [], ◌∷◌, length, get_or, take, drop, Some, refl, sym, ◌∙◌, arith}
+use Rattle.pua_tree.proofs.Common.{is_plain, bytes_spelled, with_front}
+use Rattle.std.proofs.Common.{ne_eqb}
 use Rattle.std.proofs.Common.{take_all}
 use Rattle.std.specs.Prelude.{◌==◌}
-use Rattle.pua_tree.specs.Spelling.{is_plain, bytes_spelled, with_front}
 use Rattle.pua_tree.proofs.spelling.first_spelled.Goals as goal
 
 -- a byte that stands for itself, and what the text behind it spells

@@ -1,7 +1,5 @@
-use Rattle.std.proofs.Common.{◌≡◌, ℕ, List, length, Option, Some, None, sym, ap, ◌∙◌, arith, MatchOption}
-use Rattle.std.proofs.lemmas.List.{take_at}
-use Rattle.pua_tree.specs.Spelling.{bytes_spelled}
-use Rattle.pua_tree.specs.Writes.{room_after}
+use Rattle.pua_tree.proofs.Common.{◌≡◌, ℕ, List, length, Option, Some, None, sym, ap, ◌∙◌, arith, take_at, bytes_spelled, room_after}
+use Rattle.std.proofs.Common.{MatchOption}
 use Rattle.pua_tree.proofs.Overwriting.{overwritten_whole}
 use Rattle.pua_tree.proofs.spelling.unspelled.Goals as goal
 

@@ -1,7 +1,6 @@
-use Rattle.std.proofs.Common.{◌≡◌, ◌≤◌, ℕ, List, [], length, map, take, sym, ap, ◌∙◌, arith}
+use Rattle.pua_tree.proofs.Common.{◌≡◌, ◌≤◌, ℕ, List, [], length, map, take, sym, ap, ◌∙◌, arith, fields}
 use Rattle.std.specs.Option.{option_map_or}
 use Rattle.std.proofs.lemmas.List.{length-map, length-take-le}
-use Rattle.pua_tree.specs.Spelling.{fields}
 use Rattle.pua_tree.proofs.Filling.{filled, filled-full, filled-end, filled-badly}
 use Rattle.pua_tree.proofs.field.Fields.read.Goals as goal
 

@@ -1,6 +1,5 @@
-use Rattle.std.proofs.Common.{◌≡◌, ◌≤◌, suc, [], length, map, take}
+use Rattle.pua_tree.proofs.Common.{◌≡◌, ◌≤◌, suc, [], length, map, take, fields}
 use Rattle.std.specs.Option.{option_map_or}
-use Rattle.pua_tree.specs.Spelling.{fields}
 use Rattle.pua_tree.proofs.Filling.{filled}
 use Rattle.pua_tree.proofs.field.Fields.read.Given as goal
 

@@ -1,8 +1,5 @@
-use Rattle.std.proofs.Common.{◌≡◌, ◌∙◌, Ok, sym, ap, subst}
+use Rattle.pua_tree.proofs.Common.{◌≡◌, ◌∙◌, Ok, sym, ap, subst, WellFormed, without_row, without_unnamed, held_tree}
 use Rattle.pua_tree.specs.Tree as tree
-use Rattle.pua_tree.specs.Tree.{WellFormed}
-use Rattle.pua_tree.specs.Edits.{without_row, without_unnamed}
-use Rattle.pua_tree.specs.ListTree.{held_tree}
 use Rattle.pua_tree.proofs.EditsKeep.{edits_keep_trees}
 use Rattle.pua_tree.proofs.ListEdits.{row_gone}
 use Rattle.pua_tree.proofs.list.ListTreeFileTree.cut.Goals as goal

@@ -1,8 +1,6 @@
-use Rattle.std.proofs.Common.{◌≡◌, ◌∙◌, ℕ, Option, Some, None, Ok, sym, ap, subst, map}
+use Rattle.pua_tree.proofs.Common.{◌≡◌, ◌∙◌, ℕ, Option, Some, None, Ok, sym, ap, subst, map, WellFormed, look, with_row, without_row}
+use Rattle.pua_tree.proofs.Common.{without_unnamed, with_row_moved, held_tree, row_entry}
 use Rattle.pua_tree.specs.Tree as tree
-use Rattle.pua_tree.specs.Tree.{WellFormed, look}
-use Rattle.pua_tree.specs.Edits.{with_row, without_row, without_unnamed, with_row_moved}
-use Rattle.pua_tree.specs.ListTree.{held_tree, row_entry}
 use Rattle.pua_tree.proofs.EditsKeep.{edits_keep_trees}
 use Rattle.pua_tree.proofs.ListEdits.{row_moved, sorted_without}
 use Rattle.pua_tree.proofs.list.ListTreeFileTree.shift.Goals as goal

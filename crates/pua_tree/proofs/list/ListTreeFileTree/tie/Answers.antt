@@ -1,9 +1,5 @@
-use Rattle.std.proofs.Common.{◌≡◌, ◌∙◌, sym, ap, subst, map}
-use Rattle.std.specs.FinMap.{put}
+use Rattle.pua_tree.proofs.Common.{◌≡◌, ◌∙◌, sym, ap, subst, map, put, WellFormed, spot_cmp, with_row, held_tree, row_entry}
 use Rattle.pua_tree.specs.Tree as tree
-use Rattle.pua_tree.specs.Tree.{WellFormed, spot_cmp}
-use Rattle.pua_tree.specs.Edits.{with_row}
-use Rattle.pua_tree.specs.ListTree.{held_tree, row_entry}
 use Rattle.pua_tree.proofs.EditsKeep.{edits_keep_trees}
 use Rattle.pua_tree.proofs.ListEdits.{row_came}
 use Rattle.pua_tree.proofs.list.ListTreeFileTree.tie.Goals as goal

@@ -1,10 +1,6 @@
-use Rattle.std.proofs.Common.{◌≡◌, ◌∙◌, ◌++◌, [], option_map, sym, ap, subst, map}
-use Rattle.std.specs.List.{cons_option}
-use Rattle.std.specs.FinMap.{put}
+use Rattle.pua_tree.proofs.Common.{◌≡◌, ◌∙◌, ◌++◌, [], option_map, sym, ap, subst, map, cons_option, put, WellFormed, spot_cmp, row_entry}
+use Rattle.pua_tree.proofs.Common.{node_entry, Follows, tree_with, entry_said}
 use Rattle.pua_tree.specs.Tree as tree
-use Rattle.pua_tree.specs.Tree.{WellFormed, spot_cmp}
-use Rattle.pua_tree.specs.ListTree.{row_entry, node_entry}
-use Rattle.pua_tree.specs.Reading.{Follows, tree_with, entry_said}
 use Rattle.pua_tree.proofs.ListEdits.{entry_came}
 use Rattle.pua_tree.proofs.Raised.{grown_keeps}
 use Rattle.pua_tree.proofs.list.ListTreeGathered.put.Goals as goal

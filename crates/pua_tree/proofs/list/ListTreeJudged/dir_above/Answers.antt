@@ -1,6 +1,4 @@
-use Rattle.std.proofs.Common.{◌≡◌, ◌∙◌, true, refl, ap, Some, map}
-use Rattle.pua_tree.specs.Tree.{is_dir}
-use Rattle.pua_tree.specs.ListTree.{row_entry}
+use Rattle.pua_tree.proofs.Common.{◌≡◌, ◌∙◌, true, refl, ap, Some, map, is_dir, row_entry}
 use Rattle.pua_tree.proofs.Rows.{above_row}
 use Rattle.pua_tree.proofs.list.ListTreeJudged.dir_above.Goals as goal
 

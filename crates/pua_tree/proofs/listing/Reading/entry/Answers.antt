@@ -1,8 +1,5 @@
-use Rattle.std.proofs.Common.{◌≡◌, Some, None, Ok, Err, sym, ◌∙◌}
-use Rattle.std.proofs.lemmas.Result.{err_from_is_err_and}
-use Rattle.pua_tree.specs.Listing.{listing_line, number_in, parent_in}
-use Rattle.pua_tree.specs.Spelling.{name_of}
-use Rattle.pua_tree.specs.Lines.{line_read}
+use Rattle.pua_tree.proofs.Common.{◌≡◌, Some, None, Ok, Err, sym, ◌∙◌, err_from_is_err_and, listing_line, number_in, parent_in, name_of}
+use Rattle.pua_tree.proofs.Common.{line_read}
 use Rattle.pua_tree.proofs.Judged.{number_here, parent_here, bad_parent, bad_name, bad_node, whole_entry}
 use Rattle.pua_tree.proofs.listing.Reading.entry.Goals as goal
 

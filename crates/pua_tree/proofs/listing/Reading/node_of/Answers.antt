@@ -1,7 +1,4 @@
-use Rattle.std.proofs.Common.{◌≡◌, Some, None, sym, ap, ◌∙◌}
-use Rattle.std.proofs.lemmas.Result.{err_from_is_err_and}
-use Rattle.pua_tree.specs.Listing.{hard_node_in, node_of}
-use Rattle.pua_tree.specs.Lines.{line_read}
+use Rattle.pua_tree.proofs.Common.{◌≡◌, Some, None, sym, ap, ◌∙◌, err_from_is_err_and, hard_node_in, node_of, line_read}
 use Rattle.pua_tree.proofs.Judged.{node_here, tied_node, no_node}
 use Rattle.pua_tree.proofs.listing.Reading.node_of.Goals as goal
 

@@ -1,8 +1,6 @@
-use Rattle.std.proofs.Common.{◌≡◌, ◌∙◌, ◌+◌, ◌++◌, ◌∷◌, [], length, Ok, true, false, is_some, sym, subst, rules, arith}
+use Rattle.pua_tree.proofs.Common.{◌≡◌, ◌∙◌, ◌+◌, ◌++◌, ◌∷◌, [], length, Ok, true, false, is_some, sym, subst, rules, arith, look, entry_of}
+use Rattle.pua_tree.proofs.Common.{Gathers, entry_said}
 use Rattle.pua_tree.specs.Tree as tree
-use Rattle.pua_tree.specs.Tree.{look}
-use Rattle.pua_tree.specs.Listing.{entry_of}
-use Rattle.pua_tree.specs.Reading.{Gathers, entry_said}
 use Rattle.pua_tree.proofs.Entries.{Fits}
 use Rattle.pua_tree.proofs.ListingGrammar.{entry_read}
 use Rattle.pua_tree.proofs.Gathering.{taken_entry, crowded_entry, admitted_entry, gathered_more, fit_follows}

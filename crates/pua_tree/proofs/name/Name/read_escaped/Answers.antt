@@ -1,6 +1,4 @@
-use Rattle.std.proofs.Common.{◌≡◌, false, ◌<◌, ◌≤◌, length, Some, sym, ap, ◌∙◌, arith}
-use Rattle.pua_tree.specs.Names.{has_byte}
-use Rattle.pua_tree.specs.Spelling.{name_of_bytes}
+use Rattle.pua_tree.proofs.Common.{◌≡◌, false, ◌<◌, ◌≤◌, length, Some, sym, ap, ◌∙◌, arith, has_byte, name_of_bytes}
 use Rattle.pua_tree.proofs.NameFields.{name_of-slash, name_of-long, front_written}
 use Rattle.pua_tree.proofs.name.Name.read_escaped.Goals as goal
 

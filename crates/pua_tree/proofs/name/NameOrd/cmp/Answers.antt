@@ -1,4 +1,4 @@
-use Rattle.std.proofs.Common.{◌∙◌, sym}
+use Rattle.pua_tree.proofs.Common.{◌∙◌, sym}
 use Rattle.pua_tree.proofs.Fronts.{front_decides}
 use Rattle.pua_tree.proofs.name.NameOrd.cmp.Goals as goal
 

@@ -1,10 +1,6 @@
-use Rattle.std.proofs.Common.{◌≡◌, ◌∙◌, Ok, Some, sym, ap, subst, is_some}
-use Rattle.std.specs.Ordering.{nat_cmp}
-use Rattle.std.specs.FinMap.{find}
+use Rattle.pua_tree.proofs.Common.{◌≡◌, ◌∙◌, Ok, Some, sym, ap, subst, is_some, nat_cmp, find, WellFormed, without_row, without_unnamed}
+use Rattle.pua_tree.proofs.Common.{held_in_slots}
 use Rattle.pua_tree.specs.Tree as tree
-use Rattle.pua_tree.specs.Tree.{WellFormed}
-use Rattle.pua_tree.specs.Edits.{without_row, without_unnamed}
-use Rattle.pua_tree.specs.Slots.{held_in_slots}
 use Rattle.pua_tree.proofs.EditsKeep.{edits_keep_trees}
 use Rattle.pua_tree.proofs.SlabEdits.{found_row, living_in, row_living}
 use Rattle.pua_tree.proofs.slab_tree.SlabTreeFileTree.cut.Goals as goal

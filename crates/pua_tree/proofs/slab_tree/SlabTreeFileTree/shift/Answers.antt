@@ -1,10 +1,6 @@
-use Rattle.std.proofs.Common.{rules, ◌≡◌, ◌≢◌, ◌∙◌, ℕ, Option, Some, None, Ok, sym, ap, subst, is_some}
-use Rattle.std.specs.Ordering.{nat_cmp}
-use Rattle.std.specs.FinMap.{find}
+use Rattle.pua_tree.proofs.Common.{rules, ◌≡◌, ◌≢◌, ◌∙◌, ℕ, Option, Some, None, Ok, sym, ap, subst, is_some, nat_cmp, find, WellFormed}
+use Rattle.pua_tree.proofs.Common.{look, with_row, without_row, without_unnamed, with_row_moved, held_in_slots, held_rows, row_at}
 use Rattle.pua_tree.specs.Tree as tree
-use Rattle.pua_tree.specs.Tree.{WellFormed, look}
-use Rattle.pua_tree.specs.Edits.{with_row, without_row, without_unnamed, with_row_moved}
-use Rattle.pua_tree.specs.Slots.{held_in_slots, held_rows, row_at}
 use Rattle.pua_tree.proofs.EditsKeep.{edits_keep_trees}
 use Rattle.pua_tree.proofs.SlotsHold.{rows_found, rows_sorted}
 use Rattle.pua_tree.proofs.SlabEdits.{found_row, living_in, row_living, free_there, others_left, named_once, named_once_still, row_not_root}

@@ -1,5 +1,5 @@
-use Rattle.std.proofs.Common.{◌∙◌, ap}
-use Rattle.pua_tree.specs.Tree.{Tree, target_at}
+use Rattle.pua_tree.proofs.Common.{◌∙◌, ap, Tree}
+use Rattle.pua_tree.specs.Tree.{target_at}
 use Rattle.pua_tree.proofs.SlabTrees.{target_known}
 use Rattle.pua_tree.proofs.slab_tree.SlabTreeFileTree.target.Goals as goal
 

@@ -1,8 +1,5 @@
-use Rattle.std.proofs.Common.{rules, ◌≡◌, ◌∙◌, Ok, None, sym, ap, subst}
+use Rattle.pua_tree.proofs.Common.{rules, ◌≡◌, ◌∙◌, Ok, None, sym, ap, subst, WellFormed, is_dir, with_row, held_in_slots}
 use Rattle.pua_tree.specs.Tree as tree
-use Rattle.pua_tree.specs.Tree.{WellFormed, is_dir}
-use Rattle.pua_tree.specs.Edits.{with_row}
-use Rattle.pua_tree.specs.Slots.{held_in_slots}
 use Rattle.pua_tree.proofs.EditsKeep.{edits_keep_trees}
 use Rattle.pua_tree.proofs.SlabEdits.{found_row, no_dir_may}
 use Rattle.pua_tree.proofs.slab_tree.SlabTreeFileTree.tie.Goals as goal

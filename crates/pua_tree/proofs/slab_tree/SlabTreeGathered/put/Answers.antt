@@ -1,9 +1,6 @@
-use Rattle.std.proofs.Common.{arith, ◌≡◌, ◌∙◌, sym, ap, subst}
-use Rattle.std.specs.FinMap.{put, find}
+use Rattle.pua_tree.proofs.Common.{arith, ◌≡◌, ◌∙◌, sym, ap, subst, put, find, WellFormed, spot_cmp, Follows, tree_with, entry_said}
+use Rattle.pua_tree.proofs.Common.{held_in_slots, held_rows}
 use Rattle.pua_tree.specs.Tree as tree
-use Rattle.pua_tree.specs.Tree.{WellFormed, spot_cmp}
-use Rattle.pua_tree.specs.Reading.{Follows, tree_with, entry_said}
-use Rattle.pua_tree.specs.Slots.{held_in_slots, held_rows}
 use Rattle.pua_tree.proofs.Raised.{grown_keeps}
 use Rattle.pua_tree.proofs.SlotsKeep.{rows_by}
 use Rattle.pua_tree.proofs.SlotsHold.{rows_found}

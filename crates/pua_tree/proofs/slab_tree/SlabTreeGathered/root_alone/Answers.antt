@@ -1,5 +1,4 @@
-use Rattle.std.proofs.Common.{sym, subst}
-use Rattle.pua_tree.specs.Tree.{WellFormed}
+use Rattle.pua_tree.proofs.Common.{sym, subst, WellFormed}
 use Rattle.pua_tree.proofs.SlabEdits.{empty_is_tree}
 use Rattle.pua_tree.proofs.slab_tree.SlabTreeGathered.root_alone.Goals as goal
 

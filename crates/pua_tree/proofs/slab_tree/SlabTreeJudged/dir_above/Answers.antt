@@ -1,6 +1,5 @@
-use Rattle.std.proofs.Common.{◌≡◌, ◌∙◌, true, sym, ap}
-use Rattle.pua_tree.specs.Tree.{Tree, is_dir, parent}
-use Rattle.pua_tree.specs.Slots.{held_in_slots}
+use Rattle.pua_tree.proofs.Common.{◌≡◌, ◌∙◌, true, sym, ap, Tree, is_dir, held_in_slots}
+use Rattle.pua_tree.specs.Tree.{parent}
 use Rattle.pua_tree.proofs.SlabTrees.{parent_known}
 use Rattle.pua_tree.proofs.slab_tree.SlabTreeJudged.dir_above.Goals as goal
 

@@ -1,6 +1,5 @@
-use Rattle.std.proofs.Common.{◌≡◌, ◌∙◌, true, sym, ap}
-use Rattle.pua_tree.specs.Tree.{Tree, is_dir, is_empty}
-use Rattle.pua_tree.specs.Slots.{held_in_slots}
+use Rattle.pua_tree.proofs.Common.{◌≡◌, ◌∙◌, true, sym, ap, Tree, is_dir, held_in_slots}
+use Rattle.pua_tree.specs.Tree.{is_empty}
 use Rattle.pua_tree.proofs.SlabTrees.{emptiness_known}
 use Rattle.pua_tree.proofs.slab_tree.SlabTreeJudged.is_bare.Goals as goal
 

@@ -1,5 +1,4 @@
-use Rattle.std.proofs.Common.{◌∙◌, ap}
-use Rattle.pua_tree.specs.Tree.{Tree, kind_at}
+use Rattle.pua_tree.proofs.Common.{◌∙◌, ap, Tree, kind_at}
 use Rattle.pua_tree.proofs.SlabTrees.{kind_known}
 use Rattle.pua_tree.proofs.slab_tree.SlabTreeJudged.kind_of.Goals as goal
 

@@ -1,5 +1,4 @@
-use Rattle.std.proofs.Common.{◌∙◌, sym, ap}
-use Rattle.pua_tree.specs.Tree.{Tree, look}
+use Rattle.pua_tree.proofs.Common.{◌∙◌, sym, ap, Tree, look}
 use Rattle.pua_tree.proofs.SlotsHold.{rows_found}
 use Rattle.pua_tree.proofs.slab_tree.SlabTreeJudged.node_at.Goals as goal
 

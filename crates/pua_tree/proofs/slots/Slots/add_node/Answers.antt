@@ -1,7 +1,4 @@
-use Rattle.std.proofs.Common.{◌≡◌, ◌+◌, ◌∙◌, ℕ, Option, None, is_some, cond, refl, ap}
-use Rattle.indexmap.specs.IndexMap.{index_map_len}
-use Rattle.pua_tree.specs.declared.slots.Slots.{Slots}
-use Rattle.pua_tree.specs.declared.slots.SlotNode.{SlotNode}
+use Rattle.pua_tree.proofs.Common.{◌≡◌, ◌+◌, ◌∙◌, ℕ, Option, None, is_some, cond, refl, ap, index_map_len, Slots, SlotNode}
 use Rattle.pua_tree.proofs.SlotsHold.{nodes_put}
 use Rattle.pua_tree.proofs.SlotsNodes.{found_added, kept_added}
 use Rattle.pua_tree.proofs.slots.Slots.add_node.Goals as goal

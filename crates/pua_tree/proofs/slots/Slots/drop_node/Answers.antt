@@ -1,7 +1,4 @@
-use Rattle.std.proofs.Common.{◌≡◌, ◌+◌, ◌∙◌, ℕ, Option, Some, is_some, cond, refl, sym, ap}
-use Rattle.indexmap.specs.IndexMap.{index_map_len}
-use Rattle.pua_tree.specs.Slots.{slot_of}
-use Rattle.pua_tree.specs.declared.slots.Slots.{Slots}
+use Rattle.pua_tree.proofs.Common.{◌≡◌, ◌+◌, ◌∙◌, ℕ, Option, Some, is_some, cond, refl, sym, ap, index_map_len, slot_of, Slots}
 use Rattle.pua_tree.proofs.SlotsHold.{nodes_taken}
 use Rattle.pua_tree.proofs.SlotsNodes.{found_dropped, filed_dropped, kept_dropped}
 use Rattle.pua_tree.proofs.slots.Slots.drop_node.Goals as goal

@@ -1,8 +1,7 @@
-use Rattle.std.proofs.Common.{rules, tests, ◌∙◌}
+use Rattle.pua_tree.proofs.Common.{rules, tests, ◌∙◌, lent_entry}
 use Rattle.std.proofs.lemmas.Iterator.{YieldsList-from_map_by}
 use Rattle.std.proofs.lemmas.Iterator.Consumers.{map_from_collect, YieldsList-from_rest}
 use Rattle.std.proofs.lemmas.Result.{IfOk-at_ok}
-use Rattle.pua_tree.specs.LentRows.{lent_entry}
 use Rattle.pua_tree.proofs.SlotsRows.{entry_of, rows_lent}
 use Rattle.pua_tree.proofs.slots.Slots.lent_rows.Goals as goal
 

@@ -1,8 +1,7 @@
-use Rattle.std.proofs.Common.{◌∙◌, ap, map, refl, reverse, List}
+use Rattle.pua_tree.proofs.Common.{◌∙◌, ap, map, refl, reverse, List, distinct_names}
 use Rattle.std.proofs.lemmas.List.{reverse-reverse}
 use Rattle.std.proofs.lemmas.Iterator.Adapters.{YieldsList-from_rev_slice}
 use Rattle.std.proofs.lemmas.Iterator.Consumers.{YieldsList-end}
-use Rattle.pua_tree.specs.Tree.{distinct_names}
 use Rattle.pua_tree.specs.declared.spot.Spot.{Spot}
 use Rattle.pua_tree.proofs.SlotsNames.{names_held, one_name_more}
 use Rattle.pua_tree.proofs.slots.Slots.name_set.Goals as goal

@@ -1,5 +1,4 @@
-use Rattle.std.proofs.Common.{◌≡◌, map, reverse}
-use Rattle.pua_tree.specs.Tree.{distinct_names}
+use Rattle.pua_tree.proofs.Common.{◌≡◌, map, reverse, distinct_names}
 use Rattle.pua_tree.proofs.slots.Slots.name_set.Given as goal
 
 abbrev pub invariant-loop-spot : goal.invariant-loop-spot

@@ -1,6 +1,4 @@
-use Rattle.std.proofs.Common.{refl, ◌<◌, ◌^◌, length}
-use Rattle.pua_tree.specs.Slots.{held_rows}
-use Rattle.pua_tree.specs.declared.slots.Slots.{Slots}
+use Rattle.pua_tree.proofs.Common.{refl, ◌<◌, ◌^◌, length, held_rows, Slots}
 use Rattle.pua_tree.proofs.SlotsKeep.{few_rows, few_names, rows_after_put, nodes_after_put, kept_after_put}
 use Rattle.pua_tree.proofs.slots.Slots.put_row.Goals as goal
 

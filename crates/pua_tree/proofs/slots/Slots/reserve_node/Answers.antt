@@ -1,8 +1,5 @@
-use Rattle.std.proofs.Common.{ℕ, length, ap}
-use Rattle.std.specs.Map.{lookup}
-use Rattle.slab.specs.Slab.{Slab, get as slot_get, slab_len}
-use Rattle.pua_tree.specs.declared.slots.Slots.{Slots}
-use Rattle.pua_tree.specs.declared.slots.SlotNode.{SlotNode}
+use Rattle.pua_tree.proofs.Common.{ℕ, length, ap, lookup, Slab, Slots, SlotNode}
+use Rattle.slab.specs.Slab.{get as slot_get, slab_len}
 use Rattle.pua_tree.specs.contracts.node.NodeIdPartialEq.TheImpl.{ghosts as number_ghosts}
 use Rattle.pua_tree.proofs.SlotsHold.{rows_by_entries}
 use Rattle.pua_tree.proofs.SlotsNodes.{kept_alike, filed_alike, found_alike}

@@ -1,5 +1,4 @@
-use Rattle.std.proofs.Common.{refl}
-use Rattle.pua_tree.specs.declared.slots.Slots.{Slots}
+use Rattle.pua_tree.proofs.Common.{refl, Slots}
 use Rattle.pua_tree.proofs.SlotsKeep.{some_rows, some_names, rows_after_take, nodes_after_take, kept_after_take}
 use Rattle.pua_tree.proofs.slots.Slots.take_row.Goals as goal
 
