@@ -1,17 +1,15 @@
 -- Sets of calls by their bits.
-use Rattle.std.proofs.Common.{◌≡◌, ℕ, zero, suc, ◌+◌, ◌<◌, ◌≤◌, ◌^◌, Bool, true, false, max, min, nat_lt, refl, sym, ap, ◌∙◌, arith, get_or}
-use Rattle.std.proofs.Common.{◌*◌, ◌%◌, inl, inr}
+use Rattle.pua_calls.proofs.Common.{◌≡◌, ℕ, zero, suc, ◌<◌, ◌≤◌, ◌^◌, Bool, true, false, refl, sym, ap, ◌∙◌, arith, get_or, ◌*◌, ◌==◌}
+use Rattle.pua_calls.proofs.Common.{bit_or, bit_at, or_lt, calls, Call, Stat}
+use Rattle.std.proofs.Common.{◌+◌, max, min, nat_lt}
+use Rattle.std.proofs.Common.{◌%◌, inl, inr}
 use Rattle.std.proofs.lemmas.Bool.{cases_eq, cases_lt, lt-ltb, le-ltb}
-use Rattle.std.specs.Prelude.{◌≢◌, ◌==◌, ◌&&◌, ◌||◌, not, bit_and, bit_or}
-use Rattle.std.specs.Int.{bit_at}
+use Rattle.std.specs.Prelude.{◌≢◌, ◌&&◌, ◌||◌, not, bit_and}
 use Rattle.std.proofs.lemmas.List.{get_or-map}
 use Rattle.std.proofs.lemmas.List.FromFn.{get_or-range_with_len}
-use Rattle.std.proofs.lemmas.Nat.{or_lt}
 use Rattle.std.proofs.lemmas.Nat.Bits.{bit_at_or, bit_at_and, bit_at-lt, bit_at-zero}
-use Rattle.pua_calls.specs.Calls.{calls}
 use Rattle.pua_calls.specs.CallSets.{bit_of, has, keeps_link}
-use Rattle.pua_calls.specs.declared.call.Call.{Call}
-use Rattle.pua_calls.specs.declared.call.Call.TheVariants.{Stat, Lstat, Readlink, OpenRead, OpenWrite, OpenBoth, Create, Mkdir, Rmdir}
+use Rattle.pua_calls.specs.declared.call.Call.TheVariants.{Lstat, Readlink, OpenRead, OpenWrite, OpenBoth, Create, Mkdir, Rmdir}
 use Rattle.pua_calls.specs.declared.call.Call.TheVariants.{Unlink, Symlink, Chmod, Chdir, Exec}
 
 one_of : (x y : ℕ) → x < 2 → y < 2 → (max x y == 1) ≡ ((x == 1) || (y == 1))

@@ -1,11 +1,12 @@
 -- The keywords' flags are the rows of the definition.
-use Rattle.std.proofs.Common.{◌≡◌, ℕ, ◌<◌, ◌^◌, List, [], ◌∷◌, Bool, true, false, cond, map, refl, sym, ap, ◌∙◌, arith}
+use Rattle.pua_calls.proofs.Common.{◌≡◌, ℕ, ◌<◌, ◌^◌, List, [], ◌∷◌, Bool, true, false, map, refl, sym, ap, ◌∙◌, arith, Option, Some, None}
+use Rattle.pua_calls.proofs.Common.{same_bytes, holds, promise_of}
+use Rattle.std.proofs.Common.{cond}
 use Rattle.std.proofs.lemmas.Bool.Decides.{nat_tests}
 use Rattle.std.specs.List.{find, filter}
-use Rattle.std.specs.Prelude.{◌≤◌, Option, Some, None, length, option_map, nat_lt, slice_get}
+use Rattle.std.specs.Prelude.{◌≤◌, length, option_map, nat_lt, slice_get}
 use Rattle.std.proofs.lemmas.Option.{slice_get-map, slice_get_past}
-use Rattle.pua_tree.specs.Names.{same_bytes}
-use Rattle.pua_calls.specs.Promises.{holds, keyword_at, keyword_if, keyword_rows, keywords_of, promise_of}
+use Rattle.pua_calls.specs.Promises.{keyword_at, keyword_if, keyword_rows, keywords_of}
 use Rattle.pua_path.proofs.ForCallers.{find_passes}
 use Rattle.pua_tree.proofs.ForCallers.{find-map}
 

@@ -1,8 +1,7 @@
 -- The standard table, row by row.
-use Rattle.std.proofs.Common.{◌≡◌, ℕ, ◌<◌, List, length, get_or, sym, ap, ◌∙◌, arith}
+use Rattle.pua_calls.proofs.Common.{◌≡◌, ℕ, ◌<◌, List, length, get_or, sym, ap, ◌∙◌, arith, Rule, CallTable, calls, Stat}
 use Rattle.std.proofs.lemmas.List.{same_lists, get_or-map}
-use Rattle.pua_calls.specs.Calls.{Rule, CallTable, calls, standard_pair, standard_rule, standard_table}
-use Rattle.pua_calls.specs.declared.call.Call.TheVariants.{Stat}
+use Rattle.pua_calls.specs.Calls.{standard_pair, standard_rule, standard_table}
 use Rattle.pua_calls.specs.declared.rules.ExecPromises.TheVariants.{Unset}
 
 -- rules that are each call's standard one are those of the standard table

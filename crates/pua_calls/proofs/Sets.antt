@@ -1,11 +1,11 @@
 -- Sets of bits, and what words and letters give one after another.
-use Rattle.std.proofs.Common.{◌≡◌, ℕ, ◌+◌, ◌<◌, ◌≤◌, List, ◌∷◌, length, get_or, drop, max, refl, sym, ap, ◌∙◌, arith, map}
+use Rattle.pua_calls.proofs.Common.{◌≡◌, ℕ, ◌<◌, ◌≤◌, List, ◌∷◌, length, get_or, drop, refl, sym, ap, ◌∙◌, arith, map, bit_at, bit_or}
+use Rattle.pua_calls.proofs.Common.{Option, Some, None, Result, Ok, Err, union_of}
+use Rattle.std.proofs.Common.{◌+◌, max}
 use Rattle.std.proofs.lemmas.Nat.Bits.{bit_at_or, same_from_bits}
 use Rattle.std.proofs.lemmas.List.{at_drop_more, at_drop_all}
 use Rattle.std.specs.Int.Bits.{or_zero_r}
-use Rattle.std.specs.Int.{bit_at}
-use Rattle.std.specs.Prelude.{bit_or, Option, Some, None, Result, Ok, Err}
-use Rattle.pua_calls.specs.Promises.{union_or_fault, union_of}
+use Rattle.pua_calls.specs.Promises.{union_or_fault}
 use Rattle.pua_path.specs.declared.errno.Errno.{Errno}
 use Rattle.pua_path.specs.declared.errno.Errno.TheVariants.{EINVAL}
 

@@ -1,17 +1,18 @@
 -- No table of calls that a text gives needs `error`, if the one doesn't over which it is read.
-use Rattle.std.proofs.Common.{◌≡◌, ℕ, zero, suc, ◌^◌, ◌<◌, List, [], ◌∷◌, Bool, true, false, map, refl, subst, lit<}
-use Rattle.std.proofs.lemmas.Nat.{or_lt}
-use Rattle.std.specs.List.{AllByRecursion, slice_split}
-use Rattle.std.specs.Prelude.{Option, None, Some, Result, Ok, Err, ok_or, bit_or, if◌then◌else◌, ◌==◌, slice_index_or, slice_set}
+use Rattle.pua_calls.proofs.Common.{◌≡◌, ℕ, zero, suc, ◌^◌, ◌<◌, List, [], ◌∷◌, Bool, true, false, map, refl, subst, or_lt, slice_split}
+use Rattle.pua_calls.proofs.Common.{Option, None, Some, Result, Ok, Err, bit_or, ◌==◌, holds, promise_of, union_of, CallTable, Rule}
+use Rattle.pua_calls.proofs.Common.{rules_with, Call}
+use Rattle.std.proofs.Common.{lit<}
+use Rattle.std.specs.List.{AllByRecursion}
+use Rattle.std.specs.Prelude.{ok_or, if◌then◌else◌, slice_index_or, slice_set}
 use Rattle.toml.specs.Data.{Data, as_str, Items, no_items, item, Members, no_members, member}
 use Rattle.pua_tree.proofs.ForCallers.{step_read}
 use Rattle.pua_path.specs.declared.errno.Errno.{Errno}
-use Rattle.pua_calls.specs.Promises.{holds, error, promise_of, promises_of, perms_of, union_or_fault, union_of}
-use Rattle.pua_calls.specs.Calls.{CallTable, Rule, standard_rule, call_named}
+use Rattle.pua_calls.specs.Promises.{error, promises_of, perms_of, union_or_fault}
+use Rattle.pua_calls.specs.Calls.{standard_rule, call_named}
 use Rattle.pua_calls.specs.Tables.{NamesNoError, NeedsNoError, NoCallNeedsError, HasPairsOf}
-use Rattle.pua_calls.specs.TableTexts.{alternative_of, alternatives_of, veil_of, row_of, rule_in, rules_with, with_rule, document_of}
+use Rattle.pua_calls.specs.TableTexts.{alternative_of, alternatives_of, veil_of, row_of, rule_in, with_rule, document_of}
 use Rattle.pua_calls.specs.TableTexts.{table_of_document, table_over}
-use Rattle.pua_calls.specs.declared.call.Call.{Call}
 use Rattle.pua_calls.specs.declared.table.read.TableFault.TheVariants.{BadKey, BadRow, BadPromises}
 use Rattle.pua_calls.proofs.Keywords.{promise_of-below}
 use Rattle.pua_calls.proofs.TableTexts.{no_error_in}

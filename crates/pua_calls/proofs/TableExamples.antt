@@ -1,5 +1,6 @@
 -- The worked examples of tables, by computing each text.
-use Rattle.std.proofs.Common.{refl, lit<}
+use Rattle.pua_calls.proofs.Common.{refl}
+use Rattle.std.proofs.Common.{lit<}
 use Rattle.std.specs.Str.{chars, is_utf8}
 use Rattle.toml.proofs.OnLiterals.{toml_on_literals}
 use Rattle.pua_calls.specs.TableExamples.{TableRows, OpenbsdRows}

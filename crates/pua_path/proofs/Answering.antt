@@ -1,29 +1,19 @@
 -- A trace answers as the resolution does.
-use Rattle.std.proofs.Common.{◌≡◌, ℕ, zero, suc, Bool, true, false, List, [], ◌∷◌, ◌++◌, Some, None, refl, ap, ◌∙◌, Result, Ok, Err}
-use Rattle.std.specs.Prelude.{if◌then◌else◌, not, ◌&&◌, Option, option_map}
-use Rattle.pua_tree.specs.Tree.{Tree, Spot, is_dir}
-use Rattle.pua_tree.specs.Steps.{◌>>=◌}
+use Rattle.pua_path.proofs.Common.{◌≡◌, ℕ, zero, suc, Bool, true, false, List, [], ◌∷◌, ◌++◌, Some, None, refl, ap, ◌∙◌, Result, Ok, Err}
+use Rattle.pua_path.proofs.Common.{if◌then◌else◌, not, ◌&&◌, option_map, Tree, Spot, is_dir, ◌>>=◌, parts_of, is_absolute, Resolved}
+use Rattle.pua_path.proofs.Common.{Directory, Linked, Plain, Nothing, standing_at, is_followed, slot_or, walk, start_of, resolve_parts}
+use Rattle.pua_path.proofs.Common.{resolution, Errno, ENOENT, ENOTDIR, ELOOP, Ending, Part, Last, Way, Named, Dot, DotDot, Top, Found, Slot}
+use Rattle.pua_path.proofs.Common.{Stop, NoEntry, NoDirectory, LinkBeyond, Trace, at_once, after_links, slot_or_stop, walk_traced}
+use Rattle.pua_path.proofs.Common.{trace_parts, as_path_trace, PathTrace, trace_from}
+use Rattle.std.specs.Prelude.{Option}
 use Rattle.pua_path.specs.Limits.{most_links}
-use Rattle.pua_path.specs.Paths.{parts_of, is_absolute, text_errno, text_fault}
-use Rattle.pua_path.specs.Resolution.{Resolved, Directory, Linked, Plain, Nothing, standing_at, is_followed, slot_or, walk, start_of}
-use Rattle.pua_path.specs.Resolution.{resolve_parts, resolution}
-use Rattle.pua_path.specs.declared.errno.Errno.{Errno}
-use Rattle.pua_path.specs.declared.errno.Errno.TheVariants.{ENOENT, ENOTDIR, ELOOP}
-use Rattle.pua_path.specs.declared.text.Ending.{Ending}
+use Rattle.pua_path.specs.Paths.{text_errno, text_fault}
 use Rattle.pua_path.specs.declared.text.Ending.TheVariants as ending
-use Rattle.pua_path.specs.declared.found.Part.{Part}
 use Rattle.pua_path.specs.declared.found.Part.TheVariants as parts
-use Rattle.pua_path.specs.declared.found.Last.{Last}
-use Rattle.pua_path.specs.declared.found.Way.{Way}
-use Rattle.pua_path.specs.declared.found.Way.TheVariants.{Named, Dot, DotDot, Top}
-use Rattle.pua_path.specs.declared.found.Found.{Found}
-use Rattle.pua_path.specs.declared.found.Found.TheVariants.{Slot}
-use Rattle.pua_path.specs.declared.traced.Stop.{Stop}
-use Rattle.pua_path.specs.declared.traced.Stop.TheVariants.{NoEntry, NoDirectory, LinkBeyond}
 use Rattle.pua_path.specs.declared.traced.TextFault.{TextFault}
 use Rattle.pua_path.specs.declared.traced.PathFault.TheVariants.{InText, NoStart}
-use Rattle.pua_path.specs.Traces.{stop_errno, Trace, at_once, after_links, slot_or_stop, walk_traced, trace_parts, resolved_as}
-use Rattle.pua_path.specs.Traces.{named_or_stopped, as_path_trace, PathTrace, fails_in, trace_from, object_or_errno}
+use Rattle.pua_path.specs.Traces.{stop_errno, resolved_as}
+use Rattle.pua_path.specs.Traces.{named_or_stopped, fails_in, object_or_errno}
 use Rattle.pua_path.specs.TraceLaws.{TracesAnswer, TextTracesAnswer}
 
 slot_answers : (rest : List Part) (found : Found) (stop : Stop) (links : ℕ) →

@@ -1,23 +1,12 @@
 -- Resolution may be cut before any further part.
-use Rattle.std.proofs.Common.{◌≡◌, ℕ, zero, suc, List, [], ◌∷◌, ◌++◌, true, refl, sym, ap, ◌∙◌, append_assoc}
-use Rattle.std.specs.Prelude.{Ok, Err, Some, None, if◌then◌else◌}
-use Rattle.pua_tree.specs.Tree.{Tree}
-use Rattle.pua_tree.specs.Steps.{◌>>=◌}
-use Rattle.pua_path.specs.Paths.{parts_of}
-use Rattle.pua_path.specs.Resolution.{Resolved, Directory, Linked, Plain, Nothing, standing_at, is_followed, slot_or, walk, start_of}
-use Rattle.pua_path.specs.Resolution.{resolve_parts}
+use Rattle.pua_path.proofs.Common.{◌≡◌, ℕ, zero, suc, List, [], ◌∷◌, ◌++◌, true, refl, sym, ap, ◌∙◌, append_assoc, if◌then◌else◌, Tree}
+use Rattle.pua_path.proofs.Common.{◌>>=◌, parts_of, Resolved, Directory, Linked, Plain, Nothing, standing_at, is_followed, slot_or, walk}
+use Rattle.pua_path.proofs.Common.{start_of, resolve_parts, Errno, ENOENT, ENOTDIR, ELOOP, Part, Last, Followed, Kept, Way, Named, Dot}
+use Rattle.pua_path.proofs.Common.{DotDot, Top, Found, Slot}
+use Rattle.std.specs.Prelude.{Ok, Err, Some, None}
 use Rattle.pua_path.specs.Laws.{onwards, ResolutionComposes}
-use Rattle.pua_path.specs.declared.errno.Errno.{Errno}
-use Rattle.pua_path.specs.declared.errno.Errno.TheVariants.{ENOENT, ENOTDIR, ELOOP}
 use Rattle.pua_path.specs.declared.text.Ending.TheVariants as ending
-use Rattle.pua_path.specs.declared.found.Part.{Part}
 use Rattle.pua_path.specs.declared.found.Part.TheVariants as parts
-use Rattle.pua_path.specs.declared.found.Last.{Last}
-use Rattle.pua_path.specs.declared.found.Last.TheVariants.{Followed, Kept}
-use Rattle.pua_path.specs.declared.found.Way.{Way}
-use Rattle.pua_path.specs.declared.found.Way.TheVariants.{Named, Dot, DotDot, Top}
-use Rattle.pua_path.specs.declared.found.Found.{Found}
-use Rattle.pua_path.specs.declared.found.Found.TheVariants.{Slot}
 
 -- before a further part each link is followed
 followed_before : (mode : Last) (ps : List Part) (q : Part) (qs : List Part) → is_followed mode (ps ++ q ∷ qs) ≡ true

@@ -1,31 +1,21 @@
 -- What resolution finds is of the tree.
-use Rattle.std.proofs.Common.{◌≡◌, ◌≤◌, ℕ, zero, suc, List, [], ◌∷◌, ◌++◌, Bool, true, false, refl, sym, ap, ◌∙◌, subst, arith}
-use Rattle.std.specs.Prelude.{Option, Some, None, Result, Ok, Err, option_map, is_none, is_some, if◌then◌else◌, ◌&&◌, not, ◌-◌, ◌==◌, IfOk}
+use Rattle.pua_path.proofs.Common.{◌≡◌, ◌≤◌, ℕ, zero, suc, List, [], ◌∷◌, ◌++◌, Bool, true, false, refl, sym, ap, ◌∙◌, subst, arith}
+use Rattle.pua_path.proofs.Common.{option_map, if◌then◌else◌, ◌&&◌, not, ◌==◌, and_parts, Tree, Node, node_at, is_dir, above, ◌>>=◌, Kind}
+use Rattle.pua_path.proofs.Common.{parts_of, is_absolute, Resolved, Standing, Directory, Linked, Plain, Nothing, standing_at, is_followed}
+use Rattle.pua_path.proofs.Common.{slot_or, walk, start_of, resolve_parts, dir_with_links, resolution, most_links, Errno, ENOENT, ENOTDIR}
+use Rattle.pua_path.proofs.Common.{ELOOP, Ending, Part, Last, Followed, Way, Named, Dot, DotDot, Top, Found, Whole, Slot}
+use Rattle.std.specs.Prelude.{Option, Some, None, Result, Ok, Err, is_none, is_some, ◌-◌, IfOk}
 use Rattle.std.specs.Option.{option_eq}
-use Rattle.std.proofs.lemmas.Bool.{eq-eqb, and_parts, and_from}
-use Rattle.pua_tree.specs.Tree.{Tree, Node, WellFormed, look, node_at, is_dir, is_dir_kind, is_living, above, row_fits, spot_cmp}
+use Rattle.std.proofs.lemmas.Bool.{eq-eqb, and_from}
+use Rattle.pua_tree.specs.Tree.{WellFormed, look, is_dir_kind, is_living, row_fits, spot_cmp}
 use Rattle.pua_tree.specs.Names.{is_name}
-use Rattle.pua_tree.specs.Steps.{◌>>=◌}
 use Rattle.pua_tree.proofs.ForCallers.{exact_spots}
-use Rattle.pua_tree.specs.declared.node.Kind.{Kind}
 use Rattle.pua_tree.specs.declared.node.Kind.TheVariants as kinds
-use Rattle.pua_path.specs.Paths.{parts_of, is_absolute}
-use Rattle.pua_path.specs.Resolution.{Resolved, Standing, Directory, Linked, Plain, Nothing, standing_of, standing_at, is_followed, slot_or}
-use Rattle.pua_path.specs.Resolution.{walk, start_of, resolve_parts, dir_with_links, resolution, most_links}
+use Rattle.pua_path.specs.Resolution.{standing_of}
 use Rattle.pua_path.specs.Fits.{FoundFits, FoundsFit, StandsAsNamed, IsOf, is_link_kind}
 use Rattle.pua_path.specs.Laws.{Lands, ResolutionsFit}
-use Rattle.pua_path.specs.declared.errno.Errno.{Errno}
-use Rattle.pua_path.specs.declared.errno.Errno.TheVariants.{ENOENT, ENOTDIR, ELOOP}
-use Rattle.pua_path.specs.declared.text.Ending.{Ending}
 use Rattle.pua_path.specs.declared.text.Ending.TheVariants as ending
-use Rattle.pua_path.specs.declared.found.Part.{Part}
 use Rattle.pua_path.specs.declared.found.Part.TheVariants as parts
-use Rattle.pua_path.specs.declared.found.Last.{Last}
-use Rattle.pua_path.specs.declared.found.Last.TheVariants.{Followed}
-use Rattle.pua_path.specs.declared.found.Way.{Way}
-use Rattle.pua_path.specs.declared.found.Way.TheVariants.{Named, Dot, DotDot, Top}
-use Rattle.pua_path.specs.declared.found.Found.{Found}
-use Rattle.pua_path.specs.declared.found.Found.TheVariants.{Whole, Slot}
 use Rattle.pua_path.proofs.Living.{list_all-find_key, above_lives, start_lives}
 use Rattle.pua_path.proofs.Steps.{met, walk_name}
 use Rattle.pua_path.proofs.StepsLaw.{Shrinks, shrinks}

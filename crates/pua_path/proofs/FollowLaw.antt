@@ -1,28 +1,23 @@
 -- What a part names where no link was used before tells it for any number of links used before.
-use Rattle.std.proofs.Common.{◌≡◌, ℕ, ◌+◌, ◌-◌, ◌≤◌, List, [], ◌∷◌, ◌++◌, Bool, true, false, Option, Some, None, option_map, refl, sym, ap}
-use Rattle.std.proofs.Common.{◌∙◌, subst, arith, inl, inr, Result, Ok, Err}
+use Rattle.pua_path.proofs.Common.{◌≡◌, ℕ, ◌+◌, ◌-◌, ◌≤◌, List, [], ◌∷◌, ◌++◌, Bool, true, false, Option, Some, None, refl, sym, ap, ◌∙◌}
+use Rattle.pua_path.proofs.Common.{subst, arith, Result, Ok, Err, Tree, Node, above, node_at, Kind, ◌>>=◌, parts_of, Resolved, Standing}
+use Rattle.pua_path.proofs.Common.{Directory, Linked, Plain, Nothing, standing_at, start_of, resolve_parts, step, last, most_links, Errno}
+use Rattle.pua_path.proofs.Common.{ELOOP, Part, Followed, Kept, Found, Whole, Slot}
+use Rattle.std.proofs.Common.{option_map}
+use Rattle.std.proofs.Common.{inl, inr}
 use Rattle.std.proofs.lemmas.Bool.{cases_lt}
 use Rattle.std.specs.Prelude.{option_and_then}
-use Rattle.pua_tree.specs.Tree.{Tree, Node, above, look, node_at, kind_at}
+use Rattle.pua_tree.specs.Tree.{look, kind_at}
 use Rattle.pua_tree.specs.Tree as tree
-use Rattle.pua_tree.specs.declared.node.Kind.{Kind}
 use Rattle.pua_tree.specs.declared.node.Kind.TheVariants as kinds
 use Rattle.pua_tree.proofs.ForCallers.{None≢Some, same_Some}
-use Rattle.pua_tree.specs.Steps.{◌>>=◌}
 use Rattle.pua_path.specs.Kinds.{is_file}
-use Rattle.pua_path.specs.Paths.{parts_of}
-use Rattle.pua_path.specs.Resolution.{Resolved, Standing, Directory, Linked, Plain, Nothing, standing_of, standing_at, start_of}
-use Rattle.pua_path.specs.Resolution.{resolve_parts, found_with_links, step, last, follow, most_links}
+use Rattle.pua_path.specs.Resolution.{standing_of}
+use Rattle.pua_path.specs.Resolution.{found_with_links, follow}
 use Rattle.pua_path.specs.Laws.{IsDecidedByLinks, FollowsLinks, dir_entered, IsFollowed, Fails, IsToldBy, FollowDecides, KeptFollowsNone}
-use Rattle.pua_path.specs.declared.errno.Errno.{Errno}
-use Rattle.pua_path.specs.declared.errno.Errno.TheVariants.{ELOOP}
 use Rattle.pua_path.specs.declared.text.Ending.TheVariants as ending
-use Rattle.pua_path.specs.declared.found.Part.{Part}
 use Rattle.pua_path.specs.declared.found.Part.TheVariants as parts
-use Rattle.pua_path.specs.declared.found.Last.TheVariants.{Followed, Kept}
 use Rattle.pua_path.specs.declared.found.Way.TheVariants as ways
-use Rattle.pua_path.specs.declared.found.Found.{Found}
-use Rattle.pua_path.specs.declared.found.Found.TheVariants.{Whole, Slot}
 use Rattle.pua_path.proofs.Steps.{resolve_end, resolve_dot, resolve_dotdot, resolve_directory, resolve_name, resolve_kept, resolve_linked}
 use Rattle.pua_path.proofs.Arrival.{arrived, step_arrives}
 use Rattle.pua_path.proofs.LinksLaw.{links_decide}

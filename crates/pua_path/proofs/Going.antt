@@ -1,24 +1,14 @@
 -- A trace says how the path goes, and the resolution goes so.
-use Rattle.std.proofs.Common.{◌≡◌, ℕ, zero, suc, Bool, true, false, List, [], ◌∷◌, ◌++◌, Some, None, refl, sym, ◌∙◌, Result, Ok, Err}
-use Rattle.std.proofs.Common.{Option, subst}
-use Rattle.std.specs.Prelude.{if◌then◌else◌}
-use Rattle.pua_tree.specs.Tree.{Tree, Spot, above}
-use Rattle.pua_path.specs.Paths.{parts_of}
-use Rattle.pua_path.specs.Remaining.{has_no_part}
-use Rattle.pua_path.specs.Resolution.{Standing, Directory, Linked, Plain, Nothing, standing_at, is_followed, start_of, resolve_parts}
+use Rattle.pua_path.proofs.Common.{◌≡◌, ℕ, zero, suc, Bool, true, false, List, [], ◌∷◌, ◌++◌, Some, None, refl, sym, ◌∙◌, Result, Ok, Err}
+use Rattle.pua_path.proofs.Common.{Option, subst, if◌then◌else◌, Tree, Spot, above, parts_of, has_no_part, Standing, Directory, Linked}
+use Rattle.pua_path.proofs.Common.{Plain, Nothing, standing_at, is_followed, start_of, resolve_parts, Part, Last, Way, Named, Dot, DotDot}
+use Rattle.pua_path.proofs.Common.{Top, Found, Whole, Slot, Stop, NoEntry, NoDirectory, LinkBeyond, Trace, at_once, after_links}
+use Rattle.pua_path.proofs.Common.{slot_or_stop, walk_traced, trace_parts}
 use Rattle.pua_path.specs.declared.text.Ending.TheVariants as ending
-use Rattle.pua_path.specs.declared.found.Part.{Part}
 use Rattle.pua_path.specs.declared.found.Part.TheVariants as parts
-use Rattle.pua_path.specs.declared.found.Last.{Last}
 use Rattle.pua_path.specs.declared.found.Last.TheVariants as last
-use Rattle.pua_path.specs.declared.found.Way.{Way}
-use Rattle.pua_path.specs.declared.found.Way.TheVariants.{Named, Dot, DotDot, Top}
-use Rattle.pua_path.specs.declared.found.Found.{Found}
-use Rattle.pua_path.specs.declared.found.Found.TheVariants.{Whole, Slot}
 use Rattle.pua_path.proofs.Steps.{resolve_dot, resolve_dotdot, resolve_directory, resolve_linked, resolve_passed}
-use Rattle.pua_path.specs.declared.traced.Stop.{Stop}
-use Rattle.pua_path.specs.declared.traced.Stop.TheVariants.{NoEntry, NoDirectory, LinkBeyond}
-use Rattle.pua_path.specs.Traces.{stop_spot, Trace, at_once, after_links, slot_or_stop, walk_traced, trace_parts}
+use Rattle.pua_path.specs.Traces.{stop_spot}
 use Rattle.pua_path.specs.Goes.{Comes, there, by_dot, by_dots, by_directory, by_target, StopsFor, IsFoundBy, EndsAt, Arrives, TracesArrive}
 use Rattle.pua_path.specs.Goes.{ComingResolves}
 use Rattle.pua_path.proofs.TraceSteps.{met_traced, traced_name}

@@ -1,20 +1,10 @@
 -- What a trace says is true of the tree, and its links are counted.
-use Rattle.std.proofs.Common.{◌≡◌, ℕ, zero, suc, Bool, true, false, List, [], ◌∷◌, ◌++◌, Some, None, refl, sym, arith, Result, Ok, Err}
-use Rattle.std.specs.Prelude.{if◌then◌else◌}
-use Rattle.pua_tree.specs.Tree.{Tree, Spot}
-use Rattle.pua_path.specs.Paths.{parts_of}
-use Rattle.pua_path.specs.Resolution.{Standing, Directory, Linked, Plain, Nothing, standing_at, is_followed, start_of}
+use Rattle.pua_path.proofs.Common.{◌≡◌, ℕ, zero, suc, Bool, true, false, List, [], ◌∷◌, ◌++◌, Some, None, refl, sym, arith, Result, Ok, Err}
+use Rattle.pua_path.proofs.Common.{if◌then◌else◌, Tree, Spot, parts_of, Standing, Directory, Linked, Plain, Nothing, standing_at}
+use Rattle.pua_path.proofs.Common.{is_followed, start_of, Part, Last, Way, Named, Dot, DotDot, Top, Found, Slot, Stop, NoEntry, NoDirectory}
+use Rattle.pua_path.proofs.Common.{LinkBeyond, Trace, at_once, after_links, slot_or_stop, walk_traced, trace_parts}
 use Rattle.pua_path.specs.declared.text.Ending.TheVariants as ending
-use Rattle.pua_path.specs.declared.found.Part.{Part}
 use Rattle.pua_path.specs.declared.found.Part.TheVariants as parts
-use Rattle.pua_path.specs.declared.found.Last.{Last}
-use Rattle.pua_path.specs.declared.found.Way.{Way}
-use Rattle.pua_path.specs.declared.found.Way.TheVariants.{Named, Dot, DotDot, Top}
-use Rattle.pua_path.specs.declared.found.Found.{Found}
-use Rattle.pua_path.specs.declared.found.Found.TheVariants.{Slot}
-use Rattle.pua_path.specs.declared.traced.Stop.{Stop}
-use Rattle.pua_path.specs.declared.traced.Stop.TheVariants.{NoEntry, NoDirectory, LinkBeyond}
-use Rattle.pua_path.specs.Traces.{Trace, at_once, after_links, slot_or_stop, walk_traced, trace_parts}
 use Rattle.pua_path.proofs.TraceSteps.{met_traced, traced_name}
 use Rattle.pua_path.specs.TraceLaws.{StopHolds, IsLinkAt, CountsLinks, TraceHolds, TracesHold}
 

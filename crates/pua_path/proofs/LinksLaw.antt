@@ -1,23 +1,13 @@
 -- How an answer depends on the links that may be followed.
-use Rattle.std.proofs.Common.{◌≡◌, ℕ, zero, suc, Bool, true, false, List, [], ◌∷◌, ◌++◌, Some, None, refl, ap, ◌∙◌, arith, ◌+◌, ◌-◌, ◌≤◌}
-use Rattle.std.proofs.Common.{◌<◌, ◌⊎◌, inl, inr, Result, Ok, Err}
-use Rattle.pua_tree.specs.Tree.{Tree}
-use Rattle.pua_tree.specs.Steps.{◌>>=◌}
-use Rattle.pua_path.specs.Paths.{parts_of}
-use Rattle.pua_path.specs.Resolution.{Resolved, Standing, Directory, Linked, Plain, Nothing, standing_at, is_followed, slot_or, start_of}
-use Rattle.pua_path.specs.Resolution.{resolve_parts, dir_with_links, step, last, most_links}
+use Rattle.pua_path.proofs.Common.{◌≡◌, ℕ, zero, suc, Bool, true, false, List, [], ◌∷◌, ◌++◌, Some, None, refl, ap, ◌∙◌, arith, ◌+◌, ◌-◌}
+use Rattle.pua_path.proofs.Common.{◌≤◌, ◌<◌, Result, Ok, Err, Tree, ◌>>=◌, parts_of, Resolved, Standing, Directory, Linked, Plain, Nothing}
+use Rattle.pua_path.proofs.Common.{standing_at, is_followed, slot_or, start_of, resolve_parts, dir_with_links, step, last, most_links}
+use Rattle.pua_path.proofs.Common.{Errno, ENOENT, ENOTDIR, ELOOP, Part, Last, Followed, Way, Found, Whole, Slot}
+use Rattle.std.proofs.Common.{◌⊎◌, inl, inr}
 use Rattle.pua_path.specs.Laws.{IsDecidedByLinks, LinksDecide, StepFollows, StepsFollow, LastFollows, LastsFollow}
-use Rattle.pua_path.specs.declared.errno.Errno.{Errno}
-use Rattle.pua_path.specs.declared.errno.Errno.TheVariants.{ENOENT, ENOTDIR, ELOOP}
 use Rattle.pua_path.specs.declared.text.Ending.TheVariants as ending
-use Rattle.pua_path.specs.declared.found.Part.{Part}
 use Rattle.pua_path.specs.declared.found.Part.TheVariants as parts
-use Rattle.pua_path.specs.declared.found.Last.{Last}
-use Rattle.pua_path.specs.declared.found.Last.TheVariants.{Followed}
-use Rattle.pua_path.specs.declared.found.Way.{Way}
 use Rattle.pua_path.specs.declared.found.Way.TheVariants as ways
-use Rattle.pua_path.specs.declared.found.Found.{Found}
-use Rattle.pua_path.specs.declared.found.Found.TheVariants.{Whole, Slot}
 use Rattle.pua_path.specs.Onward.{followed}
 use Rattle.pua_path.proofs.Steps.{resolve_end, resolve_dot, resolve_dotdot, resolve_directory, resolve_name, resolve_kept}
 use Rattle.pua_path.proofs.Steps.{resolve_linked}

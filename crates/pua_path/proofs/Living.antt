@@ -1,25 +1,21 @@
 -- What is true of the nodes of every tree.
-use Rattle.std.proofs.Common.{◌≡◌, ℕ, zero, suc, Bool, true, false, ◌&&◌, List, [], ◌∷◌, Option, Some, None, length, refl, sym, ap, ◌∙◌}
-use Rattle.std.proofs.Common.{arith, ◌≤◌, max, cond, fold, find, option_map, option_and_then, option_copied, ◌++◌, ◌+◌, ◌-◌, ◌<◌}
+use Rattle.pua_path.proofs.Common.{◌≡◌, ℕ, zero, suc, Bool, true, false, List, [], ◌∷◌, Option, Some, None, length, refl, sym, ap, ◌∙◌}
+use Rattle.pua_path.proofs.Common.{arith, ◌≤◌, ◌++◌, ◌+◌, ◌-◌, ◌<◌, ◌==◌, if◌then◌else◌, nat_lt, not, and_parts, list_all, Bor, has_byte}
+use Rattle.pua_path.proofs.Common.{Tree, Node, Spot, node_at, is_dir, above, Kind, is_absolute, parts_of, Remaining, is_readable, start_of}
+use Rattle.std.proofs.Common.{◌&&◌}
+use Rattle.std.proofs.Common.{max, cond, fold, find, option_map, option_and_then, option_copied}
 use Rattle.std.proofs.Common.{length-append, sub-one}
-use Rattle.std.specs.Prelude.{◌==◌, if◌then◌else◌, nat_lt, nat_le, not, unwrap_or}
-use Rattle.std.proofs.lemmas.Bool.{and_parts}
-use Rattle.std.specs.List.{list_all}
+use Rattle.std.specs.Prelude.{nat_le, unwrap_or}
 use Rattle.std.specs.Ordering.{nat_cmp, eq_by_cmp, is_eq}
 use Rattle.std.specs.Cmp.{Equal-is}
 use Rattle.std.specs.FinMap.{find as find_key, nat_cmp-IsAntisymmetric}
 use Rattle.std.specs.declared.cmp.Ordering.{Ordering}
 use Rattle.std.specs.declared.cmp.Ordering.TheVariants.{Equal}
-use Rattle.std.specs.Borrow.{Bor}
-use Rattle.pua_tree.specs.Names.{has_byte, has_short_components, is_target}
-use Rattle.pua_tree.specs.Tree.{Tree, Node, Spot, WellFormed, node_at, target_at, is_dir, above, parent, row_fits, node_fits, target_fits}
+use Rattle.pua_tree.specs.Names.{has_short_components, is_target}
+use Rattle.pua_tree.specs.Tree.{WellFormed, target_at, parent, row_fits, node_fits, target_fits}
 use Rattle.pua_tree.specs.Tree.{rows_fit_kind}
-use Rattle.pua_tree.specs.declared.node.Kind.{Kind}
 use Rattle.pua_tree.specs.declared.node.Kind.TheVariants.{Dir, File, Prog, Link}
-use Rattle.pua_path.specs.Paths.{is_absolute, parts_of}
 use Rattle.pua_path.specs.Bounds.{target_parts, most_parts}
-use Rattle.pua_path.specs.Remaining.{Remaining, is_readable}
-use Rattle.pua_path.specs.Resolution.{start_of}
 use Rattle.pua_path.specs.Walks.{potential}
 use Rattle.pua_path.specs.declared.text.Ending.TheVariants as ending
 

@@ -1,9 +1,12 @@
 -- Pieces of texts: components, a slash at the end, and whether a text can be read, along a cut.
-use Rattle.std.proofs.Common.{◌≡◌, ℕ, zero, suc, Bool, true, false, not, ◌&&◌, ◌||◌, cond, List, [], ◌∷◌, ◌++◌, length, map, refl}
-use Rattle.std.proofs.Common.{sym, ap, ◌∙◌, append-nil, arith, lt-ltb, get_or, take, drop, ◌<◌, ◌≤◌, Some, None, position, drop-cons}
+use Rattle.pua_path.proofs.Common.{◌≡◌, ℕ, zero, suc, Bool, true, false, List, [], ◌∷◌, ◌++◌, length, refl, sym, ap, ◌∙◌, arith, take, ◌<◌}
+use Rattle.pua_path.proofs.Common.{◌≤◌, Some, None, ◌==◌, if◌then◌else◌, nat_lt, option_map, list_all, and_parts, has_byte, part_of}
+use Rattle.pua_path.proofs.Common.{parts_of, rest_parts, is_readable, has_no_part, after_slashes, Part}
+use Rattle.std.proofs.Common.{not, ◌&&◌, ◌||◌, cond, map}
+use Rattle.std.proofs.Common.{append-nil, lt-ltb, get_or, drop, position, drop-cons}
 use Rattle.std.proofs.Common.{ltb-false, take_all, ne_eqb, eqb-true, Fits, w8}
-use Rattle.std.specs.Prelude.{◌==◌, if◌then◌else◌, nat_lt, nat_le, option_map}
-use Rattle.std.specs.List.{All, filter, slice_split, onto_first, list_any, list_all}
+use Rattle.std.specs.Prelude.{nat_le}
+use Rattle.std.specs.List.{All, filter, slice_split, onto_first, list_any}
 use Rattle.std.proofs.lemmas.List.Splits.{slice_split_none, slice_split_at}
 use Rattle.std.proofs.lemmas.List.Folds.{list_any-append, list_all-append}
 use Rattle.std.proofs.lemmas.List.Elements.{filter-append, All-cons}
@@ -11,17 +14,16 @@ use Rattle.std.proofs.lemmas.List.{take-append-drop}
 use Rattle.std.specs.List.{position_or_len}
 use Rattle.std.proofs.lemmas.List.Sums.{fails_before_first}
 use Rattle.std.proofs.lemmas.List.Quantifiers.{position-Some}
-use Rattle.std.proofs.lemmas.Bool.{and_parts, or_parts}
+use Rattle.std.proofs.lemmas.Bool.{or_parts}
 use Rattle.std.proofs.lemmas.Bool.Decides.{nat_tests}
 use Rattle.std.proofs.Math.Bool.{or-false}
-use Rattle.pua_tree.specs.Names.{is_name_byte, has_byte, components, has_short_components}
-use Rattle.pua_path.specs.Paths.{part_of, ends_in_slash, ending_parts, parts_of, path_fault, text_errno}
+use Rattle.pua_tree.specs.Names.{is_name_byte, components, has_short_components}
+use Rattle.pua_path.specs.Paths.{ends_in_slash, ending_parts, path_fault, text_errno}
 use Rattle.pua_path.specs.Limits.{most_path}
 use Rattle.pua_path.specs.Pieces.{begins_slash, IsCutAtSlash}
-use Rattle.pua_path.specs.Remaining.{slash_part, rest_parts, is_readable, is_piece, has_no_part, after_slashes}
+use Rattle.pua_path.specs.Remaining.{slash_part, is_piece}
 use Rattle.pua_path.specs.declared.traced.TextFault.TheVariants.{LongText, LongComponent, NulInText}
 use Rattle.pua_path.specs.declared.text.Ending.TheVariants as ending
-use Rattle.pua_path.specs.declared.found.Part.{Part}
 use Rattle.pua_path.specs.declared.found.Part.TheVariants.{Dot}
 
 abbrev pub slash : ℕ → Bool

@@ -1,18 +1,15 @@
 -- Texts that lie one on another: what is left when one is read to its end, and when one is put on top.
-use Rattle.std.proofs.Common.{◌≡◌, ℕ, zero, suc, true, false, ◌&&◌, ◌||◌, List, [], ◌∷◌, ◌++◌, length, refl, sym, ap, ◌∙◌, append-nil}
-use Rattle.std.proofs.Common.{append_assoc, arith, get_or, take, set, ◌+◌, ◌-◌, ◌<◌, ◌≤◌, sub-one, eqb-true, ne_eqb}
-use Rattle.std.specs.Prelude.{◌==◌, nat_lt}
-use Rattle.std.specs.Borrow.{Bor}
-use Rattle.std.specs.List.{list_all}
+use Rattle.pua_path.proofs.Common.{◌≡◌, ℕ, zero, suc, true, false, List, [], ◌∷◌, ◌++◌, length, refl, sym, ap, ◌∙◌, append_assoc, arith}
+use Rattle.pua_path.proofs.Common.{take, ◌+◌, ◌-◌, ◌<◌, ◌≤◌, ◌==◌, nat_lt, Bor, list_all, parts_of, rest_parts, is_readable, has_no_part}
+use Rattle.pua_path.proofs.Common.{after_slashes, and_parts, Part}
+use Rattle.std.proofs.Common.{◌&&◌, ◌||◌, append-nil}
+use Rattle.std.proofs.Common.{get_or, set, sub-one, eqb-true, ne_eqb}
 use Rattle.std.proofs.Math.Seq.{take-suc}
 use Rattle.std.proofs.lemmas.List.{take_more_set}
 use Rattle.std.proofs.lemmas.List.Folds.{list_all-append}
-use Rattle.pua_path.specs.Paths.{parts_of}
-use Rattle.pua_path.specs.Remaining.{rest_parts, pending_parts, is_readable, can_wait, is_stack, has_no_part, after_slashes}
-use Rattle.std.proofs.lemmas.Bool.{and_parts}
+use Rattle.pua_path.specs.Remaining.{pending_parts, can_wait, is_stack}
 use Rattle.pua_path.proofs.Pieces.{rest_parts-some, parts_of-begin}
 use Rattle.pua_path.specs.declared.text.Ending.TheVariants as ending
-use Rattle.pua_path.specs.declared.found.Part.{Part}
 
 pub pending_last : (texts : List (Bor (List ℕ))) (text : Bor (List ℕ)) →
     pending_parts (texts ++ text ∷ []) ≡ rest_parts text.now ++ pending_parts texts

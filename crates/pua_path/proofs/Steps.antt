@@ -1,23 +1,13 @@
 -- What one part does to a resolution.
-use Rattle.std.proofs.Common.{◌≡◌, ℕ, zero, suc, true, false, List, [], ◌∷◌, ◌++◌, Some, None, refl, sym, ap, ◌∙◌, Ok, Err}
-use Rattle.std.proofs.Common.{arith, Bool, ◌<◌, ◌-◌, length}
-use Rattle.std.specs.Prelude.{if◌then◌else◌, ◌==◌}
-use Rattle.pua_tree.specs.Tree.{Tree, above}
-use Rattle.pua_path.specs.Paths.{part_of, parts_of}
-use Rattle.pua_path.specs.Remaining.{has_no_part, rest_parts}
+use Rattle.pua_path.proofs.Common.{◌≡◌, ℕ, zero, suc, true, false, List, [], ◌∷◌, ◌++◌, Some, None, refl, sym, ap, ◌∙◌, Ok, Err, arith}
+use Rattle.pua_path.proofs.Common.{Bool, ◌<◌, ◌-◌, length, if◌then◌else◌, ◌==◌, Tree, above, part_of, parts_of, has_no_part, rest_parts}
+use Rattle.pua_path.proofs.Common.{Resolved, Standing, Directory, Linked, Plain, Nothing, standing_at, is_followed, slot_or, walk, start_of}
+use Rattle.pua_path.proofs.Common.{resolve_parts, ENOENT, ENOTDIR, Part, Last, Followed, Kept, Way, Whole, Slot}
 use Rattle.pua_path.proofs.Pieces.{no_part_left}
-use Rattle.pua_path.specs.Resolution.{Resolved, Standing, Directory, Linked, Plain, Nothing, standing_at, is_followed, slot_or, walk}
-use Rattle.pua_path.specs.Resolution.{start_of, resolve_parts}
 use Rattle.pua_path.specs.Onward.{Onward, Goes, Follows, Ends, Fails, followed, onward_at, onward_by}
-use Rattle.pua_path.specs.declared.errno.Errno.TheVariants.{ENOENT, ENOTDIR}
 use Rattle.pua_path.specs.declared.text.Ending.TheVariants as ending
-use Rattle.pua_path.specs.declared.found.Part.{Part}
 use Rattle.pua_path.specs.declared.found.Part.TheVariants as parts
-use Rattle.pua_path.specs.declared.found.Last.{Last}
-use Rattle.pua_path.specs.declared.found.Last.TheVariants.{Followed, Kept}
-use Rattle.pua_path.specs.declared.found.Way.{Way}
 use Rattle.pua_path.specs.declared.found.Way.TheVariants as ways
-use Rattle.pua_path.specs.declared.found.Found.TheVariants.{Whole, Slot}
 
 -- what comes of what stands at a name
 abbrev pub met : Tree → Last → ℕ → (ℕ → List ℕ → List Part → Resolved) → ℕ → List ℕ → List Part → Standing → Resolved

@@ -1,24 +1,12 @@
 -- Steps and a last part are the resolution of the whole.
-use Rattle.std.proofs.Common.{◌≡◌, ℕ, zero, suc, Bool, true, false, List, [], ◌∷◌, ◌++◌, Some, None, refl, sym, ap, ◌∙◌, arith, ◌-◌, ◌≤◌}
-use Rattle.std.proofs.Common.{Result, Ok, Err}
-use Rattle.std.specs.Prelude.{if◌then◌else◌}
-use Rattle.pua_tree.specs.Tree.{Tree}
-use Rattle.pua_tree.specs.Steps.{◌>>=◌}
-use Rattle.pua_path.specs.Paths.{parts_of}
-use Rattle.pua_path.specs.Resolution.{Resolved, Standing, Directory, Linked, Plain, Nothing, standing_at, is_followed, slot_or, walk}
-use Rattle.pua_path.specs.Resolution.{start_of, resolve_parts, dir_with_links, step, last, most_links}
+use Rattle.pua_path.proofs.Common.{◌≡◌, ℕ, zero, suc, Bool, true, false, List, [], ◌∷◌, ◌++◌, Some, None, refl, sym, ap, ◌∙◌, arith, ◌-◌}
+use Rattle.pua_path.proofs.Common.{◌≤◌, Result, Ok, Err, if◌then◌else◌, Tree, ◌>>=◌, parts_of, Resolved, Standing, Directory, Linked, Plain}
+use Rattle.pua_path.proofs.Common.{Nothing, standing_at, is_followed, slot_or, walk, start_of, resolve_parts, dir_with_links, step, last}
+use Rattle.pua_path.proofs.Common.{most_links, Errno, ENOENT, ENOTDIR, ELOOP, Part, Last, Followed, Way, Found, Whole, Slot}
 use Rattle.pua_path.specs.Laws.{onwards, steps, StepsCompose}
-use Rattle.pua_path.specs.declared.errno.Errno.{Errno}
-use Rattle.pua_path.specs.declared.errno.Errno.TheVariants.{ENOENT, ENOTDIR, ELOOP}
 use Rattle.pua_path.specs.declared.text.Ending.TheVariants as ending
-use Rattle.pua_path.specs.declared.found.Part.{Part}
 use Rattle.pua_path.specs.declared.found.Part.TheVariants as parts
-use Rattle.pua_path.specs.declared.found.Last.{Last}
-use Rattle.pua_path.specs.declared.found.Last.TheVariants.{Followed}
-use Rattle.pua_path.specs.declared.found.Way.{Way}
 use Rattle.pua_path.specs.declared.found.Way.TheVariants as ways
-use Rattle.pua_path.specs.declared.found.Found.{Found}
-use Rattle.pua_path.specs.declared.found.Found.TheVariants.{Whole, Slot}
 use Rattle.pua_path.proofs.Steps.{met, walk_name}
 use Rattle.pua_path.proofs.Composition.{composes}
 

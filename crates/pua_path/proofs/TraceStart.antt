@@ -1,16 +1,9 @@
 -- Where a trace begins.
-use Rattle.std.proofs.Common.{◌≡◌, ℕ, Bool, true, false, List, [], Some, None, Err, refl, sym, ap, ◌∙◌, Option}
-use Rattle.std.specs.Prelude.{if◌then◌else◌, not, ◌&&◌}
-use Rattle.pua_tree.specs.Tree.{Tree, Spot, is_dir}
+use Rattle.pua_path.proofs.Common.{◌≡◌, ℕ, Bool, true, false, List, [], Some, None, Err, refl, sym, ap, ◌∙◌, Option, if◌then◌else◌, not}
+use Rattle.pua_path.proofs.Common.{◌&&◌, Tree, Spot, is_dir, parts_of, is_absolute, start_of, Trace, trace_parts, PathTrace, as_path_trace}
+use Rattle.pua_path.proofs.Common.{trace_from, Ending, Last, Part, Way, Top}
 use Rattle.pua_path.specs.Limits.{most_links}
-use Rattle.pua_path.specs.Paths.{parts_of, is_absolute}
-use Rattle.pua_path.specs.Resolution.{start_of}
-use Rattle.pua_path.specs.Traces.{Trace, trace_parts, PathTrace, fails_in, as_path_trace, trace_from}
-use Rattle.pua_path.specs.declared.text.Ending.{Ending}
-use Rattle.pua_path.specs.declared.found.Last.{Last}
-use Rattle.pua_path.specs.declared.found.Part.{Part}
-use Rattle.pua_path.specs.declared.found.Way.{Way}
-use Rattle.pua_path.specs.declared.found.Way.TheVariants.{Top}
+use Rattle.pua_path.specs.Traces.{fails_in}
 use Rattle.pua_path.specs.declared.traced.PathFault.TheVariants.{NoStart}
 
 -- with any number of links

@@ -1,25 +1,16 @@
 -- What a trace comes to at a name.
-use Rattle.std.proofs.Common.{◌≡◌, ℕ, zero, suc, Bool, true, false, List, [], ◌∷◌, ◌++◌, Some, None, refl, sym, ap, ◌∙◌, append_assoc}
-use Rattle.std.proofs.Common.{Ok, Err}
-use Rattle.std.proofs.Common.{arith, le-ltb, lt-ltb, ◌<◌, ◌-◌}
-use Rattle.std.specs.Prelude.{if◌then◌else◌, nat_lt}
-use Rattle.pua_tree.specs.Tree.{Tree, Spot, above}
+use Rattle.pua_path.proofs.Common.{◌≡◌, ℕ, zero, suc, Bool, true, false, List, [], ◌∷◌, ◌++◌, Some, None, refl, sym, ap, ◌∙◌, append_assoc}
+use Rattle.pua_path.proofs.Common.{Ok, Err, arith, ◌<◌, ◌-◌, if◌then◌else◌, nat_lt, Tree, Spot, above, part_of, parts_of, has_no_part}
+use Rattle.pua_path.proofs.Common.{Standing, Directory, Linked, Plain, Nothing, standing_at, is_followed, start_of, Trace, at_once}
+use Rattle.pua_path.proofs.Common.{after_links, slot_or_stop, walk_traced, trace_parts, Part, Last, Followed, Kept, Way, Slot, NoEntry}
+use Rattle.pua_path.proofs.Common.{NoDirectory, LinkBeyond}
+use Rattle.std.proofs.Common.{le-ltb, lt-ltb}
 use Rattle.pua_tree.specs.Names.{same_bytes}
-use Rattle.pua_path.specs.Paths.{part_of, parts_of}
-use Rattle.pua_path.specs.Remaining.{has_no_part}
-use Rattle.pua_path.specs.Resolution.{Standing, Directory, Linked, Plain, Nothing, standing_at, is_followed, start_of}
-use Rattle.pua_path.specs.Traces.{Trace, at_once, after_links, slot_or_stop, walk_traced, trace_parts}
 use Rattle.pua_path.specs.Walks.{stop_at}
 use Rattle.pua_path.specs.Onward.{Onward, Goes, Follows, Ends, Fails, onward_at, onward_by}
 use Rattle.pua_path.specs.declared.text.Ending.TheVariants as ending
-use Rattle.pua_path.specs.declared.found.Part.{Part}
 use Rattle.pua_path.specs.declared.found.Part.TheVariants as parts
-use Rattle.pua_path.specs.declared.found.Last.{Last}
-use Rattle.pua_path.specs.declared.found.Last.TheVariants.{Followed, Kept}
-use Rattle.pua_path.specs.declared.found.Way.{Way}
 use Rattle.pua_path.specs.declared.found.Way.TheVariants as ways
-use Rattle.pua_path.specs.declared.found.Found.TheVariants.{Slot}
-use Rattle.pua_path.specs.declared.traced.Stop.TheVariants.{NoEntry, NoDirectory, LinkBeyond}
 
 -- what the walk comes to at a name
 abbrev pub met_traced : Tree → Last → ℕ → (Spot → List ℕ → List Part → Trace) → ℕ → List ℕ → List Part → Standing → Trace

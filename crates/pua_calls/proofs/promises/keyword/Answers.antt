@@ -1,8 +1,6 @@
-use Rattle.std.proofs.Common.{◌∙◌, sym, ap, rules, tests}
-use Rattle.std.proofs.lemmas.Iterator.{YieldsList-from_slice}
+use Rattle.pua_calls.proofs.Common.{◌∙◌, sym, ap, rules, tests, YieldsList-from_slice, same_bytes}
 use Rattle.std.proofs.lemmas.Iterator.Search.{find_from_yields_List}
 use Rattle.std.specs.Prelude.{option_map}
-use Rattle.pua_tree.specs.Names.{same_bytes}
 use Rattle.pua_calls.proofs.Keywords.{promise_of-find}
 use Rattle.pua_calls.proofs.promises.keyword.Goals as goal
 

@@ -1,7 +1,7 @@
-use Rattle.std.proofs.Common.{◌≡◌, sym, subst, map, IfOk, rules, tests}
-use Rattle.std.proofs.lemmas.Iterator.{YieldsList-from_slice, YieldsList-from_map_by}
+use Rattle.pua_calls.proofs.Common.{◌≡◌, sym, subst, map, rules, tests, YieldsList-from_slice, holds}
+use Rattle.std.proofs.Common.{IfOk}
+use Rattle.std.proofs.lemmas.Iterator.{YieldsList-from_map_by}
 use Rattle.std.proofs.lemmas.Iterator.Consumers.{map_from_collect, YieldsList-at, YieldsList-from_filter}
-use Rattle.pua_calls.specs.Promises.{holds}
 use Rattle.pua_calls.proofs.Keywords.{keywords_of-filter}
 use Rattle.pua_calls.proofs.promises.lent_names.Goals as goal
 

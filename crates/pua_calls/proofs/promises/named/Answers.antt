@@ -1,12 +1,9 @@
-use Rattle.std.proofs.Common.{◌≡◌, ◌∙◌, sym, rules, tests, arith, length}
+use Rattle.pua_calls.proofs.Common.{◌≡◌, ◌∙◌, sym, rules, tests, arith, length, slice_split, Some, None, ◌==◌, promise_of}
 use Rattle.std.proofs.lemmas.Iterator.Splits.{YieldsList-from_slice_split}
 use Rattle.std.proofs.lemmas.Iterator.Consumers.{YieldsList-turn, YieldsList-end}
 use Rattle.std.proofs.lemmas.List.{length_push}
 use Rattle.std.proofs.lemmas.Result.{err_from_is_err_and}
-use Rattle.std.specs.List.{slice_split}
-use Rattle.std.specs.Prelude.{Some, None, ◌==◌}
 use Rattle.pua_path.specs.declared.errno.Errno.TheVariants.{EINVAL}
-use Rattle.pua_calls.specs.Promises.{promise_of}
 use Rattle.pua_calls.proofs.Sets.{with_rest-known, with_rest-unknown, with_rest-end}
 use Rattle.pua_calls.proofs.promises.named.Goals as goal
 

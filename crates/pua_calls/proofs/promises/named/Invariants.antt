@@ -1,7 +1,5 @@
-use Rattle.std.proofs.Common.{◌≡◌, length}
-use Rattle.std.specs.List.{slice_split}
-use Rattle.std.specs.Prelude.{◌==◌, map}
-use Rattle.pua_calls.specs.Promises.{promise_of, union_of}
+use Rattle.pua_calls.proofs.Common.{◌≡◌, length, slice_split, ◌==◌, promise_of, union_of}
+use Rattle.std.specs.Prelude.{map}
 use Rattle.pua_calls.proofs.Sets.{with_rest}
 use Rattle.pua_calls.proofs.promises.named.Given as goal
 

@@ -1,4 +1,4 @@
-use Rattle.std.proofs.Common.{◌∙◌}
+use Rattle.pua_path.proofs.Common.{◌∙◌}
 use Rattle.pua_path.proofs.Pieces.{components-shorter, has_nul-shorter, no_slash_last}
 use Rattle.pua_path.proofs.piece.before_slashes.Goals as goal
 

@@ -1,6 +1,4 @@
-use Rattle.std.proofs.Common.{sym, ap, ◌∙◌, ◌∷◌}
-use Rattle.pua_path.specs.Paths.{part_of}
-use Rattle.pua_path.specs.Remaining.{rest_parts}
+use Rattle.pua_path.proofs.Common.{sym, ap, ◌∙◌, ◌∷◌, part_of, rest_parts}
 use Rattle.pua_path.proofs.Pieces.{first_part, first_readable, only_dot}
 use Rattle.pua_path.proofs.piece.next_piece.Goals as goal
 

@@ -1,7 +1,4 @@
-use Rattle.std.proofs.Common.{[], ◌∷◌, Ok, refl, sym, ap, ◌∙◌}
-use Rattle.pua_path.specs.Walks.{way_of}
-use Rattle.pua_path.specs.declared.found.Found.TheVariants.{Whole}
-use Rattle.pua_path.specs.declared.found.Way.TheVariants.{Top}
+use Rattle.pua_path.proofs.Common.{[], ◌∷◌, Ok, refl, sym, ap, ◌∙◌, way_of, Whole, Top}
 use Rattle.pua_path.proofs.Fitting.{parts_fit, parts_named}
 use Rattle.pua_path.proofs.Steps.{resolve_end, resolve_onward}
 use Rattle.pua_path.proofs.resolver.resolve_part.Goals as goal

@@ -1,9 +1,5 @@
-use Rattle.std.proofs.Common.{◌≡◌, length, IsTrue}
-use Rattle.pua_tree.specs.Tree.{is_dir}
-use Rattle.pua_path.specs.Remaining.{is_readable, rest_parts}
-use Rattle.pua_path.specs.Resolution.{resolve_parts}
-use Rattle.pua_path.specs.Walks.{way_of}
-use Rattle.pua_path.specs.declared.found.Way.TheVariants.{Top}
+use Rattle.pua_path.proofs.Common.{◌≡◌, length, is_dir, is_readable, rest_parts, resolve_parts, way_of, Top}
+use Rattle.std.proofs.Common.{IsTrue}
 use Rattle.pua_path.proofs.resolver.resolve_text.Given as goal
 
 abbrev pub invariant-loop-way : goal.invariant-loop-way

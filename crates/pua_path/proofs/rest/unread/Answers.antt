@@ -1,6 +1,5 @@
-use Rattle.std.proofs.Common.{sym, ap, ◌∙◌}
-use Rattle.pua_path.specs.Paths.{path_fault, parts_of}
-use Rattle.pua_path.specs.Remaining.{rest_parts}
+use Rattle.pua_path.proofs.Common.{sym, ap, ◌∙◌, parts_of, rest_parts}
+use Rattle.pua_path.specs.Paths.{path_fault}
 use Rattle.pua_path.specs.declared.text.Ending.TheVariants as ending
 use Rattle.pua_path.proofs.Pieces.{begin_readable, trimmed_readable, parts_of-begin, parts_of-trimmed}
 use Rattle.pua_path.proofs.rest.unread.Goals as goal

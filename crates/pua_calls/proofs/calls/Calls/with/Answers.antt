@@ -1,6 +1,5 @@
-use Rattle.std.proofs.Common.{◌≡◌, ◌<◌, ◌-◌, ap, sym, subst, arith, ◌*◌, ◌^◌, ◌%◌}
-use Rattle.std.specs.Prelude.{◌==◌}
-use Rattle.std.proofs.lemmas.Nat.{or_lt}
+use Rattle.pua_calls.proofs.Common.{◌≡◌, ◌<◌, ap, sym, subst, arith, ◌*◌, ◌^◌, ◌==◌, or_lt}
+use Rattle.std.proofs.Common.{◌-◌, ◌%◌}
 use Rattle.std.proofs.lemmas.Nat.Bits.{bit_at_set_same, bit_at_set_other}
 use mir.Syntax.{w16}
 use Rattle.pua_calls.specs.CallSets.{bit_of}

@@ -1,5 +1,4 @@
-use Rattle.std.proofs.Common.{◌≡◌, ◌∙◌, get_or, sym, refl, arith}
-use Rattle.std.specs.Prelude.{Some}
+use Rattle.pua_calls.proofs.Common.{◌≡◌, ◌∙◌, get_or, sym, refl, arith, Some}
 use Rattle.pua_calls.specs.Promises.{letter_of}
 use Rattle.pua_calls.proofs.Sets.{with_rest-known, with_rest-end}
 use Rattle.pua_calls.proofs.perms.Perms.read.Goals as goal

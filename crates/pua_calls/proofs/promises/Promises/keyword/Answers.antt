@@ -1,5 +1,6 @@
-use Rattle.std.proofs.Common.{◌≡◌, ◌≤◌, ◌∙◌, sym, ap, length, option_map, rules, tests}
-use Rattle.std.specs.Prelude.{Some, slice_get}
+use Rattle.pua_calls.proofs.Common.{◌≡◌, ◌≤◌, ◌∙◌, sym, ap, length, rules, tests, Some}
+use Rattle.std.proofs.Common.{option_map}
+use Rattle.std.specs.Prelude.{slice_get}
 use Rattle.std.proofs.lemmas.Option.{slice_get_read}
 use Rattle.pua_calls.proofs.Keywords.{keyword_past, keyword_there}
 use Rattle.pua_calls.proofs.promises.Promises.keyword.Goals as goal

@@ -1,4 +1,4 @@
-use Rattle.std.proofs.Common.{◌∙◌, ap}
+use Rattle.pua_calls.proofs.Common.{◌∙◌, ap}
 use Rattle.pua_calls.specs.Promises.{keywords_of}
 use Rattle.pua_calls.proofs.promises.Promises.names.Goals as goal
 

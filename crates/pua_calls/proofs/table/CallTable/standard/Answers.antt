@@ -1,5 +1,4 @@
-use Rattle.std.proofs.Common.{rules}
-use Rattle.pua_calls.specs.declared.call.Call.TheVariants.{Stat}
+use Rattle.pua_calls.proofs.Common.{rules, Stat}
 use Rattle.pua_calls.proofs.Rows.{is_standard, with_standard_pairs}
 use Rattle.pua_calls.proofs.table.CallTable.standard.Goals as goal
 

@@ -1,5 +1,5 @@
-use Rattle.std.proofs.Common.{◌≡◌, ◌++◌, drop, length, Ok}
-use Rattle.toml.specs.View.{items_view}
+use Rattle.pua_calls.proofs.Common.{◌≡◌, drop, length, items_view}
+use Rattle.std.proofs.Common.{◌++◌, Ok}
 use Rattle.pua_tree.specs.Steps.{◌>>=◌}
 use Rattle.pua_calls.specs.Tables.{NeedsNoError}
 use Rattle.pua_calls.specs.TableTexts.{alternatives_of}

@@ -1,5 +1,4 @@
-use Rattle.std.proofs.Common.{refl, ◌∙◌}
-use Rattle.pua_path.specs.Walks.{way_of}
+use Rattle.pua_path.proofs.Common.{refl, ◌∙◌, way_of}
 use Rattle.pua_path.proofs.Steps.{resolve_onward, followed_on}
 use Rattle.pua_path.proofs.TraceSteps.{trace_onward, unlinked, followed_traced_on}
 use Rattle.pua_path.proofs.resolver.Resolving.enter_piece.Goals as goal

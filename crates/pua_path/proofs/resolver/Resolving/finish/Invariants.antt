@@ -1,6 +1,6 @@
-use Rattle.std.proofs.Common.{◌≡◌, ◌≤◌, ◌+◌, ◌*◌}
-use Rattle.pua_path.specs.Resolution.{resolve_parts}
-use Rattle.pua_path.specs.Walks.{CanGoOn, potential, way_of}
+use Rattle.pua_path.proofs.Common.{◌≡◌, ◌≤◌, ◌+◌, resolve_parts, way_of}
+use Rattle.std.proofs.Common.{◌*◌}
+use Rattle.pua_path.specs.Walks.{CanGoOn, potential}
 use Rattle.pua_path.proofs.resolver.Resolving.finish.Given as goal
 
 abbrev pub invariant-loop-piece : goal.invariant-loop-piece

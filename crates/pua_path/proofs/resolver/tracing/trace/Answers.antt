@@ -1,8 +1,8 @@
-use Rattle.std.proofs.Common.{◌≡◌, rules, arith, ap, sym, ◌∙◌, List, [], ◌∷◌, length}
+use Rattle.pua_path.proofs.Common.{◌≡◌, rules, arith, ap, sym, ◌∙◌, List, [], ◌∷◌, length, Spot, way_of, PathTrace, as_path_trace}
+use Rattle.pua_path.proofs.Common.{after_links}
 use Rattle.std.specs.Prelude.{Ok}
-use Rattle.pua_tree.specs.Tree.{Spot}
-use Rattle.pua_path.specs.Walks.{way_of, walk_trace}
-use Rattle.pua_path.specs.Traces.{PathTrace, as_path_trace, after_links, object_or_errno}
+use Rattle.pua_path.specs.Walks.{walk_trace}
+use Rattle.pua_path.specs.Traces.{object_or_errno}
 use Rattle.pua_path.proofs.Answering.{from_answers}
 use Rattle.pua_path.proofs.Fitting.{founds_fit, founds_named}
 use Rattle.pua_path.proofs.TraceStart.{trace_begins, trace_starts_nowhere}

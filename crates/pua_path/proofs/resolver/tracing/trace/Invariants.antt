@@ -1,6 +1,6 @@
-use Rattle.std.proofs.Common.{◌≡◌, ◌≤◌, ◌+◌, vec_len, vec_capacity}
+use Rattle.pua_path.proofs.Common.{◌≡◌, ◌≤◌, ◌+◌, after_links, as_path_trace, trace_from}
+use Rattle.std.proofs.Common.{vec_len, vec_capacity}
 use Rattle.pua_path.specs.Limits.{most_links}
-use Rattle.pua_path.specs.Traces.{after_links, as_path_trace, trace_from}
 use Rattle.pua_path.specs.Walks.{CanGoOn, potential_of, walk_trace}
 use Rattle.pua_path.proofs.resolver.tracing.trace.Given as goal
 

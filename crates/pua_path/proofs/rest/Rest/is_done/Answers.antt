@@ -1,5 +1,4 @@
-use Rattle.std.proofs.Common.{ap, ◌∙◌, take}
-use Rattle.pua_path.specs.Remaining.{Remaining, has_no_part}
+use Rattle.pua_path.proofs.Common.{ap, ◌∙◌, take, Remaining, has_no_part}
 use Rattle.pua_path.proofs.Stack.{done_where_empty}
 use Rattle.pua_path.proofs.rest.Rest.is_done.Goals as goal
 

@@ -1,7 +1,4 @@
-use Rattle.std.proofs.Common.{ℕ, List, ◌∷◌, [], sym, ap, ◌∙◌, take, arith}
-use Rattle.std.specs.Borrow.{Bor}
-use Rattle.pua_path.specs.Paths.{part_of}
-use Rattle.pua_path.specs.Remaining.{Remaining}
+use Rattle.pua_path.proofs.Common.{ℕ, List, ◌∷◌, [], sym, ap, ◌∙◌, take, arith, Bor, part_of, Remaining}
 use Rattle.pua_path.proofs.Stack.{nothing_below, stack_popped, taken_off, taken_off_last}
 use Rattle.pua_path.proofs.rest.Rest.next.Goals.{then-is_empty-2+then-self-gt0, else-is_empty-2}
 use Rattle.pua_path.proofs.rest.Rest.next.Goals as goal

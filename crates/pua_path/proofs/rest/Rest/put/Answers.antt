@@ -1,6 +1,4 @@
-use Rattle.std.proofs.Common.{◌≡◌, sym, ap, ◌∙◌, ◌++◌, ◌<◌, length, take, arith}
-use Rattle.pua_path.specs.Remaining.{Remaining}
-use Rattle.pua_path.specs.Paths.{parts_of}
+use Rattle.pua_path.proofs.Common.{◌≡◌, sym, ap, ◌∙◌, ◌++◌, ◌<◌, length, take, arith, Remaining, parts_of}
 use Rattle.pua_path.specs.declared.text.Ending.TheVariants as ending
 use Rattle.pua_path.proofs.Pieces.{no_parts, not_empty, text_readable}
 use Rattle.pua_path.proofs.Stack.{stack_on_empty, stack_pushed, parts_on_empty, parts_pushed}
