@@ -1,18 +1,16 @@
 -- Climbing in a tree, one directory after another.
-use Rattle.std.proofs.Common.{◌≡◌, ℕ, zero, suc, ◌+◌, ◌≤◌, ◌≢◌, add-one, List, [], ◌∷◌, length, Bool, true, false, map, refl, sym, ap, ◌∙◌}
-use Rattle.std.proofs.Common.{arith}
-use Rattle.std.proofs.lemmas.Bool.{false≢true, eqb-true}
+use Rattle.pua_policy.proofs.Common.{◌≡◌, ℕ, ◌+◌, ◌≢◌, List, [], ◌∷◌, length, Bool, true, false, map, refl, sym, ap, ◌∙◌, arith, eqb-true}
+use Rattle.pua_policy.proofs.Common.{list_any, Option, Some, None, ◌||◌, Tree, WellFormed, is_dir, above, climb, nearest, Only, and_parts}
+use Rattle.std.proofs.Common.{zero, suc, ◌≤◌, add-one}
+use Rattle.std.proofs.lemmas.Bool.{false≢true}
 use Rattle.std.specs.Ordering.{nat_cmp}
 use Rattle.std.specs.FinMap.{nat_cmp-IsAntisymmetric, find as find_key}
-use Rattle.std.specs.List.{list_any}
-use Rattle.std.specs.Prelude.{Option, Some, None, option_map, ◌||◌, ◌==◌, nat_lt}
-use Rattle.pua_tree.specs.Tree.{Tree, Node, WellFormed, is_dir, is_dir_kind, above, climb, climb_within, node_at, node_fits, rows_fit_kind}
+use Rattle.std.specs.Prelude.{option_map, ◌==◌, nat_lt}
+use Rattle.pua_tree.specs.Tree.{Node, is_dir_kind, climb_within, node_at, node_fits, rows_fit_kind}
 use Rattle.pua_tree.specs.Tree.{rows_of, target_fits}
 use Rattle.pua_tree.specs.declared.node.Kind.{Kind}
 use Rattle.pua_tree.specs.declared.node.Kind.TheVariants.{Dir}
-use Rattle.pua_policy.specs.Verdict.{nearest}
-use Rattle.pua_policy.specs.declared.answer.Cover.TheVariants.{Nothing, Only}
-use Rattle.std.proofs.lemmas.Bool.{and_parts}
+use Rattle.pua_policy.specs.declared.answer.Cover.TheVariants.{Nothing}
 use Rattle.pua_path.proofs.ForCallers.{above_lives, list_all-find_key}
 
 -- a climb gets to the root

@@ -1,21 +1,13 @@
 -- Which veil of a process covers an object, by where it looks.
-use Rattle.std.proofs.Common.{◌≡◌, ℕ, List, [], ◌∷◌, map, Bool, true, false, refl, sym, ap, ◌∙◌}
-use Rattle.std.specs.Prelude.{Option, Some, None, if◌then◌else◌}
-use Rattle.std.specs.List.{list_any}
-use Rattle.pua_tree.specs.Tree.{Tree, WellFormed, is_dir, above, climb}
-use Rattle.pua_path.specs.declared.found.Way.{Way}
-use Rattle.pua_path.specs.declared.found.Found.{Found}
-use Rattle.pua_path.specs.declared.found.Found.TheVariants.{Whole, Slot}
-use Rattle.pua_policy.specs.declared.place.Place.{Place}
+use Rattle.pua_policy.proofs.Common.{◌≡◌, ℕ, List, [], ◌∷◌, map, Bool, true, false, refl, sym, ap, ◌∙◌, Option, Some, None, if◌then◌else◌}
+use Rattle.pua_policy.proofs.Common.{list_any, Tree, WellFormed, is_dir, above, climb, Way, Found, Whole, Slot, Place, All, History}
+use Rattle.pua_policy.proofs.Common.{ProcessState, StandsFor, perms_kept, veil_at, has_veil, cover, nearest, is_unveil, places_over}
+use Rattle.pua_policy.proofs.Common.{first_veiled, covering_at, cover_of}
 use Rattle.pua_policy.specs.declared.place.Place.TheVariants as place
-use Rattle.pua_policy.specs.declared.answer.Cover.TheVariants.{All}
 use Rattle.pua_policy.specs.declared.reason.Covering.{Covering}
 use Rattle.pua_policy.specs.declared.reason.Covering.TheVariants.{InView}
-use Rattle.pua_policy.specs.History.{History, ProcessState, StandsFor, perms_kept, veil_at, has_veil}
-use Rattle.pua_policy.specs.Verdict.{cover, nearest, is_unveil, place_of, directories_over}
-use Rattle.pua_policy.specs.Laws.{places_over}
-use Rattle.pua_policy.specs.Reasons.{kept_or, or_farther, first_kept, first_veiled, covering, covering_on, covering_with, covering_at}
-use Rattle.pua_policy.specs.Reasons.{cover_of}
+use Rattle.pua_policy.specs.Verdict.{place_of, directories_over}
+use Rattle.pua_policy.specs.Reasons.{kept_or, or_farther, first_kept, covering, covering_on, covering_with}
 use Rattle.pua_policy.proofs.Standing.{any_veil, kept_by}
 use Rattle.pua_policy.proofs.Veiled.{veiled_whole}
 

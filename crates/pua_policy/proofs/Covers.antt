@@ -1,15 +1,8 @@
 -- What the veils of a process leave, by where it looks.
-use Rattle.std.proofs.Common.{◌≡◌, ℕ, List, ◌∷◌, map, Bool, true, false, ap, ◌∙◌}
-use Rattle.std.specs.Prelude.{Option, Some, None}
-use Rattle.std.proofs.lemmas.Bool.{and_parts}
-use Rattle.pua_tree.specs.Tree.{Tree, WellFormed, is_dir, climb}
-use Rattle.pua_path.specs.declared.found.Way.{Way}
-use Rattle.pua_path.specs.declared.found.Found.{Found}
-use Rattle.pua_path.specs.declared.found.Found.TheVariants.{Whole, Slot}
+use Rattle.pua_policy.proofs.Common.{◌≡◌, ℕ, List, ◌∷◌, map, Bool, true, false, ap, ◌∙◌, Option, Some, None, and_parts, Tree, WellFormed}
+use Rattle.pua_policy.proofs.Common.{is_dir, climb, Way, Found, Whole, Slot, All, ProcessState, veil_at, has_veil, cover_on, nearest}
 use Rattle.pua_policy.specs.declared.place.Place.TheVariants as place
-use Rattle.pua_policy.specs.declared.answer.Cover.TheVariants.{All}
-use Rattle.pua_policy.specs.History.{ProcessState, veil_at, has_veil}
-use Rattle.pua_policy.specs.Verdict.{FoundFits, cover_on, cover_with, nearest}
+use Rattle.pua_policy.specs.Verdict.{FoundFits, cover_with}
 use Rattle.pua_policy.proofs.Climbs.{nearest_whole}
 
 -- a name that was found stands in a directory

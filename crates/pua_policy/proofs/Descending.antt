@@ -1,15 +1,12 @@
 -- Covers go down from directory to directory.
-use Rattle.std.proofs.Common.{◌≡◌, ◌≢◌, ℕ, List, ◌∷◌, map, Bool, true, refl, sym, ap, ◌∙◌}
-use Rattle.std.specs.Prelude.{Option, Some, None, if◌then◌else◌}
-use Rattle.std.specs.List.{list_any}
-use Rattle.pua_tree.specs.Tree.{Tree, WellFormed, look, is_dir, above, climb}
+use Rattle.pua_policy.proofs.Common.{◌≡◌, ◌≢◌, ℕ, List, ◌∷◌, map, Bool, true, refl, sym, ap, ◌∙◌, Option, Some, None, if◌then◌else◌}
+use Rattle.pua_policy.proofs.Common.{list_any, Tree, WellFormed, is_dir, above, climb, Slot, History, perms_kept, nearest, is_unveil, cover}
+use Rattle.pua_policy.proofs.Common.{All}
+use Rattle.pua_tree.specs.Tree.{look}
 use Rattle.pua_tree.proofs.ForCallers.{Sound, sound_from, row_says, above_is}
-use Rattle.pua_path.specs.declared.found.Found.TheVariants.{Slot}
-use Rattle.pua_policy.specs.History.{History, perms_kept}
-use Rattle.pua_policy.specs.Verdict.{nearest, is_unveil, cover}
 use Rattle.pua_policy.specs.declared.place.Place.TheVariants as place
 use Rattle.pua_policy.specs.declared.answer.Cover.{Cover}
-use Rattle.pua_policy.specs.declared.answer.Cover.TheVariants.{All, Nothing}
+use Rattle.pua_policy.specs.declared.answer.Cover.TheVariants.{Nothing}
 use Rattle.pua_policy.specs.Descent.{cover_in, own_or}
 use Rattle.pua_policy.specs.Laws.{CoversDescend}
 use Rattle.pua_policy.proofs.Climbs.{nearest_here, nearest_above, nearest_root, nearest_whole}

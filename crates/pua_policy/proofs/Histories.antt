@@ -1,9 +1,9 @@
 -- What a process keeps after an event or an exec is what is left of the longer history.
-use Rattle.std.proofs.Common.{◌≡◌, ℕ, [], ◌∷◌, true, false, refl, sym, ap, ◌∙◌}
-use Rattle.std.specs.Prelude.{Option, Some, None, unwrap_or}
+use Rattle.pua_policy.proofs.Common.{◌≡◌, ℕ, [], ◌∷◌, true, false, refl, sym, ap, ◌∙◌, Option, Some, None, unwrap_or, History, Pledged}
+use Rattle.pua_policy.proofs.Common.{Unveiled, Locked, Moved, Ended, ProcessState, StandsFor, meet, with_veil}
 use Rattle.pua_calls.specs.declared.rules.ExecPromises.{ExecPromises}
-use Rattle.pua_policy.specs.History.{History, Event, Pledged, Unveiled, Locked, Moved, Ended, ProcessState, StandsFor, HasHistory, state_of}
-use Rattle.pua_policy.specs.History.{narrowed_set, meet, common, first, with_veil, held_for_exec, left_for_exec, after_exec}
+use Rattle.pua_policy.specs.History.{Event, HasHistory, state_of}
+use Rattle.pua_policy.specs.History.{narrowed_set, common, first, held_for_exec, left_for_exec, after_exec}
 use Rattle.pua_policy.proofs.Exec.{no_promises, left_alone, same_veils, same_lock, same_dirs, same_end}
 
 -- a process that stands for a history keeps what is left of that, and no other does

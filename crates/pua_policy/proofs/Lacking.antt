@@ -1,13 +1,13 @@
 -- What a set lacks of another, and what is told of promises.
-use Rattle.std.proofs.Common.{◌≡◌, ℕ, ◌+◌, ◌%◌, ◌<◌, Bool, true, false, List, [], ◌∷◌, map, Some, None, refl, sym, ap, ◌∙◌, arith, Option}
+use Rattle.pua_policy.proofs.Common.{◌≡◌, ℕ, ◌+◌, Bool, true, false, List, [], ◌∷◌, map, refl, sym, ap, ◌∙◌, arith, if◌then◌else◌, ◌||◌}
+use Rattle.pua_policy.proofs.Common.{list_any, eqb-true, eq-eqb, holds, History, is_ended}
+use Rattle.std.proofs.Common.{◌%◌, ◌<◌, Some, None, Option}
 use Rattle.std.proofs.Common.{min, max}
-use Rattle.std.specs.Prelude.{if◌then◌else◌, bit_and, bit_or, ◌||◌, is_some, find}
-use Rattle.std.specs.List.{list_any}
+use Rattle.std.specs.Prelude.{bit_and, bit_or, is_some, find}
 use Rattle.std.specs.Int.{bit_at}
-use Rattle.std.proofs.lemmas.Bool.{eqb-true, eq-eqb}
 use Rattle.std.proofs.lemmas.Nat.Bits.{bit_at_and, bit_at_or, bit_at_xor, bit_at-lt, same_from_bits}
-use Rattle.pua_calls.specs.Promises.{holds, lacking}
-use Rattle.pua_policy.specs.History.{History, held_set, has_error, is_ended}
+use Rattle.pua_calls.specs.Promises.{lacking}
+use Rattle.pua_policy.specs.History.{held_set, has_error}
 use Rattle.pua_policy.specs.Reasons.{HasEnded, Lacks, holds_or, may_of}
 use Rattle.pua_policy.specs.ReasonLaws.{LackingsHold, LackSome, PromisingHolds, PromisingsHold, PromisingsAnswer}
 use Rattle.pua_policy.specs.declared.answer.May.TheVariants as may

@@ -1,19 +1,13 @@
 -- What is told of a cover is so.
-use Rattle.std.proofs.Common.{◌≡◌, ℕ, Bool, true, false, List, [], ◌∷◌, ◌++◌, Some, None, refl, sym, ap, ◌∙◌, append_assoc, append-nil}
-use Rattle.std.proofs.Common.{Option, subst}
-use Rattle.std.specs.Prelude.{if◌then◌else◌, ◌&&◌, ◌↔◌, is_none}
-use Rattle.std.specs.List.{list_any, list_all}
+use Rattle.pua_policy.proofs.Common.{◌≡◌, ℕ, Bool, true, false, List, [], ◌∷◌, refl, sym, ap, ◌∙◌, subst, if◌then◌else◌, list_any, Tree}
+use Rattle.pua_policy.proofs.Common.{Errno, Found, holds, History, Unveiled, perms_kept, same_place, places_over, cover, cover_fault}
+use Rattle.pua_policy.proofs.Common.{is_unveil, Place, Only}
+use Rattle.std.proofs.Common.{◌++◌, Some, None, append_assoc, append-nil}
+use Rattle.std.proofs.Common.{Option}
+use Rattle.std.specs.Prelude.{◌&&◌, ◌↔◌, is_none}
+use Rattle.std.specs.List.{list_all}
 use Rattle.std.proofs.lemmas.List.Folds.{list_all-append}
-use Rattle.pua_tree.specs.Tree.{Tree}
-use Rattle.pua_path.specs.declared.errno.Errno.{Errno}
 use Rattle.pua_path.specs.declared.errno.Errno.TheVariants.{EACCES}
-use Rattle.pua_path.specs.declared.found.Found.{Found}
-use Rattle.pua_calls.specs.Promises.{holds}
-use Rattle.pua_policy.specs.History.{History, Unveiled, perms_kept, same_place}
-use Rattle.pua_policy.specs.Laws.{places_over}
-use Rattle.pua_policy.specs.Verdict.{cover, cover_fault, is_unveil}
-use Rattle.pua_policy.specs.declared.place.Place.{Place}
-use Rattle.pua_policy.specs.declared.answer.Cover.TheVariants.{Only}
 use Rattle.pua_policy.proofs.Veils.{same_place_is, same_place_refl, nearest_counts}
 use Rattle.pua_policy.specs.declared.reason.Covering.{Covering}
 use Rattle.pua_policy.specs.declared.reason.Covering.TheVariants.{InView, NoneOver, By}

@@ -1,7 +1,6 @@
 -- What a call without its promises gets.
-use Rattle.std.proofs.Common.{◌≡◌, sym, ap}
-use Rattle.std.specs.Prelude.{Option, Some, unwrap_or}
-use Rattle.pua_policy.specs.Verdict.{refusal_of, refusal_verdict, if_promised}
+use Rattle.pua_policy.proofs.Common.{◌≡◌, sym, ap, Option, Some, unwrap_or, if_promised}
+use Rattle.pua_policy.specs.Verdict.{refusal_of, refusal_verdict}
 use Rattle.pua_policy.specs.declared.answer.May.{May}
 use Rattle.pua_policy.specs.declared.answer.May.TheVariants.{Yes, Enosys, Death}
 use Rattle.pua_policy.specs.declared.answer.Refusal.{Refusal}

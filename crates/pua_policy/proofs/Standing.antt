@@ -1,19 +1,16 @@
 -- What a process keeps decides what it may do.
-use Rattle.std.proofs.Common.{◌≡◌, ℕ, List, [], ◌∷◌, true, false, cond, refl, sym, ap, ◌∙◌}
-use Rattle.std.specs.List.{list_any}
-use Rattle.std.specs.Prelude.{Result, Ok, Err, Some, if◌then◌else◌, length}
-use Rattle.pua_tree.specs.Tree.{Tree}
-use Rattle.pua_path.specs.declared.found.Found.{Found}
-use Rattle.pua_policy.specs.declared.place.Place.{Place}
-use Rattle.pua_policy.specs.History.{History, Pledged, Unveiled, Locked, Moved, Ended, perms_kept, veils, with_veil, veil_at, has_veil}
-use Rattle.pua_policy.specs.History.{same_place, working_dir, place_fault, may_any, may_any_on, pledge_fault_on, unveil_fault}
-use Rattle.pua_policy.specs.History.{unveil_fault_on, ProcessState, StandsFor, state_of}
-use Rattle.pua_policy.specs.Verdict.{is_unveil, cover, cover_on, cover_with, cover_fault, or_fault, object_fault, object_of}
-use Rattle.pua_policy.specs.Verdict.{allowed_unless, if_promised, verdict_of}
-use Rattle.pua_calls.specs.Calls.{CallTable, rule_of, ending_of, last_of}
+use Rattle.pua_policy.proofs.Common.{◌≡◌, ℕ, List, [], ◌∷◌, true, false, refl, sym, ap, ◌∙◌, list_any, Some, if◌then◌else◌, Tree, Found}
+use Rattle.pua_policy.proofs.Common.{Place, History, Pledged, Unveiled, Locked, Moved, Ended, perms_kept, veils, with_veil, veil_at}
+use Rattle.pua_policy.proofs.Common.{has_veil, same_place, ProcessState, StandsFor, is_unveil, cover, cover_on, cover_fault, allowed_unless}
+use Rattle.pua_policy.proofs.Common.{if_promised, rule_of, Errno, Call}
+use Rattle.std.proofs.Common.{cond}
+use Rattle.std.specs.Prelude.{Result, Ok, Err, length}
+use Rattle.pua_policy.specs.History.{working_dir, place_fault, may_any, may_any_on, pledge_fault_on, unveil_fault}
+use Rattle.pua_policy.specs.History.{unveil_fault_on, state_of}
+use Rattle.pua_policy.specs.Verdict.{cover_with, or_fault, object_fault, object_of}
+use Rattle.pua_policy.specs.Verdict.{verdict_of}
+use Rattle.pua_calls.specs.Calls.{CallTable, ending_of, last_of}
 use Rattle.pua_path.specs.Resolution.{resolution_of_text}
-use Rattle.pua_path.specs.declared.errno.Errno.{Errno}
-use Rattle.pua_calls.specs.declared.call.Call.{Call}
 use Rattle.pua_policy.specs.declared.answer.Verdict.TheVariants.{Failed}
 use Rattle.pua_policy.specs.declared.answer.UnveilFault.TheVariants.{NotPermitted}
 use Rattle.pua_policy.specs.Laws.{ProcessesDecide}

@@ -1,18 +1,15 @@
 -- What the veils leave of a name that has no veil of its own.
-use Rattle.std.proofs.Common.{◌≡◌, ℕ, List, ◌∷◌, map, Option, None, sym, ap, ◌∙◌}
-use Rattle.std.specs.Prelude.{if◌then◌else◌, IsTrue}
-use Rattle.std.specs.List.{list_any}
-use Rattle.pua_tree.specs.Tree.{Tree, WellFormed, is_dir, climb}
-use Rattle.pua_path.specs.declared.found.Way.{Way}
-use Rattle.pua_path.specs.declared.found.Found.TheVariants.{Whole, Slot}
-use Rattle.pua_calls.specs.Calls.{CallTable, rule_of}
-use Rattle.pua_policy.specs.History.{History, perms_kept, may_any}
-use Rattle.pua_policy.specs.Verdict.{cover, cover_fault, nearest, is_unveil, object_fault, IsMissing, or_fault, allowed_unless, if_promised}
+use Rattle.pua_policy.proofs.Common.{◌≡◌, ℕ, List, ◌∷◌, map, sym, ap, ◌∙◌, if◌then◌else◌, list_any, Tree, WellFormed, is_dir, climb, Way}
+use Rattle.pua_policy.proofs.Common.{Whole, Slot, rule_of, History, perms_kept, cover, cover_fault, nearest, is_unveil, allowed_unless}
+use Rattle.pua_policy.proofs.Common.{if_promised, Call, All}
+use Rattle.std.proofs.Common.{Option, None}
+use Rattle.std.specs.Prelude.{IsTrue}
+use Rattle.pua_calls.specs.Calls.{CallTable}
+use Rattle.pua_policy.specs.History.{may_any}
+use Rattle.pua_policy.specs.Verdict.{object_fault, IsMissing, or_fault}
 use Rattle.pua_policy.specs.Verdict.{verdict}
-use Rattle.pua_calls.specs.declared.call.Call.{Call}
 use Rattle.pua_policy.specs.declared.place.Place.TheVariants as place
 use Rattle.pua_policy.specs.declared.answer.Cover.{Cover}
-use Rattle.pua_policy.specs.declared.answer.Cover.TheVariants.{All}
 use Rattle.pua_policy.proofs.Climbs.{nearest_whole}
 
 module _ (t : Tree) (h : History) (dir : ℕ) where

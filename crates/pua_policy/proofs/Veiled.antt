@@ -1,9 +1,9 @@
 -- The first directory with a veil, on the way up.
-use Rattle.std.proofs.Common.{◌≡◌, ℕ, zero, suc, ◌≢◌, List, [], ◌∷◌, length, map, true, refl, sym, ap, ◌∙◌}
-use Rattle.std.specs.Prelude.{Option, Some, None}
-use Rattle.pua_tree.specs.Tree.{Tree, WellFormed, is_dir, above, climb, climb_within}
-use Rattle.pua_policy.specs.Verdict.{nearest}
-use Rattle.pua_policy.specs.Reasons.{or_farther, first_veiled, covering_at, cover_of}
+use Rattle.pua_policy.proofs.Common.{◌≡◌, ℕ, ◌≢◌, List, [], ◌∷◌, length, map, true, refl, sym, ap, ◌∙◌, Option, Some, None, Tree}
+use Rattle.pua_policy.proofs.Common.{WellFormed, is_dir, above, climb, nearest, first_veiled, covering_at, cover_of}
+use Rattle.std.proofs.Common.{zero, suc}
+use Rattle.pua_tree.specs.Tree.{climb_within}
+use Rattle.pua_policy.specs.Reasons.{or_farther}
 use Rattle.pua_policy.proofs.Climbs.{climb_root, climb_step}
 
 -- what it leaves is the nearest cover

@@ -1,30 +1,25 @@
 -- The veils are the places kept, and only an unveil changes a cover.
-use Rattle.std.proofs.Common.{◌≡◌, ℕ, List, [], ◌∷◌, ◌++◌, map, length, Bool, true, false, cond, refl, sym, ap, ◌∙◌}
-use Rattle.std.proofs.lemmas.Bool.{eqb-true, eq-eqb}
-use Rattle.std.specs.Prelude.{◌==◌, ◌&&◌, Option, Some, None, is_none}
+use Rattle.pua_policy.proofs.Common.{◌≡◌, ℕ, List, [], ◌∷◌, map, length, Bool, true, false, refl, sym, ap, ◌∙◌, eqb-true, eq-eqb, Option}
+use Rattle.pua_policy.proofs.Common.{Some, None, Place, Dir, History, Pledged, Unveiled, Locked, Moved, Ended, veils, perms_kept, with_veil}
+use Rattle.pua_policy.proofs.Common.{veil_at, same_place, and_parts, list_any, Tree, Found, Errno, All, Only, holds, cover, cover_fault}
+use Rattle.pua_policy.proofs.Common.{nearest, is_unveil, places_over}
+use Rattle.std.proofs.Common.{◌++◌, cond}
+use Rattle.std.specs.Prelude.{◌==◌, ◌&&◌, is_none}
 use lib.Pointwise.{bytes_decides}
 use Rattle.std.specs.Map.{lookup}
 use Rattle.indexmap.specs.IndexMap.{insert_entry}
 use Rattle.pua_tree.specs.Names.{same_bytes}
-use Rattle.pua_policy.specs.declared.place.Place.{Place}
-use Rattle.pua_policy.specs.declared.place.Place.TheVariants.{Dir, Slot}
-use Rattle.pua_policy.specs.History.{History, Pledged, Unveiled, Locked, Moved, Ended, veils, perms_kept, is_locked, place_fault, with_veil}
-use Rattle.pua_policy.specs.History.{veil_at, same_place}
-use Rattle.std.proofs.lemmas.Bool.{and_parts}
+use Rattle.pua_policy.specs.declared.place.Place.TheVariants.{Slot}
+use Rattle.pua_policy.specs.History.{is_locked, place_fault}
 use Rattle.std.proofs.lemmas.List.{map-append}
 use Rattle.std.proofs.lemmas.List.Folds.{list_all-map}
 use Rattle.std.proofs.lemmas.Nat.{and_comm}
-use Rattle.std.specs.List.{list_any, list_all}
-use Rattle.pua_tree.specs.Tree.{Tree}
-use Rattle.pua_path.specs.declared.found.Found.{Found}
-use Rattle.pua_path.specs.declared.errno.Errno.{Errno}
+use Rattle.std.specs.List.{list_all}
 use Rattle.pua_path.specs.declared.errno.Errno.TheVariants.{EACCES}
-use Rattle.pua_policy.specs.declared.answer.Cover.TheVariants.{All, Only}
 use Rattle.pua_policy.specs.declared.answer.UnveilFault.TheVariants.{NotPermitted}
-use Rattle.pua_calls.specs.Promises.{holds}
-use Rattle.pua_policy.specs.Verdict.{cover, cover_fault, nearest, place_of, directories_over, is_unveil}
+use Rattle.pua_policy.specs.Verdict.{place_of, directories_over}
 use Rattle.pua_policy.proofs.Narrowing.{second_holds}
-use Rattle.pua_policy.specs.Laws.{VeilsAreKept, CoverNeedsUnveil, NearestCounts, KeptPlacesNarrow, places_over}
+use Rattle.pua_policy.specs.Laws.{VeilsAreKept, CoverNeedsUnveil, NearestCounts, KeptPlacesNarrow}
 use Rattle.pua_tree.proofs.ForCallers.{Some≢None}
 
 -- places that test alike are one

@@ -1,7 +1,7 @@
-use Rattle.std.proofs.Common.{◌≡◌, ℕ, Bool, get_or, sym, ◌∙◌}
+use Rattle.pua_policy.proofs.Common.{◌≡◌, ℕ, Bool, sym, ◌∙◌, Call}
+use Rattle.std.proofs.Common.{get_or}
 use Rattle.pua_calls.specs.Calls.{calls}
 use Rattle.pua_policy.specs.Verdict.{covered_verdict, is_allowed}
-use Rattle.pua_calls.specs.declared.call.Call.{Call}
 use Rattle.pua_calls.specs.declared.call.Call.TheVariants.{Stat}
 use Rattle.pua_calls.proofs.ForCallers.{bit_of_call_at, Decides, decides_none, decides_taken, decides_left, decides_all}
 use Rattle.pua_policy.proofs.judge.allowed.Goals.{then-allows, else-allows}

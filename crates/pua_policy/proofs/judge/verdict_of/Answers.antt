@@ -1,7 +1,6 @@
-use Rattle.std.proofs.Common.{Result, sym, ap, ◌∙◌}
+use Rattle.pua_policy.proofs.Common.{sym, ap, ◌∙◌, Found, Errno}
+use Rattle.std.proofs.Common.{Result}
 use Rattle.pua_policy.specs.Verdict.{verdict_of}
-use Rattle.pua_path.specs.declared.found.Found.{Found}
-use Rattle.pua_path.specs.declared.errno.Errno.{Errno}
 use Rattle.pua_policy.proofs.Refusals.{refused_is}
 use Rattle.pua_policy.proofs.judge.verdict_of.Goals as goal
 

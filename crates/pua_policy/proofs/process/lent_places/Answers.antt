@@ -1,4 +1,4 @@
-use Rattle.std.proofs.Common.{map}
+use Rattle.pua_policy.proofs.Common.{map}
 use Rattle.std.proofs.lemmas.Iterator.Consumers.{map_from_collect, YieldsList-from_rest}
 use Rattle.pua_policy.proofs.process.lent_places.Goals as goal
 

@@ -1,7 +1,7 @@
-use Rattle.std.proofs.Common.{◌∙◌, rules, tests}
+use Rattle.pua_policy.proofs.Common.{◌∙◌, rules, holds}
+use Rattle.std.proofs.Common.{tests}
 use Rattle.std.proofs.lemmas.Iterator.{YieldsList-from_slice}
 use Rattle.std.proofs.lemmas.Iterator.Search.{find_from_yields_List}
-use Rattle.pua_calls.specs.Promises.{holds}
 use Rattle.pua_policy.proofs.promising.first_held.Goals as goal
 
 pub returns : goal.returns

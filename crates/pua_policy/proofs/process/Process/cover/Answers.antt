@@ -1,5 +1,4 @@
-use Rattle.std.proofs.Common.{◌∙◌, sym, ap}
-use Rattle.pua_policy.specs.Verdict.{cover_on}
+use Rattle.pua_policy.proofs.Common.{◌∙◌, sym, ap, cover_on}
 use Rattle.pua_policy.proofs.Covers.{cover-unveiled, cover-whole, cover-slot, slot_lives}
 use Rattle.pua_policy.proofs.Standing.{cover_by}
 use Rattle.pua_policy.proofs.process.Process.cover.Goals as goal

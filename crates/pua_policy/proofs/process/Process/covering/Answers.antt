@@ -1,4 +1,4 @@
-use Rattle.std.proofs.Common.{◌∙◌, sym, ap}
+use Rattle.pua_policy.proofs.Common.{◌∙◌, sym, ap}
 use Rattle.pua_policy.specs.Reasons.{covering_on}
 use Rattle.pua_policy.proofs.Covers.{slot_lives}
 use Rattle.pua_policy.proofs.Coverings.{covering_by, covering-unveiled, covering-whole, covering-slot}

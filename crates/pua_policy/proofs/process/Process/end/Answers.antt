@@ -1,4 +1,4 @@
-use Rattle.pua_policy.specs.History.{Ended}
+use Rattle.pua_policy.proofs.Common.{Ended}
 use Rattle.pua_policy.proofs.Histories.{led_after}
 use Rattle.pua_policy.proofs.process.Process.end.Goals as goal
 

@@ -1,5 +1,4 @@
-use Rattle.std.proofs.Common.{sym, subst}
-use Rattle.pua_policy.specs.History.{StandsFor}
+use Rattle.pua_policy.proofs.Common.{sym, subst, StandsFor}
 use Rattle.pua_policy.proofs.Histories.{stands_by_exec, led_by_exec}
 use Rattle.pua_policy.proofs.process.Process.exec_by.Goals as goal
 

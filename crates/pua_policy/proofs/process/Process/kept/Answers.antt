@@ -1,6 +1,4 @@
-use Rattle.std.proofs.Common.{◌∙◌, ap, sym}
-use Rattle.pua_policy.specs.History.{veil_at}
-use Rattle.pua_policy.specs.contracts.place.PlacePartialEq.TheImpl.{ghosts}
+use Rattle.pua_policy.proofs.Common.{◌∙◌, ap, sym, veil_at, ghosts}
 use Rattle.pua_policy.proofs.Places.{same_place-eq}
 use Rattle.pua_policy.proofs.Standing.{kept_by}
 use Rattle.pua_policy.proofs.Veils.{veil_at-lookup}

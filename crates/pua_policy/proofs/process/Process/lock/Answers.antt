@@ -1,4 +1,4 @@
-use Rattle.pua_policy.specs.History.{Locked}
+use Rattle.pua_policy.proofs.Common.{Locked}
 use Rattle.pua_policy.proofs.Histories.{led_after}
 use Rattle.pua_policy.proofs.process.Process.lock.Goals as goal
 

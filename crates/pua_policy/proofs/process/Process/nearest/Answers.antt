@@ -1,10 +1,6 @@
-use Rattle.std.proofs.Common.{◌≡◌, ◌≢◌, ◌∙◌, ℕ, Bool, true, false, refl, sym, ap, arith}
-use Rattle.std.proofs.lemmas.Bool.{eq-eqb}
-use Rattle.std.specs.Prelude.{Option, Some, None, if◌then◌else◌}
-use Rattle.pua_tree.specs.Tree.{above, climb, is_dir, parent}
-use Rattle.pua_policy.specs.declared.place.Place.TheVariants.{Dir}
-use Rattle.pua_policy.specs.History.{veil_at}
-use Rattle.pua_policy.specs.Reasons.{first_veiled}
+use Rattle.pua_policy.proofs.Common.{◌≡◌, ◌≢◌, ◌∙◌, ℕ, Bool, true, false, refl, sym, ap, arith, eq-eqb, Option, Some, None, if◌then◌else◌}
+use Rattle.pua_policy.proofs.Common.{above, climb, is_dir, Dir, veil_at, first_veiled}
+use Rattle.pua_tree.specs.Tree.{parent}
 use Rattle.pua_policy.proofs.Climbs.{climb-some, climb-more, length-climb, length-climb_step, is_dir_above}
 use Rattle.pua_policy.proofs.Veiled.{veiled_here, veiled_above}
 use Rattle.pua_policy.proofs.process.Process.nearest.Goals as goal

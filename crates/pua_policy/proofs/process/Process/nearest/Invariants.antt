@@ -1,8 +1,5 @@
-use Rattle.std.proofs.Common.{◌≡◌, ◌+◌, ◌≤◌, length, IsTrue}
-use Rattle.pua_tree.specs.Tree.{is_dir, climb}
-use Rattle.pua_policy.specs.declared.place.Place.TheVariants.{Dir}
-use Rattle.pua_policy.specs.History.{veil_at}
-use Rattle.pua_policy.specs.Reasons.{first_veiled}
+use Rattle.pua_policy.proofs.Common.{◌≡◌, ◌+◌, length, is_dir, climb, Dir, veil_at, first_veiled}
+use Rattle.std.proofs.Common.{◌≤◌, IsTrue}
 use Rattle.pua_policy.proofs.process.Process.nearest.Given as goal
 
 abbrev pub invariant-loop-perms : goal.invariant-loop-perms

@@ -1,4 +1,4 @@
-use Rattle.std.proofs.Common.{rules}
+use Rattle.pua_policy.proofs.Common.{rules}
 use Rattle.pua_policy.specs.History.{new_history}
 use Rattle.pua_policy.proofs.process.Process.new.Goals as goal
 

@@ -1,4 +1,4 @@
-use Rattle.pua_policy.specs.History.{Pledged}
+use Rattle.pua_policy.proofs.Common.{Pledged}
 use Rattle.pua_policy.proofs.Histories.{led_after}
 use Rattle.pua_policy.proofs.process.Process.pledge.Goals as goal
 

@@ -1,4 +1,4 @@
-use Rattle.pua_policy.specs.History.{Moved}
+use Rattle.pua_policy.proofs.Common.{Moved}
 use Rattle.pua_policy.proofs.Histories.{led_after}
 use Rattle.pua_policy.proofs.process.Process.set_dir.Goals as goal
 

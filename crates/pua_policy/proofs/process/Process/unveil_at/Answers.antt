@@ -1,15 +1,13 @@
-use Rattle.std.proofs.Common.{◌≡◌, ◌∙◌, ℕ, List, sym, ap, subst, refl, true, false}
+use Rattle.pua_policy.proofs.Common.{◌≡◌, ◌∙◌, ℕ, List, sym, ap, subst, refl, true, false, Place, StandsFor, Unveiled, with_veil, veil_at}
+use Rattle.pua_policy.proofs.Common.{ghosts}
 use Rattle.std.specs.Prelude.{Result, Ok, Err, OnOk, OnErr}
 use Rattle.std.specs.Result.{is_err}
 use Rattle.indexmap.specs.IndexMap.{insert_entry}
-use Rattle.pua_policy.specs.declared.place.Place.{Place}
-use Rattle.pua_policy.specs.History.{StandsFor, Unveiled, with_veil, veil_at}
 use Rattle.pua_policy.specs.declared.answer.UnveilFault.TheVariants.{OutOfMemory}
 use Rattle.pua_policy.proofs.Standing.{unveil_fault_by}
 use Rattle.pua_policy.proofs.Histories.{stands_after, led_after}
 use Rattle.pua_policy.proofs.Places.{same_place-eq}
 use Rattle.pua_policy.proofs.Veils.{with_veil-insert_entry, veil_at-lookup}
-use Rattle.pua_policy.specs.contracts.place.PlacePartialEq.TheImpl.{ghosts}
 use Rattle.pua_policy.proofs.process.Process.unveil_at.Goals as goal
 
 if_no_err : {T E P : Type 0} (r : Result T E) → is_err r ≡ false → OnOk r P → P
