@@ -1,18 +1,9 @@
 -- What is done where it was decided.
-use Rattle.std.proofs.Common.{◌≡◌, ℕ, List, sym, ap, subst, ◌∙◌}
-use Rattle.std.specs.Prelude.{Result}
-use Rattle.pua_tree.specs.Tree.{Tree}
-use Rattle.pua_calls.specs.Calls.{CallTable}
-use Rattle.pua_policy.specs.History.{ProcessState, History, StandsFor}
-use Rattle.pua_policy.specs.declared.answer.Refusal.{Refusal}
-use Rattle.pua_script.specs.Decide.{asker_on, asker_of, refusals, decide_by, decide_on, decide}
+use Rattle.pua_script.proofs.Common.{◌≡◌, ℕ, List, sym, ap, subst, ◌∙◌, Result, Tree, CallTable, ProcessState, History, StandsFor, Refusal}
+use Rattle.pua_script.proofs.Common.{asker_on, asker_of, decide, come_of, Answer, WorldFault, Granted, Action}
+use Rattle.pua_script.specs.Decide.{refusals, decide_by, decide_on}
 use Rattle.pua_script.specs.Judged.{decision_for}
-use Rattle.pua_script.specs.Replay.{come_of}
 use Rattle.pua_script.specs.Worlds.{Acts, Attempts}
-use Rattle.pua_script.specs.declared.answer.Answer.{Answer}
-use Rattle.pua_script.specs.declared.fault.WorldFault.{WorldFault}
-use Rattle.pua_script.specs.declared.granted.Granted.{Granted}
-use Rattle.pua_script.specs.declared.request.Action.{Action}
 use Rattle.pua_script.proofs.Doing.{attempts_same}
 use Rattle.pua_script.proofs.Histories.{asker_stands}
 

@@ -1,35 +1,24 @@
 -- Two worlds of the replay for which one world stands answer alike.
-use Rattle.std.proofs.Common.{◌≡◌, ℕ, suc, ◌+◌, List, [], ◌∷◌, map, length, Bool, true, false, cond, eqb, nat_eq, Option, Some, None}
-use Rattle.std.proofs.Common.{Result, Ok, Err, option_map, is_some, refl, sym, ap, subst, ◌∙◌}
-use Rattle.std.specs.Prelude.{IsTrue, ◌||◌, nat_le}
-use Rattle.std.specs.Cmp.{nat_cmp_total}
-use Rattle.std.specs.Ordering.{nat_cmp}
-use Rattle.std.specs.FinMap.{put, find as find_key, is_sorted}
+use Rattle.pua_script.proofs.Common.{◌≡◌, ℕ, suc, ◌+◌, List, [], ◌∷◌, map, length, Bool, true, false, cond, eqb, nat_eq, refl, sym, ap}
+use Rattle.pua_script.proofs.Common.{subst, ◌∙◌, IsTrue, nat_le, nat_cmp_total, nat_cmp, put, is_sorted, lookup, Tree, TreeFault, Errno}
+use Rattle.pua_script.proofs.Common.{EAGAIN, CallTable, History, Ended, ProcessState, is_ended, Asked, Answer, Gone, Action, Change}
+use Rattle.pua_script.proofs.Common.{NoChange, AddNode, CutRow, ShiftRow, TieRow, BeginProgram, AddEvent, CopyAs, Decision, decide, World}
+use Rattle.pua_script.proofs.Common.{Effect, Fails, Kills, Leaves, Copies, history_of, effect, edit_effect, edited_tree, answer_to, left_by}
+use Rattle.pua_script.proofs.Common.{answer_and_world, apply, world_after, change_effect, come_of, add, cut, shift, tie, Failed, Killed}
+use Rattle.pua_script.proofs.Common.{most_processes, WorldState, StandsAt, StandsForWorld, process_at, nat_tie, passes}
+use Rattle.std.proofs.Common.{Option, Some, None}
+use Rattle.std.proofs.Common.{Result, Ok, Err, option_map, is_some}
+use Rattle.std.specs.Prelude.{◌||◌}
+use Rattle.std.specs.FinMap.{find as find_key}
 use Rattle.std.specs.FinMap.Entries.{find-put, is_sorted-put, length-put}
-use Rattle.std.specs.Map.{lookup}
-use Rattle.pua_tree.specs.Tree.{Tree}
-use Rattle.pua_tree.specs.declared.fault.TreeFault.{TreeFault}
-use Rattle.pua_path.specs.declared.errno.Errno.{Errno}
-use Rattle.pua_path.specs.declared.errno.Errno.TheVariants.{EAGAIN}
-use Rattle.pua_calls.specs.Calls.{CallTable}
-use Rattle.pua_policy.specs.History.{History, Ended, ProcessState, state_of, is_ended, after_exec}
+use Rattle.pua_policy.specs.History.{state_of, after_exec}
 use Rattle.pua_policy.proofs.ForCallers.{stands}
-use Rattle.pua_script.specs.Requests.{Asked}
-use Rattle.pua_script.specs.declared.answer.Answer.{Answer}
-use Rattle.pua_script.specs.declared.answer.Answer.TheVariants.{Gone}
-use Rattle.pua_script.specs.declared.request.Action.{Action}
-use Rattle.pua_script.specs.Decide.{Change, NoChange, AddNode, CutRow, ShiftRow, TieRow, BeginProgram, AddEvent, CopyAs, Decision}
-use Rattle.pua_script.specs.Decide.{refusals, decide_by, decide}
-use Rattle.pua_script.specs.Replay.{World, Effect, Fails, Kills, Leaves, Copies, history_of, effect, edit_effect, edited_tree, answer_to}
-use Rattle.pua_script.specs.Replay.{left_by, answer_and_world, apply, answers_to, world_after, change_effect, come_of}
-use Rattle.pua_tree.specs.Edits.{add, cut, shift, tie}
-use Rattle.pua_policy.specs.declared.answer.Refusal.TheVariants.{Failed, Killed}
-use Rattle.pua_script.specs.Limits.{most_processes}
-use Rattle.pua_script.specs.Worlds.{WorldState, StandsAt, StandsForWorld, WorldsAnswerAlike, process_at}
+use Rattle.pua_script.specs.Decide.{refusals, decide_by}
+use Rattle.pua_script.specs.Replay.{answers_to}
+use Rattle.pua_script.specs.Worlds.{WorldsAnswerAlike}
 use Rattle.pua_script.proofs.StoodFor.{nat_turned}
 use Rattle.pua_script.proofs.Histories.{Same, same_from_standing, same_more, same_after_exec, same_asker}
-use Rattle.pua_tree.proofs.ForCallers.{holds, nat_tie}
-use Rattle.std.specs.Bool.{passes}
+use Rattle.pua_tree.proofs.ForCallers.{holds}
 
 -- effects that differ in the history they leave, for which one process stands
 data SameEffect : Effect → Effect → Type 0 where

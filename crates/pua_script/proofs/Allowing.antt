@@ -1,29 +1,19 @@
 -- A history with the same unveils and no more promises but `error` allows no more.
-use Rattle.std.proofs.Common.{◌≡◌, ℕ, List, [], ◌∷◌, Bool, true, false, not, ◌&&◌, ◌||◌, cond, map, refl, sym, ap, subst, ◌∙◌}
-use Rattle.std.specs.List.{list_any, AllByRecursion}
-use Rattle.std.specs.Prelude.{Option, Some, None, Result, Ok, Err, filter}
-use Rattle.pua_tree.specs.Tree.{Tree, is_dir}
-use Rattle.pua_tree.specs.Steps.{◌>>=◌}
-use Rattle.pua_path.specs.Paths.{is_absolute, path_fault, parts_of}
-use Rattle.pua_path.specs.Resolution.{resolution, resolution_of_text, resolve_parts, most_links}
-use Rattle.pua_path.specs.declared.errno.Errno.{Errno}
-use Rattle.pua_path.specs.declared.errno.Errno.TheVariants.{ENOENT}
-use Rattle.pua_path.specs.declared.text.Ending.{Ending}
-use Rattle.pua_path.specs.declared.found.Last.{Last}
+use Rattle.pua_script.proofs.Common.{◌≡◌, ℕ, List, [], ◌∷◌, Bool, true, false, not, ◌&&◌, ◌||◌, cond, map, refl, sym, ap, subst, ◌∙◌}
+use Rattle.pua_script.proofs.Common.{list_any, AllByRecursion, Option, Some, None, Result, Ok, Err, filter, Tree, is_dir, ◌>>=◌}
+use Rattle.pua_script.proofs.Common.{is_absolute, path_fault, parts_of, resolution_of_text, resolve_parts, most_links, Errno, ENOENT}
+use Rattle.pua_script.proofs.Common.{Ending, Last, Found, holds, CallTable, rule_of, ending_of, last_of, History, Pledged, Unveiled, Locked}
+use Rattle.pua_script.proofs.Common.{Moved, Ended, held_set, has_error, is_ended, may_any, working_dir, cover, is_unveil, place_of}
+use Rattle.pua_script.proofs.Common.{cover_fault, or_fault, object_fault, object_of, object_named, Call, All, May, Yes}
+use Rattle.pua_path.specs.Resolution.{resolution}
 use Rattle.pua_path.specs.declared.found.Way.TheVariants.{Top}
-use Rattle.pua_path.specs.declared.found.Found.{Found}
-use Rattle.pua_calls.specs.Promises.{holds}
-use Rattle.pua_calls.specs.Calls.{CallTable, rule_of, ending_of, last_of}
-use Rattle.pua_policy.specs.History.{History, Pledged, Unveiled, Locked, Moved, Ended, perms_kept, held_set, has_error, is_ended, may_any}
-use Rattle.pua_policy.specs.History.{working_dir, same_place}
-use Rattle.pua_policy.specs.Verdict.{cover, nearest, is_unveil, place_of, directories_over, cover_fault, or_fault, object_fault, object_of}
-use Rattle.pua_policy.specs.Verdict.{allowed_unless, if_promised, verdict_of, is_allowed, found_fault, object_named}
-use Rattle.pua_calls.specs.declared.call.Call.{Call}
+use Rattle.pua_policy.specs.History.{perms_kept}
+use Rattle.pua_policy.specs.History.{same_place}
+use Rattle.pua_policy.specs.Verdict.{nearest, directories_over}
+use Rattle.pua_policy.specs.Verdict.{allowed_unless, if_promised, verdict_of, is_allowed, found_fault}
 use Rattle.pua_policy.specs.declared.place.Place.{Place}
 use Rattle.pua_policy.specs.declared.place.Place.TheVariants.{Dir}
-use Rattle.pua_policy.specs.declared.answer.Cover.TheVariants.{All}
-use Rattle.pua_policy.specs.declared.answer.May.{May}
-use Rattle.pua_policy.specs.declared.answer.May.TheVariants.{Yes, Enosys, Death}
+use Rattle.pua_policy.specs.declared.answer.May.TheVariants.{Enosys, Death}
 use Rattle.pua_policy.specs.declared.answer.Verdict.{Verdict}
 use Rattle.pua_policy.specs.declared.answer.Verdict.TheVariants as verdicts
 use Rattle.pua_script.specs.Tightening.{NamesNoError, NoCallNeedsError, Tightens, AllowsNoMore}

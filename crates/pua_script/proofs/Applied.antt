@@ -1,20 +1,11 @@
 -- A request was not served, or decided upon.
-use Rattle.std.proofs.Common.{◌≡◌, Bool, true, false, cond, refl, sym, subst, ◌∙◌, ℕ}
-use Rattle.std.specs.Prelude.{Option, Some, None, Ok, Err}
-use Rattle.pua_calls.specs.Calls.{CallTable}
-use Rattle.pua_policy.specs.History.{History, is_ended}
-use Rattle.pua_script.specs.Requests.{Asked}
-use Rattle.pua_script.specs.Decide.{Change, Decision, decide}
-use Rattle.pua_script.specs.Replay.{World, Effect, Fails, Kills, Leaves, Copies, history_of, answer_and_world, apply, left_by}
-use Rattle.pua_script.specs.Replay.{change_effect, come_of, do_decided, refusal_effect}
-use Rattle.pua_policy.specs.declared.answer.Refusal.{Refusal}
-use Rattle.pua_policy.specs.declared.answer.Refusal.TheVariants.{Failed, Killed}
-use Rattle.pua_tree.specs.Tree.{Tree}
-use Rattle.pua_script.specs.Worlds.{tree_left}
+use Rattle.pua_script.proofs.Common.{◌≡◌, Bool, true, false, cond, refl, sym, subst, ◌∙◌, ℕ, Option, Some, None, Ok, Err, CallTable}
+use Rattle.pua_script.proofs.Common.{History, is_ended, Asked, Change, Decision, decide, World, Effect, Fails, Kills, Leaves, Copies}
+use Rattle.pua_script.proofs.Common.{history_of, answer_and_world, apply, left_by, change_effect, come_of, Refusal, Failed, Killed, Tree}
+use Rattle.pua_script.proofs.Common.{tree_left, Answer, Gone}
+use Rattle.pua_script.specs.Replay.{do_decided, refusal_effect}
 use Rattle.pua_script.specs.Guards.{IsDecided}
 use Rattle.pua_script.proofs.Guarding.{decisions_are_guarded}
-use Rattle.pua_script.specs.declared.answer.Answer.{Answer}
-use Rattle.pua_script.specs.declared.answer.Answer.TheVariants.{Gone}
 
 module _ (table : CallTable) (w : World) (ask : Asked) where
   -- what is so of a world that stays and of each decision is so of the request

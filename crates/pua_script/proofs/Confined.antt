@@ -1,16 +1,11 @@
 -- What a list of requests of a family leaves of the tree.
-use Rattle.std.proofs.Common.{◌≡◌, ℕ, List, [], ◌∷◌, Bool, true, false, refl, sym, ap, ◌∙◌, lit<}
-use Rattle.std.specs.Prelude.{not, filter}
-use Rattle.std.proofs.lemmas.Bool.{false≢true, and_parts, not-true}
-use Rattle.pua_tree.specs.Tree.{Tree, WellFormed}
-use Rattle.pua_calls.specs.Promises.{holds, cpath}
-use Rattle.pua_calls.specs.Calls.{CallTable}
-use Rattle.pua_policy.specs.History.{History, held_set}
-use Rattle.pua_policy.specs.Verdict.{is_unveil}
-use Rattle.pua_script.specs.Requests.{Asked}
-use Rattle.pua_script.specs.Replay.{World, apply, world_after}
-use Rattle.pua_script.specs.Family.{is_member, is_exec, is_done, none_done, members_alone, family_then}
-use Rattle.pua_script.specs.Confinement.{TakingNeedsC, ChangingNeedsCpath, UncoveredStay, TreesAlong, FamiliesConfine, object_in, has_c}
+use Rattle.pua_script.proofs.Common.{◌≡◌, ℕ, List, [], ◌∷◌, Bool, true, false, refl, sym, ap, ◌∙◌, lit<, filter, false≢true, and_parts}
+use Rattle.pua_script.proofs.Common.{not-true, Tree, WellFormed, holds, CallTable, History, held_set, is_unveil, Asked, World, apply}
+use Rattle.pua_script.proofs.Common.{world_after, is_member, is_exec, is_done, UncoveredStay, object_in, has_c}
+use Rattle.std.specs.Prelude.{not}
+use Rattle.pua_calls.specs.Promises.{cpath}
+use Rattle.pua_script.specs.Family.{none_done, members_alone, family_then}
+use Rattle.pua_script.specs.Confinement.{TakingNeedsC, ChangingNeedsCpath, TreesAlong, FamiliesConfine}
 use Rattle.pua_script.proofs.Allowing.{IsWithin, same_cover}
 use Rattle.pua_script.proofs.Families.{Members, members_then, begins}
 use Rattle.pua_script.proofs.Confining.{each_spares, spared_twice}

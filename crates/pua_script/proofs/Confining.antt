@@ -1,9 +1,6 @@
 -- One request confines, where what it leaves is a tree.
-use Rattle.std.proofs.Common.{ap, ◌∙◌}
-use Rattle.pua_tree.specs.Tree.{Tree}
-use Rattle.pua_policy.specs.History.{History}
-use Rattle.pua_script.specs.Replay.{apply}
-use Rattle.pua_script.specs.Confinement.{UncoveredStay, EachRequestSpares, has_c}
+use Rattle.pua_script.proofs.Common.{ap, ◌∙◌, Tree, History, apply, UncoveredStay, has_c}
+use Rattle.pua_script.specs.Confinement.{EachRequestSpares}
 use Rattle.pua_script.proofs.Covering.{covers_stay}
 use Rattle.pua_script.proofs.Spared.{requests_spare}
 

@@ -1,19 +1,15 @@
 -- Where each row that isn't covered with `c` stays, its cover stays too.
-use Rattle.std.proofs.Common.{◌≡◌, ◌≢◌, ℕ, zero, suc, ◌∷◌, Bool, true, false, cond, map, refl, sym, ap, ◌∙◌}
-use Rattle.std.specs.List.{list_any}
-use Rattle.std.specs.Prelude.{Option, Some, None, option_map}
-use Rattle.std.proofs.lemmas.Bool.{true≢false}
-use Rattle.pua_tree.specs.Tree.{Tree, WellFormed, Spot, is_dir, is_dir_kind, look, node_at, above, climb}
-use Rattle.pua_tree.proofs.ForCallers.{Sound, Reaches, row_says, row_of, above_is, above_dir, sound_from}
-use Rattle.pua_path.specs.declared.found.Found.TheVariants.{Whole, Slot}
+use Rattle.pua_script.proofs.Common.{◌≡◌, ◌≢◌, ℕ, zero, suc, ◌∷◌, Bool, true, false, cond, map, refl, sym, ap, ◌∙◌, list_any, Option, Some}
+use Rattle.pua_script.proofs.Common.{None, option_map, true≢false, Tree, WellFormed, Spot, is_dir, look, node_at, above, climb, sound_from}
+use Rattle.pua_script.proofs.Common.{Whole, Slot, History, cover, is_unveil, place_of, Cover, All, object_in, has_c, UncoveredStay}
+use Rattle.pua_tree.specs.Tree.{is_dir_kind}
+use Rattle.pua_tree.proofs.ForCallers.{Sound, Reaches, row_says, row_of, above_is, above_dir}
 use Rattle.pua_path.specs.declared.found.Way.TheVariants.{Named}
-use Rattle.pua_policy.specs.History.{History, perms_kept}
-use Rattle.pua_policy.specs.Verdict.{cover, nearest, is_unveil, place_of, directories_over}
-use Rattle.pua_policy.specs.declared.answer.Cover.{Cover}
-use Rattle.pua_policy.specs.declared.answer.Cover.TheVariants.{All}
+use Rattle.pua_policy.specs.History.{perms_kept}
+use Rattle.pua_policy.specs.Verdict.{nearest, directories_over}
 use Rattle.pua_policy.specs.declared.place.Place.TheVariants as place
 use Rattle.pua_policy.proofs.ForCallers.{climb_root, nearest_here, nearest_above, nearest_whole}
-use Rattle.pua_script.specs.Confinement.{object_in, has_c, RowStays, UncoveredStay}
+use Rattle.pua_script.specs.Confinement.{RowStays}
 
 -- the row is there with its node, and the node is what it was
 abbrev pub IsThere : Tree → Tree → Spot → ℕ → Type 0

@@ -1,14 +1,9 @@
 -- What a process does, by the effect of what it asks for.
-use Rattle.std.proofs.Common.{◌≡◌, Some, Result, Ok, Err, sym, ap, subst}
-use Rattle.pua_tree.specs.Tree.{Tree}
-use Rattle.pua_policy.specs.History.{ProcessState, History, StandsFor}
+use Rattle.pua_script.proofs.Common.{◌≡◌, sym, ap, subst, Tree, ProcessState, History, StandsFor, May, Refusal, Answer, WorldFault}
+use Rattle.pua_script.proofs.Common.{Decision, if_may, Effect}
+use Rattle.std.proofs.Common.{Some, Result, Ok, Err}
 use Rattle.pua_policy.specs.Verdict.{refusal_of}
-use Rattle.pua_policy.specs.declared.answer.May.{May}
-use Rattle.pua_policy.specs.declared.answer.Refusal.{Refusal}
-use Rattle.pua_script.specs.declared.answer.Answer.{Answer}
-use Rattle.pua_script.specs.declared.fault.WorldFault.{WorldFault}
-use Rattle.pua_script.specs.Decide.{Decision, if_may, unless_refused}
-use Rattle.pua_script.specs.Replay.{Effect}
+use Rattle.pua_script.specs.Decide.{unless_refused}
 use Rattle.pua_script.specs.Worlds.{Does, Edits, Attempts, AttemptsEdit}
 
 -- where promises refuse, the decision is the refusal

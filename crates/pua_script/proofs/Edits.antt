@@ -1,25 +1,18 @@
 -- What is left of an edit's faults after what was checked before it.
-use Rattle.std.proofs.Common.{◌≡◌, ℕ, List, Bool, true, false, cond, refl, sym, ap, subst, ◌∙◌}
-use Rattle.std.specs.Prelude.{Option, Some, None, option_map, Ok, Err, IsOk, ◌&&◌, ◌==◌, not}
+use Rattle.pua_script.proofs.Common.{◌≡◌, ℕ, List, Bool, true, false, cond, refl, sym, ap, subst, ◌∙◌, Option, Some, None, option_map, Ok}
+use Rattle.pua_script.proofs.Common.{Err, IsOk, ◌==◌, and_parts, not-true, same_Some, Tree, Spot, is_dir, look, is_empty, cut, cut_found}
+use Rattle.pua_script.proofs.Common.{is_full_dir, without_unnamed, without_row, Kind, Found, Whole, Slot, object_fault, spot_named}
+use Rattle.pua_script.proofs.Common.{object_of, Call, NameFits}
+use Rattle.std.specs.Prelude.{◌&&◌, not}
 use Rattle.std.specs.Option.{option_eq}
-use Rattle.std.proofs.lemmas.Bool.{and_parts, not-true}
-use Rattle.std.proofs.lemmas.Option.{same_Some}
-use Rattle.pua_tree.specs.Tree.{Tree, Spot, is_dir, look, has_no_row, is_empty, kind_at}
-use Rattle.pua_tree.specs.Edits.{cut, cut_found, is_full_dir, without_unnamed, without_row}
-use Rattle.pua_tree.specs.declared.node.Kind.{Kind}
+use Rattle.pua_tree.specs.Tree.{has_no_row, kind_at}
 use Rattle.pua_tree.specs.declared.node.Kind.TheVariants as kinds
 use Rattle.pua_tree.specs.declared.fault.TreeFault.TheVariants as faults
 use Rattle.pua_policy.specs.Misfits.{misfit_errno}
 use Rattle.pua_policy.specs.declared.reason.Misfit.TheVariants.{IsNotEmpty}
 use Rattle.pua_path.specs.declared.found.Way.TheVariants as ways
-use Rattle.pua_path.specs.declared.found.Found.{Found}
-use Rattle.pua_path.specs.declared.found.Found.TheVariants.{Whole, Slot}
-use Rattle.pua_policy.specs.Verdict.{object_of_kind, object_fault}
+use Rattle.pua_policy.specs.Verdict.{object_of_kind}
 use Rattle.pua_calls.specs.declared.call.Call.TheVariants as calls
-use Rattle.pua_path.specs.Fits.{spot_named}
-use Rattle.pua_policy.specs.Verdict.{object_of}
-use Rattle.pua_calls.specs.declared.call.Call.{Call}
-use Rattle.pua_script.specs.Judged.{NameFits}
 
 -- what was found is of the tree, and nothing is wrong with it for a call
 pub record IsFor (t : Tree) (call : Call) (object : Found) : Type 0 where

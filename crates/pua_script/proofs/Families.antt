@@ -1,19 +1,12 @@
 -- What a list of requests leaves of the family of a process that can put no veil any more.
-use Rattle.std.proofs.Common.{◌≡◌, ℕ, List, [], ◌∷◌, Bool, true, false, cond, ◌&&◌, ◌||◌, refl, sym, ap, subst, ◌∙◌}
-use Rattle.std.specs.Prelude.{Some, not, ◌==◌}
-use Rattle.std.proofs.lemmas.Bool.{false≢true, eqb-true, and_parts, not-true}
-use Rattle.pua_calls.specs.Calls.{CallTable}
-use Rattle.pua_policy.specs.History.{History, working_dir}
-use Rattle.pua_script.specs.Requests.{Asked}
-use Rattle.pua_script.specs.Replay.{World, history_of, apply, world_after}
-use Rattle.pua_script.specs.Laws.{IsConfined}
-use Rattle.pua_script.specs.Family.{is_member, is_okay, is_exec, is_chdir, with_child, family_then, family, is_done, none_done}
-use Rattle.pua_script.specs.Family.{HasHistoryOf}
+use Rattle.pua_script.proofs.Common.{◌≡◌, ℕ, List, [], ◌∷◌, Bool, true, false, cond, ◌&&◌, ◌||◌, refl, sym, ap, subst, ◌∙◌, Some, ◌==◌}
+use Rattle.pua_script.proofs.Common.{false≢true, eqb-true, and_parts, not-true, CallTable, History, working_dir, Asked, World, history_of}
+use Rattle.pua_script.proofs.Common.{apply, world_after, IsConfined, is_member, is_exec, is_chdir, is_done, HasHistoryOf, Answer, Okay}
+use Rattle.pua_script.proofs.Common.{Gone, Action, Fork}
+use Rattle.std.specs.Prelude.{not}
+use Rattle.pua_script.specs.Family.{is_okay, with_child, family_then, family, none_done}
 use Rattle.pua_script.specs.Tightening.{FamiliesNarrow}
-use Rattle.pua_script.specs.declared.answer.Answer.{Answer}
-use Rattle.pua_script.specs.declared.answer.Answer.TheVariants.{Okay, Failed, Killed, Gone}
-use Rattle.pua_script.specs.declared.request.Action.{Action}
-use Rattle.pua_script.specs.declared.request.Action.TheVariants.{Fork}
+use Rattle.pua_script.specs.declared.answer.Answer.TheVariants.{Failed, Killed}
 use Rattle.pua_script.proofs.Others.{forks_copy}
 use Rattle.pua_script.proofs.Allowing.{IsWithin, allows_no_more}
 use Rattle.pua_script.proofs.Tightening.{is_own, is_one, each_steps, within_self, within_twice}

@@ -1,52 +1,39 @@
 -- No fault of a check is want of room.
-use Rattle.std.proofs.Common.{◌≡◌, ◌≢◌, ℕ, zero, suc, List, [], ◌∷◌, ◌++◌, Bool, true, false, cond, refl, ap, ◌∙◌}
-use Rattle.std.specs.Prelude.{Option, Some, None, option_map, Result, Ok, Err, not, ◌&&◌, is_some}
-use Rattle.pua_tree.specs.Steps.{◌>>=◌}
-use Rattle.pua_tree.specs.Tree.{Tree, is_dir, is_empty, above}
-use Rattle.pua_path.specs.Paths.{parts_of, is_absolute, path_fault, text_fault, text_errno}
+use Rattle.pua_script.proofs.Common.{◌≡◌, ◌≢◌, ℕ, zero, suc, List, [], ◌∷◌, ◌++◌, Bool, true, false, cond, refl, ap, ◌∙◌, Option, Some}
+use Rattle.pua_script.proofs.Common.{None, option_map, Result, Ok, Err, is_some, ◌>>=◌, Tree, is_dir, is_empty, above, parts_of}
+use Rattle.pua_script.proofs.Common.{is_absolute, path_fault, text_errno, resolve_parts, resolution_of_text, most_links, node_named, Errno}
+use Rattle.pua_script.proofs.Common.{ENOENT, EINVAL, ENOSPC, LongText, LongComponent, NulInText, Ending, Last, Found, Slot, holds}
+use Rattle.pua_script.proofs.Common.{CallTable, PairRule, rule_of, ending_of, last_of, History, working_dir, may_any, place_of, cover}
+use Rattle.pua_script.proofs.Common.{cover_fault, object_fault, object_of, object_named, Call, Cover, May, is_inside, is_same_node}
+use Rattle.pua_script.proofs.Common.{spot_named, Whole, Spot, or_fault, Failed, Change, NoChange, Decision, if_may, asker_of, decide_rename}
+use Rattle.pua_script.proofs.Common.{decide_link, shifting, is_whole, fault_if, kinds_fault, inside_fault}
+use Rattle.std.specs.Prelude.{not, ◌&&◌}
+use Rattle.pua_path.specs.Paths.{text_fault}
 use Rattle.pua_path.specs.Resolution.{Resolved, Directory, Linked, Plain, Nothing, standing_at, is_followed, slot_or, walk, start_of}
-use Rattle.pua_path.specs.Resolution.{resolve_parts, resolution_of_text, most_links}
-use Rattle.pua_path.specs.Fits.{node_named}
-use Rattle.pua_path.specs.declared.errno.Errno.{Errno}
-use Rattle.pua_path.specs.declared.errno.Errno.TheVariants.{EPERM, ENOENT, EACCES, EINVAL, ENOTEMPTY, ENOSPC, ENOTDIR, ELOOP}
+use Rattle.pua_path.specs.declared.errno.Errno.TheVariants.{EPERM, EACCES, ENOTEMPTY, ENOTDIR, ELOOP}
 use Rattle.pua_path.specs.declared.traced.TextFault.{TextFault}
-use Rattle.pua_path.specs.declared.traced.TextFault.TheVariants.{EmptyText, LongText, LongComponent, NulInText}
-use Rattle.pua_path.specs.declared.text.Ending.{Ending}
+use Rattle.pua_path.specs.declared.traced.TextFault.TheVariants.{EmptyText}
 use Rattle.pua_path.specs.declared.text.Ending.TheVariants as ending
 use Rattle.pua_path.specs.declared.found.Part.{Part}
 use Rattle.pua_path.specs.declared.found.Part.TheVariants as parts
-use Rattle.pua_path.specs.declared.found.Last.{Last}
 use Rattle.pua_path.specs.declared.found.Last.TheVariants.{Followed}
 use Rattle.pua_path.specs.declared.found.Way.{Way}
 use Rattle.pua_path.specs.declared.found.Way.TheVariants as way
-use Rattle.pua_path.specs.declared.found.Found.{Found}
-use Rattle.pua_path.specs.declared.found.Found.TheVariants.{Slot}
-use Rattle.pua_calls.specs.Promises.{holds}
-use Rattle.pua_calls.specs.Calls.{CallTable, PairRule, rule_of, ending_of, last_of}
-use Rattle.pua_policy.specs.History.{History, working_dir, may_any, unveil_fault}
+use Rattle.pua_policy.specs.History.{unveil_fault}
 use Rattle.pua_policy.specs.Misfits.{misfit, misfit_errno}
-use Rattle.pua_policy.specs.Verdict.{Object, place_of, cover, cover_fault, object_fault, object_of, object_named}
+use Rattle.pua_policy.specs.Verdict.{Object}
 use Rattle.pua_policy.specs.declared.reason.Misfit.{Misfit}
 use Rattle.pua_policy.specs.declared.reason.Misfit.TheVariants.{Missing, Exists, IsDirectory, IsNoFile, IsNoDirectory, IsNoLink}
 use Rattle.pua_policy.specs.declared.reason.Misfit.TheVariants.{IsNoProgram, IsNotEmpty, ByDot, ByDotDot, ByNothing}
-use Rattle.pua_calls.specs.declared.call.Call.{Call}
-use Rattle.pua_policy.specs.declared.answer.Cover.{Cover}
 use Rattle.pua_policy.specs.declared.answer.Cover.TheVariants as covers
 use Rattle.pua_policy.specs.declared.answer.UnveilFault.{UnveilFault}
 use Rattle.pua_policy.specs.declared.answer.UnveilFault.TheVariants as unveil_faults
-use Rattle.pua_policy.specs.declared.answer.May.{May}
 use Rattle.pua_policy.specs.declared.answer.May.TheVariants as may
-use Rattle.pua_tree.specs.Edits.{is_inside, is_same_node}
 use Rattle.pua_path.specs.declared.errno.Errno.TheVariants.{EEXIST, EISDIR}
-use Rattle.pua_path.specs.Fits.{spot_named}
-use Rattle.pua_path.specs.declared.found.Found.TheVariants.{Whole}
-use Rattle.pua_tree.specs.Tree.{Spot}
-use Rattle.pua_policy.specs.Verdict.{or_fault}
-use Rattle.pua_policy.specs.declared.answer.Refusal.TheVariants.{Failed}
-use Rattle.pua_script.specs.Decide.{Change, NoChange, Decision, fails, if_may, unless_fault, if_named as decide_named, asker_of}
+use Rattle.pua_script.specs.Decide.{fails, unless_fault, if_named as decide_named}
 use Rattle.pua_script.specs.Decide.{decide_object}
-use Rattle.pua_script.specs.Decide.{decide_pair, decide_rename, decide_link, decide_veil, shifting, named_by, dots_fault, top_fault}
-use Rattle.pua_script.specs.Decide.{is_whole, fault_if, kinds_fault, inside_fault, unveil_errno}
+use Rattle.pua_script.specs.Decide.{decide_pair, decide_veil, named_by, dots_fault, top_fault}
+use Rattle.pua_script.specs.Decide.{unveil_errno}
 
 -- faults other than ENOSPC
 abbrev pub Apart : Option Errno → Type 0

@@ -1,36 +1,33 @@
 -- A script is read exactly as the requests that its lines spell.
-use Rattle.std.proofs.Common.{◌≡◌, ℕ, suc, ◌≤◌, ◌<◌, Bool, true, false, cond, List, [], ◌∷◌, length, take, Option, Some, None, Result, Ok}
-use Rattle.std.proofs.Common.{Err, refl, sym, ap, subst, ◌∙◌, true≢false, arith, lit<}
-use Rattle.std.specs.Prelude.{◌≢◌, codes, IsTrue, ok_or, option_map, nat_lt, not}
-use Rattle.std.specs.List.{list_all}
+use Rattle.pua_script.proofs.Common.{◌≡◌, ℕ, suc, ◌≤◌, ◌<◌, Bool, true, false, cond, List, [], ◌∷◌, length, take, refl, sym, ap, subst, ◌∙◌}
+use Rattle.pua_script.proofs.Common.{arith, lit<, IsTrue, option_map, nat_lt, list_all, lines, not-true, and_from, le-leb, is_bytes}
+use Rattle.pua_script.proofs.Common.{is_in_bytes, ◌>>=◌, None≢Some, Errno, Call, Asked, Action, OnPath, Symlink, Rename, Link, Unveil, Fork}
+use Rattle.pua_script.proofs.Common.{request_of_fields, request_of}
+use Rattle.std.proofs.Common.{Option, Some, None, Result, Ok}
+use Rattle.std.proofs.Common.{Err, true≢false}
+use Rattle.std.specs.Prelude.{◌≢◌, codes, ok_or, not}
 use Rattle.std.specs.Result.{result_ok}
-use Rattle.std.specs.Str.Lines.{lines}
-use Rattle.std.proofs.lemmas.Bool.{not-true, not_from_false, and_from, le-leb, le-ltb, ltb-false, cond-true}
-use Rattle.pua_script.specs.Bytes.{is_bytes, is_in_bytes}
+use Rattle.std.proofs.lemmas.Bool.{not_from_false, le-ltb, ltb-false, cond-true}
 use Rattle.std.proofs.lemmas.List.{take_all}
 use lib.Pointwise.{bytes_decides}
 use Rattle.pua_tree.specs.Names.{same_bytes}
 use Rattle.pua_tree.specs.Spelling.{bytes_spelled, fields, is_field, number_within}
-use Rattle.pua_tree.specs.Steps.{◌>>=◌}
 use Rattle.pua_tree.specs.Listing.{only_if}
-use Rattle.pua_tree.proofs.ForCallers.{same_Some, None≢Some, guarded, Err≢Ok, same_Ok, unspelled-spelling, spelling-unspelled}
+use Rattle.pua_tree.proofs.ForCallers.{same_Some, guarded, Err≢Ok, same_Ok, unspelled-spelling, spelling-unspelled}
 use Rattle.pua_tree.proofs.ForCallers.{bytes_unspelled, decimal_within, number_read, mapped, only_if_read, first_passes, other_word}
 use Rattle.pua_tree.proofs.ForCallers.{same_word, ok_or_read, step_read}
-use Rattle.pua_path.specs.declared.errno.Errno.{Errno}
 use Rattle.pua_calls.specs.Promises.{promises_of, perms_of}
 use Rattle.pua_calls.specs.Calls.{calls, call_name, call_named}
-use Rattle.pua_calls.specs.declared.call.Call.{Call}
 use Rattle.pua_calls.specs.declared.call.Call.TheVariants as call
-use Rattle.pua_script.specs.Requests.{Asked, is_symlink, has_no_nul, is_askable}
+use Rattle.pua_script.specs.Requests.{is_symlink, has_no_nul, is_askable}
 use Rattle.pua_script.specs.declared.request.Given.{Given}
 use Rattle.pua_script.specs.declared.request.Given.TheVariants.{Null, Good}
-use Rattle.pua_script.specs.declared.request.Action.{Action}
-use Rattle.pua_script.specs.declared.request.Action.TheVariants.{OnPath, Symlink, Rename, Link, Pledge, Unveil, Lock, Fork, Exit}
+use Rattle.pua_script.specs.declared.request.Action.TheVariants.{Pledge, Lock, Exit}
 use Rattle.pua_script.specs.declared.fault.ScriptFault.{ScriptFault}
 use Rattle.pua_script.specs.declared.fault.ScriptFault.TheVariants.{BadLine, BadCall, BadPath, BadList, TooMany}
 use Rattle.pua_script.specs.Scripts.{is_dash, is_equals, path_in, has_empty_word, good_or_unknown, given_in, perms_in, Form, PathForm}
 use Rattle.pua_script.specs.Scripts.{SymlinkForm, RenameForm, LinkForm, PledgeForm, UnveilForm, ForkForm, ExitForm, form_of, with_paths}
-use Rattle.pua_script.specs.Scripts.{unveil_of, action_of, form_in, action_in, request_of_fields, request_of, requests_of}
+use Rattle.pua_script.specs.Scripts.{unveil_of, action_of, form_in, action_in, requests_of}
 use Rattle.pua_script.specs.ScriptGrammar.{SpellsPath, empty, spelled, IsList, SpellsGiven, null, nothing, known, unknown, SpellsPerms}
 use Rattle.pua_script.specs.ScriptGrammar.{no_letter, letters, unknown_letter, SpellsAction, on_path, symlink, rename, link, pledge, unveil}
 use Rattle.pua_script.specs.ScriptGrammar.{lock, fork, exit, SpellsRequest, SpellRequests, ScriptsAreRead}

@@ -1,27 +1,15 @@
 -- What was checked before a change, whichever request was granted it.
-use Rattle.std.proofs.Common.{◌≡◌, ℕ, List, [], ◌∷◌, Bool, true, false, not, refl, sym, subst, ◌⊎◌, inl, inr}
-use Rattle.std.specs.Prelude.{Option, Some, None, IsTrue, is_some}
-use Rattle.pua_tree.specs.Tree.{Tree, Node, Spot, target_fits}
-use Rattle.pua_tree.specs.Edits.{has_room, has_name_room}
+use Rattle.pua_script.proofs.Common.{◌≡◌, ℕ, List, [], ◌∷◌, Bool, true, false, not, refl, sym, subst, ◌⊎◌, inl, inr, Option, Some, None}
+use Rattle.pua_script.proofs.Common.{IsTrue, is_some, Tree, Node, Spot, target_fits, has_room, has_name_room, spot_named, node_named, Dot}
+use Rattle.pua_script.proofs.Common.{Dropped, Found, Whole, Slot, unveil, CallTable, History, Event, Unveiled, Moved, is_locked, may_any}
+use Rattle.pua_script.proofs.Common.{Yes, Call, is_bytes, is_in_bytes, Change, NoChange, AddNode, CutRow, ShiftRow, TieRow, BeginProgram}
+use Rattle.pua_script.proofs.Common.{AddEvent, CopyAs, shifting, is_whole, is_exec, is_chdir, IsShift, Action, OnPath}
 use Rattle.pua_tree.specs.declared.node.Kind.TheVariants as kind
-use Rattle.pua_path.specs.Fits.{spot_named, node_named}
-use Rattle.pua_path.specs.declared.text.Ending.TheVariants.{Dot, Dropped}
-use Rattle.pua_path.specs.declared.found.Found.{Found}
-use Rattle.pua_path.specs.declared.found.Found.TheVariants.{Whole, Slot}
-use Rattle.pua_calls.specs.Promises.{unveil}
-use Rattle.pua_calls.specs.Calls.{CallTable}
-use Rattle.pua_policy.specs.History.{History, Event, Unveiled, Moved, is_locked, may_any}
-use Rattle.pua_policy.specs.declared.answer.May.TheVariants.{Yes}
-use Rattle.pua_calls.specs.declared.call.Call.{Call}
 use Rattle.pua_calls.specs.declared.call.Call.TheVariants as call
-use Rattle.pua_script.specs.Bytes.{is_bytes, is_in_bytes}
-use Rattle.pua_script.specs.Decide.{Change, NoChange, AddNode, CutRow, ShiftRow, TieRow, BeginProgram, AddEvent, CopyAs, plain_node}
-use Rattle.pua_script.specs.Decide.{link_node, placing, cutting, shifting, tying, change_by, adding, removing, is_whole}
-use Rattle.pua_script.specs.Family.{is_exec, is_chdir}
-use Rattle.pua_script.specs.Guards.{OnOne, OnTwo, IsShift}
+use Rattle.pua_script.specs.Decide.{plain_node}
+use Rattle.pua_script.specs.Decide.{link_node, placing, cutting, tying, change_by, adding, removing}
+use Rattle.pua_script.specs.Guards.{OnOne, OnTwo}
 use Rattle.pua_script.specs.Laws.{lacks_room}
-use Rattle.pua_script.specs.declared.request.Action.{Action}
-use Rattle.pua_script.specs.declared.request.Action.TheVariants.{OnPath}
 
 -- the calls that make a name, and those that take one away
 abbrev pub makes : Call → Bool

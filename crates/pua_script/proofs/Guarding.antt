@@ -1,36 +1,26 @@
 -- Request by request: one that is granted passed its checks, so its change has grounds; and none is refused for want of room.
-use Rattle.std.proofs.Common.{◌≡◌, ℕ, List, [], ◌∷◌, Bool, true, false, cond, refl, inl, inr, ◌⊎◌}
-use Rattle.std.specs.Prelude.{Option, Some, None, Result, Ok, Err, is_some, ◌||◌}
-use Rattle.pua_tree.specs.Tree.{Tree}
-use Rattle.pua_tree.specs.Edits.{is_same_node}
-use Rattle.pua_path.specs.Paths.{path_fault}
-use Rattle.pua_path.specs.Resolution.{resolution_of_text}
-use Rattle.pua_path.specs.Fits.{spot_named, node_named}
-use Rattle.pua_path.specs.declared.errno.Errno.{Errno}
-use Rattle.pua_path.specs.declared.errno.Errno.TheVariants.{EPERM, EEXIST, EINVAL}
-use Rattle.pua_path.specs.declared.text.Ending.{Ending}
+use Rattle.pua_script.proofs.Common.{◌≡◌, ℕ, List, [], ◌∷◌, Bool, true, false, cond, refl, inl, inr, ◌⊎◌, Option, Some, None, Result, Ok}
+use Rattle.pua_script.proofs.Common.{Err, is_some, Tree, is_same_node, path_fault, resolution_of_text, spot_named, node_named, Errno}
+use Rattle.pua_script.proofs.Common.{EINVAL, Ending, Found, proc, unveil, CallTable, PairRule, rule_of, History, is_locked, may_any}
+use Rattle.pua_script.proofs.Common.{working_dir, place_of, cover, cover_fault, or_fault, object_named, object_fault, object_of, Call, May}
+use Rattle.pua_script.proofs.Common.{fault_if, is_whole, inside_fault, kinds_fault, Change, NoChange, Decision, if_may, decide_rename}
+use Rattle.pua_script.proofs.Common.{decide_link, asker_of, shifting, OnPath, Symlink, Rename, Link, Unveil, Fork, IsShift, and_parts, sym}
+use Rattle.pua_script.proofs.Common.{subst, is_bytes, Action}
+use Rattle.std.specs.Prelude.{◌||◌}
+use Rattle.pua_path.specs.declared.errno.Errno.TheVariants.{EPERM, EEXIST}
 use Rattle.pua_path.specs.declared.text.Ending.TheVariants as ending
 use Rattle.pua_path.specs.declared.found.Last.TheVariants.{Followed}
-use Rattle.pua_path.specs.declared.found.Found.{Found}
-use Rattle.pua_calls.specs.Promises.{proc, unveil}
-use Rattle.pua_calls.specs.Calls.{CallTable, PairRule, rule_of}
-use Rattle.pua_policy.specs.History.{History, is_locked, may_any, working_dir, unveil_fault, pledge_fault}
-use Rattle.pua_policy.specs.Verdict.{place_of, cover, cover_fault, or_fault, object_named, object_fault, object_of, found_fault}
-use Rattle.pua_calls.specs.declared.call.Call.{Call}
+use Rattle.pua_policy.specs.History.{unveil_fault, pledge_fault}
+use Rattle.pua_policy.specs.Verdict.{found_fault}
 use Rattle.pua_calls.specs.declared.call.Call.TheVariants as call
-use Rattle.pua_policy.specs.declared.answer.May.{May}
 use Rattle.pua_policy.specs.declared.answer.May.TheVariants as may
-use Rattle.pua_script.specs.Decide.{fault_if, is_whole, link_node, unveil_errno, given_set, is_unknown, inside_fault, kinds_fault, Change}
-use Rattle.pua_script.specs.Decide.{NoChange, Decision, if_may, unless_fault, if_named, adding, change_by, decide_rename, decide_link}
-use Rattle.pua_script.specs.Decide.{asker_of, covers_by, decide_veil, decide_pair, shifting, ways_fault, named_by}
-use Rattle.pua_script.specs.declared.request.Action.TheVariants.{OnPath, Symlink, Rename, Link, Pledge, Unveil, Lock, Fork, Exit}
-use Rattle.pua_script.specs.Guards.{OnOne, OnTwo, IsShift, IsVeil, DecisionsAreGuarded}
-use Rattle.std.proofs.lemmas.Bool.{and_parts}
-use Rattle.std.proofs.Common.{sym, subst}
-use Rattle.pua_script.specs.Bytes.{is_bytes}
+use Rattle.pua_script.specs.Decide.{link_node, unveil_errno, given_set, is_unknown}
+use Rattle.pua_script.specs.Decide.{unless_fault, if_named, adding, change_by}
+use Rattle.pua_script.specs.Decide.{covers_by, decide_veil, decide_pair, ways_fault, named_by}
+use Rattle.pua_script.specs.declared.request.Action.TheVariants.{Pledge, Lock, Exit}
+use Rattle.pua_script.specs.Guards.{OnOne, OnTwo, IsVeil, DecisionsAreGuarded}
 use Rattle.pua_script.specs.Guards.{IsDecided}
 use Rattle.pua_script.specs.Laws.{RefusalsLackNoRoom}
-use Rattle.pua_script.specs.declared.request.Action.{Action}
 use Rattle.pua_script.proofs.Faults.{promised_apart, checked_apart, if_apart, none_or, path_apart, granted_apart, object_has_room}
 use Rattle.pua_script.proofs.Faults.{pair_has_room, rename_has_room, link_has_room, veil_has_room}
 use Rattle.pua_script.proofs.Grounds.{Grounds, on_adding, on_call, on_rename, on_link, link_leads}

@@ -1,9 +1,9 @@
 -- Histories that one process stands for go on to be such, and what is asked with either is decided alike.
-use Rattle.std.proofs.Common.{◌≡◌, ◌∷◌, refl, sym, ap, ◌∙◌}
+use Rattle.pua_script.proofs.Common.{◌≡◌, ◌∷◌, refl, sym, ap, ◌∙◌, History, Event, ProcessState, StandsFor, asker_on, asker_of}
 use Rattle.pua_calls.specs.declared.rules.ExecPromises.{ExecPromises}
-use Rattle.pua_policy.specs.History.{History, Event, ProcessState, StandsFor, state_of, after_exec}
+use Rattle.pua_policy.specs.History.{state_of, after_exec}
 use Rattle.pua_policy.proofs.ForCallers.{keeps, stands, state_after, state_more, state_by_exec, state_exec, cover_by, unveil_fault_by}
-use Rattle.pua_script.specs.Decide.{asker_by, asker_on, asker_of}
+use Rattle.pua_script.specs.Decide.{asker_by}
 
 -- one process stands for both
 abbrev pub Same : History → History → Type 0

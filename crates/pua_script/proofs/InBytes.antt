@@ -1,23 +1,16 @@
 -- What is read as a listing or as a script is made of bytes, and requests in bytes leave bytes.
-use Rattle.std.proofs.Common.{◌≡◌, ℕ, List, [], ◌∷◌, ◌++◌, Bool, true, refl, sym, ap, ◌∙◌}
-use Rattle.std.specs.Prelude.{Option, Some, None, filter_map, option_map, option_and_then}
-use Rattle.std.specs.List.{list_all, cons_option}
-use Rattle.std.specs.Ordering.{nat_cmp}
-use Rattle.std.specs.Cmp.{nat_cmp_total}
-use Rattle.std.specs.FinMap.{nat_cmp-IsAntisymmetric}
-use Rattle.std.specs.Str.Lines.{lines}
-use Rattle.std.proofs.lemmas.Bool.{and_parts, and_from}
-use Rattle.pua_tree.specs.Names.{is_target}
-use Rattle.pua_tree.specs.Tree.{Tree, Node, node_at, target_at}
+use Rattle.pua_script.proofs.Common.{◌≡◌, ℕ, List, [], ◌∷◌, ◌++◌, Bool, true, refl, sym, ap, ◌∙◌, Option, Some, None, option_map, list_all}
+use Rattle.pua_script.proofs.Common.{nat_cmp, nat_cmp_total, nat_cmp-IsAntisymmetric, lines, and_parts, and_from, is_target, Tree, Node}
+use Rattle.pua_script.proofs.Common.{node_at, Kind, None≢Some, Asked, apply, is_bytes, is_in_bytes}
+use Rattle.std.specs.Prelude.{filter_map, option_and_then}
+use Rattle.std.specs.List.{cons_option}
+use Rattle.pua_tree.specs.Tree.{target_at}
 use Rattle.pua_tree.specs.Listing.{Entry, made_entry}
 use Rattle.pua_tree.specs.Grammar.{entry_fits, entries_fit, made_fits, target_stands}
-use Rattle.pua_tree.specs.declared.node.Kind.{Kind}
 use Rattle.pua_tree.specs.declared.node.Kind.TheVariants.{Dir, File, Prog, Link as LinkKind}
-use Rattle.pua_tree.proofs.ForCallers.{None≢Some, all_found, listings_are_read, listings_list_trees, fits_parts}
-use Rattle.pua_script.specs.Requests.{Asked}
+use Rattle.pua_tree.proofs.ForCallers.{all_found, listings_are_read, listings_list_trees, fits_parts}
 use Rattle.pua_script.specs.ScriptGrammar.{SpellRequests}
-use Rattle.pua_script.specs.Replay.{apply}
-use Rattle.pua_script.specs.Bytes.{is_bytes, is_in_bytes, are_in_bytes, ReplaysKeepByteTrees, ListingsListByteTrees, ScriptsAskInBytes}
+use Rattle.pua_script.specs.Bytes.{are_in_bytes, ReplaysKeepByteTrees, ListingsListByteTrees, ScriptsAskInBytes}
 use Rattle.pua_script.proofs.KeepTrees.{requests_keep_trees}
 use Rattle.pua_script.proofs.Grammar.{action_bytes, scripts_are_read}
 

@@ -1,35 +1,21 @@
 -- A request whose texts are bytes leaves a tree whose links lead to bytes.
-use Rattle.std.proofs.Common.{◌≡◌, ℕ, List, [], ◌∷◌, Bool, true, false, not, ◌&&◌, ◌||◌, cond, refl, sym, ap, subst, ◌∙◌, inl, inr}
-use Rattle.std.specs.Prelude.{Option, Some, None, Result, Ok, Err, nat_le, length, ◌==◌, is_some, option_and_then}
-use Rattle.std.proofs.lemmas.Bool.{and_parts}
-use Rattle.std.specs.Ordering.{nat_cmp}
-use Rattle.std.specs.Cmp.{nat_cmp_total}
-use Rattle.std.specs.FinMap.{nat_cmp-IsAntisymmetric}
+use Rattle.pua_script.proofs.Common.{◌≡◌, ℕ, List, [], ◌∷◌, Bool, true, false, not, ◌&&◌, ◌||◌, cond, refl, sym, ap, subst, ◌∙◌, inl, inr}
+use Rattle.pua_script.proofs.Common.{Option, Some, None, Result, Ok, Err, nat_le, ◌==◌, is_some, and_parts, nat_cmp, nat_cmp_total}
+use Rattle.pua_script.proofs.Common.{nat_cmp-IsAntisymmetric, Tree, Node, WellFormed, Spot, is_dir, is_living, look, node_at, target_fits}
+use Rattle.pua_script.proofs.Common.{with_row, without_row, without_unnamed, with_new, add, tie, cut, cut_found, shift, shift_found}
+use Rattle.pua_script.proofs.Common.{with_row_moved, is_full_dir, is_full_dir_there, is_inside, is_same_node, has_room, has_name_room}
+use Rattle.pua_script.proofs.Common.{TreeFault, put_here, put_elsewhere, None≢Some, spot_named, resolution_of_text, EAGAIN, Ending, Dot}
+use Rattle.pua_script.proofs.Common.{Dropped, Found, Whole, Slot, CallTable, ending_of, last_of, History, working_dir, most_processes}
+use Rattle.pua_script.proofs.Common.{is_bytes, is_in_bytes, Change, AddNode, CutRow, ShiftRow, TieRow, CopyAs, World, Fails, Copies}
+use Rattle.pua_script.proofs.Common.{edit_effect, edited_tree, history_of, apply, change_effect, tree_left, Action, Last}
+use Rattle.std.specs.Prelude.{length, option_and_then}
 use Rattle.pua_tree.specs.Names.{is_name}
-use Rattle.pua_tree.specs.Tree.{Tree, Node, WellFormed, Spot, is_dir, is_living, look, node_at, target_at, target_fits, rows_of}
-use Rattle.pua_tree.specs.Edits.{with_row, without_row, without_node, without_unnamed, with_new, add, tie, cut, cut_found, shift}
-use Rattle.pua_tree.specs.Edits.{shift_found, with_row_moved, is_full_dir, is_full_dir_there, is_inside, is_same_node, has_room}
-use Rattle.pua_tree.specs.Edits.{has_name_room}
-use Rattle.pua_tree.specs.declared.fault.TreeFault.{TreeFault}
+use Rattle.pua_tree.specs.Tree.{target_at, rows_of}
+use Rattle.pua_tree.specs.Edits.{without_node}
 use Rattle.pua_tree.specs.declared.fault.TreeFault.TheVariants.{Missing, Taken, NotDir, NotEmpty, Inside, Full, IsDir}
-use Rattle.pua_tree.proofs.ForCallers.{edits_keep_trees, same_or_other, put_here, put_elsewhere, without_here, without_elsewhere, None≢Some}
-use Rattle.pua_path.specs.Fits.{spot_named}
-use Rattle.pua_path.specs.Resolution.{resolution_of_text}
-use Rattle.pua_path.specs.declared.errno.Errno.TheVariants.{EAGAIN}
-use Rattle.pua_path.specs.declared.text.Ending.{Ending}
-use Rattle.pua_path.specs.declared.text.Ending.TheVariants.{Dot, Dropped}
-use Rattle.pua_path.specs.declared.found.Found.{Found}
-use Rattle.pua_path.specs.declared.found.Found.TheVariants.{Whole, Slot}
+use Rattle.pua_tree.proofs.ForCallers.{edits_keep_trees, same_or_other, without_here, without_elsewhere}
 use Rattle.pua_path.specs.declared.found.Way.TheVariants as way
-use Rattle.pua_calls.specs.Calls.{CallTable, ending_of, last_of}
-use Rattle.pua_policy.specs.History.{History, working_dir}
-use Rattle.pua_script.specs.Limits.{most_processes}
-use Rattle.pua_script.specs.Bytes.{is_bytes, is_in_bytes, are_in_bytes, IsByteTree, RequestsKeepTrees, ReplaysKeepTrees}
-use Rattle.pua_script.specs.Decide.{Change, AddNode, CutRow, ShiftRow, TieRow, CopyAs}
-use Rattle.pua_script.specs.Replay.{World, Fails, Copies, edit_effect, edited_tree, history_of, apply, change_effect}
-use Rattle.pua_script.specs.Worlds.{tree_left}
-use Rattle.pua_script.specs.declared.request.Action.{Action}
-use Rattle.pua_path.specs.declared.found.Last.{Last}
+use Rattle.pua_script.specs.Bytes.{are_in_bytes, IsByteTree, RequestsKeepTrees, ReplaysKeepTrees}
 use Rattle.pua_script.proofs.Guarding.{grounds}
 use Rattle.pua_script.proofs.Grounds.{LeadsToBytes, Grounds}
 use Rattle.pua_script.proofs.Applied.{by_tree}

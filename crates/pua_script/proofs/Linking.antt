@@ -1,20 +1,16 @@
 -- Steps in the proofs of links.
-use Rattle.std.proofs.Common.{◌≡◌, ℕ, List, [], ◌∷◌, Bool, true, false, not, cond, refl, ap, subst, ◌∙◌, arith}
-use Rattle.std.specs.Prelude.{Option, Some, None, option_map, is_some, nat_lt, nat_le, length}
-use Rattle.std.proofs.lemmas.Bool.{and_parts, and_from, lt-ltb, le-leb, ltb-false}
-use Rattle.std.proofs.lemmas.Option.{same_Some}
-use Rattle.pua_tree.specs.Tree.{Tree, Node, WellFormed, spot_cmp, is_dir_kind, is_living, look, row_fits, node_at}
+use Rattle.pua_script.proofs.Common.{◌≡◌, ℕ, List, [], ◌∷◌, Bool, true, false, not, cond, refl, ap, subst, ◌∙◌, arith, Option, Some, None}
+use Rattle.pua_script.proofs.Common.{option_map, is_some, nat_lt, nat_le, and_parts, and_from, lt-ltb, le-leb, same_Some, Tree, Node}
+use Rattle.pua_script.proofs.Common.{WellFormed, is_living, look, node_at, node_named, Found, Whole, Slot, NameFits, is_target, has_byte}
+use Rattle.pua_script.proofs.Common.{path_fault, text_errno, LongText, LongComponent, NulInText}
+use Rattle.std.specs.Prelude.{length}
+use Rattle.std.proofs.lemmas.Bool.{ltb-false}
+use Rattle.pua_tree.specs.Tree.{spot_cmp, is_dir_kind, row_fits}
 use Rattle.pua_tree.proofs.ForCallers.{exact_spots}
 use Rattle.pua_path.proofs.ForCallers.{list_all-find_key}
-use Rattle.pua_path.specs.Fits.{node_named}
-use Rattle.pua_path.specs.declared.found.Found.{Found}
-use Rattle.pua_path.specs.declared.found.Found.TheVariants.{Whole, Slot}
-use Rattle.pua_script.specs.Judged.{NameFits}
 use Rattle.pua_tree.specs.Limits.{most_target}
-use Rattle.pua_tree.specs.Names.{is_target, has_byte, has_short_components}
+use Rattle.pua_tree.specs.Names.{has_short_components}
 use Rattle.pua_path.specs.Limits.{most_path}
-use Rattle.pua_path.specs.Paths.{path_fault, text_errno}
-use Rattle.pua_path.specs.declared.traced.TextFault.TheVariants.{LongText, LongComponent, NulInText}
 
 -- the node of a row lives
 pub row_lives : (t : Tree) → WellFormed t → (dir : ℕ) (name : List ℕ) (x : ℕ) → look t dir name ≡ Some x → is_living t x ≡ true

@@ -1,34 +1,28 @@
 -- What a path of bytes names has a name.
-use Rattle.std.proofs.Common.{◌≡◌, ℕ, zero, suc, List, [], ◌∷◌, ◌++◌, map, Bool, true, false, not, ◌&&◌, cond, refl, sym, ap, subst, ◌∙◌}
-use Rattle.std.proofs.Common.{arith}
-use Rattle.std.specs.Prelude.{Option, Some, None, option_map, Result, Ok, Err, IsTrue, nat_lt, nat_le, length, ◌==◌, unwrap_or}
-use Rattle.std.specs.List.{filter, slice_split, onto_first, list_all, list_any}
+use Rattle.pua_script.proofs.Common.{◌≡◌, ℕ, zero, suc, List, [], ◌∷◌, ◌++◌, map, Bool, true, false, not, ◌&&◌, cond, refl, sym, ap, subst}
+use Rattle.pua_script.proofs.Common.{◌∙◌, arith, Option, Some, None, option_map, Result, Ok, Err, IsTrue, nat_lt, nat_le, ◌==◌, list_all}
+use Rattle.pua_script.proofs.Common.{list_any, false≢true, true≢false, and_parts, and_from, lt-ltb, not-true, is_target, has_byte, ◌>>=◌}
+use Rattle.pua_script.proofs.Common.{Tree, Node, is_dir, look, node_at, above, target_fits, Kind, sound_from, parts_of, is_absolute}
+use Rattle.pua_script.proofs.Common.{path_fault, text_errno, resolve_parts, resolution_of_text, most_links, Errno, ENOENT, LongText}
+use Rattle.pua_script.proofs.Common.{LongComponent, NulInText, Ending, Last, Found, Whole, Slot, is_bytes}
+use Rattle.std.specs.Prelude.{length, unwrap_or}
+use Rattle.std.specs.List.{filter, slice_split, onto_first}
 use Rattle.std.proofs.lemmas.List.Folds.{list_all-append}
-use Rattle.std.proofs.lemmas.Bool.{false≢true, true≢false, and_parts, and_from, or_parts, lt-ltb, not-true}
-use Rattle.pua_tree.specs.Names.{is_name, is_name_byte, is_target, same_bytes, has_byte, components, has_short_components}
+use Rattle.std.proofs.lemmas.Bool.{or_parts}
+use Rattle.pua_tree.specs.Names.{is_name, is_name_byte, same_bytes, components, has_short_components}
 use Rattle.pua_tree.specs.Limits.{most_name}
-use Rattle.pua_tree.specs.Steps.{◌>>=◌}
-use Rattle.pua_tree.specs.Tree.{Tree, Node, is_dir, look, node_at, above, target_fits}
-use Rattle.pua_tree.specs.declared.node.Kind.{Kind}
 use Rattle.pua_tree.specs.declared.node.Kind.TheVariants as kind
-use Rattle.pua_tree.proofs.ForCallers.{sound_from}
 use Rattle.pua_path.specs.Limits.{most_path}
-use Rattle.pua_path.specs.Paths.{part_of, parts_of, ending_parts, ends_in_slash, is_absolute, path_fault, text_errno}
+use Rattle.pua_path.specs.Paths.{part_of, ending_parts, ends_in_slash}
 use Rattle.pua_path.specs.Resolution.{Resolved, Directory, Linked, Plain, Nothing, standing_at, standing_of, is_followed, slot_or, walk}
-use Rattle.pua_path.specs.Resolution.{start_of, resolve_parts, resolution_of_text, most_links}
-use Rattle.pua_path.specs.declared.errno.Errno.{Errno}
-use Rattle.pua_path.specs.declared.errno.Errno.TheVariants.{ENOENT, ENOTDIR, ELOOP}
-use Rattle.pua_path.specs.declared.traced.TextFault.TheVariants.{LongText, LongComponent, NulInText}
-use Rattle.pua_path.specs.declared.text.Ending.{Ending}
+use Rattle.pua_path.specs.Resolution.{start_of}
+use Rattle.pua_path.specs.declared.errno.Errno.TheVariants.{ENOTDIR, ELOOP}
 use Rattle.pua_path.specs.declared.text.Ending.TheVariants as ending
 use Rattle.pua_path.specs.declared.found.Part.{Part}
 use Rattle.pua_path.specs.declared.found.Part.TheVariants as parts
-use Rattle.pua_path.specs.declared.found.Last.{Last}
 use Rattle.pua_path.specs.declared.found.Way.{Way}
 use Rattle.pua_path.specs.declared.found.Way.TheVariants as way
-use Rattle.pua_path.specs.declared.found.Found.{Found}
-use Rattle.pua_path.specs.declared.found.Found.TheVariants.{Whole, Slot}
-use Rattle.pua_script.specs.Bytes.{is_bytes, IsByteTree}
+use Rattle.pua_script.specs.Bytes.{IsByteTree}
 
 abbrev slash : ℕ → Bool
 slash b = b == 47

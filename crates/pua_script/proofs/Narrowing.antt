@@ -1,28 +1,18 @@
 -- What a request of a process that can put no veil any more adds to its history.
-use Rattle.std.proofs.Common.{◌≡◌, ℕ, [], ◌∷◌, Bool, true, false, cond, refl, sym, ap, ◌∙◌, inl, inr, ◌⊎◌, lit<, ◌||◌}
-use Rattle.std.proofs.lemmas.Bool.{true≢false, false_from_ne_true}
-use Rattle.std.specs.Prelude.{Result, Ok, Err, IsTrue, is_some, nat_le, length}
-use Rattle.pua_tree.specs.Tree.{Tree}
-use Rattle.pua_path.specs.declared.errno.Errno.{Errno}
-use Rattle.pua_path.specs.declared.errno.Errno.TheVariants.{EAGAIN}
-use Rattle.pua_tree.specs.declared.fault.TreeFault.{TreeFault}
-use Rattle.pua_calls.specs.Promises.{unveil}
-use Rattle.pua_calls.specs.Calls.{CallTable}
-use Rattle.pua_policy.specs.History.{History, Event, Pledged, Unveiled, Locked, Moved, Ended, is_locked, is_ended, has_error, may_any}
+use Rattle.pua_script.proofs.Common.{◌≡◌, ℕ, [], ◌∷◌, Bool, true, false, cond, refl, sym, ap, ◌∙◌, inl, inr, ◌⊎◌, lit<, ◌||◌, true≢false}
+use Rattle.pua_script.proofs.Common.{Result, Ok, Err, IsTrue, is_some, nat_le, Tree, Errno, EAGAIN, TreeFault, unveil, CallTable, History}
+use Rattle.pua_script.proofs.Common.{Event, Pledged, Unveiled, Locked, Moved, Ended, is_locked, is_ended, has_error, may_any, Action}
+use Rattle.pua_script.proofs.Common.{Change, NoChange, AddNode, CutRow, ShiftRow, TieRow, BeginProgram, AddEvent, CopyAs, decide, World}
+use Rattle.pua_script.proofs.Common.{Effect, Fails, Kills, Leaves, Copies, history_of, effect, edit_effect, edited_tree, change_effect}
+use Rattle.pua_script.proofs.Common.{most_processes, Refusal, Failed, Killed, is_exec, is_chdir, IsConfined}
+use Rattle.std.proofs.lemmas.Bool.{false_from_ne_true}
+use Rattle.std.specs.Prelude.{length}
 use Rattle.pua_policy.proofs.ForCallers.{held_never_grows}
 use Rattle.pua_policy.specs.declared.answer.May.TheVariants as may
-use Rattle.pua_script.specs.declared.request.Action.{Action}
-use Rattle.pua_script.specs.Decide.{Change, NoChange, AddNode, CutRow, ShiftRow, TieRow, BeginProgram, AddEvent, CopyAs, decide}
-use Rattle.pua_script.specs.Replay.{World, Effect, Fails, Kills, Leaves, Copies, history_of, effect, edit_effect, edited_tree}
-use Rattle.pua_script.specs.Replay.{change_effect, refusal_effect}
-use Rattle.pua_script.specs.Limits.{most_processes}
-use Rattle.pua_policy.specs.declared.answer.Refusal.{Refusal}
-use Rattle.pua_policy.specs.declared.answer.Refusal.TheVariants.{Failed, Killed}
+use Rattle.pua_script.specs.Replay.{refusal_effect}
 use Rattle.pua_script.proofs.Guarding.{decisions_are_guarded, grounds}
 use Rattle.pua_script.proofs.Grounds.{Grounds}
 use Rattle.pua_script.proofs.Applied.{by_decision}
-use Rattle.pua_script.specs.Family.{is_exec, is_chdir}
-use Rattle.pua_script.specs.Laws.{IsConfined}
 
 -- an event that is no unveil, and no move of the working directory unless there may be one
 abbrev pub is_step : Bool → Event → Bool

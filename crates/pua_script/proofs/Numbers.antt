@@ -1,22 +1,22 @@
 -- The keys of a world's processes, sorted, are the numbers of its histories.
-use Rattle.std.proofs.Common.{◌≡◌, ℕ, Bool, true, false, ◌&&◌, ◌||◌, T, List, [], ◌∷◌, map, Option, Some, None, is_some, refl, sym, ap}
-use Rattle.std.proofs.Common.{subst, ◌∙◌, IsPermutation, true≢false, nat_eq, eqb}
+use Rattle.pua_script.proofs.Common.{◌≡◌, ℕ, Bool, true, false, ◌&&◌, ◌||◌, List, [], ◌∷◌, map, refl, sym, ap, subst, ◌∙◌, nat_eq, eqb}
+use Rattle.pua_script.proofs.Common.{list_any, AllByRecursion, nat_cmp, nat_cmp_total, is_sorted, nat_cmp-IsAntisymmetric, WorldState}
+use Rattle.pua_script.proofs.Common.{passes, nat_tie}
+use Rattle.std.proofs.Common.{T, Option, Some, None, is_some}
+use Rattle.std.proofs.Common.{IsPermutation, true≢false}
 use Rattle.std.specs.Map.{keys_of}
-use Rattle.std.specs.List.{list_any, IsDistinct, AllByRecursion}
+use Rattle.std.specs.List.{IsDistinct}
 use Rattle.std.specs.List.Sorted.{IsSorted, IsStrictlySortedBy}
 use Rattle.std.specs.declared.cmp.Ordering.TheVariants.{Less}
-use Rattle.std.specs.Ordering.{nat_cmp, is_lt, eq_by_cmp}
-use Rattle.std.specs.Cmp.{nat_cmp_total}
-use Rattle.std.specs.FinMap.{find, is_sorted, nat_cmp-IsAntisymmetric}
+use Rattle.std.specs.Ordering.{is_lt, eq_by_cmp}
+use Rattle.std.specs.FinMap.{find}
 use Rattle.std.specs.FinMap.Entries.{below_all, same_entries, is_some-find}
 use Rattle.std.proofs.lemmas.List.Sorted.{IsNonDecreasingBy-from_sort, list_any-IsPermutation}
 use Rattle.std.proofs.lemmas.Map.Keys.{IsDistinct-IsPermutation, IsStrictlyIncreasing-from_distinct, sorted_from_strictly_increasing}
 use Rattle.std.proofs.lemmas.Map.Keys.{sorted_head, sorted_tail}
 use Rattle.std.proofs.lemmas.Map.Made.{is_some-lookup}
-use Rattle.pua_script.specs.Worlds.{WorldState, AreNumbersOf}
+use Rattle.pua_script.specs.Worlds.{AreNumbersOf}
 use Rattle.pua_script.proofs.StoodFor.{nat_turned, same_numbers}
-use Rattle.std.specs.Bool.{passes}
-use Rattle.pua_tree.proofs.ForCallers.{nat_tie}
 
 -- a number's entry
 abbrev marked : ℕ → ℕ × Unit {0}

@@ -1,13 +1,12 @@
 -- A script that was read up to some line.
-use Rattle.std.proofs.Common.{◌≡◌, ℕ, zero, suc, ◌+◌, ◌-◌, ◌<◌, ◌≤◌, Bool, cond, List, [], ◌∷◌, ◌++◌, length, take, Result, Ok, Err, refl}
-use Rattle.std.proofs.Common.{sym, ap, ◌∙◌, arith, append_assoc, append-nil, zero-add}
-use Rattle.std.specs.Prelude.{nat_lt}
-use Rattle.std.proofs.lemmas.Bool.{lt-ltb, le-ltb}
-use Rattle.pua_tree.specs.Steps.{◌>>=◌}
-use Rattle.pua_script.specs.Requests.{Asked}
+use Rattle.pua_script.proofs.Common.{◌≡◌, ℕ, zero, suc, ◌+◌, ◌<◌, ◌≤◌, Bool, cond, List, [], ◌∷◌, ◌++◌, length, take, refl, sym, ap, ◌∙◌}
+use Rattle.pua_script.proofs.Common.{arith, nat_lt, lt-ltb, ◌>>=◌, Asked, request_of}
+use Rattle.std.proofs.Common.{◌-◌, Result, Ok, Err}
+use Rattle.std.proofs.Common.{append_assoc, append-nil, zero-add}
+use Rattle.std.proofs.lemmas.Bool.{le-ltb}
 use Rattle.pua_script.specs.declared.fault.ScriptFault.{ScriptFault}
 use Rattle.pua_script.specs.declared.fault.ScriptFault.TheVariants.{TooMany}
-use Rattle.pua_script.specs.Scripts.{request_of, requests_of}
+use Rattle.pua_script.specs.Scripts.{requests_of}
 
 -- requests, unless there are more lines than may be
 abbrev unless_more : Bool → List Asked → Result (List Asked) ScriptFault

@@ -1,27 +1,14 @@
 -- A request leaves the histories of all others, and a fork copies that of the one that asks.
-use Rattle.std.proofs.Common.{◌≡◌, ◌≢◌, ℕ, [], ◌∷◌, Bool, true, false, cond, refl, sym, ap, ◌∙◌}
-use Rattle.std.specs.Prelude.{Some, is_some, Result, Ok, Err, ◌||◌, nat_le, length}
-use Rattle.std.specs.Ordering.{nat_cmp}
-use Rattle.std.specs.Cmp.{nat_cmp_total}
-use Rattle.std.specs.FinMap.{put, find as find_key, nat_cmp-IsAntisymmetric}
-use Rattle.pua_tree.proofs.ForCallers.{put_here, put_elsewhere}
-use Rattle.pua_tree.specs.Tree.{Tree}
-use Rattle.pua_tree.specs.declared.fault.TreeFault.{TreeFault}
-use Rattle.pua_path.specs.declared.errno.Errno.TheVariants.{EAGAIN}
-use Rattle.pua_calls.specs.Calls.{CallTable}
-use Rattle.pua_policy.specs.History.{History, may_any}
-use Rattle.pua_calls.specs.Promises.{proc}
-use Rattle.pua_policy.specs.declared.answer.May.{May}
+use Rattle.pua_script.proofs.Common.{◌≡◌, ◌≢◌, ℕ, [], ◌∷◌, Bool, true, false, cond, refl, sym, ap, ◌∙◌, Some, is_some, Result, Ok, Err}
+use Rattle.pua_script.proofs.Common.{nat_le, nat_cmp, nat_cmp_total, put, nat_cmp-IsAntisymmetric, put_here, put_elsewhere, Tree, TreeFault}
+use Rattle.pua_script.proofs.Common.{EAGAIN, CallTable, History, may_any, proc, May, Failed, Killed, Change, AddNode, CutRow, ShiftRow}
+use Rattle.pua_script.proofs.Common.{TieRow, CopyAs, Decision, if_may, decide, World, Effect, Fails, Kills, Leaves, Copies, effect}
+use Rattle.pua_script.proofs.Common.{history_of, apply, left_by, answer_to, edit_effect, edited_tree, change_effect, come_of, Answer, Okay}
+use Rattle.pua_script.proofs.Common.{Action, Fork, most_processes}
+use Rattle.std.specs.Prelude.{◌||◌, length}
+use Rattle.std.specs.FinMap.{find as find_key}
 use Rattle.pua_policy.specs.declared.answer.May.TheVariants as may
-use Rattle.pua_policy.specs.declared.answer.Refusal.TheVariants.{Failed, Killed}
-use Rattle.pua_script.specs.Decide.{Change, AddNode, CutRow, ShiftRow, TieRow, CopyAs, Decision, if_may, decide}
-use Rattle.pua_script.specs.Replay.{World, Effect, Fails, Kills, Leaves, Copies, effect, history_of, apply, left_by, answer_to, edit_effect}
-use Rattle.pua_script.specs.Replay.{edited_tree, change_effect, come_of, do_decided}
-use Rattle.pua_script.specs.declared.answer.Answer.{Answer}
-use Rattle.pua_script.specs.declared.answer.Answer.TheVariants.{Okay}
-use Rattle.pua_script.specs.declared.request.Action.{Action}
-use Rattle.pua_script.specs.declared.request.Action.TheVariants.{Fork}
-use Rattle.pua_script.specs.Limits.{most_processes}
+use Rattle.pua_script.specs.Replay.{do_decided}
 use Rattle.pua_script.specs.Tightening.{OthersLeave, OthersLeaveAlways, ForksCopy}
 use Rattle.pua_script.proofs.Applied.{by_request, by_living}
 

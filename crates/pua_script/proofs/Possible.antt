@@ -1,33 +1,21 @@
 -- What is decided can be done, but for want of room.
-use Rattle.std.proofs.Common.{◌≡◌, ℕ, List, true, false, not, ◌&&◌, cond, refl, sym, ap, subst, ◌∙◌}
-use Rattle.std.specs.Prelude.{Option, Some, None, Ok, Err, IsOk, ◌==◌, is_some}
+use Rattle.pua_script.proofs.Common.{◌≡◌, ℕ, List, true, false, not, ◌&&◌, cond, refl, sym, ap, subst, ◌∙◌, Option, Some, None, Ok, Err}
+use Rattle.pua_script.proofs.Common.{IsOk, ◌==◌, is_some, and_parts, not-true, same_Some, Tree, WellFormed, Spot, is_dir, is_empty, look}
+use Rattle.pua_script.proofs.Common.{shift, shift_found, with_row_moved, is_inside, is_same_node, is_full_dir_there, path_fault}
+use Rattle.pua_script.proofs.Common.{resolution_of_text, spot_named, node_named, Errno, EINVAL, Ending, Dot, Dropped, Last, Found, Whole}
+use Rattle.pua_script.proofs.Common.{Slot, CallTable, ending_of, last_of, History, working_dir, Call, Change, AddNode, CutRow, ShiftRow}
+use Rattle.pua_script.proofs.Common.{TieRow, is_whole, fault_if, kinds_fault, inside_fault, NameFits, Action}
 use Rattle.std.specs.Option.{option_eq}
-use Rattle.std.proofs.lemmas.Bool.{and_parts, not-true, not-false}
-use Rattle.std.proofs.lemmas.Option.{same_Some}
-use Rattle.pua_tree.specs.Tree.{Tree, WellFormed, Spot, is_dir, is_empty, look, has_no_row}
-use Rattle.pua_tree.specs.Edits.{shift, shift_found, with_row_moved, is_inside, is_same_node, is_full_dir_there}
+use Rattle.std.proofs.lemmas.Bool.{not-false}
+use Rattle.pua_tree.specs.Tree.{has_no_row}
 use Rattle.pua_tree.specs.declared.fault.TreeFault.TheVariants as faults
-use Rattle.pua_path.specs.Paths.{path_fault}
-use Rattle.pua_path.specs.Resolution.{resolution_of_text}
-use Rattle.pua_path.specs.Fits.{FoundFits, StandsAtSpot, spot_named, node_named}
-use Rattle.pua_path.specs.declared.errno.Errno.{Errno}
-use Rattle.pua_path.specs.declared.errno.Errno.TheVariants.{EINVAL, ENOTEMPTY}
-use Rattle.pua_path.specs.declared.text.Ending.{Ending}
-use Rattle.pua_path.specs.declared.text.Ending.TheVariants.{Dot, Dropped}
-use Rattle.pua_path.specs.declared.found.Last.{Last}
-use Rattle.pua_path.specs.declared.found.Found.{Found}
-use Rattle.pua_path.specs.declared.found.Found.TheVariants.{Whole, Slot}
+use Rattle.pua_path.specs.Fits.{FoundFits, StandsAtSpot}
+use Rattle.pua_path.specs.declared.errno.Errno.TheVariants.{ENOTEMPTY}
 use Rattle.pua_path.proofs.ForCallers.{resolutions_fit}
-use Rattle.pua_calls.specs.Calls.{CallTable, ending_of, last_of}
-use Rattle.pua_policy.specs.History.{History, working_dir}
-use Rattle.pua_calls.specs.declared.call.Call.{Call}
 use Rattle.pua_calls.specs.declared.call.Call.TheVariants as call
-use Rattle.pua_script.specs.Decide.{Change, AddNode, CutRow, ShiftRow, TieRow, is_whole, fault_if, kinds_fault, inside_fault}
 use Rattle.pua_script.specs.Guards.{IsPossible}
-use Rattle.pua_script.specs.Judged.{NameFits}
 use Rattle.pua_script.specs.declared.granted.Granted.TheVariants as granted
 use Rattle.pua_script.specs.Laws.{DecisionsArePossible}
-use Rattle.pua_script.specs.declared.request.Action.{Action}
 use Rattle.pua_script.proofs.Edits.{IsFor, IsRemovable, empty_alone, rmdir_removes, unlink_removes}
 use Rattle.pua_script.proofs.Linking.{named_lives}
 use Rattle.pua_script.proofs.Guarding.{decisions_are_guarded, second_none, not_faulty, grounds}

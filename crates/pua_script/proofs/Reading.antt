@@ -1,19 +1,18 @@
 -- The parts of a line as its reader finds them.
-use Rattle.std.proofs.Common.{◌≡◌, ℕ, ◌≤◌, not, ◌&&◌, ◌||◌, eqb, leb, cond, List, [], ◌∷◌, map, length, take, Some, None, Ok, Err}
-use Rattle.std.proofs.Common.{refl, ap, ◌∙◌, arith, lit<}
+use Rattle.pua_script.proofs.Common.{◌≡◌, ℕ, ◌≤◌, not, ◌&&◌, ◌||◌, eqb, cond, List, [], ◌∷◌, map, length, take, refl, ap, ◌∙◌, arith, lit<}
+use Rattle.pua_script.proofs.Common.{IsTrue, list_all, and_parts, and_from, le-leb, not-true, has_byte, Action, request_of_fields}
+use Rattle.pua_script.proofs.Common.{request_of}
+use Rattle.std.proofs.Common.{leb, Some, None, Ok, Err}
 use Rattle.std.specs.Borrow.{Bor}
-use Rattle.std.specs.Prelude.{IsTrue, ok_or}
-use Rattle.std.specs.List.{list_all}
-use Rattle.std.proofs.lemmas.Bool.{and_parts, and_from, le-leb, leb-true, ne_eqb, not-true}
-use Rattle.pua_tree.specs.Names.{has_byte}
+use Rattle.std.specs.Prelude.{ok_or}
+use Rattle.std.proofs.lemmas.Bool.{leb-true, ne_eqb}
 use Rattle.pua_tree.specs.Spelling.{is_plain, escaped_byte, with_front, unspelled_from, bytes_spelled, fields, is_field, number_within}
 use Rattle.pua_tree.specs.Listing.{only_if}
 use Rattle.pua_tree.specs.Fields.{first_fields}
 use Rattle.pua_tree.proofs.ForCallers.{guarded, number_read, only_if_read, ok_or_read, step_read}
 use Rattle.pua_script.specs.Requests.{has_no_nul, is_asked}
-use Rattle.pua_script.specs.declared.request.Action.{Action}
 use Rattle.pua_script.specs.declared.fault.ScriptFault.TheVariants.{BadLine, BadCall}
-use Rattle.pua_script.specs.Scripts.{action_in, form_in, action_of, request_of_fields, request_of}
+use Rattle.pua_script.specs.Scripts.{action_in, form_in, action_of}
 use Rattle.pua_script.proofs.Grammar.{action_read, askable}
 
 -- a field of plain bytes is the text that it spells, and none of them is NUL

@@ -1,15 +1,7 @@
 -- A request is answered ENOSPC only where it adds a node or a name for which there is no room.
-use Rattle.std.proofs.Common.{◌≡◌, refl, ap, ◌∙◌}
-use Rattle.std.specs.Prelude.{Ok, Err, IsTrue}
-use Rattle.pua_tree.specs.Tree.{Tree, WellFormed}
-use Rattle.pua_path.specs.declared.errno.Errno.{Errno}
-use Rattle.pua_path.specs.declared.errno.Errno.TheVariants.{ENOSPC}
-use Rattle.pua_calls.specs.Calls.{CallTable}
-use Rattle.pua_policy.specs.History.{History}
-use Rattle.pua_policy.specs.declared.answer.Refusal.TheVariants.{Failed, Killed}
-use Rattle.pua_script.specs.declared.request.Action.{Action}
-use Rattle.pua_script.specs.Decide.{Change, AddNode, TieRow, Decision, fails, decide}
-use Rattle.pua_script.specs.Replay.{World, Fails, come_of, effect}
+use Rattle.pua_script.proofs.Common.{◌≡◌, refl, ap, ◌∙◌, Ok, Err, IsTrue, Tree, WellFormed, Errno, ENOSPC, CallTable, History, Failed}
+use Rattle.pua_script.proofs.Common.{Killed, Action, Change, AddNode, TieRow, Decision, decide, World, Fails, come_of, effect}
+use Rattle.pua_script.specs.Decide.{fails}
 use Rattle.pua_script.specs.Laws.{LacksRoom, RequestLacksRoom, RequestsLackRoom, wants_room, lacks_room}
 use Rattle.pua_script.proofs.Guarding.{decisions_are_guarded, grounds, refusals_lack_no_room}
 use Rattle.pua_script.proofs.Possible.{decisions_are_possible}

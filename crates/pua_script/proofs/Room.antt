@@ -1,16 +1,12 @@
 -- A change lacks room exactly where it adds a node or a name and there is none.
-use Rattle.std.proofs.Common.{◌≡◌, ◌≢◌, ℕ, Bool, true, false, not, cond, refl, sym, ap, ◌∙◌, true≢false}
-use Rattle.std.specs.Prelude.{◌↔◌, ◌||◌, Result, Ok, Err, IsOk, IsTrue, is_some, nat_le, length}
-use Rattle.pua_tree.specs.Tree.{Tree, Node, Spot, is_dir, is_living}
-use Rattle.pua_tree.specs.Edits.{add, tie, has_room, has_name_room, with_new, with_row}
-use Rattle.pua_tree.specs.declared.fault.TreeFault.{TreeFault}
+use Rattle.pua_script.proofs.Common.{◌≡◌, ◌≢◌, ℕ, Bool, true, false, not, cond, refl, sym, ap, ◌∙◌, Result, Ok, Err, IsOk, IsTrue, is_some}
+use Rattle.pua_script.proofs.Common.{nat_le, Tree, Node, Spot, is_dir, is_living, add, tie, has_room, has_name_room, with_new, with_row}
+use Rattle.pua_script.proofs.Common.{TreeFault, EAGAIN, ENOSPC, History, most_processes, NoChange, AddNode, CutRow, ShiftRow, TieRow}
+use Rattle.pua_script.proofs.Common.{BeginProgram, AddEvent, CopyAs, Effect, Fails, Leaves, Copies, edit_effect, edited_tree, history_of}
+use Rattle.std.proofs.Common.{true≢false}
+use Rattle.std.specs.Prelude.{◌↔◌, ◌||◌, length}
 use Rattle.pua_tree.specs.declared.fault.TreeFault.TheVariants as faults
-use Rattle.pua_path.specs.declared.errno.Errno.TheVariants.{EAGAIN, ENOSPC}
-use Rattle.pua_policy.specs.History.{History}
-use Rattle.pua_script.specs.Limits.{most_processes}
-use Rattle.pua_script.specs.Decide.{NoChange, AddNode, CutRow, ShiftRow, TieRow, BeginProgram, AddEvent, CopyAs}
 use Rattle.pua_script.specs.Guards.{IsFree}
-use Rattle.pua_script.specs.Replay.{Effect, Fails, Leaves, Copies, edit_effect, edited_tree, history_of}
 use Rattle.pua_script.specs.Laws.{ChangesLackRoom}
 
 leaves_not_fails : (t : Tree) (h : History) → Leaves t h ≡ Fails ENOSPC → ⊥

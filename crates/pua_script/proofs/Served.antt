@@ -1,25 +1,22 @@
 -- What a world's requests leave, by the worlds of the replay for which it stands.
-use Rattle.std.proofs.Common.{◌≡◌, ℕ, ◌+◌, ◌<◌, List, [], ◌∷◌, ◌++◌, length, take, get_or, refl, sym, ap, subst, ◌∙◌, lit<, add-one}
+use Rattle.pua_script.proofs.Common.{◌≡◌, ℕ, ◌+◌, ◌<◌, List, [], ◌∷◌, ◌++◌, length, take, refl, sym, ap, subst, ◌∙◌, lit<, Option, Some}
+use Rattle.pua_script.proofs.Common.{None, Result, Ok, Err, WellFormed, PairRule, CallTable, rule_of, Call, History, ProcessState, Asked}
+use Rattle.pua_script.proofs.Common.{World, apply, world_after, WorldState, StandsAt, StandsForWorld, process_at, HasHistoryOf}
+use Rattle.pua_script.proofs.Common.{UncoveredStay, AreDone, Answer}
+use Rattle.std.proofs.Common.{get_or, add-one}
 use Rattle.std.proofs.Math.Seq.{take-suc}
-use Rattle.std.specs.Prelude.{Option, Some, None, Result, Ok, Err, IfOk, OnErr, MatchResult}
-use Rattle.pua_tree.specs.Tree.{WellFormed}
+use Rattle.std.specs.Prelude.{IfOk, OnErr, MatchResult}
 use Rattle.pua_calls.proofs.ForCallers.{texts_need_no_error, texts_keep_pairs}
-use Rattle.pua_calls.specs.Calls.{PairRule, CallTable, standard_table, openbsd_table, rule_of}
+use Rattle.pua_calls.specs.Calls.{standard_table, openbsd_table}
 use Rattle.pua_calls.specs.Tables.{NeedsNoError}
 use Rattle.pua_calls.specs.declared.rules.Rules.TheVariants.{Profile, Openbsd}
-use Rattle.pua_calls.specs.declared.call.Call.{Call}
-use Rattle.pua_policy.specs.History.{History, ProcessState}
 use Rattle.pua_calls.specs.declared.call.Call.TheVariants.{Stat, Lstat, Readlink, OpenRead, OpenWrite, OpenBoth, Create, Mkdir, Rmdir}
 use Rattle.pua_calls.specs.declared.call.Call.TheVariants.{Unlink, Symlink, Chmod, Chdir, Exec}
-use Rattle.pua_script.specs.Requests.{Asked}
-use Rattle.pua_script.specs.Replay.{World, apply, world_after}
-use Rattle.pua_script.specs.Worlds.{WorldState, StandsAt, StandsForWorld, IsServed, AreServed, process_at}
-use Rattle.pua_script.specs.Family.{HasHistoryOf}
+use Rattle.pua_script.specs.Worlds.{IsServed, AreServed}
 use Rattle.pua_script.specs.Tightening.{IsNarrowedBy, EndsWithin}
-use Rattle.pua_script.specs.Confinement.{NeedsC, NamesCpath, UncoveredStay, TreesAlong}
-use Rattle.pua_script.specs.Futures.{RulesNarrow, ReadTablesNarrow, HasProcessOf, IsNarrowing, IsSparing, AreDone, AreDoneInPart, AreHeld}
+use Rattle.pua_script.specs.Confinement.{NeedsC, NamesCpath, TreesAlong}
+use Rattle.pua_script.specs.Futures.{RulesNarrow, ReadTablesNarrow, HasProcessOf, IsNarrowing, IsSparing, AreDoneInPart, AreHeld}
 use Rattle.pua_script.specs.Futures.{AreServedInPart}
-use Rattle.pua_script.specs.declared.answer.Answer.{Answer}
 use Rattle.pua_script.proofs.Tightening.{each_narrows, within_self}
 use Rattle.pua_script.proofs.Confining.{each_spares}
 use Rattle.pua_script.proofs.Families.{families_narrow}

@@ -1,27 +1,15 @@
 -- One request of the replay, from what the process that asks did.
-use Rattle.std.proofs.Common.{◌≡◌, ℕ, ◌+◌, Result, Ok, Err, IfOk, OnErr, [], ◌∷◌, ◌++◌, ◌||◌, nat_eq, List, length, Bool, true, false, cond}
-use Rattle.std.proofs.Common.{Option, Some, None, is_some, refl, sym, ap, subst, ◌∙◌, true≢false}
-use Rattle.std.proofs.lemmas.Bool.{eqb-true}
-use Rattle.std.specs.Prelude.{nat_le}
-use Rattle.std.specs.Map.{lookup, set_value}
+use Rattle.pua_script.proofs.Common.{◌≡◌, ℕ, ◌+◌, [], ◌∷◌, ◌++◌, ◌||◌, nat_eq, List, length, Bool, true, false, cond, refl, sym, ap, subst}
+use Rattle.pua_script.proofs.Common.{◌∙◌, eqb-true, nat_le, lookup, Tree, CallTable, proc, History, ProcessState, StandsFor, Ended}
+use Rattle.pua_script.proofs.Common.{is_ended, may_any, EAGAIN, Asked, Answer, WorldFault, Okay, Gone, Action, Fork, CopyAs, if_may, World}
+use Rattle.pua_script.proofs.Common.{Effect, come_of, Fails, Kills, Leaves, Copies, history_of, effect, answer_to, left_by}
+use Rattle.pua_script.proofs.Common.{answer_and_world, apply, world_after, most_processes, WorldState, StandsAt, StandsForWorld, process_at}
+use Rattle.std.proofs.Common.{Result, Ok, Err, IfOk, OnErr}
+use Rattle.std.proofs.Common.{Option, Some, None, is_some, true≢false}
+use Rattle.std.specs.Map.{set_value}
 use Rattle.std.proofs.lemmas.Map.Steps.{set_value_same}
-use Rattle.pua_tree.specs.Tree.{Tree}
-use Rattle.pua_calls.specs.Calls.{CallTable}
-use Rattle.pua_calls.specs.Promises.{proc}
-use Rattle.pua_policy.specs.History.{History, ProcessState, StandsFor, Ended, is_ended, may_any}
 use Rattle.pua_policy.specs.declared.answer.May.TheVariants as may
-use Rattle.pua_path.specs.declared.errno.Errno.TheVariants.{EAGAIN}
-use Rattle.pua_script.specs.Requests.{Asked}
-use Rattle.pua_script.specs.declared.answer.Answer.{Answer}
-use Rattle.pua_script.specs.declared.fault.WorldFault.{WorldFault}
-use Rattle.pua_script.specs.declared.answer.Answer.TheVariants.{Okay, Gone}
-use Rattle.pua_script.specs.declared.request.Action.{Action}
-use Rattle.pua_script.specs.declared.request.Action.TheVariants.{Fork}
-use Rattle.pua_script.specs.Decide.{CopyAs, if_may}
-use Rattle.pua_script.specs.Replay.{World, Effect, come_of, Fails, Kills, Leaves, Copies, history_of, effect, answer_to, left_by}
-use Rattle.pua_script.specs.Replay.{answer_and_world, apply, world_after}
-use Rattle.pua_script.specs.Limits.{most_processes}
-use Rattle.pua_script.specs.Worlds.{WorldState, StandsAt, StandsForWorld, HasReplay, process_at, IsOkay, IsServed, AreServed, Does, Acts}
+use Rattle.pua_script.specs.Worlds.{HasReplay, IsOkay, IsServed, AreServed, Does, Acts}
 use Rattle.pua_script.proofs.Composition.{replay_composes}
 use Rattle.pua_script.proofs.StoodFor.{same_numbers, stands_changed, stands_made}
 

@@ -1,32 +1,18 @@
 -- No request takes a row away that isn't covered with `c`.
-use Rattle.std.proofs.Common.{◌≡◌, ℕ, Bool, true, false, cond, refl, sym, ap, ◌∙◌}
-use Rattle.std.specs.Prelude.{Some, None, is_some, ◌||◌, nat_le, length}
-use Rattle.std.proofs.lemmas.Bool.{eqb-true, and_parts, not-true}
+use Rattle.pua_script.proofs.Common.{◌≡◌, ℕ, Bool, true, false, cond, refl, sym, ap, ◌∙◌, Some, None, is_some, nat_le, eqb-true, and_parts}
+use Rattle.pua_script.proofs.Common.{not-true, Tree, WellFormed, Spot, is_dir, look, spot_named, EAGAIN, Dropped, Found, Whole, Slot, holds}
+use Rattle.pua_script.proofs.Common.{CallTable, rule_of, ending_of, last_of, History, working_dir, cover, cover_fault, Call, Cover, All}
+use Rattle.pua_script.proofs.Common.{Asked, Change, AddNode, CutRow, ShiftRow, TieRow, CopyAs, NameFits, World, Fails, Copies, history_of}
+use Rattle.pua_script.proofs.Common.{apply, change_effect, tree_left, Action, has_c, most_processes}
+use Rattle.std.specs.Prelude.{◌||◌, length}
 use Rattle.std.proofs.lemmas.Nat.{and_comm}
-use Rattle.pua_tree.specs.Tree.{Tree, WellFormed, Spot, is_dir, look}
-use Rattle.pua_path.specs.Fits.{spot_named}
-use Rattle.pua_path.specs.declared.errno.Errno.TheVariants.{EACCES, EAGAIN}
-use Rattle.pua_path.specs.declared.text.Ending.TheVariants.{Dropped}
-use Rattle.pua_path.specs.declared.found.Found.{Found}
-use Rattle.pua_path.specs.declared.found.Found.TheVariants.{Whole, Slot}
+use Rattle.pua_path.specs.declared.errno.Errno.TheVariants.{EACCES}
 use Rattle.pua_path.specs.declared.found.Way.TheVariants as way
-use Rattle.pua_calls.specs.Promises.{holds, creating}
-use Rattle.pua_calls.specs.Calls.{CallTable, rule_of, ending_of, last_of}
-use Rattle.pua_policy.specs.History.{History, working_dir}
-use Rattle.pua_policy.specs.Verdict.{cover, cover_fault}
+use Rattle.pua_calls.specs.Promises.{creating}
 use Rattle.pua_policy.proofs.ForCallers.{second_holds}
-use Rattle.pua_calls.specs.declared.call.Call.{Call}
 use Rattle.pua_calls.specs.declared.call.Call.TheVariants as call
-use Rattle.pua_policy.specs.declared.answer.Cover.{Cover}
-use Rattle.pua_policy.specs.declared.answer.Cover.TheVariants.{All, Nothing, Only}
-use Rattle.pua_script.specs.Requests.{Asked}
-use Rattle.pua_script.specs.Decide.{Change, AddNode, CutRow, ShiftRow, TieRow, CopyAs}
-use Rattle.pua_script.specs.Judged.{NameFits}
-use Rattle.pua_script.specs.Replay.{World, Fails, Copies, history_of, apply, change_effect}
-use Rattle.pua_script.specs.Worlds.{tree_left}
-use Rattle.pua_script.specs.declared.request.Action.{Action}
-use Rattle.pua_script.specs.Confinement.{has_c, NeedsC, TakingNeedsC}
-use Rattle.pua_script.specs.Limits.{most_processes}
+use Rattle.pua_policy.specs.declared.answer.Cover.TheVariants.{Nothing, Only}
+use Rattle.pua_script.specs.Confinement.{NeedsC, TakingNeedsC}
 use Rattle.pua_script.proofs.Applied.{by_own_tree}
 use Rattle.pua_script.proofs.Guarding.{grounds}
 use Rattle.pua_script.proofs.Grounds.{Grounds, takes}

@@ -1,22 +1,15 @@
 -- Rows beside those that an edit is about stay, with their nodes.
-use Rattle.std.proofs.Common.{◌≡◌, ◌≢◌, ℕ, List, Bool, true, false, not, ◌&&◌, cond, refl, sym, ap, ◌∙◌, inl, inr, arith}
-use Rattle.std.specs.Prelude.{Option, Some, None, Ok, Err, is_some, ◌==◌}
-use Rattle.std.specs.Ordering.{nat_cmp}
-use Rattle.std.specs.Cmp.{nat_cmp_total}
-use Rattle.std.specs.FinMap.{nat_cmp-IsAntisymmetric}
-use Rattle.std.proofs.lemmas.Bool.{false≢true, eqb-true, eq-eqb}
-use Rattle.pua_tree.specs.Tree.{Tree, Node, WellFormed, Spot, spot_cmp, is_dir, is_living, look, node_at, rows_of}
-use Rattle.pua_tree.specs.Edits.{with_row, without_row, without_node, without_unnamed, with_new, add, tie, cut, cut_found, shift}
-use Rattle.pua_tree.specs.Edits.{shift_found, with_row_moved, is_full_dir, is_full_dir_there, is_inside, is_same_node, has_room}
-use Rattle.pua_tree.specs.Edits.{has_name_room}
+use Rattle.pua_script.proofs.Common.{◌≡◌, ◌≢◌, ℕ, List, Bool, true, false, not, ◌&&◌, cond, refl, sym, ap, ◌∙◌, inl, inr, arith, Option}
+use Rattle.pua_script.proofs.Common.{Some, None, Ok, Err, is_some, ◌==◌, nat_cmp, nat_cmp_total, nat_cmp-IsAntisymmetric, false≢true}
+use Rattle.pua_script.proofs.Common.{eqb-true, eq-eqb, Tree, Node, WellFormed, Spot, is_dir, is_living, look, node_at, with_row}
+use Rattle.pua_script.proofs.Common.{without_row, without_unnamed, with_new, add, tie, cut, cut_found, shift, shift_found, with_row_moved}
+use Rattle.pua_script.proofs.Common.{is_full_dir, is_full_dir_there, is_inside, is_same_node, has_room, has_name_room, put_elsewhere}
+use Rattle.pua_script.proofs.Common.{sound_from, History, cover, edit_effect, edited_tree, tree_left, object_in, has_c}
+use Rattle.pua_tree.specs.Tree.{spot_cmp, rows_of}
+use Rattle.pua_tree.specs.Edits.{without_node}
 use Rattle.pua_tree.specs.declared.fault.TreeFault.TheVariants.{Missing, Taken, NotDir, NotEmpty, Inside, Full, IsDir}
-use Rattle.pua_tree.proofs.ForCallers.{spots_total, exact_spots, tally_counts, tally_found, same_or_other, put_elsewhere, without_elsewhere}
-use Rattle.pua_tree.proofs.ForCallers.{Some≢None, row_says, sound_from}
-use Rattle.pua_policy.specs.History.{History}
-use Rattle.pua_policy.specs.Verdict.{cover}
-use Rattle.pua_script.specs.Replay.{edit_effect, edited_tree}
-use Rattle.pua_script.specs.Worlds.{tree_left}
-use Rattle.pua_script.specs.Confinement.{object_in, has_c}
+use Rattle.pua_tree.proofs.ForCallers.{spots_total, exact_spots, tally_counts, tally_found, same_or_other, without_elsewhere}
+use Rattle.pua_tree.proofs.ForCallers.{Some≢None, row_says}
 use Rattle.pua_script.proofs.Covering.{IsThere}
 
 module _ (t : Tree) (h : History) where

@@ -1,21 +1,16 @@
 -- A world that stands for one of the replay still does after a process was changed or made on both sides.
-use Rattle.std.proofs.Common.{◌≡◌, ℕ, ◌+◌, eqb, Bool, true, false, cond, nat_eq, List, [], ◌∷◌, length, Option, Some, None, is_some, refl}
-use Rattle.std.proofs.Common.{sym, subst, ap, ◌∙◌}
-use Rattle.std.specs.Prelude.{IsTrue}
-use Rattle.std.proofs.lemmas.Bool.{eqb-true, eq-eqb}
+use Rattle.pua_script.proofs.Common.{◌≡◌, ℕ, ◌+◌, eqb, Bool, true, false, cond, nat_eq, List, [], ◌∷◌, length, refl, sym, subst, ap, ◌∙◌}
+use Rattle.pua_script.proofs.Common.{IsTrue, eqb-true, eq-eqb, nat_cmp_total, nat_cmp, put, is_sorted, lookup, Tree, CallTable, History}
+use Rattle.pua_script.proofs.Common.{ProcessState, StandsFor, World, history_of, WorldState, StandsAt, StandsForWorld, process_at, nat_tie}
+use Rattle.pua_script.proofs.Common.{passes}
+use Rattle.std.proofs.Common.{Option, Some, None, is_some}
 use Rattle.std.proofs.lemmas.Bool.Decides.{same_from_decides}
-use Rattle.std.specs.Cmp.{nat_cmp_total}
-use Rattle.std.specs.Ordering.{nat_cmp, eq_by_cmp}
-use Rattle.std.specs.FinMap.{put, find as find_key, is_sorted}
+use Rattle.std.specs.Ordering.{eq_by_cmp}
+use Rattle.std.specs.FinMap.{find as find_key}
 use Rattle.std.specs.FinMap.Entries.{find-put, is_sorted-put, length-put}
-use Rattle.std.specs.Map.{lookup}
-use Rattle.pua_tree.specs.Tree.{Tree}
-use Rattle.pua_calls.specs.Calls.{CallTable}
-use Rattle.pua_policy.specs.History.{History, ProcessState, StandsFor, new_history}
-use Rattle.pua_script.specs.Replay.{World, history_of, new_world}
-use Rattle.pua_script.specs.Worlds.{WorldState, StandsAt, StandsForWorld, process_at}
-use Rattle.pua_tree.proofs.ForCallers.{holds, nat_tie}
-use Rattle.std.specs.Bool.{passes}
+use Rattle.pua_policy.specs.History.{new_history}
+use Rattle.pua_script.specs.Replay.{new_world}
+use Rattle.pua_tree.proofs.ForCallers.{holds}
 
 pub nat_turned : (p n : ℕ) → eqb p n ≡ eqb n p
 nat_turned p n = same_from_decides {P = p ≡ n} _ _ (eqb-true p n, eq-eqb p n) (λ e. sym (eqb-true n p e), λ e. eq-eqb n p (sym e))

@@ -1,25 +1,14 @@
 -- What one request leaves of a process that can put no veil any more, whoever makes it.
-use Rattle.std.proofs.Common.{◌≡◌, ℕ, [], ◌∷◌, Bool, true, false, cond, ◌&&◌, ◌||◌, refl, sym, ap, subst, ◌∙◌, inl, inr}
-use Rattle.std.specs.Prelude.{Some, IsTrue, filter, ◌==◌}
-use Rattle.std.proofs.lemmas.Bool.{false≢true, true≢false, eqb-true, eq-eqb}
-use Rattle.std.specs.Ordering.{nat_cmp}
-use Rattle.std.specs.Cmp.{nat_cmp_total}
-use Rattle.std.specs.FinMap.{nat_cmp-IsAntisymmetric}
-use Rattle.pua_tree.proofs.ForCallers.{put_here}
-use Rattle.pua_calls.specs.Calls.{CallTable}
-use Rattle.pua_policy.specs.History.{History, Event, Pledged, Unveiled, Locked, Moved, Ended, is_ended, working_dir}
-use Rattle.pua_policy.specs.Verdict.{is_unveil}
+use Rattle.pua_script.proofs.Common.{◌≡◌, ℕ, [], ◌∷◌, Bool, true, false, cond, ◌&&◌, ◌||◌, refl, sym, ap, subst, ◌∙◌, inl, inr, Some}
+use Rattle.pua_script.proofs.Common.{IsTrue, filter, ◌==◌, false≢true, true≢false, eqb-true, eq-eqb, nat_cmp, nat_cmp_total}
+use Rattle.pua_script.proofs.Common.{nat_cmp-IsAntisymmetric, put_here, CallTable, History, Event, Pledged, Unveiled, Locked, Moved, Ended}
+use Rattle.pua_script.proofs.Common.{is_ended, working_dir, is_unveil, Asked, World, Effect, Fails, Kills, Leaves, Copies, effect}
+use Rattle.pua_script.proofs.Common.{history_of, apply, answer_and_world, left_by, answer_to, IsConfined, is_exec, is_chdir, is_done}
+use Rattle.pua_script.proofs.Common.{is_member, HasHistoryOf, Answer, Gone, Action}
 use Rattle.pua_policy.proofs.ForCallers.{held_never_grows}
-use Rattle.pua_script.specs.Requests.{Asked}
-use Rattle.pua_script.specs.Replay.{World, Effect, Fails, Kills, Leaves, Copies, effect, history_of, apply, answer_and_world, left_by}
-use Rattle.pua_script.specs.Replay.{answer_to}
-use Rattle.pua_script.specs.Laws.{IsConfined}
 use Rattle.pua_script.specs.Worlds.{history_left}
-use Rattle.pua_script.specs.Family.{is_okay, is_exec, is_chdir, is_done, is_member, HasHistoryOf}
+use Rattle.pua_script.specs.Family.{is_okay}
 use Rattle.pua_script.specs.Tightening.{EachRequestNarrows}
-use Rattle.pua_script.specs.declared.answer.Answer.{Answer}
-use Rattle.pua_script.specs.declared.answer.Answer.TheVariants.{Gone}
-use Rattle.pua_script.specs.declared.request.Action.{Action}
 use Rattle.pua_script.proofs.Narrowing.{is_step, GoesOn, Fine, fails, kills, leaves, copies, fine_effect, confined_after}
 use Rattle.pua_script.proofs.Others.{IsNew, copied_apart, effect_is_new, others_leave}
 use Rattle.pua_script.proofs.Allowing.{IsWithin, allows_no_more}

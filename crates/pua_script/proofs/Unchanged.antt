@@ -1,23 +1,15 @@
 -- Who doesn't hold cpath may make no call whose alternatives all name it.
-use Rattle.std.proofs.Common.{◌≡◌, ℕ, List, [], ◌∷◌, Bool, true, false, cond, refl, sym, ap, ◌∙◌, ◌||◌}
-use Rattle.std.specs.List.{list_any, AllByRecursion}
-use Rattle.std.specs.Prelude.{IsTrue, is_some, nat_le, length}
-use Rattle.std.proofs.lemmas.Bool.{false≢true}
-use Rattle.pua_tree.specs.Tree.{Tree}
-use Rattle.pua_path.specs.declared.errno.Errno.TheVariants.{EAGAIN}
-use Rattle.pua_calls.specs.Promises.{holds, cpath}
-use Rattle.pua_policy.specs.History.{History, held_set, has_error, is_ended, may_any}
-use Rattle.pua_calls.specs.Calls.{Rule, CallTable, rule_of}
-use Rattle.pua_calls.specs.declared.call.Call.{Call}
+use Rattle.pua_script.proofs.Common.{◌≡◌, ℕ, List, [], ◌∷◌, Bool, true, false, cond, refl, sym, ap, ◌∙◌, ◌||◌, list_any, AllByRecursion}
+use Rattle.pua_script.proofs.Common.{IsTrue, is_some, nat_le, false≢true, Tree, EAGAIN, holds, History, held_set, has_error, is_ended}
+use Rattle.pua_script.proofs.Common.{may_any, CallTable, rule_of, Call, Yes, most_processes, tree_left, Change, AddNode, CutRow, ShiftRow}
+use Rattle.pua_script.proofs.Common.{TieRow, CopyAs, World, Fails, Copies, history_of, change_effect, Action}
+use Rattle.std.specs.Prelude.{length}
+use Rattle.pua_calls.specs.Promises.{cpath}
+use Rattle.pua_calls.specs.Calls.{Rule}
 use Rattle.pua_calls.specs.declared.call.Call.TheVariants as call
-use Rattle.pua_policy.specs.declared.answer.May.TheVariants.{Yes, Enosys, Death}
+use Rattle.pua_policy.specs.declared.answer.May.TheVariants.{Enosys, Death}
 use Rattle.pua_policy.proofs.ForCallers.{holds_through}
-use Rattle.pua_script.specs.Limits.{most_processes}
-use Rattle.pua_script.specs.Worlds.{tree_left}
 use Rattle.pua_script.specs.Confinement.{NamesCpath, ChangingNeedsCpath, CpathChanges}
-use Rattle.pua_script.specs.Decide.{Change, AddNode, CutRow, ShiftRow, TieRow, CopyAs}
-use Rattle.pua_script.specs.Replay.{World, Fails, Copies, history_of, change_effect}
-use Rattle.pua_script.specs.declared.request.Action.{Action}
 use Rattle.pua_script.proofs.Guarding.{grounds}
 use Rattle.pua_script.proofs.Grounds.{Grounds, makes, takes}
 use Rattle.pua_script.proofs.Applied.{by_own_tree}

@@ -1,6 +1,5 @@
-use Rattle.std.proofs.Common.{sym, ap, ◌∙◌}
-use Rattle.std.specs.Prelude.{Ok}
-use Rattle.pua_script.specs.Decide.{asker_on, decide_on}
+use Rattle.pua_script.proofs.Common.{sym, ap, ◌∙◌, Ok, asker_on}
+use Rattle.pua_script.specs.Decide.{decide_on}
 use Rattle.pua_script.specs.declared.granted.Granted.TheVariants as granted
 use Rattle.pua_script.proofs.Acting.{acts}
 use Rattle.pua_script.proofs.act.act.Goals as goal

@@ -1,12 +1,5 @@
-use Rattle.std.proofs.Common.{ℕ, List, ap}
-use Rattle.std.specs.Prelude.{Result}
-use Rattle.pua_tree.specs.Tree.{Tree}
-use Rattle.pua_policy.specs.History.{History}
-use Rattle.pua_policy.specs.declared.answer.Refusal.{Refusal}
-use Rattle.pua_script.specs.Decide.{asker_of}
+use Rattle.pua_script.proofs.Common.{ℕ, List, ap, Result, Tree, History, Refusal, asker_of, Effect, come_of, Granted}
 use Rattle.pua_script.specs.Judged.{decision_for}
-use Rattle.pua_script.specs.Replay.{Effect, come_of}
-use Rattle.pua_script.specs.declared.granted.Granted.{Granted}
 use Rattle.pua_script.proofs.Doing.{as_same, attempts_same}
 use Rattle.pua_script.proofs.act.answer.Goals as goal
 
