@@ -1,7 +1,4 @@
-use Rattle.std.proofs.Common.{sym, ◌∙◌}
-use Rattle.pua_path.specs.Fits.{node_named}
-use Rattle.pua_script.specs.Decide.{asker_on, decide_link}
-use Rattle.pua_script.specs.declared.request.Action.TheVariants.{Link}
+use Rattle.pua_script.proofs.Common.{sym, ◌∙◌, node_named, asker_on, decide_link, Link}
 use Rattle.pua_script.proofs.Acting.{acts}
 use Rattle.pua_script.proofs.act.link.Goals as goal
 

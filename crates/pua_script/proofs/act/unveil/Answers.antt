@@ -1,6 +1,4 @@
-use Rattle.std.proofs.Common.{◌∙◌}
-use Rattle.pua_script.specs.Decide.{asker_on}
-use Rattle.pua_script.specs.declared.request.Action.TheVariants.{Unveil}
+use Rattle.pua_script.proofs.Common.{◌∙◌, asker_on, Unveil}
 use Rattle.pua_script.proofs.Acting.{acts}
 use Rattle.pua_script.proofs.act.unveil.Goals as goal
 

@@ -1,11 +1,5 @@
-use Rattle.std.proofs.Common.{◌∷◌, [], sym, ap, ◌∙◌, is_some, refl}
-use Rattle.std.specs.Prelude.{Ok}
-use Rattle.pua_policy.specs.History.{may_any}
-use Rattle.pua_calls.specs.Promises.{proc}
-use Rattle.pua_script.specs.Decide.{CopyAs}
-use Rattle.pua_script.specs.Replay.{come_of}
-use Rattle.pua_script.specs.Worlds.{WorldState}
-use Rattle.pua_script.specs.declared.request.Action.TheVariants.{Fork}
+use Rattle.pua_script.proofs.Common.{◌∷◌, [], sym, ap, ◌∙◌, refl, Ok, may_any, proc, CopyAs, come_of, WorldState, Fork}
+use Rattle.std.proofs.Common.{is_some}
 use Rattle.pua_script.proofs.Doing.{as_same, promises_refuse}
 use Rattle.pua_script.proofs.Serving.{serves, forks, same_entries}
 use Rattle.pua_script.proofs.fork.fork.Goals as goal

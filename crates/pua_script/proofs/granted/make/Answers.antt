@@ -1,10 +1,5 @@
-use Rattle.std.proofs.Common.{◌≡◌, ℕ, List, ap}
-use Rattle.pua_policy.specs.History.{History}
-use Rattle.pua_tree.specs.Tree.{Tree}
-use Rattle.pua_script.specs.Decide.{asker_of}
+use Rattle.pua_script.proofs.Common.{◌≡◌, ℕ, List, ap, History, Tree, asker_of, come_of, Granted}
 use Rattle.pua_script.specs.Judged.{decision_by}
-use Rattle.pua_script.specs.Replay.{come_of}
-use Rattle.pua_script.specs.declared.granted.Granted.{Granted}
 use Rattle.pua_script.proofs.Doing.{as_same, as_edit, attempts_edit, attempts_same}
 use Rattle.pua_script.proofs.granted.make.Goals as goal
 

@@ -1,4 +1,5 @@
-use Rattle.std.proofs.Common.{nat_eq, length, rules, tests}
+use Rattle.pua_script.proofs.Common.{nat_eq, length, rules}
+use Rattle.std.proofs.Common.{tests}
 use Rattle.std.proofs.lemmas.Iterator.Search.{any_from_yields_List}
 use Rattle.std.proofs.lemmas.Iterator.Splits.{YieldsList-from_slice_split}
 use Rattle.pua_script.proofs.line.has_empty_word.Goals as goal

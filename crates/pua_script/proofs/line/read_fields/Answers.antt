@@ -1,4 +1,4 @@
-use Rattle.std.proofs.Common.{sym, map}
+use Rattle.pua_script.proofs.Common.{sym, map}
 use Rattle.pua_script.proofs.Reading.{asked}
 use Rattle.pua_script.proofs.line.read_fields.Goals as goal
 

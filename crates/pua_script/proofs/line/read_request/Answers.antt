@@ -1,5 +1,5 @@
-use Rattle.std.proofs.Common.{◌≡◌, sym, subst, ap, ◌∙◌}
-use Rattle.pua_script.specs.Scripts.{IsReadAs, request_of, request_of_fields}
+use Rattle.pua_script.proofs.Common.{◌≡◌, sym, subst, ap, ◌∙◌, request_of, request_of_fields}
+use Rattle.pua_script.specs.Scripts.{IsReadAs}
 use Rattle.pua_script.proofs.Reading.{by_fields}
 use Rattle.pua_script.proofs.line.read_request.Goals as goal
 

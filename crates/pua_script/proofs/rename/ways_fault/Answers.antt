@@ -1,5 +1,4 @@
-use Rattle.std.proofs.Common.{◌∙◌}
-use Rattle.pua_policy.specs.Verdict.{or_fault}
+use Rattle.pua_script.proofs.Common.{◌∙◌, or_fault}
 use Rattle.pua_script.proofs.Renaming.{first_fault}
 use Rattle.pua_script.proofs.rename.ways_fault.Goals as goal
 

@@ -1,5 +1,5 @@
-use Rattle.std.proofs.Common.{◌≡◌, ◌≢◌, ◌<◌, ◌+◌, suc, arith, sym, ap, ◌∙◌, Err, add-one}
-use Rattle.std.specs.Str.Lines.{lines}
+use Rattle.pua_script.proofs.Common.{◌≡◌, ◌≢◌, ◌<◌, ◌+◌, suc, arith, sym, ap, ◌∙◌, lines}
+use Rattle.std.proofs.Common.{Err, add-one}
 use Rattle.std.proofs.lemmas.Result.{err_from_is_err_and}
 use Rattle.pua_tree.proofs.ForCallers.{lines_agree}
 use Rattle.pua_script.specs.declared.fault.ScriptFault.TheVariants.{OutOfMemory}

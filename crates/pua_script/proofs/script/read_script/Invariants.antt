@@ -1,4 +1,4 @@
-use Rattle.std.proofs.Common.{◌≡◌, ◌≤◌}
+use Rattle.pua_script.proofs.Common.{◌≡◌, ◌≤◌}
 use Rattle.pua_script.specs.Scripts.{script}
 use Rattle.pua_script.proofs.Onwards.{onwards}
 use Rattle.pua_script.proofs.script.read_script.Given as goal

@@ -1,4 +1,5 @@
-use Rattle.std.proofs.Common.{sym, ap, ◌∙◌, is_some}
+use Rattle.pua_script.proofs.Common.{sym, ap, ◌∙◌}
+use Rattle.std.proofs.Common.{is_some}
 use Rattle.pua_script.proofs.Serving.{all_serve, all_okay, all_kept}
 use Rattle.pua_script.proofs.world.serve.Goals as goal
 

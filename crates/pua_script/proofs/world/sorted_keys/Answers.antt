@@ -1,4 +1,5 @@
-use Rattle.std.proofs.Common.{subst, IsPermutation}
+use Rattle.pua_script.proofs.Common.{subst}
+use Rattle.std.proofs.Common.{IsPermutation}
 use Rattle.std.proofs.lemmas.Iterator.{items_from_collect}
 use Rattle.std.proofs.lemmas.Iterator.Consumers.{YieldsList-at, YieldsList-from_copied, YieldsList-from_rest}
 use Rattle.std.proofs.lemmas.Result.{IfOk-at_ok}

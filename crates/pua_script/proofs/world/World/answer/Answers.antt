@@ -1,6 +1,4 @@
-use Rattle.std.proofs.Common.{sym, refl, ◌∙◌}
-use Rattle.pua_script.specs.Requests.{Asked}
-use Rattle.pua_script.specs.declared.request.Action.TheVariants.{Fork}
+use Rattle.pua_script.proofs.Common.{sym, refl, ◌∙◌, Asked, Fork}
 use Rattle.pua_script.proofs.Serving.{all_serve_as, all_okay_as, all_fork, all_fork_okay, goes_on, world_kept, processes_kept}
 use Rattle.pua_script.proofs.world.World.answer.Goals as goal
 

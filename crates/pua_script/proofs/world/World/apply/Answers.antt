@@ -1,6 +1,4 @@
-use Rattle.std.proofs.Common.{ap, subst}
-use Rattle.pua_tree.specs.Tree.{WellFormed}
-use Rattle.pua_script.specs.Worlds.{WorldState}
+use Rattle.pua_script.proofs.Common.{ap, subst, WellFormed, WorldState}
 use Rattle.pua_script.proofs.Served.{is_narrowing, is_sparing, stays_narrow}
 use Rattle.pua_script.proofs.world.World.apply.Goals as goal
 

@@ -1,4 +1,4 @@
-use Rattle.std.proofs.Common.{subst}
+use Rattle.pua_script.proofs.Common.{subst}
 use Rattle.pua_script.specs.Worlds.{AreNumbersOf}
 use Rattle.pua_script.proofs.world.World.numbers.Goals as goal
 

@@ -1,7 +1,7 @@
-use Rattle.std.proofs.Common.{◌+◌, ◌∷◌, ◌++◌, ◌∙◌, [], refl, take, arith, subst}
+use Rattle.pua_script.proofs.Common.{◌+◌, ◌∷◌, ◌++◌, ◌∙◌, [], refl, take, arith, subst, AreDone}
 use Rattle.std.proofs.lemmas.List.{take_all}
 use Rattle.std.proofs.lemmas.Result.{err_from_is_err_and}
-use Rattle.pua_script.specs.Futures.{AreDone, AreDoneInPart}
+use Rattle.pua_script.specs.Futures.{AreDoneInPart}
 use Rattle.pua_script.proofs.Served.{done_before, done_next}
 use Rattle.pua_script.proofs.world.World.serve_each.Goals as goal
 

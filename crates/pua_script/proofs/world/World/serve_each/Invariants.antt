@@ -1,5 +1,4 @@
-use Rattle.std.proofs.Common.{take}
-use Rattle.pua_script.specs.Futures.{AreDone}
+use Rattle.pua_script.proofs.Common.{take, AreDone}
 use Rattle.pua_script.proofs.world.World.serve_each.Given as goal
 
 -- the first requests were served, over trees
