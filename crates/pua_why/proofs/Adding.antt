@@ -1,8 +1,9 @@
 -- What is added to a list, one piece after another.
-use Rattle.std.proofs.Common.{◌≡◌, ℕ, List, ◌++◌, Result, Ok, Err, ap, ◌∙◌, append_assoc}
-use Rattle.std.specs.Prelude.{if◌then◌else◌, is_ok, codes, OnOk}
+use Rattle.pua_why.proofs.Common.{◌≡◌, ℕ, List, ◌++◌, Result, Ok, Err, ap, ◌∙◌, append_assoc, if◌then◌else◌, codes, joined_words}
+use Rattle.pua_why.proofs.Common.{promises_text}
+use Rattle.std.specs.Prelude.{is_ok, OnOk}
 use Rattle.pua_calls.specs.Promises.{keywords_of}
-use Rattle.pua_why.specs.Texts.{joined_words, or_equals, promises_text}
+use Rattle.pua_why.specs.Texts.{or_equals}
 
 pub then_more : {A : Type 0} (old one final first more : List A) → one ≡ old ++ first → final ≡ one ++ more → final ≡ old ++ (first ++ more)
 then_more old one final first more begun went = went ∙ ap (λ facts. facts ++ more) begun ∙ append_assoc old first more

@@ -1,31 +1,22 @@
 -- What a chain tells.
-use Rattle.std.proofs.Common.{◌≡◌, ℕ, suc, ◌+◌, Bool, true, false, List, [], ◌∷◌, ◌++◌, map, length, Some, None, refl, sym, ap, ◌∙◌}
-use Rattle.std.proofs.Common.{append_assoc, append-nil, arith, Result, Ok, Err, Option}
-use Rattle.std.specs.Prelude.{if◌then◌else◌, decimal, option_map, bit_or}
-use Rattle.std.specs.List.{list_any}
-use Rattle.pua_tree.specs.Tree.{Tree, Spot, climb}
-use Rattle.pua_path.specs.declared.found.Found.{Found}
-use Rattle.pua_path.specs.declared.text.Ending.{Ending}
+use Rattle.pua_why.proofs.Common.{◌≡◌, ℕ, suc, ◌+◌, Bool, true, false, List, [], ◌∷◌, ◌++◌, map, length, Some, None, refl, sym, ap, ◌∙◌}
+use Rattle.pua_why.proofs.Common.{append_assoc, append-nil, arith, Result, Ok, Err, Option, if◌then◌else◌, decimal, option_map, list_any}
+use Rattle.pua_why.proofs.Common.{Tree, Spot, climb, Found, Ending, PathTrace, PathFault, CallTable, PairRule, rule_of, History, perms_kept}
+use Rattle.pua_why.proofs.Common.{object_of, or_fault, Call, Change, Outcome, Side, Sole, Old, New, unless_refused, unless_failed, on_named}
+use Rattle.pua_why.proofs.Common.{change_by, pair_by, misfit, InView, Promising, Holds, HasEnded, Lacks, promising, covering, Fault, Unfit}
+use Rattle.pua_why.proofs.Common.{unpromised_fault, told_path, uncovered_fault, faults, faults_of, Fact, Needs, Follows, facts_promised}
+use Rattle.pua_why.proofs.Common.{facts_named, facts_under, call_trace, name_trace, Place}
+use Rattle.std.specs.Prelude.{bit_or}
 use Rattle.pua_path.specs.declared.text.Ending.TheVariants as ending
-use Rattle.pua_path.specs.Traces.{PathTrace}
-use Rattle.pua_path.specs.declared.traced.PathFault.{PathFault}
-use Rattle.pua_calls.specs.Calls.{CallTable, PairRule, rule_of}
-use Rattle.pua_policy.specs.History.{History, perms_kept}
-use Rattle.pua_policy.specs.Verdict.{is_unveil, nearest, object_of, or_fault}
-use Rattle.pua_calls.specs.declared.call.Call.{Call}
+use Rattle.pua_policy.specs.Verdict.{is_unveil, nearest}
 use Rattle.pua_policy.specs.declared.place.Place.TheVariants.{Dir}
 use Rattle.pua_policy.specs.declared.answer.Cover.TheVariants.{All}
-use Rattle.pua_script.specs.Decide.{Change, Outcome, Side, Sole, Old, New, unless_refused, unless_failed, on_named, change_by, pair_by}
-use Rattle.pua_policy.specs.Misfits.{misfit}
-use Rattle.pua_policy.specs.declared.reason.Covering.TheVariants.{InView}
-use Rattle.pua_policy.specs.Reasons.{Promising, Holds, HasEnded, Lacks, promising, kept_or, first_kept, covering, cover_of}
-use Rattle.pua_why.specs.Reasons.{Fault, Unfit, unpromised_fault, told_path, uncovered_fault, faults, faults_of}
-use Rattle.pua_why.specs.Facts.{Fact, Needs, Follows, Names, Under, needing, facts_promised, facts_found, facts_named, facts_covered}
-use Rattle.pua_why.specs.Facts.{facts_under, call_trace, call_facts, name_trace, pair_facts}
+use Rattle.pua_policy.specs.Reasons.{kept_or, first_kept, cover_of}
+use Rattle.pua_why.specs.Facts.{Names, Under, needing, facts_found, facts_covered}
+use Rattle.pua_why.specs.Facts.{call_facts, pair_facts}
 use Rattle.pua_why.specs.Texts.{answer_why, why_lines}
 use Rattle.pua_why.specs.Columns.{CoveringsIn}
 use Rattle.pua_why.specs.Laws.{ChainsEnd, FactsOf, GrantsAreTold, PairFactsOf, PairsAreTold}
-use Rattle.pua_policy.specs.declared.place.Place.{Place}
 
 pub chains_end : ChainsEnd
 chains_end table w done [] ask n =

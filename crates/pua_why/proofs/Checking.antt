@@ -1,25 +1,20 @@
 -- What the checks tell, and what is told beside it.
-use Rattle.std.proofs.Common.{◌≡◌, ℕ, Bool, true, false, Some, None, refl, ap, ◌∙◌, Result, Ok, Err, Option, sym}
-use Rattle.std.specs.Prelude.{if◌then◌else◌, ◌||◌, is_some, nat_le, length}
-use Rattle.pua_tree.specs.Tree.{Tree}
-use Rattle.pua_tree.specs.Edits.{add, cut, tie, shift}
-use Rattle.pua_tree.specs.declared.fault.TreeFault.{TreeFault}
+use Rattle.pua_why.proofs.Common.{◌≡◌, ℕ, Bool, true, false, Some, None, refl, ap, ◌∙◌, Result, Ok, Err, Option, sym, if◌then◌else◌, ◌||◌}
+use Rattle.pua_why.proofs.Common.{is_some, nat_le, Tree, add, cut, tie, shift, TreeFault, History, is_ended, or_fault, most_processes}
+use Rattle.pua_why.proofs.Common.{Change, NoChange, AddNode, CutRow, ShiftRow, TieRow, BeginProgram, AddEvent, CopyAs, Outcome, fault_if}
+use Rattle.pua_why.proofs.Common.{World, history_of, change_effect, come_of, edit_effect, edited_tree, Answer, Fault, NumberTaken}
+use Rattle.pua_why.proofs.Common.{NoProcessLeft, change_or_fault, no_room, room_fault, outcome_fault, decision_of}
+use Rattle.std.specs.Prelude.{length}
 use Rattle.pua_path.specs.declared.errno.Errno.TheVariants.{EAGAIN}
-use Rattle.pua_policy.specs.History.{History, is_ended}
-use Rattle.pua_policy.specs.Verdict.{or_fault}
-use Rattle.pua_script.specs.Limits.{most_processes}
-use Rattle.pua_script.specs.Decide.{Change, NoChange, AddNode, CutRow, ShiftRow, TieRow, BeginProgram, AddEvent, CopyAs, Outcome, fault_if}
 use Rattle.pua_script.specs.Decide.{decide}
 use Rattle.pua_script.specs.Replay as replay
-use Rattle.pua_script.specs.Replay.{World, history_of, change_effect, come_of, edit_effect, edited_tree, answer_to, left_by}
+use Rattle.pua_script.specs.Replay.{answer_to, left_by}
 use Rattle.pua_script.specs.Replay.{answer_and_world}
-use Rattle.pua_script.specs.declared.answer.Answer.{Answer}
 use Rattle.pua_script.specs.declared.answer.Answer.TheVariants.{Gone}
 use Rattle.pua_why.specs.Reasons as reasons
-use Rattle.pua_why.specs.Reasons.{Fault, NumberTaken, NoProcessLeft, change_or_fault, no_room, room_fault, outcome_fault, reason_of}
+use Rattle.pua_why.specs.Reasons.{reason_of}
 use Rattle.pua_why.specs.Reasons.{reason_by}
 use Rattle.pua_why.specs.Checked.{process_fault, checks_fault, checked_by, told_by, ChecksTell}
-use Rattle.pua_why.specs.Laws.{decision_of}
 use Rattle.pua_why.proofs.Decisions.{reasons_give_decisions}
 
 edited_room : (h : History) (r : Result (ℕ × Tree) TreeFault) →

@@ -1,32 +1,33 @@
 -- A decision, a verdict and an answer are functions of what is reasoned.
-use Rattle.std.proofs.Common.{◌≡◌, ℕ, Bool, true, false, List, [], ◌∷◌, length, Some, None, refl, ap, ◌∙◌, Result, Ok, Err, Option}
-use Rattle.std.specs.Prelude.{if◌then◌else◌, ◌||◌, ◌&&◌, not, is_some, nat_le, option_map}
-use Rattle.pua_tree.specs.Tree.{Tree, Spot, is_empty}
-use Rattle.pua_tree.specs.Edits.{add, cut, tie, shift, is_inside, is_same_node}
-use Rattle.pua_tree.specs.declared.fault.TreeFault.{TreeFault}
+use Rattle.pua_why.proofs.Common.{◌≡◌, ℕ, Bool, true, false, List, [], ◌∷◌, length, Some, None, refl, ap, ◌∙◌, Result, Ok, Err, Option}
+use Rattle.pua_why.proofs.Common.{if◌then◌else◌, ◌||◌, not, is_some, nat_le, option_map, Tree, Spot, add, cut, tie, shift, TreeFault}
+use Rattle.pua_why.proofs.Common.{spot_named, node_named, Ending, Followed, Found, Whole, Slot, text_fault, trace_of_text, TextFault}
+use Rattle.pua_why.proofs.Common.{PathFault, holds, unveil, CallTable, PairRule, rule_of, History, is_ended, is_locked, perms_kept}
+use Rattle.pua_why.proofs.Common.{working_dir, object_of, or_fault, Place, Call, most_processes, Change, NoChange, AddNode, CutRow}
+use Rattle.pua_why.proofs.Common.{ShiftRow, TieRow, BeginProgram, AddEvent, CopyAs, Outcome, Side, Sole, Old, New, unless_refused}
+use Rattle.pua_why.proofs.Common.{unless_failed, on_named, adding, link_node, change_by, shifting, fault_if, pair_by, World, history_of}
+use Rattle.pua_why.proofs.Common.{change_effect, come_of, edit_effect, edited_tree, OnPath, Symlink, Rename, Link, Pledge, Unveil, Lock}
+use Rattle.pua_why.proofs.Common.{Fork, Exit, Answer, lacking, misfit, InView, By, Promising, Holds, HasEnded, Lacks, promising, covering}
+use Rattle.pua_why.proofs.Common.{Fault, LacksLetters, Unfit, IsLocked, NumberTaken, NoProcessLeft, unpromised_fault, told_path}
+use Rattle.pua_why.proofs.Common.{uncovered_fault, place_beyond, faults, faults_of, change_or_fault, no_room, room_fault, outcome_fault}
+use Rattle.pua_why.proofs.Common.{decision_of}
+use Rattle.std.specs.Prelude.{◌&&◌}
+use Rattle.pua_tree.specs.Tree.{is_empty}
+use Rattle.pua_tree.specs.Edits.{is_inside, is_same_node}
 use Rattle.pua_path.specs.Paths.{path_fault}
 use Rattle.pua_path.specs.Resolution.{resolution_of_text}
-use Rattle.pua_path.specs.Fits.{spot_named, node_named}
 use Rattle.pua_path.specs.declared.errno.Errno.{Errno}
 use Rattle.pua_path.specs.declared.errno.Errno.TheVariants.{EPERM, EACCES, EAGAIN, EINVAL}
-use Rattle.pua_path.specs.declared.text.Ending.{Ending}
 use Rattle.pua_path.specs.declared.text.Ending.TheVariants as ending
-use Rattle.pua_path.specs.declared.found.Last.TheVariants.{Followed}
 use Rattle.pua_path.specs.declared.found.Way.TheVariants as way
-use Rattle.pua_path.specs.declared.found.Found.{Found}
-use Rattle.pua_path.specs.declared.found.Found.TheVariants.{Whole, Slot}
-use Rattle.pua_path.specs.Traces.{text_errno, text_fault, object_or_errno, trace_of_text}
-use Rattle.pua_path.specs.declared.traced.TextFault.{TextFault}
-use Rattle.pua_path.specs.declared.traced.PathFault.{PathFault}
+use Rattle.pua_path.specs.Traces.{text_errno, object_or_errno}
 use Rattle.pua_path.proofs.ForCallers.{text_traces_answer}
-use Rattle.pua_calls.specs.Promises.{holds, proc, unveil}
-use Rattle.pua_calls.specs.Calls.{CallTable, PairRule, rule_of, last_of, ending_of}
-use Rattle.pua_policy.specs.History.{History, pledged_set, held_for_exec, has_error, is_within, is_ended, is_locked, perms_kept, veils}
-use Rattle.pua_policy.specs.History.{working_dir, place_fault, most_places, unveil_fault, pledge_fault, may_any}
-use Rattle.pua_policy.specs.Verdict.{place_of, object_of, object_fault, object_named, cover, cover_fault, or_fault, found_fault}
+use Rattle.pua_calls.specs.Promises.{proc}
+use Rattle.pua_calls.specs.Calls.{last_of, ending_of}
+use Rattle.pua_policy.specs.History.{pledged_set, held_for_exec, has_error, is_within, veils}
+use Rattle.pua_policy.specs.History.{place_fault, most_places, unveil_fault, pledge_fault, may_any}
+use Rattle.pua_policy.specs.Verdict.{place_of, object_fault, object_named, cover, cover_fault, found_fault}
 use Rattle.pua_policy.specs.Verdict.{allowed_unless, if_promised, refusal_of, refusal_verdict, verdict_of}
-use Rattle.pua_policy.specs.declared.place.Place.{Place}
-use Rattle.pua_calls.specs.declared.call.Call.{Call}
 use Rattle.pua_calls.specs.declared.call.Call.TheVariants as call
 use Rattle.pua_policy.specs.declared.answer.May.{May}
 use Rattle.pua_policy.specs.declared.answer.May.TheVariants as may
@@ -35,31 +36,25 @@ use Rattle.pua_policy.specs.declared.answer.Refusal.{Refusal}
 use Rattle.pua_policy.specs.declared.answer.Refusal.TheVariants as refusal
 use Rattle.pua_policy.specs.declared.answer.Verdict.{Verdict}
 use Rattle.pua_policy.specs.declared.answer.Verdict.TheVariants as verdict
-use Rattle.pua_script.specs.Limits.{most_processes}
-use Rattle.pua_script.specs.Decide.{Change, NoChange, AddNode, CutRow, ShiftRow, TieRow, BeginProgram, AddEvent, CopyAs, Outcome, Decision}
-use Rattle.pua_script.specs.Decide.{Side, Sole, Old, New, unless_refused, unless_failed, on_named, adding, link_node, change_by, shifting}
-use Rattle.pua_script.specs.Decide.{tying, fault_if, dots_by, top_by, ways_by, kinds_by, inside_by, is_whole, given_set, is_unknown}
-use Rattle.pua_script.specs.Decide.{object_by, rename_by, link_by, pair_by, veil_by, unveil_errno, refusals, asker_of, decide}
+use Rattle.pua_script.specs.Decide.{Decision}
+use Rattle.pua_script.specs.Decide.{tying, dots_by, top_by, ways_by, kinds_by, inside_by, is_whole, given_set, is_unknown}
+use Rattle.pua_script.specs.Decide.{object_by, rename_by, link_by, veil_by, unveil_errno, refusals, asker_of, decide}
 use Rattle.pua_policy.specs.Misfits.{misfit_errno}
 use Rattle.pua_policy.specs.declared.reason.Misfit.{Misfit}
 use Rattle.pua_policy.specs.declared.reason.Misfit.TheVariants.{IsDirectory, IsNoFile, IsNoDirectory, IsNotEmpty, Exists}
 use Rattle.pua_script.specs.Replay as replay
-use Rattle.pua_script.specs.Replay.{World, history_of, change_effect, come_of, edit_effect, edited_tree, answer_to, left_by}
+use Rattle.pua_script.specs.Replay.{answer_to, left_by}
 use Rattle.pua_script.specs.Replay.{answer_and_world}
-use Rattle.pua_script.specs.declared.request.Action.TheVariants.{OnPath, Symlink, Rename, Link, Pledge, Unveil, Lock, Fork, Exit}
-use Rattle.pua_script.specs.declared.answer.Answer.{Answer}
 use Rattle.pua_script.specs.declared.answer.Answer.TheVariants.{Gone}
-use Rattle.pua_calls.specs.Promises.{lacking}
-use Rattle.pua_policy.specs.Misfits.{misfit}
 use Rattle.pua_policy.specs.declared.reason.Covering.{Covering}
-use Rattle.pua_policy.specs.declared.reason.Covering.TheVariants.{InView, NoneOver, By}
-use Rattle.pua_policy.specs.Reasons.{Promising, Holds, HasEnded, Lacks, promising, may_of, covering, cover_of}
+use Rattle.pua_policy.specs.declared.reason.Covering.TheVariants.{NoneOver}
+use Rattle.pua_policy.specs.Reasons.{may_of, cover_of}
 use Rattle.pua_why.specs.Reasons as reasons
-use Rattle.pua_why.specs.Reasons.{Fault, BadTarget, LacksLetters, Unfit, Inside, UnknownPromise, AsksPromises, IsLocked, AsksLetters}
-use Rattle.pua_why.specs.Reasons.{NoPlaceLeft, NumberTaken, NoProcessLeft, fault_refusal, unpromised_fault, told_path, uncovered_fault}
-use Rattle.pua_why.specs.Reasons.{beyond, pledge_beyond, place_beyond, unveil_beyond, faults, faults_of, change_or_fault, no_room}
-use Rattle.pua_why.specs.Reasons.{room_fault, outcome_fault, reason_of, reason_by, refusal_answer, answer_of}
-use Rattle.pua_why.specs.Laws.{decision_of, ReasonsGiveDecisions, verdict_by, ReasonsGiveVerdicts, ReasonsGiveAnswers}
+use Rattle.pua_why.specs.Reasons.{BadTarget, Inside, UnknownPromise, AsksPromises, AsksLetters}
+use Rattle.pua_why.specs.Reasons.{NoPlaceLeft, fault_refusal}
+use Rattle.pua_why.specs.Reasons.{beyond, pledge_beyond, unveil_beyond}
+use Rattle.pua_why.specs.Reasons.{reason_of, reason_by, refusal_answer, answer_of}
+use Rattle.pua_why.specs.Laws.{ReasonsGiveDecisions, verdict_by, ReasonsGiveVerdicts, ReasonsGiveAnswers}
 use Rattle.pua_policy.proofs.ForCallers.{promisings_answer, coverings_cover}
 
 -- a fault and an errno, as what becomes of the request

@@ -1,18 +1,10 @@
 -- What a fault of a call on a path says is so.
-use Rattle.std.proofs.Common.{◌≡◌, ℕ, List, Some, None, refl, Ok, Err, Option, subst}
-use Rattle.std.specs.Prelude.{IfSome, option_map}
-use Rattle.pua_tree.specs.Tree.{Tree}
-use Rattle.pua_path.specs.declared.found.Found.{Found}
-use Rattle.pua_calls.specs.Calls.{CallTable, rule_of}
-use Rattle.pua_policy.specs.History.{History}
-use Rattle.pua_policy.specs.Verdict.{object_of}
-use Rattle.pua_calls.specs.declared.call.Call.{Call}
-use Rattle.pua_script.specs.Decide.{Change, Sole, change_by, object_by}
+use Rattle.pua_why.proofs.Common.{◌≡◌, ℕ, List, Some, None, refl, Ok, Err, Option, subst, option_map, Tree, Found, CallTable, rule_of}
+use Rattle.pua_why.proofs.Common.{History, object_of, Call, Change, Sole, change_by, misfit, covering, Fault, Unfit, faults, faults_of}
+use Rattle.pua_why.proofs.Common.{call_trace}
+use Rattle.std.specs.Prelude.{IfSome}
+use Rattle.pua_script.specs.Decide.{object_by}
 use Rattle.pua_policy.specs.declared.reason.Misfit.{Misfit}
-use Rattle.pua_policy.specs.Misfits.{misfit}
-use Rattle.pua_policy.specs.Reasons.{covering}
-use Rattle.pua_why.specs.Reasons.{Fault, Unfit, faults, faults_of}
-use Rattle.pua_why.specs.Facts.{call_trace}
 use Rattle.pua_policy.specs.ReasonLaws.{MisfitHolds}
 use Rattle.pua_why.specs.Laws.{CallFaultHolds, CallFaultsHold}
 use Rattle.pua_why.proofs.Steps.{refused_true, failed_true, named_true, either_true, unpromised_true, uncovered_true}

@@ -1,12 +1,10 @@
 -- Words with something between them, one after another.
-use Rattle.std.proofs.Common.{◌≡◌, ℕ, ◌+◌, ◌<◌, ◌≤◌, Bool, true, false, List, [], ◌∷◌, ◌++◌, map, drop, length, get_or, refl, sym, ap, ◌∙◌}
-use Rattle.std.proofs.Common.{append_assoc, append-nil}
-use Rattle.std.specs.Prelude.{if◌then◌else◌, codes}
+use Rattle.pua_why.proofs.Common.{◌≡◌, ℕ, ◌+◌, Bool, true, false, List, [], ◌∷◌, ◌++◌, map, drop, length, refl, sym, ap, ◌∙◌, append_assoc}
+use Rattle.pua_why.proofs.Common.{append-nil, if◌then◌else◌, codes, lacking, joined_words, promises_text}
+use Rattle.std.proofs.Common.{◌<◌, ◌≤◌, get_or}
 use Rattle.std.proofs.lemmas.List.{drop_more}
 use Rattle.std.proofs.Math.ListN.{drop_of_length-le}
 use Rattle.std.specs.Borrow.{Bor}
-use Rattle.pua_calls.specs.Promises.{lacking}
-use Rattle.pua_why.specs.Texts.{joined_words, promises_text}
 
 -- what is still to come, where what is between comes before each word but the first
 abbrev pub rest : List ℕ → Bool → List (List ℕ) → List ℕ

@@ -1,11 +1,9 @@
 -- With reasons each line is the line without them, and more.
-use Rattle.std.proofs.Common.{◌≡◌, ℕ, suc, List, [], ◌∷◌, ◌++◌, Some, None, refl, sym, ap, ◌∙◌, append_assoc, Option, subst}
-use Rattle.std.specs.Prelude.{decimal}
-use Rattle.pua_calls.specs.Calls.{CallTable}
+use Rattle.pua_why.proofs.Common.{◌≡◌, ℕ, suc, List, [], ◌∷◌, ◌++◌, Some, None, refl, sym, ap, ◌∙◌, append_assoc, Option, subst, decimal}
+use Rattle.pua_why.proofs.Common.{CallTable, World, Answer}
 use Rattle.pua_script.specs.AnswerTexts.{answer_text}
 use Rattle.pua_script.specs.Requests.{Asked}
-use Rattle.pua_script.specs.Replay.{World, answers_to, world_after}
-use Rattle.pua_script.specs.declared.answer.Answer.{Answer}
+use Rattle.pua_script.specs.Replay.{answers_to, world_after}
 use Rattle.pua_why.specs.Reasons.{reason, answer_of}
 use Rattle.pua_why.specs.Texts.{spaced_words, reason_text, reason_since, since_text, answer_why, why_lines}
 use Rattle.pua_why.specs.Laws.{IsTail, TellMore, WhyLinesTellMore}

@@ -1,23 +1,15 @@
 -- What a request passed, as it is told one after another.
-use Rattle.std.proofs.Common.{◌≡◌, ℕ, false, List, [], ◌∷◌, ◌++◌, map, Some, None, refl, sym, ap, ◌∙◌, append_assoc, Result, Ok, Err}
-use Rattle.std.proofs.Common.{Option}
-use Rattle.std.specs.Prelude.{if◌then◌else◌, bit_or, length, is_some, option_map}
-use Rattle.pua_tree.specs.Tree.{Spot}
-use Rattle.pua_path.specs.declared.found.Found.{Found}
-use Rattle.pua_path.specs.declared.traced.PathFault.{PathFault}
-use Rattle.pua_path.specs.Traces.{PathTrace}
-use Rattle.pua_policy.specs.History.{History, ProcessState, StandsFor, veil_at}
+use Rattle.pua_why.proofs.Common.{◌≡◌, ℕ, false, List, [], ◌∷◌, ◌++◌, map, Some, None, refl, sym, ap, ◌∙◌, append_assoc, Result, Ok, Err}
+use Rattle.pua_why.proofs.Common.{Option, if◌then◌else◌, is_some, option_map, Spot, Found, PathFault, PathTrace, History, Place, IsLocked}
+use Rattle.pua_why.proofs.Common.{place_beyond, faults_of, Promising, Holds, Outcome, Side, unless_refused, unless_failed, TextFault}
+use Rattle.pua_why.proofs.Common.{fault_seen, refused_by, Fact, Needs, Follows, facts_promised, facts_named}
+use Rattle.std.specs.Prelude.{bit_or, length}
+use Rattle.pua_policy.specs.History.{ProcessState, StandsFor, veil_at}
 use Rattle.pua_policy.proofs.ForCallers.{keeps, kept_by, covering_by}
-use Rattle.pua_policy.specs.declared.place.Place.{Place}
-use Rattle.pua_why.specs.Reasons.{IsLocked, place_beyond, unveil_beyond_on, faults_by, faults_on, faults_of}
-use Rattle.pua_policy.specs.Reasons.{Promising, Holds}
-use Rattle.pua_script.specs.Decide.{Outcome, Side, unless_refused, unless_failed}
-use Rattle.pua_path.specs.declared.traced.TextFault.{TextFault}
+use Rattle.pua_why.specs.Reasons.{unveil_beyond_on, faults_by, faults_on}
 use Rattle.pua_why.specs.declared.told.Fault as told
 use Rattle.pua_why.specs.Reasons as reasons
-use Rattle.pua_why.specs.Seen.{fault_seen}
-use Rattle.pua_why.specs.Checked.{refused_by}
-use Rattle.pua_why.specs.Facts.{Fact, Needs, Follows, needing, facts_promised, facts_found, facts_named}
+use Rattle.pua_why.specs.Facts.{needing, facts_found}
 
 -- promises stand before what a path named
 pub needing_named : (set : ℕ) (side : Side) (trace : PathTrace) (more : Found → List Fact) →

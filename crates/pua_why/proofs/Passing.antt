@@ -1,13 +1,8 @@
 -- What a request passed, as it is told piece by piece.
-use Rattle.std.proofs.Common.{◌≡◌, ℕ, Bool, true, false, List, [], ◌∷◌, ◌++◌, map, Some, None, sym, ap, ◌∙◌, append_assoc, append-nil, Ok}
-use Rattle.std.proofs.Common.{Option}
-use Rattle.std.specs.Prelude.{if◌then◌else◌}
-use Rattle.pua_tree.specs.Tree.{Spot}
-use Rattle.pua_path.specs.declared.found.Found.{Found}
-use Rattle.pua_path.specs.Traces.{PathTrace}
-use Rattle.pua_policy.specs.Reasons.{Promising, Holds}
-use Rattle.pua_script.specs.Decide.{Side, Sole}
-use Rattle.pua_why.specs.Facts.{Fact, Needs, Follows, Names, facts_promised, facts_named}
+use Rattle.pua_why.proofs.Common.{◌≡◌, ℕ, Bool, true, false, List, [], ◌∷◌, ◌++◌, map, Some, None, sym, ap, ◌∙◌, append_assoc, append-nil}
+use Rattle.pua_why.proofs.Common.{Ok, Option, if◌then◌else◌, Spot, Found, PathTrace, Promising, Holds, Side, Sole, Fact, Needs, Follows}
+use Rattle.pua_why.proofs.Common.{facts_promised, facts_named}
+use Rattle.pua_why.specs.Facts.{Names}
 use Rattle.pua_why.specs.Seen.{on_named_fact}
 use Rattle.pua_why.proofs.Adding.{then_more}
 use Rattle.pua_why.proofs.Needing.{promised_named}

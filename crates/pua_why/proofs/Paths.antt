@@ -1,13 +1,14 @@
 -- The names that lead to a directory, row by row.
-use Rattle.std.proofs.Common.{◌≡◌, ◌≢◌, ℕ, zero, suc, List, [], ◌∷◌, ◌++◌, map, length, refl, sym, ap, ◌∙◌, append_assoc, append-nil}
+use Rattle.pua_why.proofs.Common.{◌≡◌, ℕ, suc, List, [], ◌∷◌, ◌++◌, map, length, refl, sym, ap, ◌∙◌, append_assoc, append-nil, Tree}
+use Rattle.pua_why.proofs.Common.{lent_entry, names_to, slashed_names, dir_names}
+use Rattle.std.proofs.Common.{◌≢◌, zero}
 use Rattle.std.specs.Prelude.{Some, None, reverse}
 use Rattle.std.proofs.lemmas.List.{length-map, reverse-append}
 use Rattle.std.specs.Borrow.{Bor}
-use Rattle.pua_tree.specs.Tree.{Tree, spot_of}
+use Rattle.pua_tree.specs.Tree.{spot_of}
 use Rattle.pua_tree.specs.Spelling.{spelling}
-use Rattle.pua_tree.specs.LentRows.{lent_entry}
 use Rattle.pua_tree.specs.declared.tree.LentRow.{LentRow}
-use Rattle.pua_why.specs.Texts.{names_to_spot, names_to, slashed_names, path_text, dir_names, spot_text}
+use Rattle.pua_why.specs.Texts.{names_to_spot, path_text, spot_text}
 use Rattle.pua_tree.proofs.ForCallers.{map-reverse}
 
 -- a name more, of a directory that stands in a row

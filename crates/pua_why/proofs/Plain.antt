@@ -1,23 +1,16 @@
 -- A request that is no fork is granted no further process.
-use Rattle.std.proofs.Common.{◌≡◌, ℕ, Some, None, refl, sym, ap, ◌∙◌, inl, inr, ◌⊎◌, Ok, Err, Option, true≢false}
+use Rattle.pua_why.proofs.Common.{◌≡◌, ℕ, Some, None, refl, sym, ap, ◌∙◌, Ok, Err, Option, Tree, Spot, spot_named, node_named, Found, Whole}
+use Rattle.pua_why.proofs.Common.{Slot, CallTable, History, Call, Change, NoChange, Outcome, shifting, link_node, change_by, World, OnPath}
+use Rattle.pua_why.proofs.Common.{Symlink, Rename, Link, Pledge, Unveil, Lock, Fork, Exit, Fault, change_or_fault, decision_of, refused_by}
+use Rattle.std.proofs.Common.{inl, inr, ◌⊎◌, true≢false}
 use Rattle.std.specs.Prelude.{IsFalse}
-use Rattle.pua_tree.specs.Tree.{Tree, Node, Spot}
-use Rattle.pua_path.specs.Fits.{spot_named, node_named}
-use Rattle.pua_path.specs.declared.found.Found.{Found}
-use Rattle.pua_path.specs.declared.found.Found.TheVariants.{Whole, Slot}
-use Rattle.pua_calls.specs.Calls.{CallTable}
-use Rattle.pua_policy.specs.History.{History}
-use Rattle.pua_calls.specs.declared.call.Call.{Call}
+use Rattle.pua_tree.specs.Tree.{Node}
 use Rattle.pua_calls.specs.declared.call.Call.TheVariants as call
-use Rattle.pua_script.specs.Decide.{Change, NoChange, Outcome, placing, cutting, going, shifting, tying, link_node, change_by}
+use Rattle.pua_script.specs.Decide.{placing, cutting, going, tying}
 use Rattle.pua_script.specs.Guards.{IsDecided, IsShift}
-use Rattle.pua_script.specs.Replay.{World}
 use Rattle.pua_script.specs.Worlds.{is_fork}
 use Rattle.pua_script.specs.declared.request.Action.{Action}
-use Rattle.pua_script.specs.declared.request.Action.TheVariants.{OnPath, Symlink, Rename, Link, Pledge, Unveil, Lock, Fork, Exit}
-use Rattle.pua_why.specs.Reasons.{Fault, change_or_fault}
-use Rattle.pua_why.specs.Laws.{decision_of}
-use Rattle.pua_why.specs.Checked.{process_fault, checks_fault, refused_by}
+use Rattle.pua_why.specs.Checked.{process_fault, checks_fault}
 use Rattle.pua_why.proofs.Decisions.{reasons_give_decisions}
 use Rattle.pua_script.proofs.ForCallers.{decisions_are_guarded}
 

@@ -1,9 +1,9 @@
 -- What is so at the end was so all the time, or since the line that is told.
-use Rattle.std.proofs.Common.{◌≡◌, ℕ, suc, Bool, true, false, List, [], ◌∷◌, Some, None, refl, sym, ap, ◌∙◌, arith, Option}
-use Rattle.std.specs.Prelude.{not, ◌&&◌}
-use Rattle.pua_calls.specs.Calls.{CallTable}
+use Rattle.pua_why.proofs.Common.{◌≡◌, ℕ, suc, Bool, true, false, List, [], ◌∷◌, Some, None, refl, sym, ap, ◌∙◌, arith, Option, not}
+use Rattle.pua_why.proofs.Common.{CallTable, World}
+use Rattle.std.specs.Prelude.{◌&&◌}
 use Rattle.pua_script.specs.Requests.{Asked}
-use Rattle.pua_script.specs.Replay.{World, apply, world_after}
+use Rattle.pua_script.specs.Replay.{apply, world_after}
 use lib.Pointwise.{bytes_decides}
 use Rattle.pua_why.specs.Reasons.{reason}
 use Rattle.pua_why.specs.Keys.{reason_key}

@@ -1,19 +1,11 @@
 -- A check that fails does so with what is true, or the checks behind it fail.
-use Rattle.std.proofs.Common.{◌≡◌, ℕ, Bool, true, false, List, Some, None, refl, Result, Ok, Err, Option, subst}
-use Rattle.std.specs.Prelude.{if◌then◌else◌}
-use Rattle.pua_path.specs.declared.found.Found.{Found}
-use Rattle.pua_path.specs.declared.traced.PathFault.{PathFault}
-use Rattle.pua_calls.specs.Promises.{holds}
-use Rattle.pua_policy.specs.History.{History, is_ended}
-use Rattle.pua_policy.specs.Verdict.{or_fault}
-use Rattle.pua_policy.specs.declared.place.Place.{Place}
-use Rattle.pua_script.specs.Decide.{Outcome, Side, unless_refused, unless_failed, on_named, fault_if}
-use Rattle.pua_calls.specs.Promises.{lacking}
+use Rattle.pua_why.proofs.Common.{◌≡◌, ℕ, Bool, true, false, List, Some, None, refl, Result, Ok, Err, Option, subst, if◌then◌else◌, Found}
+use Rattle.pua_why.proofs.Common.{PathFault, holds, History, is_ended, or_fault, Place, Outcome, Side, unless_refused, unless_failed}
+use Rattle.pua_why.proofs.Common.{on_named, fault_if, lacking, InView, By, Promising, Holds, HasEnded, Lacks, promising, Fault}
+use Rattle.pua_why.proofs.Common.{LacksLetters, unpromised_fault, told_path, uncovered_fault}
 use Rattle.pua_policy.specs.declared.reason.Covering.{Covering}
-use Rattle.pua_policy.specs.declared.reason.Covering.TheVariants.{InView, NoneOver, By}
-use Rattle.pua_policy.specs.Reasons.{Promising, Holds, HasEnded, Lacks, promising}
-use Rattle.pua_why.specs.Reasons.{Fault, Ends, LacksPromises, BadPath, Uncovered, LacksLetters, unpromised_fault, told_path}
-use Rattle.pua_why.specs.Reasons.{uncovered_fault}
+use Rattle.pua_policy.specs.declared.reason.Covering.TheVariants.{NoneOver}
+use Rattle.pua_why.specs.Reasons.{Ends, LacksPromises, BadPath, Uncovered}
 use Rattle.pua_policy.specs.ReasonLaws.{PromisingHolds}
 use Rattle.pua_policy.proofs.ForCallers.{promisings_hold}
 

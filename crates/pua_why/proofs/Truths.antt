@@ -1,46 +1,36 @@
 -- What a fault of a request says is so.
-use Rattle.std.proofs.Common.{◌≡◌, ℕ, Bool, true, false, List, [], ◌∷◌, length, Some, None, refl, sym, inl, inr, Result, Ok, Err, Option}
-use Rattle.std.proofs.Common.{subst, ap, ◌∙◌}
-use Rattle.std.specs.Prelude.{if◌then◌else◌, not, ◌||◌, is_some, nat_le, option_map}
-use Rattle.pua_tree.specs.Tree.{Tree, Spot, is_empty}
-use Rattle.pua_tree.specs.Edits.{add, cut, tie, shift, is_inside, is_same_node}
-use Rattle.pua_tree.specs.declared.fault.TreeFault.{TreeFault}
-use Rattle.pua_path.specs.Fits.{spot_named, node_named}
+use Rattle.pua_why.proofs.Common.{◌≡◌, ℕ, Bool, true, false, List, [], ◌∷◌, length, Some, None, refl, sym, Result, Ok, Err, Option, subst}
+use Rattle.pua_why.proofs.Common.{ap, ◌∙◌, if◌then◌else◌, not, ◌||◌, is_some, nat_le, option_map, Tree, Spot, add, cut, tie, shift}
+use Rattle.pua_why.proofs.Common.{TreeFault, spot_named, node_named, Ending, Followed, Found, Whole, Slot, text_fault, trace_of_text}
+use Rattle.pua_why.proofs.Common.{TextFault, holds, unveil, CallTable, PairRule, rule_of, History, is_locked, perms_kept, working_dir}
+use Rattle.pua_why.proofs.Common.{or_fault, Place, most_processes, Change, NoChange, AddNode, CutRow, ShiftRow, TieRow, BeginProgram}
+use Rattle.pua_why.proofs.Common.{AddEvent, CopyAs, Outcome, Side, Sole, Old, New, unless_refused, unless_failed, adding, link_node}
+use Rattle.pua_why.proofs.Common.{shifting, pair_by, World, history_of, change_effect, come_of, edit_effect, edited_tree, OnPath, Symlink}
+use Rattle.pua_why.proofs.Common.{Rename, Link, Pledge, Unveil, Lock, Fork, Exit, lacking, By, promising, covering, Fault, LacksLetters}
+use Rattle.pua_why.proofs.Common.{Unfit, IsLocked, NumberTaken, NoProcessLeft, unpromised_fault, place_beyond, faults, faults_of}
+use Rattle.pua_why.proofs.Common.{change_or_fault, no_room, room_fault, outcome_fault, name_trace, decision_of}
+use Rattle.std.proofs.Common.{inl, inr}
+use Rattle.pua_tree.specs.Tree.{is_empty}
+use Rattle.pua_tree.specs.Edits.{is_inside, is_same_node}
 use Rattle.pua_path.specs.declared.errno.Errno.TheVariants.{ENOSPC}
-use Rattle.pua_path.specs.declared.text.Ending.{Ending}
 use Rattle.pua_path.specs.declared.text.Ending.TheVariants as ending
-use Rattle.pua_path.specs.declared.found.Last.TheVariants.{Followed}
 use Rattle.pua_path.specs.declared.found.Way.TheVariants as way
-use Rattle.pua_path.specs.declared.found.Found.{Found}
-use Rattle.pua_path.specs.declared.found.Found.TheVariants.{Whole, Slot}
-use Rattle.pua_path.specs.Traces.{text_fault, trace_of_text}
-use Rattle.pua_path.specs.declared.traced.TextFault.{TextFault}
-use Rattle.pua_calls.specs.Promises.{holds, proc, unveil}
-use Rattle.pua_calls.specs.Calls.{CallTable, PairRule, rule_of}
-use Rattle.pua_policy.specs.History.{History, pledged_set, held_for_exec, has_error, is_within, is_locked, perms_kept, veils, working_dir}
+use Rattle.pua_calls.specs.Promises.{proc}
+use Rattle.pua_policy.specs.History.{pledged_set, held_for_exec, has_error, is_within, veils}
 use Rattle.pua_policy.specs.History.{most_places}
-use Rattle.pua_policy.specs.Verdict.{place_of, or_fault}
-use Rattle.pua_policy.specs.declared.place.Place.{Place}
+use Rattle.pua_policy.specs.Verdict.{place_of}
 use Rattle.pua_calls.specs.declared.call.Call.TheVariants as call
-use Rattle.pua_script.specs.Limits.{most_processes}
-use Rattle.pua_script.specs.Decide.{Change, NoChange, AddNode, CutRow, ShiftRow, TieRow, BeginProgram, AddEvent, CopyAs, Outcome, Side}
-use Rattle.pua_script.specs.Decide.{Sole, Old, New, unless_refused, unless_failed, dots_by, top_by, kinds_by, inside_by, is_whole}
-use Rattle.pua_script.specs.Decide.{given_set, is_unknown, adding, link_node, shifting, rename_by, link_by, pair_by, veil_by}
+use Rattle.pua_script.specs.Decide.{dots_by, top_by, kinds_by, inside_by, is_whole}
+use Rattle.pua_script.specs.Decide.{given_set, is_unknown, rename_by, link_by, veil_by}
 use Rattle.pua_policy.specs.declared.reason.Misfit.TheVariants.{Missing, Exists, IsDirectory, IsNoFile, IsNoDirectory, IsNotEmpty, ByDot}
 use Rattle.pua_policy.specs.declared.reason.Misfit.TheVariants.{ByDotDot, ByNothing}
-use Rattle.pua_script.specs.Replay.{World, Fails, history_of, change_effect, effect, come_of, edit_effect, edited_tree}
+use Rattle.pua_script.specs.Replay.{Fails, effect}
 use Rattle.pua_script.specs.declared.request.Given.{Given}
 use Rattle.pua_script.specs.declared.request.Action.{Action}
-use Rattle.pua_script.specs.declared.request.Action.TheVariants.{OnPath, Symlink, Rename, Link, Pledge, Unveil, Lock, Fork, Exit}
-use Rattle.pua_calls.specs.Promises.{lacking}
-use Rattle.pua_policy.specs.declared.reason.Covering.TheVariants.{By}
-use Rattle.pua_policy.specs.Reasons.{promising, covering}
-use Rattle.pua_why.specs.Reasons.{Fault, Ends, LacksPromises, BadTarget, BadPath, Uncovered, LacksLetters, Unfit, Inside, UnknownPromise}
-use Rattle.pua_why.specs.Reasons.{AsksPromises, IsLocked, UnknownLetter, AsksLetters, NoPlaceLeft, NumberTaken, NoProcessLeft, NoRoom}
-use Rattle.pua_why.specs.Reasons.{unpromised_fault, beyond, asks_beyond, place_beyond, unveil_beyond, faults, faults_of, change_or_fault}
-use Rattle.pua_why.specs.Reasons.{no_room, room_fault, outcome_fault}
-use Rattle.pua_why.specs.Facts.{name_trace}
-use Rattle.pua_why.specs.Laws.{CallFaultHolds, decision_of}
+use Rattle.pua_why.specs.Reasons.{Ends, LacksPromises, BadTarget, BadPath, Uncovered, Inside, UnknownPromise}
+use Rattle.pua_why.specs.Reasons.{AsksPromises, UnknownLetter, AsksLetters, NoPlaceLeft, NoRoom}
+use Rattle.pua_why.specs.Reasons.{beyond, asks_beyond, unveil_beyond}
+use Rattle.pua_why.specs.Laws.{CallFaultHolds}
 use Rattle.pua_why.specs.Truths.{PromiseFaultHolds, SymlinkFaultHolds, side_outcome, PairFaultHolds, PledgeFaultHolds, UnveilFaultHolds}
 use Rattle.pua_why.specs.Truths.{CheckFaultHolds, CheckFaultsHold, RoomFaultHolds, RequestFaultHolds, RequestFaultsHold, FullTreesAreFull}
 use Rattle.pua_why.proofs.Steps.{same_fault, refused_true, failed_true, named_true, either_true, when_true, unpromised_true, uncovered_true}

@@ -1,6 +1,7 @@
 -- There is an unknown word exactly where an argument is refused.
-use Rattle.std.proofs.Common.{◌≡◌, ℕ, List, [], ◌∷◌, map, Some, None, refl, sym, ap, ◌∙◌, Option, Result, Ok, Err}
-use Rattle.std.specs.Prelude.{if◌then◌else◌, ◌==◌, find, is_none, is_some, is_ok, not}
+use Rattle.pua_why.proofs.Common.{◌≡◌, ℕ, List, [], ◌∷◌, map, Some, None, refl, sym, ap, ◌∙◌, Option, Result, Ok, Err, if◌then◌else◌}
+use Rattle.pua_why.proofs.Common.{is_some, not}
+use Rattle.std.specs.Prelude.{◌==◌, find, is_none, is_ok}
 use Rattle.std.specs.List.{slice_split}
 use Rattle.pua_path.specs.declared.errno.Errno.{Errno}
 use Rattle.pua_calls.specs.Promises.{union_or_fault, union_of, promise_of, promises_of, letter_of}

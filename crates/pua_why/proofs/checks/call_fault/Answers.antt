@@ -1,7 +1,5 @@
-use Rattle.std.proofs.Common.{rules, ap, ◌∙◌}
+use Rattle.pua_why.proofs.Common.{rules, ap, ◌∙◌, change_by, unpromised_fault}
 use Rattle.pua_policy.specs.Reasons.{promising_on}
-use Rattle.pua_script.specs.Decide.{change_by}
-use Rattle.pua_why.specs.Reasons.{unpromised_fault}
 use Rattle.pua_why.proofs.Needing.{promises_passed}
 use Rattle.pua_why.proofs.checks.call_fault.Goals as goal
 

@@ -1,4 +1,4 @@
-use Rattle.std.proofs.Common.{length, sym, ◌∙◌}
+use Rattle.pua_why.proofs.Common.{length, sym, ◌∙◌}
 use Rattle.pua_why.proofs.Needing.{kept_beyond}
 use Rattle.pua_why.proofs.checks.place_fault.Goals as goal
 

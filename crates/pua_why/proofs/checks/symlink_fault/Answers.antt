@@ -1,8 +1,5 @@
-use Rattle.std.proofs.Common.{rules, ap, ◌∙◌}
+use Rattle.pua_why.proofs.Common.{rules, ap, ◌∙◌, text_fault, adding, link_node, unpromised_fault}
 use Rattle.pua_policy.specs.Reasons.{promising_on}
-use Rattle.pua_path.specs.Traces.{text_fault}
-use Rattle.pua_script.specs.Decide.{adding, link_node}
-use Rattle.pua_why.specs.Reasons.{unpromised_fault}
 use Rattle.pua_why.proofs.Needing.{promises_passed, target_passed}
 use Rattle.pua_why.proofs.checks.symlink_fault.Goals as goal
 

@@ -1,6 +1,4 @@
-use Rattle.std.proofs.Common.{ap, sym, ◌∙◌}
-use Rattle.pua_why.specs.Reasons.{uncovered_fault}
-use Rattle.pua_why.specs.Seen.{side_seen}
+use Rattle.pua_why.proofs.Common.{ap, sym, ◌∙◌, uncovered_fault, side_seen}
 use Rattle.pua_why.proofs.checks.uncovered.Goals as goal
 
 pub returns-in-By : goal.returns-in-By

@@ -1,9 +1,9 @@
-use Rattle.std.proofs.Common.{◌≡◌, ◌≢◌, ◌==◌, ◌∙◌, ℕ, Bool, cond, length, refl, sym, ap, arith, true, false, eqb-true}
+use Rattle.pua_why.proofs.Common.{◌≡◌, ◌∙◌, ℕ, Bool, length, refl, sym, ap, arith, true, false, ◌||◌, list_any, climb}
+use Rattle.std.proofs.Common.{◌≢◌, ◌==◌, cond, eqb-true}
 use Rattle.std.proofs.lemmas.Bool.{eqb-false}
 use Rattle.std.proofs.lemmas.Option.{same_Some}
-use Rattle.std.specs.Prelude.{Some, None, ◌||◌}
-use Rattle.std.specs.List.{list_any}
-use Rattle.pua_tree.specs.Tree.{above, climb, is_dir}
+use Rattle.std.specs.Prelude.{Some, None}
+use Rattle.pua_tree.specs.Tree.{above, is_dir}
 use Rattle.pua_tree.proofs.ForCallers.{climb_here, climb_root}
 use Rattle.pua_path.proofs.ForCallers.{above_lives}
 use Rattle.pua_policy.proofs.ForCallers.{climb_step, length-climb_step}

@@ -1,6 +1,6 @@
-use Rattle.std.proofs.Common.{◌≡◌, ◌==◌, length, IsTrue}
-use Rattle.std.specs.List.{list_any}
-use Rattle.pua_tree.specs.Tree.{is_dir, climb}
+use Rattle.pua_why.proofs.Common.{◌≡◌, length, list_any, climb}
+use Rattle.std.proofs.Common.{◌==◌, IsTrue}
+use Rattle.pua_tree.specs.Tree.{is_dir}
 use Rattle.pua_why.proofs.pairs.is_within.Given as goal
 
 -- the rest of the climb decides, if it began at a directory

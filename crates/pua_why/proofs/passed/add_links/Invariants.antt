@@ -1,6 +1,4 @@
-use Rattle.std.proofs.Common.{◌≡◌, ◌++◌, map, take}
-use Rattle.pua_why.specs.Facts.{Follows}
-use Rattle.pua_why.specs.Seen.{fact_seen, side_seen}
+use Rattle.pua_why.proofs.Common.{◌≡◌, ◌++◌, map, take, Follows, fact_seen, side_seen}
 use Rattle.pua_why.proofs.passed.add_links.Given as goal
 
 abbrev pub invariant-loop-spot : goal.invariant-loop-spot

@@ -1,8 +1,7 @@
-use Rattle.std.proofs.Common.{ap, sym, ◌∙◌}
+use Rattle.pua_why.proofs.Common.{ap, sym, ◌∙◌, refused_by, faults}
 use Rattle.pua_script.specs.Decide.{decide_by}
 use Rattle.pua_script.specs.declared.request.Action.TheVariants as actions
-use Rattle.pua_why.specs.Checked.{refused_by}
-use Rattle.pua_why.specs.Reasons.{faults, faults_on}
+use Rattle.pua_why.specs.Reasons.{faults_on}
 use Rattle.pua_why.proofs.reasons.fault_of.Goals as goal
 
 pub returns-in-Rename : goal.returns-in-Rename

@@ -1,10 +1,6 @@
-use Rattle.std.proofs.Common.{sym, ap, ◌∙◌}
+use Rattle.pua_why.proofs.Common.{sym, ap, ◌∙◌, option_map, refused_by, faults, fault_seen}
 use Rattle.std.proofs.lemmas.Result.{IfOk-weaker}
-use Rattle.std.specs.Prelude.{option_map}
 use Rattle.pua_script.specs.Decide.{decide_by}
-use Rattle.pua_why.specs.Checked.{refused_by}
-use Rattle.pua_why.specs.Reasons.{faults}
-use Rattle.pua_why.specs.Seen.{fault_seen}
 use Rattle.pua_why.proofs.Needing.{faults_stand}
 use Rattle.pua_why.proofs.reasons.request_fault.Goals as goal
 

@@ -1,5 +1,4 @@
-use Rattle.std.proofs.Common.{false, ◌++◌, ◌+◌, ap, sym, ◌∙◌, map, drop, string_bytes, arith}
-use Rattle.std.specs.Prelude.{codes}
+use Rattle.pua_why.proofs.Common.{false, ◌++◌, ◌+◌, ap, sym, ◌∙◌, map, drop, string_bytes, arith, codes}
 use Rattle.pua_why.proofs.Joining.{rest, name_next, names_done}
 use Rattle.pua_why.proofs.texts.joined.Goals as goal
 

@@ -1,6 +1,4 @@
-use Rattle.std.proofs.Common.{◌≡◌, ◌++◌, drop, map, string_bytes}
-use Rattle.std.specs.Prelude.{codes}
-use Rattle.pua_why.specs.Texts.{joined_words}
+use Rattle.pua_why.proofs.Common.{◌≡◌, ◌++◌, drop, map, string_bytes, codes, joined_words}
 use Rattle.pua_why.proofs.Joining.{rest}
 use Rattle.pua_why.proofs.texts.joined.Given as goal
 

@@ -1,7 +1,5 @@
-use Rattle.std.proofs.Common.{false, ◌++◌, ◌+◌, [], ap, sym, ◌∙◌, drop, string_bytes, arith}
-use Rattle.std.specs.Prelude.{codes, if◌then◌else◌}
-use Rattle.pua_calls.specs.Promises.{lacking}
-use Rattle.pua_why.specs.Texts.{promises_text}
+use Rattle.pua_why.proofs.Common.{false, ◌++◌, ◌+◌, [], ap, sym, ◌∙◌, drop, string_bytes, arith, codes, if◌then◌else◌, lacking}
+use Rattle.pua_why.proofs.Common.{promises_text}
 use Rattle.pua_why.proofs.Joining.{rest, joined_is, lack_next, lack_words, lacks_done}
 use Rattle.pua_why.proofs.texts.push_lacks.Goals as goal
 

@@ -1,6 +1,4 @@
-use Rattle.std.proofs.Common.{◌≡◌, ◌++◌, drop, string_bytes}
-use Rattle.std.specs.Prelude.{codes}
-use Rattle.pua_why.specs.Texts.{joined_words}
+use Rattle.pua_why.proofs.Common.{◌≡◌, ◌++◌, drop, string_bytes, codes, joined_words}
 use Rattle.pua_why.proofs.Joining.{rest, lack_words}
 use Rattle.pua_why.proofs.texts.push_lacks.Given as goal
 

@@ -1,6 +1,4 @@
-use Rattle.std.proofs.Common.{◌++◌, ap, ◌∙◌, string_bytes}
-use Rattle.std.specs.Prelude.{codes}
-use Rattle.std.proofs.lemmas.Result.{on_ok_weaker}
+use Rattle.pua_why.proofs.Common.{◌++◌, ap, ◌∙◌, string_bytes, codes, on_ok_weaker}
 use Rattle.pua_why.specs.Texts.{letters_text}
 use Rattle.pua_why.proofs.Adding.{then_more}
 use Rattle.pua_why.proofs.texts.push_letters.Goals as goal

@@ -1,5 +1,4 @@
-use Rattle.std.proofs.Common.{◌++◌, ap, ◌∙◌, string_bytes}
-use Rattle.std.proofs.lemmas.Result.{on_ok_weaker}
+use Rattle.pua_why.proofs.Common.{◌++◌, ap, ◌∙◌, string_bytes, on_ok_weaker}
 use Rattle.pua_why.proofs.Adding.{then_more}
 use Rattle.pua_why.proofs.texts.push_link.Goals as goal
 

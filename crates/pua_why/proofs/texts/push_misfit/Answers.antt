@@ -1,5 +1,4 @@
-use Rattle.std.proofs.Common.{◌++◌, ap, sym, ◌∙◌, string_bytes}
-use Rattle.std.proofs.lemmas.Result.{on_ok_weaker}
+use Rattle.pua_why.proofs.Common.{◌++◌, ap, sym, ◌∙◌, string_bytes, on_ok_weaker}
 use Rattle.pua_why.specs.Texts.{found_text, misfit_text}
 use Rattle.pua_why.proofs.Adding.{pushed_so}
 use Rattle.pua_why.proofs.texts.push_misfit.Goals as goal

@@ -1,8 +1,4 @@
-use Rattle.std.proofs.Common.{◌++◌, ap, ◌∙◌, string_bytes}
-use Rattle.std.specs.Prelude.{codes}
-use Rattle.std.proofs.lemmas.Result.{on_ok_weaker}
-use Rattle.pua_policy.specs.Verdict.{object_of}
-use Rattle.pua_why.specs.Seen.{side_seen}
+use Rattle.pua_why.proofs.Common.{◌++◌, ap, ◌∙◌, string_bytes, codes, on_ok_weaker, object_of, side_seen}
 use Rattle.pua_why.specs.Texts.{found_text, kind_text, side_text}
 use Rattle.pua_why.proofs.Adding.{then_more}
 use Rattle.pua_why.proofs.texts.push_named.Goals as goal

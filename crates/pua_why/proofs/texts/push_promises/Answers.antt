@@ -1,6 +1,5 @@
-use Rattle.std.proofs.Common.{◌++◌, ap, ◌∙◌, map, string_bytes}
-use Rattle.std.specs.Prelude.{codes}
-use Rattle.pua_why.specs.Texts.{joined_words, or_equals}
+use Rattle.pua_why.proofs.Common.{◌++◌, ap, ◌∙◌, map, string_bytes, codes, joined_words}
+use Rattle.pua_why.specs.Texts.{or_equals}
 use Rattle.pua_why.proofs.Adding.{promises_are, pushed_so}
 use Rattle.pua_why.proofs.texts.push_promises.Goals as goal
 

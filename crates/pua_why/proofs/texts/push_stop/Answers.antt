@@ -1,8 +1,6 @@
-use Rattle.std.proofs.Common.{◌≡◌, ℕ, List, ◌+◌, ◌++◌, append_assoc, ap, sym, ◌∙◌, refl, string_bytes}
+use Rattle.pua_why.proofs.Common.{◌≡◌, ℕ, List, ◌+◌, ◌++◌, append_assoc, ap, sym, ◌∙◌, refl, string_bytes, codes, decimal, on_ok_weaker}
+use Rattle.pua_why.proofs.Common.{Tree, Spot}
 use Rattle.std.specs.Fmt.{digits}
-use Rattle.std.specs.Prelude.{codes, decimal}
-use Rattle.std.proofs.lemmas.Result.{on_ok_weaker}
-use Rattle.pua_tree.specs.Tree.{Tree, Spot}
 use Rattle.pua_path.specs.Resolution.{most_links}
 use Rattle.pua_path.specs.declared.traced.Stop.{Stop}
 use Rattle.pua_path.specs.declared.traced.Stop.TheVariants.{LinkBeyond}

@@ -1,5 +1,4 @@
-use Rattle.std.proofs.Common.{◌≡◌, ◌++◌, map, string_bytes, take}
-use Rattle.pua_why.specs.Texts.{slashed_names}
+use Rattle.pua_why.proofs.Common.{◌≡◌, ◌++◌, map, string_bytes, take, slashed_names}
 use Rattle.pua_why.proofs.tree_paths.push_names.Given as goal
 
 abbrev pub invariant-loop-name : goal.invariant-loop-name

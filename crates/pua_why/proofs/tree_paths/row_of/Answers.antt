@@ -1,4 +1,5 @@
-use Rattle.std.proofs.Common.{rules, tests}
+use Rattle.pua_why.proofs.Common.{rules}
+use Rattle.std.proofs.Common.{tests}
 use Rattle.std.proofs.lemmas.Iterator.{YieldsList-from_slice}
 use Rattle.std.proofs.lemmas.Iterator.Search.{find_from_yields_List}
 use Rattle.std.specs.Prelude.{◌==◌}

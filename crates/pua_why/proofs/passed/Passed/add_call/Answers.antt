@@ -1,9 +1,4 @@
-use Rattle.std.proofs.Common.{[], ap, ◌∙◌}
-use Rattle.std.proofs.lemmas.Result.{on_ok_weaker}
-use Rattle.pua_calls.specs.Calls.{rule_of}
-use Rattle.pua_policy.specs.Reasons.{promising}
-use Rattle.pua_script.specs.Decide.{Sole}
-use Rattle.pua_why.specs.Facts.{call_trace, facts_under}
+use Rattle.pua_why.proofs.Common.{[], ap, ◌∙◌, on_ok_weaker, rule_of, promising, Sole, call_trace, facts_under}
 use Rattle.pua_why.proofs.Needing.{promised_named}
 use Rattle.pua_why.proofs.passed.Passed.add_call.Goals as goal
 

@@ -1,9 +1,5 @@
-use Rattle.std.proofs.Common.{◌++◌, ap, sym, subst, ◌∙◌, []}
-use Rattle.std.proofs.lemmas.Result.{on_ok_weaker}
-use Rattle.pua_tree.specs.Tree.{Tree}
+use Rattle.pua_why.proofs.Common.{◌++◌, ap, sym, subst, ◌∙◌, [], on_ok_weaker, Tree, Old, New, facts_under}
 use Rattle.pua_path.specs.Fits.{FoundFits}
-use Rattle.pua_script.specs.Decide.{Old, New}
-use Rattle.pua_why.specs.Facts.{facts_under}
 use Rattle.pua_why.proofs.Passing.{covers_told}
 use Rattle.pua_why.proofs.passed.Passed.add_covers.Goals as goal
 

@@ -1,6 +1,4 @@
-use Rattle.std.proofs.Common.{◌++◌, map, ap, sym, ◌∙◌}
-use Rattle.pua_why.specs.Facts.{Follows}
-use Rattle.pua_why.specs.Seen.{fact_seen, side_seen}
+use Rattle.pua_why.proofs.Common.{◌++◌, map, ap, sym, ◌∙◌, Follows, fact_seen, side_seen}
 use Rattle.pua_why.proofs.Passing.{name_told}
 use Rattle.pua_why.proofs.passed.Passed.add_name.Goals as goal
 

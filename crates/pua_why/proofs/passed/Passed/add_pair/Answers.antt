@@ -1,8 +1,4 @@
-use Rattle.std.proofs.Common.{[], ◌∷◌, ◌++◌, ap, ◌∙◌}
-use Rattle.std.proofs.lemmas.Result.{on_ok_weaker}
-use Rattle.pua_policy.specs.Reasons.{promising}
-use Rattle.pua_script.specs.Decide.{Old, New}
-use Rattle.pua_why.specs.Facts.{Needs, facts_named, facts_under, name_trace}
+use Rattle.pua_why.proofs.Common.{[], ◌∷◌, ◌++◌, ap, ◌∙◌, on_ok_weaker, promising, Old, New, Needs, facts_named, facts_under, name_trace}
 use Rattle.pua_why.proofs.Needing.{both_named}
 use Rattle.pua_why.proofs.passed.Passed.add_pair.Goals as goal
 

@@ -1,12 +1,5 @@
-use Rattle.std.proofs.Common.{[], ◌∷◌, ◌++◌, ◌∙◌}
-use Rattle.pua_path.specs.declared.found.Last.TheVariants.{Followed}
+use Rattle.pua_why.proofs.Common.{[], ◌∷◌, ◌++◌, ◌∙◌, Followed, trace_of_text, is_locked, working_dir, unveil, promising, Sole, facts_named}
 use Rattle.pua_path.specs.declared.text.Ending.TheVariants.{Dot}
-use Rattle.pua_path.specs.Traces.{trace_of_text}
-use Rattle.pua_policy.specs.History.{is_locked, working_dir}
-use Rattle.pua_calls.specs.Promises.{unveil}
-use Rattle.pua_policy.specs.Reasons.{promising}
-use Rattle.pua_script.specs.Decide.{Sole}
-use Rattle.pua_why.specs.Facts.{facts_named}
 use Rattle.pua_why.proofs.Passing.{unveil_named}
 use Rattle.pua_why.proofs.passed.Passed.add_unveil.Goals as goal
 

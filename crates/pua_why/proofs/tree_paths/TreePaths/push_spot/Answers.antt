@@ -1,6 +1,4 @@
-use Rattle.std.proofs.Common.{◌++◌, map, ap, sym, ◌∙◌, string_bytes}
-use Rattle.std.proofs.lemmas.Result.{on_ok_weaker}
-use Rattle.pua_why.specs.Texts.{slashed_names}
+use Rattle.pua_why.proofs.Common.{◌++◌, map, ap, sym, ◌∙◌, string_bytes, on_ok_weaker, slashed_names}
 use Rattle.pua_why.proofs.Adding.{then_more}
 use Rattle.pua_why.proofs.Paths.{spot_is}
 use Rattle.pua_why.proofs.tree_paths.TreePaths.push_spot.Goals as goal
