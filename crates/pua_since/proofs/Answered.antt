@@ -1,16 +1,11 @@
 -- What is written of an answer with its reason.
-use Rattle.std.proofs.Common.{◌≡◌, ◌++◌, List, ℕ, refl, sym, ap, ◌∙◌, append_assoc, Option}
+use Rattle.pua_since.proofs.Common.{◌≡◌, ◌++◌, List, ℕ, refl, sym, ap, ◌∙◌, append_assoc, Option, CallTable, Refusal, Asked, World, apply}
+use Rattle.pua_since.proofs.Common.{Answer, Okay, Ended, reason, date_of, since_text, answer_words}
 use Rattle.std.specs.Prelude.{codes}
-use Rattle.pua_calls.specs.Calls.{CallTable}
-use Rattle.pua_policy.specs.declared.answer.Refusal.{Refusal}
 use Rattle.pua_policy.specs.declared.answer.Refusal.TheVariants as refusal
 use Rattle.pua_script.specs.AnswerTexts.{answer_text}
-use Rattle.pua_script.specs.Requests.{Asked}
-use Rattle.pua_script.specs.Replay.{World, apply}
-use Rattle.pua_script.specs.declared.answer.Answer.{Answer}
-use Rattle.pua_script.specs.declared.answer.Answer.TheVariants.{Okay}
-use Rattle.pua_why.specs.Reasons.{Reason, NeverMade, Ended, Refused, Granted, reason, answer_of, fault_refusal, refusal_answer}
-use Rattle.pua_why.specs.Texts.{date_of, reason_text, since_text, spaced_words, answer_words}
+use Rattle.pua_why.specs.Reasons.{Reason, NeverMade, Refused, Granted, answer_of, fault_refusal, refusal_answer}
+use Rattle.pua_why.specs.Texts.{reason_text, spaced_words}
 use Rattle.pua_why.proofs.ForCallers.{reasons_give_answers}
 
 refused_not_okay : (r : Refusal) → refusal_answer r ≡ Okay → ⊥

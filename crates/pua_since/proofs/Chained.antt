@@ -1,16 +1,10 @@
 -- The lines of facts, each with the line since which its veil is so.
-use Rattle.std.proofs.Common.{◌≡◌, ◌++◌, ℕ, List, [], ◌∷◌, map, flat_map, refl, sym, ap, ◌∙◌, append_assoc, Option, inl, inr}
-use Rattle.std.specs.Prelude.{◌⊎◌}
+use Rattle.pua_since.proofs.Common.{◌≡◌, ◌++◌, ℕ, List, [], ◌∷◌, map, flat_map, refl, sym, ap, ◌∙◌, append_assoc, Option, inl, inr, ◌⊎◌}
+use Rattle.pua_since.proofs.Common.{Tree, CallTable, with_end, Asked, World, world_after, Fact, facts_of, reason, date_of, since_text}
+use Rattle.pua_since.proofs.Common.{answer_words}
 use Rattle.std.proofs.lemmas.Grind.{flat_map-append}
 use Rattle.std.proofs.lemmas.List.{append-nil}
-use Rattle.pua_tree.specs.Tree.{Tree}
-use Rattle.pua_calls.specs.Calls.{CallTable}
-use Rattle.pua_script.specs.AnswerTexts.{with_end}
-use Rattle.pua_script.specs.Requests.{Asked}
-use Rattle.pua_script.specs.Replay.{World, world_after}
-use Rattle.pua_why.specs.Facts.{Fact, facts_of}
-use Rattle.pua_why.specs.Reasons.{reason}
-use Rattle.pua_why.specs.Texts.{answer_why, chain, date_of, fact_dated, fact_text, since_text, veil_since, answer_words}
+use Rattle.pua_why.specs.Texts.{answer_why, chain, fact_dated, fact_text, veil_since}
 use Rattle.pua_since.specs.Dates.{AreDatesOf}
 use Rattle.pua_since.specs.declared.chain.Dates.{Dates}
 

@@ -1,30 +1,19 @@
 -- What is kept of a request that is asked about is since when it has its reason.
-use Rattle.std.proofs.Common.{◌≡◌, ◌≤◌, ℕ, List, length, true, false, refl, sym, ap, subst, ◌∙◌, Option, Some, None, inl, inr}
-use Rattle.std.specs.Prelude.{◌⊎◌, is_some}
-use Rattle.pua_tree.specs.Names.{same_bytes}
+use Rattle.pua_since.proofs.Common.{◌≡◌, ◌≤◌, ℕ, List, length, true, false, refl, sym, ap, subst, ◌∙◌, Option, Some, None, inl, inr, ◌⊎◌}
+use Rattle.pua_since.proofs.Common.{is_some, same_bytes, CallTable, History, Asked, World, history_of, apply, world_after, Action, Answer}
+use Rattle.pua_since.proofs.Common.{Failed, Ended, reason, Test, forebear, since, date_of, reason_since, IsToldOf, IsWatched, is_told}
+use Rattle.pua_since.proofs.Common.{Question, Told, Watch}
 use Rattle.pua_path.specs.declared.errno.Errno.TheVariants.{ENOSPC}
-use Rattle.pua_calls.specs.Calls.{CallTable}
-use Rattle.pua_policy.specs.History.{History}
-use Rattle.pua_script.specs.Requests.{Asked}
-use Rattle.pua_script.specs.Replay.{World, history_of, apply, world_after}
-use Rattle.pua_script.specs.declared.request.Action.{Action}
-use Rattle.pua_script.specs.declared.answer.Answer.{Answer}
-use Rattle.pua_script.specs.declared.answer.Answer.TheVariants.{Failed}
 use Rattle.pua_why.specs.Checked.{reason_checked, granted_by, told_by}
 use Rattle.pua_why.specs.Keys.{reason_key}
 use Rattle.pua_why.specs.Reasons.{Ends, LacksPromises, BadTarget, BadPath, Uncovered, LacksLetters, Unfit, Inside, UnknownPromise}
 use Rattle.pua_why.specs.Reasons.{AsksPromises, IsLocked, UnknownLetter, AsksLetters, NoPlaceLeft, NumberTaken, NoProcessLeft, NoRoom}
-use Rattle.pua_why.specs.Reasons.{Reason, NeverMade, Ended, Refused, Granted, reason, reason_by}
-use Rattle.pua_why.specs.Since.{Test, forebear, since}
-use Rattle.pua_why.specs.Texts.{date_of, has_key, reason_since}
+use Rattle.pua_why.specs.Reasons.{Reason, NeverMade, Refused, Granted, reason_by}
+use Rattle.pua_why.specs.Texts.{has_key}
 use Rattle.pua_why.proofs.ForCallers.{checks_tell}
 use Rattle.pua_since.specs.Dates.{action_asked}
-use Rattle.pua_since.specs.Watched.{IsToldOf, IsWatched, is_told}
-use Rattle.pua_since.specs.declared.watch.Question.{Question}
 use Rattle.pua_since.specs.declared.watch.Question.TheVariants as asks
-use Rattle.pua_since.specs.declared.watch.Told.{Told}
 use Rattle.pua_since.specs.declared.watch.Told.TheVariants as tells
-use Rattle.pua_since.specs.declared.watch.Watch.{Watch}
 use Rattle.pua_since.proofs.Made.{IsMade, stays_itself}
 
 -- two tests that agree everywhere turn on the same line

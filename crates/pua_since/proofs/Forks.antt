@@ -1,16 +1,9 @@
 -- Who a process was, by the forks that were done.
-use Rattle.std.proofs.Common.{◌≡◌, ℕ, zero, suc, min, List, [], ◌∷◌, length, drop, refl, ap, ◌∙◌, arith}
-use Rattle.pua_calls.specs.Calls.{CallTable}
-use Rattle.pua_script.specs.Requests.{Asked}
-use Rattle.pua_script.specs.Replay.{World, answers_to, apply}
-use Rattle.pua_script.specs.Family.{is_okay}
-use Rattle.std.specs.Prelude.{if◌then◌else◌}
-use Rattle.pua_script.specs.declared.answer.Answer.{Answer}
-use Rattle.pua_script.specs.declared.answer.Answer.TheVariants.{Okay, Failed, Killed, Gone}
-use Rattle.pua_script.specs.declared.request.Action.{Action}
-use Rattle.pua_script.specs.declared.request.Action.TheVariants.{Fork}
-use Rattle.pua_why.specs.Since.{parent_by, came_from, forebear}
-use Rattle.pua_since.specs.Watched.{forks_with, fork_told, forks_done, forebear_by}
+use Rattle.pua_since.proofs.Common.{◌≡◌, ℕ, zero, suc, List, [], ◌∷◌, length, drop, refl, ap, ◌∙◌, arith, CallTable, Asked, World}
+use Rattle.pua_since.proofs.Common.{answers_to, apply, is_okay, if◌then◌else◌, Answer, Okay, Failed, Killed, Gone, Action, Fork, parent_by}
+use Rattle.pua_since.proofs.Common.{came_from, forebear, forks_done, forebear_by}
+use Rattle.std.proofs.Common.{min}
+use Rattle.pua_since.specs.Watched.{forks_with, fork_told}
 
 by_fork : (ask : Asked) (action : Action) (forks : List (ℕ × ℕ)) (process : ℕ) →
     forebear_by (forks_with ask action forks) process ≡ parent_by action ask.process (forebear_by forks process)

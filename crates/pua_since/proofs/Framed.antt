@@ -1,38 +1,31 @@
 -- The checks of a request tell the same in a world that differs in rows alone that can't touch it.
-use Rattle.std.proofs.Common.{◌≡◌, ℕ, List, [], ◌∷◌, false, Option, Some, None, option_map, Result, Ok, Err, refl, sym, ap, subst, ◌∙◌}
-use Rattle.std.specs.Prelude.{if◌then◌else◌}
-use Rattle.std.specs.List.{list_any}
-use Rattle.pua_tree.specs.Tree.{Tree, WellFormed}
+use Rattle.pua_since.proofs.Common.{◌≡◌, ℕ, List, [], ◌∷◌, false, Option, Some, None, Result, Ok, Err, refl, sym, ap, subst, ◌∙◌}
+use Rattle.pua_since.proofs.Common.{if◌then◌else◌, list_any, Tree, WellFormed, PathTrace, trace_of_text, Ending, Found, Last, PathFault}
+use Rattle.pua_since.proofs.Common.{CallTable, History, working_dir, perms_kept, Call, Change, NoChange, CopyAs, change_by, World}
+use Rattle.pua_since.proofs.Common.{history_of, Action, OnPath, Symlink, Rename, Link, Pledge, Unveil, Lock, Fork, Exit, Fault, Ended}
+use Rattle.pua_since.proofs.Common.{DifferAt, PathFollowsNone, has_part, or_parts}
+use Rattle.std.proofs.Common.{option_map}
 use Rattle.pua_path.specs.Fits.{node_named}
-use Rattle.pua_path.specs.Traces.{PathTrace, text_fault, trace_of_text}
-use Rattle.pua_path.specs.declared.text.Ending.{Ending}
+use Rattle.pua_path.specs.Traces.{text_fault}
 use Rattle.pua_path.specs.declared.text.Ending.TheVariants as ending
-use Rattle.pua_path.specs.declared.found.Found.{Found}
-use Rattle.pua_path.specs.declared.found.Last.{Last}
 use Rattle.pua_path.specs.declared.found.Last.TheVariants.{Followed}
-use Rattle.pua_path.specs.declared.traced.PathFault.{PathFault}
 use Rattle.pua_calls.specs.Promises.{unveil}
-use Rattle.pua_calls.specs.Calls.{CallTable, PairRule, rule_of, last_of, ending_of}
-use Rattle.pua_policy.specs.History.{History, working_dir, is_ended, is_locked, perms_kept}
+use Rattle.pua_calls.specs.Calls.{PairRule, rule_of, last_of, ending_of}
+use Rattle.pua_policy.specs.History.{is_ended, is_locked}
 use Rattle.pua_policy.specs.Misfits.{Object, IsDir, IsFile, IsProg, IsLink, IsMissing, misfit}
 use Rattle.pua_policy.specs.Reasons.{promising, covering, first_kept}
 use Rattle.pua_policy.specs.Verdict.{is_unveil, object_of, or_fault}
-use Rattle.pua_calls.specs.declared.call.Call.{Call}
 use Rattle.pua_calls.specs.declared.call.Call.TheVariants as call
 use Rattle.pua_policy.specs.declared.reason.Covering.TheVariants.{InView}
-use Rattle.pua_script.specs.Decide.{Change, NoChange, AddNode, CutRow, ShiftRow, TieRow, BeginProgram, AddEvent, CopyAs, Outcome, Side}
-use Rattle.pua_script.specs.Decide.{Sole, Old, New, unless_refused, unless_failed, on_named, fault_if, adding, link_node, change_by}
+use Rattle.pua_script.specs.Decide.{AddNode, CutRow, ShiftRow, TieRow, BeginProgram, AddEvent, Outcome, Side}
+use Rattle.pua_script.specs.Decide.{Sole, Old, New, unless_refused, unless_failed, on_named, fault_if, adding, link_node}
 use Rattle.pua_script.specs.Decide.{object_by, objects_by, link_by, veil_by}
-use Rattle.pua_script.specs.Replay.{World, history_of}
-use Rattle.pua_script.specs.declared.request.Action.{Action}
-use Rattle.pua_script.specs.declared.request.Action.TheVariants.{OnPath, Symlink, Rename, Link, Pledge, Unveil, Lock, Fork, Exit}
-use Rattle.pua_why.specs.Reasons.{Fault, BadTarget, Unfit, IsLocked, Ended, unpromised_fault, told_path, uncovered_fault, faults}
+use Rattle.pua_why.specs.Reasons.{BadTarget, Unfit, IsLocked, unpromised_fault, told_path, uncovered_fault, faults}
 use Rattle.pua_why.specs.Reasons.{change_or_fault, reason_of}
 use Rattle.pua_why.specs.Checked.{process_fault, checks_fault, checked_by}
-use Rattle.pua_since.specs.Frames.{DifferAt, PathFollowsNone, ActionFollowsNone, FollowsNone, has_part, names_part, is_removal}
+use Rattle.pua_since.specs.Frames.{ActionFollowsNone, FollowsNone, names_part, is_removal}
 use Rattle.pua_since.specs.Frames.{looks_further, IsSpared, IsUntouched, RowsSpare}
 use Rattle.pua_since.proofs.FrameWalks.{IsAlike, NamesAlike, IsKept, path_kept}
-use Rattle.std.proofs.lemmas.Bool.{or_parts}
 
 -- how a path of a process goes
 abbrev went : Tree → History → Ending → List ℕ → Last → PathTrace

@@ -1,17 +1,12 @@
 -- Questions that stay at their places.
-use Rattle.std.proofs.Common.{◌≡◌, ◌<◌, ◌+◌, ℕ, List, [], ◌∷◌, ◌++◌, map, length, take, get_or, sym, ap, subst, ◌∙◌, Option, Some, None}
+use Rattle.pua_since.proofs.Common.{◌≡◌, ◌<◌, ◌+◌, ℕ, List, [], ◌∷◌, ◌++◌, map, length, take, get_or, sym, ap, subst, ◌∙◌, Option, Some}
+use Rattle.pua_since.proofs.Common.{None, Place, Asked, AreFactsAt, AreVeilsAt, IsRequestAt, IsVeilAt, IsFactAt, veil_told, Fact}
+use Rattle.pua_since.proofs.Common.{IsKeptThrough, Bor, Action, Watch}
 use Rattle.std.specs.List.{AllZip}
 use Rattle.std.proofs.lemmas.List.{take_more, map-append}
 use Rattle.std.proofs.lemmas.Slice.Zip.{all_zipped_more}
-use Rattle.pua_policy.specs.declared.place.Place.{Place}
-use Rattle.pua_script.specs.Requests.{Asked}
-use Rattle.pua_since.specs.Dates.{AreFactsAt, AreVeilsAt, IsRequestAt, IsVeilAt, IsFactAt, veil_told}
-use Rattle.pua_why.specs.Facts.{Fact}
-use Rattle.pua_since.specs.Watched.{IsTopicAt, IsKeptThrough}
-use Rattle.std.specs.Borrow.{Bor}
-use Rattle.pua_script.specs.declared.request.Action.{Action}
+use Rattle.pua_since.specs.Watched.{IsTopicAt}
 use Rattle.pua_since.specs.declared.watch.Question.TheVariants as asks
-use Rattle.pua_since.specs.declared.watch.Watch.{Watch}
 
 pub kept_all : (watches : List Watch) → IsKeptThrough watches watches
 kept_all watches place process question lines stands = stands

@@ -1,26 +1,22 @@
 -- A line with the bytes of an earlier one asks the same, so its question stands at the same place.
-use Rattle.std.proofs.Common.{◌≡◌, ℕ, Bool, true, false, List, [], ◌∷◌, ◌++◌, refl, sym, ap, subst, ◌∙◌, arith, Option, Some, None, Result}
-use Rattle.std.proofs.Common.{Ok, Err, All}
-use Rattle.std.specs.Prelude.{if◌then◌else◌, ok_or}
+use Rattle.pua_since.proofs.Common.{◌≡◌, ℕ, Bool, true, false, List, [], ◌∷◌, ◌++◌, refl, sym, ap, subst, ◌∙◌, arith, Option, Some, None}
+use Rattle.pua_since.proofs.Common.{Result, Ok, Err, if◌then◌else◌, Bor, Asked, Action, Symlink, Rename, Link, Unveil, Lock, IsRequestAt}
+use Rattle.pua_since.proofs.Common.{IsKeptThrough, Watch}
+use Rattle.std.proofs.Common.{All}
+use Rattle.std.specs.Prelude.{ok_or}
 use Rattle.std.specs.Map.{lookup}
 use Rattle.std.proofs.lemmas.List.Elements.{All-head, All-tail, All-push, All-weaker}
-use Rattle.std.specs.Borrow.{Bor}
 use Rattle.std.specs.List.{list_all}
 use Rattle.std.specs.Result.{result_ok}
 use Rattle.pua_tree.specs.Spelling.{fields, is_field, number_within}
 use Rattle.pua_tree.specs.Steps.{◌>>=◌}
 use Rattle.pua_script.specs.Limits.{most_number}
-use Rattle.pua_script.specs.Requests.{Asked}
 use Rattle.pua_script.specs.Scripts.{Form, PathForm, SymlinkForm, RenameForm, LinkForm, PledgeForm, UnveilForm, ForkForm, ExitForm}
 use Rattle.pua_script.specs.Scripts.{action_of, form_in, given_in, is_dash, path_in, perms_in, request_of, request_of_fields, unveil_of}
 use Rattle.pua_script.specs.Scripts.{with_paths}
 use Rattle.pua_script.specs.declared.fault.ScriptFault.{ScriptFault}
 use Rattle.pua_script.specs.declared.fault.ScriptFault.TheVariants.{BadLine, BadCall, BadPath, BadList}
-use Rattle.pua_script.specs.declared.request.Action.{Action}
-use Rattle.pua_script.specs.declared.request.Action.TheVariants.{Symlink, Rename, Link, Unveil, Lock}
-use Rattle.pua_since.specs.Dates.{AreKnown, IsLineKnown, IsRequestAt}
-use Rattle.pua_since.specs.Watched.{IsKeptThrough}
-use Rattle.pua_since.specs.declared.watch.Watch.{Watch}
+use Rattle.pua_since.specs.Dates.{AreKnown, IsLineKnown}
 use Rattle.pua_since.proofs.Keeping.{request_kept}
 
 -- both read the same, or nothing

@@ -1,12 +1,11 @@
 -- The veils of processes, one process after another.
-use Rattle.std.proofs.Common.{◌≡◌, ◌<◌, ◌+◌, ◌++◌, ℕ, List, [], ◌∷◌, map, flat_map, take, get_or, length, refl, sym, ap, ◌∙◌, Some}
-use Rattle.std.specs.Borrow.{Bor}
+use Rattle.pua_since.proofs.Common.{◌≡◌, ◌<◌, ◌+◌, ◌++◌, ℕ, List, [], ◌∷◌, map, flat_map, take, get_or, length, refl, sym, ap, ◌∙◌, Some}
+use Rattle.pua_since.proofs.Common.{Bor, Place, WorldState, veils_at, with_number}
 use Rattle.std.proofs.lemmas.Grind.{flat_map-append}
 use Rattle.std.proofs.lemmas.List.{take_more, append-nil}
 use Rattle.pua_policy.specs.History.{ProcessState}
-use Rattle.pua_policy.specs.declared.place.Place.{Place}
-use Rattle.pua_script.specs.Worlds.{WorldState, process_at}
-use Rattle.pua_since.specs.Dates.{veils_at, veils_of, with_number}
+use Rattle.pua_script.specs.Worlds.{process_at}
+use Rattle.pua_since.specs.Dates.{veils_of}
 
 -- one element more
 pub flat_more : {A B : Type 0} (f : A → List B) (xs : List A) (k : ℕ) (x : A) → k < length xs →

@@ -1,26 +1,20 @@
 -- A process that was made stays made, so whoever asks in its name later on is itself.
-use Rattle.std.proofs.Common.{◌≡◌, ℕ, List, [], ◌∷◌, Bool, true, false, cond, ◌||◌, refl, ap, ◌∙◌}
-use Rattle.std.specs.Prelude.{is_some, Ok, ◌==◌, nat_le, length}
-use Rattle.std.specs.Ordering.{nat_cmp}
-use Rattle.std.specs.Cmp.{nat_cmp_total}
-use Rattle.std.specs.FinMap.{put, find as find_key, nat_cmp-IsAntisymmetric}
-use Rattle.std.proofs.lemmas.Bool.{eqb-true, eqb-false}
-use Rattle.pua_tree.proofs.ForCallers.{put_here, put_elsewhere}
+use Rattle.pua_since.proofs.Common.{◌≡◌, ℕ, List, [], ◌∷◌, Bool, true, false, cond, refl, ap, ◌∙◌, is_some, ◌==◌, nat_cmp, nat_cmp_total}
+use Rattle.pua_since.proofs.Common.{put, nat_cmp-IsAntisymmetric, eqb-true, put_here, put_elsewhere, CallTable, History, CopyAs, decide}
+use Rattle.pua_since.proofs.Common.{is_okay, World, Effect, Fails, Kills, Leaves, Copies, history_of, apply, left_by, answer_to, Asked}
+use Rattle.pua_since.proofs.Common.{Action, Fork, by_request, parent_by, came_from, forebear}
+use Rattle.std.proofs.Common.{◌||◌}
+use Rattle.std.specs.Prelude.{Ok, nat_le, length}
+use Rattle.std.specs.FinMap.{find as find_key}
+use Rattle.std.proofs.lemmas.Bool.{eqb-false}
 use Rattle.pua_path.specs.declared.errno.Errno.TheVariants.{EAGAIN}
-use Rattle.pua_calls.specs.Calls.{CallTable}
-use Rattle.pua_policy.specs.History.{History, may_any}
+use Rattle.pua_policy.specs.History.{may_any}
 use Rattle.pua_calls.specs.Promises.{proc}
 use Rattle.pua_policy.specs.declared.answer.May.{May}
 use Rattle.pua_policy.specs.declared.answer.May.TheVariants as may
-use Rattle.pua_script.specs.Decide.{CopyAs, if_may, decide}
-use Rattle.pua_script.specs.Family.{is_okay}
+use Rattle.pua_script.specs.Decide.{if_may}
 use Rattle.pua_script.specs.Limits.{most_processes}
-use Rattle.pua_script.specs.Replay.{World, Effect, Fails, Kills, Leaves, Copies, history_of, apply, left_by, answer_to, come_of, do_decided}
-use Rattle.pua_script.specs.Requests.{Asked}
-use Rattle.pua_script.specs.declared.request.Action.{Action}
-use Rattle.pua_script.specs.declared.request.Action.TheVariants.{Fork}
-use Rattle.pua_script.proofs.ForCallers.{by_request}
-use Rattle.pua_why.specs.Since.{parent_by, came_from, forebear}
+use Rattle.pua_script.specs.Replay.{come_of, do_decided}
 
 -- the number has a history
 abbrev pub IsMade : World → ℕ → Type 0

@@ -1,21 +1,17 @@
 -- The places of the questions of requests, one request after another.
-use Rattle.std.proofs.Common.{◌≡◌, ◌≤◌, ◌+◌, ℕ, suc, List, [], ◌∷◌, Bool, true, false, length, take, refl, sym, ap, subst, ◌∙◌, add-one}
-use Rattle.std.proofs.Common.{Result, Ok, Err, inl, inr}
-use Rattle.std.specs.Prelude.{◌⊎◌, if◌then◌else◌, nat_lt}
+use Rattle.pua_since.proofs.Common.{◌≡◌, ◌≤◌, ◌+◌, ℕ, suc, List, [], ◌∷◌, Bool, true, false, length, take, refl, sym, ap, subst, ◌∙◌}
+use Rattle.pua_since.proofs.Common.{Result, Ok, Err, inl, inr, ◌⊎◌, if◌then◌else◌, take_all, Asked, requests_of, Answer, Okay, Failed}
+use Rattle.pua_since.proofs.Common.{Killed, Gone, ArePlacesOf, IsRequestAt, IsKeptThrough, Watch}
+use Rattle.std.proofs.Common.{add-one}
+use Rattle.std.specs.Prelude.{nat_lt}
 use Rattle.std.specs.Str.Lines.{lines}
-use Rattle.std.proofs.lemmas.List.{take_all}
 use Rattle.std.proofs.lemmas.Bool.{ltb-false}
 use Rattle.pua_tree.specs.Steps.{◌>>=◌}
 use Rattle.pua_script.specs.Limits.{most_script_lines}
-use Rattle.pua_script.specs.Requests.{Asked}
-use Rattle.pua_script.specs.Scripts.{request_of, requests_of, script}
-use Rattle.pua_script.specs.declared.answer.Answer.{Answer}
-use Rattle.pua_script.specs.declared.answer.Answer.TheVariants.{Okay, Failed, Killed, Gone}
+use Rattle.pua_script.specs.Scripts.{request_of, script}
 use Rattle.pua_script.specs.declared.fault.ScriptFault.{ScriptFault}
 use Rattle.pua_script.specs.declared.fault.ScriptFault.TheVariants.{TooMany}
-use Rattle.pua_since.specs.Dates.{ArePlacesOf, IsRequestAt, PlacesFrom}
-use Rattle.pua_since.specs.Watched.{IsKeptThrough}
-use Rattle.pua_since.specs.declared.watch.Watch.{Watch}
+use Rattle.pua_since.specs.Dates.{PlacesFrom}
 use Rattle.pua_since.proofs.Keeping.{request_kept}
 
 -- the requests of a script are those of all its lines

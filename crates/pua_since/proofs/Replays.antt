@@ -1,20 +1,13 @@
 -- The requests of a replay are served one after another.
-use Rattle.std.proofs.Common.{◌≡◌, ℕ, zero, suc, ◌+◌, ◌<◌, ◌≤◌, List, [], ◌∷◌, ◌++◌, length, take, drop, get_or, refl, sym, ap, subst, ◌∙◌}
-use Rattle.std.proofs.Common.{arith}
+use Rattle.pua_since.proofs.Common.{◌≡◌, ℕ, zero, suc, ◌+◌, ◌<◌, ◌≤◌, List, [], ◌∷◌, ◌++◌, length, take, drop, get_or, refl, sym, ap, subst}
+use Rattle.pua_since.proofs.Common.{◌∙◌, arith, take_all, CallTable, Asked, World, answers_to, apply, world_after, WorldState}
+use Rattle.pua_since.proofs.Common.{StandsForWorld, Answer, AreWatched, IsKeptThrough, Watches, one_request_more}
 use Rattle.std.specs.List.{enumerate_from, zip}
 use Rattle.std.proofs.Math.Seq.{drop-cons, take-suc}
-use Rattle.std.proofs.lemmas.List.{length-take, take_all, drop_all}
+use Rattle.std.proofs.lemmas.List.{length-take, drop_all}
 use Rattle.std.proofs.lemmas.List.FromFn.{length-enumerate_from, get_or-enumerate_from}
 use Rattle.std.proofs.lemmas.Slice.Zip.{length-zip, get_or-zip}
-use Rattle.pua_calls.specs.Calls.{CallTable}
-use Rattle.pua_script.specs.Requests.{Asked}
-use Rattle.pua_script.specs.Replay.{World, answers_to, apply, world_after}
-use Rattle.pua_script.specs.Worlds.{WorldState, StandsForWorld}
-use Rattle.pua_script.specs.declared.answer.Answer.{Answer}
-use Rattle.pua_since.specs.Watched.{AreWatched, IsKeptThrough}
-use Rattle.pua_since.specs.declared.watches.Watches.{Watches}
 use Rattle.pua_since.proofs.Keeping.{kept_twice}
-use Rattle.pua_script.proofs.ForCallers.{one_request_more}
 
 -- where this turn's request and answer stand
 pub one_turn : (asks : List Asked) (told : List Answer) (n index : ℕ) (ask : Asked) (answer : Answer) →

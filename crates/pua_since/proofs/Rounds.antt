@@ -1,22 +1,16 @@
 -- One question after another is asked again.
-use Rattle.std.proofs.Common.{◌≡◌, ℕ, ◌+◌, ◌<◌, ◌≤◌, ◌≢◌, List, [], ◌∷◌, ◌++◌, length, set, get_or, refl, sym, ap, subst, ◌∙◌, arith}
+use Rattle.pua_since.proofs.Common.{◌≡◌, ℕ, ◌+◌, ◌<◌, ◌≤◌, ◌≢◌, List, [], ◌∷◌, ◌++◌, length, set, get_or, refl, sym, ap, subst, ◌∙◌, arith}
+use Rattle.pua_since.proofs.Common.{Asked, World, answers_to, apply, world_after, WorldState, StandsForWorld, TouchesOnly, AreHanded}
+use Rattle.pua_since.proofs.Common.{AreWatched, forks_done, made_by, IsHanded, IsKeptThrough, IsSameTopic, IsWatched, Touched, Watch}
+use Rattle.pua_since.proofs.Common.{Watches, one_request_more}
 use Rattle.std.specs.List.{AllWithin}
 use Rattle.std.proofs.lemmas.List.{length-set, get_or-set_other}
 use Rattle.std.proofs.lemmas.List.Elements.{All-same, AllWithin-more_set}
 use Rattle.std.proofs.lemmas.Option.{slice_get_read}
-use Rattle.pua_script.specs.Requests.{Asked}
-use Rattle.pua_script.specs.Replay.{World, answers_to, apply, world_after}
-use Rattle.pua_script.specs.Worlds.{WorldState, StandsForWorld}
-use Rattle.pua_since.specs.Concerns.{TouchesOnly}
-use Rattle.pua_since.specs.Watched.{AreHanded, AreWatched, forks_done, made_by, IsAskedOnce, IsHanded, IsKeptThrough, IsSameTopic}
-use Rattle.pua_since.specs.Watched.{IsWatched}
-use Rattle.pua_since.specs.declared.touched.Touched.{Touched}
-use Rattle.pua_since.specs.declared.watch.Watch.{Watch}
-use Rattle.pua_since.specs.declared.watches.Watches.{Watches}
+use Rattle.pua_since.specs.Watched.{IsAskedOnce}
 use Rattle.pua_since.proofs.Topics.{kept_by_set}
 use Rattle.pua_since.proofs.Watching.{asked_or_spared}
 use Rattle.pua_since.proofs.Keeping.{kept_twice}
-use Rattle.pua_script.proofs.ForCallers.{one_request_more}
 
 -- the first n were asked again where that may concern them, and the others not yet
 pub record AreAsked (s : WorldState) (touched : Touched) (line n : ℕ) (start : Watches) (watches : List Watch) : Type 0 where

@@ -1,29 +1,22 @@
 -- What a question is told stays, where what was touched doesn't concern it.
-use Rattle.std.proofs.Common.{◌≡◌, ℕ, List, Bool, true, false, Some, None, Option, Ok, Err, refl, sym, ap, subst, ◌∙◌}
-use Rattle.std.specs.Prelude.{IsTrue, not, ◌&&◌, ◌==◌, nat_le, if◌then◌else◌}
-use Rattle.std.specs.Option.{option_eq, option_map_or}
-use Rattle.std.proofs.lemmas.Bool.{false≢true, or_parts}
-use Rattle.pua_tree.specs.Names.{same_bytes}
-use Rattle.pua_calls.specs.Calls.{CallTable}
-use Rattle.pua_policy.specs.History.{History, is_ended, perms_kept}
+use Rattle.pua_since.proofs.Common.{◌≡◌, ℕ, List, Bool, true, false, Some, None, Option, Ok, Err, refl, sym, ap, subst, ◌∙◌, IsTrue, not}
+use Rattle.pua_since.proofs.Common.{◌&&◌, ◌==◌, if◌then◌else◌, option_eq, option_map_or, false≢true, or_parts, same_bytes, CallTable}
+use Rattle.pua_since.proofs.Common.{History, perms_kept, Change, NoChange, CopyAs, World, history_of, Action, Fault, Ended, is_marked}
+use Rattle.pua_since.proofs.Common.{mark_of, IsToldOf, is_told, kept_in, Touched, Question, Told, Watch}
+use Rattle.std.specs.Prelude.{nat_le}
+use Rattle.pua_policy.specs.History.{is_ended}
 use Rattle.pua_policy.specs.Verdict.{or_fault}
 use Rattle.pua_script.specs.Limits.{most_processes}
-use Rattle.pua_script.specs.Decide.{Change, NoChange, AddNode, CutRow, ShiftRow, TieRow, BeginProgram, AddEvent, CopyAs, Outcome, fault_if}
-use Rattle.pua_script.specs.Replay.{World, history_of}
-use Rattle.pua_script.specs.declared.request.Action.{Action}
+use Rattle.pua_script.specs.Decide.{AddNode, CutRow, ShiftRow, TieRow, BeginProgram, AddEvent, Outcome, fault_if}
 use Rattle.pua_why.specs.Checked.{reason_checked, checked_by, checks_fault, process_fault}
 use Rattle.pua_why.specs.Keys.{reason_key}
-use Rattle.pua_why.specs.Reasons.{Fault, NumberTaken, NoProcessLeft, Ended, reason_of, change_or_fault}
+use Rattle.pua_why.specs.Reasons.{NumberTaken, NoProcessLeft, reason_of, change_or_fault}
 use Rattle.pua_since.specs.Frames.{FollowsNone, IsUntouched}
-use Rattle.pua_since.specs.Concerns.{ChangesOnly, ChangesProcess, ChangesRows, is_bounded, is_concerned, is_marked, is_named, mark_of}
-use Rattle.pua_since.specs.Watched.{AreMarked, IsPlain, IsToldOf, is_told, kept_in}
-use Rattle.pua_since.specs.declared.touched.Touched.{Touched}
+use Rattle.pua_since.specs.Concerns.{ChangesOnly, ChangesProcess, ChangesRows, is_bounded, is_concerned, is_named}
+use Rattle.pua_since.specs.Watched.{AreMarked, IsPlain}
 use Rattle.pua_since.specs.declared.touched.Touched.TheVariants.{Nothing, Row, Process, Anything}
-use Rattle.pua_since.specs.declared.watch.Question.{Question}
 use Rattle.pua_since.specs.declared.watch.Question.TheVariants as asks
-use Rattle.pua_since.specs.declared.watch.Told.{Told}
 use Rattle.pua_since.specs.declared.watch.Told.TheVariants as tells
-use Rattle.pua_since.specs.declared.watch.Watch.{Watch}
 use Rattle.pua_since.proofs.Framed.{rows_spare}
 
 -- two worlds tell the same of a question

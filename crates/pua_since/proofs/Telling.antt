@@ -1,26 +1,17 @@
 -- The lines of a run with reasons, one request after another.
-use Rattle.std.proofs.Common.{◌≡◌, ◌+◌, ℕ, suc, List, [], ◌∷◌, ◌++◌, length, flat_map, refl, sym, ap, subst, ◌∙◌, append_assoc, append-nil}
-use Rattle.std.proofs.Common.{add-one, Option, inl, inr}
-use Rattle.std.specs.Prelude.{◌⊎◌, decimal}
+use Rattle.pua_since.proofs.Common.{◌≡◌, ◌+◌, ℕ, suc, List, [], ◌∷◌, ◌++◌, length, flat_map, refl, sym, ap, subst, ◌∙◌, append_assoc}
+use Rattle.pua_since.proofs.Common.{append-nil, Option, inl, inr, ◌⊎◌, CallTable, with_end, Asked, World, answers_to, apply, world_after}
+use Rattle.pua_since.proofs.Common.{WorldState, StandsForWorld, Answer, Okay, Failed, Killed, Gone, reason, date_of, reason_since}
+use Rattle.pua_since.proofs.Common.{since_text, answer_words, ArePlacesOf, AreWatched, IsKeptThrough, Watch, Watches, one_request_more}
+use Rattle.std.proofs.Common.{add-one}
+use Rattle.std.specs.Prelude.{decimal}
 use Rattle.std.proofs.lemmas.List.{length_push}
-use Rattle.pua_calls.specs.Calls.{CallTable}
-use Rattle.pua_script.specs.AnswerTexts.{with_end}
-use Rattle.pua_script.specs.Requests.{Asked}
-use Rattle.pua_script.specs.Replay.{World, answers_to, apply, world_after}
-use Rattle.pua_script.specs.Worlds.{WorldState, StandsForWorld}
-use Rattle.pua_script.specs.declared.answer.Answer.{Answer}
-use Rattle.pua_script.specs.declared.answer.Answer.TheVariants.{Okay, Failed, Killed, Gone}
-use Rattle.pua_why.specs.Reasons.{reason}
-use Rattle.pua_why.specs.Texts.{answer_why, date_of, reason_since, since_text, why_lines, answer_words}
-use Rattle.pua_since.specs.Dates.{ArePlacesOf, question_line, places_left}
-use Rattle.pua_since.specs.Watched.{AreWatched, IsKeptThrough}
-use Rattle.pua_since.specs.declared.watch.Watch.{Watch}
-use Rattle.pua_since.specs.declared.watches.Watches.{Watches}
+use Rattle.pua_why.specs.Texts.{answer_why, why_lines}
+use Rattle.pua_since.specs.Dates.{question_line, places_left}
 use Rattle.pua_since.proofs.Answered.{okay_is_granted}
 use Rattle.pua_since.proofs.Keeping.{kept_all, kept_twice}
 use Rattle.pua_since.proofs.Placing.{places_kept}
 use Rattle.pua_since.proofs.Veiled.{request_at}
-use Rattle.pua_script.proofs.ForCallers.{one_request_more}
 
 -- since when the next request has its reason
 next_date : (table : CallTable) (w : World) (past left : List Asked) (s : Watches) → AreWatched table w past left s →

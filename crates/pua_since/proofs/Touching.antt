@@ -1,45 +1,33 @@
 -- A request changes no more than what it touches.
-use Rattle.std.proofs.Common.{◌≡◌, ◌≢◌, ℕ, ◌+◌, List, ◌∷◌, Bool, true, false, cond, length, Some, None, Option, Ok, Err, refl, sym, ap}
-use Rattle.std.proofs.Common.{subst, ◌∙◌, eq-eqb}
-use Rattle.std.specs.Prelude.{◌==◌, IsTrue, Result, is_some, not}
-use Rattle.std.specs.Option.{option_eq}
-use Rattle.std.specs.Ordering.{nat_cmp}
-use Rattle.std.specs.Cmp.{nat_cmp_total}
-use Rattle.std.specs.FinMap.{put, is_sorted, nat_cmp-IsAntisymmetric}
+use Rattle.pua_since.proofs.Common.{◌≡◌, ◌≢◌, ℕ, ◌+◌, List, ◌∷◌, Bool, true, false, cond, length, Some, None, Option, Ok, Err, refl, sym}
+use Rattle.pua_since.proofs.Common.{ap, subst, ◌∙◌, ◌==◌, IsTrue, is_some, not, option_eq, nat_cmp, nat_cmp_total, put, is_sorted}
+use Rattle.pua_since.proofs.Common.{nat_cmp-IsAntisymmetric, false≢true, eqb-true, Tree, Node, WellFormed, is_dir, is_dir_kind, look}
+use Rattle.pua_since.proofs.Common.{put_here, put_elsewhere, Ending, Last, Found, CallTable, History, working_dir, Refusal, Call, Asked}
+use Rattle.pua_since.proofs.Common.{Change, NoChange, change_by, decide, World, Effect, Fails, Kills, Leaves, Copies, apply, history_of}
+use Rattle.pua_since.proofs.Common.{answer_to, left_by, Answer, Action, OnPath, Symlink, Rename, Link, Pledge, Unveil, Lock, Fork, Exit}
+use Rattle.pua_since.proofs.Common.{by_request, has_forked, DifferAt, TouchesOnly, mark_of, Touched}
+use Rattle.std.proofs.Common.{eq-eqb}
+use Rattle.std.specs.Prelude.{Result}
 use Rattle.std.specs.FinMap.Entries.{length-put}
-use Rattle.std.proofs.lemmas.Bool.{false≢true, and_parts, not-true, eqb-true}
-use Rattle.pua_tree.specs.Tree.{Tree, Node, WellFormed, is_dir, is_dir_kind, look}
+use Rattle.std.proofs.lemmas.Bool.{and_parts, not-true}
 use Rattle.pua_tree.specs.Edits.{add, tie, cut}
-use Rattle.pua_tree.proofs.ForCallers.{put_here, put_elsewhere}
 use Rattle.pua_tree.specs.declared.fault.TreeFault.{TreeFault}
 use Rattle.pua_path.specs.Fits.{FoundFits, spot_named}
 use Rattle.pua_path.specs.Resolution.{resolution_of_text}
-use Rattle.pua_path.specs.declared.text.Ending.{Ending}
 use Rattle.pua_path.specs.declared.text.Ending.TheVariants as ending
-use Rattle.pua_path.specs.declared.found.Last.{Last}
-use Rattle.pua_path.specs.declared.found.Found.{Found}
 use Rattle.pua_path.specs.declared.found.Found.TheVariants.{Whole, Slot}
-use Rattle.pua_calls.specs.Calls.{CallTable, ending_of, last_of}
-use Rattle.pua_policy.specs.History.{History, Ended, working_dir}
-use Rattle.pua_policy.specs.declared.answer.Refusal.{Refusal}
+use Rattle.pua_calls.specs.Calls.{ending_of, last_of}
+use Rattle.pua_policy.specs.History.{Ended}
 use Rattle.pua_policy.specs.declared.answer.Refusal.TheVariants as refusals
-use Rattle.pua_calls.specs.declared.call.Call.{Call}
 use Rattle.pua_calls.specs.declared.call.Call.TheVariants as call
-use Rattle.pua_script.specs.Requests.{Asked}
-use Rattle.pua_script.specs.Decide.{Change, NoChange, adding, removing, tying, going, change_by, link_node, plain_node, decide}
+use Rattle.pua_script.specs.Decide.{adding, removing, tying, going, link_node, plain_node}
 use Rattle.pua_script.specs.Guards.{IsDecided}
-use Rattle.pua_script.specs.Replay.{World, Effect, Fails, Kills, Leaves, Copies, apply, history_of, with_history, answer_to, left_by}
+use Rattle.pua_script.specs.Replay.{with_history}
 use Rattle.pua_script.specs.Replay.{change_effect, edit_effect, edited_tree, refusal_effect}
-use Rattle.pua_script.specs.declared.answer.Answer.{Answer}
 use Rattle.pua_script.specs.declared.answer.Answer.TheVariants as answers
-use Rattle.pua_script.specs.declared.request.Action.{Action}
-use Rattle.pua_script.specs.declared.request.Action.TheVariants.{OnPath, Symlink, Rename, Link, Pledge, Unveil, Lock, Fork, Exit}
-use Rattle.pua_script.proofs.ForCallers.{by_request, by_decision, decisions_are_guarded, name_fits}
-use Rattle.pua_since.specs.Changes.{has_forked}
-use Rattle.pua_since.specs.Frames.{DifferAt}
-use Rattle.pua_since.specs.Concerns.{ChangesOnly, ChangesProcess, TouchesOnly, action_touches, is_bounded, mark_of, row_by, row_touched}
+use Rattle.pua_script.proofs.ForCallers.{by_decision, decisions_are_guarded, name_fits}
+use Rattle.pua_since.specs.Concerns.{ChangesOnly, ChangesProcess, action_touches, is_bounded, row_by, row_touched}
 use Rattle.pua_since.specs.Concerns.{row_with, touched_by}
-use Rattle.pua_since.specs.declared.touched.Touched.{Touched}
 use Rattle.pua_since.specs.declared.touched.Touched.TheVariants.{Nothing, Row, Process, Anything}
 use Rattle.pua_since.proofs.Differing.{adding_differs, cutting_differs, tying_differs}
 use Rattle.pua_since.proofs.Unchanged.{put_there}

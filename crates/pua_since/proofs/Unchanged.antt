@@ -1,28 +1,20 @@
 -- A request that can't have changed a world leaves it as it is.
-use Rattle.std.proofs.Common.{◌≡◌, ℕ, List, false, cond, Some, Ok, refl, sym, ap, ◌∙◌}
-use Rattle.std.specs.Prelude.{IsTrue, T}
+use Rattle.pua_since.proofs.Common.{◌≡◌, ℕ, List, false, cond, Some, Ok, refl, sym, ap, ◌∙◌, IsTrue, nat_cmp, nat_cmp_total, put, is_sorted}
+use Rattle.pua_since.proofs.Common.{nat_cmp-IsAntisymmetric, Found, CallTable, History, Call, Refusal, Asked, Change, NoChange, change_by}
+use Rattle.pua_since.proofs.Common.{decide, World, apply, Effect, Fails, Kills, Leaves, Copies, history_of, answer_to, left_by, Answer}
+use Rattle.pua_since.proofs.Common.{Action, OnPath, Symlink, Rename, Link, Pledge, Unveil, Lock, Fork, Exit, by_request, has_changed}
+use Rattle.std.specs.Prelude.{T}
 use Rattle.std.specs.declared.cmp.Ordering.{Ordering}
 use Rattle.std.specs.declared.cmp.Ordering.TheVariants.{Less, Equal, Greater}
-use Rattle.std.specs.Ordering.{nat_cmp, is_eq}
-use Rattle.std.specs.Cmp.{nat_cmp_total}
-use Rattle.std.specs.FinMap.{put, find as find_key, is_sorted, nat_cmp-IsAntisymmetric}
+use Rattle.std.specs.Ordering.{is_eq}
+use Rattle.std.specs.FinMap.{find as find_key}
 use Rattle.std.specs.FinMap.Entries.{find-put, find_tied, is_sorted-put, same_entries}
-use Rattle.pua_path.specs.declared.found.Found.{Found}
-use Rattle.pua_calls.specs.Calls.{CallTable}
-use Rattle.pua_policy.specs.History.{History}
-use Rattle.pua_calls.specs.declared.call.Call.{Call}
 use Rattle.pua_calls.specs.declared.call.Call.TheVariants as call
-use Rattle.pua_policy.specs.declared.answer.Refusal.{Refusal}
 use Rattle.pua_policy.specs.declared.answer.Refusal.TheVariants.{Failed, Killed}
-use Rattle.pua_script.specs.Requests.{Asked}
-use Rattle.pua_script.specs.Decide.{Change, NoChange, change_by, decide}
-use Rattle.pua_script.specs.Replay.{World, apply, Effect, Fails, Kills, Leaves, Copies, history_of, answer_to, left_by, change_effect}
+use Rattle.pua_script.specs.Replay.{change_effect}
 use Rattle.pua_script.specs.Replay.{refusal_effect}
-use Rattle.pua_script.specs.declared.answer.Answer.{Answer}
-use Rattle.pua_script.specs.declared.request.Action.{Action}
-use Rattle.pua_script.specs.declared.request.Action.TheVariants.{OnPath, Symlink, Rename, Link, Pledge, Unveil, Lock, Fork, Exit}
-use Rattle.pua_script.proofs.ForCallers.{by_request, by_decision, decisions_are_guarded}
-use Rattle.pua_since.specs.Changes.{call_changes, action_changes, has_changed, LeavesAsIs}
+use Rattle.pua_script.proofs.ForCallers.{by_decision, decisions_are_guarded}
+use Rattle.pua_since.specs.Changes.{call_changes, action_changes, LeavesAsIs}
 use Rattle.std.specs.Bool.{passes}
 
 -- putting what is there

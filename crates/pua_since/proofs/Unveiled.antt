@@ -1,38 +1,28 @@
 -- What a fact tells of a veil is so, and is so since the line that is kept of it.
-use Rattle.std.proofs.Common.{◌≡◌, ℕ, Bool, true, false, List, [], ◌∷◌, ◌++◌, length, map, refl, sym, ap, subst, ◌∙◌, Option, Some, None}
-use Rattle.std.proofs.Common.{Result, Ok, Err}
-use Rattle.std.specs.Prelude.{⊤, if◌then◌else◌}
+use Rattle.pua_since.proofs.Common.{◌≡◌, ℕ, Bool, true, false, List, [], ◌∷◌, ◌++◌, length, map, refl, sym, ap, subst, ◌∙◌, Option, Some}
+use Rattle.pua_since.proofs.Common.{None, Result, Ok, Err, if◌then◌else◌, option_map_or, Tree, Spot, Ending, Found, PathFault, PathTrace}
+use Rattle.pua_since.proofs.Common.{trace_of_text, CallTable, History, perms_kept, working_dir, Call, Asked, World, history_of, world_after}
+use Rattle.pua_since.proofs.Common.{Action, OnPath, Symlink, Rename, Link, Pledge, Unveil, Lock, Fork, Exit, Fact, facts_of, Fault}
+use Rattle.pua_since.proofs.Common.{AreFactsAt, IsFactAt, fact_line, veil_told, AreWatched, kept_in, Watches}
+use Rattle.std.specs.Prelude.{⊤}
 use Rattle.std.specs.List.{AllByRecursion}
-use Rattle.std.specs.Option.{option_map_or}
-use Rattle.pua_tree.specs.Tree.{Tree, Spot}
 use Rattle.pua_path.specs.declared.text.Ending.TheVariants as ending
-use Rattle.pua_path.specs.declared.text.Ending.{Ending}
 use Rattle.pua_path.specs.declared.found.Last.TheVariants.{Followed}
-use Rattle.pua_path.specs.declared.found.Found.{Found}
-use Rattle.pua_path.specs.declared.traced.PathFault.{PathFault}
-use Rattle.pua_path.specs.Traces.{PathTrace, trace_of_text}
 use Rattle.pua_calls.specs.Promises.{proc, unveil}
-use Rattle.pua_calls.specs.Calls.{CallTable, PairRule, rule_of}
-use Rattle.pua_policy.specs.History.{History, is_locked, perms_kept, working_dir}
+use Rattle.pua_calls.specs.Calls.{PairRule, rule_of}
+use Rattle.pua_policy.specs.History.{is_locked}
 use Rattle.pua_policy.specs.Reasons.{Promising, Holds, HasEnded, Lacks, promising, covering}
 use Rattle.pua_policy.specs.ReasonLaws.{CoveringHolds}
-use Rattle.pua_calls.specs.declared.call.Call.{Call}
 use Rattle.pua_calls.specs.declared.call.Call.TheVariants as call
 use Rattle.pua_policy.specs.declared.reason.Covering.{Covering}
 use Rattle.pua_policy.specs.declared.reason.Covering.TheVariants.{InView, NoneOver, By}
 use Rattle.pua_policy.proofs.ForCallers.{coverings_hold}
 use Rattle.pua_script.specs.Decide.{Side, Sole, Old, New}
-use Rattle.pua_script.specs.Requests.{Asked}
-use Rattle.pua_script.specs.Replay.{World, history_of, world_after}
-use Rattle.pua_script.specs.declared.request.Action.{Action}
-use Rattle.pua_script.specs.declared.request.Action.TheVariants.{OnPath, Symlink, Rename, Link, Pledge, Unveil, Lock, Fork, Exit}
-use Rattle.pua_why.specs.Facts.{Fact, Needs, Follows, Names, Under, needing, facts_promised, facts_found, facts_named, facts_covered}
-use Rattle.pua_why.specs.Facts.{facts_under, call_trace, call_facts, name_trace, names_facts, pair_facts, facts, facts_of}
-use Rattle.pua_why.specs.Reasons.{Fault, uncovered_fault}
+use Rattle.pua_why.specs.Facts.{Needs, Follows, Names, Under, needing, facts_promised, facts_found, facts_named, facts_covered}
+use Rattle.pua_why.specs.Facts.{facts_under, call_trace, call_facts, name_trace, names_facts, pair_facts, facts}
+use Rattle.pua_why.specs.Reasons.{uncovered_fault}
 use Rattle.pua_why.specs.Texts.{veil_since}
-use Rattle.pua_since.specs.Dates.{AreFactsAt, IsFactAt, fact_line, letters_date, veil_told}
-use Rattle.pua_since.specs.Watched.{AreWatched, kept_in}
-use Rattle.pua_since.specs.declared.watches.Watches.{Watches}
+use Rattle.pua_since.specs.Dates.{letters_date}
 use Rattle.pua_since.proofs.Veiled.{veil_at}
 
 abbrev CoverKept : History → Covering → Type 0

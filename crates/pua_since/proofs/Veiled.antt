@@ -1,25 +1,15 @@
 -- What is kept at a place is since when a veil has its letters, or a request its reason.
-use Rattle.std.proofs.Common.{◌≡◌, ℕ, List, [], ◌∷◌, length, map, refl, sym, ap, subst, ◌∙◌, Option, Some, None, All}
-use Rattle.std.specs.Prelude.{◌==◌, slice_get, unwrap_or}
-use Rattle.std.specs.Option.{option_eq, option_map_or}
-use Rattle.std.specs.Borrow.{Bor}
-use Rattle.std.proofs.lemmas.Option.{slice_get_within, unwrap_or-slice_get}
-use Rattle.pua_calls.specs.Calls.{CallTable}
-use Rattle.pua_policy.specs.History.{History, perms_kept}
-use Rattle.pua_policy.specs.declared.place.Place.{Place}
-use Rattle.pua_script.specs.Requests.{Asked}
-use Rattle.pua_script.specs.Replay.{World, history_of, world_after}
-use Rattle.pua_why.specs.Reasons.{reason}
-use Rattle.pua_why.specs.Since.{since}
-use Rattle.pua_why.specs.Texts.{date_of, has_veil_on, reason_since}
-use Rattle.pua_since.specs.Dates.{AreVeilsAt, IsRequestAt, action_asked, IsVeilAt, letters_date, place_asked, veil_date}
-use Rattle.pua_since.specs.Watched.{AreWatched, IsToldOf, IsWatched, is_told, kept_in, line_at}
-use Rattle.pua_since.specs.declared.watch.Question.{Question}
+use Rattle.pua_since.proofs.Common.{◌≡◌, ℕ, List, [], ◌∷◌, length, map, refl, sym, ap, subst, ◌∙◌, Option, Some, None, ◌==◌, slice_get}
+use Rattle.pua_since.proofs.Common.{option_eq, option_map_or, Bor, slice_get_within, CallTable, History, perms_kept, Place, Asked, World}
+use Rattle.pua_since.proofs.Common.{history_of, world_after, reason, since, date_of, reason_since, AreVeilsAt, IsRequestAt, IsVeilAt}
+use Rattle.pua_since.proofs.Common.{AreWatched, IsToldOf, IsWatched, is_told, kept_in, line_at, Question, Told, Watch, Watches}
+use Rattle.std.proofs.Common.{All}
+use Rattle.std.specs.Prelude.{unwrap_or}
+use Rattle.std.proofs.lemmas.Option.{unwrap_or-slice_get}
+use Rattle.pua_why.specs.Texts.{has_veil_on}
+use Rattle.pua_since.specs.Dates.{action_asked, letters_date, place_asked, veil_date}
 use Rattle.pua_since.specs.declared.watch.Question.TheVariants as asks
-use Rattle.pua_since.specs.declared.watch.Told.{Told}
 use Rattle.pua_since.specs.declared.watch.Told.TheVariants as tells
-use Rattle.pua_since.specs.declared.watch.Watch.{Watch}
-use Rattle.pua_since.specs.declared.watches.Watches.{Watches}
 use Rattle.pua_since.proofs.Dated.{joined, same_since}
 
 -- what is so of all is so of the one at a place

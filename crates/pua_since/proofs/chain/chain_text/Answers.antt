@@ -1,10 +1,6 @@
-use Rattle.std.proofs.Common.{◌≡◌, ◌∙◌, sym, ap, map, flat_map, subst}
-use Rattle.pua_calls.specs.Calls.{CallTable}
-use Rattle.pua_script.specs.AnswerTexts.{with_end}
-use Rattle.pua_script.specs.Replay.{World as Replayed, apply, world_after}
-use Rattle.pua_script.specs.Worlds.{StandsForWorld}
-use Rattle.pua_why.specs.Facts.{facts_of}
-use Rattle.pua_why.specs.Seen.{fact_seen}
+use Rattle.pua_since.proofs.Common.{◌≡◌, ◌∙◌, sym, ap, map, flat_map, subst, CallTable, with_end, apply, world_after, StandsForWorld}
+use Rattle.pua_since.proofs.Common.{facts_of, fact_seen}
+use Rattle.pua_script.specs.Replay.{World as Replayed}
 use Rattle.pua_why.specs.Texts.{chain}
 use Rattle.pua_since.specs.Dates.{AreDatesOf}
 use Rattle.pua_since.proofs.chain.chain_text.Goals as goal

@@ -1,11 +1,5 @@
-use Rattle.std.proofs.Common.{◌≡◌, ◌∙◌, ap, map, length, [], subst}
-use Rattle.pua_calls.specs.Calls.{CallTable}
-use Rattle.pua_script.specs.Replay.{world_after}
-use Rattle.pua_why.specs.Reasons.{reason}
-use Rattle.pua_why.specs.Seen.{fact_seen}
-use Rattle.pua_why.specs.Texts.{date_of}
-use Rattle.pua_since.specs.Dates.{AreFactsAt, IsRequestAt, fact_line}
-use Rattle.pua_since.specs.Watched.{AreWatched}
+use Rattle.pua_since.proofs.Common.{◌≡◌, ◌∙◌, ap, map, length, [], subst, CallTable, world_after, reason, fact_seen, date_of, AreFactsAt}
+use Rattle.pua_since.proofs.Common.{IsRequestAt, fact_line, AreWatched}
 use Rattle.pua_since.proofs.Keeping.{asked_at, facts_kept, kept_twice, request_kept}
 use Rattle.pua_since.proofs.Veiled.{request_at}
 use Rattle.pua_since.proofs.Unveiled.{facts_at}

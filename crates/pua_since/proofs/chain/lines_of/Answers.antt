@@ -1,13 +1,7 @@
-use Rattle.std.proofs.Common.{◌≡◌, ◌∙◌, ◌++◌, ◌∷◌, [], sym, ap, map, flat_map, append_assoc, append-nil, string_bytes, inl, inr}
-use Rattle.std.specs.Prelude.{◌⊎◌}
-use Rattle.std.specs.Slice.Iter.{iter_rest}
+use Rattle.pua_since.proofs.Common.{◌≡◌, ◌∙◌, ◌++◌, ◌∷◌, [], sym, ap, map, flat_map, append_assoc, append-nil, string_bytes, inl, inr, ◌⊎◌}
+use Rattle.pua_since.proofs.Common.{iter_rest, with_end, apply, world_after, Asked, reason, fact_seen, date_of, since_text, answer_words}
 use Rattle.std.proofs.lemmas.Slice.Zip.{Zip-more, either_empty_from_Zip}
-use Rattle.pua_script.specs.AnswerTexts.{with_end}
-use Rattle.pua_script.specs.Replay.{apply, world_after}
-use Rattle.pua_script.specs.Requests.{Asked}
-use Rattle.pua_why.specs.Reasons.{reason}
-use Rattle.pua_why.specs.Seen.{fact_seen}
-use Rattle.pua_why.specs.Texts.{date_of, fact_dated, since_text, answer_words}
+use Rattle.pua_why.specs.Texts.{fact_dated}
 use Rattle.pua_since.proofs.Chained.{chained, dated_lines, none_left, one_line}
 use Rattle.pua_since.proofs.chain.lines_of.Goals as goal
 

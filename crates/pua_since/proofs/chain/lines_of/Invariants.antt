@@ -1,7 +1,4 @@
-use Rattle.std.proofs.Common.{◌≡◌, ◌++◌, map, flat_map, string_bytes}
-use Rattle.std.specs.Slice.Iter.{iter_rest}
-use Rattle.pua_script.specs.AnswerTexts.{with_end}
-use Rattle.pua_why.specs.Seen.{fact_seen}
+use Rattle.pua_since.proofs.Common.{◌≡◌, ◌++◌, map, flat_map, string_bytes, iter_rest, with_end, fact_seen}
 use Rattle.pua_since.proofs.Chained.{dated_lines}
 use Rattle.pua_since.proofs.chain.lines_of.Given as goal
 

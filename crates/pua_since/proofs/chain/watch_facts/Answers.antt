@@ -1,7 +1,4 @@
-use Rattle.std.proofs.Common.{map, subst, arith}
-use Rattle.std.proofs.lemmas.List.{take_all}
-use Rattle.pua_why.specs.Seen.{fact_seen}
-use Rattle.pua_since.specs.Dates.{AreFactsAt, IsFactAt, veil_told}
+use Rattle.pua_since.proofs.Common.{map, subst, arith, take_all, fact_seen, AreFactsAt, IsFactAt, veil_told}
 use Rattle.pua_since.proofs.Keeping.{fact_kept, kept_all, kept_twice, zipped_more}
 use Rattle.pua_since.proofs.chain.watch_facts.Goals as goal
 

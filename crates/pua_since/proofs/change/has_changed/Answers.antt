@@ -1,5 +1,4 @@
-use Rattle.std.proofs.Common.{sym, ap, ◌∙◌}
-use Rattle.pua_since.specs.Changes.{has_changed}
+use Rattle.pua_since.proofs.Common.{sym, ap, ◌∙◌, has_changed}
 use Rattle.pua_since.proofs.Unchanged.{unchanged_stay}
 use Rattle.pua_since.proofs.change.has_changed.Goals as goal
 

@@ -1,8 +1,7 @@
-use Rattle.std.proofs.Common.{◌≡◌, ◌==◌, true, rules, tests, sym, subst}
-use Rattle.std.specs.List.{list_any}
+use Rattle.pua_since.proofs.Common.{◌≡◌, true, rules, sym, subst, list_any, is_marked}
+use Rattle.std.proofs.Common.{◌==◌, tests}
 use Rattle.std.proofs.lemmas.Iterator.Splits.{YieldsList-from_slice_split}
 use Rattle.std.proofs.lemmas.Iterator.Consumers.{YieldsList-end}
-use Rattle.pua_since.specs.Concerns.{is_marked}
 use Rattle.pua_since.proofs.Parts.{is_piece}
 use Rattle.pua_since.proofs.Marking.{part_is_piece, seen_more}
 use Rattle.pua_since.proofs.marks.with_parts.Goals as goal

@@ -1,9 +1,9 @@
-use Rattle.std.proofs.Common.{◌≡◌, ◌∙◌, ap, sym, ◌++◌, OnOk, string_bytes}
+use Rattle.pua_since.proofs.Common.{◌≡◌, ◌∙◌, ap, sym, ◌++◌, string_bytes, Asked, since_text}
+use Rattle.std.proofs.Common.{OnOk}
 use Rattle.std.proofs.lemmas.Result.{on_ok_weaker}
 use Rattle.pua_script.specs.AnswerTexts.{answer_text}
-use Rattle.pua_script.specs.Requests.{Asked}
 use Rattle.pua_why.specs.Seen.{reason_seen}
-use Rattle.pua_why.specs.Texts.{reason_text, since_text, spaced_words}
+use Rattle.pua_why.specs.Texts.{reason_text, spaced_words}
 use Rattle.pua_why.proofs.ForCallers.{pushed_so}
 use Rattle.pua_since.proofs.Answered.{okay_told, told_in_parts}
 use Rattle.pua_since.proofs.reason_line.push_answer.Goals as goal

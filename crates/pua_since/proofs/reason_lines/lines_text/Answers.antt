@@ -1,11 +1,6 @@
-use Rattle.std.proofs.Common.{◌≡◌, ◌++◌, ◌+◌, ◌∙◌, [], suc, sym, ap, subst, flat_map, append-nil, string_bytes, inl, inr}
-use Rattle.std.specs.Prelude.{◌⊎◌}
-use Rattle.std.specs.Slice.Iter.{iter_rest}
-use Rattle.pua_script.specs.AnswerTexts.{with_end}
-use Rattle.pua_script.specs.Replay.{world_after}
-use Rattle.pua_script.specs.Worlds.{StandsForWorld}
+use Rattle.pua_since.proofs.Common.{◌≡◌, ◌++◌, ◌+◌, ◌∙◌, [], suc, sym, ap, subst, flat_map, append-nil, string_bytes, inl, inr, ◌⊎◌}
+use Rattle.pua_since.proofs.Common.{iter_rest, with_end, world_after, StandsForWorld, AreWatched}
 use Rattle.pua_why.specs.Texts.{why_lines}
-use Rattle.pua_since.specs.Watched.{AreWatched}
 use Rattle.pua_since.proofs.Telling.{IsTurn, all_told, none_told, past_all, turned}
 use Rattle.pua_since.proofs.reason_lines.lines_text.Goals as goal
 use Rattle.std.proofs.lemmas.List.{nil_from_length}

@@ -1,5 +1,4 @@
-use Rattle.std.proofs.Common.{string_bytes}
-use Rattle.std.specs.Slice.Iter.{iter_rest}
+use Rattle.pua_since.proofs.Common.{string_bytes, iter_rest}
 use Rattle.pua_since.proofs.Telling.{IsTold}
 use Rattle.pua_since.proofs.reason_lines.lines_text.Given as goal
 

@@ -1,7 +1,5 @@
-use Rattle.std.proofs.Common.{◌∙◌, sym}
+use Rattle.pua_since.proofs.Common.{◌∙◌, sym, bytes_decides, IsRequestAt}
 use Rattle.indexmap.proofs.CallerLemmas.{insert_entry-new}
-use lib.Pointwise.{bytes_decides}
-use Rattle.pua_since.specs.Dates.{IsRequestAt}
 use Rattle.pua_since.proofs.Keeping.{asked_at}
 use Rattle.pua_since.proofs.Known.{found_request, known_kept, known_more, request_wanted}
 use Rattle.pua_since.proofs.reason_lines.place_of.Goals as goal

@@ -1,10 +1,7 @@
-use Rattle.std.proofs.Common.{◌≡◌, ◌++◌, ◌∷◌, [], ◌∙◌, suc, sym, ap, subst, append_assoc, append-nil, length, Ok, arith, inl, inr}
-use Rattle.std.specs.Prelude.{◌⊎◌}
+use Rattle.pua_since.proofs.Common.{◌≡◌, ◌++◌, ◌∷◌, [], ◌∙◌, suc, sym, ap, subst, append_assoc, append-nil, length, Ok, arith, inl, inr}
+use Rattle.pua_since.proofs.Common.{◌⊎◌, iter_rest, requests_of, ArePlacesOf, IsRequestAt}
 use Rattle.std.specs.Str.Lines.{lines}
-use Rattle.std.specs.Slice.Iter.{iter_rest}
 use Rattle.pua_tree.proofs.ForCallers.{lines_agree}
-use Rattle.pua_script.specs.Scripts.{requests_of}
-use Rattle.pua_since.specs.Dates.{ArePlacesOf, IsRequestAt}
 use Rattle.pua_since.proofs.Keeping.{kept_all, kept_twice, request_kept}
 use Rattle.pua_since.proofs.Placing.{all_read, first_read, none_placed, none_read, passed, placed}
 use Rattle.pua_since.proofs.reason_lines.watch_lines.Goals as goal

@@ -1,12 +1,8 @@
-use Rattle.std.proofs.Common.{◌≡◌, ◌++◌, ℕ, List, [], Ok}
-use Rattle.std.specs.Slice.Iter.{iter_rest}
+use Rattle.pua_since.proofs.Common.{◌≡◌, ◌++◌, ℕ, List, [], Ok, iter_rest, Asked, requests_of, StandsForWorld, ArePlacesOf, AreWatched}
+use Rattle.pua_since.proofs.Common.{IsKeptThrough, Watch}
 use Rattle.pua_script.specs.Replay.{World as Replayed}
-use Rattle.pua_script.specs.Requests.{Asked}
-use Rattle.pua_script.specs.Scripts.{requests_of, script}
-use Rattle.pua_script.specs.Worlds.{StandsForWorld}
-use Rattle.pua_since.specs.Dates.{AreKnown, ArePlacesOf}
-use Rattle.pua_since.specs.Watched.{AreWatched, IsKeptThrough}
-use Rattle.pua_since.specs.declared.watch.Watch.{Watch}
+use Rattle.pua_script.specs.Scripts.{script}
+use Rattle.pua_since.specs.Dates.{AreKnown}
 use Rattle.pua_since.proofs.reason_lines.watch_lines.Given as goal
 
 -- whatever keeps the questions so far has those of the first lines at these places

@@ -1,6 +1,5 @@
-use Rattle.std.proofs.Common.{sym, ap, ◌∙◌}
+use Rattle.pua_since.proofs.Common.{sym, ap, ◌∙◌, working_dir}
 use Rattle.pua_path.specs.Resolution.{resolution}
-use Rattle.pua_policy.specs.History.{working_dir}
 use Rattle.pua_since.specs.Concerns.{row_touched}
 use Rattle.pua_since.proofs.Tracing.{resolves}
 use Rattle.pua_since.proofs.touched.row_from.Goals as goal

@@ -1,5 +1,4 @@
-use Rattle.std.proofs.Common.{◌≡◌, ◌++◌, map, take}
-use Rattle.pua_since.specs.Dates.{veil_seen, with_number}
+use Rattle.pua_since.proofs.Common.{◌≡◌, ◌++◌, map, take, veil_seen, with_number}
 use Rattle.pua_since.proofs.veils.add_veils.Given as goal
 
 abbrev pub invariant-loop-place : goal.invariant-loop-place

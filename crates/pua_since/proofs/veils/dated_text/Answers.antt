@@ -1,7 +1,5 @@
-use Rattle.std.proofs.Common.{◌≡◌, ◌∙◌, [], sym, ap, map, length, subst}
-use Rattle.pua_calls.specs.Calls.{CallTable}
-use Rattle.pua_since.specs.Dates.{ArePlacesOf, AreVeilsAt, veil_seen}
-use Rattle.pua_since.specs.Watched.{AreWatched, line_at}
+use Rattle.pua_since.proofs.Common.{◌≡◌, ◌∙◌, [], sym, ap, map, length, subst, CallTable, ArePlacesOf, AreVeilsAt, veil_seen, AreWatched}
+use Rattle.pua_since.proofs.Common.{line_at}
 use Rattle.pua_since.proofs.Keeping.{kept_twice, veils_kept}
 use Rattle.pua_since.proofs.Veiled.{veils_at}
 use Rattle.pua_since.proofs.veils.dated_text.Goals as goal

@@ -1,5 +1,4 @@
-use Rattle.std.proofs.Common.{◌≡◌, ◌∙◌, ◌++◌, sym, ap, map, flat_map, take, get_or}
-use Rattle.pua_since.specs.Dates.{veil_seen, veils_at, with_number}
+use Rattle.pua_since.proofs.Common.{◌≡◌, ◌∙◌, ◌++◌, sym, ap, map, flat_map, take, get_or, veil_seen, veils_at, with_number}
 use Rattle.pua_since.proofs.Lent.{flat_more, lent_at}
 use Rattle.pua_since.proofs.veils.veils_of.Goals as goal
 

@@ -1,6 +1,4 @@
-use Rattle.std.proofs.Common.{map, subst, refl, arith}
-use Rattle.std.proofs.lemmas.List.{take_all}
-use Rattle.pua_since.specs.Dates.{AreVeilsAt, IsVeilAt, veil_seen}
+use Rattle.pua_since.proofs.Common.{map, subst, refl, arith, take_all, AreVeilsAt, IsVeilAt, veil_seen}
 use Rattle.pua_since.specs.declared.watch.Question.TheVariants as asks
 use Rattle.pua_since.proofs.Keeping.{kept_all, kept_twice, zipped_more}
 use Rattle.pua_since.proofs.veils.watch_veils.Goals as goal

@@ -1,10 +1,5 @@
-use Rattle.std.proofs.Common.{map, take, List, []}
+use Rattle.pua_since.proofs.Common.{map, take, List, [], Asked, StandsForWorld, AreVeilsAt, veil_seen, AreWatched, IsKeptThrough, Watch}
 use Rattle.pua_script.specs.Replay.{World as Replayed}
-use Rattle.pua_script.specs.Requests.{Asked}
-use Rattle.pua_script.specs.Worlds.{StandsForWorld}
-use Rattle.pua_since.specs.Dates.{AreVeilsAt, veil_seen}
-use Rattle.pua_since.specs.Watched.{AreWatched, IsKeptThrough}
-use Rattle.pua_since.specs.declared.watch.Watch.{Watch}
 use Rattle.pua_since.proofs.veils.watch_veils.Given as goal
 
 -- whatever keeps the questions so far has those of the first veils at these places

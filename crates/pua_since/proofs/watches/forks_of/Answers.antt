@@ -1,7 +1,6 @@
-use Rattle.std.proofs.Common.{◌∙◌, ◌++◌, sym, ap, map, List}
+use Rattle.pua_since.proofs.Common.{◌∙◌, ◌++◌, sym, ap, map, List, fork_seen, made_by}
 use Rattle.std.proofs.lemmas.List.{append-nil, reverse-reverse}
 use Rattle.std.proofs.lemmas.Slice.Zip.{zip_end}
-use Rattle.pua_since.specs.Watched.{fork_seen, made_by}
 use Rattle.pua_since.specs.declared.watches.Fork.{Fork}
 use Rattle.pua_since.proofs.Forks.{none_done}
 use Rattle.pua_since.proofs.watches.forks_of.Goals as goal

@@ -1,5 +1,4 @@
-use Rattle.std.proofs.Common.{◌≡◌, ◌++◌, map, drop, length}
-use Rattle.pua_since.specs.Watched.{fork_seen, forks_done}
+use Rattle.pua_since.proofs.Common.{◌≡◌, ◌++◌, map, drop, length, fork_seen, forks_done}
 use Rattle.pua_since.proofs.watches.forks_of.Given as goal
 
 abbrev pub invariant-loop-request : goal.invariant-loop-request

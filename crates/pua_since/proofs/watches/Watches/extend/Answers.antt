@@ -1,7 +1,5 @@
-use Rattle.std.proofs.Common.{◌≡◌, ◌<◌, true, false, Some, ap, length, arith, rules}
-use Rattle.std.specs.Prelude.{slice_get}
-use Rattle.std.proofs.lemmas.Option.{slice_get_read, slice_get_within}
-use Rattle.pua_since.specs.Watched.{IsSameTopic}
+use Rattle.pua_since.proofs.Common.{◌≡◌, ◌<◌, true, false, Some, ap, length, arith, rules, slice_get, slice_get_within, IsSameTopic}
+use Rattle.std.proofs.lemmas.Option.{slice_get_read}
 use Rattle.pua_since.proofs.Topics.{kept_by_set, topic_by_set}
 use Rattle.pua_since.proofs.Handing.{wanted_by_set}
 use Rattle.pua_since.proofs.watches.Watches.extend.Goals as goal

@@ -1,6 +1,5 @@
-use Rattle.std.proofs.Common.{◌∙◌, sym, subst}
+use Rattle.pua_since.proofs.Common.{◌∙◌, sym, subst, WellFormed}
 use Rattle.std.proofs.lemmas.Result.{on_ok_weaker}
-use Rattle.pua_tree.specs.Tree.{WellFormed}
 use Rattle.pua_since.proofs.Handing.{told_stay}
 use Rattle.pua_since.proofs.Serving.{served_watched}
 use Rattle.pua_since.proofs.watches.Watches.serve.Goals as goal

@@ -1,4 +1,4 @@
-use Rattle.std.proofs.Common.{length}
+use Rattle.pua_since.proofs.Common.{length}
 use Rattle.pua_since.proofs.Replays.{AreServedSo}
 use Rattle.pua_since.proofs.watches.Watches.serve_all.Given as goal
 
