@@ -1,31 +1,22 @@
 -- Pairs by places of the alphabet and numbers of calls: they come in the order of their letters' bytes.
-use Rattle.std.proofs.Common.{ℕ, ◌+◌, ◌<◌, ◌≡◌, List, [], ◌∷◌, Option, Some, None, Bool, true, false, cond, refl, ap, arith, sym, ◌∙◌}
-use Rattle.std.proofs.Common.{length, map, get_or, filter, option_map, inl, inr}
-use Rattle.std.specs.Prelude.{IfSome}
-use Rattle.std.proofs.lemmas.Bool.{cases_lt}
-use Rattle.std.specs.Cmp.{nat_cmp_is, tied_itself}
-use Rattle.std.specs.Cmp.Lexicographic.{slice_cmp, nat_list_cmp_total}
-use Rattle.std.specs.List.{AllByRecursion}
-use Rattle.std.specs.Ordering.{nat_cmp, ordering_then, is_lt}
-use Rattle.std.specs.declared.cmp.Ordering.TheVariants.{Less, Equal, Greater}
-use Rattle.pua_tree.specs.Tree.{name_cmp}
-use Rattle.pua_calls.specs.CallSets.{bit_of}
+use Rattle.pua_audit.proofs.Common.{ℕ, ◌+◌, ◌<◌, ◌≡◌, List, [], ◌∷◌, Option, Some, None, Bool, true, false, cond, refl, ap, arith, sym, ◌∙◌}
+use Rattle.pua_audit.proofs.Common.{length, map, get_or, option_map, inl, inr, IfSome, cases_lt, tied_itself, nat_list_cmp_total}
+use Rattle.pua_audit.proofs.Common.{AllByRecursion, nat_cmp, is_lt, Less, Equal, Greater, name_cmp, bit_of, Call, Stat, Lstat, Readlink}
+use Rattle.pua_audit.proofs.Common.{OpenRead, OpenWrite, OpenBoth, Create, Mkdir, Rmdir, Unlink, Symlink, Chmod, Chdir, Exec, pairs_at}
+use Rattle.pua_audit.proofs.Common.{pair_in_numbers, pair_in_letters, Rises, Word, Pair, Scope, pair_cmp, reach, rest_after, word_of}
+use Rattle.pua_audit.proofs.Common.{AreLetters, IsPair}
+use Rattle.std.proofs.Common.{filter}
+use Rattle.std.specs.Cmp.{nat_cmp_is}
+use Rattle.std.specs.Cmp.Lexicographic.{slice_cmp}
+use Rattle.std.specs.Ordering.{ordering_then}
 use Rattle.pua_calls.specs.Calls.{call_number}
-use Rattle.pua_calls.specs.declared.call.Call.{Call}
-use Rattle.pua_calls.specs.declared.call.Call.TheVariants.{Stat, Lstat, Readlink, OpenRead, OpenWrite, OpenBoth, Create, Mkdir, Rmdir}
-use Rattle.pua_calls.specs.declared.call.Call.TheVariants.{Unlink, Symlink, Chmod, Chdir, Exec}
 use Rattle.pua_calls.proofs.ForCallers.{call_at_bit, bit_of_call_at}
-use Rattle.pua_audit.specs.Coming.{call_at, pair_at, pairs_at, pairs_resumed}
-use Rattle.pua_audit.specs.Graphs.{pair_in_numbers, pair_in_letters}
-use Rattle.pua_audit.specs.Laws.{Rises}
-use Rattle.pua_audit.specs.Reach.{Word, Pair, Scope, pair_cmp, reach, rest_after}
-use Rattle.pua_audit.specs.Ready.{word_of}
-use Rattle.pua_audit.specs.Starting.{AreLetters, pair_in}
+use Rattle.pua_audit.specs.Coming.{call_at, pair_at, pairs_resumed}
+use Rattle.pua_audit.specs.Starting.{pair_in}
 use Rattle.pua_audit.specs.declared.resume_text.Resumption.{Resumption}
 use Rattle.pua_audit.proofs.Placing.{later, turned}
 use Rattle.pua_steps.specs.Graph as graph
 use Rattle.pua_steps.specs.Order as order
-use Rattle.pua_steps.specs.Within.{IsPair}
 
 -- the numbers of calls
 

@@ -1,31 +1,20 @@
 -- A word is judged by its path as it is judged letter by letter.
-use Rattle.std.proofs.Common.{◌≡◌, ℕ, zero, suc, Bool, true, false, cond, List, [], ◌∷◌, length, map, refl, sym, ap, ◌∙◌, arith, ◌-◌, ◌*◌}
-use Rattle.std.proofs.Common.{◌≤◌, max, fold, mul-le-mul_right}
-use Rattle.std.specs.Prelude.{Ok, Err, filter}
-use Rattle.std.specs.List.{AllByRecursion}
-use Rattle.pua_tree.specs.Tree.{Tree, WellFormed, is_dir}
-use Rattle.pua_tree.specs.Steps.{◌>>=◌}
-use Rattle.pua_path.specs.Paths.{part_of, is_absolute}
+use Rattle.pua_audit.proofs.Common.{◌≡◌, ℕ, zero, suc, Bool, true, false, cond, List, [], ◌∷◌, length, map, refl, sym, ap, ◌∙◌, arith, ◌-◌}
+use Rattle.pua_audit.proofs.Common.{◌*◌, ◌≤◌, Ok, Err, filter, AllByRecursion, Tree, WellFormed, is_dir, ◌>>=◌, part_of, is_absolute}
+use Rattle.pua_audit.proofs.Common.{Ending, Followed, Top, Whole, Slot, CallTable, rule_of, last_of, calls, History, may_any, is_ended}
+use Rattle.pua_audit.proofs.Common.{verdict_of, is_allowed, Call, Word, Pair, Scope, words, pairs, from_root, path_of, is_reached, reach}
+use Rattle.pua_audit.proofs.Common.{Start, Below, Judge, base_dir, state_of, judge_of, judge_for, reach_along, Base, Root, Cwd, longest}
+use Rattle.std.proofs.Common.{max, fold, mul-le-mul_right}
 use Rattle.pua_path.specs.Resolution.{Resolved, resolve_parts, resolution_of_text, dir_with_links}
 use Rattle.pua_path.specs.Laws.{Lands, onwards}
 use Rattle.pua_path.proofs.ForCallers.{composes, resolutions_fit}
 use Rattle.pua_path.specs.declared.errno.Errno.TheVariants.{ENOENT, ENOTDIR}
-use Rattle.pua_path.specs.declared.text.Ending.{Ending}
 use Rattle.pua_path.specs.declared.text.Ending.TheVariants as ending
 use Rattle.pua_path.specs.declared.found.Part.TheVariants as parts
-use Rattle.pua_path.specs.declared.found.Last.TheVariants.{Followed}
-use Rattle.pua_path.specs.declared.found.Way.TheVariants.{Top}
-use Rattle.pua_path.specs.declared.found.Found.TheVariants.{Whole, Slot}
-use Rattle.pua_calls.specs.Calls.{CallTable, rule_of, last_of, ending_of, calls}
-use Rattle.pua_policy.specs.History.{History, may_any, is_ended, working_dir}
-use Rattle.pua_policy.specs.Verdict.{verdict_of, verdict_on, object_named, is_allowed}
-use Rattle.pua_calls.specs.declared.call.Call.{Call}
-use Rattle.pua_audit.specs.Reach.{Word, Pair, Scope, words, pairs, from_root, path_of, is_reached, reach}
-use Rattle.pua_audit.specs.Judge.{Start, Below, Judge, base_dir, base_way, state_of, judge_of, judge_for, if_some, is_allowed_along}
-use Rattle.pua_audit.specs.Judge.{reach_along}
-use Rattle.pua_audit.specs.declared.base.Base.{Base}
-use Rattle.pua_audit.specs.declared.base.Base.TheVariants.{Root, Cwd}
-use Rattle.pua_audit.specs.Begin.{longest}
+use Rattle.pua_calls.specs.Calls.{ending_of}
+use Rattle.pua_policy.specs.History.{working_dir}
+use Rattle.pua_policy.specs.Verdict.{verdict_on, object_named}
+use Rattle.pua_audit.specs.Judge.{base_way, if_some, is_allowed_along}
 use Rattle.pua_audit.proofs.Paths.{IsPiece, IsPath, path_is, length_from_root}
 use Rattle.pua_audit.proofs.Rising.{all_mapped, all_flat, all_of}
 use Rattle.pua_audit.proofs.Fresh.{refused}

@@ -1,34 +1,21 @@
 -- Names at which no veil is kept, and where nothing stands or a file does.
-use Rattle.std.proofs.Common.{ℕ, ◌+◌, ◌≤◌, ◌≡◌, List, [], ◌∷◌, Option, Some, None, Bool, true, false, refl, cond, nat_le, ap, arith, sym}
-use Rattle.std.proofs.Common.{subst, ◌∙◌, Ok}
-use Rattle.std.specs.Prelude.{IsTrue}
-use Rattle.std.proofs.lemmas.Bool.{le-leb}
-use Rattle.pua_tree.specs.Tree.{Tree, WellFormed, is_dir, found_at, look}
+use Rattle.pua_audit.proofs.Common.{ℕ, ◌+◌, ◌≤◌, ◌≡◌, List, [], ◌∷◌, Option, Some, None, Bool, true, false, refl, cond, nat_le, ap, arith}
+use Rattle.pua_audit.proofs.Common.{sym, subst, ◌∙◌, IsTrue, le-leb, Tree, WellFormed, is_dir, most_links, part_of, follow, Found, Slot}
+use Rattle.pua_audit.proofs.Common.{Last, Followed, Kept, Top, CallTable, last_of, has, History, veil_at, Place, IsMissing, cover}
+use Rattle.pua_audit.proofs.Common.{verdict_of, is_allowed, Call, allowed_within, allowed_kept, allowed_near, allowed_far, judge_of}
+use Rattle.pua_audit.proofs.Common.{IsLetter, Base}
+use Rattle.std.proofs.Common.{Ok}
+use Rattle.pua_tree.specs.Tree.{found_at, look}
 use Rattle.pua_tree.specs.declared.node.Kind.{Kind}
 use Rattle.pua_path.specs.Kinds.{is_file}
-use Rattle.pua_path.specs.Limits.{most_links}
-use Rattle.pua_path.specs.Paths.{part_of}
-use Rattle.pua_path.specs.Resolution.{follow}
-use Rattle.pua_path.specs.declared.found.Found.{Found}
-use Rattle.pua_path.specs.declared.found.Found.TheVariants.{Slot}
-use Rattle.pua_path.specs.declared.found.Last.{Last}
-use Rattle.pua_path.specs.declared.found.Last.TheVariants.{Followed, Kept}
 use Rattle.pua_path.specs.declared.found.Part.TheVariants as part
-use Rattle.pua_path.specs.declared.found.Way.TheVariants.{Top}
 use Rattle.pua_path.proofs.ForCallers.{missing_follows, file_follows, found_kind, unlinked_alike}
 use Rattle.pua_policy.proofs.ForCallers.{unveiled_within}
-use Rattle.pua_calls.specs.Calls.{CallTable, last_of}
-use Rattle.pua_calls.specs.CallSets.{has}
-use Rattle.pua_policy.specs.History.{History, has_veil, veil_at}
-use Rattle.pua_policy.specs.declared.place.Place.{Place}
+use Rattle.pua_policy.specs.History.{has_veil}
 use Rattle.pua_policy.specs.History as policy
 use Rattle.pua_policy.specs.declared.place.Place.TheVariants as place
-use Rattle.pua_policy.specs.Verdict.{IsMissing, cover, covered_verdict, object_of_kind, verdict, verdict_of, is_allowed}
-use Rattle.pua_calls.specs.declared.call.Call.{Call}
-use Rattle.pua_audit.specs.Entries.{IsEntryAt, allowed_within, allowed_kept, allowed_near, allowed_far}
-use Rattle.pua_audit.specs.Judge.{judge_of}
-use Rattle.pua_audit.specs.Table.{IsLetter}
-use Rattle.pua_audit.specs.declared.base.Base.{Base}
+use Rattle.pua_policy.specs.Verdict.{covered_verdict, object_of_kind, verdict}
+use Rattle.pua_audit.specs.Entries.{IsEntryAt}
 use Rattle.pua_audit.proofs.Fresh.{entries_stand}
 
 alike : (mode : Last) (followed kept both : Bool) → followed ≡ both → kept ≡ both → elim mode [ Followed ↦ followed | Kept ↦ kept ] ≡ both

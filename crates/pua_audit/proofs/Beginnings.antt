@@ -1,27 +1,18 @@
 -- What an audit begins with, or the first fault, test by test.
-use Rattle.std.proofs.Common.{◌≡◌, ℕ, suc, ◌+◌, ◌*◌, ◌≤◌, ◌<◌, List, [], ◌∷◌, ◌++◌, Bool, length, map, codes, refl, sym, ap, subst, ◌∙◌}
-use Rattle.std.proofs.Common.{add-one}
-use Rattle.std.specs.Prelude.{Option, Result, Ok, Err, nat_le, ok_or, IsTrue}
-use Rattle.std.specs.Result.{result_ok}
-use Rattle.std.specs.List.{AllByRecursion, list_all}
-use Rattle.std.proofs.lemmas.Bool.{le-leb, lt-leb, and_parts, and_from, or_left}
-use Rattle.pua_tree.specs.Names.{is_name, same_bytes}
-use Rattle.pua_tree.specs.Spelling.{name_of}
-use Rattle.pua_tree.specs.Steps.{◌>>=◌}
-use Rattle.pua_tree.specs.Tree.{Tree, Spot, WellFormed, row_fits, is_dir, distinct_names}
+use Rattle.pua_audit.proofs.Common.{◌≡◌, ℕ, suc, ◌+◌, ◌*◌, ◌≤◌, ◌<◌, List, [], ◌∷◌, ◌++◌, Bool, length, map, codes, refl, sym, ap, subst}
+use Rattle.pua_audit.proofs.Common.{◌∙◌, add-one, Result, Ok, Err, IsTrue, result_ok, AllByRecursion, list_all, le-leb, lt-leb, and_parts}
+use Rattle.pua_audit.proofs.Common.{or_left, is_name, same_bytes, name_of, ◌>>=◌, Tree, Spot, WellFormed, is_dir, distinct_names, CallTable}
+use Rattle.pua_audit.proofs.Common.{History, Scope, candidates_from, longest, is_letter, Base, AuditFault, all_joined}
+use Rattle.std.specs.Prelude.{Option, nat_le, ok_or}
+use Rattle.std.proofs.lemmas.Bool.{and_from}
+use Rattle.pua_tree.specs.Tree.{row_fits}
 use Rattle.pua_tree.specs.declared.fault.NameFault.{NameFault}
 use Rattle.pua_tree.proofs.ForCallers.{name_read, Err≢Ok, same_Ok}
-use Rattle.pua_calls.specs.Calls.{CallTable}
-use Rattle.pua_policy.specs.History.{History}
-use Rattle.pua_audit.specs.Reach.{Scope, alphabet_of}
-use Rattle.pua_audit.specs.Begin.{Beginning, candidates_from, longest, fault_unless, beginning}
-use Rattle.pua_audit.specs.Judge.{is_letter}
+use Rattle.pua_audit.specs.Reach.{alphabet_of}
+use Rattle.pua_audit.specs.Begin.{Beginning, fault_unless, beginning}
 use Rattle.pua_audit.specs.Starting.{begun_in}
-use Rattle.pua_audit.specs.declared.base.Base.{Base}
-use Rattle.pua_audit.specs.declared.fault.AuditFault.{AuditFault}
 use Rattle.pua_audit.specs.declared.fault.AuditFault.TheVariants.{LimitTooLarge, TooLong, TooManyNames, BadCandidate}
 use Rattle.pua_audit.proofs.Rising.{all_with_name}
-use Rattle.pua_steps.proofs.ForCallers.{all_joined}
 
 module _ (t : Tree) (table : CallTable) (h : History) (base : Base) (texts : List (List ℕ)) (limit : ℕ) (after : Option (List ℕ)) where
   abbrev scope_of : List (List ℕ) → Scope

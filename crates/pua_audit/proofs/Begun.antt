@@ -1,28 +1,15 @@
 -- The walk over a table of steps begins with the reach before it.
-use Rattle.std.proofs.Common.{ℕ, zero, suc, [], None, ◌*◌, ◌<◌, ◌≤◌, ◌≡◌, List, Option, Some, refl, ap, arith, ◌∙◌, map, length, get_or}
-use Rattle.pua_calls.specs.CallSets.{bit_of}
-use Rattle.pua_calls.specs.declared.call.Call.{Call}
-use Rattle.std.specs.Prelude.{IsTrue}
-use Rattle.pua_tree.specs.Tree.{is_dir}
-use Rattle.pua_audit.specs.Reach.{Scope}
-use Rattle.pua_audit.specs.Judge.{Judge, Start, base_dir, judge_for, reach_along}
-use Rattle.pua_audit.specs.Laws.{IsAudited}
-use Rattle.pua_audit.specs.Live.{live_states}
-use Rattle.pua_audit.specs.Judge.{allowed_at}
-use Rattle.pua_audit.specs.Graphs.{AreApart, IsKnown, StandsForJudge, pair_in_numbers, pair_in_letters}
-use Rattle.pua_audit.specs.Table.{IsTableOf}
+use Rattle.pua_audit.proofs.Common.{ℕ, zero, suc, [], None, ◌*◌, ◌<◌, ◌≤◌, ◌≡◌, List, Option, Some, refl, ap, arith, ◌∙◌, map, length}
+use Rattle.pua_audit.proofs.Common.{get_or, bit_of, Call, IsTrue, is_dir, Scope, Judge, Start, base_dir, judge_for, reach_along, IsAudited}
+use Rattle.pua_audit.proofs.Common.{live_states, allowed_at, AreApart, IsKnown, StandsForJudge, pair_in_numbers, pair_in_letters, IsTableOf}
+use Rattle.pua_audit.proofs.Common.{mul-le, has_call, calls_of, live_count, State, Steps}
 use Rattle.pua_audit.proofs.Leading.{masks_list}
-use Rattle.std.proofs.lemmas.Nat.{mul-le}
 use Rattle.pua_audit.proofs.LiveStates.{live_states_count}
 use Rattle.pua_audit.proofs.Refined.{graphs_reach}
 use Rattle.pua_audit.proofs.Tabled.{table_stands}
-use Rattle.pua_steps.specs.Calls.{has_call, calls_of}
 use Rattle.pua_steps.specs.Graph as graph
 use Rattle.pua_steps.specs.Graph.{alone, below}
-use Rattle.pua_steps.specs.Reached.{live_count}
 use Rattle.pua_steps.specs.Table.{graph_of}
-use Rattle.pua_steps.specs.declared.state.State.{State}
-use Rattle.pua_steps.specs.declared.steps.Steps.{Steps}
 
 module _ (w : Judge) (letters : List (List ℕ)) (names : List ℕ) (t : Steps) (is : IsTableOf w letters names t) (some : 0 < length names)
     (set : ℕ) (own : (call : Call) → has_call set (bit_of call) ≡ w.own Start call)

@@ -1,27 +1,19 @@
 -- What a call of the walk leaves of the pairs that are still to come, and of the path of its word.
-use Rattle.std.proofs.Common.{ℕ, suc, ◌+◌, ◌*◌, ◌<◌, ◌≤◌, ◌≡◌, List, [], ◌∷◌, ◌++◌, refl, ap, arith, sym, ◌∙◌, subst, length, get_or, take}
-use Rattle.std.proofs.Common.{min, zero, vec_capacity}
-use Rattle.std.proofs.lemmas.List.{take_more, length-take, length-map}
-use Rattle.std.proofs.lemmas.Nat.{mul-le}
-use Rattle.std.specs.List.{AllByRecursion}
-use Rattle.pua_audit.specs.Reach.{Word}
-use Rattle.pua_audit.specs.Begin.{longest}
-use Rattle.pua_audit.specs.Ready.{part_bytes, letters_of, word_of, IsSound}
+use Rattle.pua_audit.proofs.Common.{ℕ, suc, ◌+◌, ◌*◌, ◌<◌, ◌≤◌, ◌≡◌, List, [], ◌∷◌, ◌++◌, refl, ap, arith, sym, ◌∙◌, subst, length, get_or}
+use Rattle.pua_audit.proofs.Common.{take, min, zero, vec_capacity, length-map, mul-le, AllByRecursion, Word, longest, part_bytes}
+use Rattle.pua_audit.proofs.Common.{letters_of, word_of, IsSound, Terms, Call, pairs_at, IsPair, Steps}
+use Rattle.std.proofs.lemmas.List.{take_more, length-take}
 use Rattle.pua_audit.specs.WordPaths.{IsPathAlong, IsPathOf}
 use Rattle.pua_audit.specs.declared.path.WordPath.{WordPath}
-use Rattle.pua_audit.specs.declared.terms.Terms.{Terms}
 use Rattle.pua_audit.proofs.Moves.{word_of-push}
 use Rattle.pua_audit.proofs.Spelled.{IsSpelled, room_for}
 use Rattle.pua_audit.proofs.WordPaths.{front_stays, take_whole}
-use Rattle.pua_calls.specs.declared.call.Call.{Call}
-use Rattle.pua_audit.specs.Coming.{AreReady, IsLine, call_at, pairs_at, walk_word}
+use Rattle.pua_audit.specs.Coming.{AreReady, IsLine, call_at, walk_word}
 use Rattle.pua_audit.specs.declared.pairs.Pairs.{Pairs}
 use Rattle.pua_steps.specs.Graph as graph
 use Rattle.pua_steps.specs.Ready as steps
 use Rattle.pua_steps.specs.Ready.{IsSameWalk, IsUnchanged}
 use Rattle.pua_steps.specs.Trail.{pairs_of}
-use Rattle.pua_steps.specs.Within.{IsPair}
-use Rattle.pua_steps.specs.declared.steps.Steps.{Steps}
 use Rattle.pua_steps.specs.declared.walk.Walk.{Walk}
 
 all_taken : (P : ℕ → Type 0) (k : ℕ) (xs : List ℕ) → AllByRecursion P xs → AllByRecursion P (take k xs)

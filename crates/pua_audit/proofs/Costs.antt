@@ -1,18 +1,14 @@
 -- Looks at a tree while a table of steps is made of it, added up.
-use Rattle.std.proofs.Common.{ℕ, suc, ◌+◌, ◌*◌, ◌<◌, ◌≤◌, ◌≡◌, List, [], ◌∷◌, Option, Some, None, true, false, ◌||◌, cond, map, refl, ap}
-use Rattle.std.proofs.Common.{arith, ◌∙◌, length, option_map, nat_eq, suc-mul}
+use Rattle.pua_audit.proofs.Common.{ℕ, suc, ◌+◌, ◌*◌, ◌<◌, ◌≤◌, ◌≡◌, List, [], ◌∷◌, Option, Some, None, true, false, ◌||◌, cond, map, refl}
+use Rattle.pua_audit.proofs.Common.{ap, arith, ◌∙◌, length, option_map, nat_eq, list_any, nat_cmp, eq_by_cmp, eqb-true, or_right}
+use Rattle.pua_audit.proofs.Common.{length-map, mul-le, Tree, is_dir, letter_cost, object_cost, row_cost, AreLiving, AreNumbers}
+use Rattle.std.proofs.Common.{suc-mul}
 use Rattle.std.specs.Prelude.{is_some}
 use Rattle.std.specs.Cmp.{nat_eq_equiv, unsigned_ties}
 use Rattle.std.specs.FinMap.{find as find_key}
-use Rattle.std.specs.List.{list_any}
-use Rattle.std.specs.Ordering.{nat_cmp, eq_by_cmp}
-use Rattle.std.proofs.lemmas.Bool.{eqb-true, or_right}
-use Rattle.std.proofs.lemmas.List.{length-map}
 use Rattle.std.proofs.lemmas.Map.Made.{length-le_from_is_member}
-use Rattle.std.proofs.lemmas.Nat.{mul-le}
-use Rattle.pua_tree.specs.Tree.{Tree, Node, is_dir, is_dir_kind, node_at}
-use Rattle.pua_audit.specs.Bounds.{letter_cost, object_cost, row_cost, table_cost}
-use Rattle.pua_audit.specs.Rows.{AreLiving, AreNumbers}
+use Rattle.pua_tree.specs.Tree.{Node, is_dir_kind, node_at}
+use Rattle.pua_audit.specs.Bounds.{table_cost}
 
 -- living directories, none of them twice, are at most as many as the nodes
 

@@ -1,23 +1,14 @@
 -- Covers of the directories of a table, and covers handed down from them.
-use Rattle.std.proofs.Common.{true, ℕ, ◌≡◌, List, Option, Some, None, sym, ap, ◌∙◌, subst}
-use Rattle.std.specs.Prelude.{IfOk, IfSome, IsTrue, Result, Ok, Err}
-use Rattle.pua_tree.specs.Tree.{Tree, WellFormed, above, is_dir}
-use Rattle.pua_path.specs.Fits.{FoundFits, FoundsFit, StandsAsNamed}
-use Rattle.pua_path.specs.declared.errno.Errno.{Errno}
-use Rattle.pua_path.specs.declared.found.Found.{Found}
-use Rattle.pua_path.specs.declared.found.Found.TheVariants.{Whole, Slot}
-use Rattle.pua_path.specs.Resolution.{follow, last}
-use Rattle.pua_path.specs.declared.found.Last.TheVariants.{Kept}
-use Rattle.pua_path.specs.declared.found.Part.{Part}
+use Rattle.pua_audit.proofs.Common.{true, ℕ, ◌≡◌, List, Option, Some, None, sym, ap, ◌∙◌, subst, IfOk, IfSome, IsTrue, Result, Ok, Err}
+use Rattle.pua_audit.proofs.Common.{Tree, WellFormed, above, is_dir, FoundsFit, StandsAsNamed, Errno, Found, Whole, Slot, follow, last}
+use Rattle.pua_audit.proofs.Common.{Kept, Part, Top, cover_in, History, perms_kept, CallTable, cover, is_allowed, Call, allowed_within}
+use Rattle.pua_audit.proofs.Common.{found_of, leads_to}
+use Rattle.pua_path.specs.Fits.{FoundFits}
 use Rattle.pua_path.specs.declared.found.Part.TheVariants as parts
 use Rattle.pua_path.specs.declared.found.Way.{Way}
-use Rattle.pua_path.specs.declared.found.Way.TheVariants.{DotDot, Named, Top}
-use Rattle.pua_policy.specs.Descent.{cover_in, own_or}
-use Rattle.pua_policy.specs.History.{History, perms_kept}
-use Rattle.pua_calls.specs.Calls.{CallTable}
-use Rattle.pua_policy.specs.Verdict.{Object, cover, covered_verdict, is_allowed}
-use Rattle.pua_calls.specs.declared.call.Call.{Call}
-use Rattle.pua_audit.specs.Entries.{allowed_within, found_of, leads_to}
+use Rattle.pua_path.specs.declared.found.Way.TheVariants.{DotDot, Named}
+use Rattle.pua_policy.specs.Descent.{own_or}
+use Rattle.pua_policy.specs.Verdict.{Object, covered_verdict}
 use Rattle.pua_policy.specs.declared.answer.Cover.{Cover}
 use Rattle.pua_policy.specs.declared.place.Place.TheVariants as place
 use Rattle.pua_policy.proofs.ForCallers.{covers_descend}

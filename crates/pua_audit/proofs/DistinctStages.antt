@@ -1,17 +1,15 @@
 -- The live states are listed once each.
-use Rattle.std.proofs.Common.{◌≡◌, ℕ, List, [], ◌∷◌, Bool, true, false, ◌||◌, ◌&&◌, ◌==◌, refl, sym, ap, ◌∙◌}
+use Rattle.pua_audit.proofs.Common.{◌≡◌, ℕ, List, [], ◌∷◌, Bool, true, false, ◌||◌, ◌&&◌, ◌==◌, refl, sym, ap, ◌∙◌, by_order}
+use Rattle.pua_audit.proofs.Common.{AllByRecursion, IsDistinct, list_any, eq_by_cmp, ordering_reverse, Less, Equal, Greater, and_parts}
+use Rattle.pua_audit.proofs.Common.{eqb-true, Stage, distinct_stages}
 use Rattle.std.specs.Cmp.{IsTotalOrder, IsEquivalence}
 use Rattle.std.proofs.lemmas.Cmp.{eq_by_cmp_equiv, nat_list_cmp_total}
-use Rattle.std.specs.FinMap.Entries.{by_order}
-use Rattle.std.specs.List.{AllByRecursion, IsDistinct, list_any}
 use Rattle.std.specs.List.Sorted.{IsStrictlySortedBy}
-use Rattle.std.specs.Ordering.{eq_by_cmp, is_eq, ordering_reverse}
+use Rattle.std.specs.Ordering.{is_eq}
 use Rattle.std.specs.Set.{is_member}
-use Rattle.std.specs.declared.cmp.Ordering.TheVariants.{Less, Equal, Greater}
-use Rattle.std.proofs.lemmas.Bool.{and_parts, eqb-true}
 use Rattle.std.proofs.lemmas.Map.Keys.{IsDistinct-from_sorted}
 use Rattle.std.proofs.lemmas.Map.Text.{is_eq-slice_cmp}
-use Rattle.pua_audit.specs.Live.{Stage, stage_cmp, with_stage, distinct_stages}
+use Rattle.pua_audit.specs.Live.{stage_cmp, with_stage}
 use Rattle.pua_audit.proofs.Stages.{is_stage, is_staged}
 
 abbrev pub same_stage : Stage → Stage → Bool

@@ -1,34 +1,28 @@
 -- There are few live states: each is a living directory, a number of links followed, and a number of letters that may still come.
-use Rattle.std.proofs.Common.{ℕ, zero, suc, ◌+◌, ◌*◌, ◌-◌, ◌<◌, ◌≤◌, ◌≡◌, List, [], ◌∷◌, ◌++◌, Option, Some, None, Result, Ok, Err, Bool}
-use Rattle.std.proofs.Common.{true, false, ◌||◌, ◌&&◌, not, cond, refl, ap, arith, sym, subst, ◌∙◌, map, length, option_map, inl, inr}
-use Rattle.std.proofs.lemmas.Bool.{cases_Bool, cases_eq, or_left, or_right}
-use Rattle.std.proofs.lemmas.List.{length-append}
+use Rattle.pua_audit.proofs.Common.{ℕ, zero, suc, ◌+◌, ◌*◌, ◌-◌, ◌<◌, ◌≤◌, ◌≡◌, List, [], ◌∷◌, ◌++◌, Option, Some, None, Bool, true, false}
+use Rattle.pua_audit.proofs.Common.{◌||◌, ◌&&◌, not, cond, refl, ap, arith, sym, subst, ◌∙◌, map, length, option_map, inl, inr, cases_eq}
+use Rattle.pua_audit.proofs.Common.{or_left, or_right, length-append, nat_cmp-IsAntisymmetric, nat_cmp, IsTrue, flat_map, filter_map}
+use Rattle.pua_audit.proofs.Common.{result_ok, Tree, is_dir, ◌>>=◌, same_Some, steps, part_of, Errno, Part, is_ended, Pair, Scope, reach}
+use Rattle.pua_audit.proofs.Common.{base_dir, IsAudited, Stage, live_states, shorter, stage_after, and-false}
+use Rattle.std.proofs.Common.{Result, Ok, Err}
+use Rattle.std.proofs.lemmas.Bool.{cases_Bool}
 use Rattle.std.proofs.lemmas.Map.Made.{length-le_from_is_member}
 use Rattle.std.proofs.lemmas.Map.Views.{Contains-from_any}
 use Rattle.std.specs.Cmp.{Equal-is}
-use Rattle.std.specs.FinMap.{find as find_key, nat_cmp-IsAntisymmetric}
-use Rattle.std.specs.Ordering.{nat_cmp, is_eq}
-use Rattle.std.specs.Prelude.{IsTrue, is_some, flat_map, filter_map}
-use Rattle.std.specs.Result.{result_ok}
-use Rattle.pua_tree.specs.Tree.{Node, Tree, is_dir, is_dir_kind, node_at}
-use Rattle.pua_tree.specs.Steps.{◌>>=◌}
-use Rattle.pua_tree.proofs.ForCallers.{same_Some, same_Ok}
-use Rattle.pua_path.specs.Laws.{ResolutionFits, steps}
-use Rattle.pua_path.specs.Paths.{part_of}
+use Rattle.std.specs.FinMap.{find as find_key}
+use Rattle.std.specs.Ordering.{is_eq}
+use Rattle.std.specs.Prelude.{is_some}
+use Rattle.pua_tree.specs.Tree.{Node, is_dir_kind, node_at}
+use Rattle.pua_tree.proofs.ForCallers.{same_Ok}
+use Rattle.pua_path.specs.Laws.{ResolutionFits}
 use Rattle.pua_path.specs.Resolution.{step}
-use Rattle.pua_path.specs.declared.errno.Errno.{Errno}
-use Rattle.pua_path.specs.declared.found.Part.{Part}
 use Rattle.pua_path.proofs.ForCallers.{resolutions_fit}
-use Rattle.pua_policy.specs.History.{is_ended}
-use Rattle.pua_audit.specs.Reach.{Pair, Scope, reach}
-use Rattle.pua_audit.specs.Judge.{base_dir}
-use Rattle.pua_audit.specs.Laws.{IsAudited, LiveStatesFew}
-use Rattle.pua_audit.specs.Live.{Stage, IsLive, live_states, shorter, stage_after}
+use Rattle.pua_audit.specs.Laws.{LiveStatesFew}
+use Rattle.pua_audit.specs.Live.{IsLive}
 use Rattle.pua_audit.proofs.DistinctStages.{one_stage, same_is, same_stage, same_stage_laws, staged_is, stages_distinct}
 use Rattle.pua_audit.proofs.LiveStagesListed.{live_states_live, staged_itself}
 use Rattle.pua_audit.proofs.LiveStates.{live_states_count}
 use Rattle.pua_audit.proofs.Stages.{is_stage, is_staged}
-use Rattle.std.proofs.Math.Bool.{and-false}
 
 -- lists of so many
 

@@ -1,30 +1,19 @@
 -- A letter that is followed once, with no link used before it, tells it after any number of links.
-use Rattle.std.proofs.Common.{ℕ, ◌+◌, ◌≡◌, List, Option, None, Bool, true, false, cond, nat_le, refl, ap, sym, ◌∙◌, option_map, Result, Ok}
-use Rattle.std.proofs.Common.{Err, inl, inr}
-use Rattle.std.proofs.lemmas.Bool.{cases_lt, le-leb, lt-leb}
-use Rattle.pua_tree.specs.Tree.{Tree}
-use Rattle.pua_path.specs.Limits.{most_links}
-use Rattle.pua_path.specs.Paths.{part_of}
-use Rattle.pua_path.specs.Resolution.{follow, last}
+use Rattle.pua_audit.proofs.Common.{ℕ, ◌+◌, ◌≡◌, List, Option, None, Bool, true, false, cond, nat_le, refl, ap, sym, ◌∙◌, option_map, inl}
+use Rattle.pua_audit.proofs.Common.{inr, cases_lt, le-leb, lt-leb, Tree, most_links, part_of, follow, last, Errno, Last, Followed, Kept}
+use Rattle.pua_audit.proofs.Common.{Found, Whole, Slot, CallTable, last_of, rule_of, History, may_any, verdict_of, is_allowed, Call, Judge}
+use Rattle.pua_audit.proofs.Common.{WordEnd, Below, judge_of, state_of, Base, JudgeState, links_of, found_of, leads_to, allowed_kept}
+use Rattle.pua_audit.proofs.Common.{allowed_near, allowed_far}
+use Rattle.std.proofs.Common.{Result, Ok}
+use Rattle.std.proofs.Common.{Err}
 use Rattle.pua_path.specs.Laws.{IsToldBy, dir_entered}
-use Rattle.pua_path.specs.declared.errno.Errno.{Errno}
 use Rattle.pua_path.specs.declared.errno.Errno.TheVariants.{ELOOP}
-use Rattle.pua_path.specs.declared.found.Last.{Last}
-use Rattle.pua_path.specs.declared.found.Last.TheVariants.{Followed, Kept}
-use Rattle.pua_path.specs.declared.found.Found.{Found}
-use Rattle.pua_path.specs.declared.found.Found.TheVariants.{Whole, Slot}
 use Rattle.pua_path.proofs.ForCallers.{follow_decides, kept_follows_none}
-use Rattle.pua_calls.specs.Calls.{CallTable, last_of, rule_of}
-use Rattle.pua_policy.specs.History.{History, may_any}
-use Rattle.pua_policy.specs.Verdict.{verdict_of, is_allowed, if_promised}
+use Rattle.pua_policy.specs.Verdict.{if_promised}
 use Rattle.pua_policy.specs.declared.answer.May.{May}
 use Rattle.pua_policy.specs.declared.answer.May.TheVariants.{Yes, Enosys, Death}
 use Rattle.pua_policy.specs.declared.answer.Verdict.TheVariants.{Failed}
-use Rattle.pua_calls.specs.declared.call.Call.{Call}
-use Rattle.pua_audit.specs.Judge.{Judge, WordEnd, Below, judge_of, state_of}
-use Rattle.pua_audit.specs.declared.base.Base.{Base}
-use Rattle.pua_audit.specs.Judge.{JudgeState}
-use Rattle.pua_audit.specs.Entries.{links_of, found_of, leads_to, allowed_kept, allowed_near, allowed_far, EntriesStand}
+use Rattle.pua_audit.specs.Entries.{EntriesStand}
 
 -- a failed path is never allowed
 pub refused : (may : May) (errno : Errno) → is_allowed (if_promised may (Failed errno)) ≡ false

@@ -1,27 +1,13 @@
 -- A row of a table of steps while it goes over the letters that its directory tells apart.
-use Rattle.std.proofs.Common.{ℕ, zero, suc, ◌+◌, ◌<◌, ◌≤◌, ◌^◌, ◌≡◌, ◌≢◌, List, [], None, refl, ap, arith, add-one, length, get_or, subst}
-use Rattle.std.proofs.Common.{inl, inr}
+use Rattle.pua_audit.proofs.Common.{ℕ, zero, suc, ◌+◌, ◌<◌, ◌≤◌, ◌^◌, ◌≡◌, ◌≢◌, List, [], None, refl, ap, arith, add-one, length, get_or}
+use Rattle.pua_audit.proofs.Common.{subst, inl, inr, cases_eq, cases_lt, IsTrue, is_dir, has, Call, allowed_within, IsMissing, Judge}
+use Rattle.pua_audit.proofs.Common.{plain_history, IsSound, judge_in, letters_of, IsJudgedRow, IsApart, LetterSpot, Terms, IsLetter}
+use Rattle.pua_audit.proofs.Common.{call_count, Entry}
 use Rattle.std.specs.List.Sorted.{IsStrictlyIncreasing}
-use Rattle.std.proofs.lemmas.Bool.{cases_eq, cases_lt}
-use Rattle.std.specs.Prelude.{IsTrue}
-use Rattle.pua_tree.specs.Tree.{is_dir}
-use Rattle.pua_calls.specs.CallSets.{has}
-use Rattle.pua_calls.specs.declared.call.Call.{Call}
-use Rattle.pua_audit.specs.Entries.{allowed_within}
-use Rattle.pua_policy.specs.Verdict.{IsMissing}
-use Rattle.pua_audit.specs.Judge.{Judge}
-use Rattle.pua_audit.specs.Past.{plain_history}
-use Rattle.pua_audit.specs.Ready.{IsSound, judge_in, letters_of}
-use Rattle.pua_audit.specs.Rows.{IsJudgedRow}
-use Rattle.pua_audit.specs.Spots.{AreLettersIn, AreLetterSpots, IsApart}
-use Rattle.pua_audit.specs.declared.table.spots.LetterSpot.{LetterSpot}
-use Rattle.pua_audit.specs.declared.terms.Terms.{Terms}
+use Rattle.pua_audit.specs.Spots.{AreLettersIn, AreLetterSpots}
 use Rattle.pua_audit.proofs.Bare.{bare_told}
-use Rattle.pua_audit.specs.Table.{IsLetter}
 use Rattle.pua_audit.proofs.Lists.{IsReached, all_by_place, reached_at}
 use Rattle.pua_audit.proofs.Rowed.{row_empty, row_skipped}
-use Rattle.pua_steps.specs.Limits.{call_count}
-use Rattle.pua_steps.specs.declared.steps.Entry.{Entry}
 
 module _ (w : Judge) (letters : List (List ℕ)) (dir missing : ℕ) where
   -- letters between two others, none of which has an entry

@@ -1,18 +1,12 @@
 -- Words lead to the same states on the graph and in the world.
-use Rattle.std.proofs.Common.{ℕ, zero, suc, ◌≡◌, List, [], ◌∷◌, ◌++◌, Option, Some, None, Bool, true, false, cond, refl, ap, arith, sym}
-use Rattle.std.proofs.Common.{◌∙◌, map, length, get_or, option_map, filter}
-use Rattle.std.specs.Prelude.{flat_map, option_to_list, IfSome}
-use Rattle.std.specs.List.{range_with_len, cons_option}
-use Rattle.pua_calls.specs.Calls.{calls}
-use Rattle.pua_calls.specs.CallSets.{bit_of}
-use Rattle.pua_calls.specs.declared.call.Call.{Call}
-use Rattle.pua_audit.specs.Judge.{Judge, WordEnd, Start, Below}
+use Rattle.pua_audit.proofs.Common.{ℕ, zero, suc, ◌≡◌, List, [], ◌∷◌, ◌++◌, Option, Some, None, Bool, true, false, cond, refl, ap, arith}
+use Rattle.pua_audit.proofs.Common.{sym, ◌∙◌, map, length, get_or, option_map, flat_map, option_to_list, IfSome, range_with_len}
+use Rattle.pua_audit.proofs.Common.{cons_option, calls, bit_of, Call, Judge, WordEnd, Start, Below, has_call, calls_of, State, Visit}
+use Rattle.pua_audit.proofs.Common.{named_in, IsRight, HasJudgedVisits, IsKnown, StandsForJudge}
+use Rattle.std.proofs.Common.{filter}
 use Rattle.pua_audit.specs.Judge as named
-use Rattle.pua_steps.specs.Calls.{has_call, calls_of}
 use Rattle.pua_steps.specs.Reached.{states_after, states_behind}
-use Rattle.pua_steps.specs.declared.state.State.{State}
-use Rattle.pua_steps.specs.declared.visit.Visit.{Visit}
-use Rattle.pua_audit.specs.Graphs.{named_in, IsRight, HasJudgedVisits, IsKnown, StandsForJudge, MasksList}
+use Rattle.pua_audit.specs.Graphs.{MasksList}
 use Rattle.pua_audit.proofs.Stages.{on_state, reached_from}
 use Rattle.pua_audit.proofs.Refined.{map-flat_map, by_places, from_letters, all_pairs}
 use Rattle.pua_audit.proofs.Lines.{flat_map-flat_map, flat_map-cong}

@@ -1,16 +1,9 @@
 -- The reach, cut by places.
-use Rattle.std.proofs.Common.{ℕ, zero, suc, ◌≡◌, List, [], ◌∷◌, ◌++◌, Option, Some, None, Bool, true, false, cond, refl, ap, sym, ◌∙◌, map}
-use Rattle.std.proofs.lemmas.List.{map-append}
-use Rattle.std.proofs.lemmas.Grind.{flat_map-append}
+use Rattle.pua_audit.proofs.Common.{ℕ, zero, suc, ◌≡◌, List, [], ◌∷◌, ◌++◌, Option, Some, None, Bool, true, false, cond, refl, ap, sym, ◌∙◌}
+use Rattle.pua_audit.proofs.Common.{map, map-append, flat_map-append, flat_map, filter, WordEnd, Start, Below, Judge, calls, Call}
+use Rattle.pua_audit.proofs.Common.{JudgeState, Word, Pair, words, pairs, reach_along, allowed_at}
 use Rattle.std.proofs.lemmas.List.Elements.{filter-append}
-use Rattle.std.specs.Prelude.{flat_map, filter}
-use Rattle.pua_audit.specs.Judge.{WordEnd, Start, Below, Judge}
-use Rattle.pua_calls.specs.Calls.{calls}
-use Rattle.pua_calls.specs.declared.call.Call.{Call}
-use Rattle.pua_audit.specs.Judge.{JudgeState}
-use Rattle.pua_audit.specs.Reach.{Word, Pair, words, pairs}
-use Rattle.pua_audit.specs.Judge.{if_some, is_allowed_along, reach_along}
-use Rattle.pua_audit.specs.Judge.{allowed_at}
+use Rattle.pua_audit.specs.Judge.{if_some, is_allowed_along}
 use Rattle.pua_steps.proofs.ForCallers.{filter-none}
 
 -- lists

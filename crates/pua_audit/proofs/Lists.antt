@@ -1,8 +1,8 @@
 -- Lists of which some elements are gone through.
-use Rattle.std.proofs.Common.{ℕ, zero, suc, ◌<◌, ◌≤◌, ◌≡◌, List, [], ◌∷◌, take, drop, map, arith, sym, length, get_or, subst, inl, inr}
-use Rattle.std.specs.List.{AllByRecursion, AllWithin, Contains}
+use Rattle.pua_audit.proofs.Common.{ℕ, zero, suc, ◌<◌, ◌≤◌, ◌≡◌, List, [], ◌∷◌, take, drop, map, arith, sym, length, get_or, subst, inl}
+use Rattle.pua_audit.proofs.Common.{inr, AllByRecursion, cases_eq}
+use Rattle.std.specs.List.{AllWithin, Contains}
 use Rattle.std.specs.List.Sorted.{IsStrictlyIncreasing}
-use Rattle.std.proofs.lemmas.Bool.{cases_eq}
 use Rattle.std.proofs.lemmas.List.Elements.{Contains-get_or}
 use Rattle.std.proofs.lemmas.List.Kept.{AllPairs-from_increasing}
 use Rattle.pua_audit.proofs.Moves.{all_at_index}

@@ -1,15 +1,12 @@
 -- The live states of a graph, layer by layer, are those of the judge for which it stands.
-use Rattle.std.proofs.Common.{ℕ, zero, suc, ◌+◌, ◌-◌, ◌<◌, ◌≤◌, ◌≡◌, List, [], ◌∷◌, ◌++◌, Option, Some, None, Bool, true, false, ◌||◌, ◌&&◌}
-use Rattle.std.proofs.Common.{◌==◌, nat_lt, nat_le, cond, refl, ap, arith, sym, ◌∙◌, map, length, get_or, inl, inr}
-use Rattle.std.specs.Prelude.{IfSome, filter, option_to_list}
-use Rattle.std.specs.List.{AllByRecursion, IsDistinct, cons_option}
-use Rattle.std.proofs.lemmas.List.{length-map, length-append}
-use Rattle.std.proofs.lemmas.Bool.{cases_eq, cases_lt, and_parts, eqb-true, eq-eqb, ne_eqb, lt-ltb, le-ltb, le-leb, lt-leb}
-use Rattle.pua_audit.specs.Reach.{Pair}
-use Rattle.pua_audit.specs.Judge.{Judge, Start}
-use Rattle.pua_audit.specs.Live.{Stage}
+use Rattle.pua_audit.proofs.Common.{ℕ, zero, suc, ◌+◌, ◌-◌, ◌<◌, ◌≤◌, ◌≡◌, List, [], ◌∷◌, ◌++◌, Option, Some, None, Bool, true, false, ◌||◌}
+use Rattle.pua_audit.proofs.Common.{◌&&◌, ◌==◌, nat_lt, nat_le, cond, refl, ap, arith, sym, ◌∙◌, map, length, get_or, inl, inr, IfSome}
+use Rattle.pua_audit.proofs.Common.{filter, option_to_list, AllByRecursion, IsDistinct, cons_option, length-map, length-append, cases_eq}
+use Rattle.pua_audit.proofs.Common.{cases_lt, and_parts, eqb-true, eq-eqb, ne_eqb, le-leb, lt-leb, Pair, Judge, Start, Stage, named_in}
+use Rattle.pua_audit.proofs.Common.{AreApart, IsKnown, StandsForJudge, pair_in_numbers, pair_in_letters, State, Visit, and-false}
+use Rattle.pua_audit.proofs.Common.{all_joined}
+use Rattle.std.proofs.lemmas.Bool.{lt-ltb, le-ltb}
 use Rattle.pua_audit.specs.Judge as named
-use Rattle.pua_audit.specs.Graphs.{named_in, AreApart, IsKnown, StandsForJudge, pair_in_numbers, pair_in_letters}
 use Rattle.pua_audit.proofs.Lines as lines
 use Rattle.pua_audit.proofs.Stages.{staged, is_stage, is_staged, is_state, is_among, some_pair, state_of, reached_from}
 use Rattle.pua_audit.proofs.DistinctStages.{same_stage, same_is, one_stage}
@@ -18,11 +15,8 @@ use Rattle.pua_audit.proofs.Refined.{rows_alike}
 use Rattle.pua_audit.proofs.Rising.{all_flat}
 use Rattle.pua_steps.specs.Graph as graph
 use Rattle.pua_steps.specs.Reached as steps
-use Rattle.pua_steps.specs.declared.state.State.{State}
-use Rattle.pua_steps.specs.declared.visit.Visit.{Visit}
-use Rattle.std.proofs.Math.Bool.{and-false, or-false}
+use Rattle.std.proofs.Math.Bool.{or-false}
 use Rattle.pua_audit.proofs.Staged.{staged-append}
-use Rattle.pua_steps.proofs.ForCallers.{all_joined}
 
 -- tests
 

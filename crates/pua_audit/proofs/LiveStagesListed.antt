@@ -1,15 +1,14 @@
 -- The list of the live states has just those to which a word leads that the word of some pair extends.
-use Rattle.std.proofs.Common.{◌≡◌, zero, suc, List, [], ◌∷◌, true, ◌&&◌, ◌==◌, subst, Option, Some, None, refl, sym, ap, ◌∙◌, arith}
-use Rattle.std.specs.Prelude.{Contains, flat_map, filter_map}
-use Rattle.std.specs.List.{AllByRecursion, cons_option}
+use Rattle.pua_audit.proofs.Common.{◌≡◌, zero, suc, List, [], ◌∷◌, true, ◌&&◌, ◌==◌, subst, Option, Some, None, refl, sym, ap, ◌∙◌, arith}
+use Rattle.pua_audit.proofs.Common.{flat_map, filter_map, AllByRecursion, cons_option, or_left, or_right, eq-eqb, Rises, Stage}
+use Rattle.pua_audit.proofs.Common.{distinct_stages, live_states, shorter, stage_after, Word, Pair, Scope, reach}
+use Rattle.std.specs.Prelude.{Contains}
 use Rattle.std.specs.List.Sorted.{IsStrictlySortedBy}
-use Rattle.std.proofs.lemmas.Bool.{or_left, or_right, eq-eqb}
 use Rattle.std.proofs.lemmas.List.Elements.{All-contains, All-contains_itself, All-from_recursion, recursion_from_All, Contains-append_left}
 use Rattle.std.proofs.lemmas.List.Elements.{Contains-append_right}
 use Rattle.std.proofs.lemmas.Map.Views.{Contains-from_any}
-use Rattle.pua_audit.specs.Laws.{LiveStatesLive, Rises}
-use Rattle.pua_audit.specs.Live.{Stage, IsLive, distinct_stages, live_states, shorter, stage_after, stage_cmp}
-use Rattle.pua_audit.specs.Reach.{Word, Pair, Scope, reach}
+use Rattle.pua_audit.specs.Laws.{LiveStatesLive}
+use Rattle.pua_audit.specs.Live.{IsLive, stage_cmp}
 use Rattle.pua_audit.proofs.DistinctStages.{all_with_stage, distinct_has, distinct_sorted, one_stage, same_is, staged_is}
 use Rattle.pua_audit.proofs.Rising.{all_flat}
 use Rattle.pua_audit.proofs.Stages.{is_stage, is_staged}

@@ -1,21 +1,13 @@
 -- How many states are live, by the reach and by a graph of steps.
-use Rattle.std.proofs.Common.{ℕ, ◌-◌, ◌≡◌, nat_lt, nat_le, ◌&&◌, List, [], ◌∷◌, Option, None, refl, ap, arith, sym, ◌∙◌, map, length}
-use Rattle.std.proofs.Common.{option_map, Result, Ok, Err}
-use Rattle.std.specs.Prelude.{flat_map, filter_map, IsTrue}
-use Rattle.std.specs.Result.{result_ok}
+use Rattle.pua_audit.proofs.Common.{ℕ, ◌-◌, ◌≡◌, nat_lt, nat_le, ◌&&◌, List, [], ◌∷◌, Option, None, refl, ap, arith, sym, ◌∙◌, map, length}
+use Rattle.pua_audit.proofs.Common.{option_map, flat_map, filter_map, IsTrue, result_ok, Tree, is_dir, ◌>>=◌, part_of, steps, Errno, Word}
+use Rattle.pua_audit.proofs.Common.{Pair, Scope, reach, Start, Below, base_dir, judge_for, reach_along, state_of, IsAudited, Stage, shorter}
+use Rattle.pua_audit.proofs.Common.{stage_after, distinct_stages, live_states, IsKnown, StandsForJudge, AreApart, live_count, State, Visit}
+use Rattle.std.proofs.Common.{Result, Ok, Err}
 use Rattle.std.specs.Set.{is_member}
 use Rattle.std.proofs.lemmas.Map.Made.{length-from_same_keys}
-use Rattle.pua_tree.specs.Tree.{Tree, is_dir}
-use Rattle.pua_tree.specs.Steps.{◌>>=◌}
-use Rattle.pua_path.specs.Paths.{part_of}
 use Rattle.pua_path.specs.Resolution.{step}
-use Rattle.pua_path.specs.Laws.{steps}
-use Rattle.pua_path.specs.declared.errno.Errno.{Errno}
-use Rattle.pua_audit.specs.Reach.{Word, Pair, Scope, reach}
-use Rattle.pua_audit.specs.Judge.{Start, Below, base_dir, judge_for, reach_along, state_of}
-use Rattle.pua_audit.specs.Laws.{IsAudited}
-use Rattle.pua_audit.specs.Live.{Stage, shorter, stage_after, distinct_stages, live_states}
-use Rattle.pua_audit.specs.Graphs.{IsKnown, StandsForJudge, AreApart, LiveStatesCount}
+use Rattle.pua_audit.specs.Graphs.{LiveStatesCount}
 use Rattle.pua_audit.specs.Judge as named
 use Rattle.pua_audit.proofs.Audited.{reaches_along, closed_reaches}
 use Rattle.pua_audit.proofs.DistinctStages.{same_stage, same_stage_laws, staged_is, stages_distinct, distinct_has}
@@ -23,9 +15,6 @@ use Rattle.pua_audit.proofs.LiveLayers.{layers, layers_counted, layers_have, lay
 use Rattle.pua_audit.proofs.Lines as lines
 use Rattle.pua_audit.proofs.Stages as along
 use Rattle.pua_audit.proofs.Staged.{stages_live}
-use Rattle.pua_steps.specs.Reached.{live_count}
-use Rattle.pua_steps.specs.declared.state.State.{State}
-use Rattle.pua_steps.specs.declared.visit.Visit.{Visit}
 
 then_ok : {A : Type 0} (r : Result A Errno) → (r >>= λ at. Ok at) ≡ r
 then_ok (Ok at) = refl

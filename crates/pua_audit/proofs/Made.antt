@@ -1,21 +1,13 @@
 -- The rows of all directories are a table.
-use Rattle.std.proofs.Common.{nat_eq, ℕ, ◌<◌, ◌≤◌, ◌≡◌, List, [], ◌∷◌, ◌++◌, ap, arith, sym, ◌∙◌, map, length, get_or, subst, inl, inr}
-use Rattle.std.specs.Prelude.{IfSome}
-use Rattle.std.specs.List.{AllByRecursion}
-use Rattle.std.proofs.lemmas.Bool.{cases_eq, cases_lt, eq-eqb, false≢true}
-use Rattle.std.proofs.lemmas.List.{map-append, length-append, length-map}
+use Rattle.pua_audit.proofs.Common.{nat_eq, ℕ, ◌<◌, ◌≤◌, ◌≡◌, List, [], ◌∷◌, ◌++◌, ap, arith, sym, ◌∙◌, map, length, get_or, subst, inl}
+use Rattle.pua_audit.proofs.Common.{inr, IfSome, AllByRecursion, cases_eq, cases_lt, eq-eqb, false≢true, map-append, length-append}
+use Rattle.pua_audit.proofs.Common.{length-map, Judge, AreApart, AreNumbers, IsGrown, IsEntryFor, IsJudgedRow, IsTableOf, Entry, Steps}
 use Rattle.std.proofs.lemmas.Map.Keys.{apart_from_distinct}
 use Rattle.std.proofs.Math.ListN.{get_or-append}
 use Rattle.std.proofs.Math.Seq.{get_or-append_seam}
-use Rattle.pua_audit.specs.Judge.{Judge}
-use Rattle.pua_audit.specs.Graphs.{AreApart}
-use Rattle.pua_audit.specs.Rows.{AreNumbers, IsGrown, IsEntryFor, IsJudgedRow}
-use Rattle.pua_audit.specs.Table.{IsTableOf}
 use Rattle.pua_audit.proofs.Rowed.{row_grown}
 use Rattle.pua_steps.specs.Table as steps
-use Rattle.pua_steps.specs.declared.steps.Entry.{Entry}
 use Rattle.pua_steps.specs.declared.steps.Row.{Row}
-use Rattle.pua_steps.specs.declared.steps.Steps.{Steps}
 
 -- the rows of the first directories
 abbrev pub AreRows : Judge → List (List ℕ) → List ℕ → List Row → Type 0

@@ -1,30 +1,28 @@
 -- A text names a pair exactly where it is the text of that pair.
-use Rattle.std.proofs.Common.{◌≡◌, ◌≢◌, ℕ, ◌+◌, ◌/◌, ◌%◌, ◌<◌, List, [], ◌∷◌, ◌++◌, Bool, true, false, cond, not, Option, Some, None}
-use Rattle.std.proofs.Common.{length, map, get_or, take, drop, refl, sym, ap, subst, ◌∙◌, inl, inr, arith, append-nil, codes, leb-true}
+use Rattle.pua_audit.proofs.Common.{◌≡◌, ◌≢◌, ℕ, ◌+◌, ◌<◌, List, [], ◌∷◌, ◌++◌, Bool, true, false, cond, not, Option, Some, None, length}
+use Rattle.pua_audit.proofs.Common.{map, get_or, take, drop, refl, sym, ap, subst, ◌∙◌, inl, inr, arith, append-nil, codes, find, IsTrue}
+use Rattle.pua_audit.proofs.Common.{AllByRecursion, list_all, list_any, slice_split, and_parts, or_right, cases_lt, false≢true}
+use Rattle.pua_audit.proofs.Common.{flat_map-append, bytes_eq-Decides, same_bytes, is_plain, spelling, is_byte, same_Some, other_word}
+use Rattle.pua_audit.proofs.Common.{calls, Call, Stat, Lstat, Readlink, OpenRead, OpenWrite, OpenBoth, Create, Mkdir, Rmdir, Unlink}
+use Rattle.pua_audit.proofs.Common.{Symlink, Chmod, Chdir, Exec, Word, Pair, Scope, from_root, word_of_pieces, word_of_path, word_within}
+use Rattle.pua_audit.proofs.Common.{is_letter, Base, Root, Cwd}
+use Rattle.std.proofs.Common.{◌/◌, ◌%◌}
+use Rattle.std.proofs.Common.{leb-true}
 use Rattle.std.proofs.Common.{le-leb, one-add, ne_eqb, eqb-true}
-use Rattle.std.specs.Prelude.{find, option_map, option_and_then, IsTrue, nat_le, ◌==◌, ◌||◌}
-use Rattle.std.specs.List.{AllByRecursion, list_all, list_any, slice_split, join_with_byte, position_or_len, before_first, after_first}
+use Rattle.std.specs.Prelude.{option_map, option_and_then, nat_le, ◌==◌, ◌||◌}
+use Rattle.std.specs.List.{join_with_byte, position_or_len, before_first, after_first}
 use Rattle.std.proofs.Math.Seq.{take-append_seam, drop-append-add}
-use Rattle.std.proofs.lemmas.Bool.{and_parts, or_right, cases_lt, false≢true, or_parts}
-use Rattle.std.proofs.lemmas.Grind.{flat_map-append}
+use Rattle.std.proofs.lemmas.Bool.{or_parts}
 use Rattle.std.proofs.lemmas.List.{drop_all}
 use Rattle.std.proofs.lemmas.List.Folds.{list_any-append}
 use Rattle.std.proofs.lemmas.List.Splits.{slice_split_none, slice_split_at, length-slice_split, join_with_byte-slice_split}
 use Rattle.std.proofs.lemmas.List.Sums.{split_at_first, passes_at_first}
-use Rattle.std.proofs.lemmas.Slice.Eq.{bytes_eq-Decides}
-use Rattle.pua_tree.specs.Names.{same_bytes}
-use Rattle.pua_tree.specs.Spelling.{is_plain, byte_spelling, spelling}
-use Rattle.pua_tree.proofs.ForCallers.{is_byte, spelling_tells, same_Some, None≢Some, first_passes, other_word}
-use Rattle.pua_calls.specs.Calls.{calls, call_name, call_named}
-use Rattle.pua_calls.specs.declared.call.Call.{Call}
-use Rattle.pua_calls.specs.declared.call.Call.TheVariants.{Stat, Lstat, Readlink, OpenRead, OpenWrite, OpenBoth, Create, Mkdir, Rmdir}
-use Rattle.pua_calls.specs.declared.call.Call.TheVariants.{Unlink, Symlink, Chmod, Chdir, Exec}
-use Rattle.pua_audit.specs.Reach.{Word, Pair, Scope, from_root, printed_path}
-use Rattle.pua_audit.specs.Begin.{word_of_pieces, word_of_pieces_between, word_of_path, word_within, resume_pair}
-use Rattle.pua_audit.specs.Judge.{is_letter}
+use Rattle.pua_tree.specs.Spelling.{byte_spelling}
+use Rattle.pua_tree.proofs.ForCallers.{spelling_tells, None≢Some, first_passes}
+use Rattle.pua_calls.specs.Calls.{call_name, call_named}
+use Rattle.pua_audit.specs.Reach.{printed_path}
+use Rattle.pua_audit.specs.Begin.{word_of_pieces_between, resume_pair}
 use Rattle.pua_audit.specs.PairTexts.{pair_text, is_in_alphabet, IsWord, ResumeTextsName}
-use Rattle.pua_audit.specs.declared.base.Base.{Base}
-use Rattle.pua_audit.specs.declared.base.Base.TheVariants.{Root, Cwd}
 use Rattle.pua_audit.proofs.Paths.{IsPiece, letter_is_piece}
 use Rattle.pua_audit.proofs.ResumeTexts.{letter_bytes, same_find, spelled_same}
 use Rattle.pua_path.proofs.ForCallers.{no_slash_all}

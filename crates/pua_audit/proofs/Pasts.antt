@@ -1,29 +1,16 @@
 -- A process that stands for any history stands for the one that is made of what it keeps, and both reach the same.
-use Rattle.std.proofs.Common.{◌≡◌, ℕ, List, [], ◌∷◌, ◌++◌, map, Bool, true, false, cond, refl, sym, ap, ◌∙◌, subst, append-nil}
-use Rattle.std.proofs.Common.{append_assoc, filter}
-use Rattle.std.proofs.lemmas.Bool.{false≢true}
-use Rattle.std.proofs.lemmas.List.{map-append}
-use Rattle.std.specs.Prelude.{Option, Some, None, ◌||◌, filter_map, unwrap_or}
-use Rattle.std.specs.List.{list_any}
-use Rattle.std.specs.Ordering.{is_lt}
-use Rattle.pua_tree.specs.Tree.{Tree}
-use Rattle.pua_calls.specs.Calls.{CallTable}
-use Rattle.pua_policy.specs.History.{Event, History, Pledged, Unveiled, Locked, Moved, Ended, ProcessState, StandsFor, promises_in}
+use Rattle.pua_audit.proofs.Common.{◌≡◌, ℕ, List, [], ◌∷◌, ◌++◌, map, Bool, true, false, cond, refl, sym, ap, ◌∙◌, subst, append-nil}
+use Rattle.pua_audit.proofs.Common.{append_assoc, false≢true, map-append, filter_map, list_any, is_lt, Tree, CallTable, History, is_allowed}
+use Rattle.pua_audit.proofs.Common.{Place, flat_map, result_ok, steps, part_of, base_dir, Stage, shorter, distinct_stages, live_states}
+use Rattle.pua_audit.proofs.Common.{Root, Cwd, plain_history, Pair, Scope, path_of, pair_cmp, pairs, is_reached, reach, rest_after, Base}
+use Rattle.std.proofs.Common.{filter}
+use Rattle.std.specs.Prelude.{Option, Some, None, ◌||◌, unwrap_or}
+use Rattle.pua_policy.specs.History.{Event, Pledged, Unveiled, Locked, Moved, Ended, ProcessState, StandsFor, promises_in}
 use Rattle.pua_policy.specs.History.{execpromises_in, dir_in, common, first, veils, with_veil, same_place, is_lock, is_end}
 use Rattle.pua_policy.specs.Laws.{AllowAlike}
-use Rattle.pua_policy.specs.Verdict.{is_allowed}
-use Rattle.pua_policy.specs.declared.place.Place.{Place}
 use Rattle.pua_policy.proofs.ForCallers.{processes_decide}
-use Rattle.std.specs.Prelude.{filter_map, flat_map, option_map, ◌-◌, length}
-use Rattle.std.specs.Result.{result_ok}
-use Rattle.pua_path.specs.Laws.{steps}
-use Rattle.pua_path.specs.Paths.{part_of}
-use Rattle.pua_audit.specs.Judge.{base_dir}
-use Rattle.pua_audit.specs.Live.{Stage, shorter, distinct_stages, live_states}
-use Rattle.pua_audit.specs.declared.base.Base.TheVariants.{Root, Cwd}
-use Rattle.pua_audit.specs.Past.{history_with_veils, locked_if, ended_if, plain_history}
-use Rattle.pua_audit.specs.Reach.{Pair, Scope, path_of, pair_cmp, pairs, is_reached, reach, rest_after}
-use Rattle.pua_audit.specs.declared.base.Base.{Base}
+use Rattle.std.specs.Prelude.{option_map, ◌-◌, length}
+use Rattle.pua_audit.specs.Past.{history_with_veils, locked_if, ended_if}
 use Rattle.std.proofs.lemmas.List.Elements.{filter_agree}
 
 -- what veils, a lock and an end leave as it is

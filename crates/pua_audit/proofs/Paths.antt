@@ -1,19 +1,15 @@
 -- The path of a word: its parts are the word's letters, and it has no fault.
-use Rattle.std.proofs.Common.{subst, ◌≡◌, ℕ, suc, Bool, true, false, not, ◌&&◌, ◌||◌, List, [], ◌∷◌, ◌++◌, length, map, refl, sym, ap, ◌∙◌}
-use Rattle.std.proofs.Common.{arith, lt-ltb, ◌+◌, ◌*◌, ◌≤◌, append-nil, length-append, None, ◌==◌, codes, nat_lt, nat_le}
-use Rattle.std.proofs.lemmas.Bool.{false≢true, and_parts}
+use Rattle.pua_audit.proofs.Common.{subst, ◌≡◌, ℕ, suc, Bool, true, false, not, ◌&&◌, ◌||◌, List, [], ◌∷◌, ◌++◌, length, map, refl, sym, ap}
+use Rattle.pua_audit.proofs.Common.{◌∙◌, arith, ◌+◌, ◌*◌, ◌≤◌, append-nil, None, ◌==◌, codes, nat_lt, nat_le, false≢true, and_parts}
+use Rattle.pua_audit.proofs.Common.{AllByRecursion, list_any, list_all, is_name, same_bytes, part_of, is_absolute, Ending, Word, from_root}
+use Rattle.pua_audit.proofs.Common.{path_of, is_letter, Base, Root, Cwd}
+use Rattle.std.proofs.Common.{lt-ltb, length-append}
 use Rattle.std.proofs.lemmas.Bool.Decides.{nat_tests}
-use Rattle.std.specs.List.{AllByRecursion, list_any, list_all}
 use Rattle.std.proofs.lemmas.List.Splits.{slice_split_none, slice_split_at}
 use Rattle.std.proofs.lemmas.List.Folds.{list_any-append}
-use Rattle.pua_tree.specs.Names.{is_name, is_name_byte, same_bytes, has_byte, components, has_short_components}
-use Rattle.pua_path.specs.Paths.{part_of, ends_in_slash, ending_parts, parts_of, path_fault, is_absolute}
-use Rattle.pua_path.specs.declared.text.Ending.{Ending}
+use Rattle.pua_tree.specs.Names.{is_name_byte, has_byte, components, has_short_components}
+use Rattle.pua_path.specs.Paths.{ends_in_slash, ending_parts, parts_of, path_fault}
 use Rattle.pua_path.specs.declared.text.Ending.TheVariants as ending
-use Rattle.pua_audit.specs.Reach.{Word, from_root, path_of}
-use Rattle.pua_audit.specs.Judge.{is_letter}
-use Rattle.pua_audit.specs.declared.base.Base.{Base}
-use Rattle.pua_audit.specs.declared.base.Base.TheVariants.{Root, Cwd}
 use Rattle.pua_tree.proofs.ForCallers.{same_word}
 use Rattle.pua_path.proofs.ForCallers.{no_slash_all}
 

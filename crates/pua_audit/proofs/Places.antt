@@ -1,13 +1,9 @@
 -- Places of directories.
-use Rattle.std.proofs.Common.{ℕ, ◌<◌, ◌≤◌, ◌≡◌, List, [], ◌∷◌, ◌++◌, Some, true, false, ◌||◌, refl, sym, ◌∙◌, length, get_or, nat_eq, subst}
-use Rattle.std.specs.Prelude.{slice_get, if◌then◌else◌}
-use Rattle.std.specs.List.{AllByRecursion, list_any}
-use Rattle.std.proofs.lemmas.Bool.{eqb-true}
+use Rattle.pua_audit.proofs.Common.{ℕ, ◌<◌, ◌≤◌, ◌≡◌, List, [], ◌∷◌, ◌++◌, Some, true, false, ◌||◌, refl, sym, ◌∙◌, length, get_or, nat_eq}
+use Rattle.pua_audit.proofs.Common.{subst, if◌then◌else◌, AllByRecursion, list_any, eqb-true, insert_key, AreNumbers, all_joined}
+use Rattle.std.specs.Prelude.{slice_get}
 use Rattle.std.proofs.lemmas.Map.Steps.{length-le_from_distinct_below}
 use Rattle.std.proofs.lemmas.Option.{get_or_from_slice_get}
-use Rattle.indexmap.specs.IndexSet.{insert_key}
-use Rattle.pua_audit.specs.Rows.{AreNumbers}
-use Rattle.pua_steps.proofs.ForCallers.{all_joined}
 
 -- numbers below 2^32, none of them twice, are at most so many
 

@@ -1,28 +1,21 @@
 -- Where a letter stands among letters that rise, as a binary search finds it.
-use Rattle.std.proofs.Common.{◌≡◌, ◌≢◌, ℕ, zero, suc, ◌<◌, ◌≤◌, List, [], ◌∷◌, ◌++◌, Bool, false, cond, Some, None, Result, Ok, Err, length}
-use Rattle.std.proofs.Common.{map, get_or, take, drop, reverse, Bor, refl, sym, ap, ◌∙◌, inl, inr, arith}
-use Rattle.std.specs.Prelude.{find}
+use Rattle.pua_audit.proofs.Common.{◌≡◌, ◌≢◌, ℕ, zero, suc, ◌<◌, ◌≤◌, List, [], ◌∷◌, ◌++◌, Bool, false, cond, Some, None, length, map}
+use Rattle.pua_audit.proofs.Common.{get_or, take, drop, reverse, refl, sym, ap, ◌∙◌, inl, inr, arith, find, cases_lt, get_or-map}
+use Rattle.pua_audit.proofs.Common.{length-map, map-append, Less, Equal, Greater, ordering_reverse, tied_itself, nat_list_cmp_total}
+use Rattle.pua_audit.proofs.Common.{nat_cmp-IsAntisymmetric, by_order, same_bytes, name_cmp, with_name, distinct_names, Part, Dot, Rises}
+use Rattle.pua_audit.proofs.Common.{part_bytes, with_names, other_word}
+use Rattle.std.proofs.Common.{Result, Ok, Err}
+use Rattle.std.proofs.Common.{Bor}
 use Rattle.std.specs.List.{insert}
 use Rattle.std.specs.List.Sorted.{IsNonDecreasingBy, IsBinarySearchResult, IsSearchInRange}
-use Rattle.std.proofs.lemmas.Bool.{cases_lt}
-use Rattle.std.proofs.lemmas.List.{get_or-map, length-map, map-append, reverse-append, take-map, drop-map}
+use Rattle.std.proofs.lemmas.List.{reverse-append, take-map, drop-map}
 use Rattle.std.specs.declared.cmp.Ordering.{Ordering}
-use Rattle.std.specs.declared.cmp.Ordering.TheVariants.{Less, Equal, Greater}
-use Rattle.std.specs.Ordering.{ordering_index, ordering_reverse}
-use Rattle.std.specs.Cmp.{alike_right, tied_itself}
-use Rattle.std.specs.Cmp.Lexicographic.{nat_list_cmp_total}
-use Rattle.std.specs.FinMap.{nat_cmp-IsAntisymmetric, slice_cmp-IsAntisymmetric}
-use Rattle.std.specs.FinMap.Entries.{by_order}
-use Rattle.pua_tree.specs.Names.{same_bytes}
-use Rattle.pua_tree.specs.Tree.{name_cmp, with_name, distinct_names}
-use Rattle.pua_path.specs.declared.found.Part.{Part}
-use Rattle.pua_path.specs.declared.found.Part.TheVariants.{Dot}
-use Rattle.pua_audit.specs.Laws.{Rises}
-use Rattle.pua_audit.specs.Ready.{part_bytes}
-use Rattle.pua_audit.specs.Alphabets.{with_names, IsPlaced}
+use Rattle.std.specs.Ordering.{ordering_index}
+use Rattle.std.specs.Cmp.{alike_right}
+use Rattle.std.specs.FinMap.{slice_cmp-IsAntisymmetric}
+use Rattle.pua_audit.specs.Alphabets.{IsPlaced}
 use Rattle.pua_audit.proofs.Moves.{all_at_index}
 use Rattle.pua_audit.proofs.Rising.{with_name_rises}
-use Rattle.pua_tree.proofs.ForCallers.{other_word}
 
 pub turned : (a b : List ℕ) (o : Ordering) → name_cmp a b ≡ o → name_cmp b a ≡ ordering_reverse o
 turned a b o e = nat_list_cmp_total.antisymm b a ∙ ap ordering_reverse e

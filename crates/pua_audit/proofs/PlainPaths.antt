@@ -1,16 +1,11 @@
 -- How many letters at the front of a word have only bytes that stand for themselves.
-use Rattle.std.proofs.Common.{◌≡◌, ◌<◌, ◌≤◌, ℕ, zero, suc, true, false, List, [], ◌∷◌, ◌++◌, length, take, min, nat_eq, inl, inr, refl, sym}
-use Rattle.std.proofs.Common.{ap, ◌∙◌, arith}
-use Rattle.std.specs.Prelude.{if◌then◌else◌, ◌&&◌}
-use Rattle.std.specs.List.{list_all}
+use Rattle.pua_audit.proofs.Common.{◌≡◌, ◌<◌, ◌≤◌, ℕ, zero, suc, true, false, List, [], ◌∷◌, ◌++◌, length, take, min, nat_eq, inl, inr}
+use Rattle.pua_audit.proofs.Common.{refl, sym, ap, ◌∙◌, arith, if◌then◌else◌, list_all, is_plain, Word, from_root, lent_path, Base, Root}
+use Rattle.pua_audit.proofs.Common.{Cwd}
+use Rattle.std.specs.Prelude.{◌&&◌}
 use Rattle.std.proofs.lemmas.Bool.Decides.{eqb_tells}
 use Rattle.std.proofs.lemmas.List.Folds.{list_all-append}
-use Rattle.pua_tree.specs.Spelling.{is_plain}
-use Rattle.pua_audit.specs.Reach.{Word, from_root}
-use Rattle.pua_audit.specs.Ready.{lent_path}
 use Rattle.pua_audit.specs.WordPaths.{plain_front}
-use Rattle.pua_audit.specs.declared.base.Base.{Base}
-use Rattle.pua_audit.specs.declared.base.Base.TheVariants.{Root, Cwd}
 
 -- of the first letters it is as many, or all that there are
 pub front-take : (k : ℕ) (word : Word) → plain_front (take k word) ≡ min (plain_front word) k

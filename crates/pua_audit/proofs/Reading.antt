@@ -1,11 +1,7 @@
 -- What candidates are, as they are read one after another.
-use Rattle.std.proofs.Common.{◌≡◌, ℕ, suc, List, [], ◌∷◌, ◌++◌, refl, sym, ap, ◌∙◌, append_assoc}
-use Rattle.std.specs.Prelude.{Result, Ok, Err, ok_or}
-use Rattle.std.specs.Result.{result_ok}
-use Rattle.pua_tree.specs.Spelling.{name_of}
-use Rattle.pua_tree.specs.Steps.{◌>>=◌}
-use Rattle.pua_audit.specs.Begin.{candidates_from}
-use Rattle.pua_audit.specs.declared.fault.AuditFault.{AuditFault}
+use Rattle.pua_audit.proofs.Common.{◌≡◌, ℕ, suc, List, [], ◌∷◌, ◌++◌, refl, sym, ap, ◌∙◌, append_assoc, Result, Ok, Err, result_ok, name_of}
+use Rattle.pua_audit.proofs.Common.{◌>>=◌, candidates_from, AuditFault}
+use Rattle.std.specs.Prelude.{ok_or}
 use Rattle.pua_audit.specs.declared.fault.AuditFault.TheVariants.{BadCandidate}
 
 -- candidates that were read, in front of the further ones

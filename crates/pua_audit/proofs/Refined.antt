@@ -1,22 +1,13 @@
 -- The pairs of a graph are those of the world that it stands for.
-use Rattle.std.proofs.Common.{ℕ, zero, suc, ◌+◌, ◌<◌, ◌≤◌, ◌≡◌, List, [], ◌∷◌, ◌++◌, Option, Some, None, true, false, cond, refl, ap, arith}
-use Rattle.std.proofs.Common.{sym, ◌∙◌, map, length, get_or, option_map, append_assoc, inl, inr, subst}
-use Rattle.std.proofs.lemmas.List.{map-append}
-use Rattle.std.proofs.lemmas.Bool.{cases_eq, ne_eqb}
-use Rattle.std.specs.Prelude.{flat_map, IfSome}
-use Rattle.std.specs.List.{range_with_len, AllByRecursion}
-use Rattle.pua_calls.specs.CallSets.{bit_of}
-use Rattle.pua_calls.specs.declared.call.Call.{Call}
-use Rattle.pua_audit.specs.Reach.{Word, Pair}
-use Rattle.pua_audit.specs.Judge.{Judge, WordEnd, Start, Below}
-use Rattle.pua_audit.specs.Judge.{allowed_at}
+use Rattle.pua_audit.proofs.Common.{ℕ, zero, suc, ◌+◌, ◌<◌, ◌≤◌, ◌≡◌, List, [], ◌∷◌, ◌++◌, Option, Some, None, true, false, cond, refl, ap}
+use Rattle.pua_audit.proofs.Common.{arith, sym, ◌∙◌, map, length, get_or, option_map, append_assoc, inl, inr, subst, map-append, cases_eq}
+use Rattle.pua_audit.proofs.Common.{ne_eqb, flat_map, IfSome, range_with_len, AllByRecursion, bit_of, Call, Word, Pair, Judge, WordEnd}
+use Rattle.pua_audit.proofs.Common.{Start, Below, allowed_at, calls_of, State, Visit, named_in, IsRight, HasJudgedVisits, IsKnown}
+use Rattle.pua_audit.proofs.Common.{pair_in_numbers, pair_in_letters}
 use Rattle.pua_audit.proofs.Lines as lines
-use Rattle.pua_steps.specs.Calls.{calls_of}
 use Rattle.pua_steps.specs.Graph as graph
-use Rattle.pua_steps.specs.declared.state.State.{State}
-use Rattle.pua_steps.specs.declared.visit.Visit.{Visit}
-use Rattle.pua_audit.specs.Graphs.{named_in, is_visited, RisingVisits, IsRight, IsMissing, HasJudgedVisits, IsKnown, pair_in_numbers}
-use Rattle.pua_audit.specs.Graphs.{pair_in_letters, GraphsReach}
+use Rattle.pua_audit.specs.Graphs.{is_visited, RisingVisits, IsMissing}
+use Rattle.pua_audit.specs.Graphs.{GraphsReach}
 
 pub map-flat_map : {A B C : Type 0} (f : B → C) (g : A → List B) (xs : List A) → map f (flat_map g xs) ≡ flat_map (λ x. map f (g x)) xs
 map-flat_map f g [] = refl

@@ -1,34 +1,26 @@
 -- A reach asks a tree for its rows and nodes alone.
-use Rattle.std.proofs.Common.{◌≡◌, ℕ, zero, suc, List, [], ◌∷◌, ◌++◌, map, length, Bool, not, ◌&&◌, cond, refl, ap, ◌∙◌}
-use Rattle.std.specs.Prelude.{Option, Some, None, Result, Ok, Err, filter}
-use Rattle.std.specs.List.{list_any}
-use Rattle.pua_tree.specs.Steps.{◌>>=◌}
-use Rattle.pua_tree.specs.Tree.{Tree, is_dir, look, above, climb_within}
-use Rattle.pua_path.specs.Paths.{parts_of, is_absolute, path_fault}
+use Rattle.pua_audit.proofs.Common.{◌≡◌, ℕ, zero, suc, List, [], ◌∷◌, ◌++◌, map, length, Bool, not, ◌&&◌, cond, refl, ap, ◌∙◌, Result, Ok}
+use Rattle.pua_audit.proofs.Common.{Err, filter, list_any, ◌>>=◌, Tree, is_dir, above, is_absolute, Errno, Ending, Part, Last, Found, Whole}
+use Rattle.pua_audit.proofs.Common.{Slot, CallTable, rule_of, last_of, History, perms_kept, may_any, IsMissing, cover, verdict_of}
+use Rattle.pua_audit.proofs.Common.{is_allowed, Call, Stat, Lstat, Readlink, OpenRead, OpenWrite, OpenBoth, Create, Mkdir, Rmdir, Unlink}
+use Rattle.pua_audit.proofs.Common.{Symlink, Chmod, Chdir, Exec, Scope, is_reached, pairs, reach, path_of}
+use Rattle.std.specs.Prelude.{Option, Some, None}
+use Rattle.pua_tree.specs.Tree.{look, climb_within}
+use Rattle.pua_path.specs.Paths.{parts_of, path_fault}
 use Rattle.pua_path.specs.Resolution.{Resolved, Standing, Directory, Linked, Plain, Nothing, standing_at, is_followed, slot_or, walk}
 use Rattle.pua_path.specs.Resolution.{start_of, resolve_parts, resolution, resolution_of_text, most_links}
-use Rattle.pua_path.specs.declared.errno.Errno.{Errno}
 use Rattle.pua_path.specs.declared.errno.Errno.TheVariants.{ENOENT, ENOTDIR, ELOOP}
-use Rattle.pua_path.specs.declared.text.Ending.{Ending}
 use Rattle.pua_path.specs.declared.text.Ending.TheVariants as ending
-use Rattle.pua_path.specs.declared.found.Part.{Part}
 use Rattle.pua_path.specs.declared.found.Part.TheVariants as parts
-use Rattle.pua_path.specs.declared.found.Last.{Last}
 use Rattle.pua_path.specs.declared.found.Way.{Way}
 use Rattle.pua_path.specs.declared.found.Way.TheVariants as way
-use Rattle.pua_path.specs.declared.found.Found.{Found}
-use Rattle.pua_path.specs.declared.found.Found.TheVariants.{Whole, Slot}
-use Rattle.pua_calls.specs.Calls.{CallTable, rule_of, ending_of, last_of}
-use Rattle.pua_policy.specs.History.{History, perms_kept, may_any, working_dir}
-use Rattle.pua_policy.specs.Verdict.{Object, IsDir, IsFile, IsProg, IsLink, IsMissing, object_fault, object_of, cover, cover_fault}
-use Rattle.pua_policy.specs.Verdict.{or_fault, nearest, is_unveil, place_of, directories_over, allowed_unless, if_promised, verdict_of}
-use Rattle.pua_policy.specs.Verdict.{verdict_on, object_named, is_allowed}
+use Rattle.pua_calls.specs.Calls.{ending_of}
+use Rattle.pua_policy.specs.History.{working_dir}
+use Rattle.pua_policy.specs.Verdict.{Object, IsDir, IsFile, IsProg, IsLink, object_fault, object_of, cover_fault}
+use Rattle.pua_policy.specs.Verdict.{or_fault, nearest, is_unveil, place_of, directories_over, allowed_unless, if_promised}
+use Rattle.pua_policy.specs.Verdict.{verdict_on, object_named}
 use Rattle.pua_policy.specs.declared.answer.Cover.TheVariants.{All}
-use Rattle.pua_calls.specs.declared.call.Call.{Call}
-use Rattle.pua_calls.specs.declared.call.Call.TheVariants.{Stat, Lstat, Readlink, OpenRead, OpenWrite, OpenBoth, Create, Mkdir, Rmdir}
-use Rattle.pua_calls.specs.declared.call.Call.TheVariants.{Unlink, Symlink, Chmod, Chdir, Exec}
 use Rattle.pua_policy.specs.declared.place.Place.TheVariants.{Dir}
-use Rattle.pua_audit.specs.Reach.{Scope, is_reached, pairs, reach, path_of}
 use Rattle.pua_audit.specs.Renumbering.{ReachNeedsRows}
 
 module _ (t : Tree) (n : ℕ) where

@@ -1,26 +1,19 @@
 -- The letters that pieces of a printed path spell.
-use Rattle.std.proofs.Common.{◌≡◌, ◌≢◌, ℕ, zero, suc, ◌+◌, ◌<◌, ◌≤◌, List, [], ◌∷◌, ◌++◌, Bool, true, false, cond, Option, Some, None}
-use Rattle.std.proofs.Common.{Result, Ok, Err, length, get_or, drop, refl, sym, ap, subst, ◌∙◌, inl, inr, ◌⊎◌, arith, append_assoc}
-use Rattle.std.proofs.Common.{length-append, codes, position, ltb, take_all}
-use Rattle.std.specs.Prelude.{find, option_map, option_and_then, IsTrue}
+use Rattle.pua_audit.proofs.Common.{◌≡◌, ◌≢◌, ℕ, zero, suc, ◌+◌, ◌<◌, ◌≤◌, List, [], ◌∷◌, ◌++◌, Bool, true, false, cond, Option, Some, None}
+use Rattle.pua_audit.proofs.Common.{length, get_or, drop, refl, sym, ap, subst, ◌∙◌, inl, inr, arith, append_assoc, codes, ltb, find}
+use Rattle.pua_audit.proofs.Common.{IsTrue, list_all, result_ok, and_parts, lt-leb, le-leb, eq-eqb, false≢true, bytes_eq-Decides, is_name}
+use Rattle.pua_audit.proofs.Common.{same_bytes, spelling, name_of, is_byte, other_word, Word, word_of_pieces, word_of_path, word_within}
+use Rattle.pua_audit.proofs.Common.{is_letter, word_of, AreLetters, Root, all_pushed}
+use Rattle.std.proofs.Common.{Result, Ok, Err, ◌⊎◌}
+use Rattle.std.proofs.Common.{length-append, position, take_all}
+use Rattle.std.specs.Prelude.{option_map, option_and_then}
 use Rattle.std.specs.Bool.{one_answer}
-use Rattle.std.specs.List.{list_all, position_or_len, before_first, after_first}
-use Rattle.std.specs.Result.{result_ok}
-use Rattle.std.proofs.lemmas.Bool.{and_parts, or_cases, lt-leb, le-leb, eq-eqb, ltb-false, false≢true}
+use Rattle.std.specs.List.{position_or_len, before_first, after_first}
+use Rattle.std.proofs.lemmas.Bool.{or_cases, ltb-false}
 use Rattle.std.proofs.lemmas.List.{drop_all, drop_more}
-use Rattle.std.proofs.lemmas.Slice.Eq.{bytes_eq-Decides}
-use Rattle.pua_tree.specs.Names.{is_name, same_bytes}
-use Rattle.pua_tree.specs.Spelling.{spelling, name_of}
 use Rattle.pua_tree.specs.declared.fault.NameFault.{NameFault}
-use Rattle.pua_tree.proofs.ForCallers.{is_byte, name_is_bytes, spelling_tells, name_of-spelling, Err≢Ok, other_word}
-use Rattle.pua_audit.specs.Reach.{Word}
-use Rattle.pua_audit.specs.Begin.{word_of_pieces, word_of_path, word_within}
-use Rattle.pua_audit.specs.Judge.{is_letter}
-use Rattle.pua_audit.specs.Ready.{word_of}
+use Rattle.pua_tree.proofs.ForCallers.{name_is_bytes, spelling_tells, name_of-spelling, Err≢Ok}
 use Rattle.pua_audit.specs.Alphabets.{IsPlaced}
-use Rattle.pua_audit.specs.Starting.{AreLetters}
-use Rattle.pua_audit.specs.declared.base.Base.TheVariants.{Root}
-use Rattle.pua_steps.proofs.ForCallers.{all_pushed}
 
 -- a letter is a name or two dots
 

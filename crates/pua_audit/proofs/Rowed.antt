@@ -1,20 +1,11 @@
 -- A row of a table of steps while it grows by one letter after another.
-use Rattle.std.proofs.Common.{ℕ, suc, ◌+◌, ◌<◌, ◌≤◌, ◌^◌, ◌≡◌, List, [], ◌∷◌, ◌++◌, Option, Some, None, Bool, true, false, ◌==◌, nat_le}
-use Rattle.std.proofs.Common.{cond, refl, ap, arith, sym, ◌∙◌, length, get_or, option_map, subst, inl, inr}
-use Rattle.std.specs.Prelude.{IfSome}
-use Rattle.std.specs.List.{AllByRecursion}
-use Rattle.std.proofs.lemmas.Bool.{cases_eq, eq-eqb, ne_eqb}
-use Rattle.pua_path.specs.Limits.{most_links}
-use Rattle.pua_calls.specs.CallSets.{bit_of}
-use Rattle.pua_audit.specs.Judge.{Judge}
-use Rattle.pua_audit.specs.Rows.{IsGrown, IsEntryFor, IsJudgedRow}
-use Rattle.pua_audit.specs.Table.{IsLetter, IsLetterTold, entry_with_letter}
+use Rattle.pua_audit.proofs.Common.{ℕ, suc, ◌+◌, ◌<◌, ◌≤◌, ◌^◌, ◌≡◌, List, [], ◌∷◌, ◌++◌, Option, Some, None, Bool, true, false, ◌==◌}
+use Rattle.pua_audit.proofs.Common.{nat_le, cond, refl, ap, arith, sym, ◌∙◌, length, get_or, option_map, subst, inl, inr, IfSome}
+use Rattle.pua_audit.proofs.Common.{AllByRecursion, cases_eq, eq-eqb, ne_eqb, most_links, bit_of, Judge, IsGrown, IsEntryFor, IsJudgedRow}
+use Rattle.pua_audit.proofs.Common.{IsLetter, has_call, call_count, Entry, all_joined}
+use Rattle.pua_audit.specs.Table.{IsLetterTold, entry_with_letter}
 use Rattle.pua_audit.specs.Judge as named
-use Rattle.pua_steps.specs.Calls.{has_call}
-use Rattle.pua_steps.specs.Limits.{call_count}
 use Rattle.pua_steps.specs.Table.{Rising}
-use Rattle.pua_steps.specs.declared.steps.Entry.{Entry}
-use Rattle.pua_steps.proofs.ForCallers.{all_joined}
 
 pub grown_itself : (dirs : List ℕ) → IsGrown dirs dirs
 grown_itself dirs = record { more = omega arith; same = λ d low. refl }

@@ -1,15 +1,8 @@
 -- The path of a walk's word, letter by letter.
-use Rattle.std.proofs.Common.{ℕ, suc, ◌+◌, ◌*◌, ◌<◌, ◌≤◌, ◌≡◌, List, [], ◌∷◌, ◌++◌, refl, ap, arith, sym, ◌∙◌, length, get_or, append_assoc}
-use Rattle.std.proofs.Common.{append-nil, mul-le-mul_right}
-use Rattle.std.proofs.lemmas.List.{get_or-map, length-map}
-use Rattle.std.specs.List.{AllByRecursion}
-use Rattle.pua_path.specs.declared.found.Part.{Part}
-use Rattle.pua_audit.specs.Reach.{Word, from_root, path_of}
-use Rattle.pua_audit.specs.Begin.{longest}
-use Rattle.pua_audit.specs.Ready.{part_bytes, letters_of, word_of, lent_path}
-use Rattle.pua_audit.specs.declared.base.Base.{Base}
-use Rattle.pua_audit.specs.declared.base.Base.TheVariants.{Root, Cwd}
-use Rattle.pua_audit.specs.declared.terms.Terms.{Terms}
+use Rattle.pua_audit.proofs.Common.{ℕ, suc, ◌+◌, ◌*◌, ◌<◌, ◌≤◌, ◌≡◌, List, [], ◌∷◌, ◌++◌, refl, ap, arith, sym, ◌∙◌, length, get_or}
+use Rattle.pua_audit.proofs.Common.{append_assoc, append-nil, get_or-map, length-map, AllByRecursion, Part, Word, from_root, path_of}
+use Rattle.pua_audit.proofs.Common.{longest, part_bytes, letters_of, word_of, lent_path, Base, Root, Cwd, Terms}
+use Rattle.std.proofs.Common.{mul-le-mul_right}
 use Rattle.pua_audit.proofs.Along.{no_longer}
 use Rattle.pua_audit.proofs.Moves.{all_at_index, length-word_of}
 use Rattle.pua_audit.proofs.Paths.{length_from_root}

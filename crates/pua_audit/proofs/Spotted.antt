@@ -1,34 +1,26 @@
 -- The letters that directories tell apart, gathered one after another.
-use Rattle.std.proofs.Common.{◌≡◌, ◌≢◌, ◌<◌, ◌+◌, ℕ, List, [], ◌∷◌, ◌++◌, Some, None, true, false, cond, map, take, drop, length, ltb, leb}
-use Rattle.std.proofs.Common.{ltb-true, leb-false, arith, get_or, slice_index_or, add-one, inl, inr, Option, refl, sym, ap, subst, ◌∙◌}
+use Rattle.pua_audit.proofs.Common.{◌≡◌, ◌≢◌, ◌<◌, ◌+◌, ℕ, List, [], ◌∷◌, ◌++◌, Some, None, true, false, cond, map, take, drop, length, ltb}
+use Rattle.pua_audit.proofs.Common.{arith, get_or, add-one, inl, inr, Option, refl, sym, ap, subst, ◌∙◌, if◌then◌else◌, bytes_eq, IfSome}
+use Rattle.pua_audit.proofs.Common.{AllByRecursion, eq_by_cmp, tied_itself, nat_list_cmp_total, nat_cmp-IsAntisymmetric, cases_lt}
+use Rattle.pua_audit.proofs.Common.{map-append, get_or-map, Spot, name_cmp, veil_at, Place, Rises, part_bytes, AreApartFrom, IsNowhere}
+use Rattle.pua_audit.proofs.Common.{IsUnmarked, is_dots, LetterSpot, part_of, Part, all_joined, all_pushed}
+use Rattle.std.proofs.Common.{leb}
+use Rattle.std.proofs.Common.{ltb-true, leb-false, slice_index_or}
 use lib.Pointwise.{bytes_decides}
-use Rattle.std.specs.Prelude.{if◌then◌else◌, bytes_eq, IfSome}
 use Rattle.std.specs.FinMap.{find as find_key}
-use Rattle.std.specs.List.{AllByRecursion}
-use Rattle.std.specs.Ordering.{eq_by_cmp}
-use Rattle.std.specs.Cmp.{Equal-is, tied_itself}
-use Rattle.std.specs.Cmp.Lexicographic.{nat_list_cmp_total}
-use Rattle.std.specs.FinMap.{nat_cmp-IsAntisymmetric}
-use Rattle.std.proofs.lemmas.Bool.{cases_lt}
-use Rattle.std.proofs.lemmas.List.{map-append, take-append-drop, get_or-map}
+use Rattle.std.specs.Cmp.{Equal-is}
+use Rattle.std.proofs.lemmas.List.{take-append-drop}
 use Rattle.std.proofs.Math.Seq.{take-suc}
 use Rattle.std.specs.List.{AllWithin}
-use Rattle.pua_tree.specs.Tree.{Spot, name_cmp, spot_cmp}
+use Rattle.pua_tree.specs.Tree.{spot_cmp}
 use Rattle.pua_tree.proofs.ForCallers.{exact_spots}
-use Rattle.pua_policy.specs.History.{veil_at, same_place}
-use Rattle.pua_policy.specs.declared.place.Place.{Place}
+use Rattle.pua_policy.specs.History.{same_place}
 use Rattle.pua_policy.proofs.ForCallers.{same_place_is}
-use Rattle.pua_audit.specs.Laws.{Rises}
-use Rattle.pua_audit.specs.Ready.{part_bytes}
-use Rattle.pua_audit.specs.Spots.{AreApartFrom, IsNowhere, IsUnmarked, is_dots}
-use Rattle.pua_audit.specs.declared.table.spots.LetterSpot.{LetterSpot}
-use Rattle.pua_path.specs.Paths.{part_of}
-use Rattle.pua_path.specs.declared.found.Part.{Part}
 use Rattle.pua_path.specs.declared.found.Part.TheVariants as part
 use Rattle.pua_audit.proofs.Letters.{letter_part}
 use Rattle.pua_audit.proofs.Lists.{all_before, all_after}
 use Rattle.pua_audit.proofs.AfterPair.{letters_alike}
-use Rattle.pua_steps.proofs.ForCallers.{all_weaker, all_joined, all_pushed}
+use Rattle.pua_steps.proofs.ForCallers.{all_weaker}
 
 -- one element more of a list that is gone through
 

@@ -1,21 +1,15 @@
 -- The live states by the reach are those by the number of letters that lead to them.
-use Rattle.std.proofs.Common.{ℕ, zero, suc, ◌-◌, ◌<◌, ◌≡◌, List, [], ◌∷◌, ◌++◌, Some, None, Bool, true, false, ◌||◌, ◌&&◌, ◌==◌, nat_lt}
-use Rattle.std.proofs.Common.{nat_le, refl, ap, arith, sym, ◌∙◌, map, length, option_map, inl, inr}
-use Rattle.std.specs.Prelude.{flat_map, filter_map, option_to_list}
-use Rattle.std.specs.List.{cons_option}
-use Rattle.std.proofs.lemmas.Grind.{flat_map-append}
+use Rattle.pua_audit.proofs.Common.{ℕ, zero, suc, ◌-◌, ◌<◌, ◌≡◌, List, [], ◌∷◌, ◌++◌, Some, None, Bool, true, false, ◌||◌, ◌&&◌, ◌==◌}
+use Rattle.pua_audit.proofs.Common.{nat_lt, nat_le, refl, ap, arith, sym, ◌∙◌, map, length, option_map, inl, inr, flat_map, filter_map}
+use Rattle.pua_audit.proofs.Common.{option_to_list, cons_option, flat_map-append, cases_eq, cases_lt, and_parts, eqb-true, eq-eqb, ne_eqb}
+use Rattle.pua_audit.proofs.Common.{le-leb, lt-leb, Call, Word, Pair, Judge, WordEnd, Start, Below, allowed_at, JudgeState, Stage, shorter}
+use Rattle.pua_audit.proofs.Common.{and-false}
 use Rattle.std.proofs.lemmas.List.Elements.{filter_map-append}
-use Rattle.std.proofs.lemmas.Bool.{cases_eq, cases_lt, and_parts, eqb-true, eq-eqb, ne_eqb, lt-ltb, le-ltb, le-leb, lt-leb}
-use Rattle.pua_calls.specs.declared.call.Call.{Call}
-use Rattle.pua_audit.specs.Reach.{Word, Pair}
-use Rattle.pua_audit.specs.Judge.{Judge, WordEnd, Start, Below}
-use Rattle.pua_audit.specs.Judge.{allowed_at}
-use Rattle.pua_audit.specs.Judge.{JudgeState}
-use Rattle.pua_audit.specs.Live.{Stage, shorter}
+use Rattle.std.proofs.lemmas.Bool.{lt-ltb, le-ltb}
 use Rattle.pua_audit.proofs.Lines as lines
 use Rattle.pua_audit.proofs.Stages.{on_state, leads, staged, stage_after, stages_of, is_stage, is_staged, reached_from, is_state, is_among}
 use Rattle.pua_audit.proofs.Stages.{some_pair, state_of, StagesLive}
-use Rattle.std.proofs.Math.Bool.{or-false, or_assoc, and-false}
+use Rattle.std.proofs.Math.Bool.{or-false, or_assoc}
 
 abbrev any : {A : Type 0} → (A → Bool) → List A → Bool
 any f [] = false

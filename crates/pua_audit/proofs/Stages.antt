@@ -1,10 +1,8 @@
 -- What a judge says of the states on the way to pairs, and of the states to which words lead.
 use Rattle.std.specs.Prelude.{◌≡◌, ℕ, zero, suc, ◌-◌, Bool, true, false, ◌&&◌, ◌||◌, ◌==◌, nat_lt, nat_le, List, [], ◌∷◌, length, Option}
-use Rattle.std.specs.Prelude.{Some, None, option_map, option_to_list, flat_map, filter_map}
-use Rattle.pua_audit.specs.Reach.{Word, Pair}
-use Rattle.pua_audit.specs.Judge.{Judge, WordEnd, Start, Below, reach_along}
-use Rattle.pua_audit.specs.Live.{Stage, shorter}
-use Rattle.pua_audit.specs.Judge.{JudgeState}
+use Rattle.pua_audit.proofs.Common.{option_to_list, flat_map, filter_map, Word, Pair, Judge, WordEnd, Start, Below, reach_along, Stage}
+use Rattle.pua_audit.proofs.Common.{shorter, JudgeState}
+use Rattle.std.specs.Prelude.{Some, None, option_map}
 use Rattle.pua_audit.proofs.Lines.{rows}
 
 abbrev pub on_state : {B : Type 0} → Option JudgeState → B → (JudgeState → B) → B

@@ -1,8 +1,6 @@
 -- Fewer pairs that are allowed make a reach that lies within another.
-use Rattle.std.proofs.Common.{◌≡◌, List, [], ◌∷◌, Bool, true, false, cond, refl, sym, subst}
-use Rattle.std.specs.Prelude.{filter}
-use Rattle.std.proofs.lemmas.Bool.{false≢true}
-use Rattle.pua_audit.specs.Reach.{is_reached, pairs, reach}
+use Rattle.pua_audit.proofs.Common.{◌≡◌, List, [], ◌∷◌, Bool, true, false, cond, refl, sym, subst, filter, false≢true, is_reached, pairs}
+use Rattle.pua_audit.proofs.Common.{reach}
 use Rattle.pua_audit.specs.SubLists.{SubList, nothing, both, more, FewerReachLess}
 
 module _ {A : Type 0} (p q : A → Bool) (within : (x : A) → p x ≡ true → q x ≡ true) where

@@ -1,25 +1,15 @@
 -- The graph of a table of steps stands for the judge whose letters its rows tell.
-use Rattle.std.proofs.Common.{ℕ, zero, suc, ◌+◌, ◌-◌, ◌<◌, ◌≤◌, ◌≡◌, List, [], ◌∷◌, ◌++◌, Option, Some, None, Bool, true, false, ◌||◌, ◌==◌}
-use Rattle.std.proofs.Common.{nat_le, cond, refl, ap, arith, sym, ◌∙◌, map, length, get_or, option_map, append-nil, subst, inl, inr}
-use Rattle.std.specs.Prelude.{IfSome}
-use Rattle.std.specs.List.{AllByRecursion, range_with_len}
-use Rattle.std.proofs.lemmas.Bool.{cases_eq, cases_lt, eqb-true, eq-eqb, ne_eqb, leb-true, or_parts}
-use Rattle.pua_path.specs.Limits.{most_links}
-use Rattle.pua_calls.specs.CallSets.{bit_of}
-use Rattle.pua_calls.specs.declared.call.Call.{Call}
-use Rattle.pua_audit.specs.Judge.{Judge, WordEnd, Below}
-use Rattle.pua_audit.specs.Judge.{allowed_at}
-use Rattle.pua_audit.specs.Graphs.{named_in, is_visited, RisingVisits, IsRight, IsMissing, HasJudgedVisits, IsKnown}
-use Rattle.pua_audit.specs.Table.{IsLetterTold, entry_with_letter, IsTableOf}
+use Rattle.pua_audit.proofs.Common.{ℕ, zero, suc, ◌+◌, ◌-◌, ◌<◌, ◌≤◌, ◌≡◌, List, [], ◌∷◌, ◌++◌, Option, Some, None, Bool, true, false, ◌||◌}
+use Rattle.pua_audit.proofs.Common.{◌==◌, nat_le, cond, refl, ap, arith, sym, ◌∙◌, map, length, get_or, option_map, append-nil, subst, inl}
+use Rattle.pua_audit.proofs.Common.{inr, IfSome, AllByRecursion, range_with_len, cases_eq, cases_lt, eqb-true, eq-eqb, ne_eqb, most_links}
+use Rattle.pua_audit.proofs.Common.{bit_of, Call, Judge, WordEnd, Below, allowed_at, named_in, IsRight, HasJudgedVisits, IsKnown, IsTableOf}
+use Rattle.pua_audit.proofs.Common.{has_call, calls_of, State, Entry, Steps, Visit, all_joined}
+use Rattle.std.proofs.lemmas.Bool.{leb-true, or_parts}
+use Rattle.pua_audit.specs.Graphs.{is_visited, RisingVisits, IsMissing}
+use Rattle.pua_audit.specs.Table.{IsLetterTold, entry_with_letter}
 use Rattle.pua_audit.specs.Judge as named
 use Rattle.pua_audit.proofs.Leading.{masks_list}
-use Rattle.pua_steps.specs.Calls.{has_call, calls_of}
 use Rattle.pua_steps.specs.Table as steps
-use Rattle.pua_steps.specs.declared.state.State.{State}
-use Rattle.pua_steps.specs.declared.steps.Entry.{Entry}
-use Rattle.pua_steps.specs.declared.steps.Steps.{Steps}
-use Rattle.pua_steps.specs.declared.visit.Visit.{Visit}
-use Rattle.pua_steps.proofs.ForCallers.{all_joined}
 
 visited-append : (xs ys : List Visit) (i : ℕ) → is_visited (xs ++ ys) i ≡ (is_visited xs i || is_visited ys i)
 visited-append [] ys i = refl
