@@ -1,29 +1,14 @@
 -- A letter by its sets of calls.
-use Rattle.std.proofs.Common.{ℕ, zero, suc, ◌+◌, ◌<◌, ◌^◌, ◌≡◌, List, Bool, true, false, not, ◌&&◌, ◌||◌, ◌==◌, nat_le, cond, refl, ap}
-use Rattle.std.proofs.Common.{arith, sym, ◌∙◌}
+use Rattle.pua_audit.proofs.Common.{ℕ, zero, suc, ◌+◌, ◌<◌, ◌^◌, ◌≡◌, List, Bool, true, false, not, ◌&&◌, ◌||◌, ◌==◌, nat_le, cond, refl}
+use Rattle.pua_audit.proofs.Common.{ap, arith, sym, ◌∙◌, Result, Ok, Err, Tree, most_links, part_of, follow, last, Errno, Found, Last}
+use Rattle.pua_audit.proofs.Common.{Followed, Kept, Part, CallTable, bit_of, has, keeps_link, History, Call, Stat, Lstat, Readlink}
+use Rattle.pua_audit.proofs.Common.{OpenRead, OpenWrite, OpenBoth, Create, Mkdir, Rmdir, Unlink, Symlink, Chmod, Chdir, Exec, judge_of}
+use Rattle.pua_audit.proofs.Common.{links_of, found_of, leads_to, allowed_near, allowed_far, IsLetter, Base}
 use Rattle.std.specs.Int.{bit_at}
-use Rattle.std.specs.Prelude.{Result, Ok, Err, is_ok}
+use Rattle.std.specs.Prelude.{is_ok}
 use Rattle.std.proofs.lemmas.Nat.Bits.{bit_at-lt, bit_at-zero, same_from_bits_below}
-use Rattle.pua_tree.specs.Tree.{Tree}
-use Rattle.pua_path.specs.Limits.{most_links}
-use Rattle.pua_path.specs.Paths.{part_of}
-use Rattle.pua_path.specs.Resolution.{follow, last}
-use Rattle.pua_path.specs.declared.errno.Errno.{Errno}
-use Rattle.pua_path.specs.declared.found.Found.{Found}
-use Rattle.pua_path.specs.declared.found.Last.{Last}
-use Rattle.pua_path.specs.declared.found.Last.TheVariants.{Followed, Kept}
-use Rattle.pua_path.specs.declared.found.Part.{Part}
 use Rattle.pua_path.proofs.ForCallers.{unlinked_alike}
-use Rattle.pua_calls.specs.Calls.{CallTable}
-use Rattle.pua_calls.specs.CallSets.{bit_of, has, is_kept, keeps_link}
-use Rattle.pua_policy.specs.History.{History}
-use Rattle.pua_calls.specs.declared.call.Call.{Call}
-use Rattle.pua_calls.specs.declared.call.Call.TheVariants.{Stat, Lstat, Readlink, OpenRead, OpenWrite, OpenBoth, Create, Mkdir, Rmdir}
-use Rattle.pua_calls.specs.declared.call.Call.TheVariants.{Unlink, Symlink, Chmod, Chdir, Exec}
-use Rattle.pua_audit.specs.Judge.{judge_of}
-use Rattle.pua_audit.specs.Entries.{links_of, found_of, leads_to, allowed_near, allowed_far}
-use Rattle.pua_audit.specs.Table.{IsLetter}
-use Rattle.pua_audit.specs.declared.base.Base.{Base}
+use Rattle.pua_calls.specs.CallSets.{is_kept}
 use Rattle.pua_audit.proofs.Fresh.{entries_stand}
 use Rattle.pua_calls.proofs.ForCallers.{has_none}
 

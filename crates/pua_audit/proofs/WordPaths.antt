@@ -1,9 +1,8 @@
 -- The path of a word in a buffer, letter by letter.
-use Rattle.std.proofs.Common.{ℕ, zero, suc, ◌+◌, ◌<◌, ◌≤◌, ◌≡◌, List, [], ◌∷◌, ◌++◌, refl, ap, arith, sym, ◌∙◌, length, get_or, take}
-use Rattle.std.proofs.Common.{length-append, min, inl, inr}
-use Rattle.std.proofs.lemmas.Bool.{cases_lt}
+use Rattle.pua_audit.proofs.Common.{ℕ, zero, suc, ◌+◌, ◌<◌, ◌≤◌, ◌≡◌, List, [], ◌∷◌, ◌++◌, refl, ap, arith, sym, ◌∙◌, length, get_or, take}
+use Rattle.pua_audit.proofs.Common.{min, inl, inr, cases_lt, Word, from_root}
+use Rattle.std.proofs.Common.{length-append}
 use Rattle.std.proofs.lemmas.List.{length-take, take-take}
-use Rattle.pua_audit.specs.Reach.{Word, from_root}
 use Rattle.pua_audit.specs.WordPaths.{starts_of}
 
 pub length-starts : (n : ℕ) (word : Word) → length (starts_of n word) ≡ length word

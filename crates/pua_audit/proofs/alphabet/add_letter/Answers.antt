@@ -1,8 +1,5 @@
-use Rattle.std.proofs.Common.{◌≡◌, ◌<◌, ◌∙◌, length, map, get_or, [], sym, ap, arith}
+use Rattle.pua_audit.proofs.Common.{◌≡◌, ◌<◌, ◌∙◌, length, map, get_or, [], sym, ap, arith, common_steps, with_name, part_bytes}
 use Rattle.std.specs.List.{insert}
-use Rattle.std.proofs.lemmas.Grind.{common_steps}
-use Rattle.pua_tree.specs.Tree.{with_name}
-use Rattle.pua_audit.specs.Ready.{part_bytes}
 use Rattle.pua_audit.proofs.Placing.{put_there, bytes-insert}
 use Rattle.pua_audit.proofs.alphabet.add_letter.Goals as goal
 

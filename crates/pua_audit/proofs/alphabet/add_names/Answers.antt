@@ -1,7 +1,4 @@
-use Rattle.std.proofs.Common.{◌≡◌, ◌∙◌, map, ap, sym, subst}
-use Rattle.pua_tree.specs.Tree.{name_cmp, with_name}
-use Rattle.pua_audit.specs.Laws.{Rises}
-use Rattle.pua_audit.specs.Ready.{part_bytes}
+use Rattle.pua_audit.proofs.Common.{◌≡◌, ◌∙◌, map, ap, sym, subst, name_cmp, with_name, Rises, part_bytes}
 use Rattle.pua_audit.proofs.Placing.{one_more}
 use Rattle.pua_audit.proofs.Rising.{with_name_rises}
 use Rattle.pua_audit.proofs.alphabet.add_names.Goals as goal

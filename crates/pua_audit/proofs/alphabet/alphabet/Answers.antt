@@ -1,10 +1,6 @@
-use Rattle.std.proofs.Common.{◌≡◌, ◌∙◌, map, codes, sym, ap, subst}
+use Rattle.pua_audit.proofs.Common.{◌≡◌, ◌∙◌, map, codes, sym, ap, subst, lent_entry, Spot, name_cmp, with_name, distinct_names, Rises}
+use Rattle.pua_audit.proofs.Common.{part_bytes, with_names}
 use Rattle.std.proofs.lemmas.Simd.{map-map}
-use Rattle.pua_tree.specs.LentRows.{lent_entry}
-use Rattle.pua_tree.specs.Tree.{Spot, name_cmp, with_name, distinct_names}
-use Rattle.pua_audit.specs.Laws.{Rises}
-use Rattle.pua_audit.specs.Ready.{part_bytes}
-use Rattle.pua_audit.specs.Alphabets.{with_names}
 use Rattle.pua_audit.proofs.Placing.{distinct_names-append, with_names_rise}
 use Rattle.pua_audit.proofs.Rising.{distinct_names_rise}
 use Rattle.pua_audit.proofs.alphabet.alphabet.Goals as goal

@@ -1,8 +1,6 @@
-use Rattle.std.proofs.Common.{◌≡◌, ◌≤◌, drop, take, map, fold, max, length}
+use Rattle.pua_audit.proofs.Common.{◌≡◌, ◌≤◌, drop, take, map, length, longest, part_bytes, AreParts}
+use Rattle.std.proofs.Common.{fold, max}
 use Rattle.pua_tree.specs.Limits.{most_name}
-use Rattle.pua_audit.specs.Begin.{longest}
-use Rattle.pua_audit.specs.Ready.{part_bytes}
-use Rattle.pua_audit.specs.Alphabets.{AreParts}
 use Rattle.pua_audit.proofs.alphabet.longest.Given as goal
 
 abbrev pub invariant-loop-letter : goal.invariant-loop-letter

@@ -1,10 +1,8 @@
-use Rattle.std.proofs.Common.{◌∙◌, ap, map, refl, reverse, List}
+use Rattle.pua_audit.proofs.Common.{◌∙◌, ap, map, refl, reverse, List, lent_entry, distinct_names}
 use Rattle.std.proofs.lemmas.List.{reverse-reverse}
 use Rattle.std.proofs.lemmas.Iterator.Adapters.{YieldsList-from_rev_slice}
 use Rattle.std.proofs.lemmas.Iterator.Consumers.{YieldsList-end}
 use Rattle.pua_tree.proofs.ForCallers.{one_name_more}
-use Rattle.pua_tree.specs.LentRows.{lent_entry}
-use Rattle.pua_tree.specs.Tree.{distinct_names}
 use Rattle.pua_tree.specs.declared.tree.LentRow.{LentRow}
 use Rattle.pua_audit.proofs.alphabet.name_set.Goals as goal
 

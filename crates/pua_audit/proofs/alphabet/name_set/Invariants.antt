@@ -1,6 +1,4 @@
-use Rattle.std.proofs.Common.{◌≡◌, map, reverse}
-use Rattle.pua_tree.specs.LentRows.{lent_entry}
-use Rattle.pua_tree.specs.Tree.{distinct_names}
+use Rattle.pua_audit.proofs.Common.{◌≡◌, map, reverse, lent_entry, distinct_names}
 use Rattle.pua_audit.proofs.alphabet.name_set.Given as goal
 
 abbrev pub invariant-loop-row : goal.invariant-loop-row

@@ -1,15 +1,7 @@
-use Rattle.std.proofs.Common.{◌≡◌, ◌≤◌, ◌∙◌, length, map, sym, ap, subst, arith}
-use Rattle.std.specs.Prelude.{IsTrue}
-use Rattle.std.specs.List.{list_all}
-use Rattle.std.proofs.lemmas.List.{length-map}
-use Rattle.pua_tree.specs.Tree.{name_cmp}
+use Rattle.pua_audit.proofs.Common.{◌≡◌, ◌≤◌, ◌∙◌, length, map, sym, ap, subst, arith, IsTrue, list_all, length-map, name_cmp, longest}
+use Rattle.pua_audit.proofs.Common.{is_letter, Rises, part_bytes, AreParts}
 use Rattle.pua_audit.specs.Reach.{alphabet_of}
 use Rattle.pua_audit.specs.Bounds.{names_or_none}
-use Rattle.pua_audit.specs.Begin.{longest}
-use Rattle.pua_audit.specs.Judge.{is_letter}
-use Rattle.pua_audit.specs.Laws.{Rises}
-use Rattle.pua_audit.specs.Ready.{part_bytes}
-use Rattle.pua_audit.specs.Alphabets.{AreParts}
 use Rattle.pua_audit.proofs.Rising.{alphabet_rises}
 use Rattle.pua_audit.proofs.Beginnings.{begun, alphabet_letters, same_product}
 use Rattle.pua_audit.proofs.beginning.letters_within.Goals as goal

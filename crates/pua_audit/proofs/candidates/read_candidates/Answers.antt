@@ -1,7 +1,7 @@
-use Rattle.std.proofs.Common.{◌≡◌, ℕ, ◌+◌, ◌++◌, List, ◌∷◌, [], suc, Bor, get_or, drop, map, sym, ap, ◌∙◌, add-one, arith}
-use Rattle.std.proofs.lemmas.Grind.{common_steps}
+use Rattle.pua_audit.proofs.Common.{◌≡◌, ℕ, ◌+◌, ◌++◌, List, ◌∷◌, [], suc, get_or, drop, map, sym, ap, ◌∙◌, add-one, arith, common_steps}
+use Rattle.pua_audit.proofs.Common.{candidates_from}
+use Rattle.std.proofs.Common.{Bor}
 use Rattle.std.proofs.lemmas.List.{drop_more}
-use Rattle.pua_audit.specs.Begin.{candidates_from}
 use Rattle.pua_audit.proofs.Reading.{with_read, candidate_read}
 use Rattle.pua_audit.proofs.candidates.read_candidates.Goals as goal
 

@@ -1,5 +1,4 @@
-use Rattle.std.proofs.Common.{◌≡◌, suc, drop, map}
-use Rattle.pua_audit.specs.Begin.{candidates_from}
+use Rattle.pua_audit.proofs.Common.{◌≡◌, suc, drop, map, candidates_from}
 use Rattle.pua_audit.proofs.Reading.{with_read}
 use Rattle.pua_audit.proofs.candidates.read_candidates.Given as goal
 

@@ -1,8 +1,6 @@
-use Rattle.std.proofs.Common.{◌≡◌, ◌∙◌, map, codes, Some, [], true, cond, sym, ap}
-use Rattle.pua_tree.specs.Names.{same_bytes}
-use Rattle.pua_audit.specs.Begin.{word_within, word_of_path, word_of_pieces_between}
-use Rattle.pua_audit.specs.Ready.{part_bytes}
-use Rattle.pua_audit.specs.declared.base.Base.{Base}
+use Rattle.pua_audit.proofs.Common.{◌≡◌, ◌∙◌, map, codes, Some, [], true, cond, sym, ap, same_bytes, word_within, word_of_path, part_bytes}
+use Rattle.pua_audit.proofs.Common.{Base}
+use Rattle.pua_audit.specs.Begin.{word_of_pieces_between}
 use Rattle.pua_audit.proofs.ResumeTexts.{empty_read}
 use Rattle.pua_audit.proofs.resume_text.read_path.Goals as goal
 

@@ -1,15 +1,11 @@
-use Rattle.std.proofs.Common.{◌≡◌, ◌<◌, ◌≤◌, ◌++◌, ◌∷◌, [], ◌∙◌, Some, length, map, get_or, drop, sym, ap, subst, rules, tests, arith}
-use Rattle.std.specs.Prelude.{find, ◌==◌}
-use Rattle.std.specs.List.{slice_split}
-use Rattle.std.proofs.lemmas.Grind.{common_steps}
+use Rattle.pua_audit.proofs.Common.{◌≡◌, ◌<◌, ◌≤◌, ◌++◌, ◌∷◌, [], ◌∙◌, Some, length, map, get_or, drop, sym, ap, subst, rules, arith, find}
+use Rattle.pua_audit.proofs.Common.{slice_split, common_steps, same_bytes, spelling, word_of_pieces, word_within, part_bytes, word_of}
+use Rattle.pua_audit.proofs.Common.{AreLetters}
+use Rattle.std.proofs.Common.{tests}
+use Rattle.std.specs.Prelude.{◌==◌}
 use Rattle.std.proofs.lemmas.List.{length_push}
 use Rattle.std.proofs.lemmas.Iterator.Splits.{YieldsList-from_slice_split}
 use Rattle.std.proofs.lemmas.Iterator.Consumers.{YieldsList-turn, YieldsList-end}
-use Rattle.pua_tree.specs.Names.{same_bytes}
-use Rattle.pua_tree.specs.Spelling.{spelling}
-use Rattle.pua_audit.specs.Begin.{word_of_pieces, word_within}
-use Rattle.pua_audit.specs.Ready.{part_bytes, word_of}
-use Rattle.pua_audit.specs.Starting.{AreLetters}
 use Rattle.pua_audit.proofs.Moves.{length-word_of, word_of-push}
 use Rattle.pua_audit.proofs.ResumeTexts.{behind_word, nothing_read, empty_read, letter_more, piece_read, piece_refused, piece_over}
 use Rattle.pua_audit.proofs.ResumeTexts.{pieces_read}

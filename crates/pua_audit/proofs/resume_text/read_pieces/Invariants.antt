@@ -1,9 +1,5 @@
-use Rattle.std.proofs.Common.{◌≡◌, ◌≤◌, length, map, drop, vec_capacity}
-use Rattle.std.specs.List.{slice_split}
+use Rattle.pua_audit.proofs.Common.{◌≡◌, ◌≤◌, length, map, drop, vec_capacity, slice_split, word_of_pieces, part_bytes, word_of, AreLetters}
 use Rattle.std.specs.Prelude.{◌==◌}
-use Rattle.pua_audit.specs.Begin.{word_of_pieces}
-use Rattle.pua_audit.specs.Ready.{part_bytes, word_of}
-use Rattle.pua_audit.specs.Starting.{AreLetters}
 use Rattle.pua_audit.proofs.ResumeTexts.{behind_word}
 use Rattle.pua_audit.proofs.resume_text.read_pieces.Given as goal
 

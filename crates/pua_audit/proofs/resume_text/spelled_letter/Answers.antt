@@ -1,11 +1,7 @@
-use Rattle.std.proofs.Common.{◌≡◌, ◌∙◌, map, get_or, [], codes, sym, ap, subst, true, false}
-use Rattle.std.specs.Prelude.{option_map, IsTrue}
-use Rattle.std.specs.List.{list_all}
-use Rattle.std.proofs.lemmas.Slice.Eq.{bytes_eq-Decides}
-use Rattle.pua_tree.specs.Names.{same_bytes}
-use Rattle.pua_tree.specs.Spelling.{spelling}
-use Rattle.pua_tree.proofs.ForCallers.{is_byte, name_is_bytes, name_read}
-use Rattle.pua_audit.specs.Ready.{part_bytes}
+use Rattle.pua_audit.proofs.Common.{◌≡◌, ◌∙◌, map, get_or, [], codes, sym, ap, subst, true, false, IsTrue, list_all, bytes_eq-Decides}
+use Rattle.pua_audit.proofs.Common.{same_bytes, spelling, is_byte, part_bytes}
+use Rattle.std.specs.Prelude.{option_map}
+use Rattle.pua_tree.proofs.ForCallers.{name_is_bytes, name_read}
 use Rattle.pua_audit.proofs.ResumeTexts.{spelled_placed, none_spelled, two_dots, two_dots_bytes}
 use Rattle.pua_audit.proofs.resume_text.spelled_letter.Goals as goal
 

@@ -1,4 +1,5 @@
-use Rattle.std.proofs.Common.{◌+◌, ◌∙◌, take, drop, take_all, sym, ap, arith}
+use Rattle.pua_audit.proofs.Common.{◌+◌, ◌∙◌, take, drop, sym, ap, arith}
+use Rattle.std.proofs.Common.{take_all}
 use Rattle.std.proofs.lemmas.List.{length-drop}
 use Rattle.std.specs.Prelude.{◌==◌}
 use Rattle.pua_audit.proofs.ResumeTexts.{first_at, first_nowhere}

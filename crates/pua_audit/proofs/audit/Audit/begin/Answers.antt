@@ -1,22 +1,13 @@
-use Rattle.std.proofs.Common.{◌≡◌, ◌≤◌, ◌+◌, ◌*◌, refl, rules, arith, subst, ℕ, suc, List, [], sym, ap, ◌∙◌, map, length}
-use Rattle.std.specs.Prelude.{Result, Ok, Err, IfSome, option_map}
-use Rattle.pua_tree.specs.LentRows.{lent_entry}
-use Rattle.pua_tree.specs.Tree.{Tree}
-use Rattle.pua_path.specs.Bounds.{part_cost}
+use Rattle.pua_audit.proofs.Common.{◌≡◌, ◌≤◌, ◌+◌, ◌*◌, refl, rules, arith, subst, ℕ, suc, List, [], sym, ap, ◌∙◌, map, length, Result, Ok}
+use Rattle.pua_audit.proofs.Common.{Err, IfSome, lent_entry, Tree, part_cost, Part, plain_history, Scope, rest_after, live_states, AreParts}
+use Rattle.pua_audit.proofs.Common.{part_bytes, letters_of, scope_in, AreLetters, AuditFault, Terms}
+use Rattle.std.specs.Prelude.{option_map}
 use Rattle.pua_path.specs.Counts.{one_more}
 use Rattle.pua_steps.specs.Limits.{search_cost}
-use Rattle.pua_path.specs.declared.found.Part.{Part}
 use Rattle.pua_policy.specs.History.{StandsFor}
-use Rattle.pua_audit.specs.Past.{plain_history}
-use Rattle.pua_audit.specs.Reach.{Scope, rest_after}
 use Rattle.pua_audit.specs.Begin.{Beginning, beginning}
 use Rattle.pua_audit.specs.Bounds.{begin_cost, letter_count, pairs_cost}
-use Rattle.pua_audit.specs.Live.{live_states}
-use Rattle.pua_audit.specs.Alphabets.{AreParts}
-use Rattle.pua_audit.specs.Ready.{part_bytes, letters_of, scope_in}
-use Rattle.pua_audit.specs.Starting.{AreLetters, AreSound, pair_in, scope_with, beginning_with}
-use Rattle.pua_audit.specs.declared.fault.AuditFault.{AuditFault}
-use Rattle.pua_audit.specs.declared.terms.Terms.{Terms}
+use Rattle.pua_audit.specs.Starting.{AreSound, pair_in, scope_with, beginning_with}
 use Rattle.pua_audit.proofs.Pasts.{stands_for_past, rest_by_process, live_by_process}
 use Rattle.pua_audit.proofs.audit.Audit.begin.Goals as goal
 

@@ -1,12 +1,7 @@
-use Rattle.std.proofs.Common.{◌≡◌, ◌≤◌, ◌+◌, ◌*◌, List, ℕ, suc, length, refl, sym, ap, subst, ◌∙◌}
-use Rattle.std.specs.List.{list_all}
-use Rattle.pua_tree.specs.Spelling.{is_plain}
+use Rattle.pua_audit.proofs.Common.{◌≡◌, ◌≤◌, ◌+◌, ◌*◌, List, ℕ, suc, length, refl, sym, ap, subst, ◌∙◌, list_all, is_plain, Word, path_of}
+use Rattle.pua_audit.proofs.Common.{letters_of, lent_path, Base, Terms}
 use Rattle.pua_audit.specs.AuditState.{AuditState}
 use Rattle.pua_audit.specs.Coming.{walk_word}
-use Rattle.pua_audit.specs.Reach.{Word, path_of}
-use Rattle.pua_audit.specs.Ready.{letters_of, lent_path}
-use Rattle.pua_audit.specs.declared.base.Base.{Base}
-use Rattle.pua_audit.specs.declared.terms.Terms.{Terms}
 use Rattle.pua_audit.proofs.Coming.{read_within}
 use Rattle.pua_audit.proofs.PlainPaths.{lent_plain}
 use Rattle.pua_audit.proofs.Spelled.{lent_is, lent_short}

@@ -1,5 +1,4 @@
-use Rattle.std.proofs.Common.{arith, rules}
-use Rattle.pua_audit.specs.Ready.{letters_of}
+use Rattle.pua_audit.proofs.Common.{arith, rules, letters_of}
 use Rattle.pua_audit.proofs.Coming.{along_none}
 use Rattle.pua_audit.proofs.pairs.Pairs.begin.Goals as goal
 

@@ -1,5 +1,4 @@
-use Rattle.std.proofs.Common.{sym, subst}
-use Rattle.pua_audit.specs.Ready.{letters_of}
+use Rattle.pua_audit.proofs.Common.{sym, subst, letters_of}
 use Rattle.pua_audit.proofs.Coming.{along_kept, kept_ready, pairs_none, word_known, spelled_ready, is_line}
 use Rattle.pua_steps.specs.Ready.{IsUnchanged}
 use Rattle.pua_audit.proofs.pairs.Pairs.next_call.Goals as goal

@@ -1,7 +1,5 @@
-use Rattle.std.proofs.Common.{◌≡◌, ◌≤◌, ◌<◌, ◌*◌, ℕ, List, [], suc, length, get_or, vec_capacity, refl, sym, ap, ◌∙◌, arith, subst}
-use Rattle.pua_audit.specs.Begin.{longest}
-use Rattle.pua_audit.specs.Ready.{part_bytes, letters_of}
-use Rattle.pua_audit.specs.declared.terms.Terms.{Terms}
+use Rattle.pua_audit.proofs.Common.{◌≡◌, ◌≤◌, ◌<◌, ◌*◌, ℕ, List, [], suc, length, get_or, vec_capacity, refl, sym, ap, ◌∙◌, arith, subst}
+use Rattle.pua_audit.proofs.Common.{longest, part_bytes, letters_of, Terms}
 use Rattle.pua_audit.proofs.Coming.{along_push, along_room, along_whole}
 use Rattle.pua_audit.proofs.Moves.{all_at_index}
 use Rattle.pua_audit.proofs.Spelled.{letter_at}

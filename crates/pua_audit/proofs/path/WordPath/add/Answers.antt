@@ -1,7 +1,4 @@
-use Rattle.std.proofs.Common.{◌≡◌, ◌+◌, ◌++◌, ◌∷◌, [], List, ℕ, length, sym, ap, ◌∙◌, arith}
-use Rattle.std.proofs.lemmas.Grind.{common_steps}
-use Rattle.pua_audit.specs.Reach.{from_root}
-use Rattle.pua_audit.specs.Ready.{part_bytes}
+use Rattle.pua_audit.proofs.Common.{◌≡◌, ◌+◌, ◌++◌, ◌∷◌, [], List, ℕ, length, sym, ap, ◌∙◌, arith, common_steps, from_root, part_bytes}
 use Rattle.pua_audit.specs.WordPaths.{starts_of}
 use Rattle.pua_audit.proofs.Spelled.{from_root-push}
 use Rattle.pua_audit.proofs.WordPaths.{starts-push}

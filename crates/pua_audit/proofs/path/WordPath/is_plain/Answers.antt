@@ -1,6 +1,4 @@
-use Rattle.std.proofs.Common.{length, sym, ap, ◌∙◌, arith}
-use Rattle.std.specs.List.{list_all}
-use Rattle.pua_tree.specs.Spelling.{is_plain}
+use Rattle.pua_audit.proofs.Common.{length, sym, ap, ◌∙◌, arith, list_all, is_plain}
 use Rattle.pua_audit.proofs.PlainPaths.{front_whole}
 use Rattle.pua_audit.proofs.WordPaths.{length-starts}
 use Rattle.pua_audit.proofs.path.WordPath.is_plain.Goals as goal

@@ -1,5 +1,4 @@
-use Rattle.std.proofs.Common.{◌≡◌, ◌+◌, ◌<◌, ◌≤◌, ℕ, length, take, get_or, min, sym, ap, ◌∙◌, arith, subst}
-use Rattle.pua_audit.specs.Reach.{Word, from_root}
+use Rattle.pua_audit.proofs.Common.{◌≡◌, ◌+◌, ◌<◌, ◌≤◌, ℕ, length, take, get_or, min, sym, ap, ◌∙◌, arith, subst, Word, from_root}
 use Rattle.pua_audit.specs.WordPaths.{IsPathOf}
 use Rattle.pua_audit.proofs.WordPaths.{length-starts, start_at, starts-take, root-take, take_whole}
 use Rattle.pua_audit.proofs.PlainPaths.{front-take}

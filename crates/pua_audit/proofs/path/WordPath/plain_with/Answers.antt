@@ -1,5 +1,4 @@
-use Rattle.std.proofs.Common.{◌≤◌, List, ℕ, length, sym, ap, ◌∙◌, arith}
-use Rattle.pua_audit.specs.Ready.{part_bytes}
+use Rattle.pua_audit.proofs.Common.{◌≤◌, List, ℕ, length, sym, ap, ◌∙◌, arith, part_bytes}
 use Rattle.pua_audit.specs.WordPaths.{plain_front}
 use Rattle.pua_audit.proofs.PlainPaths.{push_after, push_escaped, push_plain}
 use Rattle.pua_audit.proofs.WordPaths.{length-starts}

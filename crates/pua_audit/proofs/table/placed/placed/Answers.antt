@@ -1,9 +1,7 @@
-use Rattle.std.proofs.Common.{◌≡◌, ◌<◌, ◌∙◌, ℕ, List, [], Some, IfSome, map, length, get_or, sym, ap, subst, arith}
-use Rattle.std.specs.Prelude.{bytes_eq}
-use Rattle.std.specs.HashMap.{get_by}
-use Rattle.std.proofs.lemmas.List.{length-map, get_or-map}
+use Rattle.pua_audit.proofs.Common.{◌≡◌, ◌<◌, ◌∙◌, ℕ, List, [], Some, map, length, get_or, sym, ap, subst, arith, bytes_eq, get_by}
+use Rattle.pua_audit.proofs.Common.{length-map, get_or-map, part_bytes}
+use Rattle.std.proofs.Common.{IfSome}
 use Rattle.std.proofs.lemmas.Map.Text.{hash_map_updates_str}
-use Rattle.pua_audit.specs.Ready.{part_bytes}
 use Rattle.pua_audit.proofs.Spotted.{placed_more, placed_within}
 use Rattle.pua_audit.proofs.table.placed.placed.Goals as goal
 

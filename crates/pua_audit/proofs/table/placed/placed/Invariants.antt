@@ -1,7 +1,5 @@
-use Rattle.std.proofs.Common.{◌≡◌, ◌<◌, ℕ, List, [], Some, IfSome, map, length, get_or}
-use Rattle.std.specs.Prelude.{bytes_eq}
-use Rattle.std.specs.HashMap.{get_by}
-use Rattle.pua_audit.specs.Ready.{part_bytes}
+use Rattle.pua_audit.proofs.Common.{◌≡◌, ◌<◌, ℕ, List, [], Some, map, length, get_or, bytes_eq, get_by, part_bytes}
+use Rattle.std.proofs.Common.{IfSome}
 use Rattle.pua_audit.proofs.table.placed.placed.Given as goal
 
 abbrev pub invariant-loop-place : goal.invariant-loop-place

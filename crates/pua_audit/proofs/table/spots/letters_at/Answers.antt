@@ -1,6 +1,4 @@
-use Rattle.std.proofs.Common.{◌≡◌, ◌<◌, ◌+◌, ◌∙◌, ℕ, List, [], ◌∷◌, ◌++◌, length, map, take, get_or, sym, ap}
-use Rattle.std.proofs.lemmas.List.{map-append}
-use Rattle.pua_audit.specs.declared.table.spots.LetterSpot.{LetterSpot}
+use Rattle.pua_audit.proofs.Common.{◌≡◌, ◌<◌, ◌+◌, ◌∙◌, ℕ, List, [], ◌∷◌, ◌++◌, length, map, take, get_or, sym, ap, map-append, LetterSpot}
 use Rattle.pua_audit.proofs.Spotted.{taken_more}
 use Rattle.pua_audit.proofs.table.spots.letters_at.Goals as goal
 

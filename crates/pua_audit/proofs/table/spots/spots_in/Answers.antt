@@ -1,8 +1,8 @@
-use Rattle.std.proofs.Common.{◌≡◌, ◌-◌, ltb, leb, take, drop, length, List, rules, arith, sym}
-use Rattle.std.proofs.lemmas.List.{take_all, length-drop}
+use Rattle.pua_audit.proofs.Common.{◌≡◌, ◌-◌, ltb, take, drop, length, List, rules, arith, sym, take_all, LetterSpot}
+use Rattle.std.proofs.Common.{leb}
+use Rattle.std.proofs.lemmas.List.{length-drop}
 use Rattle.std.proofs.lemmas.List.Sorted.{IsPartitionPoint-from_clause, IsPartitionedBy-leb, IsPartitionedBy-ltb, IsNonDecreasingBy-drop}
 use Rattle.std.proofs.lemmas.List.Sorted.{IsNonDecreasingBy-take}
-use Rattle.pua_audit.specs.declared.table.spots.LetterSpot.{LetterSpot}
 use Rattle.pua_audit.proofs.Spotted.{unmarked_between}
 use Rattle.pua_audit.proofs.table.spots.spots_in.Goals as goal
 

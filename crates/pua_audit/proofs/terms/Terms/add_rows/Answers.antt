@@ -1,11 +1,6 @@
-use Rattle.std.proofs.Common.{◌≡◌, ◌≢◌, ◌≤◌, ℕ, List, [], length, map, get_or, sym, subst, arith}
-use Rattle.std.proofs.lemmas.List.{take_all}
-use Rattle.pua_tree.specs.LentRows.{lent_entry}
-use Rattle.pua_tree.specs.Tree.{Spot}
+use Rattle.pua_audit.proofs.Common.{◌≡◌, ◌≢◌, ◌≤◌, ℕ, List, [], length, map, get_or, sym, subst, arith, take_all, lent_entry, Spot}
+use Rattle.pua_audit.proofs.Common.{letters_of, IsNowhere, IsUnmarked, LetterSpot}
 use Rattle.pua_tree.specs.declared.tree.LentRow.{LentRow}
-use Rattle.pua_audit.specs.Ready.{letters_of}
-use Rattle.pua_audit.specs.Spots.{IsNowhere, IsUnmarked}
-use Rattle.pua_audit.specs.declared.table.spots.LetterSpot.{LetterSpot}
 use Rattle.pua_audit.proofs.Spotted.{all_taken}
 use Rattle.pua_audit.proofs.terms.Terms.add_rows.Goals as goal
 

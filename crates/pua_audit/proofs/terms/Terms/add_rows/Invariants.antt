@@ -1,7 +1,4 @@
-use Rattle.std.proofs.Common.{◌<◌, ℕ, [], map, take, length, get_or}
-use Rattle.pua_tree.specs.LentRows.{lent_entry}
-use Rattle.pua_audit.specs.Ready.{letters_of}
-use Rattle.pua_audit.specs.Spots.{AreAtLetters, IsNowhere, IsUnmarked}
+use Rattle.pua_audit.proofs.Common.{◌<◌, ℕ, [], map, take, length, get_or, lent_entry, letters_of, AreAtLetters, IsNowhere, IsUnmarked}
 use Rattle.pua_audit.proofs.terms.Terms.add_rows.Given as goal
 
 abbrev pub invariant-loop-row : goal.invariant-loop-row

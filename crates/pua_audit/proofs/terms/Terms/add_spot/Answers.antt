@@ -1,12 +1,9 @@
-use Rattle.std.proofs.Common.{◌≡◌, ◌≢◌, ◌<◌, ◌∙◌, ℕ, List, Option, IfSome, length, refl, sym, ap, subst}
-use Rattle.std.specs.Prelude.{bytes_eq}
-use Rattle.std.specs.HashMap.{get_by}
-use Rattle.pua_tree.proofs.ForCallers.{None≢Some, same_Some}
-use Rattle.pua_audit.specs.Ready.{letters_of}
-use Rattle.pua_audit.specs.Spots.{AreAtLetters, IsUnmarked}
-use Rattle.pua_audit.specs.declared.table.spots.LetterSpot.{LetterSpot}
+use Rattle.pua_audit.proofs.Common.{◌≡◌, ◌≢◌, ◌<◌, ◌∙◌, ℕ, List, Option, length, refl, sym, ap, subst, bytes_eq, get_by, same_Some}
+use Rattle.pua_audit.proofs.Common.{letters_of, AreAtLetters, IsUnmarked, LetterSpot, all_pushed}
+use Rattle.std.proofs.Common.{IfSome}
+use Rattle.pua_tree.proofs.ForCallers.{None≢Some}
 use Rattle.pua_audit.proofs.terms.Terms.add_spot.Goals as goal
-use Rattle.pua_steps.proofs.ForCallers.{all_front, all_pushed}
+use Rattle.pua_steps.proofs.ForCallers.{all_front}
 
 -- a name that is no letter
 pub returns-in_default-clause-here : goal.returns-in_default-clause-here

@@ -1,10 +1,6 @@
-use Rattle.std.proofs.Common.{◌≢◌, ◌≤◌, List, [], length, map, get_or, subst, arith}
-use Rattle.std.proofs.lemmas.List.{take_all}
+use Rattle.pua_audit.proofs.Common.{◌≢◌, ◌≤◌, List, [], length, map, get_or, subst, arith, take_all, Place, letters_of, AreApartFrom}
 use Rattle.std.specs.Borrow.{Bor}
-use Rattle.pua_policy.specs.declared.place.Place.{Place}
 use Rattle.pua_policy.specs.declared.place.Place.TheVariants.{Slot}
-use Rattle.pua_audit.specs.Ready.{letters_of}
-use Rattle.pua_audit.specs.Spots.{AreApartFrom}
 use Rattle.pua_audit.proofs.Spotted.{all_taken}
 use Rattle.pua_audit.proofs.terms.Terms.add_veils.Goals as goal
 

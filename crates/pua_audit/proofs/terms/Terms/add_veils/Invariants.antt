@@ -1,7 +1,5 @@
-use Rattle.std.proofs.Common.{◌<◌, ℕ, [], map, take, length, get_or}
+use Rattle.pua_audit.proofs.Common.{◌<◌, ℕ, [], map, take, length, get_or, letters_of, AreApartFrom, AreAtLetters, IsUnmarked}
 use Rattle.pua_policy.specs.declared.place.Place.TheVariants.{Slot}
-use Rattle.pua_audit.specs.Ready.{letters_of}
-use Rattle.pua_audit.specs.Spots.{AreApartFrom, AreAtLetters, IsUnmarked}
 use Rattle.pua_audit.proofs.terms.Terms.add_veils.Given as goal
 
 abbrev pub invariant-loop-place : goal.invariant-loop-place

@@ -1,14 +1,10 @@
-use Rattle.std.proofs.Common.{◌≡◌, ◌∙◌, [], List, length, sym, ap, subst}
-use Rattle.std.specs.List.{AllByRecursion}
-use Rattle.pua_audit.specs.Coming.{pairs_at}
-use Rattle.pua_audit.specs.Ready.{letters_of, scope_in}
+use Rattle.pua_audit.proofs.Common.{◌≡◌, ◌∙◌, [], List, length, sym, ap, subst, AllByRecursion, pairs_at, letters_of, scope_in, IsPair}
 use Rattle.pua_audit.proofs.Begun.{none_reach}
 use Rattle.pua_audit.proofs.LiveStates.{live_states_count}
 use Rattle.pua_audit.proofs.Starts.{audited, nothing_after}
 use Rattle.pua_steps.specs.Graph as graph
 use Rattle.pua_steps.specs.Ready.{trail}
 use Rattle.pua_steps.specs.Trail.{pairs_of}
-use Rattle.pua_steps.specs.Within.{IsPair}
 use Rattle.pua_audit.proofs.terms.Terms.begun_closed.Goals as goal
 
 pub returns-clause-pairs : goal.returns-clause-pairs

@@ -1,23 +1,12 @@
-use Rattle.std.proofs.Common.{◌≡◌, ◌<◌, ◌≤◌, ◌∙◌, ◌+◌, ◌*◌, ℕ, List, Option, None, Some, length, map, refl, sym, ap, subst, arith}
-use Rattle.std.specs.List.{AllByRecursion}
-use Rattle.pua_tree.specs.Tree.{Tree, is_dir}
-use Rattle.pua_path.specs.declared.found.Found.{Found}
-use Rattle.pua_calls.specs.CallSets.{has}
-use Rattle.pua_policy.specs.Descent.{cover_in}
-use Rattle.pua_policy.specs.History.{History}
-use Rattle.pua_policy.specs.Verdict.{cover, verdict, is_allowed}
+use Rattle.pua_audit.proofs.Common.{◌≡◌, ◌<◌, ◌≤◌, ◌∙◌, ◌+◌, ◌*◌, ℕ, List, Option, None, Some, length, map, refl, sym, ap, subst, arith}
+use Rattle.pua_audit.proofs.Common.{AllByRecursion, Tree, is_dir, Found, has, cover_in, History, cover, is_allowed, Call, pairs_at}
+use Rattle.pua_audit.proofs.Common.{pair_in_numbers, pair_in_letters, Judge, base_dir, plain_history, reach, judge_in, letters_of, scope_in}
+use Rattle.pua_audit.proofs.Common.{IfSome, IsTrue, AreLetters, IsTableOf, live_count, IsPair, Steps}
+use Rattle.pua_policy.specs.Verdict.{verdict}
 use Rattle.pua_policy.proofs.ForCallers.{covers_descend}
-use Rattle.pua_calls.specs.declared.call.Call.{Call}
 use Rattle.pua_audit.specs.Bounds.{pairs_cost, table_cost}
-use Rattle.pua_audit.specs.Coming.{pairs_resumed, pairs_at}
-use Rattle.pua_audit.specs.Graphs.{pair_in_numbers, pair_in_letters}
-use Rattle.pua_audit.specs.Judge.{Judge, base_dir, base_way}
-use Rattle.pua_audit.specs.Past.{plain_history}
-use Rattle.pua_audit.specs.Reach.{reach}
-use Rattle.pua_audit.specs.Ready.{judge_in, letters_of, scope_in}
-use Rattle.std.specs.Prelude.{IfSome, IsTrue}
-use Rattle.pua_audit.specs.Starting.{AreLetters}
-use Rattle.pua_audit.specs.Table.{IsTableOf}
+use Rattle.pua_audit.specs.Coming.{pairs_resumed}
+use Rattle.pua_audit.specs.Judge.{base_way}
 use Rattle.pua_audit.specs.declared.resume_text.Resumption.{Resumption}
 use Rattle.pua_audit.proofs.AfterPair.{scope_after, pairs_stay}
 use Rattle.pua_audit.proofs.Begun.{begun_reach, begun_live, table_fits}
@@ -27,10 +16,7 @@ use Rattle.pua_steps.specs.Graph as graph
 use Rattle.pua_steps.specs.Limits.{search_cost}
 use Rattle.pua_steps.specs.Lists.{AreListsOf}
 use Rattle.pua_steps.specs.Live.{IsSized}
-use Rattle.pua_steps.specs.Reached.{live_count}
 use Rattle.pua_steps.specs.Table.{IsState, IsTable, graph_of}
-use Rattle.pua_steps.specs.Within.{IsPair}
-use Rattle.pua_steps.specs.declared.steps.Steps.{Steps}
 use Rattle.pua_audit.proofs.terms.Terms.begun_open.Goals as goal
 
 pub table-requires : goal.table-requires

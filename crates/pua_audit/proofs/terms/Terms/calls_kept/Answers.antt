@@ -1,15 +1,6 @@
-use Rattle.std.proofs.Common.{◌≡◌, ◌≤◌, ◌+◌, ◌∙◌, ℕ, length, refl, sym, ap, subst, arith}
-use Rattle.std.specs.Prelude.{IfOk, Result, is_ok}
-use Rattle.pua_tree.specs.Tree.{Tree}
-use Rattle.pua_path.specs.declared.errno.Errno.{Errno}
-use Rattle.pua_path.specs.declared.found.Found.{Found}
-use Rattle.pua_path.specs.Bounds.{part_cost}
-use Rattle.pua_path.specs.Fits.{FoundsFit, StandsAsNamed}
-use Rattle.pua_path.specs.Resolution.{follow, last}
-use Rattle.pua_path.specs.declared.found.Last.TheVariants.{Kept}
-use Rattle.pua_policy.specs.Verdict.{verdict_of, is_allowed}
-use Rattle.pua_audit.specs.Bounds.{object_cost}
-use Rattle.pua_audit.specs.Past.{plain_history}
+use Rattle.pua_audit.proofs.Common.{◌≡◌, ◌≤◌, ◌+◌, ◌∙◌, ℕ, length, refl, sym, ap, subst, arith, IfOk, Result, Tree, Errno, Found, part_cost}
+use Rattle.pua_audit.proofs.Common.{FoundsFit, StandsAsNamed, follow, last, Kept, verdict_of, is_allowed, object_cost, plain_history}
+use Rattle.std.specs.Prelude.{is_ok}
 use Rattle.pua_audit.proofs.Covers.{kept_above}
 use Rattle.pua_audit.proofs.Told.{kept_unlinked}
 use Rattle.pua_audit.proofs.terms.Terms.calls_kept.Goals as goal

@@ -1,7 +1,5 @@
-use Rattle.std.proofs.Common.{◌≡◌, ◌∙◌, ℕ, List, Some, sym, ap}
-use Rattle.pua_tree.specs.Tree.{Tree, found_at}
-use Rattle.pua_audit.specs.Past.{plain_history}
-use Rattle.pua_audit.specs.Ready.{part_bytes}
+use Rattle.pua_audit.proofs.Common.{◌≡◌, ◌∙◌, ℕ, List, Some, sym, ap, Tree, plain_history, part_bytes}
+use Rattle.pua_tree.specs.Tree.{found_at}
 use Rattle.pua_audit.proofs.Bare.{file_told}
 use Rattle.pua_audit.proofs.terms.Terms.calls_on_file.Goals as goal
 

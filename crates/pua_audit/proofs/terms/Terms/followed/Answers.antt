@@ -1,26 +1,9 @@
-use Rattle.std.proofs.Common.{◌≡◌, ◌∙◌, ℕ, List, [], Bool, not, ◌&&◌, ◌||◌, Option, get_or, refl, sym, ap, subst, arith}
-use Rattle.std.specs.Prelude.{IfOk, IfSome, Result}
-use Rattle.std.proofs.lemmas.Grind.{common_steps}
-use Rattle.pua_tree.specs.Tree.{Tree}
-use Rattle.pua_path.specs.Bounds.{part_cost}
-use Rattle.pua_path.specs.Fits.{FoundFits, FoundsFit, StandsAsNamed}
-use Rattle.pua_path.specs.Paths.{part_of}
-use Rattle.pua_path.specs.Resolution.{follow, last}
-use Rattle.pua_path.specs.declared.errno.Errno.{Errno}
-use Rattle.pua_path.specs.declared.found.Found.{Found}
-use Rattle.pua_path.specs.declared.found.Last.TheVariants.{Followed, Kept}
-use Rattle.pua_path.specs.declared.found.Part.{Part}
-use Rattle.pua_path.specs.declared.found.Part.TheVariants.{Dot}
-use Rattle.pua_calls.specs.Calls.{last_of}
-use Rattle.pua_calls.specs.CallSets.{has, keeps_link}
-use Rattle.pua_policy.specs.Descent.{cover_in}
-use Rattle.pua_policy.specs.History.{History}
-use Rattle.pua_policy.specs.Verdict.{verdict_of, is_allowed}
-use Rattle.pua_calls.specs.declared.call.Call.{Call}
-use Rattle.pua_audit.specs.Past.{plain_history}
-use Rattle.pua_audit.specs.Ready.{judge_in, letters_of}
-use Rattle.pua_audit.specs.Entries.{links_of, found_of, leads_to, allowed_kept, allowed_near, allowed_far}
-use Rattle.pua_audit.specs.Table.{IsLetter}
+use Rattle.pua_audit.proofs.Common.{◌≡◌, ◌∙◌, ℕ, List, [], Bool, not, ◌&&◌, ◌||◌, Option, get_or, refl, sym, ap, subst, arith, IfOk, IfSome}
+use Rattle.pua_audit.proofs.Common.{Result, common_steps, Tree, part_cost, FoundsFit, StandsAsNamed, part_of, follow, last, Errno, Found}
+use Rattle.pua_audit.proofs.Common.{Followed, Kept, Part, Dot, last_of, has, keeps_link, cover_in, History, verdict_of, is_allowed, Call}
+use Rattle.pua_audit.proofs.Common.{plain_history, judge_in, letters_of, links_of, found_of, leads_to, allowed_kept, allowed_near}
+use Rattle.pua_audit.proofs.Common.{allowed_far, IsLetter}
+use Rattle.pua_path.specs.Fits.{FoundFits}
 use Rattle.pua_audit.proofs.Covers.{covered_lead, founds_are, founds_of, named_above}
 use Rattle.pua_audit.proofs.Letters.{letter_part}
 use Rattle.pua_audit.proofs.Told.{letter_told, by_both, by_kept}

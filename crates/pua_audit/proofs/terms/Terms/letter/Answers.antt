@@ -1,6 +1,4 @@
-use Rattle.std.proofs.Common.{None, List, ℕ, sym, ap, subst, ◌∙◌}
-use Rattle.pua_audit.specs.Ready.{judge_in, part_bytes}
-use Rattle.pua_audit.specs.Table.{IsLetter}
+use Rattle.pua_audit.proofs.Common.{None, List, ℕ, sym, ap, subst, ◌∙◌, judge_in, part_bytes, IsLetter}
 use Rattle.pua_audit.proofs.Spelled.{letter_at}
 use Rattle.pua_audit.proofs.terms.Terms.letter.Goals as goal
 

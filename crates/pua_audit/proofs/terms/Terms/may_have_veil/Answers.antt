@@ -1,10 +1,6 @@
-use Rattle.std.proofs.Common.{sym, ap, ◌∙◌}
+use Rattle.pua_audit.proofs.Common.{sym, ap, ◌∙◌, History, veil_at, Place, plain_history, part_bytes}
 use Rattle.pua_policy.proofs.ForCallers.{veils_are_kept}
-use Rattle.pua_policy.specs.History.{History, veil_at}
-use Rattle.pua_policy.specs.declared.place.Place.{Place}
 use Rattle.pua_policy.specs.declared.place.Place.TheVariants.{Slot}
-use Rattle.pua_audit.specs.Past.{plain_history}
-use Rattle.pua_audit.specs.Ready.{part_bytes}
 use Rattle.pua_audit.proofs.Bare.{no_veil}
 use Rattle.pua_audit.proofs.terms.Terms.may_have_veil.Goals as goal
 

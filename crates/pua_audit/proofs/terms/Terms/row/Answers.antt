@@ -1,16 +1,12 @@
-use Rattle.std.proofs.Common.{◌≡◌, ◌<◌, ◌^◌, ◌∙◌, ℕ, suc, List, length, arith, refl, sym, subst, add-one, suc-mul}
-use Rattle.std.proofs.lemmas.List.{length-map}
-use Rattle.pua_audit.specs.Bounds.{letter_cost}
-use Rattle.pua_audit.specs.Past.{plain_history}
-use Rattle.pua_audit.specs.Ready.{part_bytes, judge_in, letters_of}
-use Rattle.pua_audit.specs.Rows.{IsJudgedRow}
+use Rattle.pua_audit.proofs.Common.{◌≡◌, ◌<◌, ◌^◌, ◌∙◌, ℕ, suc, List, length, arith, refl, sym, subst, add-one, length-map, letter_cost}
+use Rattle.pua_audit.proofs.Common.{plain_history, part_bytes, judge_in, letters_of, IsJudgedRow, call_count}
+use Rattle.std.proofs.Common.{suc-mul}
 use Rattle.pua_audit.specs.Spots.{AreLettersIn}
 use Rattle.pua_audit.proofs.Costs.{letters_within}
 use Rattle.pua_audit.proofs.Gaps.{letters_bare, row_started, row_further}
 use Rattle.pua_audit.proofs.Lists.{IsReached, places_few, reached_all}
 use Rattle.pua_audit.proofs.Moves.{all_at_index}
 use Rattle.pua_audit.proofs.Rowed.{grown_itself, grown_further}
-use Rattle.pua_steps.specs.Limits.{call_count}
 use Rattle.pua_audit.proofs.terms.Terms.row.Goals as goal
 
 pub loop-letter-init : goal.loop-letter-init

@@ -1,9 +1,5 @@
-use Rattle.std.proofs.Common.{◌≡◌, ◌≤◌, ◌+◌, ◌*◌, ℕ, length}
-use Rattle.pua_audit.specs.Bounds.{letter_cost, object_cost}
-use Rattle.pua_audit.specs.Covers.{AreCovered}
-use Rattle.pua_audit.specs.Past.{plain_history}
-use Rattle.pua_audit.specs.Ready.{judge_in, letters_of}
-use Rattle.pua_audit.specs.Rows.{AreLiving, IsGrown, IsJudgedRow}
+use Rattle.pua_audit.proofs.Common.{◌≡◌, ◌≤◌, ◌+◌, ◌*◌, ℕ, length, letter_cost, object_cost, AreCovered, plain_history, judge_in}
+use Rattle.pua_audit.proofs.Common.{letters_of, AreLiving, IsGrown, IsJudgedRow}
 use Rattle.pua_audit.proofs.Lists.{IsReached}
 use Rattle.pua_audit.proofs.terms.Terms.row.Given as goal
 

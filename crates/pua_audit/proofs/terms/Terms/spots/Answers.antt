@@ -1,17 +1,9 @@
-use Rattle.std.proofs.Common.{◌≡◌, ◌≢◌, ◌<◌, ◌∙◌, ℕ, List, [], length, map, get_or, sym, ap, subst, rules, arith}
-use Rattle.std.specs.List.{AllByRecursion}
-use Rattle.std.proofs.lemmas.List.{length-map}
+use Rattle.pua_audit.proofs.Common.{◌≡◌, ◌≢◌, ◌<◌, ◌∙◌, ℕ, List, [], length, map, get_or, sym, ap, subst, rules, arith, AllByRecursion}
+use Rattle.pua_audit.proofs.Common.{length-map, lent_entry, Spot, veil_at, Place, plain_history, part_bytes, letters_of, AreApartFrom}
+use Rattle.pua_audit.proofs.Common.{IsNowhere, IsUnmarked, LetterSpot}
 use Rattle.std.proofs.lemmas.List.Sorted.{Contains-permutation, IsPermutation-sym, IsNonDecreasingBy-from_sort_by_key}
-use Rattle.pua_tree.specs.LentRows.{lent_entry}
-use Rattle.pua_tree.specs.Tree.{Spot}
 use Rattle.pua_policy.proofs.ForCallers.{veils_are_kept}
-use Rattle.pua_policy.specs.History.{veil_at}
-use Rattle.pua_policy.specs.declared.place.Place.{Place}
 use Rattle.pua_policy.specs.declared.place.Place.TheVariants.{Slot}
-use Rattle.pua_audit.specs.Past.{plain_history}
-use Rattle.pua_audit.specs.Ready.{part_bytes, letters_of}
-use Rattle.pua_audit.specs.Spots.{AreApartFrom, IsNowhere, IsUnmarked}
-use Rattle.pua_audit.specs.declared.table.spots.LetterSpot.{LetterSpot}
 use Rattle.pua_audit.proofs.Lists.{all_among}
 use Rattle.pua_audit.proofs.Spotted.{nowhere_found, apart_kept, named_part}
 use Rattle.pua_audit.proofs.terms.Terms.spots.Goals as goal

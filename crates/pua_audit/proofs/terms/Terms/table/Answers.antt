@@ -1,23 +1,11 @@
-use Rattle.std.proofs.Common.{◌≡◌, ◌<◌, ◌≤◌, ◌∙◌, ◌+◌, ◌*◌, ◌-◌, ℕ, suc, nat_eq, List, [], ◌∷◌, ◌++◌, length, map, get_or, arith, refl}
-use Rattle.std.proofs.Common.{sym, ap, subst}
-use Rattle.std.specs.List.{AllByRecursion}
-use Rattle.std.specs.Prelude.{IsTrue}
-use Rattle.std.proofs.lemmas.List.{length-append, length-map}
-use Rattle.indexmap.specs.IndexSet.{insert_key}
-use Rattle.pua_tree.specs.Tree.{Tree, is_dir}
-use Rattle.pua_policy.specs.Descent.{cover_in}
-use Rattle.pua_policy.specs.History.{History}
-use Rattle.pua_audit.specs.Bounds.{row_cost}
-use Rattle.pua_audit.specs.Covers.{AreCovered, DirectoriesState}
-use Rattle.pua_audit.specs.Judge.{Judge}
-use Rattle.pua_audit.specs.Past.{plain_history}
-use Rattle.pua_audit.specs.Ready.{part_bytes, judge_in, letters_of}
-use Rattle.pua_audit.specs.Rows.{AreNumbers, IsJudgedRow}
+use Rattle.pua_audit.proofs.Common.{◌≡◌, ◌<◌, ◌≤◌, ◌∙◌, ◌+◌, ◌*◌, ◌-◌, ℕ, suc, nat_eq, List, [], ◌∷◌, ◌++◌, length, map, get_or, arith}
+use Rattle.pua_audit.proofs.Common.{refl, sym, ap, subst, AllByRecursion, IsTrue, length-append, length-map, insert_key, Tree, is_dir}
+use Rattle.pua_audit.proofs.Common.{cover_in, History, row_cost, AreCovered, DirectoriesState, Judge, plain_history, part_bytes, judge_in}
+use Rattle.pua_audit.proofs.Common.{letters_of, AreNumbers, IsJudgedRow, Steps}
 use Rattle.pua_audit.proofs.Costs.{next_within, one_row_more, rows_few, rows_within}
 use Rattle.pua_audit.proofs.Moves.{all_at_index}
 use Rattle.pua_audit.proofs.Made.{AreRows, rows_pushed, table_made, numbers_apart}
 use Rattle.pua_steps.specs.declared.steps.Row.{Row}
-use Rattle.pua_steps.specs.declared.steps.Steps.{Steps}
 use Rattle.pua_audit.proofs.terms.Terms.table.Goals as goal
 
 pub loop-dir-preserved : goal.loop-dir-preserved

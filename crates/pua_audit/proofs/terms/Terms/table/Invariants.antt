@@ -1,9 +1,5 @@
-use Rattle.std.proofs.Common.{◌≡◌, ◌<◌, ◌≤◌, ◌+◌, ◌*◌, ◌-◌, suc, length, get_or}
-use Rattle.pua_audit.specs.Bounds.{row_cost}
-use Rattle.pua_audit.specs.Covers.{AreCovered}
-use Rattle.pua_audit.specs.Past.{plain_history}
-use Rattle.pua_audit.specs.Ready.{judge_in, letters_of}
-use Rattle.pua_audit.specs.Rows.{AreLiving}
+use Rattle.pua_audit.proofs.Common.{◌≡◌, ◌<◌, ◌≤◌, ◌+◌, ◌*◌, ◌-◌, suc, length, get_or, row_cost, AreCovered, plain_history, judge_in}
+use Rattle.pua_audit.proofs.Common.{letters_of, AreLiving}
 use Rattle.pua_audit.proofs.Made.{AreRows}
 use Rattle.pua_audit.proofs.terms.Terms.table.Given as goal
 

@@ -1,6 +1,5 @@
-use Rattle.std.proofs.Common.{◌∙◌, refl}
-use Rattle.pua_policy.specs.Verdict.{IsMissing, IsFile, IsProg}
-use Rattle.pua_audit.specs.Past.{plain_history}
+use Rattle.pua_audit.proofs.Common.{◌∙◌, refl, IsMissing, plain_history}
+use Rattle.pua_policy.specs.Verdict.{IsFile, IsProg}
 use Rattle.pua_audit.proofs.Covers.{within_is}
 use Rattle.pua_audit.proofs.terms.Terms.within.Goals as goal
 

@@ -1,6 +1,5 @@
-use Rattle.std.proofs.Common.{◌≤◌, length, get_or, rules, sym, ap, subst, ◌∙◌}
+use Rattle.pua_audit.proofs.Common.{◌≤◌, length, get_or, rules, sym, ap, subst, ◌∙◌, DirectoriesState}
 use Rattle.std.proofs.lemmas.Option.{get_or_from_slice_get}
-use Rattle.pua_audit.specs.Covers.{DirectoriesState}
 use Rattle.pua_audit.proofs.Places.{few_numbers}
 use Rattle.pua_audit.proofs.table.directories.Directories.at.Goals as goal
 

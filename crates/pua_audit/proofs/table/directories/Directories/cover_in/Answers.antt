@@ -1,8 +1,5 @@
-use Rattle.std.proofs.Common.{◌∙◌, ℕ, get_or, sym, ap}
-use Rattle.std.proofs.lemmas.Bool.{eqb-true}
+use Rattle.pua_audit.proofs.Common.{◌∙◌, ℕ, get_or, sym, ap, eqb-true, cover_in, DirectoriesState}
 use Rattle.std.proofs.lemmas.List.Quantifiers.{position-Some}
-use Rattle.pua_policy.specs.Descent.{cover_in}
-use Rattle.pua_audit.specs.Covers.{DirectoriesState}
 use Rattle.pua_audit.proofs.table.directories.Directories.cover_in.Goals as goal
 
 pub returns : goal.returns

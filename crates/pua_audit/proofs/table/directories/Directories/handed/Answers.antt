@@ -1,5 +1,4 @@
-use Rattle.std.proofs.Common.{◌∙◌}
-use Rattle.pua_tree.specs.Tree.{above}
+use Rattle.pua_audit.proofs.Common.{◌∙◌, above}
 use Rattle.pua_path.specs.declared.found.Way.TheVariants.{DotDot}
 use Rattle.pua_audit.proofs.Covers.{some_leads, handed_self}
 use Rattle.pua_audit.proofs.table.directories.Directories.handed.Goals as goal

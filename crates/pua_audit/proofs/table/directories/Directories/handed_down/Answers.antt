@@ -1,7 +1,5 @@
-use Rattle.std.proofs.Common.{◌∙◌, ap}
-use Rattle.pua_path.specs.declared.found.Found.TheVariants.{Whole}
+use Rattle.pua_audit.proofs.Common.{◌∙◌, ap, Whole, perms_kept}
 use Rattle.pua_policy.specs.Descent.{own_or}
-use Rattle.pua_policy.specs.History.{perms_kept}
 use Rattle.pua_policy.specs.declared.place.Place.TheVariants as place
 use Rattle.pua_audit.proofs.Covers.{some_leads, handed_name, handed_self, handed_below}
 use Rattle.pua_audit.proofs.table.directories.Directories.handed_down.Goals as goal

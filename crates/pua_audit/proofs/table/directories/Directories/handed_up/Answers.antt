@@ -1,4 +1,4 @@
-use Rattle.std.proofs.Common.{◌∙◌, sym}
+use Rattle.pua_audit.proofs.Common.{◌∙◌, sym}
 use Rattle.pua_audit.proofs.Covers.{some_leads, handed_above}
 use Rattle.pua_audit.proofs.table.directories.Directories.handed_up.Goals as goal
 

@@ -1,8 +1,5 @@
-use Rattle.std.proofs.Common.{◌≡◌, ◌<◌, ◌≤◌, ◌∙◌, ℕ, List, nat_eq, length, arith, sym, ap, subst}
-use Rattle.std.specs.List.{AllByRecursion, IsDistinct}
-use Rattle.indexmap.specs.IndexSet.{insert_key}
-use Rattle.pua_audit.specs.Covers.{DirectoriesState}
-use Rattle.pua_audit.specs.Rows.{AreNumbers}
+use Rattle.pua_audit.proofs.Common.{◌≡◌, ◌<◌, ◌≤◌, ◌∙◌, ℕ, List, nat_eq, length, arith, sym, ap, subst, AllByRecursion, IsDistinct}
+use Rattle.pua_audit.proofs.Common.{insert_key, DirectoriesState, AreNumbers}
 use Rattle.pua_audit.proofs.Places.{few_numbers, all_inserted, placed}
 use Rattle.pua_audit.proofs.table.directories.Directories.place.Goals as goal
 

@@ -1,10 +1,7 @@
-use Rattle.std.proofs.Common.{◌≡◌, ◌∙◌, ◌+◌, ℕ, List, [], Option, ◌&&◌, length, get_or, option_map, refl, sym, ap, subst, arith}
-use Rattle.pua_calls.specs.CallSets.{has, keeps_link}
-use Rattle.pua_audit.specs.Rows.{IsEntryFor, IsJudgedRow}
-use Rattle.pua_audit.specs.Table.{IsLetter}
+use Rattle.pua_audit.proofs.Common.{◌≡◌, ◌∙◌, ◌+◌, ℕ, List, [], Option, ◌&&◌, length, get_or, option_map, refl, sym, ap, subst, arith, has}
+use Rattle.pua_audit.proofs.Common.{keeps_link, IsEntryFor, IsJudgedRow, IsLetter, Entry}
 use Rattle.pua_audit.proofs.Rowed.{row_grown, row_skipped, row_added}
 use Rattle.pua_audit.proofs.Told.{kept_none}
-use Rattle.pua_steps.specs.declared.steps.Entry.{Entry}
 use Rattle.pua_audit.proofs.table.letter.Letter.put.Goals as goal
 
 pub returns-then-is_told_by-clause-row : goal.returns-then-is_told_by-clause-row

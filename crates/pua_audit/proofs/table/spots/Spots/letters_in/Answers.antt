@@ -1,15 +1,12 @@
-use Rattle.std.proofs.Common.{◌≡◌, ◌≢◌, ◌<◌, ◌∙◌, ◌++◌, ℕ, List, map, sym, subst}
-use Rattle.std.specs.List.{AllByRecursion, Contains}
+use Rattle.pua_audit.proofs.Common.{◌≡◌, ◌≢◌, ◌<◌, ◌∙◌, ◌++◌, ℕ, List, map, sym, subst, AllByRecursion, IsUnmarked, LetterSpot, all_joined}
+use Rattle.std.specs.List.{Contains}
 use Rattle.std.proofs.lemmas.List.Elements.{Contains-append_left, Contains-append_right}
 use Rattle.std.proofs.lemmas.List.Filters.{dedup_is}
 use Rattle.std.proofs.lemmas.List.Kept.{Contains-dedup_nat, Contains-from_dedup}
 use Rattle.std.proofs.lemmas.List.Sorted.{Contains-permutation, IsPermutation-sym}
 use Rattle.std.proofs.lemmas.Map.Keys.{IsStrictlyIncreasing-dedup}
-use Rattle.pua_audit.specs.Spots.{IsUnmarked}
-use Rattle.pua_audit.specs.declared.table.spots.LetterSpot.{LetterSpot}
 use Rattle.pua_audit.proofs.Lists.{all_among, all_mapped, all_unmapped}
 use Rattle.pua_audit.proofs.table.spots.Spots.letters_in.Goals as goal
-use Rattle.pua_steps.proofs.ForCallers.{all_joined}
 
 pub returns : goal.returns
 returns c =
