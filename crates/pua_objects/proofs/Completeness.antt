@@ -1,30 +1,26 @@
 -- Each object on which a call is allowed has a line with the call.
-use Rattle.std.proofs.Common.{◌≡◌, ℕ, List, [], ◌∷◌, Bool, true, length, nat_lt, lt-ltb, arith, refl, sym, ap, ◌∙◌, inl, inr, map}
-use Rattle.std.specs.Prelude.{◌&&◌, Option, Some, None, Result, Ok, Err}
-use Rattle.pua_tree.specs.Tree.{Tree, WellFormed, is_dir}
-use Rattle.pua_tree.proofs.ForCallers.{sound_from}
+use Rattle.pua_objects.proofs.Common.{◌≡◌, ℕ, List, [], ◌∷◌, Bool, true, length, arith, refl, sym, ap, ◌∙◌, inl, inr, map, ◌&&◌, Option}
+use Rattle.pua_objects.proofs.Common.{Some, None, Ok, Err, Tree, WellFormed, is_dir, sound_from, FoundFits, path_fault, Last, Way, Found}
+use Rattle.pua_objects.proofs.Common.{Whole, Slot, CallTable, calls, rule_of, last_of, History, veils, verdict, if_promised, is_allowed}
+use Rattle.pua_objects.proofs.Common.{Call, Allowed, Line, line_of, has_calls, items, calls_on, is_named_by, subject_verdict, subject_of}
+use Rattle.std.proofs.Common.{nat_lt, lt-ltb}
+use Rattle.std.specs.Prelude.{Result}
 use Rattle.pua_path.specs.Resolution.{resolution, resolution_of_text}
-use Rattle.pua_path.specs.Fits.{FoundFits, IsOf}
-use Rattle.pua_path.specs.Paths.{path_fault}
+use Rattle.pua_path.specs.Fits.{IsOf}
 use Rattle.pua_path.specs.declared.errno.Errno.{Errno}
 use Rattle.pua_path.specs.declared.text.Ending.{Ending}
-use Rattle.pua_path.specs.declared.found.Last.{Last}
-use Rattle.pua_path.specs.declared.found.Way.{Way}
-use Rattle.pua_path.specs.declared.found.Found.{Found}
-use Rattle.pua_path.specs.declared.found.Found.TheVariants.{Whole, Slot}
-use Rattle.pua_calls.specs.Calls.{CallTable, calls, rule_of, last_of, ending_of}
-use Rattle.pua_policy.specs.History.{History, veils, may_any, working_dir}
-use Rattle.pua_policy.specs.Verdict.{verdict, verdict_of, if_promised, is_allowed}
-use Rattle.pua_calls.specs.declared.call.Call.{Call}
+use Rattle.pua_calls.specs.Calls.{ending_of}
+use Rattle.pua_policy.specs.History.{may_any, working_dir}
+use Rattle.pua_policy.specs.Verdict.{verdict_of}
 use Rattle.pua_calls.specs.declared.call.Call.TheVariants.{Stat, Lstat, Readlink, OpenRead, OpenWrite, OpenBoth, Create, Mkdir, Rmdir}
 use Rattle.pua_calls.specs.declared.call.Call.TheVariants.{Unlink, Symlink, Chmod, Chdir, Exec}
 use Rattle.pua_policy.specs.declared.answer.May.{May}
 use Rattle.pua_policy.specs.declared.answer.May.TheVariants as may
 use Rattle.pua_policy.specs.declared.answer.Verdict.{Verdict}
-use Rattle.pua_policy.specs.declared.answer.Verdict.TheVariants.{Allowed, Failed, Death}
+use Rattle.pua_policy.specs.declared.answer.Verdict.TheVariants.{Failed, Death}
 use Rattle.pua_path.proofs.ForCallers.{resolutions_fit}
 use Rattle.pua_audit.specs.Reach.{path_of, pairs, reach, is_reached}
-use Rattle.pua_objects.specs.Objects.{Line, line_of, has_calls, objects, items, calls_on, is_named_by, subject_verdict, subject_of}
+use Rattle.pua_objects.specs.Objects.{objects}
 use Rattle.pua_objects.specs.Laws.{IsListed, Complete, ReachIsListed}
 use Rattle.pua_objects.proofs.Among.{Among, among_map, among_filter, filter_among, contained, among_contained}
 use Rattle.pua_objects.proofs.Judged.{told}

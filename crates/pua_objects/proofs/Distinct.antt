@@ -1,21 +1,18 @@
 -- Spots sorted, each kept once.
-use Rattle.std.proofs.Common.{◌≡◌, ℕ, List, [], ◌∷◌, Bool, true, false, cond, map, refl, ap, ◌∙◌, IsPermutation, Bor, ◌==◌, ◌&&◌}
+use Rattle.pua_objects.proofs.Common.{◌≡◌, ℕ, List, [], ◌∷◌, Bool, true, false, cond, map, refl, ap, ◌∙◌, Bor, ◌==◌, Ordering, Less, Equal}
+use Rattle.pua_objects.proofs.Common.{Greater, nat_cmp, Spot, spot_cmp, exact_spots, Rises, spot_now, AreInOrder}
+use Rattle.std.proofs.Common.{IsPermutation, ◌&&◌}
 use Rattle.std.specs.List.{dedup, dedup_from}
 use Rattle.std.specs.List.Sorted.{IsSorted, IsStrictlySortedBy}
 use Rattle.std.specs.Cmp.{eq_by_cmp_equiv, on_total, both_tied, unsigned_ties}
 use Rattle.std.specs.Cmp.Lexicographic.{slice_cmp, pointwise, texts_ties}
-use Rattle.std.specs.declared.cmp.Ordering.{Ordering}
-use Rattle.std.specs.declared.cmp.Ordering.TheVariants.{Less, Equal, Greater}
-use Rattle.std.specs.Ordering.{nat_cmp, eq_by_cmp, is_eq}
+use Rattle.std.specs.Ordering.{eq_by_cmp, is_eq}
 use Rattle.std.specs.List.Retain.{IsFiltered, DiffersFromLast}
 use Rattle.std.proofs.lemmas.List.Filters.{dedup_is}
 use Rattle.std.proofs.lemmas.List.Kept.{Contains-dedup, Contains-from_dedup, IsStrictlySortedBy-dedup}
 use Rattle.std.proofs.lemmas.List.Sorted.{Contains-permutation, IsPermutation-map, IsPermutation-sym}
-use Rattle.pua_tree.specs.Tree.{Spot, spot_cmp}
-use Rattle.pua_tree.proofs.ForCallers.{spots_total, exact_spots}
-use Rattle.pua_audit.specs.Laws.{Rises}
+use Rattle.pua_tree.proofs.ForCallers.{spots_total}
 use Rattle.pua_audit.proofs.ForCallers.{rises_mapped}
-use Rattle.pua_objects.specs.Spots.{spot_now, AreInOrder}
 
 abbrev Lent : Type 0
 Lent = ℕ × Bor (List ℕ)

@@ -1,32 +1,23 @@
 -- What is to come after a name is taken.
-use Rattle.std.proofs.Common.{◌≡◌, ◌≢◌, ◌<◌, ℕ, suc, ◌+◌, ◌-◌, List, [], ◌∷◌, ◌++◌, true, false, length, take, drop, refl, sym, ap, subst}
-use Rattle.std.proofs.Common.{◌∙◌, arith, vec_capacity}
-use Rattle.std.specs.Prelude.{reverse, Option, Some, None, is_none, not, ◌==◌}
+use Rattle.pua_objects.proofs.Common.{◌≡◌, ◌≢◌, ◌<◌, ℕ, suc, ◌+◌, ◌-◌, List, [], ◌∷◌, ◌++◌, true, false, length, take, drop, refl, sym, ap}
+use Rattle.pua_objects.proofs.Common.{subst, ◌∙◌, arith, vec_capacity, reverse, Option, Some, None, is_none, not, eq-eqb, length-map}
+use Rattle.pua_objects.proofs.Common.{length-reverse, Tree, Spot, is_dir, look, Sound, sound_from, row_says, climb_ends, FoundFits, Named}
+use Rattle.pua_objects.proofs.Common.{Whole, Slot, History, ProcessState, StandsFor, perms_kept, Place, Word, At, cover_in, entries, own_or}
+use Rattle.pua_objects.proofs.Common.{IsItemOn, names_at, AreSpots, items_to_come, others_item, IsBelow, spots_in, word_in, dirs_in}
+use Rattle.pua_objects.proofs.Common.{frames_at, names_left, own_items, IsOpenDir, AreOpenDirs, IsItemReady, dir_with_next, OpenDir, Names}
+use Rattle.pua_objects.proofs.Common.{ItemWalk, covers_descend}
+use Rattle.std.specs.Prelude.{◌==◌}
 use Rattle.std.specs.Option.{option_eq}
-use Rattle.std.proofs.lemmas.Bool.{and_from, eq-eqb}
-use Rattle.std.proofs.lemmas.List.{length-map, length-reverse, length_push, take_all}
-use Rattle.pua_tree.specs.Tree.{Tree, Spot, is_dir, look}
-use Rattle.pua_tree.proofs.ForCallers.{Sound, sound_from, row_says, above_is, climb_ends}
-use Rattle.pua_path.specs.Fits.{FoundFits}
-use Rattle.pua_path.specs.declared.found.Way.TheVariants.{Named}
-use Rattle.pua_path.specs.declared.found.Found.TheVariants.{Whole, Slot}
-use Rattle.pua_policy.specs.History.{History, ProcessState, StandsFor, perms_kept}
-use Rattle.pua_policy.specs.declared.place.Place.{Place}
+use Rattle.std.proofs.lemmas.Bool.{and_from}
+use Rattle.std.proofs.lemmas.List.{length_push, take_all}
+use Rattle.pua_tree.proofs.ForCallers.{above_is}
 use Rattle.pua_policy.specs.declared.place.Place.TheVariants as place
-use Rattle.pua_audit.specs.Reach.{Word}
 use Rattle.pua_objects.specs.Objects as objects
-use Rattle.pua_objects.specs.Objects.{At, cover_in, entries}
-use Rattle.pua_objects.specs.Laws.{own_or}
-use Rattle.pua_objects.specs.Items.{IsItemOn}
-use Rattle.pua_objects.specs.Spots.{names_at, AreSpots}
-use Rattle.pua_objects.specs.Walk.{Frame, items_to_come, frame_of, others_item, IsBelow, IsDeepEnough, StepsOfWalk}
-use Rattle.pua_objects.specs.Ready.{spots_in, word_in, dirs_in, frame_at, frames_at, names_left, left_in, own_items, IsOpenDir, AreOpenDirs}
-use Rattle.pua_objects.specs.Ready.{IsItemReady, IsTaken, IsEntered, IsItemGiven, dir_with_next}
+use Rattle.pua_objects.specs.Walk.{Frame, frame_of, IsDeepEnough, StepsOfWalk}
+use Rattle.pua_objects.specs.Ready.{frame_at, left_in}
+use Rattle.pua_objects.specs.Ready.{IsTaken, IsEntered, IsItemGiven}
 use Rattle.pua_objects.specs.declared.item.Item.{Item}
-use Rattle.pua_objects.specs.declared.open_dir.OpenDir.{OpenDir}
-use Rattle.pua_objects.specs.declared.open_dir.Coming.TheVariants.{Names, Others}
-use Rattle.pua_objects.specs.declared.walk.ItemWalk.{ItemWalk}
-use Rattle.pua_policy.proofs.ForCallers.{covers_descend}
+use Rattle.pua_objects.specs.declared.open_dir.Coming.TheVariants.{Others}
 use Rattle.pua_objects.proofs.Framed.{names_no_root, others_no_root, reverse_more, frames_longer}
 use Rattle.pua_objects.proofs.Walking.{reaches, walks_objects}
 

@@ -1,22 +1,17 @@
 -- The names at the spots of a directory are its entries.
-use Rattle.std.proofs.Common.{◌≡◌, ◌==◌, ℕ, List, [], ◌∷◌, ◌++◌, Bool, true, false, cond, map, Some, None, refl, sym, ap, ◌∙◌, ◌⊎◌, inl}
-use Rattle.std.proofs.Common.{inr}
-use Rattle.std.specs.Prelude.{Option, filter, filter_map, if◌then◌else◌}
-use Rattle.std.specs.List.{cons_option, AllByRecursion}
-use Rattle.std.specs.declared.cmp.Ordering.TheVariants.{Less, Equal}
-use Rattle.std.specs.Ordering.{nat_cmp, ordering_then}
+use Rattle.pua_objects.proofs.Common.{◌≡◌, ◌==◌, ℕ, List, [], ◌∷◌, ◌++◌, Bool, true, false, cond, map, refl, sym, ap, ◌∙◌, inl, inr, Option}
+use Rattle.pua_objects.proofs.Common.{filter, filter_map, if◌then◌else◌, AllByRecursion, Less, Equal, nat_cmp, eq-eqb, eqb-true, Tree, Spot}
+use Rattle.pua_objects.proofs.Common.{spot_cmp, name_cmp, Place, Rises, names_in, name_at, veiled_in, entries, veil_spot, names_at}
+use Rattle.pua_objects.proofs.Common.{AreInOrder, AreSpots}
+use Rattle.std.proofs.Common.{Some, None, ◌⊎◌}
+use Rattle.std.specs.List.{cons_option}
+use Rattle.std.specs.Ordering.{ordering_then}
 use Rattle.std.specs.FinMap.{nat_cmp-IsAntisymmetric, slice_cmp-IsAntisymmetric}
 use Rattle.std.specs.Cmp.Lexicographic.{nat_list_cmp_total}
 use Rattle.std.specs.Cmp.{nat_cmp_total, tied_itself}
-use Rattle.std.proofs.lemmas.Bool.{eq-eqb, eqb-true}
-use Rattle.pua_tree.specs.Tree.{Tree, Spot, spot_cmp, name_cmp}
 use Rattle.pua_tree.proofs.ForCallers.{same_Some, None≢Some}
-use Rattle.pua_policy.specs.declared.place.Place.{Place}
 use Rattle.pua_policy.specs.declared.place.Place.TheVariants as place
-use Rattle.pua_audit.specs.Laws.{Rises}
 use Rattle.pua_audit.proofs.ForCallers.{distinct_names_rise}
-use Rattle.pua_objects.specs.Objects.{names_in, name_at, veiled_in, entries}
-use Rattle.pua_objects.specs.Spots.{veil_spot, names_at, AreInOrder, AreSpots}
 use Rattle.pua_objects.proofs.Among.{Among, among_left, among_right, among_either, among_map, map_among, among_filter, filter_among}
 use Rattle.pua_objects.proofs.Among.{among_distinct, distinct_among, contained, among_contained}
 

@@ -1,16 +1,10 @@
 -- The frames of the directories that are entered.
-use Rattle.std.proofs.Common.{◌≡◌, ◌<◌, ◌≤◌, ℕ, suc, ◌-◌, List, [], ◌∷◌, ◌++◌, length, take, drop, refl, sym, ◌∙◌, arith}
-use Rattle.std.specs.Prelude.{reverse}
+use Rattle.pua_objects.proofs.Common.{◌≡◌, ◌<◌, ◌≤◌, ℕ, suc, ◌-◌, List, [], ◌∷◌, ◌++◌, length, take, drop, refl, sym, ◌∙◌, arith, reverse}
+use Rattle.pua_objects.proofs.Common.{Tree, WellFormed, Spot, Place, Word, names_at, items_to_come, frames_at, OpenDir, Root, Names}
 use Rattle.std.proofs.lemmas.List.{take-take, take-append-le, reverse-append}
-use Rattle.pua_tree.specs.Tree.{Tree, WellFormed, Spot}
-use Rattle.pua_policy.specs.declared.place.Place.{Place}
-use Rattle.pua_audit.specs.Reach.{Word}
-use Rattle.pua_objects.specs.Spots.{names_at}
-use Rattle.pua_objects.specs.Walk.{items_to_come}
-use Rattle.pua_objects.specs.Ready.{frame_at, frames_at}
-use Rattle.pua_objects.specs.declared.open_dir.OpenDir.{OpenDir}
+use Rattle.pua_objects.specs.Ready.{frame_at}
 use Rattle.pua_objects.specs.declared.open_dir.Coming.{Coming}
-use Rattle.pua_objects.specs.declared.open_dir.Coming.TheVariants.{Root, Others, Names}
+use Rattle.pua_objects.specs.declared.open_dir.Coming.TheVariants.{Others}
 use Rattle.pua_objects.proofs.Walking.{walks_objects}
 
 pub names_no_root : (k : Coming) → k ≡ Names → k ≡ Root → ⊥

@@ -1,7 +1,8 @@
 -- Fronts of words that stay from item to item.
-use Rattle.std.proofs.Common.{◌≡◌, ◌≤◌, ◌-◌, ◌∷◌, ◌++◌, [], ℕ, suc, zero, List, length, take, map, refl, sym, ap, ◌∙◌, subst, length-append}
-use Rattle.std.proofs.Common.{arith}
-use Rattle.std.proofs.lemmas.List.{length-map, take_all, take-append-le, take-map, take-take}
+use Rattle.pua_objects.proofs.Common.{◌≡◌, ◌≤◌, ◌-◌, ◌∷◌, ◌++◌, [], ℕ, suc, zero, List, length, take, map, refl, sym, ap, ◌∙◌, subst, arith}
+use Rattle.pua_objects.proofs.Common.{length-map}
+use Rattle.std.proofs.Common.{length-append}
+use Rattle.std.proofs.lemmas.List.{take_all, take-append-le, take-map, take-take}
 use Rattle.pua_objects.specs.Items.{IsNear}
 
 -- a front is known by its length

@@ -1,15 +1,13 @@
 -- The spots of rows and of veils, gathered one after another.
-use Rattle.std.proofs.Common.{◌≡◌, ◌<◌, ◌+◌, ℕ, List, [], ◌∷◌, ◌++◌, map, take, length, slice_index_or, add-one, refl, sym, ap, subst, ◌∙◌}
-use Rattle.std.specs.Prelude.{filter_map, IsTrue, ◌&&◌}
-use Rattle.std.specs.List.{list_all}
+use Rattle.pua_objects.proofs.Common.{◌≡◌, ◌<◌, ◌+◌, ℕ, List, [], ◌∷◌, ◌++◌, map, take, length, refl, sym, ap, subst, ◌∙◌, filter_map, ◌&&◌}
+use Rattle.pua_objects.proofs.Common.{list_all, Spot, Place, veil_spot, AreAtNames}
+use Rattle.std.proofs.Common.{slice_index_or, add-one}
+use Rattle.std.specs.Prelude.{IsTrue}
 use Rattle.std.specs.Borrow.{Bor}
 use Rattle.std.proofs.lemmas.List.{map-append, append_assoc}
 use Rattle.std.proofs.Math.Seq.{take-suc}
-use Rattle.pua_tree.specs.Tree.{Spot}
-use Rattle.pua_policy.specs.declared.place.Place.{Place}
 use Rattle.pua_policy.specs.declared.place.Place.TheVariants as place
 use Rattle.pua_objects.specs.Laws.{is_place}
-use Rattle.pua_objects.specs.Spots.{veil_spot, AreAtNames}
 
 slots_more : (ps : List Place) (p : Place) → filter_map veil_spot (ps ++ p ∷ []) ≡ filter_map veil_spot ps ++ filter_map veil_spot (p ∷ [])
 slots_more [] p = refl

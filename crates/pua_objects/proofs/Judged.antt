@@ -1,34 +1,25 @@
 -- A verdict depends on what was found alone, and on the way for rmdir.
-use Rattle.std.proofs.Common.{◌≡◌, ◌≢◌, ℕ, zero, suc, List, ◌∷◌, true, false, refl, sym, ap, ◌∙◌}
-use Rattle.std.specs.Prelude.{Option, Some, None, not, ◌&&◌, ◌||◌, ◌==◌, is_some, map, if◌then◌else◌}
-use Rattle.std.specs.List.{list_any}
-use Rattle.pua_tree.specs.Tree.{Tree, Spot, is_dir, spot_cmp, climb}
-use Rattle.pua_tree.proofs.ForCallers.{spots_total, exact_spots, only_key, Sound, InRow, row_says}
-use Rattle.std.proofs.lemmas.Bool.{eq-eqb}
+use Rattle.pua_objects.proofs.Common.{◌≡◌, ◌≢◌, ℕ, zero, suc, List, ◌∷◌, true, false, refl, sym, ap, ◌∙◌, Option, Some, None, not, ◌&&◌}
+use Rattle.pua_objects.proofs.Common.{◌||◌, is_some, if◌then◌else◌, list_any, Tree, Spot, is_dir, spot_cmp, exact_spots, Sound, row_says}
+use Rattle.pua_objects.proofs.Common.{eq-eqb, Last, Followed, Kept, Way, Named, Top, Found, Whole, Slot, CallTable, rule_of, last_of}
+use Rattle.pua_objects.proofs.Common.{History, perms_kept, if_promised, verdict, is_allowed, is_link, Call, Cover, All, Allowed, Subject}
+use Rattle.pua_objects.proofs.Common.{At, Others, subject_of, cover_in, subject_verdict, is_named_by}
+use Rattle.std.specs.Prelude.{◌==◌, map}
+use Rattle.pua_tree.specs.Tree.{climb}
+use Rattle.pua_tree.proofs.ForCallers.{spots_total, only_key, InRow}
 use Rattle.pua_path.specs.Fits.{StandsAsNamed}
 use Rattle.pua_path.specs.declared.errno.Errno.{Errno}
-use Rattle.pua_path.specs.declared.found.Last.{Last}
-use Rattle.pua_path.specs.declared.found.Last.TheVariants.{Followed, Kept}
-use Rattle.pua_path.specs.declared.found.Way.{Way}
-use Rattle.pua_path.specs.declared.found.Way.TheVariants.{Named, Dot, DotDot, Top}
-use Rattle.pua_path.specs.declared.found.Found.{Found}
-use Rattle.pua_path.specs.declared.found.Found.TheVariants.{Whole, Slot}
-use Rattle.pua_calls.specs.Calls.{CallTable, rule_of, last_of}
+use Rattle.pua_path.specs.declared.found.Way.TheVariants.{Dot, DotDot}
 use Rattle.pua_calls.specs.CallSets.{is_kept}
-use Rattle.pua_policy.specs.History.{History, perms_kept, may_any}
-use Rattle.pua_policy.specs.Verdict.{IsMissing, object_fault, or_fault, cover, cover_fault, nearest, is_unveil, if_promised, allowed_unless}
-use Rattle.pua_policy.specs.Verdict.{verdict, is_allowed, is_link}
-use Rattle.pua_calls.specs.declared.call.Call.{Call}
+use Rattle.pua_policy.specs.History.{may_any}
+use Rattle.pua_policy.specs.Verdict.{IsMissing, object_fault, or_fault, cover, cover_fault, nearest, is_unveil, allowed_unless}
 use Rattle.pua_calls.specs.declared.call.Call.TheVariants.{Stat, Lstat, Readlink, OpenRead, OpenWrite, OpenBoth, Create, Mkdir, Rmdir}
 use Rattle.pua_calls.specs.declared.call.Call.TheVariants.{Unlink, Symlink, Chmod, Chdir, Exec}
 use Rattle.pua_policy.specs.declared.answer.May.{May}
 use Rattle.pua_policy.specs.declared.answer.May.TheVariants as may
-use Rattle.pua_policy.specs.declared.answer.Cover.{Cover}
-use Rattle.pua_policy.specs.declared.answer.Cover.TheVariants.{All}
 use Rattle.pua_policy.specs.declared.answer.Verdict.{Verdict}
-use Rattle.pua_policy.specs.declared.answer.Verdict.TheVariants.{Allowed}
 use Rattle.pua_policy.specs.declared.place.Place.TheVariants as place
-use Rattle.pua_objects.specs.Objects.{Subject, At, Others, own_way, way_of_spot, subject_of, cover_in, subject_verdict, is_named_by}
+use Rattle.pua_objects.specs.Objects.{own_way, way_of_spot}
 use Rattle.std.proofs.Math.Bool.{or-true}
 
 -- nothing is allowed where there is a fault

@@ -1,16 +1,16 @@
 -- The names of a line lead to what it is about.
-use Rattle.std.proofs.Common.{◌≡◌, ◌≤◌, ℕ, zero, suc, List, [], ◌∷◌, ◌++◌, length, map, Bool, true, false, refl, sym, ap, ◌∙◌, inl, inr}
-use Rattle.std.proofs.Common.{subst}
-use Rattle.std.specs.Prelude.{◌⊎◌, nat_lt, nat_le, Option, Some, None, Ok, Err, option_map, is_some, not, ◌||◌, ◌==◌, filter, filter_map}
-use Rattle.std.specs.Prelude.{codes, if◌then◌else◌}
-use Rattle.std.specs.List.{AllByRecursion, list_all}
-use Rattle.std.proofs.lemmas.Bool.{and_parts}
+use Rattle.pua_objects.proofs.Common.{◌≡◌, ◌≤◌, ℕ, zero, suc, List, [], ◌∷◌, ◌++◌, length, map, Bool, true, false, refl, sym, ap, ◌∙◌, inl}
+use Rattle.pua_objects.proofs.Common.{inr, subst, nat_lt, Option, Some, None, Ok, Err, is_some, not, ◌||◌, filter, filter_map}
+use Rattle.pua_objects.proofs.Common.{if◌then◌else◌, AllByRecursion, list_all, and_parts, Tree, WellFormed, look, is_dir, Kind, Sound}
+use Rattle.pua_objects.proofs.Common.{row_says, path_fault, Last, Followed, Kept, Way, Named, Top, Whole, Slot, History, veils}
+use Rattle.pua_objects.proofs.Common.{is_link_kind, Place, Word, Subject, At, Others, Item, names_in, name_at, veiled_in, entries, items_at}
+use Rattle.pua_objects.proofs.Common.{items_below, items}
+use Rattle.std.specs.Prelude.{◌⊎◌, nat_le, option_map, ◌==◌}
+use Rattle.std.specs.Prelude.{codes}
 use Rattle.pua_tree.specs.Names.{is_name, is_name_byte, same_bytes}
-use Rattle.pua_tree.specs.Tree.{Tree, Node, WellFormed, look, node_at, is_dir, is_dir_kind, is_living, row_fits}
-use Rattle.pua_tree.specs.declared.node.Kind.{Kind}
+use Rattle.pua_tree.specs.Tree.{Node, node_at, is_dir_kind, is_living, row_fits}
 use Rattle.pua_tree.specs.declared.node.Kind.TheVariants as kinds
-use Rattle.pua_tree.proofs.ForCallers.{Sound, row_says}
-use Rattle.pua_path.specs.Paths.{part_of, parts_of, is_absolute, path_fault}
+use Rattle.pua_path.specs.Paths.{part_of, parts_of, is_absolute}
 use Rattle.pua_path.specs.Resolution.{Resolved, Standing, Directory, Linked, Plain, Nothing, standing_of, standing_at, is_followed, slot_or}
 use Rattle.pua_path.specs.Resolution.{walk, start_of, resolve_parts}
 use Rattle.pua_path.specs.declared.errno.Errno.TheVariants.{ENOENT, ENOTDIR, ELOOP}
@@ -18,20 +18,11 @@ use Rattle.pua_path.specs.declared.text.Ending.{Ending}
 use Rattle.pua_path.specs.declared.text.Ending.TheVariants as ending
 use Rattle.pua_path.specs.declared.found.Part.{Part}
 use Rattle.pua_path.specs.declared.found.Part.TheVariants as parts
-use Rattle.pua_path.specs.declared.found.Last.{Last}
-use Rattle.pua_path.specs.declared.found.Last.TheVariants.{Followed, Kept}
-use Rattle.pua_path.specs.declared.found.Way.{Way}
-use Rattle.pua_path.specs.declared.found.Way.TheVariants.{Named, Top}
-use Rattle.pua_path.specs.declared.found.Found.TheVariants.{Whole, Slot}
-use Rattle.pua_policy.specs.History.{History, veils}
-use Rattle.pua_policy.specs.Verdict.{is_link_kind}
-use Rattle.pua_policy.specs.declared.place.Place.{Place}
 use Rattle.pua_policy.specs.declared.place.Place.TheVariants as place
-use Rattle.pua_audit.specs.Reach.{Word, path_of}
+use Rattle.pua_audit.specs.Reach.{path_of}
 use Rattle.pua_audit.specs.declared.base.Base.TheVariants.{Root}
 use Rattle.pua_audit.proofs.ForCallers.{IsPiece, letter_is_piece, path_is}
 use Rattle.pua_audit.proofs.ForCallers.{all_joined}
-use Rattle.pua_objects.specs.Objects.{Subject, At, Others, Item, names_in, name_at, veiled_in, entries, items_at, items_below, items}
 use Rattle.pua_objects.specs.Laws.{is_place, HasPlaces}
 use Rattle.pua_objects.proofs.Among.{Among, among_either, map_among, filter_among, flat_among, distinct_among}
 

@@ -1,18 +1,10 @@
 -- Directories that are left, and the next name of the innermost that has one.
-use Rattle.std.proofs.Common.{◌≡◌, ◌≤◌, ◌<◌, ℕ, suc, ◌+◌, List, [], ◌∷◌, ◌++◌, length, take, drop, map, sym, ap, subst, ◌∙◌, arith}
-use Rattle.std.proofs.Common.{append-nil, vec_capacity}
-use Rattle.std.specs.Prelude.{reverse}
-use Rattle.std.proofs.lemmas.List.{length-take-le, length_push, length-reverse, take-map, nil_from_length}
-use Rattle.pua_tree.specs.Tree.{Tree, Spot}
-use Rattle.pua_policy.specs.History.{ProcessState}
-use Rattle.pua_policy.specs.declared.answer.Cover.{Cover}
-use Rattle.pua_objects.specs.Spots.{spot_now, names_at, AreSpots}
-use Rattle.pua_objects.specs.Walk.{items_to_come}
-use Rattle.pua_objects.specs.Ready.{spots_in, word_in, dirs_in, frames_at, names_left, IsOpenDir, AreOpenDirs, IsItemReady, IsTaken}
-use Rattle.pua_objects.specs.Ready.{dir_with_next}
-use Rattle.pua_objects.specs.declared.open_dir.OpenDir.{OpenDir}
-use Rattle.pua_objects.specs.declared.open_dir.Coming.TheVariants.{Names}
-use Rattle.pua_objects.specs.declared.walk.ItemWalk.{ItemWalk}
+use Rattle.pua_objects.proofs.Common.{◌≡◌, ◌≤◌, ◌<◌, ℕ, suc, ◌+◌, List, [], ◌∷◌, ◌++◌, length, take, drop, map, sym, ap, subst, ◌∙◌, arith}
+use Rattle.pua_objects.proofs.Common.{append-nil, vec_capacity, reverse, length-reverse, Tree, Spot, ProcessState, Cover, spot_now}
+use Rattle.pua_objects.proofs.Common.{names_at, AreSpots, items_to_come, spots_in, word_in, dirs_in, frames_at, names_left, IsOpenDir}
+use Rattle.pua_objects.proofs.Common.{AreOpenDirs, IsItemReady, dir_with_next, OpenDir, Names, ItemWalk}
+use Rattle.std.proofs.lemmas.List.{length-take-le, length_push, take-map, nil_from_length}
+use Rattle.pua_objects.specs.Ready.{IsTaken}
 use Rattle.pua_objects.proofs.Framed.{names_no_root, reverse_more, frames_cut, frames_left}
 use Rattle.pua_objects.proofs.Ranges.{passed_more}
 

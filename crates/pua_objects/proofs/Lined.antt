@@ -1,21 +1,17 @@
 -- The calls of a line, by whether it is about a link.
-use Rattle.std.proofs.Common.{◌≡◌, ◌≢◌, ℕ, Bool, true, false, refl, sym, ap, subst, ◌∙◌}
-use Rattle.std.specs.Prelude.{Option, Some, None, is_none, not, ◌&&◌, ◌||◌, if◌then◌else◌, codes}
-use Rattle.pua_tree.specs.Tree.{Tree, kind_at}
-use Rattle.pua_tree.specs.declared.node.Kind.{Kind}
+use Rattle.pua_objects.proofs.Common.{◌≡◌, ◌≢◌, ℕ, Bool, true, false, refl, sym, ap, subst, ◌∙◌, Option, Some, None, is_none, not, ◌&&◌}
+use Rattle.pua_objects.proofs.Common.{◌||◌, if◌then◌else◌, Tree, Kind, Found, Whole, Slot, CallTable, History, object_of, is_link}
+use Rattle.pua_objects.proofs.Common.{is_link_kind, verdict, is_allowed, Call, Subject, At, Others, cover_in, IsItemOn}
+use Rattle.std.specs.Prelude.{codes}
+use Rattle.pua_tree.specs.Tree.{kind_at}
 use Rattle.pua_tree.specs.declared.node.Kind.TheVariants as kinds
-use Rattle.pua_path.specs.declared.found.Found.{Found}
-use Rattle.pua_path.specs.declared.found.Found.TheVariants.{Whole, Slot}
-use Rattle.pua_calls.specs.Calls.{CallTable}
 use Rattle.pua_calls.specs.CallSets.{has, keeps_link}
-use Rattle.pua_policy.specs.History.{History}
 use Rattle.pua_policy.specs.Objects.{object_seen}
-use Rattle.pua_policy.specs.Verdict.{cover, object_of, object_of_kind, rmdir_fault, is_link, is_link_kind, verdict, is_allowed}
-use Rattle.pua_calls.specs.declared.call.Call.{Call}
+use Rattle.pua_policy.specs.Verdict.{cover, object_of_kind, rmdir_fault}
 use Rattle.pua_policy.specs.declared.object.Object as seen
 use Rattle.pua_policy.specs.declared.object.Object.TheVariants as see
-use Rattle.pua_objects.specs.Objects.{Subject, At, Others, cover_in, object_word}
-use Rattle.pua_objects.specs.Items.{subject_given, cover_on, IsItemOn}
+use Rattle.pua_objects.specs.Objects.{object_word}
+use Rattle.pua_objects.specs.Items.{subject_given, cover_on}
 use Rattle.pua_objects.specs.Lines.{IsLineOn, kind_seen, kind_word}
 use Rattle.pua_objects.specs.declared.item.Item as given
 use Rattle.pua_objects.specs.declared.item.Subject as told

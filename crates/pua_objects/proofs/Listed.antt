@@ -1,17 +1,10 @@
 -- Lines of what is to come, one after another.
-use Rattle.std.proofs.Common.{◌≡◌, ◌≢◌, List, [], ◌∷◌, Bool, true, false, cond, length, refl, sym, ap, subst, ◌∙◌, arith}
-use Rattle.std.specs.Prelude.{filter, nat_lt}
+use Rattle.pua_objects.proofs.Common.{◌≡◌, ◌≢◌, List, [], ◌∷◌, Bool, true, false, cond, length, refl, sym, ap, subst, ◌∙◌, arith, filter}
+use Rattle.pua_objects.proofs.Common.{nat_lt, Tree, CallTable, calls, History, ProcessState, StandsFor, Call, Word, Subject, Item, Line}
+use Rattle.pua_objects.proofs.Common.{line_of, has_calls, calls_on, IsItemOn, lines_of}
 use Rattle.std.proofs.lemmas.Bool.{lt-ltb}
-use Rattle.pua_tree.specs.Tree.{Tree}
-use Rattle.pua_calls.specs.Calls.{CallTable, calls}
 use Rattle.pua_calls.specs.CallSets.{calls_in}
-use Rattle.pua_policy.specs.History.{History, ProcessState, StandsFor}
-use Rattle.pua_calls.specs.declared.call.Call.{Call}
-use Rattle.pua_audit.specs.Reach.{Word}
-use Rattle.pua_objects.specs.Objects.{Subject, Item, Line, line_of, has_calls, calls_on}
-use Rattle.pua_objects.specs.Items.{IsItemOn}
 use Rattle.pua_objects.specs.Lines.{IsLineOn}
-use Rattle.pua_objects.specs.Ready.{lines_of}
 use Rattle.pua_objects.specs.declared.item.Item as given
 use Rattle.pua_objects.specs.declared.line.ObjectLine.{ObjectLine}
 

@@ -1,28 +1,22 @@
 -- What the list of objects has: each living directory, what stands in it, and what is missing there.
-use Rattle.std.proofs.Common.{◌≡◌, ◌+◌, ◌-◌, ℕ, zero, suc, List, [], ◌∷◌, ◌++◌, length, Bool, true, false, refl, sym, ap, ◌∙◌, inl, inr}
-use Rattle.std.proofs.Common.{arith, subst}
-use Rattle.std.specs.Prelude.{Option, Some, None, not, ◌&&◌, ◌==◌, is_some, is_none, filter_map, if◌then◌else◌}
+use Rattle.pua_objects.proofs.Common.{◌≡◌, ◌+◌, ◌-◌, ℕ, zero, suc, List, [], ◌∷◌, ◌++◌, length, Bool, true, false, refl, sym, ap, ◌∙◌, inl}
+use Rattle.pua_objects.proofs.Common.{inr, arith, subst, Option, Some, None, not, ◌&&◌, is_some, is_none, filter_map, if◌then◌else◌, eq-eqb}
+use Rattle.pua_objects.proofs.Common.{eqb-true, and_parts, Tree, Spot, look, is_dir, spot_cmp, exact_spots, Sound, climb_ends, Way, Top}
+use Rattle.pua_objects.proofs.Common.{Found, Whole, Slot, History, perms_kept, veils, FoundFits, Place, Word, Subject, At, Others, Item}
+use Rattle.pua_objects.proofs.Common.{subject_of, names_in, name_at, veiled_in, entries, items_at, items_below, items}
+use Rattle.std.specs.Prelude.{◌==◌}
 use Rattle.std.specs.Option.{option_eq}
-use Rattle.std.proofs.lemmas.Bool.{eq-eqb, eqb-true, and_parts}
 use Rattle.std.specs.Ordering.{is_eq}
 use Rattle.std.specs.Cmp.{Equal-is}
 use Rattle.std.specs.FinMap.{find as find_key}
 use Rattle.pua_tree.specs.Names.{same_bytes}
-use Rattle.pua_tree.specs.Tree.{Tree, Spot, look, is_dir, above, spot_cmp}
-use Rattle.pua_tree.proofs.ForCallers.{exact_spots, same_word}
-use Rattle.pua_tree.proofs.ForCallers.{Sound, Reaches, row_of, above_dir, climb_ends}
-use Rattle.pua_path.specs.declared.found.Way.{Way}
-use Rattle.pua_path.specs.declared.found.Way.TheVariants.{Top}
-use Rattle.pua_path.specs.declared.found.Found.{Found}
-use Rattle.pua_path.specs.declared.found.Found.TheVariants.{Whole, Slot}
-use Rattle.pua_policy.specs.History.{History, perms_kept, veils, veil_at}
-use Rattle.pua_path.specs.Fits.{FoundFits}
-use Rattle.pua_policy.specs.declared.place.Place.{Place}
+use Rattle.pua_tree.specs.Tree.{above}
+use Rattle.pua_tree.proofs.ForCallers.{same_word}
+use Rattle.pua_tree.proofs.ForCallers.{Reaches, row_of, above_dir}
+use Rattle.pua_policy.specs.History.{veil_at}
 use Rattle.pua_policy.specs.declared.place.Place.TheVariants as place
 use Rattle.pua_policy.proofs.ForCallers.{veils_are_kept}
-use Rattle.pua_audit.specs.Reach.{Word}
-use Rattle.pua_objects.specs.Objects.{Subject, At, Others, Item, own_way, subject_of, names_in, name_at, veiled_in, entries, items_at}
-use Rattle.pua_objects.specs.Objects.{items_below, items}
+use Rattle.pua_objects.specs.Objects.{own_way}
 use Rattle.pua_objects.proofs.Among.{Among, among_left, among_right, among_map, among_filter, among_flat, among_distinct}
 use Rattle.pua_objects.proofs.Judged.{named_by_row}
 

@@ -1,22 +1,17 @@
 -- A tree has as many rows as nodes but the root.
-use Rattle.std.proofs.Common.{◌≡◌, ◌≤◌, ◌+◌, ◌==◌, ℕ, zero, suc, List, [], ◌∷◌, Bool, true, false, cond, length, map, refl, sym, subst, ◌∙◌}
-use Rattle.std.proofs.Common.{arith, inl, inr}
-use Rattle.std.specs.Prelude.{filter, ◌||◌, ◌&&◌, nat_lt}
-use Rattle.std.specs.List.{AllByRecursion, list_all, list_any}
+use Rattle.pua_objects.proofs.Common.{◌≡◌, ◌≤◌, ◌+◌, ◌==◌, ℕ, zero, suc, List, [], ◌∷◌, Bool, true, false, cond, length, map, refl, sym}
+use Rattle.pua_objects.proofs.Common.{subst, ◌∙◌, arith, inl, inr, filter, ◌||◌, ◌&&◌, nat_lt, AllByRecursion, list_all, list_any, nat_cmp}
+use Rattle.pua_objects.proofs.Common.{Ordering, Less, Equal, Greater, and_parts, eqb-true, eq-eqb, length-map, Tree, Spot, WellFormed, Kind}
 use Rattle.std.specs.List.Sorted.{IsStrictlySortedBy}
 use Rattle.std.specs.Cmp.{nat_cmp_total, unsigned_ties, eq_by_cmp_equiv}
 use Rattle.std.specs.FinMap.{is_sorted}
 use Rattle.std.specs.FinMap.Entries.{below_all}
-use Rattle.std.specs.Ordering.{nat_cmp, eq_by_cmp, is_lt}
-use Rattle.std.specs.declared.cmp.Ordering.{Ordering}
-use Rattle.std.specs.declared.cmp.Ordering.TheVariants.{Less, Equal, Greater}
-use Rattle.std.proofs.lemmas.Bool.{and_parts, or_cases, or_left, or_right, leb-true, eqb-true, eq-eqb, false≢true}
-use Rattle.std.proofs.lemmas.List.{length-map}
+use Rattle.std.specs.Ordering.{eq_by_cmp, is_lt}
+use Rattle.std.proofs.lemmas.Bool.{or_cases, or_left, or_right, leb-true, false≢true}
 use Rattle.std.proofs.lemmas.List.Sums.{length-filter}
 use Rattle.std.proofs.lemmas.Map.Keys.{IsDistinct-from_sorted}
 use Rattle.std.proofs.lemmas.Map.Made.{length-le_from_is_member}
-use Rattle.pua_tree.specs.Tree.{Tree, Node, Spot, WellFormed, rows_of, rows_fit_kind, target_fits, node_fits}
-use Rattle.pua_tree.specs.declared.node.Kind.{Kind}
+use Rattle.pua_tree.specs.Tree.{Node, rows_of, rows_fit_kind, target_fits, node_fits}
 use Rattle.pua_tree.specs.declared.node.Kind.TheVariants.{Dir, File, Prog, Link}
 
 abbrev same : ℕ → ℕ → Bool

@@ -1,21 +1,13 @@
 -- The lines of the innermost directory before its names.
-use Rattle.std.proofs.Common.{◌≡◌, ◌≢◌, ◌<◌, ℕ, List, [], ◌∷◌, ◌++◌, length, map, refl, sym, ap, subst, ◌∙◌, arith}
-use Rattle.std.proofs.lemmas.List.{length-reverse}
-use Rattle.pua_tree.specs.Tree.{Tree}
-use Rattle.pua_path.specs.declared.found.Way.TheVariants.{Top}
-use Rattle.pua_path.specs.declared.found.Found.TheVariants.{Whole}
-use Rattle.pua_policy.specs.History.{ProcessState}
+use Rattle.pua_objects.proofs.Common.{◌≡◌, ◌≢◌, ◌<◌, ℕ, List, [], ◌∷◌, ◌++◌, length, map, refl, sym, ap, subst, ◌∙◌, arith, length-reverse}
+use Rattle.pua_objects.proofs.Common.{Tree, Top, Whole, ProcessState, At, cover_in, IsBelow, spots_in, word_in, dirs_in, names_left}
+use Rattle.pua_objects.proofs.Common.{own_items, IsOpenDir, AreOpenDirs, IsItemReady, OpenDir, Root, Names, ItemWalk, covers_descend}
 use Rattle.pua_policy.specs.declared.object.Object.TheVariants as see
-use Rattle.pua_objects.specs.Objects.{At, cover_in}
 use Rattle.pua_objects.specs.Objects as subject
-use Rattle.pua_objects.specs.Walk.{IsBelow}
-use Rattle.pua_objects.specs.Ready.{spots_in, word_in, dirs_in, names_left, own_items, others_in, IsOpenDir, AreOpenDirs, IsItemReady}
+use Rattle.pua_objects.specs.Ready.{others_in}
 use Rattle.pua_objects.specs.Ready.{IsItemGiven}
 use Rattle.pua_objects.specs.declared.item.Subject.TheVariants as about
-use Rattle.pua_objects.specs.declared.open_dir.OpenDir.{OpenDir}
-use Rattle.pua_objects.specs.declared.open_dir.Coming.TheVariants.{Root, Others, Names}
-use Rattle.pua_objects.specs.declared.walk.ItemWalk.{ItemWalk}
-use Rattle.pua_policy.proofs.ForCallers.{covers_descend}
+use Rattle.pua_objects.specs.declared.open_dir.Coming.TheVariants.{Others}
 
 headed : {A : Type 0} (xs : List A) → 0 < length xs → (x : A) × (ys : List A) × (xs ≡ x ∷ ys)
 headed [] some = absurd (omega (arith, some))

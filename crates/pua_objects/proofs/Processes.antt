@@ -1,20 +1,15 @@
 -- A process has one list, whichever history it stands for.
-use Rattle.std.proofs.Common.{◌≡◌, ℕ, map, sym, ap, ◌∙◌}
-use Rattle.std.specs.Prelude.{filter, ◌&&◌, if◌then◌else◌}
-use Rattle.std.specs.List.{list_any}
-use Rattle.pua_tree.specs.Tree.{Tree, climb}
-use Rattle.pua_calls.specs.Calls.{CallTable, calls, rule_of}
-use Rattle.pua_policy.specs.History.{History, perms_kept, veils, veil_at, has_veil}
-use Rattle.pua_policy.specs.Verdict.{object_of, object_fault, or_fault, cover_fault, IsMissing, if_promised, allowed_unless, nearest}
-use Rattle.pua_policy.specs.Verdict.{is_unveil, is_allowed}
+use Rattle.pua_objects.proofs.Common.{◌≡◌, ℕ, map, sym, ap, ◌∙◌, filter, ◌&&◌, if◌then◌else◌, list_any, Tree, CallTable, calls, rule_of}
+use Rattle.pua_objects.proofs.Common.{History, perms_kept, veils, object_of, if_promised, is_allowed, Call, Place, All, Subject, At, Others}
+use Rattle.pua_objects.proofs.Common.{Item, Line, is_named_by, subject_verdict, calls_on, items, has_calls, cover_in}
+use Rattle.pua_tree.specs.Tree.{climb}
+use Rattle.pua_policy.specs.History.{veil_at, has_veil}
+use Rattle.pua_policy.specs.Verdict.{object_fault, or_fault, cover_fault, IsMissing, allowed_unless, nearest}
+use Rattle.pua_policy.specs.Verdict.{is_unveil}
 use Rattle.pua_policy.specs.Laws.{AllowAlike}
-use Rattle.pua_calls.specs.declared.call.Call.{Call}
-use Rattle.pua_policy.specs.declared.place.Place.{Place}
 use Rattle.pua_policy.specs.declared.place.Place.TheVariants as place
-use Rattle.pua_policy.specs.declared.answer.Cover.TheVariants.{All}
 use Rattle.pua_policy.proofs.ForCallers.{veils_are_kept, any_veil}
 use Rattle.pua_policy.proofs.ForCallers.{processes_decide}
-use Rattle.pua_objects.specs.Objects.{Subject, At, Others, Item, Line, is_named_by, subject_verdict, calls_on, items, has_calls, cover_in}
 use Rattle.pua_objects.specs.Laws.{ObjectsDecided}
 
 module _ (t : Tree) (table : CallTable) (h k : History) (alike : AllowAlike h k) (placed : veils h ≡ veils k) where

@@ -1,16 +1,14 @@
 -- The spots of a directory among spots in order.
-use Rattle.std.proofs.Common.{◌≡◌, ◌≢◌, ◌<◌, ◌≤◌, ◌==◌, ◌+◌, ℕ, zero, suc, List, [], ◌∷◌, true, false, map, length, drop, get_or}
-use Rattle.std.proofs.Common.{drop_of_length-le, refl, sym, ap, ◌∙◌, arith, ltb, Bor, cond, subst}
-use Rattle.std.specs.Prelude.{filter}
-use Rattle.std.specs.List.{AllByRecursion, slice_index_or}
-use Rattle.std.specs.declared.cmp.Ordering.TheVariants.{Less}
+use Rattle.pua_objects.proofs.Common.{◌≡◌, ◌≢◌, ◌<◌, ◌≤◌, ◌==◌, ◌+◌, ℕ, zero, suc, List, [], ◌∷◌, true, false, map, length, drop, refl, sym}
+use Rattle.pua_objects.proofs.Common.{ap, ◌∙◌, arith, Bor, cond, subst, filter, AllByRecursion, Less, eq-eqb, length-map, Spot, spot_cmp}
+use Rattle.pua_objects.proofs.Common.{Rises, spot_now, names_at}
+use Rattle.std.proofs.Common.{get_or}
+use Rattle.std.proofs.Common.{drop_of_length-le, ltb}
+use Rattle.std.specs.List.{slice_index_or}
 use Rattle.std.specs.List.Sorted.{IsPartitionPoint, IsPartitionedBy}
 use Rattle.std.proofs.lemmas.List.Sorted.{IsPartitionedBy-ltb}
-use Rattle.std.proofs.lemmas.Bool.{ne_eqb, eq-eqb, ltb-true, ltb-false}
-use Rattle.std.proofs.lemmas.List.{length-map, get_or-map, drop_more}
-use Rattle.pua_tree.specs.Tree.{Spot, spot_cmp}
-use Rattle.pua_audit.specs.Laws.{Rises}
-use Rattle.pua_objects.specs.Spots.{spot_now, names_at}
+use Rattle.std.proofs.lemmas.Bool.{ne_eqb, ltb-true, ltb-false}
+use Rattle.std.proofs.lemmas.List.{get_or-map, drop_more}
 use Rattle.pua_tree.proofs.ForCallers.{not_lower}
 
 all_from : (x : Spot) (spots : List Spot) → AllByRecursion (λ y. spot_cmp x y ≡ Less) spots → AllByRecursion (λ y. x.0 ≤ y.0) spots

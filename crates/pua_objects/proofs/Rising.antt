@@ -1,23 +1,13 @@
 -- Lines stand in the order of their names, each once.
-use Rattle.std.proofs.Common.{◌≡◌, ℕ, zero, suc, List, [], ◌∷◌, ◌++◌, length, map, Bool, true, false, refl, ap, ◌∙◌}
-use Rattle.std.specs.Prelude.{⊤, Option, Some, None, flat_map, if◌then◌else◌}
-use Rattle.std.specs.List.{AllByRecursion}
-use Rattle.std.specs.declared.cmp.Ordering.{Ordering}
-use Rattle.std.specs.declared.cmp.Ordering.TheVariants.{Less, Equal}
-use Rattle.std.specs.Ordering.{nat_cmp, ordering_then}
+use Rattle.pua_objects.proofs.Common.{◌≡◌, ℕ, zero, suc, List, [], ◌∷◌, ◌++◌, length, map, Bool, true, false, refl, ap, ◌∙◌, Option, Some}
+use Rattle.pua_objects.proofs.Common.{None, flat_map, if◌then◌else◌, AllByRecursion, Ordering, Less, Equal, nat_cmp, Tree, name_cmp, look}
+use Rattle.pua_objects.proofs.Common.{is_dir, Way, Named, Top, Whole, Slot, veils, Place, Word, Rises, Subject, At, Others, Item, line_of}
+use Rattle.pua_objects.proofs.Common.{has_calls, names_in, veiled_in, entries, items_at, items_below, items}
+use Rattle.std.specs.Prelude.{⊤}
+use Rattle.std.specs.Ordering.{ordering_then}
 use Rattle.std.specs.Cmp.{tied_itself}
 use Rattle.std.specs.Cmp.Lexicographic.{slice_cmp, nat_list_cmp_total}
-use Rattle.pua_tree.specs.Tree.{Tree, name_cmp, look, is_dir}
-use Rattle.pua_path.specs.declared.found.Way.{Way}
-use Rattle.pua_path.specs.declared.found.Way.TheVariants.{Named, Top}
-use Rattle.pua_path.specs.declared.found.Found.TheVariants.{Whole, Slot}
-use Rattle.pua_policy.specs.History.{veils}
-use Rattle.pua_policy.specs.declared.place.Place.{Place}
-use Rattle.pua_audit.specs.Reach.{Word}
-use Rattle.pua_audit.specs.Laws.{Rises}
 use Rattle.pua_audit.proofs.ForCallers.{all_flat, rises_filtered, rises_mapped, rises_flat, distinct_names_rise, all_weaker}
-use Rattle.pua_objects.specs.Objects.{Subject, At, Others, Item, line_of, has_calls, names_in, veiled_in, entries, items_at, items_below}
-use Rattle.pua_objects.specs.Objects.{items}
 use Rattle.pua_objects.specs.Laws.{subject_rank, line_cmp, ObjectsRise}
 
 abbrev item_cmp : Item → Item → Ordering

@@ -1,29 +1,21 @@
 -- Each call of a line is allowed on the line's own path.
-use Rattle.std.proofs.Common.{◌≡◌, ◌≤◌, ℕ, List, [], ◌∷◌, ◌++◌, length, map, Bool, true, false, refl, sym, ap, ◌∙◌, subst, append-nil}
-use Rattle.std.specs.Prelude.{Option, Some, None, Ok, Err, option_map, not, ◌&&◌, ◌||◌, if◌then◌else◌}
-use Rattle.std.proofs.lemmas.Bool.{and_parts}
-use Rattle.pua_tree.specs.Tree.{Tree, look, node_at, is_dir}
+use Rattle.pua_objects.proofs.Common.{◌≡◌, ◌≤◌, ℕ, List, [], ◌∷◌, ◌++◌, length, map, Bool, true, false, refl, sym, ap, ◌∙◌, subst}
+use Rattle.pua_objects.proofs.Common.{append-nil, Option, Some, None, Ok, Err, not, ◌&&◌, ◌||◌, if◌then◌else◌, and_parts, Tree, look}
+use Rattle.pua_objects.proofs.Common.{is_dir, Sound, sound_from, path_fault, Last, Followed, Kept, Way, Top, Found, Whole, Slot, CallTable}
+use Rattle.pua_objects.proofs.Common.{calls, last_of, History, veils, is_link, is_link_kind, verdict, is_allowed, Call, Allowed, Word}
+use Rattle.pua_objects.proofs.Common.{Subject, At, Others, Line, line_of, has_calls, items, is_named_by, subject_verdict}
+use Rattle.std.specs.Prelude.{option_map}
+use Rattle.pua_tree.specs.Tree.{node_at}
 use Rattle.pua_tree.specs.Steps.{◌>>=◌}
-use Rattle.pua_tree.proofs.ForCallers.{Sound, sound_from}
-use Rattle.pua_path.specs.Paths.{parts_of, is_absolute, path_fault}
+use Rattle.pua_path.specs.Paths.{parts_of, is_absolute}
 use Rattle.pua_path.specs.Resolution.{resolve_parts, resolution, resolution_of_text, most_links}
 use Rattle.pua_path.specs.declared.errno.Errno.TheVariants.{ENOENT}
 use Rattle.pua_path.specs.declared.found.Part.{Part}
 use Rattle.pua_path.specs.declared.found.Part.TheVariants as parts
-use Rattle.pua_path.specs.declared.found.Last.{Last}
-use Rattle.pua_path.specs.declared.found.Last.TheVariants.{Followed, Kept}
-use Rattle.pua_path.specs.declared.found.Way.{Way}
-use Rattle.pua_path.specs.declared.found.Way.TheVariants.{Top}
-use Rattle.pua_path.specs.declared.found.Found.{Found}
-use Rattle.pua_path.specs.declared.found.Found.TheVariants.{Whole, Slot}
 use Rattle.pua_calls.specs.CallSets.{is_kept}
-use Rattle.pua_calls.specs.Calls.{CallTable, calls, last_of, ending_of}
-use Rattle.pua_policy.specs.History.{History, veils, working_dir}
-use Rattle.pua_policy.specs.Verdict.{is_link, is_link_kind, verdict, verdict_of, object_named, is_allowed}
-use Rattle.pua_calls.specs.declared.call.Call.{Call}
-use Rattle.pua_policy.specs.declared.answer.Verdict.TheVariants.{Allowed}
-use Rattle.pua_audit.specs.Reach.{Word}
-use Rattle.pua_objects.specs.Objects.{Subject, At, Others, Line, line_of, has_calls, items, is_named_by, subject_verdict}
+use Rattle.pua_calls.specs.Calls.{ending_of}
+use Rattle.pua_policy.specs.History.{working_dir}
+use Rattle.pua_policy.specs.Verdict.{verdict_of, object_named}
 use Rattle.pua_objects.specs.Laws.{path_from_root, IsAllowedBy, IsCallTold, SoundLines}
 use Rattle.pua_objects.proofs.Among.{Among, filter_among, map_among, among_contained}
 use Rattle.pua_objects.proofs.Judged.{others_verdict}

@@ -1,18 +1,9 @@
 -- A walk that has everything to come.
-use Rattle.std.proofs.Common.{◌≡◌, ◌≤◌, ◌-◌, List, [], ◌∷◌, ◌++◌, length, map, refl, sym, ap, subst, ◌∙◌, arith, vec_capacity}
-use Rattle.std.specs.Prelude.{reverse}
-use Rattle.std.specs.List.{AllByRecursion}
-use Rattle.pua_tree.specs.Tree.{Tree, WellFormed, Spot}
-use Rattle.pua_path.specs.declared.found.Way.TheVariants.{Top}
-use Rattle.pua_path.specs.declared.found.Found.TheVariants.{Whole}
-use Rattle.pua_policy.specs.History.{History, ProcessState, StandsFor}
-use Rattle.pua_policy.specs.declared.answer.Cover.{Cover}
-use Rattle.pua_objects.specs.Objects.{At, cover_in, items}
-use Rattle.pua_objects.specs.Spots.{AreSpots}
-use Rattle.pua_objects.specs.Walk.{items_to_come, others_item}
-use Rattle.pua_objects.specs.Ready.{spots_in, word_in, dirs_in, frames_at, left_in, own_items, AreOpenDirs, IsItemReady, dir_with_next}
-use Rattle.pua_objects.specs.declared.open_dir.Coming.TheVariants.{Root}
-use Rattle.pua_objects.specs.declared.walk.ItemWalk.{ItemWalk}
+use Rattle.pua_objects.proofs.Common.{◌≡◌, ◌≤◌, ◌-◌, List, [], ◌∷◌, ◌++◌, length, map, refl, sym, ap, subst, ◌∙◌, arith, vec_capacity}
+use Rattle.pua_objects.proofs.Common.{reverse, AllByRecursion, Tree, WellFormed, Spot, Top, Whole, History, ProcessState, StandsFor, Cover}
+use Rattle.pua_objects.proofs.Common.{At, cover_in, items, AreSpots, items_to_come, others_item, spots_in, word_in, dirs_in, frames_at}
+use Rattle.pua_objects.proofs.Common.{own_items, AreOpenDirs, IsItemReady, dir_with_next, Root, ItemWalk}
+use Rattle.pua_objects.specs.Ready.{left_in}
 use Rattle.pua_objects.proofs.Walking.{walks_objects}
 
 all_low : (spots : List Spot) → AllByRecursion (λ s. 0 ≤ s.0) spots

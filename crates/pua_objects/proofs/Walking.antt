@@ -1,15 +1,12 @@
 -- The list of objects taken one after another.
-use Rattle.std.proofs.Common.{◌≡◌, ◌≢◌, ◌<◌, ℕ, zero, suc, ◌-◌, List, [], ◌∷◌, ◌++◌, length, Bool, true, false, refl, sym, ap, ◌∙◌, arith}
-use Rattle.std.proofs.Common.{subst, append-nil, append_assoc}
-use Rattle.std.specs.Prelude.{Option, Some, None, flat_map}
-use Rattle.pua_tree.specs.Tree.{Tree, WellFormed, look, is_dir, above}
-use Rattle.pua_tree.proofs.ForCallers.{Sound, sound_from, Reaches, row_says, above_is, climb_ends}
-use Rattle.pua_path.specs.declared.found.Way.TheVariants.{Named, Top}
-use Rattle.pua_path.specs.declared.found.Found.TheVariants.{Whole, Slot}
-use Rattle.pua_policy.specs.declared.place.Place.{Place}
-use Rattle.pua_audit.specs.Reach.{Word}
-use Rattle.pua_objects.specs.Objects.{Item, At, items_at, items_below, items}
-use Rattle.pua_objects.specs.Walk.{Frame, items_in, items_to_come, frame_of, others_item, IsBelow, IsDeepEnough, StepsOfWalk, WalksObjects}
+use Rattle.pua_objects.proofs.Common.{◌≡◌, ◌≢◌, ◌<◌, ℕ, zero, suc, ◌-◌, List, [], ◌∷◌, ◌++◌, length, Bool, true, false, refl, sym, ap, ◌∙◌}
+use Rattle.pua_objects.proofs.Common.{arith, subst, append-nil, Option, Some, None, flat_map, Tree, WellFormed, look, is_dir, Sound}
+use Rattle.pua_objects.proofs.Common.{sound_from, row_says, climb_ends, Named, Top, Whole, Slot, Place, Word, Item, At, items_at}
+use Rattle.pua_objects.proofs.Common.{items_below, items, items_to_come, others_item, IsBelow}
+use Rattle.std.proofs.Common.{append_assoc}
+use Rattle.pua_tree.specs.Tree.{above}
+use Rattle.pua_tree.proofs.ForCallers.{Reaches, above_is}
+use Rattle.pua_objects.specs.Walk.{Frame, items_in, frame_of, IsDeepEnough, StepsOfWalk, WalksObjects}
 
 pub reaches : (t : Tree) (k d : ℕ) → IsBelow t k d → Reaches t k d
 reaches t zero d e = e

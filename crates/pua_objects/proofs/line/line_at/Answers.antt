@@ -1,9 +1,7 @@
-use Rattle.std.proofs.Common.{◌≡◌, Bool, false, not, sym, ap, ◌∙◌, rules}
-use Rattle.std.specs.Prelude.{◌&&◌, ◌||◌}
+use Rattle.pua_objects.proofs.Common.{◌≡◌, Bool, false, sym, ap, ◌∙◌, rules, ◌&&◌, ◌||◌, object_of, verdict, is_allowed, Call, Cover}
+use Rattle.std.proofs.Common.{not}
 use Rattle.pua_calls.specs.CallSets.{has, keeps_link}
-use Rattle.pua_policy.specs.Verdict.{object_of, covered_verdict, verdict, is_allowed}
-use Rattle.pua_calls.specs.declared.call.Call.{Call}
-use Rattle.pua_policy.specs.declared.answer.Cover.{Cover}
+use Rattle.pua_policy.specs.Verdict.{covered_verdict}
 use Rattle.pua_policy.specs.declared.object.Object.TheVariants as see
 use Rattle.pua_objects.proofs.Lined.{is_link_seen, no_link, kept_alone, kept_or_not, lined}
 use Rattle.pua_objects.proofs.line.line_at.Goals.{then-eq, else-eq}

@@ -1,5 +1,4 @@
-use Rattle.std.proofs.Common.{map}
-use Rattle.pua_objects.specs.Spots.{spot_now}
+use Rattle.pua_objects.proofs.Common.{map, spot_now}
 use Rattle.pua_objects.proofs.Gathered.{veiled_more, more_at_names}
 use Rattle.pua_objects.proofs.spots.add_veiled.Goals as goal
 

@@ -1,6 +1,4 @@
-use Rattle.std.proofs.Common.{◌≡◌, map, take, ◌++◌}
-use Rattle.std.specs.Prelude.{filter_map}
-use Rattle.pua_objects.specs.Spots.{spot_now, veil_spot, AreAtNames}
+use Rattle.pua_objects.proofs.Common.{◌≡◌, map, take, ◌++◌, filter_map, spot_now, veil_spot, AreAtNames}
 use Rattle.pua_objects.proofs.spots.add_veiled.Given as goal
 
 abbrev pub invariant-loop-place : goal.invariant-loop-place

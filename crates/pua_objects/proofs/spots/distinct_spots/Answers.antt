@@ -1,9 +1,9 @@
-use Rattle.std.proofs.Common.{map, ◌≡◌, ◌++◌, ◌∙◌, ap, rules, tests}
-use Rattle.std.specs.Prelude.{filter_map}
+use Rattle.pua_objects.proofs.Common.{map, ◌≡◌, ◌++◌, ◌∙◌, ap, rules, filter_map, spot_now, veil_spot}
+use Rattle.std.proofs.Common.{tests}
 use Rattle.std.proofs.lemmas.Iterator.{YieldsList-from_slice, YieldsList-from_map_by}
 use Rattle.std.proofs.lemmas.Iterator.Consumers.{map_from_collect}
 use Rattle.std.proofs.lemmas.Result.{IfOk-at_ok}
-use Rattle.pua_objects.specs.Spots.{spot_now, row_spot, veil_spot}
+use Rattle.pua_objects.specs.Spots.{row_spot}
 use Rattle.pua_objects.proofs.Distinct.{distinct, spots_tie}
 use Rattle.pua_objects.proofs.spots.distinct_spots.Goals as goal
 

@@ -1,9 +1,7 @@
-use Rattle.std.proofs.Common.{◌≡◌, ◌++◌, map, ap, sym, subst, ◌∙◌}
-use Rattle.std.specs.Prelude.{filter_map}
+use Rattle.pua_objects.proofs.Common.{◌≡◌, ◌++◌, map, ap, sym, subst, ◌∙◌, filter_map, veils, spot_now, veil_spot, AreAtNames, AreInOrder}
 use Rattle.std.proofs.lemmas.Simd.{map-map}
 use Rattle.pua_tree.specs.LentRows.{lent_entry}
-use Rattle.pua_policy.specs.History.{veils}
-use Rattle.pua_objects.specs.Spots.{spot_now, row_spot, veil_spot, AreAtNames, AreInOrder}
+use Rattle.pua_objects.specs.Spots.{row_spot}
 use Rattle.pua_objects.proofs.Gathered.{at_names}
 use Rattle.pua_objects.proofs.Entries.{spots_of}
 use Rattle.pua_objects.proofs.spots.spots.Goals as goal

@@ -1,7 +1,6 @@
-use Rattle.std.proofs.Common.{sym, ap, ◌∙◌}
-use Rattle.std.specs.Prelude.{if◌then◌else◌}
+use Rattle.pua_objects.proofs.Common.{sym, ap, ◌∙◌, if◌then◌else◌, All}
 use Rattle.pua_policy.specs.History.{has_veil}
-use Rattle.pua_policy.specs.declared.answer.Cover.TheVariants.{All, Nothing}
+use Rattle.pua_policy.specs.declared.answer.Cover.TheVariants.{Nothing}
 use Rattle.pua_policy.proofs.ForCallers.{any_veil}
 use Rattle.pua_objects.proofs.walk.outermost.Goals as goal
 

@@ -1,9 +1,7 @@
-use Rattle.std.proofs.Common.{◌≡◌, ◌≢◌, [], refl, sym, ap, subst, ◌∙◌, arith, length, take}
-use Rattle.std.proofs.lemmas.List.{length-map}
+use Rattle.pua_objects.proofs.Common.{◌≡◌, ◌≢◌, [], refl, sym, ap, subst, ◌∙◌, arith, length, take, length-map, ProcessState, StandsFor}
+use Rattle.pua_objects.proofs.Common.{lines_of}
 use Rattle.pua_calls.specs.CallSets.{calls_in}
-use Rattle.pua_policy.specs.History.{ProcessState, StandsFor}
 use Rattle.pua_objects.specs.ObjectsState.{ObjectsState}
-use Rattle.pua_objects.specs.Ready.{lines_of}
 use Rattle.pua_objects.proofs.Fronts.{shares_on}
 use Rattle.pua_objects.proofs.Listed.{left_out, kept_in, told_lined}
 use Rattle.pua_objects.proofs.objects.Objects.next_line.Goals as goal

@@ -1,10 +1,6 @@
-use Rattle.std.proofs.Common.{refl, sym, ap, ◌∙◌}
+use Rattle.pua_objects.proofs.Common.{refl, sym, ap, ◌∙◌, perms_kept, own_or, OpenDir, covers_descend}
 use Rattle.pua_path.specs.declared.found.Way.TheVariants as way
-use Rattle.pua_policy.specs.History.{perms_kept}
 use Rattle.pua_policy.specs.declared.place.Place.TheVariants as place
-use Rattle.pua_objects.specs.Laws.{own_or}
-use Rattle.pua_objects.specs.declared.open_dir.OpenDir.{OpenDir}
-use Rattle.pua_policy.proofs.ForCallers.{covers_descend}
 use Rattle.pua_objects.proofs.walk.ItemWalk.enter.Goals as goal
 
 pub returns-clause-item : goal.returns-clause-item

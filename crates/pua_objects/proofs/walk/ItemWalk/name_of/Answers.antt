@@ -1,7 +1,5 @@
-use Rattle.std.proofs.Common.{map, sym, ◌∙◌, arith}
-use Rattle.std.proofs.lemmas.List.{length-map}
-use Rattle.std.proofs.lemmas.Bool.{eqb-true, eqb-false}
-use Rattle.pua_objects.specs.Spots.{spot_now}
+use Rattle.pua_objects.proofs.Common.{map, sym, ◌∙◌, arith, length-map, eqb-true, spot_now}
+use Rattle.std.proofs.lemmas.Bool.{eqb-false}
 use Rattle.pua_objects.proofs.Ranges.{lent_within, lent_at, own_left, other_left, none_left}
 use Rattle.pua_objects.proofs.walk.ItemWalk.name_of.Goals as goal
 

@@ -1,13 +1,7 @@
-use Rattle.std.proofs.Common.{◌≡◌, ◌∷◌, ◌++◌, [], length, map, refl, sym, ap, ◌∙◌, arith}
-use Rattle.std.proofs.lemmas.List.{length-map}
+use Rattle.pua_objects.proofs.Common.{◌≡◌, ◌∷◌, ◌++◌, [], length, map, refl, sym, ap, ◌∙◌, arith, length-map, perms_kept, own_or}
+use Rattle.pua_objects.proofs.Common.{dir_with_next, Root, ItemWalk, covers_descend}
 use Rattle.pua_tree.specs.LentRows.{lent_entry}
-use Rattle.pua_policy.specs.History.{perms_kept}
 use Rattle.pua_policy.specs.declared.place.Place.TheVariants as place
-use Rattle.pua_objects.specs.Laws.{own_or}
-use Rattle.pua_objects.specs.Ready.{dir_with_next}
-use Rattle.pua_objects.specs.declared.open_dir.Coming.TheVariants.{Root}
-use Rattle.pua_objects.specs.declared.walk.ItemWalk.{ItemWalk}
-use Rattle.pua_policy.proofs.ForCallers.{covers_descend}
 use Rattle.pua_objects.proofs.Nodes.{nodes_few}
 use Rattle.pua_objects.proofs.Starting.{begun_ready, begun_left}
 use Rattle.pua_objects.proofs.walk.ItemWalk.new.Goals as goal

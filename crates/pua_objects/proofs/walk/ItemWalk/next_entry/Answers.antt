@@ -1,12 +1,9 @@
-use Rattle.std.proofs.Common.{◌≡◌, ◌∷◌, ◌+◌, [], map, refl, sym, ap, ◌∙◌, true, false}
-use Rattle.std.specs.Prelude.{Some, None}
+use Rattle.pua_objects.proofs.Common.{◌≡◌, ◌∷◌, ◌+◌, [], map, refl, sym, ap, ◌∙◌, true, false, Some, None, is_dir, spot_now, dir_with_next}
 use Rattle.std.proofs.lemmas.List.{map-append}
-use Rattle.pua_tree.specs.Tree.{kind_at, is_dir, is_dir_kind}
+use Rattle.pua_tree.specs.Tree.{kind_at, is_dir_kind}
 use Rattle.pua_tree.proofs.ForCallers.{None≢Some, same_Some}
 use Rattle.pua_policy.specs.Objects.{object_seen}
 use Rattle.pua_policy.specs.Verdict.{object_of_kind}
-use Rattle.pua_objects.specs.Spots.{spot_now}
-use Rattle.pua_objects.specs.Ready.{dir_with_next}
 use Rattle.pua_objects.proofs.Entering.{word_room, dirs_room, covered, stood, entered_ready, gave}
 use Rattle.pua_objects.proofs.Fronts.{near_front, near_map, near_pushed}
 use Rattle.pua_objects.proofs.walk.ItemWalk.next_entry.Goals as goal

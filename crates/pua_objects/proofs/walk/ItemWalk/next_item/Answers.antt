@@ -1,5 +1,4 @@
-use Rattle.std.proofs.Common.{◌≢◌}
-use Rattle.pua_objects.specs.declared.open_dir.Coming.TheVariants.{Names}
+use Rattle.pua_objects.proofs.Common.{◌≢◌, Names}
 use Rattle.pua_objects.proofs.Framed.{names_no_root, names_no_others}
 use Rattle.pua_objects.proofs.Own.{root_given, others_given}
 use Rattle.pua_objects.proofs.walk.ItemWalk.next_item.Goals as goal

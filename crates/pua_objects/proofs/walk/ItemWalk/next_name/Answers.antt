@@ -1,5 +1,4 @@
-use Rattle.std.proofs.Common.{◌≡◌, length, take, refl, sym, ap, ◌∙◌, arith}
-use Rattle.pua_objects.specs.declared.walk.ItemWalk.{ItemWalk}
+use Rattle.pua_objects.proofs.Common.{◌≡◌, length, take, refl, sym, ap, ◌∙◌, arith, ItemWalk}
 use Rattle.pua_objects.proofs.Leaving.{inner_open, left_ready, left_same, taken_ready, taken, taken_from, shorter, at_most, none_ready}
 use Rattle.pua_objects.proofs.Leaving.{none_left, no_dirs}
 use Rattle.pua_objects.proofs.Fronts.{front_own, front_same}

@@ -1,8 +1,4 @@
-use Rattle.std.proofs.Common.{◌≡◌, length}
-use Rattle.pua_tree.specs.Tree.{Tree}
-use Rattle.pua_policy.specs.History.{ProcessState}
-use Rattle.pua_objects.specs.declared.open_dir.Coming.TheVariants.{Names}
-use Rattle.pua_objects.specs.Ready.{IsItemReady, names_left}
+use Rattle.pua_objects.proofs.Common.{◌≡◌, length, Tree, ProcessState, Names, IsItemReady, names_left}
 use Rattle.pua_objects.proofs.walk.ItemWalk.next_name.Given as goal
 
 abbrev pub invariant-loop-dir : goal.invariant-loop-dir

@@ -1,11 +1,6 @@
-use Rattle.std.proofs.Common.{sym, ap, ◌∙◌}
+use Rattle.pua_objects.proofs.Common.{sym, ap, ◌∙◌, perms_kept, own_or, At, OpenDir, covers_descend}
 use Rattle.pua_path.specs.declared.found.Found.TheVariants as found
-use Rattle.pua_policy.specs.History.{perms_kept}
 use Rattle.pua_policy.specs.declared.place.Place.TheVariants as place
-use Rattle.pua_objects.specs.Laws.{own_or}
-use Rattle.pua_objects.specs.Objects.{At}
-use Rattle.pua_objects.specs.declared.open_dir.OpenDir.{OpenDir}
-use Rattle.pua_policy.proofs.ForCallers.{covers_descend}
 use Rattle.pua_objects.proofs.walk.ItemWalk.stand_at.Goals as goal
 
 pub returns-clause-item : goal.returns-clause-item

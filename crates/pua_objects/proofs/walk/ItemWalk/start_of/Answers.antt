@@ -1,9 +1,7 @@
-use Rattle.std.proofs.Common.{◌≡◌, ◌≤◌, ℕ, List, drop, map, ltb, subst, rules, Bor}
-use Rattle.std.specs.List.{AllByRecursion}
+use Rattle.pua_objects.proofs.Common.{◌≡◌, ◌≤◌, ℕ, List, drop, map, subst, rules, Bor, AllByRecursion, Spot, spot_cmp, Rises, spot_now}
+use Rattle.pua_objects.proofs.Common.{names_at}
+use Rattle.std.proofs.Common.{ltb}
 use Rattle.std.proofs.lemmas.List.Sorted.{IsPartitionPoint-from_clause}
-use Rattle.pua_tree.specs.Tree.{Spot, spot_cmp}
-use Rattle.pua_audit.specs.Laws.{Rises}
-use Rattle.pua_objects.specs.Spots.{spot_now, names_at}
 use Rattle.pua_objects.proofs.Ranges.{starts}
 use Rattle.pua_objects.proofs.walk.ItemWalk.start_of.Goals as goal
 
