@@ -1,29 +1,16 @@
 -- What is known of each row stays known over a list of requests of a family.
-use Rattle.std.proofs.Common.{◌≡◌, ℕ, List, [], ◌∷◌, true, false, sym, ap, ◌∙◌, inl, inr}
-use Rattle.std.specs.Prelude.{None, Ok, not, ◌&&◌, ◌||◌, is_none}
-use Rattle.std.proofs.lemmas.Bool.{and_parts, and_from, not-true}
-use Rattle.pua_tree.specs.Tree.{Tree, WellFormed, Spot, is_dir, kind_at, has_no_row, empty_tree}
-use Rattle.pua_path.specs.Fits.{is_link_kind}
-use Rattle.pua_path.specs.declared.found.Found.{Found}
-use Rattle.pua_path.specs.declared.found.Found.TheVariants.{Whole, Slot}
-use Rattle.pua_path.specs.declared.found.Way.TheVariants.{Top}
-use Rattle.pua_calls.specs.Calls.{CallTable}
-use Rattle.pua_calls.specs.CallSets.{is_kept}
-use Rattle.pua_policy.specs.History.{History, may_any}
-use Rattle.pua_policy.specs.Verdict.{IsMissing, cover, cover_fault, covered_verdict, is_allowed}
+use Rattle.pua_ever.proofs.Common.{◌≡◌, ℕ, List, [], ◌∷◌, true, false, sym, ap, ◌∙◌, inl, inr, None, Ok, not, ◌&&◌, ◌||◌, is_none}
+use Rattle.pua_ever.proofs.Common.{and_parts, and_from, not-true, Tree, WellFormed, Spot, is_dir, kind_at, has_no_row, empty_tree}
+use Rattle.pua_ever.proofs.Common.{is_link_kind, Found, Whole, Slot, Top, CallTable, is_kept, History, may_any, IsMissing, cover}
+use Rattle.pua_ever.proofs.Common.{cover_fault, covered_verdict, is_allowed, Asked, World, apply, world_after, is_member, is_exec, is_done}
+use Rattle.pua_ever.proofs.Common.{none_done, members_alone, family_then, NoCallNeedsError, TreesAlong, has_c, IsWithin, verdicts_within}
+use Rattle.pua_ever.proofs.Common.{Members, members_then, first_tree, cover_in, covers_descend, is_yes, New, NewDir, NewOthers, NewFile}
+use Rattle.pua_ever.proofs.Common.{NewLink, maker, EditsNeedC, VeilsStand}
 use Rattle.pua_calls.specs.declared.call.Call.TheVariants as call
-use Rattle.pua_script.specs.Requests.{Asked}
-use Rattle.pua_script.specs.Replay.{World, apply, world_after}
-use Rattle.pua_script.specs.Family.{is_member, is_exec, is_done, none_done, members_alone, family_then}
-use Rattle.pua_script.specs.Tightening.{NoCallNeedsError}
-use Rattle.pua_script.specs.Confinement.{TreesAlong, object_in, has_c}
-use Rattle.pua_script.proofs.ForCallers.{IsWithin, same_cover, verdicts_within}
-use Rattle.pua_script.proofs.ForCallers.{Members, members_then}
-use Rattle.pua_script.proofs.ForCallers.{each_spares, by_other, first_tree}
-use Rattle.pua_objects.specs.Objects.{cover_in}
-use Rattle.pua_objects.proofs.ForCallers.{covers_descend}
-use Rattle.pua_ever.specs.Ever.{is_yes, may_link, New, NewDir, NewOthers, NewFile, NewLink, maker}
-use Rattle.pua_ever.specs.Laws.{EditsNeedC, VeilsStand}
+use Rattle.pua_script.specs.Confinement.{object_in}
+use Rattle.pua_script.proofs.ForCallers.{same_cover}
+use Rattle.pua_script.proofs.ForCallers.{each_spares, by_other}
+use Rattle.pua_ever.specs.Ever.{may_link}
 use Rattle.pua_ever.proofs.Grown.{Grown, Written, by_name, by_turn, From, is_new, is_moved, is_linked, Put, Born, name_cover}
 use Rattle.pua_ever.proofs.Growing.{takes, requests_grow}
 use Rattle.pua_ever.proofs.Origins.{Stays}

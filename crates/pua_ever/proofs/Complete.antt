@@ -1,21 +1,13 @@
 -- All that a family's members are ever allowed has its line at the beginning.
-use Rattle.std.proofs.Common.{◌≡◌, ◌⊎◌, ℕ, List, [], ◌∷◌, Bool, true, false, refl, ap, inl, inr}
-use Rattle.pua_tree.specs.Tree.{Tree}
+use Rattle.pua_ever.proofs.Common.{◌≡◌, ◌⊎◌, ℕ, List, [], ◌∷◌, Bool, true, false, refl, ap, inl, inr, Tree, CallTable, History, verdict_of}
+use Rattle.pua_ever.proofs.Common.{is_allowed, allowed_is, Asked, World, world_after, verdicts_within, false≢true, is_member, is_exec}
+use Rattle.pua_ever.proofs.Common.{none_done, members_alone, NoCallNeedsError, TreesAlong, Members, first_tree, may_edit, EditsNeedC}
+use Rattle.pua_ever.proofs.Common.{VeilsStand}
 use Rattle.pua_path.specs.Resolution.{resolution_of_text}
-use Rattle.pua_calls.specs.Calls.{CallTable, ending_of, last_of}
-use Rattle.pua_policy.specs.History.{History}
-use Rattle.pua_policy.specs.Verdict.{verdict_of, is_allowed}
-use Rattle.pua_objects.proofs.ForCallers.{allowed_is}
-use Rattle.pua_script.specs.Requests.{Asked}
-use Rattle.pua_script.specs.Replay.{World, world_after}
-use Rattle.pua_script.proofs.ForCallers.{verdicts_within}
-use Rattle.std.proofs.lemmas.Bool.{false≢true}
-use Rattle.pua_script.specs.Family.{is_member, is_exec, none_done, members_alone, family, HasHistoryOf}
-use Rattle.pua_script.specs.Tightening.{NoCallNeedsError}
-use Rattle.pua_script.specs.Confinement.{TreesAlong}
-use Rattle.pua_script.proofs.ForCallers.{Members, begins, members_after, at_all, first_tree}
-use Rattle.pua_ever.specs.Ever.{may_edit}
-use Rattle.pua_ever.specs.Laws.{EditsNeedC, VeilsStand, EverComplete, EverOfMany, Foresees}
+use Rattle.pua_calls.specs.Calls.{ending_of, last_of}
+use Rattle.pua_script.specs.Family.{family, HasHistoryOf}
+use Rattle.pua_script.proofs.ForCallers.{begins, members_after, at_all}
+use Rattle.pua_ever.specs.Laws.{EverComplete, EverOfMany, Foresees}
 use Rattle.pua_ever.proofs.Origins.{at_first}
 use Rattle.pua_ever.proofs.Along.{stays_along}
 use Rattle.pua_ever.proofs.Unedited.{unedited_along}

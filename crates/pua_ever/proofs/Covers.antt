@@ -1,23 +1,14 @@
 -- The cover of what stands in a row, by what it is.
-use Rattle.std.proofs.Common.{◌≡◌, Bool, ◌≢◌, ◌⊎◌, ◌<◌, ◌≤◌, ℕ, true, false, cond, refl, sym, ap, ◌∙◌, inl, inr, ltb-true}
-use Rattle.std.specs.Prelude.{Option, Some, None, is_some, nat_lt, option_map, not, ◌==◌}
-use Rattle.std.specs.Option.{option_eq}
-use Rattle.std.proofs.lemmas.Bool.{false≢true, ltb-false, and_from, eq-eqb}
-use Rattle.pua_tree.specs.Tree.{Tree, Node, WellFormed, Spot, is_dir, is_dir_kind, is_living, look, node_at, above, parent}
-use Rattle.pua_tree.proofs.ForCallers.{sound_from, row_of, row_says, same_Some, None≢Some}
-use Rattle.pua_path.proofs.ForCallers.{above_lives}
-use Rattle.pua_path.specs.declared.found.Found.TheVariants.{Whole, Slot}
-use Rattle.pua_path.specs.declared.found.Way.TheVariants.{Named}
-use Rattle.pua_policy.specs.History.{History, perms_kept}
-use Rattle.pua_policy.specs.Verdict.{cover, FoundFits}
+use Rattle.pua_ever.proofs.Common.{◌≡◌, Bool, ◌≢◌, ◌⊎◌, ◌<◌, ◌≤◌, ℕ, true, false, cond, refl, sym, ap, ◌∙◌, inl, inr, Option, Some, None}
+use Rattle.pua_ever.proofs.Common.{is_some, nat_lt, option_map, not, ◌==◌, option_eq, false≢true, and_from, eq-eqb, Tree, Node, WellFormed}
+use Rattle.pua_ever.proofs.Common.{Spot, is_dir, is_dir_kind, is_living, look, node_at, above, sound_from, row_of, row_says, same_Some}
+use Rattle.pua_ever.proofs.Common.{None≢Some, above_lives, Whole, Slot, Named, History, perms_kept, cover, FoundFits, Cover, Only, cover_in}
+use Rattle.pua_ever.proofs.Common.{own_or, covers_descend, row_cover}
+use Rattle.std.proofs.Common.{ltb-true}
+use Rattle.std.proofs.lemmas.Bool.{ltb-false}
+use Rattle.pua_tree.specs.Tree.{parent}
 use Rattle.pua_policy.specs.declared.place.Place.TheVariants as place
-use Rattle.pua_policy.specs.declared.answer.Cover.{Cover}
-use Rattle.pua_policy.specs.declared.answer.Cover.TheVariants.{Only}
 use Rattle.pua_script.specs.Confinement.{object_in}
-use Rattle.pua_objects.specs.Objects.{cover_in}
-use Rattle.pua_objects.specs.Laws.{own_or}
-use Rattle.pua_objects.proofs.ForCallers.{covers_descend}
-use Rattle.pua_ever.specs.Ever.{row_cover}
 
 -- the cover of what stands in a row, by what it is
 module _ (t : Tree) (h : History) (well : WellFormed t) where

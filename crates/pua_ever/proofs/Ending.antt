@@ -1,54 +1,42 @@
 -- What is allowed later has a line now.
-use Rattle.std.proofs.Common.{◌≡◌, ◌⊎◌, ◌≤◌, ◌<◌, ℕ, List, [], ◌++◌, Bool, true, false, cond, map, refl, sym, ap, subst, ◌∙◌, inl, inr}
-use Rattle.std.proofs.Common.{arith}
-use Rattle.std.specs.Prelude.{Option, Some, None, Result, Ok, Err, not, ◌&&◌, ◌||◌, ◌∷◌, ◌==◌, is_some, is_none, option_map, filter}
-use Rattle.std.specs.Prelude.{flat_map}
-use Rattle.std.specs.Option.{option_eq}
-use Rattle.std.specs.List.{list_any}
-use Rattle.std.proofs.lemmas.Bool.{false≢true, and_parts, and_from, eq-eqb, or_left, or_right, not-true}
-use Rattle.pua_tree.specs.Tree.{Tree, WellFormed, Spot, is_dir, is_dir_kind, is_living, look, node_at, kind_at, is_empty, has_no_row}
-use Rattle.pua_tree.specs.Tree.{empty_tree}
-use Rattle.pua_tree.specs.declared.node.Kind.{Kind}
+use Rattle.pua_ever.proofs.Common.{◌≡◌, ◌⊎◌, ◌≤◌, ◌<◌, ℕ, List, [], ◌++◌, Bool, true, false, cond, map, refl, sym, ap, subst, ◌∙◌, inl, inr}
+use Rattle.pua_ever.proofs.Common.{arith, Option, Some, None, Result, Ok, Err, not, ◌&&◌, ◌||◌, ◌==◌, is_some, is_none, option_map, filter}
+use Rattle.pua_ever.proofs.Common.{flat_map, option_eq, list_any, false≢true, and_parts, and_from, eq-eqb, or_left, or_right, not-true}
+use Rattle.pua_ever.proofs.Common.{Tree, WellFormed, Spot, is_dir, is_dir_kind, is_living, look, node_at, kind_at, is_empty, has_no_row}
+use Rattle.pua_ever.proofs.Common.{empty_tree, Kind, sound_from, row_says, row_of, Some≢None, same_dir, is_link_kind, misfit_errno}
+use Rattle.pua_ever.proofs.Common.{IsNotEmpty, Followed, Way, Named, Top, Dot, DotDot, Found, Whole, Slot, resolutions_fit, CallTable}
+use Rattle.pua_ever.proofs.Common.{calls, rule_of, keeps_link, is_kept, History, perms_kept, veils, may_any, Object, IsDir, IsMissing}
+use Rattle.pua_ever.proofs.Common.{object_of_kind, object_fault, cover, cover_fault, or_fault, allowed_unless, if_promised, covered_verdict}
+use Rattle.pua_ever.proofs.Common.{verdict_of, is_allowed, Call, Cover, May, has_c, Word, Subject, At, Others, Item, items, cover_in}
+use Rattle.pua_ever.proofs.Common.{own_or, Among, among_left, among_right, among_map, among_filter, contained, covers_descend}
+use Rattle.pua_ever.proofs.Common.{named_within_text, row_cover, is_free, can_empty, dir_covers, file_covers, may_edit, can_link}
+use Rattle.pua_ever.proofs.Common.{removable_dir, is_named_way, is_allowed_under, ever_line, New, NewDir, NewOthers, NewFile, NewLink}
+use Rattle.pua_ever.proofs.Common.{can_make, Stands, Comes, EverLine, subjects_of, all_new, new_line, has_ever_calls, ever, VeilsStand}
+use Rattle.std.specs.Prelude.{◌∷◌}
 use Rattle.pua_tree.specs.declared.node.Kind.TheVariants as kind
-use Rattle.pua_tree.proofs.ForCallers.{Sound, sound_from, row_says, row_of, Some≢None, same_dir}
+use Rattle.pua_tree.proofs.ForCallers.{Sound}
 use Rattle.pua_path.specs.Resolution.{resolution_of_text}
-use Rattle.pua_path.specs.Fits.{FoundFits, IsOf, StandsAsNamed, is_link, is_link_kind}
+use Rattle.pua_path.specs.Fits.{FoundFits, IsOf, StandsAsNamed, is_link}
 use Rattle.pua_path.specs.declared.errno.Errno.{Errno}
-use Rattle.pua_policy.specs.Misfits.{misfit_errno}
-use Rattle.pua_policy.specs.declared.reason.Misfit.TheVariants.{IsNotEmpty}
 use Rattle.pua_path.specs.declared.found.Last.{Last}
-use Rattle.pua_path.specs.declared.found.Last.TheVariants.{Followed, Kept}
-use Rattle.pua_path.specs.declared.found.Way.{Way}
-use Rattle.pua_path.specs.declared.found.Way.TheVariants.{Named, Top, Dot, DotDot}
-use Rattle.pua_path.specs.declared.found.Found.{Found}
-use Rattle.pua_path.specs.declared.found.Found.TheVariants.{Whole, Slot}
-use Rattle.pua_path.proofs.ForCallers.{resolutions_fit}
-use Rattle.pua_calls.specs.Calls.{CallTable, calls, rule_of, ending_of, last_of}
-use Rattle.pua_calls.specs.CallSets.{keeps_link, is_kept}
-use Rattle.pua_policy.specs.History.{History, perms_kept, veils, may_any}
-use Rattle.pua_policy.specs.Verdict.{Object, IsDir, IsFile, IsLink, IsMissing, object_of_kind, object_fault, rmdir_fault, cover}
-use Rattle.pua_policy.specs.Verdict.{cover_fault, or_fault, allowed_unless, if_promised, covered_verdict, verdict, verdict_of, is_allowed}
-use Rattle.pua_calls.specs.declared.call.Call.{Call}
+use Rattle.pua_path.specs.declared.found.Last.TheVariants.{Kept}
+use Rattle.pua_calls.specs.Calls.{ending_of, last_of}
+use Rattle.pua_policy.specs.Verdict.{IsFile, IsLink, rmdir_fault}
+use Rattle.pua_policy.specs.Verdict.{verdict}
 use Rattle.pua_calls.specs.declared.call.Call.TheVariants as call
 use Rattle.pua_policy.specs.declared.place.Place.TheVariants as place
-use Rattle.pua_policy.specs.declared.answer.Cover.{Cover}
-use Rattle.pua_policy.specs.declared.answer.May.{May}
 use Rattle.pua_policy.specs.declared.answer.May.TheVariants as may
 use Rattle.pua_policy.specs.declared.answer.Verdict.TheVariants.{Allowed}
-use Rattle.pua_script.specs.Confinement.{has_c}
-use Rattle.pua_audit.specs.Reach.{Word}
-use Rattle.pua_objects.specs.Objects.{Subject, At, Others, Item, items, own_way, cover_in, is_named_by}
-use Rattle.pua_objects.specs.Laws.{own_or}
-use Rattle.pua_objects.proofs.ForCallers.{Among, among_left, among_right, among_map, among_filter, among_flat, contained}
-use Rattle.pua_objects.proofs.ForCallers.{covers_descend}
+use Rattle.pua_objects.specs.Objects.{own_way, is_named_by}
+use Rattle.pua_objects.proofs.ForCallers.{among_flat}
 use Rattle.pua_objects.proofs.ForCallers.{named_by_row}
 use Rattle.pua_objects.proofs.ForCallers.{has_item, found_dir}
-use Rattle.pua_objects.proofs.ForCallers.{one_of_calls, some_of, failed, named_within_text}
-use Rattle.pua_ever.specs.Ever.{row_cover, is_free, can_empty, dir_covers, file_covers, may_edit, can_link, ever_covers, named_covers}
-use Rattle.pua_ever.specs.Ever.{covers_of, covers_of_dir, removable_dir, is_named_way, ever_object, is_allowed_under, ever_calls, ever_line}
-use Rattle.pua_ever.specs.Ever.{New, NewDir, NewOthers, NewFile, NewLink, new_covers, new_object, is_new_named, can_make, new_calls, Thing}
-use Rattle.pua_ever.specs.Ever.{Stands, Comes, EverLine, names_to_free, subjects_of, all_new, new_line, has_ever_calls, ever}
-use Rattle.pua_ever.specs.Laws.{VeilsStand, IsLineOf, of_dir, of_new_dir, of_row, of_new_file, of_new_link, of_name, of_others}
+use Rattle.pua_objects.proofs.ForCallers.{one_of_calls, some_of, failed}
+use Rattle.pua_ever.specs.Ever.{ever_covers, named_covers}
+use Rattle.pua_ever.specs.Ever.{covers_of, covers_of_dir, ever_object, ever_calls}
+use Rattle.pua_ever.specs.Ever.{new_covers, new_object, is_new_named, new_calls, Thing}
+use Rattle.pua_ever.specs.Ever.{names_to_free}
+use Rattle.pua_ever.specs.Laws.{IsLineOf, of_dir, of_new_dir, of_row, of_new_file, of_new_link, of_name, of_others}
 use Rattle.pua_ever.specs.Laws.{of_new_others, IsForeseen}
 use Rattle.pua_ever.proofs.Grown.{new_kind}
 use Rattle.pua_ever.proofs.Ways.{any_among, way_by_c}

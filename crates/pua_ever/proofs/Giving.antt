@@ -1,24 +1,21 @@
 -- What comes next, by the fields of a list.
-use Rattle.std.proofs.Common.{◌≡◌, ◌≤◌, ◌-◌, ℕ, List, [], ◌∷◌, ◌++◌, length, take, refl, sym, ap, subst, ◌∙◌, inl, inr}
-use Rattle.std.specs.Prelude.{Option, Some, None, MatchOption, ◌&&◌, filter, flat_map}
-use Rattle.pua_tree.specs.Tree.{Tree, WellFormed, Spot}
-use Rattle.pua_tree.proofs.ForCallers.{None≢Some}
-use Rattle.pua_calls.specs.Calls.{CallTable}
-use Rattle.pua_calls.specs.CallSets.{has}
-use Rattle.pua_policy.specs.History.{History, ProcessState, StandsFor}
-use Rattle.pua_calls.specs.declared.call.Call.{Call}
+use Rattle.pua_ever.proofs.Common.{◌≡◌, ◌≤◌, ℕ, List, [], ◌∷◌, ◌++◌, length, take, refl, sym, ap, subst, ◌∙◌, inl, inr, Option, Some, None}
+use Rattle.pua_ever.proofs.Common.{◌&&◌, filter, flat_map, Tree, WellFormed, Spot, None≢Some, CallTable, has, History, ProcessState}
+use Rattle.pua_ever.proofs.Common.{StandsFor, Call, Word, subject_given, SubjectFits, Subject, Item, Stands, Comes, may_edit, can_make}
+use Rattle.pua_ever.proofs.Common.{own_spot, is_ever_allowed, has_ever_calls, ever_lines_of, AreOnFreed, both_of, made_left}
+use Rattle.std.proofs.Common.{◌-◌}
+use Rattle.std.specs.Prelude.{MatchOption}
 use Rattle.pua_calls.specs.declared.calls.Calls.{Calls}
-use Rattle.pua_audit.specs.Reach.{Word}
-use Rattle.pua_objects.specs.Items.{subject_given, SubjectFits, IsItemOn, IsFirst, IsNear}
+use Rattle.pua_objects.specs.Items.{IsItemOn, IsFirst, IsNear}
 use Rattle.pua_objects.proofs.ForCallers.{less_same}
 use Rattle.pua_objects.specs.Lines.{kind_word}
-use Rattle.pua_objects.specs.Objects.{Subject, Item, subject_word}
+use Rattle.pua_objects.specs.Objects.{subject_word}
 use Rattle.pua_objects.specs.declared.item.Item as given
 use Rattle.pua_objects.specs.declared.kind.ObjectKind.{ObjectKind}
 use Rattle.pua_objects.specs.declared.kind.ObjectKind.TheVariants as kind
-use Rattle.pua_ever.specs.Ever.{Stands, Comes, may_edit, can_make, own_spot, is_ever_allowed, is_new_allowed, has_ever_calls, new_word}
-use Rattle.pua_ever.specs.EverLines.{ever_lines_of, IsThing, line_with}
-use Rattle.pua_ever.specs.EverReady.{IsProspects, IsItemIn, IsEverReady, AreOnFreed, IsEverGiven, new_of, both_of, item_given, made_left}
+use Rattle.pua_ever.specs.Ever.{is_new_allowed, new_word}
+use Rattle.pua_ever.specs.EverLines.{IsThing, line_with}
+use Rattle.pua_ever.specs.EverReady.{IsProspects, IsItemIn, IsEverReady, IsEverGiven, new_of, item_given}
 use Rattle.pua_ever.specs.EverReady.{things_left, made_word}
 use Rattle.pua_ever.specs.EverState.{Now, Freed, Coming}
 use Rattle.pua_ever.specs.declared.line.EverLine as line

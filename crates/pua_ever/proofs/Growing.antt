@@ -1,45 +1,34 @@
 -- What a request makes of the rows and nodes of a tree.
-use Rattle.std.proofs.Common.{◌≡◌, ◌≤◌, ◌⊎◌, ℕ, Bool, true, false, not, cond, refl, sym, ap, subst, ◌∙◌, inl, inr, arith}
-use Rattle.std.specs.Prelude.{Option, Some, None, is_some, is_none, ◌&&◌, ◌||◌, ◌==◌, nat_le, length}
-use Rattle.std.specs.Option.{option_eq}
-use Rattle.std.proofs.lemmas.Bool.{false≢true, and_parts, and_from, or_left, or_right, not-false}
-use Rattle.pua_tree.specs.Tree.{Tree, Node, WellFormed, Spot, is_dir, look, kind_at, is_empty, empty_tree}
+use Rattle.pua_ever.proofs.Common.{◌≡◌, ◌≤◌, ◌⊎◌, ℕ, Bool, true, false, cond, refl, sym, ap, subst, ◌∙◌, inl, inr, arith, Option, Some}
+use Rattle.pua_ever.proofs.Common.{None, is_some, is_none, ◌&&◌, ◌||◌, ◌==◌, nat_le, option_eq, false≢true, and_parts, and_from, or_left}
+use Rattle.pua_ever.proofs.Common.{or_right, Tree, Node, WellFormed, Spot, is_dir, look, kind_at, is_empty, empty_tree, same_Some}
+use Rattle.pua_ever.proofs.Common.{None≢Some, is_link_kind, Followed, resolutions_fit, EAGAIN, Found, Whole, Slot, CallTable, rule_of}
+use Rattle.pua_ever.proofs.Common.{is_kept, History, may_any, working_dir, IsMissing, cover, cover_fault, covered_verdict, or_fault}
+use Rattle.pua_ever.proofs.Common.{object_fault, allowed_unless, if_promised, is_allowed, Call, Asked, most_processes, World, Fails, Copies}
+use Rattle.pua_ever.proofs.Common.{change_effect, history_of, apply, tree_left, Action, OnPath, Symlink, Rename, Link, Pledge, Unveil, Lock}
+use Rattle.pua_ever.proofs.Common.{Fork, Exit, has_c, Change, CopyAs, change_by, IsDecided, by_going, covers_descend, named_within_text}
+use Rattle.pua_ever.proofs.Common.{row_cover, is_yes, can_link, New, NewDir, NewFile, NewLink, maker, EditsNeedC}
+use Rattle.std.proofs.Common.{not}
+use Rattle.std.specs.Prelude.{length}
+use Rattle.std.proofs.lemmas.Bool.{not-false}
 use Rattle.pua_tree.specs.declared.node.Kind.TheVariants as kind
-use Rattle.pua_tree.proofs.ForCallers.{same_Some, None≢Some}
-use Rattle.pua_path.specs.Fits.{IsOf, is_link, is_link_kind, spot_named, node_named}
+use Rattle.pua_path.specs.Fits.{IsOf, is_link, spot_named, node_named}
 use Rattle.pua_path.specs.declared.found.Last.{Last}
-use Rattle.pua_path.specs.declared.found.Last.TheVariants.{Followed, Kept}
-use Rattle.pua_path.proofs.ForCallers.{resolutions_fit}
-use Rattle.pua_path.specs.declared.errno.Errno.TheVariants.{EISDIR, ENOTEMPTY, EAGAIN}
+use Rattle.pua_path.specs.declared.found.Last.TheVariants.{Kept}
+use Rattle.pua_path.specs.declared.errno.Errno.TheVariants.{EISDIR, ENOTEMPTY}
 use Rattle.pua_path.specs.declared.text.Ending.TheVariants.{Dot, Dropped}
-use Rattle.pua_path.specs.declared.found.Found.{Found}
-use Rattle.pua_path.specs.declared.found.Found.TheVariants.{Whole, Slot}
 use Rattle.pua_path.specs.declared.found.Way.TheVariants as way
 use Rattle.pua_calls.specs.Promises.{holds, creating}
-use Rattle.pua_calls.specs.Calls.{CallTable, rule_of}
-use Rattle.pua_calls.specs.CallSets.{is_kept}
-use Rattle.pua_policy.specs.History.{History, may_any, working_dir}
-use Rattle.pua_policy.specs.Verdict.{IsMissing, cover, cover_fault, covered_verdict, or_fault, object_fault, allowed_unless, if_promised}
-use Rattle.pua_policy.specs.Verdict.{is_allowed}
-use Rattle.pua_calls.specs.declared.call.Call.{Call}
 use Rattle.pua_calls.specs.declared.call.Call.TheVariants as call
 use Rattle.pua_policy.specs.declared.answer.May.TheVariants as may
-use Rattle.pua_script.specs.Requests.{Asked}
 use Rattle.pua_script.specs.Judged.{NameFits}
-use Rattle.pua_script.specs.Limits.{most_processes}
-use Rattle.pua_script.specs.Replay.{World, Fails, Copies, change_effect, history_of, apply}
-use Rattle.pua_script.specs.Worlds.{tree_left}
-use Rattle.pua_script.specs.declared.request.Action.{Action}
-use Rattle.pua_script.specs.declared.request.Action.TheVariants.{OnPath, Symlink, Rename, Link, Pledge, Unveil, Lock, Fork, Exit}
-use Rattle.pua_script.specs.Confinement.{has_c, TakingNeedsC}
-use Rattle.pua_script.specs.Decide.{Change, NoChange, AddNode, CutRow, ShiftRow, TieRow, CopyAs, adding, shifting, change_by, fault_if}
+use Rattle.pua_script.specs.Confinement.{TakingNeedsC}
+use Rattle.pua_script.specs.Decide.{NoChange, AddNode, CutRow, ShiftRow, TieRow, adding, shifting, fault_if}
 use Rattle.pua_script.specs.Decide.{is_whole, plain_node, link_node, kinds_fault}
-use Rattle.pua_script.specs.Guards.{IsDecided, IsShift}
-use Rattle.pua_script.proofs.ForCallers.{name_fits, c_from_cover, covered_by_c, has_spot, by_tree, by_own_tree, by_cutting, by_going}
+use Rattle.pua_script.specs.Guards.{IsShift}
+use Rattle.pua_script.proofs.ForCallers.{name_fits, c_from_cover, covered_by_c, has_spot, by_tree, by_own_tree, by_cutting}
 use Rattle.pua_script.proofs.ForCallers.{by_tying, first_none, second_none, not_faulty}
-use Rattle.pua_objects.proofs.ForCallers.{covers_descend, named_within_text}
-use Rattle.pua_ever.specs.Ever.{row_cover, is_yes, may_link, can_link, New, NewDir, NewFile, NewLink, maker}
-use Rattle.pua_ever.specs.Laws.{EditsNeedC}
+use Rattle.pua_ever.specs.Ever.{may_link}
 use Rattle.pua_ever.proofs.Grown.{Grown, Written, by_name, by_turn, From, is_moved, is_linked, new_kind, name_cover, grown_all, grown_add}
 use Rattle.pua_ever.proofs.Grown.{grown_tie, grown_cut, grown_shift}
 

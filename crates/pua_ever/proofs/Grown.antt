@@ -1,29 +1,19 @@
 -- What one request makes of the rows and nodes of a tree, by the covers that the tree had.
-use Rattle.std.proofs.Common.{◌≡◌, ◌≢◌, ◌⊎◌, ◌≤◌, ℕ, List, Bool, true, false, not, ◌&&◌, cond, refl, sym, ap, subst, ◌∙◌, inl, inr, arith}
-use Rattle.std.specs.Prelude.{Option, Some, None, Ok, Err, is_some, ◌==◌, option_map}
-use Rattle.std.specs.Ordering.{nat_cmp}
-use Rattle.std.specs.Cmp.{nat_cmp_total}
-use Rattle.std.specs.FinMap.{nat_cmp-IsAntisymmetric}
-use Rattle.std.proofs.lemmas.Bool.{false≢true}
-use Rattle.pua_tree.specs.Tree.{Tree, Node, Spot, spot_cmp, is_dir, is_living, look, node_at, kind_at, rows_of, is_empty, empty_tree}
+use Rattle.pua_ever.proofs.Common.{◌≡◌, ◌≢◌, ◌⊎◌, ◌≤◌, ℕ, List, Bool, true, false, cond, refl, sym, ap, subst, ◌∙◌, inl, inr, arith, Option}
+use Rattle.pua_ever.proofs.Common.{Some, None, Ok, Err, is_some, ◌==◌, option_map, nat_cmp, nat_cmp_total, nat_cmp-IsAntisymmetric}
+use Rattle.pua_ever.proofs.Common.{false≢true, Tree, Node, Spot, spot_cmp, is_dir, is_living, look, node_at, kind_at, is_empty, empty_tree}
+use Rattle.pua_ever.proofs.Common.{Kind, spots_total, exact_spots, Some≢None, same_Some, Slot, CallTable, History, IsMissing, cover}
+use Rattle.pua_ever.proofs.Common.{covered_verdict, is_allowed, Cover, tree_left, has_c, cover_in, row_cover, can_link, New, NewDir}
+use Rattle.pua_ever.proofs.Common.{NewOthers, NewFile, NewLink, maker}
+use Rattle.std.proofs.Common.{not, ◌&&◌}
+use Rattle.pua_tree.specs.Tree.{rows_of}
 use Rattle.pua_tree.specs.Edits.{with_row, without_row, without_node, without_unnamed, with_new, add, tie, cut, cut_found, shift}
 use Rattle.pua_tree.specs.Edits.{shift_found, with_row_moved, is_full_dir, is_full_dir_there, is_inside, is_same_node, has_room}
 use Rattle.pua_tree.specs.Edits.{has_name_room}
-use Rattle.pua_tree.specs.declared.node.Kind.{Kind}
 use Rattle.pua_tree.specs.declared.node.Kind.TheVariants as kind
 use Rattle.pua_tree.specs.declared.fault.TreeFault.TheVariants.{Missing, Taken, NotDir, NotEmpty, Inside, Full, IsDir}
-use Rattle.pua_tree.proofs.ForCallers.{spots_total, exact_spots, same_or_other, put_here, put_elsewhere, without_here, without_elsewhere}
-use Rattle.pua_tree.proofs.ForCallers.{Some≢None, same_Some}
-use Rattle.pua_path.specs.declared.found.Found.TheVariants.{Slot}
-use Rattle.pua_calls.specs.Calls.{CallTable}
-use Rattle.pua_policy.specs.History.{History}
-use Rattle.pua_policy.specs.Verdict.{IsMissing, cover, covered_verdict, is_allowed}
-use Rattle.pua_policy.specs.declared.answer.Cover.{Cover}
+use Rattle.pua_tree.proofs.ForCallers.{same_or_other, put_here, put_elsewhere, without_here, without_elsewhere}
 use Rattle.pua_script.specs.Replay.{edit_effect, edited_tree}
-use Rattle.pua_script.specs.Worlds.{tree_left}
-use Rattle.pua_script.specs.Confinement.{has_c}
-use Rattle.pua_objects.specs.Objects.{cover_in}
-use Rattle.pua_ever.specs.Ever.{row_cover, can_link, New, NewDir, NewOthers, NewFile, NewLink, maker}
 
 -- what is made, as a node
 abbrev pub new_kind : New → Kind

@@ -1,11 +1,8 @@
 -- Each veil in the list of a history is what is kept at its place.
-use Rattle.std.proofs.Common.{◌≡◌, ℕ, List, [], ◌∷◌, Bool, true, false, cond, refl, sym, ap, ◌∙◌, inl, inr}
-use Rattle.std.specs.Prelude.{Some, None}
-use Rattle.pua_tree.proofs.ForCallers.{Some≢None}
-use Rattle.pua_policy.specs.History.{History, Pledged, Unveiled, Locked, Moved, Ended, perms_kept, veils, veil_at, with_veil, same_place}
-use Rattle.pua_policy.specs.declared.place.Place.{Place}
-use Rattle.pua_policy.proofs.ForCallers.{veils_are_kept, same_place_is, same_place_refl, still_unveiled, same_place_turned}
-use Rattle.pua_objects.proofs.ForCallers.{Among}
+use Rattle.pua_ever.proofs.Common.{◌≡◌, ℕ, List, [], ◌∷◌, Bool, true, false, cond, refl, sym, ap, ◌∙◌, inl, inr, Some, None, Some≢None}
+use Rattle.pua_ever.proofs.Common.{History, perms_kept, veils, same_place, Place, same_place_is, Among}
+use Rattle.pua_policy.specs.History.{Pledged, Unveiled, Locked, Moved, Ended, veil_at, with_veil}
+use Rattle.pua_policy.proofs.ForCallers.{veils_are_kept, same_place_refl, still_unveiled, same_place_turned}
 
 -- no place stands twice
 abbrev Once : List (Place × ℕ) → Type 0

@@ -1,15 +1,8 @@
 -- The last check of a call asks for a kind, whatever the tree; rmdir alone asks more of a directory.
-use Rattle.std.proofs.Common.{◌≡◌, ℕ, Bool, true, false, cond, refl}
-use Rattle.std.specs.Prelude.{Option, Some, None}
-use Rattle.std.proofs.lemmas.Bool.{false≢true}
-use Rattle.pua_tree.specs.Tree.{Tree, empty_tree}
-use Rattle.pua_tree.specs.declared.node.Kind.{Kind}
+use Rattle.pua_ever.proofs.Common.{◌≡◌, ℕ, Bool, true, false, cond, refl, Option, Some, None, false≢true, Tree, empty_tree, Kind, Way}
+use Rattle.pua_ever.proofs.Common.{Object, IsDir, object_of_kind, object_fault, Call, removable_dir, lasting_dir}
 use Rattle.pua_tree.specs.declared.node.Kind.TheVariants as kind
-use Rattle.pua_path.specs.declared.found.Way.{Way}
-use Rattle.pua_policy.specs.Verdict.{Object, IsDir, object_of_kind, object_fault}
-use Rattle.pua_calls.specs.declared.call.Call.{Call}
 use Rattle.pua_calls.specs.declared.call.Call.TheVariants as call
-use Rattle.pua_ever.specs.Ever.{removable_dir, lasting_dir}
 
 -- of something but a directory
 pub plain_alike : (u : Tree) (c : Call) (k : Option Kind) →

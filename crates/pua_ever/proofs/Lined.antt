@@ -1,20 +1,15 @@
 -- The lines of what is to come, one after another.
-use Rattle.std.proofs.Common.{ℕ, ◌≡◌, ◌≢◌, List, [], ◌∷◌, ◌++◌, Bool, true, false, cond, length, map, refl, sym, ap, subst, ◌∙◌, arith}
-use Rattle.std.specs.Prelude.{Option, Some, None, ◌&&◌, filter, flat_map, nat_lt}
+use Rattle.pua_ever.proofs.Common.{ℕ, ◌≡◌, ◌≢◌, List, [], ◌∷◌, ◌++◌, Bool, true, false, cond, length, map, refl, sym, ap, subst, ◌∙◌, arith}
+use Rattle.pua_ever.proofs.Common.{Option, Some, None, ◌&&◌, filter, flat_map, nat_lt, Tree, Spot, Slot, CallTable, calls, has, History}
+use Rattle.pua_ever.proofs.Common.{ProcessState, StandsFor, veils, Call, Word, Subject, At, Item, items, New, Stands, Comes, EverLine}
+use Rattle.pua_ever.proofs.Common.{may_edit, can_make, own_spot, subjects_of, is_ever_allowed, all_new, ever_line, new_line, has_ever_calls}
+use Rattle.pua_ever.proofs.Common.{ever, ever_lines_of, both_of, made_left, AreOnFreed}
 use Rattle.std.proofs.lemmas.Bool.{lt-ltb}
 use Rattle.std.proofs.lemmas.List.Elements.{filter-append}
-use Rattle.pua_tree.specs.Tree.{Tree, Spot}
-use Rattle.pua_path.specs.declared.found.Found.TheVariants.{Slot}
-use Rattle.pua_calls.specs.Calls.{CallTable, calls}
-use Rattle.pua_calls.specs.CallSets.{has, calls_in}
-use Rattle.pua_policy.specs.History.{History, ProcessState, StandsFor, veils}
-use Rattle.pua_calls.specs.declared.call.Call.{Call}
-use Rattle.pua_audit.specs.Reach.{Word}
-use Rattle.pua_objects.specs.Objects.{Subject, At, Item, items}
-use Rattle.pua_ever.specs.Ever.{New, Thing, Stands, Comes, EverLine, may_edit, can_make, own_spot, can_be_freed, freed_at, names_to_free}
-use Rattle.pua_ever.specs.Ever.{subjects_of, is_ever_allowed, is_new_allowed, all_new, ever_line, new_line, has_ever_calls, ever}
-use Rattle.pua_ever.specs.EverLines.{lines_about, ever_lines_of, line_with}
-use Rattle.pua_ever.specs.EverReady.{both_of, made_left, AreOnFreed}
+use Rattle.pua_calls.specs.CallSets.{calls_in}
+use Rattle.pua_ever.specs.Ever.{Thing, can_be_freed, freed_at, names_to_free}
+use Rattle.pua_ever.specs.Ever.{is_new_allowed}
+use Rattle.pua_ever.specs.EverLines.{lines_about, line_with}
 use Rattle.pua_ever.specs.EverState.{Left, Now, Freed, Coming}
 use Rattle.pua_ever.specs.declared.line.EverLine as given
 use Rattle.pua_ever.specs.declared.made.Made.TheVariants as made

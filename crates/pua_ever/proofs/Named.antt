@@ -1,34 +1,21 @@
 -- What stands at a name, and the name once that is taken away.
-use Rattle.std.proofs.Common.{◌≡◌, ℕ, List, [], ◌∷◌, true, false, refl, sym, ap, subst, ◌∙◌}
-use Rattle.std.specs.Prelude.{Option, Some, None, not, ◌&&◌, ◌||◌, if◌then◌else◌, is_some, option_map}
-use Rattle.std.proofs.lemmas.Bool.{and_parts, not-true}
-use Rattle.pua_tree.specs.Tree.{Tree, Node, WellFormed, Spot, is_dir, look, node_at, kind_at, empty_tree}
-use Rattle.pua_tree.specs.declared.node.Kind.{Kind}
+use Rattle.pua_ever.proofs.Common.{◌≡◌, ℕ, List, [], ◌∷◌, true, false, refl, sym, ap, subst, ◌∙◌, Option, Some, None, not, ◌&&◌, ◌||◌}
+use Rattle.pua_ever.proofs.Common.{if◌then◌else◌, is_some, option_map, and_parts, not-true, Tree, Node, WellFormed, Spot, is_dir, look}
+use Rattle.pua_ever.proofs.Common.{node_at, kind_at, empty_tree, Kind, sound_from, row_says, same_Some, Some≢None, None≢Some, is_link_kind}
+use Rattle.pua_ever.proofs.Common.{Named, Top, Dot, DotDot, Whole, Slot, CallTable, has, keeps_link, History, perms_kept, object_seen}
+use Rattle.pua_ever.proofs.Common.{IsMissing, object_of_kind, cover, covered_verdict, is_allowed, Call, Cover, Only, has_c, SubjectFits}
+use Rattle.pua_ever.proofs.Common.{subject_given, own_or, Subject, At, Others, cover_in, covers_descend, may_edit, is_allowed_under}
+use Rattle.pua_ever.proofs.Common.{is_ever_allowed, is_free, own_spot, AreOnFreed}
 use Rattle.pua_tree.specs.declared.node.Kind.TheVariants as kinds
-use Rattle.pua_tree.proofs.ForCallers.{sound_from, row_says, same_Some, Some≢None, None≢Some}
-use Rattle.pua_path.specs.Fits.{is_link_kind}
-use Rattle.pua_path.specs.declared.found.Way.TheVariants.{Named, Top, Dot, DotDot}
-use Rattle.pua_path.specs.declared.found.Found.TheVariants.{Whole, Slot}
-use Rattle.pua_calls.specs.Calls.{CallTable}
-use Rattle.pua_calls.specs.CallSets.{has, keeps_link}
-use Rattle.pua_policy.specs.History.{History, perms_kept}
-use Rattle.pua_policy.specs.Objects.{object_seen}
-use Rattle.pua_policy.specs.Verdict.{IsMissing, object_of, object_of_kind, cover, covered_verdict, is_allowed}
-use Rattle.pua_calls.specs.declared.call.Call.{Call}
+use Rattle.pua_policy.specs.Verdict.{object_of}
 use Rattle.pua_policy.specs.declared.place.Place.TheVariants as place
-use Rattle.pua_policy.specs.declared.answer.Cover.{Cover}
-use Rattle.pua_policy.specs.declared.answer.Cover.TheVariants.{Only}
 use Rattle.pua_policy.specs.declared.object.Object as seen
-use Rattle.pua_script.specs.Confinement.{has_c}
-use Rattle.pua_objects.specs.Items.{SubjectFits, IsItemOn, subject_given, object_on, cover_on}
+use Rattle.pua_objects.specs.Items.{IsItemOn, object_on, cover_on}
 use Rattle.pua_objects.specs.declared.item.Item as given
 use Rattle.pua_objects.specs.declared.item.Subject as about
 use Rattle.pua_objects.specs.declared.item.Subject.TheVariants as subject
-use Rattle.pua_objects.specs.Laws.{own_or}
-use Rattle.pua_objects.specs.Objects.{Subject, At, Others, cover_in}
-use Rattle.pua_objects.proofs.ForCallers.{covers_descend}
-use Rattle.pua_ever.specs.Ever.{may_edit, named_covers, is_allowed_under, is_ever_allowed, is_free, own_spot, can_be_freed}
-use Rattle.pua_ever.specs.EverReady.{AreOnFreed, kind_allowed, own_given}
+use Rattle.pua_ever.specs.Ever.{named_covers, can_be_freed}
+use Rattle.pua_ever.specs.EverReady.{kind_allowed, own_given}
 use Rattle.pua_ever.proofs.Prospected.{last}
 use Rattle.std.proofs.Math.Bool.{or-true}
 use Rattle.pua_calls.proofs.ForCallers.{has_none}

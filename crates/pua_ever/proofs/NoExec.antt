@@ -1,31 +1,22 @@
 -- Where no line has `exec`, no exec of a member is answered ok.
-use Rattle.std.proofs.Common.{◌≡◌, ◌⊎◌, ℕ, List, [], ◌∷◌, Bool, true, false, refl, ap, subst, ◌∙◌, sym, inl, inr}
-use Rattle.std.specs.Prelude.{Some, Ok, not}
-use Rattle.std.proofs.lemmas.Bool.{false≢true, and_parts, and_from}
-use Rattle.pua_tree.specs.Tree.{Tree, WellFormed}
-use Rattle.pua_calls.specs.Calls.{CallTable}
-use Rattle.pua_policy.specs.History.{History, working_dir}
-use Rattle.pua_policy.specs.Verdict.{verdict_of, is_allowed, object_named, if_promised, allowed_unless, or_fault}
+use Rattle.pua_ever.proofs.Common.{◌≡◌, ◌⊎◌, ℕ, List, [], ◌∷◌, Bool, true, false, refl, ap, subst, ◌∙◌, sym, inl, inr, Some, Ok, not}
+use Rattle.pua_ever.proofs.Common.{false≢true, and_parts, and_from, Tree, WellFormed, CallTable, History, working_dir, verdict_of}
+use Rattle.pua_ever.proofs.Common.{is_allowed, if_promised, allowed_unless, or_fault, allowed_is, Asked, World, apply, history_of, Change}
+use Rattle.pua_ever.proofs.Common.{IsDecided, Action, OnPath, Symlink, Rename, Link, Pledge, Unveil, Lock, Fork, Exit, is_member, is_exec}
+use Rattle.pua_ever.proofs.Common.{is_done, none_done, members_alone, family_then, NoCallNeedsError, TreesAlong, IsWithin, verdicts_within}
+use Rattle.pua_ever.proofs.Common.{Members, members_then, first_tree, may_edit, EditsNeedC, VeilsStand}
+use Rattle.pua_policy.specs.Verdict.{object_named}
 use Rattle.pua_calls.specs.declared.call.Call.TheVariants as call
 use Rattle.pua_policy.specs.declared.answer.Verdict.TheVariants as verdicts
-use Rattle.pua_objects.proofs.ForCallers.{allowed_is}
-use Rattle.pua_script.specs.Requests.{Asked}
-use Rattle.pua_script.specs.Replay.{World, apply, history_of, answer_to, refusal_effect}
-use Rattle.pua_script.specs.Decide.{Change, decide}
-use Rattle.pua_script.specs.Guards.{IsDecided}
+use Rattle.pua_script.specs.Replay.{answer_to, refusal_effect}
+use Rattle.pua_script.specs.Decide.{decide}
 use Rattle.pua_policy.specs.declared.answer.Refusal.{Refusal}
 use Rattle.pua_policy.specs.declared.answer.Refusal.TheVariants.{Failed, Killed}
 use Rattle.pua_script.proofs.ForCallers.{by_living, by_decision, decisions_are_guarded}
-use Rattle.pua_script.specs.declared.request.Action.{Action}
-use Rattle.pua_script.specs.declared.request.Action.TheVariants.{OnPath, Symlink, Rename, Link, Pledge, Unveil, Lock, Fork, Exit}
-use Rattle.pua_script.specs.Family.{is_member, is_exec, is_okay, is_done, none_done, members_alone, family_then}
-use Rattle.pua_script.specs.Tightening.{NoCallNeedsError}
-use Rattle.pua_script.specs.Confinement.{TreesAlong}
-use Rattle.pua_script.proofs.ForCallers.{IsWithin, verdicts_within}
-use Rattle.pua_script.proofs.ForCallers.{Members, members_then, begins, by_other, at_all, first_tree}
+use Rattle.pua_script.specs.Family.{is_okay}
+use Rattle.pua_script.proofs.ForCallers.{begins, by_other, at_all}
 use Rattle.pua_script.proofs.ForCallers.{each_spares}
-use Rattle.pua_ever.specs.Ever.{may_edit}
-use Rattle.pua_ever.specs.Laws.{EditsNeedC, VeilsStand, NoLineHasExec, WithoutExec}
+use Rattle.pua_ever.specs.Laws.{NoLineHasExec, WithoutExec}
 use Rattle.pua_ever.proofs.Growing.{takes, requests_grow}
 use Rattle.pua_ever.proofs.Origins.{Stays, at_first}
 use Rattle.pua_ever.proofs.Stepping.{stays_then}

@@ -1,35 +1,25 @@
 -- The list of the objects of now lies within the list for ever.
-use Rattle.std.proofs.Common.{◌≡◌, ℕ, zero, suc, List, [], ◌∷◌, ◌++◌, Bool, true, false, cond, map, refl, sym, ap, subst, ◌∙◌, inl, inr}
-use Rattle.std.specs.Prelude.{Option, Some, None, option_map, not, ◌&&◌, ◌||◌, ◌==◌, is_none, if◌then◌else◌, flat_map, nat_lt, length}
-use Rattle.std.specs.List.{list_any}
-use Rattle.std.proofs.lemmas.Bool.{and_parts, and_from, or_right}
-use Rattle.pua_tree.specs.Tree.{Tree, WellFormed, is_dir, look, kind_at, is_empty, has_no_row}
-use Rattle.pua_tree.proofs.ForCallers.{sound_from, row_says}
-use Rattle.pua_policy.specs.Misfits.{misfit_errno}
-use Rattle.pua_policy.specs.declared.reason.Misfit.TheVariants.{IsNotEmpty}
-use Rattle.pua_path.specs.declared.found.Way.{Way}
-use Rattle.pua_path.specs.declared.found.Way.TheVariants.{Named, Top, Dot, DotDot}
-use Rattle.pua_path.specs.declared.found.Found.TheVariants.{Whole, Slot}
-use Rattle.pua_calls.specs.Calls.{CallTable, calls, rule_of}
-use Rattle.pua_policy.specs.History.{History, perms_kept, veils, may_any}
-use Rattle.pua_policy.specs.Verdict.{IsDir, IsMissing, object_of_kind, object_fault, rmdir_fault, cover, cover_fault, is_allowed}
-use Rattle.pua_calls.specs.declared.call.Call.{Call}
+use Rattle.pua_ever.proofs.Common.{◌≡◌, ℕ, zero, suc, List, [], ◌∷◌, ◌++◌, Bool, true, false, cond, map, refl, sym, ap, subst, ◌∙◌, inl}
+use Rattle.pua_ever.proofs.Common.{inr, Option, Some, None, option_map, not, ◌&&◌, ◌||◌, ◌==◌, is_none, if◌then◌else◌, flat_map, nat_lt}
+use Rattle.pua_ever.proofs.Common.{list_any, and_parts, and_from, or_right, Tree, WellFormed, is_dir, look, kind_at, is_empty, has_no_row}
+use Rattle.pua_ever.proofs.Common.{sound_from, row_says, misfit_errno, IsNotEmpty, Way, Named, Top, Dot, DotDot, Whole, Slot, CallTable}
+use Rattle.pua_ever.proofs.Common.{calls, rule_of, History, perms_kept, veils, may_any, IsDir, IsMissing, object_of_kind, object_fault}
+use Rattle.pua_ever.proofs.Common.{cover, cover_fault, is_allowed, Call, Cover, Only, has_c, Word, Subject, At, Others, Item, items}
+use Rattle.pua_ever.proofs.Common.{cover_in, own_or, Among, among_left, among_map, map_among, among_filter, filter_among, contained}
+use Rattle.pua_ever.proofs.Common.{among_contained, covers_descend, allowed_is, is_free, can_empty, dir_covers, file_covers, may_edit}
+use Rattle.pua_ever.proofs.Common.{is_named_way, is_allowed_under, ever_line, EverLine, subjects_of, all_new, new_line, has_ever_calls}
+use Rattle.pua_ever.proofs.Common.{ever}
+use Rattle.std.specs.Prelude.{length}
+use Rattle.pua_policy.specs.Verdict.{rmdir_fault}
 use Rattle.pua_calls.specs.declared.call.Call.TheVariants as call
 use Rattle.pua_policy.specs.declared.place.Place.TheVariants as place
-use Rattle.pua_policy.specs.declared.answer.Cover.{Cover}
-use Rattle.pua_policy.specs.declared.answer.Cover.TheVariants.{Only}
-use Rattle.pua_script.specs.Confinement.{has_c}
-use Rattle.pua_audit.specs.Reach.{Word}
-use Rattle.pua_objects.specs.Objects.{Subject, At, Others, Item, Line, items, items_at, items_below, entries, line_of, calls_on, cover_in}
+use Rattle.pua_objects.specs.Objects.{Line, items_at, items_below, entries, line_of, calls_on}
 use Rattle.pua_objects.specs.Objects.{is_named_by, subject_verdict}
 use Rattle.pua_objects.specs.Objects as now
-use Rattle.pua_objects.specs.Laws.{own_or}
-use Rattle.pua_objects.proofs.ForCallers.{Among, among_left, among_map, map_among, among_filter, filter_among, among_flat, flat_among}
-use Rattle.pua_objects.proofs.ForCallers.{contained, among_contained}
-use Rattle.pua_objects.proofs.ForCallers.{covers_descend}
-use Rattle.pua_objects.proofs.ForCallers.{some_of, allowed_is}
-use Rattle.pua_ever.specs.Ever.{is_free, can_empty, dir_covers, file_covers, may_edit, covers_of, covers_of_dir, is_named_way, ever_object}
-use Rattle.pua_ever.specs.Ever.{is_allowed_under, ever_calls, ever_line, EverLine, subjects_of, all_new, new_line, has_ever_calls, ever}
+use Rattle.pua_objects.proofs.ForCallers.{among_flat, flat_among}
+use Rattle.pua_objects.proofs.ForCallers.{some_of}
+use Rattle.pua_ever.specs.Ever.{covers_of, covers_of_dir, ever_object}
+use Rattle.pua_ever.specs.Ever.{ever_calls}
 use Rattle.pua_ever.specs.Laws.{IsWithinEver, NowWithinEver}
 use Rattle.pua_ever.proofs.Covers.{slot_row}
 use Rattle.pua_ever.proofs.Ways.{way_by_c, name_by_veil, some_dir_by, file_by_name, file_by_dir}

@@ -1,23 +1,16 @@
 -- The veils alone tell which directories come to be empty, and outside of which something has `c`.
-use Rattle.std.proofs.Common.{◌≡◌, ◌≢◌, ℕ, List, [], ◌∷◌, Bool, true, false, cond, map, refl, sym, ap, ◌∙◌, inl, inr}
-use Rattle.std.specs.Prelude.{Option, Some, None, is_some, not, ◌&&◌, ◌||◌, ◌==◌, filter_map}
-use Rattle.std.specs.List.{list_any, list_all}
-use Rattle.std.proofs.lemmas.Bool.{false≢true, true≢false, eq-eqb, eqb-true, and_parts, and_from, or_cases, not-true}
-use Rattle.pua_tree.specs.Tree.{Tree, WellFormed, Spot, is_dir, look, empty_tree}
-use Rattle.pua_tree.proofs.ForCallers.{same_Some, None≢Some, sound_from, row_says, row_of}
-use Rattle.pua_policy.specs.History.{History, perms_kept, veils}
-use Rattle.pua_policy.specs.Verdict.{is_unveil}
-use Rattle.pua_policy.specs.declared.answer.Cover.{Cover}
-use Rattle.pua_policy.specs.declared.answer.Cover.TheVariants.{Only}
-use Rattle.pua_policy.specs.declared.place.Place.{Place}
+use Rattle.pua_ever.proofs.Common.{◌≡◌, ◌≢◌, ℕ, List, [], ◌∷◌, Bool, true, false, cond, map, refl, sym, ap, ◌∙◌, inl, inr, Option, Some}
+use Rattle.pua_ever.proofs.Common.{None, is_some, not, ◌&&◌, ◌||◌, ◌==◌, filter_map, list_any, list_all, false≢true, eq-eqb, eqb-true}
+use Rattle.pua_ever.proofs.Common.{and_parts, and_from, not-true, Tree, WellFormed, Spot, is_dir, look, empty_tree, same_Some, None≢Some}
+use Rattle.pua_ever.proofs.Common.{sound_from, row_says, row_of, History, perms_kept, veils, is_unveil, Cover, Only, Place, has_c, own_or}
+use Rattle.pua_ever.proofs.Common.{cover_in, Among, among_map, among_filter_map, row_cover, can_empty, is_below, has_c_outside, directories}
+use Rattle.pua_ever.proofs.Common.{opened_dir, held_dir}
+use Rattle.std.proofs.lemmas.Bool.{true≢false, or_cases}
 use Rattle.pua_policy.specs.declared.place.Place.TheVariants as place
-use Rattle.pua_script.specs.Confinement.{has_c}
-use Rattle.pua_objects.specs.Laws.{own_or}
-use Rattle.pua_objects.specs.Objects.{cover_in}
-use Rattle.pua_objects.proofs.ForCallers.{Among, among_map, found_among, filter_map_among, among_filter_map}
-use Rattle.pua_ever.specs.Ever.{row_cover, can_empty, is_below, opens_outside, has_c_outside, directories}
+use Rattle.pua_objects.proofs.ForCallers.{found_among, filter_map_among}
+use Rattle.pua_ever.specs.Ever.{opens_outside}
 use Rattle.pua_ever.specs.Laws.{dir_of_place}
-use Rattle.pua_ever.specs.Openings.{if_c, is_without_c, is_barred, opened_dir, held_dir, is_no_dir, is_outside}
+use Rattle.pua_ever.specs.Openings.{if_c, is_without_c, is_barred, is_no_dir, is_outside}
 use Rattle.pua_ever.proofs.Covers.{dir_row, slot_row, own_dir, under_dir}
 use Rattle.pua_ever.proofs.KeptVeils.{among_kept_at}
 use Rattle.pua_ever.proofs.Origin.{below_both, own_cover, origin}

@@ -1,24 +1,19 @@
 -- The covers that the veils give are those of the definition.
-use Rattle.std.proofs.Common.{◌≡◌, ◌≢◌, ℕ, List, [], ◌∷◌, ◌++◌, Bool, true, false, length, map, refl, sym, ap, subst, ◌∙◌, inl, inr, arith}
-use Rattle.std.specs.Prelude.{Option, Some, None, is_some, not, ◌&&◌, ◌==◌, filter, filter_map, nat_lt, if◌then◌else◌}
-use Rattle.std.specs.List.{list_any}
-use Rattle.std.proofs.lemmas.Bool.{false≢true, eq-eqb, eqb-true, and_parts, and_from, or_cases, not-true, lt-ltb}
-use Rattle.pua_tree.specs.Tree.{Tree, WellFormed, Spot, is_dir, look, climb}
-use Rattle.pua_tree.proofs.ForCallers.{same_Some, None≢Some, sound_from, row_says, row_of}
-use Rattle.pua_policy.specs.History.{History, perms_kept, veils, has_veil}
-use Rattle.pua_policy.specs.Verdict.{is_unveil, nearest}
-use Rattle.pua_policy.specs.declared.answer.Cover.{Cover}
-use Rattle.pua_policy.specs.declared.answer.Cover.TheVariants.{All, Only}
-use Rattle.pua_policy.specs.declared.place.Place.{Place}
+use Rattle.pua_ever.proofs.Common.{◌≡◌, ◌≢◌, ℕ, List, [], ◌∷◌, ◌++◌, Bool, true, false, length, map, refl, sym, ap, subst, ◌∙◌, inl, inr}
+use Rattle.pua_ever.proofs.Common.{arith, Option, Some, None, is_some, not, ◌&&◌, ◌==◌, filter, filter_map, nat_lt, if◌then◌else◌, list_any}
+use Rattle.pua_ever.proofs.Common.{false≢true, eq-eqb, eqb-true, and_parts, and_from, not-true, Tree, WellFormed, Spot, is_dir, look, climb}
+use Rattle.pua_ever.proofs.Common.{same_Some, None≢Some, sound_from, row_says, row_of, History, perms_kept, veils, has_veil, is_unveil}
+use Rattle.pua_ever.proofs.Common.{Cover, All, Only, Place, has_c, cover_in, Among, among_left, among_right, map_among, filter_among}
+use Rattle.pua_ever.proofs.Common.{contained, among_contained, among_filter_map, is_free, can_empty, has_c_outside, directories, dir_covers}
+use Rattle.pua_ever.proofs.Common.{name_covers, some_dir_has_c, dir_opening, name_opening, entrance_cover, HaveSame}
+use Rattle.std.proofs.lemmas.Bool.{or_cases, lt-ltb}
+use Rattle.pua_policy.specs.Verdict.{nearest}
 use Rattle.pua_policy.specs.declared.place.Place.TheVariants as place
 use Rattle.pua_policy.proofs.ForCallers.{any_veil}
-use Rattle.pua_script.specs.Confinement.{has_c}
-use Rattle.pua_objects.specs.Objects.{cover_in}
-use Rattle.pua_objects.proofs.ForCallers.{Among, among_left, among_right, among_either, map_among, filter_among, contained, among_contained}
-use Rattle.pua_objects.proofs.ForCallers.{filter_map_among, among_filter_map}
-use Rattle.pua_ever.specs.Ever.{is_free, can_empty, opens_at, gives_way, is_way_in, has_c_outside, directories, dir_covers, veil_cover_at}
-use Rattle.pua_ever.specs.Ever.{name_covers, some_dir_has_c}
-use Rattle.pua_ever.specs.Openings.{opening, dir_opening, name_opening, entrance_cover, HaveSame}
+use Rattle.pua_objects.proofs.ForCallers.{among_either}
+use Rattle.pua_objects.proofs.ForCallers.{filter_map_among}
+use Rattle.pua_ever.specs.Ever.{opens_at, gives_way, is_way_in, veil_cover_at}
+use Rattle.pua_ever.specs.Openings.{opening}
 use Rattle.pua_ever.proofs.Covers.{under_dir}
 use Rattle.pua_ever.proofs.KeptVeils.{among_kept_at}
 use Rattle.pua_ever.proofs.Opened.{when_some, when, opening_is, opening_from, opening_some, places_of, place_among, held, opened, empties}

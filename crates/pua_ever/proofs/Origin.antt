@@ -1,20 +1,12 @@
 -- What has `c` has it by a veil, on a directory that it is below.
-use Rattle.std.proofs.Common.{◌≡◌, ◌≢◌, ℕ, zero, suc, Bool, true, false, refl, sym, ap, subst, ◌∙◌, arith}
-use Rattle.std.specs.Prelude.{Option, Some, None, ◌==◌, if◌then◌else◌}
-use Rattle.std.specs.List.{list_any}
-use Rattle.std.proofs.lemmas.Bool.{false≢true, eq-eqb, eqb-true, or_right}
-use Rattle.pua_tree.specs.Tree.{Tree, WellFormed, is_dir, above}
-use Rattle.pua_tree.proofs.ForCallers.{Reaches, sound_from, row_of, above_dir}
-use Rattle.pua_policy.specs.History.{History, perms_kept}
-use Rattle.pua_policy.specs.Verdict.{is_unveil}
-use Rattle.pua_policy.specs.declared.answer.Cover.TheVariants.{All, Nothing, Only}
+use Rattle.pua_ever.proofs.Common.{◌≡◌, ◌≢◌, ℕ, zero, suc, Bool, true, false, refl, sym, ap, subst, ◌∙◌, arith, Option, Some, None, ◌==◌}
+use Rattle.pua_ever.proofs.Common.{if◌then◌else◌, list_any, false≢true, eq-eqb, eqb-true, or_right, Tree, WellFormed, is_dir, above}
+use Rattle.pua_ever.proofs.Common.{Reaches, sound_from, row_of, History, perms_kept, is_unveil, All, Only, has_c, own_or, cover_in}
+use Rattle.pua_ever.proofs.Common.{covers_descend, is_below}
+use Rattle.pua_tree.proofs.ForCallers.{above_dir}
+use Rattle.pua_policy.specs.declared.answer.Cover.TheVariants.{Nothing}
 use Rattle.pua_policy.specs.declared.place.Place.TheVariants as place
 use Rattle.pua_policy.proofs.ForCallers.{climb_step}
-use Rattle.pua_script.specs.Confinement.{has_c}
-use Rattle.pua_objects.specs.Laws.{own_or}
-use Rattle.pua_objects.specs.Objects.{cover_in}
-use Rattle.pua_objects.proofs.ForCallers.{covers_descend}
-use Rattle.pua_ever.specs.Ever.{is_below}
 use Rattle.pua_ever.proofs.Covers.{own_dir, under_dir}
 use Rattle.pua_ever.proofs.Quiet.{below_self, below_up, root_below, way_up}
 

@@ -1,25 +1,15 @@
 -- What stays true of each tree on the way, by the tree and the history at the beginning: where each row came from, and
 -- so by what it is covered.
-use Rattle.std.proofs.Common.{◌≡◌, ◌≢◌, ◌⊎◌, ◌≤◌, ◌<◌, ℕ, zero, suc, ◌++◌, Bool, true, false, refl, sym, ap, subst, ◌∙◌, inl, inr, arith}
-use Rattle.std.specs.Prelude.{Option, Some, None, not, ◌||◌, ◌==◌}
-use Rattle.std.specs.List.{list_any}
-use Rattle.std.proofs.lemmas.Bool.{false≢true, and_parts, not-true, or_right}
-use Rattle.pua_tree.specs.Tree.{Tree, WellFormed, Spot, spot_cmp, is_dir, is_living, look, node_at, kind_at, above, is_empty, has_no_row}
-use Rattle.pua_tree.proofs.ForCallers.{Sound, Reaches, sound_from, row_says, row_of, above_dir, same_Some, Some≢None, spots_total}
-use Rattle.pua_tree.proofs.ForCallers.{exact_spots, same_dir}
+use Rattle.pua_ever.proofs.Common.{◌≡◌, ◌≢◌, ◌⊎◌, ◌≤◌, ◌<◌, ℕ, zero, suc, ◌++◌, Bool, true, false, refl, sym, ap, subst, ◌∙◌, inl, inr}
+use Rattle.pua_ever.proofs.Common.{arith, Option, Some, None, not, ◌||◌, ◌==◌, list_any, false≢true, and_parts, not-true, or_right, Tree}
+use Rattle.pua_ever.proofs.Common.{WellFormed, Spot, spot_cmp, is_dir, is_living, look, node_at, kind_at, above, is_empty, has_no_row}
+use Rattle.pua_ever.proofs.Common.{Reaches, sound_from, row_says, row_of, same_Some, Some≢None, spots_total, exact_spots, same_dir}
+use Rattle.pua_ever.proofs.Common.{CallTable, History, perms_kept, Only, has_c, UncoveredStay, cover_in, own_or, Among, among_left}
+use Rattle.pua_ever.proofs.Common.{among_right, covers_descend, row_cover, is_free, can_link, can_empty, has_c_outside, dir_covers}
+use Rattle.pua_ever.proofs.Common.{name_covers, some_dir_has_c, file_covers, New, can_make, VeilsStand}
+use Rattle.pua_tree.proofs.ForCallers.{Sound, above_dir}
 use Rattle.pua_tree.proofs.ForCallers.{none_found, all_from_found}
-use Rattle.pua_calls.specs.Calls.{CallTable}
-use Rattle.pua_policy.specs.History.{History, perms_kept}
 use Rattle.pua_policy.specs.declared.place.Place.TheVariants as place
-use Rattle.pua_policy.specs.declared.answer.Cover.TheVariants.{Only}
-use Rattle.pua_script.specs.Confinement.{has_c, UncoveredStay}
-use Rattle.pua_objects.specs.Objects.{cover_in}
-use Rattle.pua_objects.specs.Laws.{own_or}
-use Rattle.pua_objects.proofs.ForCallers.{Among, among_left, among_right}
-use Rattle.pua_objects.proofs.ForCallers.{covers_descend}
-use Rattle.pua_ever.specs.Ever.{row_cover, is_free, can_link, can_empty, has_c_outside, dir_covers, name_covers, some_dir_has_c}
-use Rattle.pua_ever.specs.Ever.{file_covers, New, can_make}
-use Rattle.pua_ever.specs.Laws.{VeilsStand}
 use Rattle.pua_ever.proofs.Grown.{new_kind}
 use Rattle.pua_ever.proofs.Covers.{given_or_new, dir_row, slot_row, own_dir, under_dir, living_dir, below_next}
 use Rattle.pua_ever.proofs.Quiet.{Quiet}

@@ -1,6 +1,6 @@
 -- What a list of places gives that is lent.
-use Rattle.std.proofs.Common.{◌≡◌, List, [], ◌∷◌, map, refl, ap, subst}
-use Rattle.std.specs.Prelude.{Option, Result, Ok, Err, IfOk, filter_map}
+use Rattle.pua_ever.proofs.Common.{◌≡◌, List, [], ◌∷◌, map, refl, ap, subst, Option, Result, Ok, Err, filter_map}
+use Rattle.std.specs.Prelude.{IfOk}
 use Rattle.std.specs.List.{cons_option}
 use Rattle.std.specs.Borrow.{Bor}
 

@@ -1,36 +1,20 @@
 -- The calls of a thing, by what was found for them.
-use Rattle.std.proofs.Common.{◌≡◌, ◌⊎◌, ℕ, List, [], ◌∷◌, Bool, true, false, cond, refl, sym, ap, ◌∙◌, inl, inr}
-use Rattle.std.specs.Prelude.{Option, Some, None, option_map, not, ◌&&◌, ◌||◌, ◌==◌, is_none}
-use Rattle.std.specs.List.{list_any, list_all}
-use Rattle.std.proofs.lemmas.Bool.{false≢true, and_parts, and_from}
-use Rattle.pua_tree.specs.Tree.{Tree, Spot, is_dir, is_empty, has_no_row, empty_tree}
+use Rattle.pua_ever.proofs.Common.{◌≡◌, ◌⊎◌, ℕ, List, [], ◌∷◌, Bool, true, false, cond, refl, sym, ap, ◌∙◌, inl, inr, Option, Some, None}
+use Rattle.pua_ever.proofs.Common.{option_map, not, ◌&&◌, ◌||◌, ◌==◌, is_none, list_any, list_all, false≢true, and_parts, and_from, Tree}
+use Rattle.pua_ever.proofs.Common.{Spot, is_dir, is_empty, has_no_row, empty_tree, misfit_errno, IsNotEmpty, Way, Named, Top, Dot, DotDot}
+use Rattle.pua_ever.proofs.Common.{Whole, CallTable, rule_of, has, keeps_link, History, perms_kept, may_any, object_seen, Object, IsDir}
+use Rattle.pua_ever.proofs.Common.{object_fault, cover_fault, or_fault, allowed_unless, if_promised, covered_verdict, is_allowed, Call}
+use Rattle.pua_ever.proofs.Common.{Cover, May, has_c, At, cover_in, row_cover, can_empty, dir_covers, may_edit, removable_dir, lasting_dir}
+use Rattle.pua_ever.proofs.Common.{is_named_way, is_allowed_under, is_ever_allowed, EditsNeedC}
 use Rattle.pua_path.specs.declared.errno.Errno.{Errno}
-use Rattle.pua_policy.specs.Misfits.{misfit_errno}
-use Rattle.pua_policy.specs.declared.reason.Misfit.TheVariants.{IsNotEmpty}
-use Rattle.pua_path.specs.declared.found.Way.{Way}
-use Rattle.pua_path.specs.declared.found.Way.TheVariants.{Named, Top, Dot, DotDot}
-use Rattle.pua_path.specs.declared.found.Found.TheVariants.{Whole}
-use Rattle.pua_calls.specs.Calls.{CallTable, rule_of}
-use Rattle.pua_calls.specs.CallSets.{has, keeps_link}
-use Rattle.pua_policy.specs.History.{History, perms_kept, may_any}
-use Rattle.pua_policy.specs.Objects.{object_seen}
-use Rattle.pua_policy.specs.Verdict.{Object, IsDir, object_fault, cover_fault, or_fault, allowed_unless, if_promised, covered_verdict}
-use Rattle.pua_policy.specs.Verdict.{is_allowed}
-use Rattle.pua_calls.specs.declared.call.Call.{Call}
 use Rattle.pua_calls.specs.declared.call.Call.TheVariants as call
 use Rattle.pua_policy.specs.declared.place.Place.TheVariants as place
-use Rattle.pua_policy.specs.declared.answer.Cover.{Cover}
-use Rattle.pua_policy.specs.declared.answer.May.{May}
 use Rattle.pua_policy.specs.declared.answer.May.TheVariants as may
 use Rattle.pua_policy.specs.declared.object.Object as seen
 use Rattle.pua_policy.specs.declared.object.Object.TheVariants as see
-use Rattle.pua_script.specs.Confinement.{has_c}
 use Rattle.pua_script.proofs.ForCallers.{c_from_cover}
-use Rattle.pua_objects.specs.Objects.{At, cover_in}
-use Rattle.pua_ever.specs.Ever.{row_cover, can_empty, dir_covers, may_edit, ever_covers, removable_dir, lasting_dir, is_named_way}
-use Rattle.pua_ever.specs.Ever.{is_allowed_under, is_ever_allowed}
+use Rattle.pua_ever.specs.Ever.{ever_covers}
 use Rattle.pua_ever.specs.EverReady.{IsProspects}
-use Rattle.pua_ever.specs.Laws.{EditsNeedC}
 use Rattle.pua_ever.specs.declared.prospects.Prospects.{Prospects}
 use Rattle.pua_ever.proofs.KindFaults.{dir_as}
 use Rattle.std.proofs.Math.Bool.{or-true}

@@ -1,21 +1,13 @@
 -- Where nothing outside of a directory has `c`, nothing outside of it comes to have it, and nothing is moved onto it.
-use Rattle.std.proofs.Common.{◌≡◌, ◌≢◌, ℕ, zero, suc, List, Bool, true, false, refl, sym, ap, ◌∙◌, inl, inr, arith}
-use Rattle.std.specs.Prelude.{Option, Some, None, ◌||◌, ◌==◌}
-use Rattle.std.specs.List.{list_any}
-use Rattle.std.proofs.lemmas.Bool.{false≢true, and_parts, not-true, eqb-true, or_left}
-use Rattle.pua_tree.specs.Tree.{Tree, WellFormed, Spot, spot_cmp, is_dir, is_living, look, node_at, above, climb, is_empty, has_no_row}
-use Rattle.pua_tree.proofs.ForCallers.{Reaches, sound_from, row_says, row_of, above_is, spots_total, exact_spots, same_dir}
+use Rattle.pua_ever.proofs.Common.{◌≡◌, ◌≢◌, ℕ, zero, suc, List, Bool, true, false, refl, sym, ap, ◌∙◌, inl, inr, arith, Option, Some, None}
+use Rattle.pua_ever.proofs.Common.{◌||◌, ◌==◌, list_any, false≢true, and_parts, not-true, eqb-true, or_left, Tree, WellFormed, Spot}
+use Rattle.pua_ever.proofs.Common.{spot_cmp, is_dir, is_living, look, node_at, above, climb, is_empty, has_no_row, Reaches, sound_from}
+use Rattle.pua_ever.proofs.Common.{row_says, row_of, spots_total, exact_spots, same_dir, CallTable, History, perms_kept, Only, has_c}
+use Rattle.pua_ever.proofs.Common.{UncoveredStay, cover_in, own_or, covers_descend, is_below}
+use Rattle.pua_tree.proofs.ForCallers.{above_is}
 use Rattle.pua_tree.proofs.ForCallers.{none_found}
 use Rattle.pua_policy.proofs.ForCallers.{climb_step, climb_root}
-use Rattle.pua_calls.specs.Calls.{CallTable}
-use Rattle.pua_policy.specs.History.{History, perms_kept}
 use Rattle.pua_policy.specs.declared.place.Place.TheVariants as place
-use Rattle.pua_policy.specs.declared.answer.Cover.TheVariants.{Only}
-use Rattle.pua_script.specs.Confinement.{has_c, UncoveredStay}
-use Rattle.pua_objects.specs.Objects.{cover_in}
-use Rattle.pua_objects.specs.Laws.{own_or}
-use Rattle.pua_objects.proofs.ForCallers.{covers_descend}
-use Rattle.pua_ever.specs.Ever.{is_below}
 use Rattle.pua_ever.proofs.Grown.{Grown, Written, by_name, by_turn, From, is_new, is_moved, is_linked, Put, name_cover}
 use Rattle.pua_ever.proofs.Covers.{dir_row, living_dir, below_next}
 

@@ -1,17 +1,14 @@
 -- Where nothing refuses the list.
-use Rattle.std.proofs.Common.{◌≡◌, ◌⊎◌, List, [], ◌∷◌, Bool, true, false, cond, refl, sym, ◌∙◌, inl, inr}
-use Rattle.std.specs.Prelude.{Option, Some, None, not, ◌&&◌, ◌||◌, if◌then◌else◌, find}
-use Rattle.std.proofs.lemmas.Bool.{false≢true, and_parts, not-false}
-use Rattle.pua_tree.proofs.ForCallers.{Some≢None}
+use Rattle.pua_ever.proofs.Common.{◌≡◌, ◌⊎◌, List, [], ◌∷◌, Bool, true, false, cond, refl, sym, ◌∙◌, inl, inr, Option, Some, None, not}
+use Rattle.pua_ever.proofs.Common.{◌&&◌, ◌||◌, if◌then◌else◌, false≢true, and_parts, Some≢None, CallTable, History, Call, is_yes}
+use Rattle.pua_ever.proofs.Common.{EditsNeedC}
+use Rattle.std.specs.Prelude.{find}
+use Rattle.std.proofs.lemmas.Bool.{not-false}
 use Rattle.pua_calls.specs.Promises.{holds, creating, unveil}
-use Rattle.pua_calls.specs.Calls.{CallTable}
-use Rattle.pua_policy.specs.History.{History, held_set, has_error, is_locked, is_ended}
+use Rattle.pua_policy.specs.History.{held_set, has_error, is_locked, is_ended}
 use Rattle.pua_policy.specs.declared.answer.May.TheVariants.{Yes, Enosys, Death}
-use Rattle.pua_calls.specs.declared.call.Call.{Call}
 use Rattle.pua_calls.specs.declared.call.Call.TheVariants as call
 use Rattle.pua_script.specs.Laws.{IsConfined}
-use Rattle.pua_ever.specs.Ever.{is_yes}
-use Rattle.pua_ever.specs.Laws.{EditsNeedC}
 use Rattle.pua_ever.specs.Refusals.{can_unveil, lacks_c, changing_calls, new_needs_c, both_need_c, table_refusal, refusal}
 use Rattle.pua_ever.specs.declared.refusal.Refusal.TheVariants.{CanUnveil, LacksC, RenameLacksC, LinkLacksC}
 

@@ -1,5 +1,5 @@
 -- By the rules that a command names the five calls need `c`, and so do both names of rename and the new one of link.
-use Rattle.std.proofs.Common.{refl}
+use Rattle.pua_ever.proofs.Common.{refl}
 use Rattle.pua_calls.specs.declared.rules.Rules.TheVariants.{Profile, Openbsd}
 use Rattle.pua_script.proofs.ForCallers.{rules_narrow}
 use Rattle.pua_ever.specs.Laws.{RulesEditByC}

@@ -1,49 +1,36 @@
 -- Each veil stands on a number that was given, in each world that a replay leaves.
-use Rattle.std.proofs.Common.{◌≡◌, ◌<◌, ◌≤◌, ℕ, [], ◌∷◌, ◌++◌, Bool, true, false, cond, refl, sym, ap, subst, ◌∙◌, inl, inr, arith}
-use Rattle.std.specs.Prelude.{Option, Some, None, Result, Ok, Err, is_some, nat_le, length, not, filter, ◌||◌}
-use Rattle.std.specs.Ordering.{nat_cmp}
-use Rattle.std.specs.Cmp.{nat_cmp_total}
-use Rattle.std.specs.FinMap.{put, find as find_key, nat_cmp-IsAntisymmetric}
-use Rattle.std.proofs.lemmas.Bool.{and_parts}
+use Rattle.pua_ever.proofs.Common.{◌≡◌, ◌<◌, ◌≤◌, ℕ, [], ◌∷◌, ◌++◌, Bool, true, false, cond, refl, sym, ap, subst, ◌∙◌, inl, inr, arith}
+use Rattle.pua_ever.proofs.Common.{Option, Some, None, Result, Ok, Err, is_some, nat_le, not, filter, ◌||◌, nat_cmp, nat_cmp_total}
+use Rattle.pua_ever.proofs.Common.{nat_cmp-IsAntisymmetric, and_parts, Tree, WellFormed, is_dir, same_Some, Some≢None, EAGAIN, Followed}
+use Rattle.pua_ever.proofs.Common.{Found, Whole, Slot, resolutions_fit, CallTable, History, perms_kept, same_place, working_dir}
+use Rattle.pua_ever.proofs.Common.{same_place_is, Call, Place, Asked, most_processes, World, Fails, Copies, change_effect, history_of}
+use Rattle.pua_ever.proofs.Common.{apply, world_after, Change, CopyAs, change_by, IsDecided, named_within_text, Action, OnPath, Symlink}
+use Rattle.pua_ever.proofs.Common.{Rename, Link, Pledge, Unveil, Lock, Fork, Exit, by_going, EditsNeedC, VeilsStand}
+use Rattle.std.specs.Prelude.{length}
+use Rattle.std.specs.FinMap.{put, find as find_key}
 use Rattle.std.proofs.lemmas.List.Folds.{list_all-append}
-use Rattle.pua_tree.specs.Tree.{Tree, WellFormed, is_dir}
 use Rattle.pua_tree.specs.declared.fault.TreeFault.{TreeFault}
-use Rattle.pua_tree.proofs.ForCallers.{same_or_other, put_here, put_elsewhere, same_Some, Some≢None}
+use Rattle.pua_tree.proofs.ForCallers.{same_or_other, put_here, put_elsewhere}
 use Rattle.pua_path.specs.Fits.{FoundFits, spot_named, node_named}
-use Rattle.pua_path.specs.declared.errno.Errno.TheVariants.{EAGAIN}
 use Rattle.pua_path.specs.declared.text.Ending.TheVariants.{Dot}
-use Rattle.pua_path.specs.declared.found.Last.TheVariants.{Followed}
-use Rattle.pua_path.specs.declared.found.Found.{Found}
-use Rattle.pua_path.specs.declared.found.Found.TheVariants.{Whole, Slot}
-use Rattle.pua_path.proofs.ForCallers.{resolutions_fit}
-use Rattle.pua_calls.specs.Calls.{CallTable}
 use Rattle.pua_calls.specs.declared.rules.ExecPromises.{ExecPromises}
-use Rattle.pua_policy.specs.History.{History, Pledged, Unveiled, Locked, Moved, Ended, perms_kept, same_place, held_for_exec, is_pledge}
-use Rattle.pua_policy.specs.History.{after_exec, working_dir, new_history}
+use Rattle.pua_policy.specs.History.{Pledged, Unveiled, Locked, Moved, Ended, held_for_exec, is_pledge}
+use Rattle.pua_policy.specs.History.{after_exec, new_history}
 use Rattle.pua_policy.specs.Verdict.{place_of}
-use Rattle.pua_policy.proofs.ForCallers.{same_place_is}
-use Rattle.pua_calls.specs.declared.call.Call.{Call}
 use Rattle.pua_calls.specs.declared.call.Call.TheVariants as call
-use Rattle.pua_policy.specs.declared.place.Place.{Place}
-use Rattle.pua_script.specs.Requests.{Asked}
-use Rattle.pua_script.specs.Limits.{most_processes}
 use Rattle.pua_script.specs.Worlds.{history_left}
 use Rattle.pua_script.specs.Bytes.{is_in_bytes, are_in_bytes, IsByteTree}
-use Rattle.pua_script.specs.Replay.{World, Effect, Fails, Kills, Leaves, Copies, refusal_effect, change_effect, come_of, edit_effect}
-use Rattle.pua_script.specs.Replay.{edited_tree, history_of, left_by, apply, world_after, new_world}
-use Rattle.pua_script.specs.Decide.{Change, NoChange, AddNode, CutRow, ShiftRow, TieRow, BeginProgram, AddEvent, CopyAs, change_by, decide}
+use Rattle.pua_script.specs.Replay.{Effect, Kills, Leaves, refusal_effect, come_of, edit_effect}
+use Rattle.pua_script.specs.Replay.{edited_tree, left_by, new_world}
+use Rattle.pua_script.specs.Decide.{NoChange, AddNode, CutRow, ShiftRow, TieRow, BeginProgram, AddEvent, decide}
 use Rattle.pua_script.specs.Decide.{link_node}
-use Rattle.pua_script.specs.Guards.{IsDecided}
 use Rattle.pua_policy.specs.declared.answer.Refusal.{Refusal}
 use Rattle.pua_policy.specs.declared.answer.Refusal.TheVariants.{Failed, Killed}
 use Rattle.pua_tree.specs.Edits.{add, cut, shift, tie}
-use Rattle.pua_objects.proofs.ForCallers.{named_within_text}
-use Rattle.pua_script.specs.declared.request.Action.{Action}
-use Rattle.pua_script.specs.declared.request.Action.TheVariants.{OnPath, Symlink, Rename, Link, Pledge, Unveil, Lock, Fork, Exit}
 use Rattle.pua_script.proofs.ForCallers.{replays_keep_trees, replays_keep_byte_trees, listings_list_byte_trees, scripts_ask_in_bytes}
-use Rattle.pua_script.proofs.ForCallers.{by_request, by_decision, decisions_are_guarded, by_placing, by_cutting, by_going, by_tying}
+use Rattle.pua_script.proofs.ForCallers.{by_request, by_decision, decisions_are_guarded, by_placing, by_cutting, by_tying}
 use Rattle.pua_script.proofs.ForCallers.{by_moves}
-use Rattle.pua_ever.specs.Laws.{EditsNeedC, VeilsStand, dir_of_place, PlacesStand, ReplaysKeepPlaces, EverAsRead}
+use Rattle.pua_ever.specs.Laws.{dir_of_place, PlacesStand, ReplaysKeepPlaces, EverAsRead}
 use Rattle.pua_ever.proofs.Growing.{numbers_grow}
 use Rattle.pua_ever.proofs.Covers.{living_dir, below_next}
 use Rattle.pua_ever.proofs.Complete.{ever_complete}

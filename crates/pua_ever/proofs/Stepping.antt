@@ -1,20 +1,11 @@
 -- One request keeps what is known of each row.
-use Rattle.std.proofs.Common.{◌≡◌, ◌≢◌, ◌⊎◌, ◌≤◌, ◌<◌, ℕ, true, false, refl, sym, ap, subst, ◌∙◌, inl, inr, arith}
-use Rattle.std.specs.Prelude.{Option, Some, None, ◌==◌, is_some, option_map}
-use Rattle.std.proofs.lemmas.Bool.{false≢true, and_parts, eqb-true}
-use Rattle.pua_tree.specs.Tree.{Tree, WellFormed, Spot, is_dir, is_living, look, node_at, is_empty, has_no_row, empty_tree}
-use Rattle.pua_tree.proofs.ForCallers.{sound_from, row_says, same_dir}
-use Rattle.pua_calls.specs.Calls.{CallTable}
-use Rattle.pua_policy.specs.History.{History, perms_kept}
-use Rattle.pua_policy.specs.Verdict.{IsMissing, covered_verdict, is_allowed}
+use Rattle.pua_ever.proofs.Common.{◌≡◌, ◌≢◌, ◌⊎◌, ◌≤◌, ◌<◌, ℕ, true, false, refl, sym, ap, subst, ◌∙◌, inl, inr, arith, Option, Some, None}
+use Rattle.pua_ever.proofs.Common.{◌==◌, is_some, option_map, false≢true, and_parts, eqb-true, Tree, WellFormed, Spot, is_dir, is_living}
+use Rattle.pua_ever.proofs.Common.{look, node_at, is_empty, has_no_row, empty_tree, sound_from, row_says, same_dir, CallTable, History}
+use Rattle.pua_ever.proofs.Common.{perms_kept, IsMissing, covered_verdict, is_allowed, has_c, UncoveredStay, cover_in, own_or}
+use Rattle.pua_ever.proofs.Common.{covers_descend, row_cover, can_link, has_c_outside, some_dir_has_c, New, maker, can_make, VeilsStand}
 use Rattle.pua_policy.specs.declared.place.Place.TheVariants as place
-use Rattle.pua_script.specs.Confinement.{has_c, UncoveredStay}
 use Rattle.pua_script.proofs.ForCallers.{spared_twice}
-use Rattle.pua_objects.specs.Objects.{cover_in}
-use Rattle.pua_objects.specs.Laws.{own_or}
-use Rattle.pua_objects.proofs.ForCallers.{covers_descend}
-use Rattle.pua_ever.specs.Ever.{row_cover, can_link, has_c_outside, some_dir_has_c, New, maker, can_make}
-use Rattle.pua_ever.specs.Laws.{VeilsStand}
 use Rattle.pua_ever.proofs.Grown.{Grown, Written, by_name, by_turn, From, is_new, is_moved, is_linked, Makes, name_cover}
 use Rattle.pua_ever.proofs.Ways.{any_among, some_dir_by, some_dir_among}
 use Rattle.pua_ever.proofs.Covers.{dir_row, living_dir, below_next}

@@ -1,18 +1,10 @@
 -- What some cover of a list passes, some cover of another one with the same elements does.
-use Rattle.std.proofs.Common.{◌≡◌, List, [], ◌++◌, Bool, true, false, refl, sym, ◌∙◌}
-use Rattle.std.specs.Prelude.{◌||◌, if◌then◌else◌, length, nat_lt}
-use Rattle.std.specs.List.{list_any, Contains}
-use Rattle.std.proofs.lemmas.Bool.{false≢true}
-use Rattle.std.proofs.lemmas.List.Folds.{list_any-append}
-use Rattle.pua_objects.proofs.ForCallers.{contained, among_contained}
-use Rattle.pua_tree.specs.Tree.{Tree, empty_tree}
-use Rattle.pua_calls.specs.Calls.{CallTable}
-use Rattle.pua_policy.specs.History.{History}
-use Rattle.pua_policy.specs.Verdict.{Object, covered_verdict, is_allowed}
-use Rattle.pua_policy.specs.declared.answer.Cover.{Cover}
-use Rattle.pua_calls.specs.declared.call.Call.{Call}
-use Rattle.pua_ever.specs.Ever.{is_allowed_under, dir_covers, name_covers, file_covers, some_dir_has_c}
-use Rattle.pua_ever.specs.Openings.{HaveSame}
+use Rattle.pua_ever.proofs.Common.{◌≡◌, List, [], ◌++◌, Bool, true, false, refl, sym, ◌∙◌, ◌||◌, if◌then◌else◌, nat_lt, list_any}
+use Rattle.pua_ever.proofs.Common.{false≢true, list_any-append, contained, among_contained, Tree, empty_tree, CallTable, History, Object}
+use Rattle.pua_ever.proofs.Common.{covered_verdict, is_allowed, Cover, Call, is_allowed_under, dir_covers, name_covers, file_covers}
+use Rattle.pua_ever.proofs.Common.{some_dir_has_c, HaveSame}
+use Rattle.std.specs.Prelude.{length}
+use Rattle.std.specs.List.{Contains}
 use Rattle.pua_ever.proofs.Ways.{any_among, any_found}
 
 pub any_same : {X : Type 0} (p : X → Bool) (xs ys : List X) → HaveSame xs ys → list_any p xs ≡ list_any p ys

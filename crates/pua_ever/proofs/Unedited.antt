@@ -1,31 +1,19 @@
 -- Who holds what none of the edits needs leaves the tree.
-use Rattle.std.proofs.Common.{◌≡◌, ℕ, List, [], ◌∷◌, Bool, true, false, cond, refl, sym, ap, subst, ◌∙◌, ◌||◌, inl, inr}
-use Rattle.std.specs.List.{list_any, AllByRecursion}
-use Rattle.std.specs.Prelude.{Some, is_some, nat_le, length, not}
-use Rattle.std.proofs.lemmas.Bool.{false≢true, and_parts, or_left, or_right, not-true}
-use Rattle.pua_path.specs.declared.errno.Errno.TheVariants.{EAGAIN}
-use Rattle.pua_path.specs.declared.found.Found.{Found}
-use Rattle.pua_policy.specs.History.{History, may_any}
-use Rattle.pua_calls.specs.Calls.{CallTable, rule_of}
+use Rattle.pua_ever.proofs.Common.{◌≡◌, ℕ, List, [], ◌∷◌, Bool, true, false, cond, refl, sym, ap, subst, ◌∙◌, inl, inr, list_any, Some}
+use Rattle.pua_ever.proofs.Common.{is_some, nat_le, not, false≢true, and_parts, or_left, or_right, not-true, EAGAIN, Found, History}
+use Rattle.pua_ever.proofs.Common.{may_any, CallTable, rule_of, Call, May, most_processes, Asked, tree_left, is_member, is_exec, is_done}
+use Rattle.pua_ever.proofs.Common.{none_done, members_alone, family_then, World, Fails, Copies, change_effect, history_of, apply}
+use Rattle.pua_ever.proofs.Common.{world_after, Change, CopyAs, change_by, IsDecided, Action, OnPath, Symlink, Rename, Link, Pledge, Unveil}
+use Rattle.pua_ever.proofs.Common.{Lock, Fork, Exit, by_going, IsWithin, Members, members_then, Among, is_yes, may_edit}
+use Rattle.std.proofs.Common.{◌||◌}
+use Rattle.std.specs.List.{AllByRecursion}
+use Rattle.std.specs.Prelude.{length}
 use Rattle.pua_calls.specs.Tables.{NamesNoError, NoCallNeedsError}
-use Rattle.pua_calls.specs.declared.call.Call.{Call}
 use Rattle.pua_calls.specs.declared.call.Call.TheVariants as call
-use Rattle.pua_policy.specs.declared.answer.May.{May}
 use Rattle.pua_policy.specs.declared.answer.May.TheVariants.{Yes, Enosys, Death}
-use Rattle.pua_script.specs.Limits.{most_processes}
-use Rattle.pua_script.specs.Requests.{Asked}
-use Rattle.pua_script.specs.Worlds.{tree_left}
-use Rattle.pua_script.specs.Family.{is_member, is_exec, is_done, none_done, members_alone, family_then}
-use Rattle.pua_script.specs.Replay.{World, Fails, Copies, change_effect, history_of, apply, world_after}
-use Rattle.pua_script.specs.Decide.{Change, CopyAs, change_by}
-use Rattle.pua_script.specs.Guards.{IsDecided}
-use Rattle.pua_script.specs.declared.request.Action.{Action}
-use Rattle.pua_script.specs.declared.request.Action.TheVariants.{OnPath, Symlink, Rename, Link, Pledge, Unveil, Lock, Fork, Exit}
-use Rattle.pua_script.proofs.ForCallers.{by_own_tree, by_going}
-use Rattle.pua_script.proofs.ForCallers.{IsWithin, may_yes}
-use Rattle.pua_script.proofs.ForCallers.{Members, members_then}
-use Rattle.pua_objects.proofs.ForCallers.{Among}
-use Rattle.pua_ever.specs.Ever.{is_yes, may_edit, edit_calls}
+use Rattle.pua_script.proofs.ForCallers.{by_own_tree}
+use Rattle.pua_script.proofs.ForCallers.{may_yes}
+use Rattle.pua_ever.specs.Ever.{edit_calls}
 use Rattle.pua_ever.proofs.Ways.{any_among, any_found}
 
 module _ (table : CallTable) (w : World) (h : History) (lacks : may_edit table h ≡ false) where

@@ -1,26 +1,22 @@
 -- Which covers are among those that a thing can come under.
-use Rattle.std.proofs.Common.{◌≡◌, ℕ, List, [], ◌∷◌, Bool, true, false, cond, refl, sym, ap, ◌∙◌, inl, inr}
-use Rattle.std.specs.Prelude.{Option, Some, None, not, ◌&&◌, ◌||◌, ◌==◌, filter, option_map}
-use Rattle.std.specs.List.{list_any, list_all}
-use Rattle.std.specs.Option.{option_eq}
-use Rattle.std.specs.Ordering.{nat_cmp, is_eq}
-use Rattle.std.specs.Cmp.{Equal-is, nat_cmp_total}
-use Rattle.std.specs.FinMap.{find as find_key, nat_cmp-IsAntisymmetric}
-use Rattle.std.proofs.lemmas.Bool.{false≢true, eq-eqb, eqb-true, and_parts, and_from, or_left, or_right}
-use Rattle.pua_tree.specs.Tree.{Tree, Node, WellFormed, Spot, spot_cmp, is_dir, is_dir_kind, look, node_at}
-use Rattle.pua_tree.proofs.ForCallers.{sound_from, spots_total, exact_spots, all_from_found}
-use Rattle.pua_policy.specs.History.{History, perms_kept, veils, veil_at, same_place}
-use Rattle.pua_policy.specs.declared.place.Place.{Place}
+use Rattle.pua_ever.proofs.Common.{◌≡◌, ℕ, List, [], ◌∷◌, Bool, true, false, cond, refl, sym, ap, ◌∙◌, inl, inr, Option, Some, None, not}
+use Rattle.pua_ever.proofs.Common.{◌&&◌, ◌||◌, ◌==◌, filter, option_map, list_any, list_all, option_eq, nat_cmp, nat_cmp_total}
+use Rattle.pua_ever.proofs.Common.{nat_cmp-IsAntisymmetric, false≢true, eq-eqb, eqb-true, and_parts, and_from, or_left, or_right, Tree}
+use Rattle.pua_ever.proofs.Common.{Node, WellFormed, Spot, spot_cmp, is_dir, is_dir_kind, look, node_at, sound_from, spots_total}
+use Rattle.pua_ever.proofs.Common.{exact_spots, History, perms_kept, veils, same_place, Place, Cover, Only, same_place_is, has_c, cover_in}
+use Rattle.pua_ever.proofs.Common.{Among, among_left, among_right, among_map, map_among, among_filter, filter_among, among_filter_map}
+use Rattle.pua_ever.proofs.Common.{is_free, can_empty, is_below, has_c_outside, directories, dir_covers, name_covers, some_dir_has_c}
+use Rattle.pua_ever.proofs.Common.{file_covers}
+use Rattle.std.specs.Ordering.{is_eq}
+use Rattle.std.specs.Cmp.{Equal-is}
+use Rattle.std.specs.FinMap.{find as find_key}
+use Rattle.pua_tree.proofs.ForCallers.{all_from_found}
+use Rattle.pua_policy.specs.History.{veil_at}
 use Rattle.pua_policy.specs.declared.place.Place.TheVariants as place
-use Rattle.pua_policy.specs.declared.answer.Cover.{Cover}
-use Rattle.pua_policy.specs.declared.answer.Cover.TheVariants.{Only}
-use Rattle.pua_policy.proofs.ForCallers.{veils_are_kept, same_place_is}
-use Rattle.pua_script.specs.Confinement.{has_c}
-use Rattle.pua_objects.specs.Objects.{cover_in}
-use Rattle.pua_objects.proofs.ForCallers.{found_among, Among, among_left, among_right, among_map, map_among, among_filter, filter_among}
-use Rattle.pua_objects.proofs.ForCallers.{among_filter_map}
-use Rattle.pua_ever.specs.Ever.{is_free, can_empty, opens_at, gives_way, is_below, opens_outside, has_c_outside, is_way_in, is_dir_entry}
-use Rattle.pua_ever.specs.Ever.{directories, dir_covers, veil_cover_at, name_covers, some_dir_has_c, file_covers}
+use Rattle.pua_policy.proofs.ForCallers.{veils_are_kept}
+use Rattle.pua_objects.proofs.ForCallers.{found_among}
+use Rattle.pua_ever.specs.Ever.{opens_at, gives_way, opens_outside, is_way_in, is_dir_entry}
+use Rattle.pua_ever.specs.Ever.{veil_cover_at}
 
 -- some element passes
 pub any_among : {X : Type 0} (p : X → Bool) (xs : List X) (x : X) → Among xs x → p x ≡ true → list_any p xs ≡ true

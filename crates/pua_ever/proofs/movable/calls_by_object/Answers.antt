@@ -1,6 +1,5 @@
-use Rattle.std.proofs.Common.{refl, ◌∙◌}
-use Rattle.pua_policy.specs.Verdict.{IsFile, IsProg, IsLink, IsMissing}
-use Rattle.pua_ever.specs.Ever.{lasting_dir, removable_dir}
+use Rattle.pua_ever.proofs.Common.{refl, ◌∙◌, IsMissing, lasting_dir, removable_dir}
+use Rattle.pua_policy.specs.Verdict.{IsFile, IsProg, IsLink}
 use Rattle.pua_ever.proofs.Under.{under_dirs, under_files, under_made}
 use Rattle.pua_ever.proofs.movable.calls_by_object.Goals as goal
 

@@ -1,4 +1,4 @@
-use Rattle.std.proofs.Common.{sym, ◌∙◌}
+use Rattle.pua_ever.proofs.Common.{sym, ◌∙◌}
 use Rattle.pua_ever.proofs.Covers.{cover_over}
 use Rattle.pua_ever.proofs.openings.cover_above.Goals as goal
 

@@ -1,8 +1,4 @@
-use Rattle.std.proofs.Common.{refl, sym, ap, subst, ◌∙◌}
-use Rattle.pua_path.specs.declared.found.Found.TheVariants.{Whole}
-use Rattle.pua_path.specs.declared.found.Way.TheVariants.{Top}
-use Rattle.pua_policy.specs.Verdict.{FoundFits, cover}
-use Rattle.pua_objects.proofs.ForCallers.{covers_descend}
+use Rattle.pua_ever.proofs.Common.{refl, sym, ap, subst, ◌∙◌, Whole, Top, FoundFits, cover, covers_descend}
 use Rattle.pua_ever.proofs.openings.cover_of_dir.Goals as goal
 
 pub cover-requires : goal.cover-requires

@@ -1,9 +1,7 @@
-use Rattle.std.proofs.Common.{◌≡◌, ◌∙◌, ◌+◌, length, sym, ap, true, arith}
-use Rattle.std.proofs.lemmas.Bool.{eqb-false, not-true}
+use Rattle.pua_ever.proofs.Common.{◌≡◌, ◌∙◌, length, sym, ap, true, arith, not-true, Some, Tree, is_dir, above, climb, above_lives}
+use Rattle.std.proofs.Common.{◌+◌}
+use Rattle.std.proofs.lemmas.Bool.{eqb-false}
 use Rattle.std.proofs.lemmas.Option.{same_Some}
-use Rattle.std.specs.Prelude.{Some}
-use Rattle.pua_tree.specs.Tree.{Tree, is_dir, above, climb}
-use Rattle.pua_path.proofs.ForCallers.{above_lives}
 use Rattle.pua_policy.proofs.ForCallers.{length-climb_step}
 use Rattle.pua_ever.proofs.Opened.{when_some}
 use Rattle.pua_ever.proofs.openings.depth.Goals as goal

@@ -1,5 +1,5 @@
-use Rattle.std.proofs.Common.{ℕ, ◌≡◌, ◌+◌, min, length, true}
-use Rattle.pua_tree.specs.Tree.{is_dir, climb}
+use Rattle.pua_ever.proofs.Common.{ℕ, ◌≡◌, length, true, is_dir, climb}
+use Rattle.std.proofs.Common.{◌+◌, min}
 use Rattle.pua_ever.proofs.openings.depth.Given as goal
 
 -- so many directories were passed, and the rest of the climb has the others

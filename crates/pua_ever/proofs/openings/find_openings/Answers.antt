@@ -1,11 +1,7 @@
-use Rattle.std.proofs.Common.{◌≡◌, [], ◌∷◌, ◌++◌, map, sym, ap, subst, ◌∙◌}
-use Rattle.std.specs.Prelude.{filter_map, length, nat_lt, not, ◌==◌, if◌then◌else◌}
-use Rattle.std.specs.List.{list_any}
-use Rattle.pua_tree.specs.Tree.{Tree, WellFormed}
-use Rattle.pua_policy.specs.History.{History, StandsFor, has_veil}
-use Rattle.pua_policy.specs.declared.answer.Cover.TheVariants.{All}
-use Rattle.pua_ever.specs.Ever.{dir_covers, name_covers}
-use Rattle.pua_ever.specs.Openings.{dir_opening, name_opening, opened_dir, held_dir, entrance_cover, HaveSame}
+use Rattle.pua_ever.proofs.Common.{◌≡◌, [], ◌∷◌, ◌++◌, map, sym, ap, subst, ◌∙◌, filter_map, nat_lt, not, ◌==◌, if◌then◌else◌, list_any}
+use Rattle.pua_ever.proofs.Common.{Tree, WellFormed, History, StandsFor, has_veil, All, dir_covers, name_covers, dir_opening, name_opening}
+use Rattle.pua_ever.proofs.Common.{opened_dir, held_dir, entrance_cover, HaveSame}
+use Rattle.std.specs.Prelude.{length}
 use Rattle.pua_ever.proofs.Opened.{places_of, held, empties}
 use Rattle.pua_ever.proofs.Opening.{own_covers, entrances, dirs_same, names_same, some_same}
 use Rattle.pua_ever.proofs.openings.find_openings.Goals as goal

@@ -1,9 +1,6 @@
-use Rattle.std.proofs.Common.{◌≡◌, [], ◌∷◌, ◌++◌, map, true, false, sym, ap, ◌∙◌}
-use Rattle.std.specs.Prelude.{filter_map, if◌then◌else◌}
+use Rattle.pua_ever.proofs.Common.{◌≡◌, [], ◌∷◌, ◌++◌, map, true, false, sym, ap, ◌∙◌, filter_map, if◌then◌else◌, has_veil, All}
+use Rattle.pua_ever.proofs.Common.{dir_opening, entrance_cover, opened_dir}
 use Rattle.std.proofs.lemmas.List.{append-nil}
-use Rattle.pua_policy.specs.History.{has_veil}
-use Rattle.pua_policy.specs.declared.answer.Cover.TheVariants.{All}
-use Rattle.pua_ever.specs.Openings.{dir_opening, entrance_cover, opened_dir}
 use Rattle.pua_ever.proofs.openings.gathered.Goals as goal
 use Rattle.pua_ever.proofs.openings.gathered.Goals.{then-not-is_veiled+in_ok-push, else-not-is_veiled}
 

@@ -1,8 +1,4 @@
-use Rattle.std.proofs.Common.{◌++◌, ap, ◌∙◌}
-use Rattle.std.specs.Prelude.{Some, flat_map}
-use Rattle.pua_objects.specs.Objects.{items}
-use Rattle.pua_ever.specs.EverLines.{ever_lines_of}
-use Rattle.pua_ever.specs.EverReady.{both_of, made_left}
+use Rattle.pua_ever.proofs.Common.{◌++◌, ap, ◌∙◌, Some, flat_map, items, ever_lines_of, both_of, made_left}
 use Rattle.pua_ever.specs.declared.made.Made.TheVariants.{Dir}
 use Rattle.pua_ever.proofs.Lined.{lines_first}
 use Rattle.pua_ever.proofs.ever.Ever.begin.Goals as goal

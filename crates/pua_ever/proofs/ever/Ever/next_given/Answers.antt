@@ -1,7 +1,5 @@
-use Rattle.std.proofs.Common.{[], sym, ap, subst, ◌∙◌, arith, length, take}
+use Rattle.pua_ever.proofs.Common.{[], sym, ap, subst, ◌∙◌, arith, length, take, Some, ProcessState, StandsFor}
 use Rattle.std.proofs.lemmas.List.{length-map}
-use Rattle.std.specs.Prelude.{Some}
-use Rattle.pua_policy.specs.History.{ProcessState, StandsFor}
 use Rattle.pua_ever.specs.EverReady.{IsEverGiven, things_left, made_word}
 use Rattle.pua_ever.specs.EverState.{EverState}
 use Rattle.pua_ever.specs.declared.line.EverThing.TheVariants as told

@@ -1,8 +1,7 @@
-use Rattle.std.proofs.Common.{◌≡◌, ◌≢◌, [], ◌++◌, sym, ap, subst, ◌∙◌, arith, length, take}
-use Rattle.pua_tree.specs.Tree.{Tree}
+use Rattle.pua_ever.proofs.Common.{◌≡◌, ◌≢◌, [], ◌++◌, sym, ap, subst, ◌∙◌, arith, length, take, Tree, ever_lines_of}
 use Rattle.pua_calls.specs.CallSets.{calls_in}
 use Rattle.pua_objects.proofs.ForCallers.{stays_shared}
-use Rattle.pua_ever.specs.EverLines.{ever_lines_of, IsThing}
+use Rattle.pua_ever.specs.EverLines.{IsThing}
 use Rattle.pua_ever.specs.EverState.{EverState}
 use Rattle.pua_ever.proofs.Lined.{left_out, kept_in, lines_moved}
 use Rattle.pua_ever.proofs.ever.Ever.next_line.Goals as goal

@@ -1,6 +1,4 @@
-use Rattle.std.proofs.Common.{◌≡◌, ◌≤◌, length, take}
-use Rattle.pua_policy.specs.History.{History, StandsFor}
-use Rattle.pua_ever.specs.EverLines.{ever_lines_of}
+use Rattle.pua_ever.proofs.Common.{◌≡◌, ◌≤◌, length, take, History, StandsFor, ever_lines_of}
 use Rattle.pua_ever.proofs.ever.Ever.next_line.Given as goal
 
 -- the lines that were left out had no calls
