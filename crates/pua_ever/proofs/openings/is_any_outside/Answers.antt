@@ -1,5 +1,4 @@
-use Rattle.std.proofs.Common.{rules, tests}
-use Rattle.std.proofs.lemmas.Iterator.{YieldsList-from_slice}
+use Rattle.pua_ever.proofs.Common.{rules, tests, YieldsList-from_slice}
 use Rattle.std.proofs.lemmas.Iterator.Search.{any_from_yields_List}
 use Rattle.pua_ever.specs.Openings.{is_outside}
 use Rattle.pua_ever.proofs.openings.is_any_outside.Goals as goal

@@ -1,6 +1,5 @@
-use Rattle.std.proofs.Common.{◌≡◌, ◌==◌, length, IsTrue}
-use Rattle.std.specs.List.{list_any}
-use Rattle.pua_tree.specs.Tree.{is_dir, climb}
+use Rattle.pua_ever.proofs.Common.{◌≡◌, length, list_any, is_dir, climb}
+use Rattle.std.proofs.Common.{◌==◌, IsTrue}
 use Rattle.pua_ever.proofs.openings.is_below.Given as goal
 
 -- the rest of the climb decides

@@ -1,10 +1,6 @@
 -- what each closure gives is what the definition does
-use Rattle.std.proofs.Common.{◌≡◌, map, rules, tests}
-use Rattle.std.specs.Prelude.{filter_map}
-use Rattle.std.proofs.lemmas.Iterator.{items_from_collect, YieldsList-from_slice}
-use Rattle.std.proofs.lemmas.Iterator.Consumers.{YieldsList-from_filter_map}
-use Rattle.pua_policy.specs.History.{History, StandsFor}
-use Rattle.pua_ever.specs.Openings.{name_opening}
+use Rattle.pua_ever.proofs.Common.{◌≡◌, map, rules, tests, filter_map, items_from_collect, YieldsList-from_slice}
+use Rattle.pua_ever.proofs.Common.{YieldsList-from_filter_map, History, StandsFor, name_opening}
 use Rattle.pua_ever.proofs.Picked.{for_each, picked_now}
 use Rattle.pua_ever.proofs.openings.name_openings.Goals as goal
 

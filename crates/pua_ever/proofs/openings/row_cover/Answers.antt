@@ -1,5 +1,4 @@
-use Rattle.std.proofs.Common.{refl, sym, subst, ◌∙◌}
-use Rattle.pua_policy.specs.Verdict.{FoundFits, cover}
+use Rattle.pua_ever.proofs.Common.{refl, sym, subst, ◌∙◌, FoundFits, cover}
 use Rattle.pua_ever.proofs.Covers.{row_fits}
 use Rattle.pua_ever.proofs.openings.row_cover.Goals as goal
 

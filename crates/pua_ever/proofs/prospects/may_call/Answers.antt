@@ -1,9 +1,6 @@
-use Rattle.std.proofs.Common.{◌≡◌, rules, tests}
-use Rattle.std.proofs.lemmas.Iterator.{YieldsList-from_slice}
+use Rattle.pua_ever.proofs.Common.{◌≡◌, rules, tests, YieldsList-from_slice, rule_of, History, StandsFor, may_any, is_yes}
 use Rattle.std.proofs.lemmas.Iterator.Search.{any_from_yields_List}
-use Rattle.pua_calls.specs.Calls.{rule_of}
-use Rattle.pua_policy.specs.History.{History, StandsFor, may_any}
-use Rattle.pua_ever.specs.Ever.{is_yes, edit_calls}
+use Rattle.pua_ever.specs.Ever.{edit_calls}
 use Rattle.pua_ever.proofs.prospects.may_call.Goals as goal
 
 pub returns : goal.returns

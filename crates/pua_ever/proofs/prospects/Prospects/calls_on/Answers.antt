@@ -1,11 +1,6 @@
-use Rattle.std.proofs.Common.{◌≡◌, refl, sym, ap, subst, ◌∙◌}
-use Rattle.pua_tree.specs.Tree.{look}
-use Rattle.pua_path.specs.declared.found.Found.TheVariants.{Whole, Slot}
-use Rattle.pua_path.specs.declared.found.Way.TheVariants.{Named, Top}
-use Rattle.pua_objects.specs.Items.{SubjectFits, subject_given, object_on, cover_on}
-use Rattle.pua_objects.specs.Objects.{At}
-use Rattle.pua_objects.proofs.ForCallers.{covers_descend}
-use Rattle.pua_ever.specs.Ever.{is_ever_allowed}
+use Rattle.pua_ever.proofs.Common.{◌≡◌, refl, sym, ap, subst, ◌∙◌, look, Whole, Slot, Named, Top, SubjectFits, subject_given, At}
+use Rattle.pua_ever.proofs.Common.{covers_descend, is_ever_allowed}
+use Rattle.pua_objects.specs.Items.{object_on, cover_on}
 use Rattle.pua_ever.proofs.Named.{name_calls}
 use Rattle.pua_ever.proofs.prospects.Prospects.calls_on.Goals as goal
 

@@ -1,9 +1,4 @@
-use Rattle.std.proofs.Common.{refl, sym, ap, ◌∙◌}
-use Rattle.std.specs.Prelude.{◌&&◌, is_some}
-use Rattle.std.proofs.lemmas.Bool.{and_from}
-use Rattle.pua_tree.specs.Tree.{Spot, empty_tree}
-use Rattle.pua_policy.specs.Verdict.{IsMissing}
-use Rattle.pua_ever.specs.Ever.{may_edit, is_free, own_spot}
+use Rattle.pua_ever.proofs.Common.{refl, sym, ap, ◌∙◌, ◌&&◌, is_some, and_from, Spot, empty_tree, IsMissing, may_edit, is_free, own_spot}
 use Rattle.pua_ever.proofs.Named.{own_name_is, no_name, not_freed, freed}
 use Rattle.pua_ever.proofs.prospects.Prospects.calls_on_freed.Goals as goal
 

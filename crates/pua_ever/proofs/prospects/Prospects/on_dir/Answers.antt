@@ -1,15 +1,7 @@
-use Rattle.std.proofs.Common.{◌≡◌, true, false, sym, ap, ◌∙◌}
-use Rattle.std.specs.Prelude.{◌&&◌, ◌==◌, not, is_none, if◌then◌else◌}
-use Rattle.std.specs.List.{list_any}
-use Rattle.pua_tree.specs.Tree.{empty_tree}
-use Rattle.pua_calls.specs.CallSets.{has}
-use Rattle.pua_policy.specs.History.{perms_kept}
-use Rattle.pua_policy.specs.Verdict.{covered_verdict, is_allowed}
+use Rattle.pua_ever.proofs.Common.{◌≡◌, true, false, sym, ap, ◌∙◌, ◌&&◌, ◌==◌, not, is_none, if◌then◌else◌, list_any, empty_tree, has}
+use Rattle.pua_ever.proofs.Common.{perms_kept, covered_verdict, is_allowed, has_c, cover_in, may_edit, is_named_way}
 use Rattle.pua_policy.specs.declared.object.Object.TheVariants as see
 use Rattle.pua_policy.specs.declared.place.Place.TheVariants as place
-use Rattle.pua_script.specs.Confinement.{has_c}
-use Rattle.pua_objects.specs.Objects.{cover_in}
-use Rattle.pua_ever.specs.Ever.{may_edit, is_named_way}
 use Rattle.pua_ever.proofs.Prospected.{moved_calls, still_calls}
 use Rattle.pua_ever.proofs.prospects.Prospects.on_dir.Goals as goal
 
