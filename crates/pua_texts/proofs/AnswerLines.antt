@@ -1,10 +1,10 @@
 -- The lines of answers, one after another.
-use Rattle.std.proofs.Common.{◌≡◌, ℕ, suc, ◌+◌, ◌<◌, List, ◌∷◌, ◌++◌, drop, get_or, length, sym, ap, ◌∙◌, arith}
+use Rattle.pua_texts.proofs.Common.{◌≡◌, ℕ, suc, ◌+◌, ◌<◌, List, ◌∷◌, ◌++◌, drop, get_or, length, sym, ap, ◌∙◌, arith, drop_more, with_end}
 use Rattle.std.specs.Prelude.{decimal}
-use Rattle.std.proofs.lemmas.List.{append_assoc, drop_more}
+use Rattle.std.proofs.lemmas.List.{append_assoc}
 use Rattle.pua_script.specs.AnswerTexts.{answer_text}
 use Rattle.pua_script.specs.declared.answer.Answer.{Answer}
-use Rattle.pua_texts.specs.Lines.{answer_line, answer_lines, with_end}
+use Rattle.pua_texts.specs.Lines.{answer_line, answer_lines}
 
 -- the line of the next answer, with its number, is added behind those before it
 pub answer_added : (told : List Answer) (i : ℕ) (d : Answer) (text digits new : List ℕ) → i < length told → digits ≡ decimal (i + 1)

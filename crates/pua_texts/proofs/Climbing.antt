@@ -1,14 +1,11 @@
 -- The names that lead to a place, row by row.
-use Rattle.std.proofs.Common.{◌≡◌, ℕ, zero, suc, List, [], ◌∷◌, ◌++◌, map, length, sym, ap, ◌∙◌, append_assoc, append-nil}
-use Rattle.std.specs.Prelude.{Some, None, reverse}
-use Rattle.std.proofs.lemmas.List.{length-map}
-use Rattle.pua_policy.specs.declared.place.Place.{Place}
-use Rattle.std.specs.Option.{option_map_or}
-use Rattle.std.specs.Borrow.{Bor}
-use Rattle.pua_tree.specs.Tree.{Tree, spot_of}
+use Rattle.pua_texts.proofs.Common.{◌≡◌, ℕ, suc, List, [], ◌∷◌, ◌++◌, map, length, sym, ap, ◌∙◌, append_assoc, append-nil, Some, None}
+use Rattle.pua_texts.proofs.Common.{reverse, length-map, Place, option_map_or, Bor, Tree, names_up, place_dir, place_names}
+use Rattle.std.proofs.Common.{zero}
+use Rattle.pua_tree.specs.Tree.{spot_of}
 use Rattle.pua_tree.specs.LentRows.{lent_entry}
 use Rattle.pua_tree.specs.declared.tree.LentRow.{LentRow}
-use Rattle.pua_texts.specs.States.{names_up, own_name, place_dir, place_names}
+use Rattle.pua_texts.specs.States.{own_name}
 use Rattle.pua_tree.proofs.ForCallers.{map-reverse}
 
 -- a name more, of a directory that stands in a row

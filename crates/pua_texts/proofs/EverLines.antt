@@ -1,23 +1,14 @@
 -- The lines of the list for ever, step by step.
-use Rattle.std.proofs.Common.{◌≡◌, ℕ, List, [], ◌∷◌, ◌++◌, ◌∙◌, ap, map, sym, subst}
-use Rattle.std.specs.Prelude.{codes}
-use Rattle.std.specs.Borrow.{Bor}
-use Rattle.pua_tree.specs.Tree.{Tree}
-use Rattle.pua_calls.specs.Calls.{CallTable, call_name}
-use Rattle.pua_calls.specs.CallSets.{calls_in}
-use Rattle.pua_policy.specs.History.{History, ProcessState, StandsFor}
-use Rattle.pua_audit.specs.Reach.{Word, printed_path}
-use Rattle.pua_audit.specs.declared.base.Base.TheVariants.{Root}
-use Rattle.pua_objects.specs.Lines.{kind_word}
-use Rattle.pua_objects.specs.Objects.{with_commas}
+use Rattle.pua_texts.proofs.Common.{◌≡◌, ℕ, List, [], ◌∷◌, ◌++◌, ◌∙◌, ap, map, sym, subst, codes, Bor, Tree, CallTable, call_name, calls_in}
+use Rattle.pua_texts.proofs.Common.{History, ProcessState, StandsFor, Word, printed_path, Root, kind_word, with_commas, ever_lines_of}
+use Rattle.pua_texts.proofs.Common.{ever_lines, with_end}
 use Rattle.pua_ever.specs.Ever.{Thing, Stands, Comes, thing_text}
-use Rattle.pua_ever.specs.EverLines.{IsThing, IsEverListed, HasNoEverLine, ever_lines_of}
+use Rattle.pua_ever.specs.EverLines.{IsThing, IsEverListed, HasNoEverLine}
 use Rattle.pua_ever.specs.EverState.{Left}
 use Rattle.pua_ever.specs.declared.line.EverLine as given
 use Rattle.pua_ever.specs.declared.line.EverThing.{EverThing}
 use Rattle.pua_ever.specs.declared.line.EverThing.TheVariants as told
-use Rattle.pua_texts.specs.EverLines.{ever_lines, kind_of, path_or_new}
-use Rattle.pua_texts.specs.Lines.{with_end}
+use Rattle.pua_texts.specs.EverLines.{kind_of, path_or_new}
 
 -- the line of a thing, by what the code gives of it
 abbrev pub text_given : given.EverLine → List (Bor (List ℕ)) → List ℕ

@@ -1,13 +1,13 @@
 -- What of a path is kept from line to line.
-use Rattle.std.proofs.Common.{◌≡◌, ◌⊎◌, inl, inr, ◌<◌, ◌≤◌, ◌+◌, ◌∷◌, ◌++◌, [], ℕ, List, length, take, drop, get_or, refl, sym, ap, ◌∙◌}
-use Rattle.std.proofs.Common.{length-append, append_assoc, append-nil, arith}
-use Rattle.std.proofs.lemmas.List.{length-take-le, take-append-drop, take_at, take_more, get_or-take, get_or_append_left, take-take}
+use Rattle.pua_texts.proofs.Common.{◌≡◌, ◌<◌, ◌≤◌, ◌+◌, ◌∷◌, ◌++◌, [], ℕ, List, length, take, drop, get_or, refl, sym, ap, ◌∙◌}
+use Rattle.pua_texts.proofs.Common.{append_assoc, append-nil, arith, take_more, spelling, Word, from_root, KeptPathState, IsKept}
+use Rattle.std.proofs.Common.{◌⊎◌, inl, inr}
+use Rattle.std.proofs.Common.{length-append}
+use Rattle.std.proofs.lemmas.List.{length-take-le, take-append-drop, take_at, get_or-take, get_or_append_left, take-take}
 use Rattle.std.proofs.Math.Seq.{get_or-append_seam}
 use Rattle.std.proofs.lemmas.Bool.{cases_order}
-use Rattle.pua_tree.specs.Spelling.{spelling}
-use Rattle.pua_audit.specs.Reach.{Word, from_root}
 use Rattle.pua_objects.proofs.ForCallers.{less_same}
-use Rattle.pua_texts.specs.KeptPaths.{KeptPathState, IsKept, printed_front}
+use Rattle.pua_texts.specs.KeptPaths.{printed_front}
 use Rattle.pua_texts.proofs.ObjectLines.{name_next}
 
 abbrev printed : Word → List ℕ

@@ -1,15 +1,14 @@
 -- The keywords of a set of promises, one after another.
-use Rattle.std.proofs.Common.{◌≡◌, ℕ, ◌+◌, ◌<◌, ◌≤◌, List, [], ◌∷◌, ◌++◌, Bool, true, false, cond, map, drop, length, get_or, refl, sym, ap}
-use Rattle.std.proofs.Common.{◌∙◌, append_assoc, append-nil, arith}
-use Rattle.std.specs.Prelude.{Option, Some, None, filter, codes, slice_get, nat_le, if◌then◌else◌}
+use Rattle.pua_texts.proofs.Common.{◌≡◌, ℕ, ◌+◌, ◌<◌, ◌≤◌, List, [], ◌∷◌, ◌++◌, Bool, true, false, cond, map, drop, length, get_or, refl}
+use Rattle.pua_texts.proofs.Common.{sym, ap, ◌∙◌, append_assoc, append-nil, arith, Option, Some, None, filter, codes, if◌then◌else◌}
+use Rattle.pua_texts.proofs.Common.{drop_more, drop_of_length-le, promises_text}
+use Rattle.std.specs.Prelude.{slice_get, nat_le}
 use Rattle.std.specs.List.{list_all}
 use Rattle.std.proofs.lemmas.Bool.{leb-true}
-use Rattle.std.proofs.lemmas.List.{drop_more}
 use Rattle.std.proofs.lemmas.List.Folds.{list_all_at}
 use Rattle.std.proofs.lemmas.Option.{slice_get-get_or, slice_get_within, get_or_from_slice_get}
-use Rattle.std.proofs.Math.ListN.{drop_of_length-le}
 use Rattle.pua_calls.specs.Promises.{holds, keyword_at, keyword_if, keyword_rows, keywords_of}
-use Rattle.pua_why.specs.Texts.{or_equals, promises_text, joined_words as joined_by}
+use Rattle.pua_why.specs.Texts.{or_equals, joined_words as joined_by}
 use Rattle.pua_texts.proofs.ObjectLines.{joined}
 
 -- a keyword with its bit

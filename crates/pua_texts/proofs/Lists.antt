@@ -1,13 +1,8 @@
 -- Lists that were begun, one after another.
-use Rattle.std.proofs.Common.{◌≡◌, ℕ, List, [], ◌∷◌, ◌++◌, refl, sym, ap, ◌∙◌, subst}
-use Rattle.std.specs.Prelude.{Option, Some, None, Ok, Err, flat_map}
-use Rattle.std.specs.Option.{option_map_or}
-use Rattle.pua_tree.specs.Tree.{Tree}
-use Rattle.pua_calls.specs.Calls.{CallTable}
-use Rattle.pua_policy.specs.History.{History}
-use Rattle.pua_texts.specs.Lists.{ListState, IsListOf, BeginsBy, AreListsBy}
-use Rattle.pua_texts.specs.Blocks.{Passes}
-use Rattle.pua_io.specs.declared.sink.PutFault.{PutFault}
+use Rattle.pua_texts.proofs.Common.{◌≡◌, ℕ, List, [], ◌∷◌, ◌++◌, refl, sym, ap, ◌∙◌, subst, Option, Some, None, flat_map, option_map_or}
+use Rattle.pua_texts.proofs.Common.{Tree, CallTable, History, ListState, IsListOf, Passes, PutFault}
+use Rattle.std.specs.Prelude.{Ok, Err}
+use Rattle.pua_texts.specs.Lists.{BeginsBy, AreListsBy}
 use Rattle.pua_texts.proofs.Passing.{Passing, passes_none, passing_more, passing_fails, passing_last}
 
 -- the same list by other names

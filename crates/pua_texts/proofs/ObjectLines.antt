@@ -1,27 +1,15 @@
 -- The lines of lists, step by step.
-use Rattle.std.proofs.Common.{◌≡◌, ℕ, ◌+◌, List, [], ◌∷◌, ◌++◌, ◌<◌, ◌≤◌, ◌∙◌, slice_index_or, get_or, subst, refl, sym, ap, map, drop}
-use Rattle.std.proofs.Common.{length, append_assoc, append-nil, Bool, true, false, cond}
-use Rattle.std.specs.Prelude.{filter, ◌==◌}
+use Rattle.pua_texts.proofs.Common.{◌≡◌, ℕ, ◌+◌, List, [], ◌∷◌, ◌++◌, ◌<◌, ◌≤◌, ◌∙◌, slice_index_or, get_or, subst, refl, sym, ap, map}
+use Rattle.pua_texts.proofs.Common.{drop, length, append_assoc, append-nil, Bool, true, false, cond, filter, ◌==◌, drop_more}
+use Rattle.pua_texts.proofs.Common.{drop_of_length-le, spelling, CallTable, call_name, calls, has, calls_in, Call, Stat, History}
+use Rattle.pua_texts.proofs.Common.{ProcessState, StandsFor, Tree, Word, from_root, printed_path, Root, kind_word, with_commas, lines_of}
+use Rattle.pua_texts.proofs.Common.{Bor, with_end, object_lines}
 use Rattle.std.proofs.lemmas.Grind.{flat_map-append}
 use Rattle.std.proofs.lemmas.Bool.{true≢false}
-use Rattle.std.proofs.lemmas.List.{drop_more}
-use Rattle.std.proofs.Math.ListN.{drop_of_length-le}
-use Rattle.pua_tree.specs.Spelling.{byte_spelling, spelling}
-use Rattle.pua_calls.specs.Calls.{CallTable, call_name, calls}
-use Rattle.pua_calls.specs.CallSets.{has, calls_in}
-use Rattle.pua_calls.specs.declared.call.Call.{Call}
-use Rattle.pua_calls.specs.declared.call.Call.TheVariants.{Stat}
-use Rattle.pua_policy.specs.History.{History, ProcessState, StandsFor}
-use Rattle.pua_tree.specs.Tree.{Tree}
-use Rattle.pua_audit.specs.Reach.{Word, from_root, printed_path}
-use Rattle.pua_audit.specs.declared.base.Base.TheVariants.{Root}
-use Rattle.pua_objects.specs.Lines.{kind_word}
-use Rattle.pua_objects.specs.Objects.{Item, with_commas}
-use Rattle.pua_objects.specs.Ready.{IsLineListed, HasNoLine, lines_of}
+use Rattle.pua_tree.specs.Spelling.{byte_spelling}
+use Rattle.pua_objects.specs.Objects.{Item}
+use Rattle.pua_objects.specs.Ready.{IsLineListed, HasNoLine}
 use Rattle.pua_objects.specs.declared.line.ObjectLine.{ObjectLine}
-use Rattle.std.specs.Borrow.{Bor}
-use Rattle.pua_texts.specs.Lines.{with_end}
-use Rattle.pua_texts.specs.ObjectLines.{object_lines}
 
 -- a path from the root goes on with a slash and a spelled name
 pub name_next : (name : List ℕ) (word : Word) → spelling (from_root (name ∷ word)) ≡ (47 ∷ spelling name) ++ spelling (from_root word)

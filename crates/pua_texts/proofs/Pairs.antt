@@ -1,15 +1,13 @@
 -- The lines of pairs, in blocks.
-use Rattle.std.proofs.Common.{◌≡◌, ℕ, ◌+◌, List, [], ◌∷◌, ◌++◌, length, take, refl, sym, ap, ◌∙◌, append_assoc}
+use Rattle.pua_texts.proofs.Common.{◌≡◌, ℕ, ◌+◌, List, [], ◌∷◌, ◌++◌, length, take, refl, sym, ap, ◌∙◌, append_assoc, spelling, call_name}
+use Rattle.pua_texts.proofs.Common.{Call, Word, with_end, pair_lines}
 use Rattle.std.specs.Prelude.{IsTrue}
 use Rattle.std.specs.List.{list_all}
 use Rattle.std.proofs.lemmas.Bool.{and_parts}
 use Rattle.std.proofs.Math.Seq.{take-append-add}
-use Rattle.pua_tree.specs.Spelling.{is_plain, byte_spelling, spelling}
-use Rattle.pua_calls.specs.Calls.{call_name}
-use Rattle.pua_calls.specs.declared.call.Call.{Call}
-use Rattle.pua_audit.specs.Reach.{Word, Pair, path_of}
+use Rattle.pua_tree.specs.Spelling.{is_plain, byte_spelling}
+use Rattle.pua_audit.specs.Reach.{Pair, path_of}
 use Rattle.pua_audit.specs.declared.base.Base.{Base}
-use Rattle.pua_texts.specs.Lines.{with_end, pair_lines}
 
 -- the first pair's line stands before those of the others
 pub first_line : (base : Base) (word : Word) (call : Call) (path : List ℕ) (left more : List Pair) → path ≡ path_of base word →

@@ -1,10 +1,10 @@
 -- Texts that are added to a block, one after another.
-use Rattle.std.proofs.Common.{◌≡◌, ℕ, List, [], ◌++◌, Option, Result, Ok, Err, refl, sym, ap, ◌∙◌, subst, append_assoc, append-nil}
+use Rattle.pua_texts.proofs.Common.{◌≡◌, ℕ, List, [], ◌++◌, Ok, Err, refl, sym, ap, ◌∙◌, subst, append_assoc, append-nil, Passes, PutFault}
+use Rattle.std.proofs.Common.{Option, Result}
 use Rattle.std.specs.Prelude.{OnOk, OnErr}
 use Rattle.std.proofs.KnownBytes.{Appends-nil, Appends-trans}
 use Rattle.pua_io.specs.Sinks.{Adds, AddsFront, HasFailed, Writes}
-use Rattle.pua_texts.specs.Blocks.{HandsOn, Passes}
-use Rattle.pua_io.specs.declared.sink.PutFault.{PutFault}
+use Rattle.pua_texts.specs.Blocks.{HandsOn}
 use Rattle.pua_io.proofs.ForCallers.{writes_then, writes_front}
 
 -- no text

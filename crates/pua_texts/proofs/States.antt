@@ -1,16 +1,13 @@
 -- What a list says of a state, against what the code has of it.
-use Rattle.std.proofs.Common.{◌≡◌, ℕ, ◌+◌, ◌<◌, ◌≤◌, Bool, true, false, List, [], ◌∷◌, ◌++◌, length, map, drop, slice_index_or, get_or}
-use Rattle.std.proofs.Common.{refl, sym, ap, ◌∙◌, inl, inr, ◌⊎◌, true≢false, append_assoc, append-nil}
-use Rattle.std.specs.Prelude.{codes, reverse, ◌↔◌, ◌==◌, if◌then◌else◌}
-use Rattle.std.proofs.lemmas.List.{drop_more}
-use Rattle.std.proofs.Math.ListN.{drop_of_length-le}
-use Rattle.std.specs.Borrow.{Bor}
-use Rattle.pua_tree.specs.Tree.{Tree, is_dir}
-use Rattle.pua_calls.specs.Promises.{holds, unveil, perm_letters}
+use Rattle.pua_texts.proofs.Common.{◌≡◌, ℕ, ◌+◌, ◌<◌, ◌≤◌, Bool, true, false, List, [], ◌∷◌, ◌++◌, length, map, drop, slice_index_or}
+use Rattle.pua_texts.proofs.Common.{get_or, refl, sym, ap, ◌∙◌, append_assoc, append-nil, codes, reverse, ◌==◌, if◌then◌else◌, drop_more}
+use Rattle.pua_texts.proofs.Common.{drop_of_length-le, Bor, Tree, is_dir, perm_letters, Place, Word, or_equals, path_or_hyphen, place_dir}
+use Rattle.pua_texts.proofs.Common.{place_names, veil_lines}
+use Rattle.std.proofs.Common.{inl, inr, ◌⊎◌, true≢false}
+use Rattle.std.specs.Prelude.{◌↔◌}
+use Rattle.pua_calls.specs.Promises.{holds, unveil}
 use Rattle.pua_policy.specs.History.{held_set, is_locked}
-use Rattle.pua_policy.specs.declared.place.Place.{Place}
-use Rattle.pua_audit.specs.Reach.{Word}
-use Rattle.pua_texts.specs.States.{ConfinedIsPrinted, or_equals, path_or_hyphen, place_dir, place_names, veil_place_text, veil_lines}
+use Rattle.pua_texts.specs.States.{ConfinedIsPrinted, veil_place_text}
 use Rattle.pua_texts.proofs.ObjectLines.{joined, line_parts}
 
 -- the word by whether the process is locked and holds `unveil`

@@ -1,22 +1,20 @@
 -- Since which lines the veils of a process have their letters.
-use Rattle.std.proofs.Common.{◌≡◌, ℕ, ◌+◌, ◌<◌, List, [], ◌∷◌, ◌++◌, Bool, true, false, cond, map, take, drop, length, get_or, min, refl}
-use Rattle.std.proofs.Common.{sym, ap, ◌∙◌, subst, arith}
-use Rattle.std.specs.Prelude.{⊤, Option, Some, None, flat_map}
-use Rattle.std.specs.Option.{option_map_or}
-use Rattle.std.proofs.lemmas.List.{drop_more, length-append, length-map, map-append}
+use Rattle.pua_texts.proofs.Common.{◌≡◌, ℕ, ◌+◌, ◌<◌, List, [], ◌∷◌, ◌++◌, Bool, true, false, cond, map, take, drop, length, get_or, refl}
+use Rattle.pua_texts.proofs.Common.{sym, ap, ◌∙◌, subst, arith, Option, Some, None, flat_map, option_map_or, drop_more, length-map}
+use Rattle.pua_texts.proofs.Common.{map-append, History, ProcessState, StandsFor, veils, Place, history_of, veil_date, veils_at, veil_dates}
+use Rattle.pua_texts.proofs.Common.{Posed, world_left}
+use Rattle.std.proofs.Common.{min}
+use Rattle.std.specs.Prelude.{⊤}
+use Rattle.std.proofs.lemmas.List.{length-append}
 use Rattle.std.proofs.Math.Seq.{take-append_seam, drop-append_seam}
-use Rattle.pua_policy.specs.History.{History, Pledged, Unveiled, Locked, Moved, Ended, ProcessState, StandsFor, perms_kept, same_place}
-use Rattle.pua_policy.specs.History.{veil_at, veils, with_veil}
-use Rattle.pua_policy.specs.declared.place.Place.{Place}
+use Rattle.pua_policy.specs.History.{Pledged, Unveiled, Locked, Moved, Ended, perms_kept, same_place}
+use Rattle.pua_policy.specs.History.{veil_at, with_veil}
 use Rattle.pua_policy.proofs.ForCallers.{veils_are_kept, same_place_is, same_place_refl, still_unveiled, same_place_turned}
-use Rattle.pua_script.specs.Replay.{history_of}
 use Rattle.pua_script.specs.Worlds.{WorldState, process_at}
 use Rattle.pua_why.specs.Since.{since}
 use Rattle.pua_why.specs.Texts.{has_veil_on}
-use Rattle.pua_since.specs.Dates.{letters_date, veil_date, veils_at, veils_of}
+use Rattle.pua_since.specs.Dates.{letters_date, veils_of}
 use Rattle.pua_since.specs.Watched.{kept_in}
-use Rattle.pua_texts.specs.VeilDates.{veil_dates}
-use Rattle.pua_texts.specs.WhyLines.{Posed, world_left}
 
 -- no place has two veils
 abbrev AreApart : List (Place × ℕ) → Type 0

@@ -1,35 +1,29 @@
 -- What stands behind lines: veils, and the promises on which calls rest.
-use Rattle.std.proofs.Common.{◌≡◌, ℕ, zero, suc, ◌+◌, ◌<◌, ◌≤◌, List, [], ◌∷◌, ◌++◌, Bool, true, false, cond, map, drop, take, length}
-use Rattle.std.proofs.Common.{get_or, slice_index_or, refl, sym, ap, ◌∙◌, arith}
-use Rattle.std.specs.Prelude.{Option, Some, None, filter, bit_or, if◌then◌else◌}
+use Rattle.pua_texts.proofs.Common.{◌≡◌, ℕ, suc, ◌+◌, ◌<◌, ◌≤◌, List, [], ◌∷◌, ◌++◌, Bool, true, false, cond, map, drop, take, length}
+use Rattle.pua_texts.proofs.Common.{get_or, slice_index_or, refl, sym, ap, ◌∙◌, arith, Option, Some, None, filter, bit_or, if◌then◌else◌}
+use Rattle.pua_texts.proofs.Common.{Bor, drop_more, take_more, map-append, length-map, drop_of_length-le, Tree, is_dir, CallTable, calls}
+use Rattle.pua_texts.proofs.Common.{has, History, veils, Call, Stat, Place, SubjectFits, resting_on, IsAmongVeils, covering_behind, text_at}
+use Rattle.pua_texts.proofs.Common.{veils_behind, Posed, covering_on, world_left, veil_dates}
+use Rattle.std.proofs.Common.{zero}
 use Rattle.std.specs.List.{list_any}
-use Rattle.std.specs.Borrow.{Bor}
 use Rattle.std.specs.Int.Bits.{or_zero_r}
-use Rattle.std.proofs.lemmas.List.{drop_more, take_more, map-append, get_or-map, length-map}
-use Rattle.std.proofs.Math.ListN.{drop_of_length-le}
-use Rattle.pua_tree.specs.Tree.{Tree, WellFormed, is_dir, above, climb}
+use Rattle.std.proofs.lemmas.List.{get_or-map}
+use Rattle.pua_tree.specs.Tree.{WellFormed, above, climb}
 use Rattle.pua_path.specs.Fits.{FoundFits}
 use Rattle.pua_path.specs.declared.found.Way.TheVariants.{Top}
 use Rattle.pua_path.specs.declared.found.Found.{Found}
 use Rattle.pua_path.specs.declared.found.Found.TheVariants.{Whole}
-use Rattle.pua_calls.specs.Calls.{CallTable, calls, rule_of}
-use Rattle.pua_calls.specs.CallSets.{has}
-use Rattle.pua_policy.specs.History.{History, perms_kept, same_place, veil_at, veils}
+use Rattle.pua_calls.specs.Calls.{rule_of}
+use Rattle.pua_policy.specs.History.{perms_kept, same_place, veil_at}
 use Rattle.pua_policy.specs.Laws.{places_over}
 use Rattle.pua_policy.specs.Reasons.{covering, first_kept, kept_or, promising}
 use Rattle.pua_policy.specs.Verdict.{is_unveil}
-use Rattle.pua_calls.specs.declared.call.Call.{Call}
-use Rattle.pua_calls.specs.declared.call.Call.TheVariants.{Stat}
-use Rattle.pua_policy.specs.declared.place.Place.{Place}
 use Rattle.pua_policy.specs.declared.place.Place.TheVariants.{Dir}
 use Rattle.pua_policy.specs.declared.reason.Covering.TheVariants.{InView, NoneOver, By}
 use Rattle.pua_policy.proofs.ForCallers.{climb_root, climb_step, same_place_is, veils_are_kept, same_place_turned}
 use Rattle.pua_objects.specs.Objects.{Subject, At, Others}
-use Rattle.pua_objects.specs.Items.{SubjectFits}
-use Rattle.pua_why.specs.Columns.{covering_in, let_by, resting_on}
-use Rattle.pua_texts.specs.WhyLists.{IsAmongVeils, VeilState, covering_behind, found_on, text_at, veil_behind, veil_kept, veils_behind}
-use Rattle.pua_texts.specs.WhyLines.{Posed, covering_on, world_left}
-use Rattle.pua_texts.specs.VeilDates.{veil_dates}
+use Rattle.pua_why.specs.Columns.{covering_in, let_by}
+use Rattle.pua_texts.specs.WhyLists.{VeilState, found_on, veil_behind, veil_kept}
 use Rattle.pua_why.specs.Since.{since}
 use Rattle.pua_why.specs.Texts.{has_veil_on}
 use Rattle.pua_texts.proofs.States.{shown}

@@ -1,25 +1,20 @@
 -- The lines of items with reasons, one after another.
-use Rattle.std.proofs.Common.{◌≡◌, ◌≢◌, ℕ, List, [], ◌∷◌, ◌++◌, Bool, true, false, cond, length, map, refl, sym, ap, subst, ◌∙◌}
-use Rattle.std.proofs.Common.{append_assoc, append-nil, arith}
-use Rattle.std.specs.Prelude.{filter, flat_map, nat_lt}
+use Rattle.pua_texts.proofs.Common.{◌≡◌, ℕ, List, [], ◌∷◌, ◌++◌, Bool, true, false, cond, length, map, refl, sym, ap, subst, ◌∙◌}
+use Rattle.pua_texts.proofs.Common.{append_assoc, append-nil, arith, filter, flat_map, Tree, CallTable, call_name, calls, calls_in, History}
+use Rattle.pua_texts.proofs.Common.{ProcessState, StandsFor, Call, Word, printed_path, Root, with_commas, SubjectFits, subject_given}
+use Rattle.pua_texts.proofs.Common.{kind_word, lines_of, resting_on, promises_text, covering_behind, why_items, Posed, covering_on}
+use Rattle.pua_texts.proofs.Common.{world_left}
+use Rattle.std.proofs.Common.{◌≢◌}
+use Rattle.std.specs.Prelude.{nat_lt}
 use Rattle.std.proofs.lemmas.Bool.{lt-ltb}
-use Rattle.pua_tree.specs.Tree.{Tree}
-use Rattle.pua_calls.specs.Calls.{CallTable, call_name, calls}
-use Rattle.pua_calls.specs.CallSets.{calls_in}
-use Rattle.pua_policy.specs.History.{History, ProcessState, StandsFor}
-use Rattle.pua_calls.specs.declared.call.Call.{Call}
-use Rattle.pua_audit.specs.Reach.{Word, printed_path}
-use Rattle.pua_audit.specs.declared.base.Base.TheVariants.{Root}
-use Rattle.pua_objects.specs.Objects.{Subject, Item, Line, line_of, has_calls, calls_on, with_commas}
-use Rattle.pua_objects.specs.Items.{IsFirst, IsItemOn, SubjectFits, subject_given}
-use Rattle.pua_objects.specs.Lines.{IsLineOn, kind_word}
-use Rattle.pua_objects.specs.Ready.{lines_of}
+use Rattle.pua_objects.specs.Objects.{Subject, Item, Line, line_of, has_calls, calls_on}
+use Rattle.pua_objects.specs.Items.{IsFirst, IsItemOn}
+use Rattle.pua_objects.specs.Lines.{IsLineOn}
 use Rattle.pua_objects.specs.declared.item.Item as given
 use Rattle.pua_objects.specs.declared.line.ObjectLine.{ObjectLine}
-use Rattle.pua_why.specs.Columns.{resting_on, veil_columns}
-use Rattle.pua_why.specs.Texts.{promises_text}
-use Rattle.pua_texts.specs.WhyLists.{covering_behind, item_at, why_items}
-use Rattle.pua_texts.specs.WhyLines.{Posed, covering_on, why_line, world_left}
+use Rattle.pua_why.specs.Columns.{veil_columns}
+use Rattle.pua_texts.specs.WhyLists.{item_at}
+use Rattle.pua_texts.specs.WhyLines.{why_line}
 use Rattle.pua_texts.proofs.ObjectLines.{parts_before}
 
 -- the line of an item, where the code has its calls

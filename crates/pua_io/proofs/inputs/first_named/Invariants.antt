@@ -1,4 +1,5 @@
-use Rattle.std.proofs.Common.{◌≡◌, drop, map}
+use Rattle.pua_io.proofs.Common.{◌≡◌}
+use Rattle.std.proofs.Common.{drop, map}
 use Rattle.pua_io.specs.Named.{kept_under}
 use Rattle.pua_io.proofs.inputs.first_named.Given as goal
 

@@ -1,4 +1,4 @@
-use Rattle.std.proofs.Common.{string_bytes}
+use Rattle.pua_texts.proofs.Common.{string_bytes}
 use Rattle.pua_texts.proofs.AnswerLines.{answer_added}
 use Rattle.pua_texts.proofs.answers.answer_text.Goals as goal
 

@@ -1,4 +1,4 @@
-use Rattle.std.proofs.Common.{◌≡◌, ◌++◌, suc, drop, string_bytes}
+use Rattle.pua_texts.proofs.Common.{◌≡◌, ◌++◌, suc, drop, string_bytes}
 use Rattle.pua_texts.specs.Lines.{answer_lines}
 use Rattle.pua_texts.proofs.answers.answer_text.Given as goal
 

@@ -1,6 +1,4 @@
-use Rattle.std.proofs.Common.{List, ℕ, ◌++◌, subst}
-use Rattle.pua_texts.specs.Blocks.{Passes}
-use Rattle.pua_texts.specs.Lines.{pair_lines}
+use Rattle.pua_texts.proofs.Common.{List, ℕ, ◌++◌, subst, Passes, pair_lines}
 use Rattle.pua_texts.proofs.audit_list.write_audit.Goals as goal
 
 pub returns : goal.returns

@@ -1,10 +1,6 @@
-use Rattle.std.proofs.Common.{List, ℕ, ◌∷◌, ◌++◌, [], Ok, Err, codes, map, subst}
-use Rattle.std.proofs.lemmas.Result.{err_from_is_err_and}
-use Rattle.pua_calls.specs.Calls.{call_name}
-use Rattle.pua_calls.specs.CallSets.{calls_in}
-use Rattle.pua_objects.specs.Lines.{kind_word}
-use Rattle.pua_objects.specs.Objects.{with_commas}
-use Rattle.pua_texts.specs.Blocks.{Passes}
+use Rattle.pua_texts.proofs.Common.{List, ℕ, ◌∷◌, ◌++◌, [], Ok, Err, map, subst, err_from_is_err_and, call_name, calls_in, kind_word}
+use Rattle.pua_texts.proofs.Common.{with_commas, Passes}
+use Rattle.std.proofs.Common.{codes}
 use Rattle.pua_texts.proofs.Passing.{passes_then, passes_front}
 use Rattle.pua_texts.proofs.ObjectLines.{line_parts}
 use Rattle.pua_texts.proofs.ever_line.add_coming.Goals as goal

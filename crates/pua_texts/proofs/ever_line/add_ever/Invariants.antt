@@ -1,8 +1,4 @@
-use Rattle.std.proofs.Common.{◌≡◌, length}
-use Rattle.pua_policy.specs.History.{History, StandsFor}
-use Rattle.pua_ever.specs.EverLines.{ever_lines_of}
-use Rattle.pua_texts.specs.EverLines.{ever_lines}
-use Rattle.pua_texts.specs.KeptPaths.{IsKept}
+use Rattle.pua_texts.proofs.Common.{◌≡◌, length, History, StandsFor, ever_lines_of, ever_lines, IsKept}
 use Rattle.pua_texts.proofs.Passing.{Passing}
 use Rattle.pua_texts.proofs.ever_line.add_ever.Given as goal
 

@@ -1,11 +1,7 @@
-use Rattle.std.proofs.Common.{List, ℕ, ◌++◌, [], Ok, Err, ap, subst, ◌∙◌}
-use Rattle.std.specs.Prelude.{codes}
-use Rattle.std.proofs.lemmas.Result.{err_from_is_err_and}
+use Rattle.pua_texts.proofs.Common.{List, ℕ, ◌++◌, [], Ok, Err, ap, subst, ◌∙◌, codes, err_from_is_err_and, ever_lines_of, Passes}
+use Rattle.pua_texts.proofs.Common.{ever_lines, head_lines}
 use Rattle.pua_ever.specs.Ever.{ever}
-use Rattle.pua_ever.specs.EverLines.{ever_lines_of}
-use Rattle.pua_texts.specs.Blocks.{Passes}
-use Rattle.pua_texts.specs.EverLines.{ever_lines, ever_list}
-use Rattle.pua_texts.specs.States.{head_lines}
+use Rattle.pua_texts.specs.EverLines.{ever_list}
 use Rattle.pua_texts.proofs.Passing.{passes_then, passes_front}
 use Rattle.pua_texts.proofs.ever_list.add_list.Goals as goal
 

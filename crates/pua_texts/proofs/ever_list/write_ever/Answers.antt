@@ -1,6 +1,4 @@
-use Rattle.std.proofs.Common.{List, ℕ, ◌++◌, subst}
-use Rattle.pua_tree.specs.Tree.{Tree}
-use Rattle.pua_texts.specs.Blocks.{Passes}
+use Rattle.pua_texts.proofs.Common.{List, ℕ, ◌++◌, subst, Tree, Passes}
 use Rattle.pua_texts.specs.EverLines.{ever_list}
 use Rattle.pua_texts.specs.EverLists.{IsEverOf}
 use Rattle.pua_texts.proofs.ever_list.write_ever.Goals as goal

@@ -1,5 +1,4 @@
-use Rattle.std.proofs.Common.{ℕ, List, length, take, ap, ◌∙◌, arith}
-use Rattle.pua_calls.specs.Calls.{call_name}
+use Rattle.pua_texts.proofs.Common.{ℕ, List, length, take, ap, ◌∙◌, arith, call_name}
 use Rattle.pua_texts.proofs.Pairs.{name_kept}
 use Rattle.pua_texts.proofs.line.add_call.Goals as goal
 

@@ -1,6 +1,5 @@
-use Rattle.std.proofs.Common.{◌≡◌, ℕ, ◌+◌, List, [], ◌∷◌, length, take, ap, ◌∙◌, arith, length-append}
-use Rattle.pua_calls.specs.Calls.{call_name}
-use Rattle.pua_texts.specs.Lines.{with_end}
+use Rattle.pua_texts.proofs.Common.{◌≡◌, ℕ, ◌+◌, List, [], ◌∷◌, length, take, ap, ◌∙◌, arith, call_name, with_end}
+use Rattle.std.proofs.Common.{length-append}
 use Rattle.pua_texts.proofs.Pairs.{name_kept}
 use Rattle.pua_texts.proofs.line.add_end.Goals as goal
 

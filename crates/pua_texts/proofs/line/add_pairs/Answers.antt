@@ -1,12 +1,8 @@
-use Rattle.std.proofs.Common.{List, ℕ, ◌∷◌, ◌++◌, [], Ok, refl, sym, ap, ◌∙◌, subst, append-nil}
-use Rattle.std.proofs.lemmas.Result.{err_from_is_err_and}
-use Rattle.std.specs.Prelude.{Option}
-use Rattle.pua_tree.specs.Spelling.{spelling}
-use Rattle.pua_calls.specs.Calls.{call_name}
+use Rattle.pua_texts.proofs.Common.{List, ℕ, ◌∷◌, ◌++◌, [], Ok, refl, sym, ap, ◌∙◌, subst, append-nil, err_from_is_err_and, Option}
+use Rattle.pua_texts.proofs.Common.{spelling, call_name, with_end, pair_lines}
 use Rattle.pua_audit.specs.Reach.{path_of}
 use Rattle.pua_audit.specs.Lent.{IsNextLine}
 use Rattle.pua_audit.specs.declared.line.Line.{Line}
-use Rattle.pua_texts.specs.Lines.{with_end, pair_lines}
 use Rattle.pua_texts.proofs.Passing.{passes_none, passes_room, passes_unput, passing_none, passing_more, passing_fails, passing_last}
 use Rattle.pua_texts.proofs.Pairs.{first_line, spelling_plain}
 use Rattle.pua_texts.proofs.line.add_pairs.Goals as goal

@@ -1,8 +1,4 @@
-use Rattle.std.proofs.Common.{◌++◌, ◌∷◌, ◌∙◌, [], ap, append_assoc, map}
-use Rattle.std.proofs.lemmas.Result.{err_from_is_err_and}
-use Rattle.pua_calls.specs.Calls.{call_name}
-use Rattle.pua_calls.specs.CallSets.{calls_in}
-use Rattle.pua_objects.specs.Objects.{with_commas}
+use Rattle.pua_texts.proofs.Common.{◌++◌, ◌∷◌, ◌∙◌, [], ap, append_assoc, map, err_from_is_err_and, call_name, calls_in, with_commas}
 use Rattle.pua_texts.proofs.Passing.{passes_room, passes_unput}
 use Rattle.pua_texts.proofs.object_line.add_calls.Goals as goal
 

@@ -1,11 +1,8 @@
-use Rattle.std.proofs.Common.{◌≡◌, List, ℕ, ◌∷◌, ◌++◌, [], Ok, Err, ◌-◌, map, take, drop, length, length-drop, take_all, subst, sym, ap}
-use Rattle.std.proofs.Common.{◌∙◌, append_assoc, arith}
-use Rattle.std.proofs.lemmas.Result.{err_from_is_err_and}
+use Rattle.pua_texts.proofs.Common.{◌≡◌, List, ℕ, ◌∷◌, ◌++◌, [], Ok, Err, ◌-◌, map, take, drop, length, take_all, subst, sym, ap, ◌∙◌}
+use Rattle.pua_texts.proofs.Common.{append_assoc, arith, err_from_is_err_and, spelling, from_root, printed_path, Passes}
+use Rattle.std.proofs.Common.{length-drop}
 use Rattle.std.specs.List.{drop-map}
-use Rattle.pua_tree.specs.Spelling.{spelling}
-use Rattle.pua_audit.specs.Reach.{from_root, printed_path}
 use Rattle.pua_audit.specs.declared.base.Base.TheVariants as base
-use Rattle.pua_texts.specs.Blocks.{Passes}
 use Rattle.pua_texts.proofs.Passing.{passes_then, passes_front}
 use Rattle.pua_texts.proofs.KeptPaths.{kept_parts}
 use Rattle.pua_texts.proofs.ObjectLines.{path_printed}

@@ -1,10 +1,5 @@
-use Rattle.std.proofs.Common.{[], Ok, refl, sym, subst, ap, ◌∙◌, take}
-use Rattle.std.proofs.lemmas.Result.{err_from_is_err_and}
-use Rattle.pua_policy.specs.History.{History, StandsFor}
-use Rattle.pua_objects.specs.Ready.{lines_of}
-use Rattle.pua_texts.specs.ObjectLines.{object_lines}
-use Rattle.pua_audit.specs.Reach.{Word}
-use Rattle.pua_texts.specs.KeptPaths.{KeptPathState, IsKept}
+use Rattle.pua_texts.proofs.Common.{[], Ok, refl, sym, subst, ap, ◌∙◌, take, err_from_is_err_and, History, StandsFor, lines_of}
+use Rattle.pua_texts.proofs.Common.{object_lines, Word, KeptPathState, IsKept}
 use Rattle.pua_texts.proofs.KeptPaths.{nothing_kept}
 use Rattle.pua_texts.proofs.Passing.{passes_none, passing_none, passing_more, passing_fails, passing_last}
 use Rattle.pua_texts.proofs.ObjectLines.{text_given, line_next, no_line}

@@ -1,8 +1,4 @@
-use Rattle.std.proofs.Common.{◌≡◌, length}
-use Rattle.pua_policy.specs.History.{History, StandsFor}
-use Rattle.pua_objects.specs.Ready.{lines_of}
-use Rattle.pua_texts.specs.ObjectLines.{object_lines}
-use Rattle.pua_texts.specs.KeptPaths.{IsKept}
+use Rattle.pua_texts.proofs.Common.{◌≡◌, length, History, StandsFor, lines_of, object_lines, IsKept}
 use Rattle.pua_texts.proofs.Passing.{Passing}
 use Rattle.pua_texts.proofs.object_line.add_objects.Given as goal
 

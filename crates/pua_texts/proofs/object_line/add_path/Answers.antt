@@ -1,5 +1,4 @@
-use Rattle.std.proofs.Common.{List, ℕ, sym, subst, ◌∙◌}
-use Rattle.pua_texts.specs.Blocks.{Passes}
+use Rattle.pua_texts.proofs.Common.{List, ℕ, sym, subst, ◌∙◌, Passes}
 use Rattle.pua_texts.proofs.ObjectLines.{path_printed}
 use Rattle.pua_texts.proofs.object_line.add_path.Goals as goal
 

@@ -1,6 +1,4 @@
-use Rattle.std.proofs.Common.{◌+◌, ◌∷◌, [], arith}
-use Rattle.std.proofs.lemmas.Result.{err_from_is_err_and}
-use Rattle.pua_tree.specs.Spelling.{spelling}
+use Rattle.pua_texts.proofs.Common.{◌+◌, ◌∷◌, [], arith, err_from_is_err_and, spelling}
 use Rattle.pua_texts.proofs.Passing.{passing_more, passing_fails, passing_last}
 use Rattle.pua_texts.proofs.ObjectLines.{path_left, path_more, path_done}
 use Rattle.pua_texts.proofs.object_line.add_rest.Goals as goal

@@ -1,11 +1,7 @@
-use Rattle.std.proofs.Common.{List, ℕ, ◌++◌, [], Ok, Err, refl, sym, subst, ◌∙◌}
+use Rattle.pua_texts.proofs.Common.{List, ℕ, ◌++◌, [], Ok, Err, refl, sym, subst, ◌∙◌, err_from_is_err_and, Tree, history_of, Passes}
+use Rattle.pua_texts.proofs.Common.{IsListOf, ListState, lists_of}
 use Rattle.std.proofs.lemmas.List.{nil_from_length}
-use Rattle.std.proofs.lemmas.Result.{err_from_is_err_and}
-use Rattle.pua_tree.specs.Tree.{Tree}
-use Rattle.pua_script.specs.Replay.{history_of}
-use Rattle.pua_texts.specs.Blocks.{Passes}
-use Rattle.pua_texts.specs.Lists.{IsListOf, ListState}
-use Rattle.pua_texts.specs.ObjectLines.{lists_of, process_list}
+use Rattle.pua_texts.specs.ObjectLines.{process_list}
 use Rattle.pua_texts.proofs.Lists.{Left, all_left, left_more, left_fails, left_none}
 use Rattle.pua_texts.proofs.Passing.{passes_front}
 use Rattle.pua_texts.proofs.object_lists.add_lists.Goals as goal

@@ -1,8 +1,6 @@
-use Rattle.std.proofs.Common.{◌≡◌, List, ℕ, ◌++◌, length}
-use Rattle.pua_calls.specs.Calls.{CallTable}
-use Rattle.pua_script.specs.Replay.{World, history_of}
-use Rattle.pua_texts.specs.Lists.{AreProcessLists, IsListOf}
-use Rattle.pua_texts.specs.ObjectLines.{lists_of, process_list}
+use Rattle.pua_texts.proofs.Common.{◌≡◌, List, ℕ, ◌++◌, length, CallTable, history_of, AreProcessLists, IsListOf, lists_of}
+use Rattle.pua_script.specs.Replay.{World}
+use Rattle.pua_texts.specs.ObjectLines.{process_list}
 use Rattle.pua_texts.proofs.Lists.{Left}
 use Rattle.pua_texts.proofs.object_lists.add_lists.Given as goal
 

@@ -1,7 +1,5 @@
-use Rattle.std.proofs.Common.{List, ℕ, ◌+◌, ◌++◌, ◌∷◌, [], take, sym, subst, ◌∙◌, arith, take_all}
-use Rattle.std.proofs.lemmas.List.{take_more}
-use Rattle.pua_script.specs.Replay.{history_of}
-use Rattle.pua_texts.specs.Lists.{AreProcessLists, IsListOf, ListState}
+use Rattle.pua_texts.proofs.Common.{List, ℕ, ◌+◌, ◌++◌, ◌∷◌, [], take, sym, subst, ◌∙◌, arith, take_all, take_more, history_of}
+use Rattle.pua_texts.proofs.Common.{AreProcessLists, IsListOf, ListState}
 use Rattle.pua_texts.proofs.Made.{is_made, none_made}
 use Rattle.pua_texts.proofs.Lists.{one_more, none_more, same_list}
 use Rattle.pua_texts.proofs.object_lists.begin_lists.Goals as goal

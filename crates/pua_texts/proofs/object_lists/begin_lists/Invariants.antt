@@ -1,7 +1,6 @@
-use Rattle.std.proofs.Common.{take}
+use Rattle.pua_texts.proofs.Common.{take, AreProcessLists}
 use Rattle.pua_script.specs.Replay.{World}
 use Rattle.pua_script.specs.Worlds.{StandsForWorld}
-use Rattle.pua_texts.specs.Lists.{AreProcessLists}
 use Rattle.pua_texts.proofs.object_lists.begin_lists.Given as goal
 
 -- the lists so far are those of the numbers so far

@@ -1,6 +1,4 @@
-use Rattle.std.proofs.Common.{List, ℕ, ◌++◌, subst, ◌∙◌}
-use Rattle.pua_texts.specs.Blocks.{Passes}
-use Rattle.pua_texts.specs.ObjectLines.{lists_of}
+use Rattle.pua_texts.proofs.Common.{List, ℕ, ◌++◌, subst, ◌∙◌, Passes, lists_of}
 use Rattle.pua_texts.proofs.object_lists.write_lists.Goals as goal
 
 pub returns : goal.returns

@@ -1,6 +1,4 @@
-use Rattle.std.proofs.Common.{◌+◌, ◌-◌, ◌++◌, ◌∷◌, [], ℕ, length, map, sym, ap, ◌∙◌, arith}
-use Rattle.std.proofs.lemmas.List.{map-append}
-use Rattle.pua_texts.specs.States.{names_up}
+use Rattle.pua_texts.proofs.Common.{◌+◌, ◌-◌, ◌++◌, ◌∷◌, [], ℕ, length, map, sym, ap, ◌∙◌, arith, map-append, names_up}
 use Rattle.pua_texts.proofs.Climbing.{names_more, names_none, names_done}
 use Rattle.pua_texts.proofs.places.add_names_over.Goals as goal
 

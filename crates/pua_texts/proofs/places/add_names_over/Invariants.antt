@@ -1,7 +1,6 @@
-use Rattle.std.proofs.Common.{◌≡◌, ◌+◌, ◌-◌, ◌++◌, length, map, vec_capacity, vec_len}
+use Rattle.pua_texts.proofs.Common.{◌≡◌, ◌+◌, ◌-◌, ◌++◌, length, map, Tree, names_up}
+use Rattle.std.proofs.Common.{vec_capacity, vec_len}
 use Rattle.pua_tree.specs.LentRows.{lent_entry}
-use Rattle.pua_tree.specs.Tree.{Tree}
-use Rattle.pua_texts.specs.States.{names_up}
 use Rattle.pua_texts.proofs.places.add_names_over.Given as goal
 
 -- the names so far are added, and those above are still to come

@@ -1,7 +1,7 @@
-use Rattle.std.proofs.Common.{rules, tests}
+use Rattle.pua_texts.proofs.Common.{rules, ◌==◌}
+use Rattle.std.proofs.Common.{tests}
 use Rattle.std.proofs.lemmas.Iterator.{YieldsList-from_slice}
 use Rattle.std.proofs.lemmas.Iterator.Search.{find_from_yields_List}
-use Rattle.std.specs.Prelude.{◌==◌}
 use Rattle.pua_texts.proofs.places.row_of.Goals as goal
 use Rattle.pua_tree.proofs.ForCallers.{found_spot}
 

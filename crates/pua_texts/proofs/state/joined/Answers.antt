@@ -1,5 +1,4 @@
-use Rattle.std.proofs.Common.{◌++◌, ◌∷◌, ◌+◌, [], ap, sym, ◌∙◌, map, drop, string_bytes, arith}
-use Rattle.std.specs.Prelude.{if◌then◌else◌}
+use Rattle.pua_texts.proofs.Common.{◌++◌, ◌∷◌, ◌+◌, [], ap, sym, ◌∙◌, map, drop, string_bytes, arith, if◌then◌else◌}
 use Rattle.pua_texts.proofs.ObjectLines.{joined}
 use Rattle.pua_texts.proofs.States.{joined_next, joined_done}
 use Rattle.pua_texts.proofs.state.joined.Goals as goal

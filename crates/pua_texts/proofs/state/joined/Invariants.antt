@@ -1,6 +1,4 @@
-use Rattle.std.proofs.Common.{◌≡◌, ◌++◌, ◌∷◌, [], drop, map, string_bytes}
-use Rattle.std.specs.Prelude.{if◌then◌else◌}
-use Rattle.pua_objects.specs.Objects.{with_commas}
+use Rattle.pua_texts.proofs.Common.{◌≡◌, ◌++◌, ◌∷◌, [], drop, map, string_bytes, if◌then◌else◌, with_commas}
 use Rattle.pua_texts.proofs.ObjectLines.{joined}
 use Rattle.pua_texts.proofs.state.joined.Given as goal
 

@@ -1,8 +1,6 @@
-use Rattle.std.proofs.Common.{◌++◌, ap, ◌∙◌, string_bytes}
-use Rattle.std.specs.Prelude.{codes}
+use Rattle.pua_texts.proofs.Common.{◌++◌, ap, ◌∙◌, string_bytes, codes, with_end}
 use Rattle.pua_policy.specs.History.{held_for_exec, pledged_set}
 use Rattle.pua_texts.specs.States.{pledged_text, unveil_word}
-use Rattle.pua_texts.specs.Lines.{with_end}
 use Rattle.pua_texts.proofs.Outcomes.{on_ok}
 use Rattle.pua_texts.proofs.States.{four_lines}
 use Rattle.pua_texts.proofs.state.push_living.Goals as goal

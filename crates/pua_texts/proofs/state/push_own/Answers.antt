@@ -1,7 +1,5 @@
-use Rattle.std.proofs.Common.{◌++◌, ap, sym, ◌∙◌, string_bytes}
-use Rattle.std.specs.Prelude.{codes, if◌then◌else◌}
+use Rattle.pua_texts.proofs.Common.{◌++◌, ap, sym, ◌∙◌, string_bytes, codes, if◌then◌else◌, with_end}
 use Rattle.pua_texts.specs.States.{living_lines}
-use Rattle.pua_texts.specs.Lines.{with_end}
 use Rattle.pua_texts.proofs.Outcomes.{on_ok}
 use Rattle.pua_texts.proofs.state.push_own.Goals as goal
 

@@ -1,6 +1,6 @@
-use Rattle.std.proofs.Common.{◌≡◌, IfOk, ap, sym, subst, ◌∙◌, map, string_bytes}
-use Rattle.pua_objects.specs.Objects.{with_commas}
-use Rattle.pua_texts.specs.States.{or_equals, pledged_text}
+use Rattle.pua_texts.proofs.Common.{◌≡◌, ap, sym, subst, ◌∙◌, map, string_bytes, with_commas, or_equals}
+use Rattle.std.proofs.Common.{IfOk}
+use Rattle.pua_texts.specs.States.{pledged_text}
 use Rattle.pua_texts.proofs.state.spelled_promises.Goals as goal
 
 pub returns : goal.returns

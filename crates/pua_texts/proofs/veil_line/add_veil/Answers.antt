@@ -1,8 +1,4 @@
-use Rattle.std.proofs.Common.{List, ℕ, ◌∷◌, ◌++◌, [], Err, map}
-use Rattle.std.specs.Prelude.{codes}
-use Rattle.std.proofs.lemmas.Result.{err_from_is_err_and}
-use Rattle.pua_calls.specs.Promises.{perm_letters}
-use Rattle.pua_texts.specs.States.{or_equals, path_or_hyphen}
+use Rattle.pua_texts.proofs.Common.{List, ℕ, ◌∷◌, ◌++◌, [], Err, map, codes, err_from_is_err_and, perm_letters, or_equals, path_or_hyphen}
 use Rattle.pua_texts.proofs.Passing.{passes_then, passes_front}
 use Rattle.pua_texts.proofs.veil_line.add_veil.Goals as goal
 

@@ -1,9 +1,5 @@
-use Rattle.std.proofs.Common.{[], ◌++◌, ◌∷◌, ◌+◌, Ok, map, drop, ◌∙◌, ap, refl, arith}
-use Rattle.std.specs.Prelude.{codes, reverse}
-use Rattle.std.proofs.lemmas.Result.{err_from_is_err_and}
-use Rattle.pua_tree.specs.Tree.{is_dir}
-use Rattle.pua_calls.specs.Promises.{perm_letters}
-use Rattle.pua_texts.specs.States.{or_equals, path_or_hyphen, place_dir, place_names, veil_lines}
+use Rattle.pua_texts.proofs.Common.{[], ◌++◌, ◌∷◌, ◌+◌, Ok, map, drop, ◌∙◌, ap, refl, arith, codes, reverse, err_from_is_err_and, is_dir}
+use Rattle.pua_texts.proofs.Common.{perm_letters, or_equals, path_or_hyphen, place_dir, place_names, veil_lines}
 use Rattle.pua_texts.proofs.States.{shown, veil_next, veils_done}
 use Rattle.pua_texts.proofs.Passing.{passes_none, passing_none, passing_more, passing_fails, passing_last}
 use Rattle.pua_texts.proofs.veil_line.add_veils.Goals as goal

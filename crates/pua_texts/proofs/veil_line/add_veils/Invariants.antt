@@ -1,5 +1,4 @@
-use Rattle.std.proofs.Common.{◌≡◌, drop, map}
-use Rattle.pua_texts.specs.States.{veil_lines}
+use Rattle.pua_texts.proofs.Common.{◌≡◌, drop, map, veil_lines}
 use Rattle.pua_texts.proofs.Passing.{Passing}
 use Rattle.pua_texts.proofs.veil_line.add_veils.Given as goal
 

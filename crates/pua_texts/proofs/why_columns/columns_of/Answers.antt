@@ -1,8 +1,5 @@
-use Rattle.std.proofs.Common.{◌+◌, ◌∷◌, [], ap, ◌∙◌, get_or, map, take_all, arith}
-use Rattle.std.specs.Prelude.{None}
-use Rattle.std.proofs.lemmas.List.{map-append}
-use Rattle.pua_texts.specs.WhyLists.{veil_state, veils_behind}
-use Rattle.pua_texts.specs.WhyLines.{world_left}
+use Rattle.pua_texts.proofs.Common.{◌+◌, ◌∷◌, [], ap, ◌∙◌, get_or, map, take_all, arith, None, map-append, veil_state, veils_behind}
+use Rattle.pua_texts.proofs.Common.{world_left}
 use Rattle.pua_texts.proofs.States.{shown}
 use Rattle.pua_texts.proofs.WhyColumns.{column_next}
 use Rattle.pua_texts.proofs.why_columns.columns_of.Goals as goal

@@ -1,8 +1,5 @@
-use Rattle.std.proofs.Common.{◌≡◌, ℕ, map, take}
+use Rattle.pua_texts.proofs.Common.{◌≡◌, ℕ, map, take, veil_dates, veil_state, veils_behind, Posed, world_left}
 use Rattle.std.specs.Prelude.{vec_len}
-use Rattle.pua_texts.specs.VeilDates.{veil_dates}
-use Rattle.pua_texts.specs.WhyLists.{veil_state, veils_behind}
-use Rattle.pua_texts.specs.WhyLines.{Posed, world_left}
 use Rattle.pua_texts.proofs.States.{shown}
 use Rattle.pua_texts.proofs.why_columns.columns_of.Given as goal
 

@@ -1,12 +1,9 @@
-use Rattle.std.proofs.Common.{sym, subst, ◌∙◌}
-use Rattle.pua_tree.specs.Tree.{Tree}
+use Rattle.pua_texts.proofs.Common.{sym, subst, ◌∙◌, Tree, veils, subject_given, IsAmongVeils}
 use Rattle.pua_path.specs.Fits.{FoundFits}
 use Rattle.pua_path.specs.declared.found.Found.{Found}
-use Rattle.pua_policy.specs.History.{veils}
 use Rattle.pua_policy.specs.Reasons.{covering}
 use Rattle.pua_policy.specs.declared.reason.Covering.{Covering}
-use Rattle.pua_objects.specs.Items.{subject_given}
-use Rattle.pua_texts.specs.WhyLists.{IsAmongVeils, found_on}
+use Rattle.pua_texts.specs.WhyLists.{found_on}
 use Rattle.pua_texts.proofs.WhyColumns.{covering_among, found_covered, found_fits}
 use Rattle.pua_texts.proofs.why_columns.covering_of.Goals as goal
 

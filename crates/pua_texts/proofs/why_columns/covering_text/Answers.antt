@@ -1,6 +1,5 @@
-use Rattle.std.proofs.Common.{ap, sym, subst, ◌∙◌}
+use Rattle.pua_texts.proofs.Common.{ap, sym, subst, ◌∙◌, IsAmongVeils, covering_behind, text_at}
 use Rattle.pua_policy.specs.declared.reason.Covering.{Covering}
-use Rattle.pua_texts.specs.WhyLists.{IsAmongVeils, covering_behind, text_at}
 use Rattle.pua_texts.proofs.WhyColumns.{text_kept}
 use Rattle.pua_texts.proofs.why_columns.covering_text.Goals as goal
 

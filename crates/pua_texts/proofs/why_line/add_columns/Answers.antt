@@ -1,7 +1,4 @@
-use Rattle.std.proofs.Common.{List, [], ℕ, subst}
-use Rattle.std.proofs.lemmas.Result.{err_from_is_err_and}
-use Rattle.pua_why.specs.Texts.{promises_text}
-use Rattle.pua_texts.specs.Blocks.{Passes}
+use Rattle.pua_texts.proofs.Common.{List, [], ℕ, subst, err_from_is_err_and, promises_text, Passes}
 use Rattle.pua_texts.proofs.Passing.{passes_front, passes_then}
 use Rattle.pua_texts.proofs.why_line.add_columns.Goals as goal
 

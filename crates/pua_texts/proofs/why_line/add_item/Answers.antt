@@ -1,9 +1,6 @@
-use Rattle.std.proofs.Common.{◌≡◌, ◌≢◌, [], ◌++◌, List, ℕ, Ok, Err, sym, subst, map}
-use Rattle.std.proofs.lemmas.Result.{err_from_is_err_and}
-use Rattle.pua_calls.specs.CallSets.{calls_in}
-use Rattle.pua_objects.specs.Items.{subject_given}
-use Rattle.pua_why.specs.Texts.{promises_text}
-use Rattle.pua_texts.specs.Blocks.{Passes}
+use Rattle.pua_texts.proofs.Common.{◌≡◌, [], ◌++◌, List, ℕ, Ok, Err, sym, subst, map, err_from_is_err_and, calls_in, subject_given}
+use Rattle.pua_texts.proofs.Common.{promises_text, Passes}
+use Rattle.std.proofs.Common.{◌≢◌}
 use Rattle.pua_texts.proofs.Passing.{passes_none, passes_then, passes_front}
 use Rattle.pua_texts.proofs.WhyItems.{front_given, item_listed, item_unlisted}
 use Rattle.pua_texts.proofs.why_line.add_item.Goals as goal

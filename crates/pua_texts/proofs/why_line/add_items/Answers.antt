@@ -1,8 +1,6 @@
-use Rattle.std.proofs.Common.{[], ◌∷◌, Ok, refl, sym, ap, subst, ◌∙◌, length, map, arith}
-use Rattle.std.proofs.lemmas.Result.{err_from_is_err_and}
-use Rattle.pua_policy.specs.History.{ProcessState, StandsFor}
-use Rattle.pua_objects.specs.Items.{subject_given}
-use Rattle.pua_texts.specs.WhyLists.{item_at, why_items}
+use Rattle.pua_texts.proofs.Common.{[], ◌∷◌, Ok, refl, sym, ap, subst, ◌∙◌, length, map, arith, err_from_is_err_and, ProcessState}
+use Rattle.pua_texts.proofs.Common.{StandsFor, subject_given, why_items}
+use Rattle.pua_texts.specs.WhyLists.{item_at}
 use Rattle.pua_texts.proofs.Passing.{passes_none, passing_none, passing_more, passing_fails, passing_last}
 use Rattle.pua_texts.proofs.WhyItems.{on_item, item_fits, first_told}
 use Rattle.pua_texts.proofs.why_line.add_items.Goals as goal

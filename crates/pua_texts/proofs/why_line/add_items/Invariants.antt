@@ -1,7 +1,5 @@
-use Rattle.std.proofs.Common.{◌≡◌, ℕ, length}
-use Rattle.pua_policy.specs.History.{History, StandsFor}
-use Rattle.pua_texts.specs.WhyLists.{AreColumnsOf, why_items}
-use Rattle.pua_texts.specs.WhyLines.{Posed}
+use Rattle.pua_texts.proofs.Common.{◌≡◌, ℕ, length, History, StandsFor, why_items, Posed}
+use Rattle.pua_texts.specs.WhyLists.{AreColumnsOf}
 use Rattle.pua_texts.proofs.Passing.{Passing}
 use Rattle.pua_texts.proofs.why_line.add_items.Given as goal
 

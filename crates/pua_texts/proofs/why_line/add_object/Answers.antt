@@ -1,12 +1,6 @@
-use Rattle.std.proofs.Common.{List, ℕ, ◌∷◌, ◌++◌, [], Ok, Err, map, subst}
-use Rattle.std.proofs.lemmas.Result.{err_from_is_err_and}
-use Rattle.pua_calls.specs.Calls.{call_name}
-use Rattle.pua_calls.specs.CallSets.{calls_in}
-use Rattle.pua_audit.specs.Reach.{printed_path}
+use Rattle.pua_texts.proofs.Common.{List, ℕ, ◌∷◌, ◌++◌, [], Ok, Err, map, subst, err_from_is_err_and, call_name, calls_in, printed_path}
+use Rattle.pua_texts.proofs.Common.{kind_word, with_commas, Passes}
 use Rattle.pua_audit.specs.declared.base.Base.TheVariants as base
-use Rattle.pua_objects.specs.Lines.{kind_word}
-use Rattle.pua_objects.specs.Objects.{with_commas}
-use Rattle.pua_texts.specs.Blocks.{Passes}
 use Rattle.pua_texts.proofs.Passing.{passes_then, passes_front}
 use Rattle.pua_texts.proofs.why_line.add_object.Goals as goal
 

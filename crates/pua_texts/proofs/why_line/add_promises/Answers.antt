@@ -1,8 +1,7 @@
-use Rattle.std.proofs.Common.{◌≡◌, ◌+◌, ◌++◌, [], List, ℕ, Ok, false, sym, ap, subst, ◌∙◌}
-use Rattle.std.proofs.lemmas.Result.{err_from_is_err_and}
-use Rattle.std.specs.Prelude.{Some, None, option_map, codes, if◌then◌else◌}
+use Rattle.pua_texts.proofs.Common.{◌≡◌, ◌+◌, ◌++◌, [], List, ℕ, Ok, false, sym, ap, subst, ◌∙◌, err_from_is_err_and, Some, None, codes}
+use Rattle.pua_texts.proofs.Common.{if◌then◌else◌, promises_text}
+use Rattle.std.specs.Prelude.{option_map}
 use Rattle.pua_calls.specs.Promises.{keyword_at}
-use Rattle.pua_why.specs.Texts.{promises_text}
 use Rattle.pua_texts.proofs.Keywords.{comma, text_all, text_done, text_left, text_passed, text_taken}
 use Rattle.pua_texts.proofs.Passing.{Passing, passes_none, passing_none, passing_more, passing_fails, passing_last}
 use Rattle.pua_texts.proofs.why_line.add_promises.Goals.{in-Some+in_ok-add_keyword, in_default}

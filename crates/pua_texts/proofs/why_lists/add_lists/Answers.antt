@@ -1,10 +1,8 @@
-use Rattle.std.proofs.Common.{List, ℕ, ◌++◌, [], Ok, Err, refl, sym, subst, ◌∙◌}
+use Rattle.pua_texts.proofs.Common.{List, ℕ, ◌++◌, [], Ok, Err, refl, sym, subst, ◌∙◌, err_from_is_err_and, history_of, Passes, IsWhyListOf}
+use Rattle.pua_texts.proofs.Common.{why_lists_of, world_left}
 use Rattle.std.proofs.lemmas.List.{nil_from_length}
-use Rattle.std.proofs.lemmas.Result.{err_from_is_err_and}
-use Rattle.pua_script.specs.Replay.{history_of}
-use Rattle.pua_texts.specs.Blocks.{Passes}
-use Rattle.pua_texts.specs.WhyLists.{IsWhyListOf, WhyListState}
-use Rattle.pua_texts.specs.WhyLines.{why_list, why_lists_of, world_left}
+use Rattle.pua_texts.specs.WhyLists.{WhyListState}
+use Rattle.pua_texts.specs.WhyLines.{why_list}
 use Rattle.pua_texts.proofs.Lists.{Left, all_left, left_more, left_fails, left_none}
 use Rattle.pua_texts.proofs.Passing.{passes_front}
 use Rattle.pua_texts.proofs.why_lists.add_lists.Goals as goal

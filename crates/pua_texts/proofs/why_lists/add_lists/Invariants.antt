@@ -1,7 +1,5 @@
-use Rattle.std.proofs.Common.{◌≡◌, List, ℕ, ◌++◌, length}
-use Rattle.pua_script.specs.Replay.{history_of}
-use Rattle.pua_texts.specs.WhyLists.{AreWhyListsOf, IsWhyListOf}
-use Rattle.pua_texts.specs.WhyLines.{Posed, why_list, why_lists_of, world_left}
+use Rattle.pua_texts.proofs.Common.{◌≡◌, List, ℕ, ◌++◌, length, history_of, AreWhyListsOf, IsWhyListOf, Posed, why_lists_of, world_left}
+use Rattle.pua_texts.specs.WhyLines.{why_list}
 use Rattle.pua_texts.proofs.Lists.{Left}
 use Rattle.pua_texts.proofs.why_lists.add_lists.Given as goal
 

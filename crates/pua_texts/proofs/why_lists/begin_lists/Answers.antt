@@ -1,11 +1,7 @@
-use Rattle.std.proofs.Common.{◌≡◌, List, ℕ, ◌+◌, ◌++◌, ◌∷◌, [], Option, drop, get_or, map, sym, subst, take, take_all, arith}
-use Rattle.std.specs.Prelude.{flat_map}
-use Rattle.std.proofs.lemmas.List.{take_more}
-use Rattle.pua_script.specs.Replay.{history_of}
-use Rattle.pua_since.specs.Dates.{veil_date, veils_at}
-use Rattle.pua_texts.specs.VeilDates.{veil_dates}
-use Rattle.pua_texts.specs.WhyLists.{AreWhyListsOf, IsWhyListOf, WhyListState}
-use Rattle.pua_texts.specs.WhyLines.{world_left}
+use Rattle.pua_texts.proofs.Common.{◌≡◌, List, ℕ, ◌+◌, ◌++◌, ◌∷◌, [], drop, get_or, map, sym, subst, take, take_all, arith, flat_map}
+use Rattle.pua_texts.proofs.Common.{take_more, history_of, veil_date, veils_at, veil_dates, AreWhyListsOf, IsWhyListOf, world_left}
+use Rattle.std.proofs.Common.{Option}
+use Rattle.pua_texts.specs.WhyLists.{WhyListState}
 use Rattle.pua_texts.proofs.Made.{is_made, none_made}
 use Rattle.pua_texts.proofs.Lists.{one_more, none_more}
 use Rattle.pua_texts.proofs.VeilDates.{length_dates, none_dated, some_dated}

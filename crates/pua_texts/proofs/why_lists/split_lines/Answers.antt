@@ -1,5 +1,5 @@
-use Rattle.std.proofs.Common.{◌≡◌, ap, length, min, ◌∙◌, arith}
-use Rattle.std.proofs.lemmas.List.{length-map}
+use Rattle.pua_texts.proofs.Common.{◌≡◌, ap, length, ◌∙◌, arith, length-map}
+use Rattle.std.proofs.Common.{min}
 use Rattle.pua_texts.proofs.VeilDates.{own_taken, rest_dropped}
 use Rattle.pua_texts.proofs.why_lists.split_lines.Goals as goal
 

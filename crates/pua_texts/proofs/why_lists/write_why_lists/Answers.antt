@@ -1,6 +1,4 @@
-use Rattle.std.proofs.Common.{List, ℕ, ◌++◌, subst, ◌∙◌}
-use Rattle.pua_texts.specs.Blocks.{Passes}
-use Rattle.pua_texts.specs.WhyLines.{why_lists_of}
+use Rattle.pua_texts.proofs.Common.{List, ℕ, ◌++◌, subst, ◌∙◌, Passes, why_lists_of}
 use Rattle.pua_texts.proofs.why_lists.write_why_lists.Goals as goal
 
 pub returns : goal.returns

@@ -1,8 +1,5 @@
-use Rattle.std.proofs.Common.{List, ℕ, [], Ok, Err, subst}
-use Rattle.std.proofs.lemmas.Result.{err_from_is_err_and}
+use Rattle.pua_texts.proofs.Common.{List, ℕ, [], Ok, Err, subst, err_from_is_err_and, Passes, pair_lines}
 use Rattle.pua_audit.specs.AuditState.{AuditState}
-use Rattle.pua_texts.specs.Blocks.{Passes}
-use Rattle.pua_texts.specs.Lines.{pair_lines}
 use Rattle.pua_texts.proofs.Passing.{passes_then, passes_front}
 use Rattle.pua_texts.proofs.audit_list.AuditList.add_to.Goals as goal
 

@@ -1,5 +1,4 @@
-use Rattle.std.proofs.Common.{[]}
-use Rattle.std.proofs.lemmas.Result.{err_from_is_err_and}
+use Rattle.pua_texts.proofs.Common.{[], err_from_is_err_and}
 use Rattle.pua_texts.proofs.Passing.{passes_room, passes_unput}
 use Rattle.pua_texts.proofs.block.Block.add.Goals as goal
 

@@ -1,7 +1,5 @@
-use Rattle.std.proofs.Common.{[], Ok, Err, subst}
+use Rattle.pua_texts.proofs.Common.{[], Ok, Err, subst, PutFault, Passes}
 use Rattle.std.specs.Prelude.{Result}
-use Rattle.pua_io.specs.declared.sink.PutFault.{PutFault}
-use Rattle.pua_texts.specs.Blocks.{Passes}
 use Rattle.pua_texts.proofs.Passing.{passes_written}
 use Rattle.pua_texts.proofs.block.Block.finish.Goals as goal
 

@@ -1,6 +1,5 @@
-use Rattle.std.proofs.Common.{◌≡◌, ◌<◌, sym, subst, ap, ◌∙◌, length, take, get_or, arith}
+use Rattle.pua_texts.proofs.Common.{◌≡◌, ◌<◌, sym, subst, ap, ◌∙◌, length, take, get_or, arith, KeptPathState, IsKept}
 use Rattle.std.proofs.lemmas.List.{get_or_default}
-use Rattle.pua_texts.specs.KeptPaths.{KeptPathState, IsKept}
 use Rattle.pua_texts.proofs.KeptPaths.{all_kept, cut_kept}
 use Rattle.pua_texts.proofs.kept_path.KeptPath.cut.Goals as goal
 

@@ -1,6 +1,5 @@
-use Rattle.std.proofs.Common.{◌++◌, map, ap, ◌∙◌, rules}
-use Rattle.pua_texts.specs.States.{own_name, place_names}
-use Rattle.std.specs.Prelude.{reverse}
+use Rattle.pua_texts.proofs.Common.{◌++◌, map, ap, ◌∙◌, rules, place_names, reverse}
+use Rattle.pua_texts.specs.States.{own_name}
 use Rattle.pua_texts.proofs.Climbing.{found_names}
 use Rattle.pua_texts.proofs.places.Places.find.Goals as goal
 

@@ -1,8 +1,6 @@
-use Rattle.std.proofs.Common.{List, ℕ, ◌++◌, [], Ok, Err, map, ap, sym, subst, ◌∙◌}
-use Rattle.std.proofs.lemmas.Result.{err_from_is_err_and}
-use Rattle.pua_texts.specs.Blocks.{Passes}
+use Rattle.pua_texts.proofs.Common.{List, ℕ, ◌++◌, [], Ok, Err, map, ap, sym, subst, ◌∙◌, err_from_is_err_and, Passes, veil_lines}
 use Rattle.pua_texts.specs.Lists.{IsHeadOf}
-use Rattle.pua_texts.specs.States.{heading_line, living_veils, own_lines, veil_lines}
+use Rattle.pua_texts.specs.States.{heading_line, living_veils, own_lines}
 use Rattle.pua_texts.proofs.Passing.{passes_then, passes_front}
 use Rattle.pua_texts.proofs.States.{shown}
 use Rattle.pua_texts.proofs.process_head.ProcessHead.add_to.Goals as goal

@@ -1,12 +1,6 @@
-use Rattle.std.proofs.Common.{List, ℕ, [], ap, sym, subst, ◌∙◌}
-use Rattle.std.specs.Prelude.{codes}
-use Rattle.std.proofs.lemmas.Result.{err_from_is_err_and}
+use Rattle.pua_texts.proofs.Common.{List, ℕ, [], ap, sym, subst, ◌∙◌, codes, err_from_is_err_and, lines_of, Passes, IsListOf, object_lines}
+use Rattle.pua_texts.proofs.Common.{head_lines}
 use Rattle.pua_objects.specs.Objects.{objects}
-use Rattle.pua_objects.specs.Ready.{lines_of}
-use Rattle.pua_texts.specs.Blocks.{Passes}
-use Rattle.pua_texts.specs.Lists.{IsListOf}
-use Rattle.pua_texts.specs.ObjectLines.{object_lines}
-use Rattle.pua_texts.specs.States.{head_lines}
 use Rattle.pua_texts.proofs.Passing.{passes_then, passes_front}
 use Rattle.pua_texts.proofs.process_list.ProcessList.add_to.Goals as goal
 

@@ -1,8 +1,5 @@
-use Rattle.std.proofs.Common.{ap, map, sym, subst, ◌∙◌}
-use Rattle.pua_policy.specs.History.{veils}
-use Rattle.pua_objects.specs.Items.{SubjectFits, subject_given}
-use Rattle.pua_texts.specs.WhyLists.{ColumnsState, covering_behind, veil_state}
-use Rattle.pua_texts.specs.WhyLines.{covering_on}
+use Rattle.pua_texts.proofs.Common.{ap, map, sym, subst, ◌∙◌, veils, SubjectFits, subject_given, covering_behind, veil_state, covering_on}
+use Rattle.pua_texts.specs.WhyLists.{ColumnsState}
 use Rattle.pua_texts.proofs.why_columns.Columns.over.Goals as goal
 
 pub returns : goal.returns

@@ -1,12 +1,8 @@
-use Rattle.std.proofs.Common.{◌+◌, ◌≤◌, ap, sym, ◌∙◌, drop, get_or, arith}
-use Rattle.std.specs.Prelude.{bit_or, filter}
-use Rattle.pua_calls.specs.Calls.{calls, rule_of}
-use Rattle.pua_calls.specs.CallSets.{has}
-use Rattle.pua_policy.specs.History.{History}
+use Rattle.pua_texts.proofs.Common.{◌+◌, ◌≤◌, ap, sym, ◌∙◌, drop, get_or, arith, bit_or, filter, calls, has, History, Call, Stat}
+use Rattle.pua_texts.proofs.Common.{resting_on}
+use Rattle.pua_calls.specs.Calls.{rule_of}
 use Rattle.pua_policy.specs.Reasons.{promising}
-use Rattle.pua_calls.specs.declared.call.Call.{Call}
-use Rattle.pua_calls.specs.declared.call.Call.TheVariants.{Stat}
-use Rattle.pua_why.specs.Columns.{let_by, resting_on}
+use Rattle.pua_why.specs.Columns.{let_by}
 use Rattle.pua_texts.specs.WhyLists.{ColumnsState}
 use Rattle.pua_texts.proofs.WhyColumns.{rest_done, rest_passed, rest_taken}
 use Rattle.pua_texts.proofs.why_columns.Columns.resting_on.Goals.{then-contains, else-contains}

@@ -1,13 +1,5 @@
-use Rattle.std.proofs.Common.{List, ℕ, [], ap, sym, subst, Ok, Err}
-use Rattle.std.specs.Prelude.{codes}
-use Rattle.std.proofs.lemmas.Result.{err_from_is_err_and}
-use Rattle.pua_tree.specs.Tree.{Tree}
-use Rattle.pua_policy.specs.History.{veils}
-use Rattle.pua_objects.specs.Objects.{items}
-use Rattle.pua_texts.specs.Blocks.{Passes}
-use Rattle.pua_texts.specs.States.{head_lines}
-use Rattle.pua_texts.specs.WhyLists.{IsWhyListOf, why_items}
-use Rattle.pua_texts.specs.WhyLines.{world_left}
+use Rattle.pua_texts.proofs.Common.{List, ℕ, [], ap, sym, subst, Ok, Err, codes, err_from_is_err_and, Tree, veils, items, Passes}
+use Rattle.pua_texts.proofs.Common.{head_lines, IsWhyListOf, why_items, world_left}
 use Rattle.pua_texts.proofs.Passing.{passes_then, passes_front}
 use Rattle.pua_texts.proofs.why_list.WhyList.add_to.Goals as goal
 
