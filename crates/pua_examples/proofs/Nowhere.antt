@@ -1,5 +1,6 @@
 -- Where no object has a line, no call is allowed on any path.
-use Rattle.std.proofs.Common.{◌≡◌, ◌≢◌, ℕ, List, [], length, ap, arith}
+use Rattle.pua_examples.proofs.Common.{◌≡◌}
+use Rattle.std.proofs.Common.{◌≢◌, ℕ, List, [], length, ap, arith}
 use Rattle.pua_tree.specs.Tree.{Tree, WellFormed}
 use Rattle.pua_calls.specs.Calls.{CallTable}
 use Rattle.pua_policy.specs.History.{History, working_dir}

@@ -1,12 +1,8 @@
 -- What is served and audited over two trees of the same content is the same.
-use Rattle.std.proofs.Common.{◌≡◌, List, [], sym, ap, ◌∙◌, subst}
-use Rattle.std.specs.Prelude.{Some, Result, Ok, Err}
-use Rattle.pua_tree.specs.Tree.{Tree}
-use Rattle.pua_calls.specs.Calls.{CallTable}
-use Rattle.pua_policy.specs.History.{History}
-use Rattle.pua_script.specs.Requests.{Asked}
-use Rattle.pua_script.specs.Replay.{World, new_world, answers_to, history_of, world_after}
-use Rattle.pua_script.specs.Worlds.{StandsForWorld, StandsAt}
+use Rattle.pua_tool.proofs.Common.{◌≡◌, List, [], sym, ap, ◌∙◌, subst, Some, Result, Tree, CallTable, History, Asked, World, new_world}
+use Rattle.pua_tool.proofs.Common.{answers_to, history_of, world_after, StandsForWorld, is_made}
+use Rattle.std.specs.Prelude.{Ok, Err}
+use Rattle.pua_script.specs.Worlds.{StandsAt}
 use Rattle.pua_audit.specs.AuditState.{AuditState}
 use Rattle.pua_audit.specs.Reach.{Pair}
 use Rattle.pua_audit.specs.Begin.{Beginning, beginning, still_to_come}
@@ -14,7 +10,6 @@ use Rattle.pua_audit.specs.declared.fault.AuditFault.{AuditFault}
 use Rattle.pua_tool.specs.Alike.{IsAuditedOver, AnswersAlike, LinesAlike}
 use Rattle.pua_tool.specs.Texts.{Wanted}
 use Rattle.pua_texts.specs.Lines.{pair_lines}
-use Rattle.pua_texts.proofs.ForCallers.{is_made}
 use Rattle.pua_tool.proofs.Replays.{left_by_same}
 
 answers_over : (t : Tree) → AnswersAlike t t

@@ -1,14 +1,10 @@
 -- The text of an audit, step by step.
-use Rattle.std.proofs.Common.{◌≡◌, ℕ, List, ap, subst, sym, ◌∙◌}
-use Rattle.std.specs.Prelude.{Option, Some, None, Result, Ok, Err, ok_or}
-use Rattle.pua_tree.specs.Steps.{◌>>=◌}
-use Rattle.pua_policy.specs.History.{History}
-use Rattle.pua_script.specs.Replay.{history_of}
+use Rattle.pua_tool.proofs.Common.{◌≡◌, ℕ, List, ap, subst, sym, ◌∙◌, Option, Some, None, Result, ◌>>=◌, History, history_of, Chosen}
+use Rattle.pua_tool.proofs.Common.{Replayed, as_audit, replay_of, Answers, ToolFault}
+use Rattle.std.specs.Prelude.{Ok, Err, ok_or}
 use Rattle.pua_audit.specs.Begin.{Beginning}
-use Rattle.pua_tool.specs.Texts.{Chosen, Wanted, Replayed, as_audit, beginning_of, replay_of, audit_start, begun_after, audit_after}
+use Rattle.pua_tool.specs.Texts.{Wanted, beginning_of, audit_start, begun_after, audit_after}
 use Rattle.pua_tool.specs.Texts.{audit_text, text_of}
-use Rattle.pua_tool.specs.EverTexts.{Answers}
-use Rattle.pua_tool.specs.declared.fault.ToolFault.{ToolFault}
 use Rattle.pua_tool.specs.declared.fault.ToolFault.TheVariants.{NoProcess}
 
 module _ (choice : Chosen) (tree_bytes script_bytes : List ℕ) (wanted : Wanted) where

@@ -1,12 +1,13 @@
 -- How commands end, after the faults that they tell and the flush of the output.
-use Rattle.std.proofs.Common.{ℕ, ◌<◌, ◌≡◌, ◌≢◌, ◌⊎◌, List, length, take, Option, Result, Ok, Err, OnErr, OnOk, arith, inl, inr, sym, ◌∙◌}
-use Rattle.std.proofs.Common.{subst, take_all}
+use Rattle.pua_tool.proofs.Common.{ℕ, ◌≡◌, ◌≢◌, List, Ok, Err, arith, sym, ◌∙◌, subst, Adds, AddsFront}
+use Rattle.std.proofs.Common.{◌<◌, ◌⊎◌, length, take, Option, Result, OnErr, OnOk, inl, inr}
+use Rattle.std.proofs.Common.{take_all}
 use Rattle.std.proofs.lemmas.Bool.{cases_order}
 use Rattle.std.specs.Io.KnownBytes.{Keeps}
 use Rattle.std.proofs.KnownBytes.{Appends-kept}
 use Rattle.pua_io.specs.Held.{Held}
 use Rattle.pua_tool.specs.Performed.{HasAnswered, HasEnded, HasHalted}
-use Rattle.pua_io.specs.Sinks.{Adds, AddsFront, HasFailed, next_count}
+use Rattle.pua_io.specs.Sinks.{HasFailed, next_count}
 use Rattle.pua_io.specs.declared.sink.PutFault.{PutFault}
 use Rattle.pua_tool.specs.declared.status.TheConstants.{DONE, DEVICE}
 use Rattle.pua_io.proofs.ForCallers.{counted_has_failed}

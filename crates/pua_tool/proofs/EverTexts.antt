@@ -1,17 +1,13 @@
 -- The text of the list for ever, step by step.
-use Rattle.std.proofs.Common.{◌≡◌, ℕ, List, ◌++◌, ap, refl, sym, subst}
-use Rattle.std.specs.Prelude.{◌≢◌, Option, Some, None, Result, Ok, Err, IfErr, OnOk, ok_or}
-use Rattle.pua_tree.specs.Steps.{◌>>=◌}
-use Rattle.pua_policy.specs.History.{History}
-use Rattle.pua_script.specs.Replay.{history_of}
+use Rattle.pua_tool.proofs.Common.{◌≡◌, ℕ, List, ◌++◌, ap, refl, sym, subst, Option, Some, None, Result, ◌>>=◌, History, history_of}
+use Rattle.pua_tool.proofs.Common.{Answers, unless_reason, Adds, AddsFront, Chosen, Replayed, replay_of, answer_lines, ToolFault, Write}
+use Rattle.pua_tool.proofs.Common.{OutOfMemory}
+use Rattle.std.specs.Prelude.{◌≢◌, Ok, Err, IfErr, OnOk, ok_or}
 use Rattle.pua_ever.specs.Refusals.{refusal}
-use Rattle.pua_tool.specs.EverTexts.{Answers, ever_after, ever_text, unless_reason}
+use Rattle.pua_tool.specs.EverTexts.{ever_after, ever_text}
 use Rattle.pua_texts.specs.EverLines.{ever_list}
-use Rattle.pua_io.specs.Sinks.{Adds, AddsFront, HasFailed}
-use Rattle.pua_tool.specs.Texts.{Chosen, Replayed, replay_of}
-use Rattle.pua_texts.specs.Lines.{answer_lines}
-use Rattle.pua_tool.specs.declared.fault.ToolFault.{ToolFault}
-use Rattle.pua_tool.specs.declared.fault.ToolFault.TheVariants.{NoProcess, Write, OutOfMemory}
+use Rattle.pua_io.specs.Sinks.{HasFailed}
+use Rattle.pua_tool.specs.declared.fault.ToolFault.TheVariants.{NoProcess}
 
 module _ (choice : Chosen) (tree_bytes script_bytes : List ℕ) (process : ℕ) where
   pub ever_is : (done : Replayed) → replay_of choice tree_bytes script_bytes ≡ Ok done →

@@ -1,21 +1,18 @@
 -- What a family reaches and changes, by what its histories allow.
-use Rattle.std.proofs.Common.{◌≡◌, ℕ, List, [], ◌∷◌, ◌++◌, map, codes, Bool, true, refl, sym, ap, subst, ◌∙◌}
+use Rattle.pua_tool.proofs.Common.{◌≡◌, ℕ, List, [], ◌∷◌, ◌++◌, map, refl, sym, ap, subst, ◌∙◌, Tree, listing, CallTable, History, Asked}
+use Rattle.pua_tool.proofs.Common.{script, new_world, world_after}
+use Rattle.std.proofs.Common.{codes, Bool, true}
 use Rattle.std.specs.Prelude.{Ok}
 use Rattle.std.proofs.lemmas.Bool.{and_parts}
 use Rattle.std.proofs.lemmas.List.Folds.{list_all-append}
-use Rattle.pua_tree.specs.Tree.{Tree, distinct_names}
-use Rattle.pua_tree.specs.Listing.{listing}
+use Rattle.pua_tree.specs.Tree.{distinct_names}
 use Rattle.pua_path.specs.Paths.{is_absolute}
-use Rattle.pua_calls.specs.Calls.{CallTable}
-use Rattle.pua_policy.specs.History.{History, working_dir}
+use Rattle.pua_policy.specs.History.{working_dir}
 use Rattle.pua_audit.specs.Reach.{path_of, alphabet_of}
 use Rattle.pua_audit.specs.SubLists.{SubList}
 use Rattle.pua_audit.specs.declared.base.Base.{Base}
 use Rattle.pua_audit.specs.declared.base.Base.TheVariants.{Root, Cwd}
 use Rattle.pua_audit.proofs.ForCallers.{fewer_reach_less, reach_needs_rows}
-use Rattle.pua_script.specs.Requests.{Asked}
-use Rattle.pua_script.specs.Scripts.{script}
-use Rattle.pua_script.specs.Replay.{new_world, world_after}
 use Rattle.pua_script.specs.Bytes.{is_in_bytes, are_in_bytes, IsByteTree}
 use Rattle.pua_script.specs.Tightening.{AllowsNoMore}
 use Rattle.pua_script.proofs.ForCallers.{families_narrow, families_confine, replays_keep_trees, replays_keep_byte_trees}

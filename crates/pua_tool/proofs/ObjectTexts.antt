@@ -1,16 +1,11 @@
 -- The text of lists, step by step.
-use Rattle.std.proofs.Common.{◌≡◌, ℕ, List, ◌++◌, subst}
-use Rattle.std.specs.Prelude.{Option, Result, Ok, Err}
-use Rattle.pua_tree.specs.Steps.{◌>>=◌}
-use Rattle.pua_calls.specs.Calls.{CallTable}
-use Rattle.pua_script.specs.Replay.{World}
+use Rattle.pua_tool.proofs.Common.{◌≡◌, ℕ, List, ◌++◌, subst, Option, Result, ◌>>=◌, CallTable, World, Chosen, Replayed, replay_of, Tells}
+use Rattle.pua_tool.proofs.Common.{ToolFault}
+use Rattle.std.specs.Prelude.{Ok, Err}
 use Rattle.pua_words.specs.declared.command.Processes.{Processes}
-use Rattle.pua_tool.specs.Texts.{Chosen, Replayed, replay_of}
 use Rattle.pua_texts.specs.ObjectLines.{lists_of}
-use Rattle.pua_texts.specs.Tells.{Tells}
 use Rattle.pua_texts.specs.declared.fault.TextFault.{TextFault}
 use Rattle.pua_tool.specs.ObjectTexts.{lists_asked, objects_text}
-use Rattle.pua_tool.specs.declared.fault.ToolFault.{ToolFault}
 
 module _ (choice : Chosen) (tree_bytes script_bytes : List ℕ) (which : Processes) where
   -- the lists that are asked for where the replay ends are the answer

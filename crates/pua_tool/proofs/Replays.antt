@@ -1,16 +1,9 @@
 -- What is replayed, step by step.
-use Rattle.std.proofs.Common.{◌≡◌, ℕ, List, subst}
-use Rattle.std.specs.Prelude.{Result, Ok, Err}
-use Rattle.pua_tree.specs.Tree.{Tree}
-use Rattle.pua_tree.specs.Listing.{listing}
-use Rattle.pua_tree.specs.Steps.{◌>>=◌}
-use Rattle.pua_calls.specs.Calls.{CallTable}
-use Rattle.pua_script.specs.Requests.{Asked}
-use Rattle.pua_script.specs.Scripts.{script}
-use Rattle.pua_script.specs.Replay.{World, new_world, answers_to, world_after}
-use Rattle.pua_script.specs.Worlds.{StandsForWorld, WorldState}
-use Rattle.pua_tool.specs.Texts.{Chosen, Replayed, as_listing, as_script, table_by, replay_of}
-use Rattle.pua_tool.specs.declared.fault.ToolFault.{ToolFault}
+use Rattle.pua_tool.proofs.Common.{◌≡◌, ℕ, List, subst, Result, Tree, listing, ◌>>=◌, CallTable, Asked, script, World, new_world}
+use Rattle.pua_tool.proofs.Common.{answers_to, world_after, StandsForWorld, Chosen, Replayed, as_listing, as_script, table_by, replay_of}
+use Rattle.pua_tool.proofs.Common.{ToolFault}
+use Rattle.std.specs.Prelude.{Ok, Err}
+use Rattle.pua_script.specs.Worlds.{WorldState}
 
 -- a world that stands for what one table leaves stands for what the same table leaves
 pub left_by_same : {state : WorldState} (a b : CallTable) (w : World) (asks : List Asked) → a ≡ b →

@@ -1,10 +1,10 @@
 -- What words that ask for no command leave.
-use Rattle.std.proofs.Common.{ℕ, ◌≡◌, ◌≢◌, List, Option, Result, Ok, Err, OnErr, OnOk, arith, subst}
+use Rattle.pua_tool.proofs.Common.{ℕ, ◌≡◌, ◌≢◌, List, Ok, Err, arith, subst, with_end}
+use Rattle.std.proofs.Common.{Option, Result, OnErr, OnOk}
 use Rattle.pua_words.specs.Usages.{IsStop, usage_line_text}
 use Rattle.pua_words.specs.declared.usage.UsageLine.{UsageLine}
 use Rattle.pua_words.specs.declared.words.Stop.{Stop}
 use Rattle.pua_words.specs.declared.words.Stop.TheVariants as stop
-use Rattle.pua_texts.specs.Lines.{with_end}
 use Rattle.pua_tool.specs.Told.{IsLineTold, TellsUsage}
 use Rattle.pua_io.specs.declared.sink.PutFault.{PutFault}
 use Rattle.pua_tool.specs.declared.status.TheConstants.{DONE, USAGE, DEVICE}

@@ -1,26 +1,20 @@
 -- The texts with reasons, step by step.
-use Rattle.std.proofs.Common.{◌≡◌, ℕ, ◌+◌, ◌<◌, ◌≤◌, List, ◌∷◌, ◌++◌, ◌∙◌, get_or, drop, length, map, sym, subst, ap, append-nil}
+use Rattle.pua_tool.proofs.Common.{◌≡◌, ℕ, List, ◌∷◌, ◌++◌, ◌∙◌, map, sym, subst, ap, Option, Result, flat_map, Tree, listing, ◌>>=◌}
+use Rattle.pua_tool.proofs.Common.{CallTable, Asked, script, World, new_world, world_after, StandsForWorld, Answers, Chosen, as_listing}
+use Rattle.pua_tool.proofs.Common.{as_script, table_by, ToolFault}
+use Rattle.std.proofs.Common.{◌+◌, ◌<◌, ◌≤◌, get_or, drop, length, append-nil}
 use Rattle.std.proofs.Common.{append_assoc}
-use Rattle.std.specs.Prelude.{Option, Result, Ok, Err, flat_map}
+use Rattle.std.specs.Prelude.{Ok, Err}
 use Rattle.std.specs.Borrow.{Bor}
 use Rattle.std.proofs.lemmas.List.{drop_more}
 use Rattle.std.proofs.Math.ListN.{drop_of_length-le}
-use Rattle.pua_tree.specs.Tree.{Tree}
-use Rattle.pua_tree.specs.Listing.{listing}
-use Rattle.pua_tree.specs.Steps.{◌>>=◌}
-use Rattle.pua_calls.specs.Calls.{CallTable}
-use Rattle.pua_script.specs.Requests.{Asked}
-use Rattle.pua_script.specs.Scripts.{script, request_of}
-use Rattle.pua_script.specs.Replay.{World, new_world, world_after}
-use Rattle.pua_script.specs.Worlds.{StandsForWorld, WorldState}
+use Rattle.pua_script.specs.Scripts.{request_of}
+use Rattle.pua_script.specs.Worlds.{WorldState}
 use Rattle.pua_script.specs.declared.fault.ScriptFault.{ScriptFault}
 use Rattle.pua_words.specs.declared.command.Processes.{Processes}
-use Rattle.pua_tool.specs.EverTexts.{Answers}
-use Rattle.pua_tool.specs.Texts.{Chosen, as_listing, as_script, table_by}
 use Rattle.pua_texts.specs.WhyLines.{Posed}
 use Rattle.pua_tool.specs.WhyTexts.{as_request, chain_lines, objects_why_text, posed_script, reason_lines, request_line, run_why_text}
 use Rattle.pua_tool.specs.WhyTexts.{why_lists_asked, why_text}
-use Rattle.pua_tool.specs.declared.fault.ToolFault.{ToolFault}
 use Rattle.pua_tool.proofs.EverTexts.{answers_told}
 use Rattle.pua_tool.proofs.Replays.{left_by_same}
 

@@ -1,7 +1,5 @@
-use Rattle.std.proofs.Common.{◌≡◌, ◌≢◌, Err}
-use Rattle.std.proofs.lemmas.Result.{err_from_is_err_and}
+use Rattle.pua_tool.proofs.Common.{◌≡◌, ◌≢◌, Err, err_from_is_err_and, OutOfMemory, Write}
 use Rattle.pua_tool.specs.Texts.{audit_text, by_job, wants_of}
-use Rattle.pua_tool.specs.declared.fault.ToolFault.TheVariants.{OutOfMemory, Write}
 use Rattle.pua_tool.proofs.AuditTexts.{replay_refuses, replay_answers}
 use Rattle.pua_tool.proofs.EverTexts.{answers_whole, answers_unfailed, answers_write, answers_fault, answers_unwritten}
 use Rattle.pua_tool.proofs.audit.audit_by.Goals as goal

@@ -1,12 +1,8 @@
-use Rattle.std.proofs.Common.{◌≡◌, ◌≢◌, ℕ, List, ◌++◌, Ok, Err, ap, subst, sym, ◌∙◌}
-use Rattle.std.proofs.lemmas.Result.{err_from_is_err_and}
-use Rattle.pua_script.specs.Replay.{history_of}
+use Rattle.pua_tool.proofs.Common.{◌≡◌, ◌≢◌, ℕ, List, ◌++◌, Ok, Err, ap, subst, sym, ◌∙◌, err_from_is_err_and, history_of, Tells, Replayed}
+use Rattle.pua_tool.proofs.Common.{as_audit, OutOfMemory, is_made}
 use Rattle.pua_texts.specs.Lines.{front_of, pair_lines}
-use Rattle.pua_texts.specs.Tells.{Tells}
 use Rattle.pua_tool.specs.Begun.{IsReplay}
-use Rattle.pua_tool.specs.Texts.{Replayed, as_audit, audit_after, beginning_of, text_of, wants_of}
-use Rattle.pua_tool.specs.declared.fault.ToolFault.TheVariants.{OutOfMemory}
-use Rattle.pua_texts.proofs.ForCallers.{is_made}
+use Rattle.pua_tool.specs.Texts.{audit_after, beginning_of, text_of, wants_of}
 use Rattle.pua_tool.proofs.AuditTexts.{after_begun, after_refused}
 use Rattle.pua_tool.proofs.EverTexts.{answers_refused, answers_told}
 use Rattle.pua_tool.proofs.audit.pairs_to.Goals as goal

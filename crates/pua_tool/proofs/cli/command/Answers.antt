@@ -1,4 +1,4 @@
-use Rattle.std.proofs.Common.{map}
+use Rattle.pua_tool.proofs.Common.{map}
 use Rattle.pua_words.specs.Usages.{line_for}
 use Rattle.pua_tool.proofs.Stops.{told_by_stop}
 use Rattle.pua_tool.proofs.cli.command.Goals as goal

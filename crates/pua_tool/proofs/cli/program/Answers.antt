@@ -1,6 +1,5 @@
-use Rattle.std.proofs.Common.{◌∙◌, map, subst, sym}
+use Rattle.pua_tool.proofs.Common.{◌∙◌, map, subst, sym, with_end}
 use Rattle.pua_words.specs.Usages.{line_for, usage_line_text}
-use Rattle.pua_texts.specs.Lines.{with_end}
 use Rattle.pua_tool.specs.Told.{IsLineTold, TellsStatus}
 use Rattle.pua_tool.proofs.Ends.{ended_by_status, told_by_status}
 use Rattle.pua_tool.proofs.Stops.{not_done}

@@ -1,6 +1,5 @@
-use Rattle.std.proofs.Common.{sym}
-use Rattle.pua_tool.specs.declared.fault.ToolFault.TheVariants.{OutOfMemory}
-use Rattle.pua_tool.specs.declared.outcome.CommandFault.TheVariants.{Usage, Tool}
+use Rattle.pua_tool.proofs.Common.{sym, OutOfMemory, Tool}
+use Rattle.pua_tool.specs.declared.outcome.CommandFault.TheVariants.{Usage}
 use Rattle.pua_tool.proofs.cli.stopped.Goals as goal
 
 pub returns-in-Usage-clause-told : goal.returns-in-Usage-clause-told

@@ -1,8 +1,5 @@
-use Rattle.std.proofs.Common.{◌≡◌, ◌≢◌, Err}
-use Rattle.std.proofs.lemmas.Result.{err_from_is_err_and}
-use Rattle.pua_tool.specs.Texts.{choice_of}
+use Rattle.pua_tool.proofs.Common.{◌≡◌, ◌≢◌, Err, err_from_is_err_and, choice_of, OutOfMemory, Write}
 use Rattle.pua_tool.specs.EverTexts.{ever_text}
-use Rattle.pua_tool.specs.declared.fault.ToolFault.TheVariants.{OutOfMemory, Write}
 use Rattle.pua_tool.proofs.EverTexts.{replay_refuses, replay_answers, answers_whole, answers_unfailed, answers_write, answers_fault}
 use Rattle.pua_tool.proofs.EverTexts.{answers_unwritten}
 use Rattle.pua_tool.proofs.ever.ever_to.Goals as goal

@@ -1,15 +1,10 @@
-use Rattle.std.proofs.Common.{◌≡◌, ℕ, List, ◌++◌, ap, sym, subst, ◌∙◌}
-use Rattle.std.specs.Prelude.{None}
-use Rattle.pua_tree.specs.Tree.{Tree}
+use Rattle.pua_tool.proofs.Common.{◌≡◌, ℕ, List, ◌++◌, ap, sym, subst, ◌∙◌, None, Tree, history_of, answer_lines, Tells, unless_reason}
+use Rattle.pua_tool.proofs.Common.{is_made}
 use Rattle.pua_policy.specs.History.{ProcessState, StandsFor}
-use Rattle.pua_script.specs.Replay.{history_of}
 use Rattle.pua_ever.specs.Refusals.{refusal}
 use Rattle.pua_texts.specs.EverLists.{IsEverOf}
 use Rattle.pua_texts.specs.EverLines.{ever_list}
-use Rattle.pua_texts.specs.Lines.{answer_lines}
-use Rattle.pua_texts.specs.Tells.{Tells}
-use Rattle.pua_tool.specs.EverTexts.{ever_after, unless_reason}
-use Rattle.pua_texts.proofs.ForCallers.{is_made}
+use Rattle.pua_tool.specs.EverTexts.{ever_after}
 use Rattle.pua_tool.proofs.EverTexts.{after_made, unrefused, answers_refused, answers_told}
 use Rattle.pua_tool.proofs.ever.list_to.Goals as goal
 

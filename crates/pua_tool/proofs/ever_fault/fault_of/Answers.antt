@@ -1,6 +1,5 @@
-use Rattle.std.proofs.Common.{Err, ap, sym, ◌∙◌}
+use Rattle.pua_tool.proofs.Common.{Err, ap, sym, ◌∙◌, unless_reason}
 use Rattle.pua_ever.specs.Refusals.{refusal_in}
-use Rattle.pua_tool.specs.EverTexts.{unless_reason}
 use Rattle.pua_tool.proofs.ever_fault.fault_of.Goals as goal
 
 pub returns-in-Refused-clause-told : goal.returns-in-Refused-clause-told

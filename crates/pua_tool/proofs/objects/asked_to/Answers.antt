@@ -1,8 +1,4 @@
-use Rattle.std.proofs.Common.{◌≡◌, Ok, List, ℕ, ap, ◌∙◌}
-use Rattle.std.proofs.lemmas.Result.{err_from_is_err_and}
-use Rattle.pua_tree.specs.Steps.{◌>>=◌}
-use Rattle.pua_texts.specs.Lines.{answer_lines}
-use Rattle.pua_texts.specs.Tells.{Tells}
+use Rattle.pua_tool.proofs.Common.{◌≡◌, Ok, List, ℕ, ap, ◌∙◌, err_from_is_err_and, ◌>>=◌, answer_lines, Tells}
 use Rattle.pua_tool.specs.ObjectTexts.{lists_asked, objects_after}
 use Rattle.pua_tool.proofs.EverTexts.{answers_refused, answers_told}
 use Rattle.pua_tool.proofs.ObjectTexts.{told_as}

@@ -1,10 +1,7 @@
-use Rattle.std.proofs.Common.{◌≡◌, ◌≢◌, List, ℕ, Err, Result, sym, subst}
-use Rattle.std.proofs.lemmas.Result.{err_from_is_err_and}
-use Rattle.pua_tool.specs.Texts.{choice_of}
+use Rattle.pua_tool.proofs.Common.{◌≡◌, ◌≢◌, List, ℕ, Err, sym, subst, err_from_is_err_and, choice_of, Answers, ToolFault, OutOfMemory}
+use Rattle.pua_tool.proofs.Common.{Write}
+use Rattle.std.proofs.Common.{Result}
 use Rattle.pua_tool.specs.ObjectTexts.{objects_text}
-use Rattle.pua_tool.specs.EverTexts.{Answers}
-use Rattle.pua_tool.specs.declared.fault.ToolFault.{ToolFault}
-use Rattle.pua_tool.specs.declared.fault.ToolFault.TheVariants.{OutOfMemory, Write}
 use Rattle.pua_tool.proofs.ObjectTexts.{objects_are, replay_refuses}
 use Rattle.pua_tool.proofs.EverTexts.{answers_whole, answers_unfailed, answers_write, answers_fault, answers_unwritten}
 use Rattle.pua_tool.proofs.objects.objects_to.Goals as goal

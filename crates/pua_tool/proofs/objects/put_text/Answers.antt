@@ -1,5 +1,4 @@
-use Rattle.std.proofs.Common.{List, ℕ, subst}
-use Rattle.pua_io.specs.Sinks.{Adds, AddsFront}
+use Rattle.pua_tool.proofs.Common.{List, ℕ, subst, Adds, AddsFront}
 use Rattle.pua_tool.proofs.EverTexts.{all_told, front_told}
 use Rattle.pua_tool.proofs.objects.put_text.Goals as goal
 

@@ -1,8 +1,5 @@
-use Rattle.std.proofs.Common.{◌++◌, Ok, List, ℕ, subst}
-use Rattle.std.proofs.lemmas.Result.{err_from_is_err_and}
-use Rattle.pua_tree.specs.Steps.{◌>>=◌}
+use Rattle.pua_tool.proofs.Common.{◌++◌, Ok, List, ℕ, subst, err_from_is_err_and, ◌>>=◌, Tells}
 use Rattle.pua_texts.specs.WhyLines.{why_lists_of, world_left}
-use Rattle.pua_texts.specs.Tells.{Tells}
 use Rattle.pua_tool.specs.WhyTexts.{reason_lines, why_lists_asked}
 use Rattle.pua_tool.proofs.EverTexts.{answers_refused, answers_told}
 use Rattle.pua_tool.proofs.objects_why.write_asked.Goals as goal

@@ -1,5 +1,5 @@
-use Rattle.std.proofs.Common.{List, ℕ, [], ◌∷◌, subst}
-use Rattle.pua_io.specs.Sinks.{Adds, Writes}
+use Rattle.pua_tool.proofs.Common.{List, ℕ, [], ◌∷◌, subst, Adds}
+use Rattle.pua_io.specs.Sinks.{Writes}
 use Rattle.pua_io.proofs.ForCallers.{writes_then, writes_by_put}
 use Rattle.pua_tool.proofs.outcome.put_line.Goals as goal
 

@@ -1,12 +1,6 @@
-use Rattle.std.proofs.Common.{◌≡◌, ◌≢◌, Err, refl, subst, sym, ◌∙◌, rules}
-use Rattle.pua_tree.specs.Tree.{Tree}
-use Rattle.pua_script.specs.Scripts.{script}
-use Rattle.pua_script.specs.Replay.{new_world}
-use Rattle.pua_script.specs.Worlds.{StandsForWorld}
-use Rattle.pua_tool.specs.Texts.{choice_of}
+use Rattle.pua_tool.proofs.Common.{◌≡◌, ◌≢◌, Err, refl, subst, sym, ◌∙◌, rules, Tree, script, new_world, StandsForWorld, choice_of}
+use Rattle.pua_tool.proofs.Common.{OutOfMemory, if_err, if_ok}
 use Rattle.pua_tool.specs.WhyTexts.{posed_script}
-use Rattle.pua_tool.specs.declared.fault.ToolFault.TheVariants.{OutOfMemory}
-use Rattle.pua_texts.proofs.ForCallers.{if_err, if_ok}
 use Rattle.pua_tool.proofs.WhyTexts.{posed_is, table_refuses, listing_refuses, script_refuses, script_is}
 use Rattle.pua_tool.proofs.posed.pose.Goals as goal
 

@@ -1,10 +1,5 @@
-use Rattle.std.proofs.Common.{◌≡◌, ◌≢◌, Ok, Err, sym, ◌∙◌}
-use Rattle.std.proofs.lemmas.Result.{err_from_is_err_and}
-use Rattle.pua_tree.specs.Tree.{Tree}
-use Rattle.pua_tree.specs.Listing.{listing}
-use Rattle.pua_script.specs.Scripts.{script}
-use Rattle.pua_tool.specs.Texts.{as_listing, as_script}
-use Rattle.pua_tool.specs.declared.fault.ToolFault.TheVariants.{OutOfMemory}
+use Rattle.pua_tool.proofs.Common.{◌≡◌, ◌≢◌, Ok, Err, sym, ◌∙◌, err_from_is_err_and, Tree, listing, script, as_listing, as_script}
+use Rattle.pua_tool.proofs.Common.{OutOfMemory}
 use Rattle.pua_tool.proofs.posed.read_both.Goals as goal
 
 pub returns-in_err-after-clause-refused : goal.returns-in_err-after-clause-refused

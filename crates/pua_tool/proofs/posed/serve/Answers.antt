@@ -1,5 +1,4 @@
-use Rattle.std.proofs.Common.{◌∙◌}
-use Rattle.pua_script.specs.Replay.{answers_to}
+use Rattle.pua_tool.proofs.Common.{◌∙◌, answers_to}
 use Rattle.pua_tool.proofs.WhyTexts.{left_by_these}
 use Rattle.pua_tool.proofs.posed.serve.Goals as goal
 

@@ -1,8 +1,5 @@
-use Rattle.std.proofs.Common.{◌≡◌, ◌≢◌, List, ℕ, Ok, Err, subst}
-use Rattle.std.proofs.lemmas.Result.{err_from_is_err_and}
-use Rattle.pua_tool.specs.EverTexts.{Answers}
-use Rattle.pua_tool.specs.Texts.{choice_of, run_text}
-use Rattle.pua_tool.specs.declared.fault.ToolFault.TheVariants.{OutOfMemory, Write}
+use Rattle.pua_tool.proofs.Common.{◌≡◌, ◌≢◌, List, ℕ, Ok, Err, subst, err_from_is_err_and, Answers, choice_of, OutOfMemory, Write}
+use Rattle.pua_tool.specs.Texts.{run_text}
 use Rattle.pua_tool.proofs.EverTexts.{answers_told, answers_whole, answers_unfailed, answers_write, answers_fault, answers_unwritten}
 use Rattle.pua_tool.proofs.run.run_by.Goals as goal
 

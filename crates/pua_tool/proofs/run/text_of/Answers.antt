@@ -1,9 +1,5 @@
-use Rattle.std.proofs.Common.{◌≡◌, ◌≢◌, Ok, Err, ap, sym, ◌∙◌}
-use Rattle.std.proofs.lemmas.Result.{err_from_is_err_and}
-use Rattle.pua_tree.specs.Steps.{◌>>=◌}
-use Rattle.pua_texts.specs.Lines.{answer_lines}
-use Rattle.pua_tool.specs.Texts.{choice_of, run_text}
-use Rattle.pua_tool.specs.declared.fault.ToolFault.TheVariants.{OutOfMemory}
+use Rattle.pua_tool.proofs.Common.{◌≡◌, ◌≢◌, Ok, Err, ap, sym, ◌∙◌, err_from_is_err_and, ◌>>=◌, answer_lines, choice_of, OutOfMemory}
+use Rattle.pua_tool.specs.Texts.{run_text}
 use Rattle.pua_tool.proofs.run.text_of.Goals as goal
 
 pub returns-in_err-replay-clause-refused : goal.returns-in_err-replay-clause-refused

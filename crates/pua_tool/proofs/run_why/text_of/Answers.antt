@@ -1,9 +1,5 @@
-use Rattle.std.proofs.Common.{◌≡◌, [], Ok, ap, sym, ◌∙◌}
-use Rattle.std.specs.Prelude.{flat_map}
-use Rattle.pua_script.specs.Replay.{answers_to}
+use Rattle.pua_tool.proofs.Common.{◌≡◌, [], Ok, ap, sym, ◌∙◌, flat_map, answers_to, with_end, if_ok}
 use Rattle.pua_why.specs.Texts.{why_lines}
-use Rattle.pua_texts.specs.Lines.{with_end}
-use Rattle.pua_texts.proofs.ForCallers.{if_ok}
 use Rattle.pua_tool.proofs.run_why.text_of.Goals as goal
 
 pub returns : goal.returns

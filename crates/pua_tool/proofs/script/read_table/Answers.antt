@@ -1,5 +1,5 @@
-use Rattle.std.proofs.Common.{Ok, ap, refl, rules, sym, ◌∙◌}
-use Rattle.pua_calls.specs.Calls.{CallTable, table_by_rules}
+use Rattle.pua_tool.proofs.Common.{Ok, ap, refl, rules, sym, ◌∙◌, CallTable}
+use Rattle.pua_calls.specs.Calls.{table_by_rules}
 use Rattle.pua_tool.specs.Texts.{given_bytes, with_rows}
 use Rattle.pua_tool.proofs.script.read_table.Goals as goal
 

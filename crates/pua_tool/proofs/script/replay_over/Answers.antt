@@ -1,4 +1,4 @@
-use Rattle.pua_texts.proofs.ForCallers.{if_err, if_ok}
+use Rattle.pua_tool.proofs.Common.{if_err, if_ok}
 use Rattle.pua_tool.proofs.script.replay_over.Goals as goal
 
 pub returns-clause-done : goal.returns-clause-done

@@ -1,6 +1,4 @@
-use Rattle.std.proofs.Common.{◌≡◌, ap, ◌∙◌}
-use Rattle.pua_calls.specs.Calls.{CallTable}
-use Rattle.pua_script.specs.Replay.{new_world, answers_to}
+use Rattle.pua_tool.proofs.Common.{◌≡◌, ap, ◌∙◌, CallTable, new_world, answers_to}
 use Rattle.pua_tool.proofs.Replays.{left_by_same}
 use Rattle.pua_tool.proofs.script.replay_requests.Goals as goal
 

@@ -1,9 +1,5 @@
-use Rattle.std.proofs.Common.{◌≡◌, ◌≢◌, Ok, Err, rules}
-use Rattle.pua_calls.specs.Calls.{CallTable}
-use Rattle.pua_texts.proofs.ForCallers.{if_err, if_ok}
+use Rattle.pua_tool.proofs.Common.{◌≡◌, ◌≢◌, Ok, Err, rules, CallTable, if_err, if_ok, choice_of, replay_of, table_by, OutOfMemory}
 use Rattle.pua_tool.specs.Begun.{replay_by}
-use Rattle.pua_tool.specs.Texts.{choice_of, replay_of, table_by}
-use Rattle.pua_tool.specs.declared.fault.ToolFault.TheVariants.{OutOfMemory}
 use Rattle.pua_tool.proofs.Replays.{replayed_is, table_refuses, listing_refuses, script_refuses}
 use Rattle.pua_tool.proofs.script.replay_script.Goals as goal
 

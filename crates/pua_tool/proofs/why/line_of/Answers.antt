@@ -1,4 +1,5 @@
-use Rattle.std.proofs.Common.{◌+◌, ◌++◌, ap, sym, ◌∙◌, arith}
+use Rattle.pua_tool.proofs.Common.{◌++◌, ap, sym, ◌∙◌, arith}
+use Rattle.std.proofs.Common.{◌+◌}
 use Rattle.pua_tool.proofs.WhyTexts.{fields_done, fields_left, field_more}
 use Rattle.pua_tool.proofs.why.line_of.Goals as goal
 

@@ -1,11 +1,5 @@
-use Rattle.std.proofs.Common.{◌≡◌, List, sym, subst, ◌∙◌}
-use Rattle.std.specs.Prelude.{flat_map}
-use Rattle.pua_script.specs.Replay.{answers_to, world_after}
-use Rattle.pua_script.specs.Requests.{Asked}
-use Rattle.pua_script.specs.Worlds.{StandsForWorld}
+use Rattle.pua_tool.proofs.Common.{◌≡◌, List, sym, subst, ◌∙◌, flat_map, answers_to, world_after, Asked, StandsForWorld, with_end, if_ok}
 use Rattle.pua_why.specs.Texts.{chain}
-use Rattle.pua_texts.specs.Lines.{with_end}
-use Rattle.pua_texts.proofs.ForCallers.{if_ok}
 use Rattle.pua_tool.proofs.Replays.{left_by_same}
 use Rattle.pua_tool.proofs.why.text_of.Goals as goal
 

@@ -1,9 +1,5 @@
-use Rattle.std.proofs.Common.{◌≡◌, ◌≢◌, Ok, Err, List, ℕ, map, subst, ◌∙◌}
-use Rattle.std.proofs.lemmas.Result.{err_from_is_err_and}
-use Rattle.pua_tool.specs.EverTexts.{Answers}
-use Rattle.pua_tool.specs.Texts.{choice_of}
+use Rattle.pua_tool.proofs.Common.{◌≡◌, ◌≢◌, Ok, Err, List, ℕ, map, subst, ◌∙◌, err_from_is_err_and, Answers, choice_of, OutOfMemory, Write}
 use Rattle.pua_tool.specs.WhyTexts.{why_text}
-use Rattle.pua_tool.specs.declared.fault.ToolFault.TheVariants.{OutOfMemory, Write}
 use Rattle.pua_tool.proofs.EverTexts.{answers_whole, answers_unfailed, answers_write, answers_fault, answers_unwritten}
 use Rattle.pua_tool.proofs.WhyTexts.{why_refuses, request_refuses, why_told}
 use Rattle.pua_tool.proofs.why.why_to.Goals as goal

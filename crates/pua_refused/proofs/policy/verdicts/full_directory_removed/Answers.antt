@@ -1,8 +1,5 @@
-use Rattle.std.proofs.Common.{◌≡◌, false, refl, sym, ◌∙◌}
-use Rattle.std.proofs.lemmas.Bool.{false≢true}
-use Rattle.pua_tree.specs.Tree.{empty_tree}
+use Rattle.pua_refused.proofs.Common.{◌≡◌, false, refl, sym, ◌∙◌, false≢true, empty_tree, new_history}
 use Rattle.pua_path.specs.declared.found.Way.TheVariants.{Top}
-use Rattle.pua_policy.specs.History.{new_history}
 use Rattle.pua_policy.specs.Verdict.{IsDir, covered_verdict, is_allowed}
 use Rattle.pua_policy.specs.declared.answer.Cover.TheVariants.{All}
 use Rattle.pua_calls.specs.declared.call.Call.TheVariants.{Rmdir}

@@ -1,6 +1,5 @@
-use Rattle.std.proofs.Common.{List, ℕ, [], ◌∷◌, ◌++◌, codes, subst, rules}
-use Rattle.std.proofs.lemmas.Result.{err_from_is_err_and}
-use Rattle.pua_io.specs.Sinks.{Adds, AddsFront}
+use Rattle.pua_tool.proofs.Common.{List, ℕ, [], ◌∷◌, ◌++◌, subst, rules, err_from_is_err_and, Adds, AddsFront}
+use Rattle.std.proofs.Common.{codes}
 use Rattle.pua_io.proofs.ForCallers.{writes_then, writes_front}
 use Rattle.pua_tool.proofs.outcome.CommandFault.tell.Goals as goal
 
