@@ -21,7 +21,7 @@ use Rattle.pua_script.specs.Decide.{AddNode, CutRow, ShiftRow, TieRow, BeginProg
 use Rattle.pua_script.specs.Decide.{Sole, Old, New, unless_refused, unless_failed, on_named, fault_if, adding, link_node}
 use Rattle.pua_script.specs.Decide.{object_by, objects_by, link_by, veil_by}
 use Rattle.pua_why.specs.Reasons.{BadTarget, Unfit, IsLocked, unpromised_fault, told_path, uncovered_fault, faults}
-use Rattle.pua_why.specs.Reasons.{change_or_fault, reason_of}
+use Rattle.pua_why.specs.Reasons.{faults_of, change_or_fault, reason_of}
 use Rattle.pua_why.specs.Checked.{process_fault, checks_fault, checked_by}
 use Rattle.pua_since.specs.Frames.{ActionFollowsNone, FollowsNone, names_part, is_removal}
 use Rattle.pua_since.specs.Frames.{looks_further, IsSpared, IsUntouched, RowsSpare}
@@ -71,7 +71,8 @@ module _ (s t : Tree) (h : History) where
 
   module _ (table : CallTable) where
     call_same : (c : Call) (path : List ℕ) (further : Found → Outcome Fault) → is_removal c ≡ false →
-        Keeps s t h (ending_of c) path (last_of c) → object_by faults table t h c path further ≡ object_by faults table s h c path further
+        Keeps s t h (ending_of c) path (last_of c) →
+        object_by faults table t (faults_of h) c path further ≡ object_by faults table s (faults_of h) c path further
     call_same c path further near is =
         named_same s t Sole (went s h (ending_of c) path (last_of c)) (went t h (ending_of c) path (last_of c)) _ _ is λ x alike.
         (λ i. unless_failed (λ fault. fault)
@@ -79,7 +80,7 @@ module _ (s t : Tree) (h : History) where
 
   pair_same : (pair : PairRule) (end : Ending) (old new : List ℕ) (further : Found → Found → Outcome Fault) →
       Keeps s t h end old pair.old.last → Keeps s t h end new pair.new.last →
-      objects_by faults pair t h end old new further ≡ objects_by faults pair s h end old new further
+      objects_by faults pair t (faults_of h) end old new further ≡ objects_by faults pair s (faults_of h) end old new further
   pair_same pair end old new further first second =
       named_same s t Old (went s h end old pair.old.last) (went t h end old pair.old.last) _ _ first λ a is_a.
       named_same s t New (went s h end new pair.new.last) (went t h end new pair.new.last) _ _ second λ b is_b.
@@ -87,7 +88,7 @@ module _ (s t : Tree) (h : History) where
       (or_fault (cover_same Old a pair.old.needs.perms is_a i) (cover_same New b pair.new.needs.perms is_b i)) (further a b))
 
   veil_same : (path : List ℕ) (perms : Option ℕ) → Keeps s t h ending.Dot path Followed →
-      veil_by faults t h path perms ≡ veil_by faults s h path perms
+      veil_by faults t (faults_of h) path perms ≡ veil_by faults s (faults_of h) path perms
   veil_same path None is = refl
   veil_same path (Some perms) is =
       named_same s t Sole (went s h ending.Dot path Followed) (went t h ending.Dot path Followed) _ _ is λ x alike. refl
